@@ -14,6 +14,7 @@ use Rattle.arbiter_core.specs.Setups.{SetupView}
 use Rattle.arbiter_server.specs.GoingOut.{GoOut, Writers}
 use Rattle.arbiter_server.specs.Serving.{Scene, scene}
 use Rattle.arbiter_server.specs.declared.file_keeper.FileKeeper.{FileKeeper}
+use Rattle.system_io.specs.Hosts.{Made}
 use Rattle.system_io.specs.Ports.{PortFacts}
 use Rattle.adjudicate_core.specs.Sends.{Sends}
 use Rattle.adjudicate_core.specs.Silences.{TellsIfLost, TellsSilence}
@@ -60,9 +61,9 @@ after_reading (Err Unreadable) IsReply CannotRead is cause (Ok status) old new p
 after_reading (Err OutOfMemory) IsReply CannotRead is cause (Ok status) old new puts = NoRoomToRead puts
 
 -- by a source: what holds of how it ends holds of its status, where there is one
-pub sent : {P F : Type 0} (disk : DiskFacts) (source : InputFacts) (host : Hosted P F) (t : Send) (old new : Option (List ℕ)) (e : Result Ended WriteFault) (r : Result ℕ WriteFault) → Sends disk source host t old new e → IfOk e (λ x. r ≡ Ok (ended_status x)) → IfErr e (λ fault. r ≡ Err fault) → IfOk r (λ status. (x : Ended) × (status ≡ ended_status x) × Sends disk source host t old new (Ok x))
-sent disk source host t old new (Ok x) r h is other = subst (λ (q : Result ℕ WriteFault). IfOk q (λ status. (y : Ended) × (status ≡ ended_status y) × Sends disk source host t old new (Ok y))) (sym is) (x, refl, h)
-sent disk source host t old new (Err fault) r h is other = subst (λ (q : Result ℕ WriteFault). IfOk q (λ status. (y : Ended) × (status ≡ ended_status y) × Sends disk source host t old new (Ok y))) (sym other) tt
+pub sent : {P F : Type 0} (disk : DiskFacts) (source : InputFacts) (host : Hosted P F) (t : Send) (had has : Option (List Made)) (old new : Option (List ℕ)) (e : Result Ended WriteFault) (r : Result ℕ WriteFault) → Sends disk source host t had has old new e → IfOk e (λ x. r ≡ Ok (ended_status x)) → IfErr e (λ fault. r ≡ Err fault) → IfOk r (λ status. (x : Ended) × (status ≡ ended_status x) × Sends disk source host t had has old new (Ok x))
+sent disk source host t had has old new (Ok x) r h is other = subst (λ (q : Result ℕ WriteFault). IfOk q (λ status. (y : Ended) × (status ≡ ended_status y) × Sends disk source host t had has old new (Ok y))) (sym is) (x, refl, h)
+sent disk source host t had has old new (Err fault) r h is other = subst (λ (q : Result ℕ WriteFault). IfOk q (λ status. (y : Ended) × (status ≡ ended_status y) × Sends disk source host t had has old new (Ok y))) (sym other) tt
 
 -- who was silent is told, or nothing
 pub told_or_quiet : {E : Type 0} (facts : E → OutputFacts) (contents : E → Option (List ℕ)) (old new : E) (t : Send) (e : Result Ended WriteFault) (r : Result ℕ WriteFault) → IfOk e (TellsSilence facts contents old new) → OnErr e (new ≡ old) → IfOk e (λ x. r ≡ Ok (ended_status x)) → TellsIfLost facts contents old new (task.Send t) r
@@ -86,38 +87,38 @@ module _ {P F W : Type 0} (host : Hosted P F) (w : Writers W) (status : ℕ) (l 
   kept_done out out' setup file port port' old new (NoRoomToKeep why nothing told) = NoRoomToKeep why nothing told
   kept_done out out' setup file port port' old new (Kept keeper after starts h) = Kept keeper after starts (opened_done out out' setup (scene keeper port old) (scene after port' new) h)
 
-  locked_done : (out out' : W) (setup : SetupView) (port port' : PortFacts) (old new : Option (List ℕ)) → ServesLocked host (writing_to host.file w out out' (Ok status)) l setup port port' old new (Ok status) → ServesLocked host (serving_to host.file (Ok status)) l setup port port' old new (Ok status)
-  locked_done out out' setup port port' old new (AtFile file there h) = AtFile file there (kept_done out out' setup file port port' old new h)
-  locked_done out out' setup port port' old new (NoRoomForFile why nothing told) = NoRoomForFile why nothing told
+  locked_done : (out out' : W) (setup : SetupView) (had has : Option (List Made)) (port port' : PortFacts) (old new : Option (List ℕ)) → ServesLocked host (writing_to host.file w out out' (Ok status)) l setup had has port port' old new (Ok status) → ServesLocked host (serving_to host.file (Ok status)) l setup had has port port' old new (Ok status)
+  locked_done out out' setup had has port port' old new (AtFile made file there h) = AtFile made file there (kept_done out out' setup file port port' old new h)
+  locked_done out out' setup had has port port' old new (NoRoomForFile made why nothing told) = NoRoomForFile made why nothing told
 
-  at_done : (out out' : W) (setup : SetupView) (port port' : PortFacts) (old new : Option (List ℕ)) → ServesAt host (writing_to host.file w out out' (Ok status)) l setup port port' old new (Ok status) → ServesAt host (serving_to host.file (Ok status)) l setup port port' old new (Ok status)
-  at_done out out' setup port port' old new (InUse held nothing told) = InUse held nothing told
-  at_done out out' setup port port' old new (NoLock failed nothing told) = NoLock failed nothing told
-  at_done out out' setup port port' old new (NoRoomToLock nothing told) = NoRoomToLock nothing told
-  at_done out out' setup port port' old new (Locked given h) = Locked given (locked_done out out' setup port port' old new h)
+  at_done : (out out' : W) (setup : SetupView) (had has : Option (List Made)) (port port' : PortFacts) (old new : Option (List ℕ)) → ServesAt host (writing_to host.file w out out' (Ok status)) l setup had has port port' old new (Ok status) → ServesAt host (serving_to host.file (Ok status)) l setup had has port port' old new (Ok status)
+  at_done out out' setup had has port port' old new (InUse made held nothing told) = InUse made held nothing told
+  at_done out out' setup had has port port' old new (NoLock made failed nothing told) = NoLock made failed nothing told
+  at_done out out' setup had has port port' old new (NoRoomToLock made nothing told) = NoRoomToLock made nothing told
+  at_done out out' setup had has port port' old new (Locked between made given h) = Locked between made given (locked_done out out' setup between has port port' old new h)
 
   line_done : (out mid : W) (line : List ℕ) → GoOut w out (line ∷ []) mid → Appends (w.written out) (w.written mid) (ended line)
   unfolding GoOut
   line_done out mid line (next, goes, same) = subst (λ (x : W). Appends (w.written out) (w.written x) (ended line)) (sym same) goes.whole
 
-  start_done : (setup : SetupView) (port : P) (port' : PortFacts) (out out' : W) → StartsAt host (seen_by host.file w (Ok status)) l setup port port' out out' (Ok status) → StartsAt host (seen_as host.file (Ok status)) l setup port port' (w.written out) (w.written out') (Ok status)
-  start_done setup port port' out out' (Unasked off h) = Unasked off (at_done out out' setup (host.port port) port' (w.written out) (w.written out') h)
-  start_done setup port port' out out' (NoAddress on none nothing told) = NoAddress on none nothing told
-  start_done setup port port' out out' (NoRoomForLine on nothing told) = NoRoomForLine on nothing told
-  start_done setup port port' out out' (Ready on own is mid gone h) = Ready on own is (w.written mid) (line_done out mid (ready_words own) gone) (at_done mid out' setup (host.port port) port' (w.written mid) (w.written out') h)
-  start_done setup port port' out out' (Unready on own is nothing cut fault failed) = Unready on own is nothing tt fault failed
+  start_done : (setup : SetupView) (had has : Option (List Made)) (port : P) (port' : PortFacts) (out out' : W) → StartsAt host (seen_by host.file w (Ok status)) l setup had has port port' out out' (Ok status) → StartsAt host (seen_as host.file (Ok status)) l setup had has port port' (w.written out) (w.written out') (Ok status)
+  start_done setup had has port port' out out' (Unasked off h) = Unasked off (at_done out out' setup had has (host.port port) port' (w.written out) (w.written out') h)
+  start_done setup had has port port' out out' (NoAddress made on none nothing told) = NoAddress made on none nothing told
+  start_done setup had has port port' out out' (NoRoomForLine made on nothing told) = NoRoomForLine made on nothing told
+  start_done setup had has port port' out out' (Ready on own is mid gone h) = Ready on own is (w.written mid) (line_done out mid (ready_words own) gone) (at_done mid out' setup had has (host.port port) port' (w.written mid) (w.written out') h)
+  start_done setup had has port port' out out' (Unready made on own is nothing cut fault failed) = Unready made on own is nothing tt fault failed
 
-  bound_done : (setup : SetupView) (out out' : W) → BindsAndServes host (seen_by host.file w (Ok status)) l setup out out' (Ok status) → BindsAndServes host (seen_as host.file (Ok status)) l setup (w.written out) (w.written out') (Ok status)
-  bound_done setup out out' (Unbound why told) = Unbound why told
-  bound_done setup out out' (NoRoomToBind why told) = NoRoomToBind why told
-  bound_done setup out out' (Bound port port' bound each h) = Bound port port' bound each (start_done setup port (host.port port') out out' h)
+  bound_done : (setup : SetupView) (had has : Option (List Made)) (out out' : W) → BindsAndServes host (seen_by host.file w (Ok status)) l setup had has out out' (Ok status) → BindsAndServes host (seen_as host.file (Ok status)) l setup had has (w.written out) (w.written out') (Ok status)
+  bound_done setup had has out out' (Unbound made why told) = Unbound made why told
+  bound_done setup had has out out' (NoRoomToBind made why told) = NoRoomToBind made why told
+  bound_done setup had has out out' (Bound between made port port' bound each h) = Bound between made port port' bound each (start_done setup between has port (host.port port') out out' h)
 
-  all_done : (given : Given) (out out' : W) → Listens host (seen_by host.file w (Ok status)) l given out out' (Ok status) → Listens host (seen_as host.file (Ok status)) l given (w.written out) (w.written out') (Ok status)
-  all_done given out out' (BadStart fault first told) = BadStart fault first told
-  all_done given out out' (BadTables text words refused told) = BadTables text words refused told
-  all_done given out out' (NoRoom text told) = NoRoom text told
-  all_done given out out' (Opened start spells legal set tables manifest is h) = Opened start spells legal set tables manifest is (bound_done (setup_for l start set manifest) out out' h)
+  all_done : (given : Given) (had has : Option (List Made)) (out out' : W) → Listens host (seen_by host.file w (Ok status)) l given had has out out' (Ok status) → Listens host (seen_as host.file (Ok status)) l given had has (w.written out) (w.written out') (Ok status)
+  all_done given had has out out' (BadStart made fault first told) = BadStart made fault first told
+  all_done given had has out out' (BadTables made text words refused told) = BadTables made text words refused told
+  all_done given had has out out' (NoRoom made text told) = NoRoom made text told
+  all_done given had has out out' (Opened start spells legal set tables manifest is h) = Opened start spells legal set tables manifest is (bound_done (setup_for l start set manifest) had has out out' h)
 
-pub listened : {P F W : Type 0} (host : Hosted P F) (w : Writers W) (out out' : W) (l : Listen) (given : Given) (r : Result ℕ WriteFault) → Listens host (seen_by host.file w r) l given out out' r → IfOk r (λ status. Listens host (seen_as host.file (Ok status)) l given (w.written out) (w.written out') (Ok status))
-listened host w out out' l given (Ok status) h = all_done host w status l given out out' h
-listened host w out out' l given (Err fault) h = tt
+pub listened : {P F W : Type 0} (host : Hosted P F) (w : Writers W) (had has : Option (List Made)) (out out' : W) (l : Listen) (given : Given) (r : Result ℕ WriteFault) → Listens host (seen_by host.file w r) l given had has out out' r → IfOk r (λ status. Listens host (seen_as host.file (Ok status)) l given had has (w.written out) (w.written out') (Ok status))
+listened host w had has out out' l given (Ok status) h = all_done host w status l given had has out out' h
+listened host w had has out out' l given (Err fault) h = tt

@@ -1,10 +1,12 @@
 -- What `host` leaves, by what is written.
-use Rattle.std.proofs.Common.{◌≡◌, ℕ, List, [], ◌∷◌, inl, inr, subst, sym}
+use Rattle.std.proofs.Common.{◌≡◌, ℕ, List, [], ◌∷◌, Option, inl, inr, subst, sym}
 use Rattle.std.specs.Prelude.{Result, Ok, Err, IfOk}
 use Rattle.std.specs.Io.KnownBytes.{Appends}
 use Rattle.std.proofs.KnownBytes.{Appends-nil, Appends-trans}
 use Rattle.move_msg.specs.TextLines.{ended, text_of}
 use Rattle.system_io.specs.Disks.{DiskFacts}
+use Rattle.system_io.specs.Histories.{Passes}
+use Rattle.system_io.specs.Hosts.{Made}
 use Rattle.system_io.specs.Ports.{PortFacts}
 use Rattle.system_io.specs.declared.output.WriteFault.{WriteFault}
 use Rattle.arbiter_server.specs.GoingOut.{GoOut, Writers}
@@ -13,10 +15,11 @@ use Rattle.arbiter_server.specs.Folders.{Keepers}
 use Rattle.arbiter_server.specs.Games.{CommonView}
 use Rattle.arbiter_server.specs.LineLogs.{logged}
 use Rattle.arbiter_server.specs.declared.line_log.LogForm.{LogForm}
+use Rattle.arbiter_server.specs.declared.line_log.LogForm.TheVariants.{Nothing}
 use Rattle.arbiter_server.specs.Hosts.{Hosts, all_lines}
 use Rattle.adjudicate_core.specs.declared.commands.host.HostGames.{HostGames}
 use Rattle.task_files.specs.Given.{Given}
-use Rattle.adjudicate_core.specs.Hostings.{BadTables, BindsAndHosts, Bound, Hosting, HostsAndWrites, HostsAt, HostsGames, HostsNow, InUse, Locked, LocksAndHosts, NoAddress, NoFolder, NoLock, NoRoom, NoRoomForGames, NoRoomForLine, NoRoomToBind, NoRoomToLock, Ready, Served, Unbound, Unready, common_for, Seen, seen_as, seen_by}
+use Rattle.adjudicate_core.specs.Hostings.{BadTables, BindsAndHosts, Bound, Unlogged, Hosting, HostsAndWrites, HostsAt, HostsGames, HostsNow, InUse, Locked, LocksAndHosts, NoAddress, NoFolder, NoLock, NoRoom, NoRoomForGames, NoRoomForLine, NoRoomToBind, NoRoomToLock, Ready, Served, Unbound, Unready, common_for, Seen, seen_as, seen_by}
 use Rattle.adjudicate_core.specs.Inside.HostingParts.{IsUnlisted}
 use Rattle.adjudicate_core.specs.Lines.{ready_words, refusal_words}
 use Rattle.adjudicate_core.specs.Listens.{Hosted}
@@ -47,39 +50,40 @@ module _ {P F K W : Type 0} (folders : List ℕ → Keepers K) (host : Hosted P 
     written = lines_written w out out' (logged form (all_lines (all_replies run.acts) run.lost)) run.lines;
   }
 
-  now_done : (t : CommonView) (port port' : PortFacts) (out out' : W) → HostsNow (seen_by folders w (Ok status)) h t port port' out out' (Ok status) → HostsNow (seen_as folders (Ok status)) h t port port' (w.written out) (w.written out') (Ok status)
-  now_done t port port' out out' (Served run) = Served (served_done (folders h.games.now) t h.log h.datagrams port port' out out' run)
-  now_done t port port' out out' (NoRoomForGames same told) = NoRoomForGames same told
+  now_done : (t : CommonView) (had has : Option (List Made)) (port port' : PortFacts) (out out' : W) → HostsNow (seen_by folders w) h t had has port port' out out' (Ok status) → HostsNow (seen_as folders) h t had has port port' (w.written out) (w.written out') (Ok status)
+  now_done t had has port port' out out' (Served made run) = Served made (served_done (folders h.games.now) t h.log h.datagrams port port' out out' run)
+  now_done t had has port port' out out' (Unlogged so between when mid fault made run more rest) = Unlogged so between when (w.written mid) fault made tt more (served_done (folders h.games.now) t Nothing h.datagrams when port' mid out' rest)
+  now_done t had has port port' out out' (NoRoomForGames made same told) = NoRoomForGames made same told
 
-  at_done : (t : CommonView) (port : P) (port' : PortFacts) (out out' : W) → HostsAt host (seen_by folders w (Ok status)) h t port port' out out' (Ok status) → HostsAt host (seen_as folders (Ok status)) h t port port' (w.written out) (w.written out') (Ok status)
-  at_done t port port' out out' (NoAddress none nothing told) = NoAddress none nothing told
-  at_done t port port' out out' (NoRoomForLine nothing told) = NoRoomForLine nothing told
-  at_done t port port' out out' (Ready own is mid gone run) = Ready own is (w.written mid) (line_written w out mid (ready_words own) gone) (now_done t (host.port port) port' mid out' run)
-  at_done t port port' out out' (Unready own is nothing cut fault failed) = Unready own is nothing tt fault failed
+  at_done : (t : CommonView) (had has : Option (List Made)) (port : P) (port' : PortFacts) (out out' : W) → HostsAt host (seen_by folders w) h t had has port port' out out' (Ok status) → HostsAt host (seen_as folders) h t had has port port' (w.written out) (w.written out') (Ok status)
+  at_done t had has port port' out out' (NoAddress made none nothing told) = NoAddress made none nothing told
+  at_done t had has port port' out out' (NoRoomForLine made nothing told) = NoRoomForLine made nothing told
+  at_done t had has port port' out out' (Ready own is mid gone run) = Ready own is (w.written mid) (line_written w out mid (ready_words own) gone) (now_done t had has (host.port port) port' mid out' run)
+  at_done t had has port port' out out' (Unready made own is nothing cut fault failed) = Unready made own is nothing tt fault failed
 
-  bound_done : (t : CommonView) (out out' : W) → BindsAndHosts host (seen_by folders w (Ok status)) h t out out' (Ok status) → BindsAndHosts host (seen_as folders (Ok status)) h t (w.written out) (w.written out') (Ok status)
-  bound_done t out out' (Unbound why told) = Unbound why told
-  bound_done t out out' (NoRoomToBind why told) = NoRoomToBind why told
-  bound_done t out out' (Bound port port' bound each run) = Bound port port' bound each (at_done t port (host.port port') out out' run)
+  bound_done : (t : CommonView) (had has : Option (List Made)) (out out' : W) → BindsAndHosts host (seen_by folders w) h t had has out out' (Ok status) → BindsAndHosts host (seen_as folders) h t had has (w.written out) (w.written out') (Ok status)
+  bound_done t had has out out' (Unbound made why told) = Unbound made why told
+  bound_done t had has out out' (NoRoomToBind made why told) = NoRoomToBind made why told
+  bound_done t had has out out' (Bound between made port port' bound each run) = Bound between made port port' bound each (at_done t between has port (host.port port') out out' run)
 
-  lock_done : (t : CommonView) (out out' : W) → LocksAndHosts host (seen_by folders w (Ok status)) h t out out' (Ok status) → LocksAndHosts host (seen_as folders (Ok status)) h t (w.written out) (w.written out') (Ok status)
-  lock_done t out out' (InUse held told) = InUse held told
-  lock_done t out out' (NoLock failed told) = NoLock failed told
-  lock_done t out out' (NoRoomToLock told) = NoRoomToLock told
-  lock_done t out out' (Locked given run) = Locked given (bound_done t out out' run)
+  lock_done : (t : CommonView) (had has : Option (List Made)) (out out' : W) → LocksAndHosts host (seen_by folders w) h t had has out out' (Ok status) → LocksAndHosts host (seen_as folders) h t had has (w.written out) (w.written out') (Ok status)
+  lock_done t had has out out' (InUse made held told) = InUse made held told
+  lock_done t had has out out' (NoLock made failed told) = NoLock made failed told
+  lock_done t had has out out' (NoRoomToLock made told) = NoRoomToLock made told
+  lock_done t had has out out' (Locked between made given run) = Locked between made given (bound_done t between has out out' run)
 
-  all_done : (disk : DiskFacts) (given : Given) (out out' : W) → HostsGames disk host (seen_by folders w (Ok status)) h given out out' (Ok status) → HostsGames disk host (seen_as folders (Ok status)) h given (w.written out) (w.written out') (Ok status)
-  all_done disk given out out' (BadTables words refused told) = BadTables words refused told
-  all_done disk given out out' (NoFolder set tables fails told) = NoFolder set tables fails told
-  all_done disk given out out' (NoRoom told) = NoRoom told
-  all_done disk given out out' (Hosting set tables names lists manifest is run) = Hosting set tables names lists manifest is (lock_done (common_for h set manifest) out out' run)
+  all_done : (disk : DiskFacts) (given : Given) (had has : Option (List Made)) (out out' : W) → HostsGames disk host (seen_by folders w) h given had has out out' (Ok status) → HostsGames disk host (seen_as folders) h given had has (w.written out) (w.written out') (Ok status)
+  all_done disk given had has out out' (BadTables made words refused told) = BadTables made words refused told
+  all_done disk given had has out out' (NoFolder made set tables fails told) = NoFolder made set tables fails told
+  all_done disk given had has out out' (NoRoom made told) = NoRoom made told
+  all_done disk given had has out out' (Hosting set tables names lists manifest is run) = Hosting set tables names lists manifest is (lock_done (common_for h set manifest) had has out out' run)
 
-pub hosted_games : {P F K W : Type 0} (disk : DiskFacts) (folders : List ℕ → Keepers K) (host : Hosted P F) (w : Writers W) (out out' : W) (h : HostGames) (given : Given) (r : Result ℕ WriteFault) → HostsGames disk host (seen_by folders w r) h given out out' r → IfOk r (λ status. HostsGames disk host (seen_as folders (Ok status)) h given (w.written out) (w.written out') (Ok status))
-hosted_games disk folders host w out out' h given (Ok status) run = all_done folders host w status h disk given out out' run
-hosted_games disk folders host w out out' h given (Err fault) run = tt
+pub hosted_games : {P F K W : Type 0} (disk : DiskFacts) (folders : List ℕ → Keepers K) (host : Hosted P F) (w : Writers W) (had has : Option (List Made)) (out out' : W) (h : HostGames) (given : Given) (r : Result ℕ WriteFault) → HostsGames disk host (seen_by folders w) h given had has out out' r → IfOk r (λ status. HostsGames disk host (seen_as folders) h given had has (w.written out) (w.written out') (Ok status))
+hosted_games disk folders host w had has out out' h given (Ok status) run = all_done folders host w status h disk given had has out out' run
+hosted_games disk folders host w had has out out' h given (Err fault) run = tt
 
 -- a folder of games that isn't listed
-pub unlisted : {P F T : Type 0} (disk : DiskFacts) (host : Hosted P F) (seen : Seen T) (h : HostGames) (given : Given) (old new : T) (r : Result ℕ WriteFault) (refusal : Refusal) (set : Holding) → Ok set.tables ≡ gathered given → IsUnlisted disk h.games.now refusal
-    → TellsIf (refusal_words refusal) (seen.written old) (seen.written new) r → HostsGames disk host seen h given old new r
-unlisted disk host seen h given old new r refusal set tables (inl (is, fails)) told = NoFolder set tables fails (subst (λ x. TellsIf (refusal_words x) (seen.written old) (seen.written new) r) is told)
-unlisted disk host seen h given old new r refusal set tables (inr is) told = NoRoom (subst (λ x. TellsIf (refusal_words x) (seen.written old) (seen.written new) r) is told)
+pub unlisted : {P F T : Type 0} (disk : DiskFacts) (host : Hosted P F) (seen : Seen T) (h : HostGames) (given : Given) (had has : Option (List Made)) (old new : T) (r : Result ℕ WriteFault) (refusal : Refusal) (set : Holding) → Ok set.tables ≡ gathered given → Passes had has [] → IsUnlisted disk h.games.now refusal
+    → TellsIf (refusal_words refusal) (seen.written old) (seen.written new) r → HostsGames disk host seen h given had has old new r
+unlisted disk host seen h given had has old new r refusal set tables made (inl (is, fails)) told = NoFolder made set tables fails (subst (λ x. TellsIf (refusal_words x) (seen.written old) (seen.written new) r) is told)
+unlisted disk host seen h given had has old new r refusal set tables made (inr is) told = NoRoom made (subst (λ x. TellsIf (refusal_words x) (seen.written old) (seen.written new) r) is told)

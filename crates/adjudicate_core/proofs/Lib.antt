@@ -21,3 +21,4 @@ pub mod AuditAgreementLaws
 pub mod EntryLaws
 pub mod RootLines
 pub mod JsonLaws
+pub mod MakeLaws

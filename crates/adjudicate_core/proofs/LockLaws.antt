@@ -3,6 +3,8 @@ use Rattle.std.proofs.Common.{◌≡◌, ℕ, List, [], Option, inl, inr, subst}
 use Rattle.std.specs.Prelude.{Result}
 use Rattle.arbiter_core.specs.Setups.{SetupView}
 use Rattle.arbiter_server.specs.Games.{CommonView}
+use Rattle.system_io.specs.Histories.{Passes}
+use Rattle.system_io.specs.Hosts.{Made}
 use Rattle.system_io.specs.Ports.{Passed, PortFacts}
 use Rattle.system_io.specs.declared.output.WriteFault.{WriteFault}
 use Rattle.adjudicate_core.specs.Hostings as hosting
@@ -17,12 +19,12 @@ use Rattle.adjudicate_core.specs.declared.refusals.Refusal.{Refusal}
 told_as : (why is : Refusal) (old new : Option (List ℕ)) (r : Result ℕ WriteFault) → why ≡ is → TellsIf (refusal_words why) old new r → TellsIf (refusal_words is) old new r
 told_as why is old new r same told = subst (λ (x : Refusal). TellsIf (refusal_words x) old new r) same told
 
-pub unhosted : {P F T : Type 0} (host : listening.Hosted P F) (seen : hosting.Seen T) (h : HostGames) (t : CommonView) (old new : T) (r : Result ℕ WriteFault) (why : Refusal) → IsBarred host.host (games_lock h.games.now) why → TellsIf (refusal_words why) (seen.written old) (seen.written new) r → hosting.LocksAndHosts host seen h t old new r
-unhosted host seen h t old new r why (inl (is, held)) told = hosting.InUse held (told_as why _ _ _ r is told)
-unhosted host seen h t old new r why (inr (inl (is, failed))) told = hosting.NoLock failed (told_as why _ _ _ r is told)
-unhosted host seen h t old new r why (inr (inr is)) told = hosting.NoRoomToLock (told_as why _ _ _ r is told)
+pub unhosted : {P F T : Type 0} (host : listening.Hosted P F) (seen : hosting.Seen T) (h : HostGames) (t : CommonView) (had has : Option (List Made)) (old new : T) (r : Result ℕ WriteFault) (why : Refusal) → Passes had has [] → IsBarred host.host (games_lock h.games.now) why → TellsIf (refusal_words why) (seen.written old) (seen.written new) r → hosting.LocksAndHosts host seen h t had has old new r
+unhosted host seen h t had has old new r why made (inl (is, held)) told = hosting.InUse made held (told_as why _ _ _ r is told)
+unhosted host seen h t had has old new r why made (inr (inl (is, failed))) told = hosting.NoLock made failed (told_as why _ _ _ r is told)
+unhosted host seen h t had has old new r why made (inr (inr is)) told = hosting.NoRoomToLock made (told_as why _ _ _ r is told)
 
-pub unserved : {P F : Type 0} (host : listening.Hosted P F) (S : listening.ServesBy F) (l : Listen) (setup : SetupView) (port port' : PortFacts) (old new : Option (List ℕ)) (r : Result ℕ WriteFault) (why : Refusal) → IsBarred host.host (kept_lock l.kept.now) why → Passed port port' [] → TellsIf (refusal_words why) old new r → listening.ServesAt host S l setup port port' old new r
-unserved host S l setup port port' old new r why (inl (is, held)) nothing told = listening.InUse held nothing (told_as why _ _ _ r is told)
-unserved host S l setup port port' old new r why (inr (inl (is, failed))) nothing told = listening.NoLock failed nothing (told_as why _ _ _ r is told)
-unserved host S l setup port port' old new r why (inr (inr is)) nothing told = listening.NoRoomToLock nothing (told_as why _ _ _ r is told)
+pub unserved : {P F : Type 0} (host : listening.Hosted P F) (S : listening.ServesBy F) (l : Listen) (setup : SetupView) (had has : Option (List Made)) (port port' : PortFacts) (old new : Option (List ℕ)) (r : Result ℕ WriteFault) (why : Refusal) → Passes had has [] → IsBarred host.host (kept_lock l.kept.now) why → Passed port port' [] → TellsIf (refusal_words why) old new r → listening.ServesAt host S l setup had has port port' old new r
+unserved host S l setup had has port port' old new r why made (inl (is, held)) nothing told = listening.InUse made held nothing (told_as why _ _ _ r is told)
+unserved host S l setup had has port port' old new r why made (inr (inl (is, failed))) nothing told = listening.NoLock made failed nothing (told_as why _ _ _ r is told)
+unserved host S l setup had has port port' old new r why made (inr (inr is)) nothing told = listening.NoRoomToLock made nothing (told_as why _ _ _ r is told)

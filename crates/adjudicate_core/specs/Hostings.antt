@@ -9,7 +9,8 @@ use Rattle.move_msg.specs.Senders.{who_number}
 use Rattle.move_msg.specs.TextLines.{ended, text_of}
 use Rattle.system_io.specs.Disks.{AtFolder, DiskFacts}
 use Rattle.system_io.specs.Failures.{Risen}
-use Rattle.system_io.specs.Hosts.{HostFacts}
+use Rattle.system_io.specs.Histories.{Passes}
+use Rattle.system_io.specs.Hosts.{FileAt, HostFacts, LockAt, Made, PortAt}
 use Rattle.system_io.specs.KeptFiles.{KeptFacts}
 use Rattle.system_io.specs.Outputs.{OutputFacts}
 use Rattle.system_io.specs.Ports.{Passed, PortFacts}
@@ -22,8 +23,11 @@ use Rattle.arbiter_server.specs.Acts.{Act, all_replies}
 use Rattle.arbiter_server.specs.DiskGames.{disk_keepers}
 use Rattle.arbiter_server.specs.Folders.{Keepers}
 use Rattle.arbiter_server.specs.Games.{CommonView, common_with}
+use Rattle.arbiter_server.specs.GameFolders.{kept_path}
 use Rattle.arbiter_server.specs.LineLogs.{logged}
+use Rattle.arbiter_server.specs.Makings.{MakesWhile}
 use Rattle.arbiter_server.specs.declared.line_log.LogForm.{LogForm}
+use Rattle.arbiter_server.specs.declared.line_log.LogForm.TheVariants.{Nothing}
 use Rattle.arbiter_server.specs.Hosts.{Ends, Hosts, IsHosted, all_lines, all_passing}
 use Rattle.adjudicate_core.specs.Addresses.{addresses_of}
 use Rattle.adjudicate_core.specs.declared.commands.host.HostGames.{HostGames}
@@ -63,49 +67,57 @@ pub record Seen (T : Type 0) : Type 1 where
   pub written : T → Option (List ℕ)
   pub told : T → List ℕ → T → Type 0
   pub cut : T → List ℕ → T → Type 0
-  pub hosts : List ℕ → CommonView → LogForm → ℕ → PortFacts → PortFacts → T → T → Type 0
+  pub hosts : List ℕ → CommonView → LogForm → ℕ → PortFacts → PortFacts → T → T → Result ℕ WriteFault → Type 0
 
 -- by what is written, with these folders
-abbrev pub seen_as : {K : Type 0} → (List ℕ → Keepers K) → Result ℕ WriteFault → Seen (Option (List ℕ))
-seen_as folders r = record { written = λ t. t; told = λ old line new. Appends old new (ended line); cut = λ old line new. Unit {0}; hosts = λ path t form n port port' old new. HostsIfDone (folders path) t form n port port' old new r }
+abbrev pub seen_as : {K : Type 0} → (List ℕ → Keepers K) → Seen (Option (List ℕ))
+seen_as folders = record { written = λ t. t; told = λ old line new. Appends old new (ended line); cut = λ old line new. Unit {0}; hosts = λ path t form n port port' old new r. HostsIfDone (folders path) t form n port port' old new r }
 
 -- by the writer: each line has gone out before the next comes
-abbrev pub seen_by : {K W : Type 0} → (List ℕ → Keepers K) → Writers W → Result ℕ WriteFault → Seen W
-seen_by folders w r = record { written = w.written; told = λ out line now. GoOut w out (line ∷ []) now; cut = λ out line now. LastIsCut w out (line ∷ []) now; hosts = λ path t form n port port' out now. Hosts (folders path) t w form n (λ stamp next. Unit {0}) port port' out now r }
+abbrev pub seen_by : {K W : Type 0} → (List ℕ → Keepers K) → Writers W → Seen W
+seen_by folders w = record { written = w.written; told = λ out line now. GoOut w out (line ∷ []) now; cut = λ out line now. LastIsCut w out (line ∷ []) now; hosts = λ path t form n port port' out now r. Hosts (folders path) t w form n (λ stamp next. Unit {0}) port port' out now r }
 
 -- ---- all of it
 
--- the games of the folder that the words name are hosted; or memory for those that are open, or for the log, was refused, and no datagram was received
-pub data HostsNow {T : Type 0} (seen : Seen T) (h : HostGames) (t : CommonView) (port port' : PortFacts) (old new : T) (r : Result ℕ WriteFault) : Type 0 where
-  Served : seen.hosts h.games.now t h.log h.datagrams port port' old new → HostsNow seen h t port port' old new r
-  NoRoomForGames : port' ≡ port → TellsIf refused_memory (seen.written old) (seen.written new) r → HostsNow seen h t port port' old new r
+-- where the keeper of the game with this stamp is taken, the file of its record is opened
+abbrev pub record_of : HostGames → List ℕ → Made
+record_of h stamp = FileAt (kept_path h.games.now stamp)
+
+-- The games of the folder that the words name are hosted; of the files of records those are opened that a datagram asks for. Where the
+-- words say so, a log that can't be written ends it not: the games go on without lines, for so many datagrams more. Or memory for the
+-- games that are open, or for the log, was refused, and no datagram was received.
+pub data HostsNow {T : Type 0} (seen : Seen T) (h : HostGames) (t : CommonView) (had has : Option (List Made)) (port port' : PortFacts) (old new : T) (r : Result ℕ WriteFault) : Type 0 where
+  Served : MakesWhile (record_of h) port port' had has → seen.hosts h.games.now t h.log h.datagrams port port' old new r → HostsNow seen h t had has port port' old new r
+  Unlogged : h.outlives_log ≡ true → (between : Option (List Made)) (when : PortFacts) (mid : T) (fault : WriteFault) → MakesWhile (record_of h) port when had between → seen.hosts h.games.now t h.log h.datagrams port when old mid (Err fault) → MakesWhile (record_of h) when port' between has → seen.hosts h.games.now t Nothing h.datagrams when port' mid new r → HostsNow seen h t had has port port' old new r
+  NoRoomForGames : Passes had has [] → port' ≡ port → TellsIf refused_memory (seen.written old) (seen.written new) r → HostsNow seen h t had has port port' old new r
 
 -- at a port that is bound: the address at which it listens isn't told; or its line goes out before all else; or that is cut short
-pub data HostsAt {P F T : Type 0} (host : Hosted P F) (seen : Seen T) (h : HostGames) (t : CommonView) (port : P) (port' : PortFacts) (old new : T) (r : Result ℕ WriteFault) : Type 0 where
-  NoAddress : host.host.listens port None → Passed (host.port port) port' [] → TellsIf refused_port (seen.written old) (seen.written new) r → HostsAt host seen h t port port' old new r
-  NoRoomForLine : Passed (host.port port) port' [] → TellsIf refused_memory (seen.written old) (seen.written new) r → HostsAt host seen h t port port' old new r
-  Ready : (own : SocketAddr) → host.host.listens port (Some own) → (mid : T) → seen.told old (ready_words own) mid → HostsNow seen h t (host.port port) port' mid new r → HostsAt host seen h t port port' old new r
-  Unready : (own : SocketAddr) → host.host.listens port (Some own) → Passed (host.port port) port' [] → seen.cut old (ready_words own) new → (fault : WriteFault) → r ≡ Err fault → HostsAt host seen h t port port' old new r
+pub data HostsAt {P F T : Type 0} (host : Hosted P F) (seen : Seen T) (h : HostGames) (t : CommonView) (had has : Option (List Made)) (port : P) (port' : PortFacts) (old new : T) (r : Result ℕ WriteFault) : Type 0 where
+  NoAddress : Passes had has [] → host.host.listens port None → Passed (host.port port) port' [] → TellsIf refused_port (seen.written old) (seen.written new) r → HostsAt host seen h t had has port port' old new r
+  NoRoomForLine : Passes had has [] → Passed (host.port port) port' [] → TellsIf refused_memory (seen.written old) (seen.written new) r → HostsAt host seen h t had has port port' old new r
+  Ready : (own : SocketAddr) → host.host.listens port (Some own) → (mid : T) → seen.told old (ready_words own) mid → HostsNow seen h t had has (host.port port) port' mid new r → HostsAt host seen h t had has port port' old new r
+  Unready : Passes had has [] → (own : SocketAddr) → host.host.listens port (Some own) → Passed (host.port port) port' [] → seen.cut old (ready_words own) new → (fault : WriteFault) → r ≡ Err fault → HostsAt host seen h t had has port port' old new r
 
 -- the port can't be bound; or it is, and sends to each of the addresses
-pub data BindsAndHosts {P F T : Type 0} (host : Hosted P F) (seen : Seen T) (h : HostGames) (t : CommonView) (old new : T) (r : Result ℕ WriteFault) : Type 0 where
-  Unbound : host.host.refuses h.bind.now bind.Unbound → TellsIf refused_port (seen.written old) (seen.written new) r → BindsAndHosts host seen h t old new r
-  NoRoomToBind : LacksRoomToBind host.host h.bind.now h.to.now → TellsIf refused_memory (seen.written old) (seen.written new) r → BindsAndHosts host seen h t old new r
-  Bound : (port port' : P) → host.host.binds h.bind.now (addresses_of h.to.now) port → (host.port port).addresses ≡ length (addresses_of h.to.now) → HostsAt host seen h t port (host.port port') old new r → BindsAndHosts host seen h t old new r
+pub data BindsAndHosts {P F T : Type 0} (host : Hosted P F) (seen : Seen T) (h : HostGames) (t : CommonView) (had has : Option (List Made)) (old new : T) (r : Result ℕ WriteFault) : Type 0 where
+  Unbound : Passes had has [] → host.host.refuses h.bind.now bind.Unbound → TellsIf refused_port (seen.written old) (seen.written new) r → BindsAndHosts host seen h t had has old new r
+  NoRoomToBind : Passes had has [] → LacksRoomToBind host.host h.bind.now h.to.now → TellsIf refused_memory (seen.written old) (seen.written new) r → BindsAndHosts host seen h t had has old new r
+  Bound : (between : Option (List Made)) → Passes had between (PortAt h.bind.now (addresses_of h.to.now) ∷ []) → (port port' : P) → host.host.binds h.bind.now (addresses_of h.to.now) port → (host.port port).addresses ≡ length (addresses_of h.to.now) → HostsAt host seen h t between has port (host.port port') old new r → BindsAndHosts host seen h t had has old new r
 
 -- the folder is another process's, or can't be locked; or it is locked, and what follows is under its lock
-pub data LocksAndHosts {P F T : Type 0} (host : Hosted P F) (seen : Seen T) (h : HostGames) (t : CommonView) (old new : T) (r : Result ℕ WriteFault) : Type 0 where
-  InUse : host.host.bars (games_lock h.games.now) lock.Held → TellsIf refused_in_use (seen.written old) (seen.written new) r → LocksAndHosts host seen h t old new r
-  NoLock : host.host.bars (games_lock h.games.now) lock.Failed → TellsIf refused_keeper (seen.written old) (seen.written new) r → LocksAndHosts host seen h t old new r
-  NoRoomToLock : TellsIf refused_memory (seen.written old) (seen.written new) r → LocksAndHosts host seen h t old new r
-  Locked : host.host.gives_lock (games_lock h.games.now) → BindsAndHosts host seen h t old new r → LocksAndHosts host seen h t old new r
+pub data LocksAndHosts {P F T : Type 0} (host : Hosted P F) (seen : Seen T) (h : HostGames) (t : CommonView) (had has : Option (List Made)) (old new : T) (r : Result ℕ WriteFault) : Type 0 where
+  InUse : Passes had has [] → host.host.bars (games_lock h.games.now) lock.Held → TellsIf refused_in_use (seen.written old) (seen.written new) r → LocksAndHosts host seen h t had has old new r
+  NoLock : Passes had has [] → host.host.bars (games_lock h.games.now) lock.Failed → TellsIf refused_keeper (seen.written old) (seen.written new) r → LocksAndHosts host seen h t had has old new r
+  NoRoomToLock : Passes had has [] → TellsIf refused_memory (seen.written old) (seen.written new) r → LocksAndHosts host seen h t had has old new r
+  Locked : (between : Option (List Made)) → Passes had between (LockAt (games_lock h.games.now) ∷ []) → host.host.gives_lock (games_lock h.games.now) → BindsAndHosts host seen h t between has old new r → LocksAndHosts host seen h t had has old new r
 
--- hosting: a table is refused; or else the folder of games can't be listed; or else what follows, with the manifest of the tables' files
-pub data HostsGames {P F T : Type 0} (disk : DiskFacts) (host : Hosted P F) (seen : Seen T) (h : HostGames) (given : Given) (old new : T) (r : Result ℕ WriteFault) : Type 0 where
-  BadTables : (words : List ℕ) → gathered given ≡ Err words → TellsIf words (seen.written old) (seen.written new) r → HostsGames disk host seen h given old new r
-  NoFolder : (set : Holding) → Ok set.tables ≡ gathered given → disk.fails (AtFolder h.games.now) → TellsIf refused_files (seen.written old) (seen.written new) r → HostsGames disk host seen h given old new r
-  NoRoom : TellsIf refused_memory (seen.written old) (seen.written new) r → HostsGames disk host seen h given old new r
-  Hosting : (set : Holding) → Ok set.tables ≡ gathered given → (names : List (List ℕ)) → disk.lists h.games.now names → (manifest : List ℕ) → SpellsManifest manifest (entries_of given.files) → LocksAndHosts host seen h (common_for h set manifest) old new r → HostsGames disk host seen h given old new r
+-- hosting: a table is refused; or else the folder of games can't be listed; or else what follows, with the manifest of the tables' files.
+-- What the host has made before and after it is in its history: the lock, the port, and then the files of records.
+pub data HostsGames {P F T : Type 0} (disk : DiskFacts) (host : Hosted P F) (seen : Seen T) (h : HostGames) (given : Given) (had has : Option (List Made)) (old new : T) (r : Result ℕ WriteFault) : Type 0 where
+  BadTables : Passes had has [] → (words : List ℕ) → gathered given ≡ Err words → TellsIf words (seen.written old) (seen.written new) r → HostsGames disk host seen h given had has old new r
+  NoFolder : Passes had has [] → (set : Holding) → Ok set.tables ≡ gathered given → disk.fails (AtFolder h.games.now) → TellsIf refused_files (seen.written old) (seen.written new) r → HostsGames disk host seen h given had has old new r
+  NoRoom : Passes had has [] → TellsIf refused_memory (seen.written old) (seen.written new) r → HostsGames disk host seen h given had has old new r
+  Hosting : (set : Holding) → Ok set.tables ≡ gathered given → (names : List (List ℕ)) → disk.lists h.games.now names → (manifest : List ℕ) → SpellsManifest manifest (entries_of given.files) → LocksAndHosts host seen h (common_for h set manifest) had has old new r → HostsGames disk host seen h given had has old new r
 
 -- ---- with the writer
 
@@ -118,25 +130,32 @@ pub record Around (P F W : Type 0) : Type 1 where
 abbrev pub around : {P F W : Type 0} → DiskFacts → HostFacts P F → (P → PortFacts) → (F → KeptFacts) → (W → Option (List ℕ)) → (W → OutputFacts) → Around P F W
 around disk host port file written output = record { disk = disk; host = hosted host port file; writer = writers written output }
 
--- of the files and the host of some games, and of a writer
-abbrev pub around_of : {D H P F W : Type 0} → (D → DiskFacts) → (H → HostFacts P F) → (P → PortFacts) → (F → KeptFacts) → (W → Option (List ℕ)) → (W → OutputFacts) → HostPlan D H → Around P F W
-around_of disk host port file written output h = around (disk h.disk.now) (host h.host.now) port file written output
-
 -- each line has gone out before the next one
-abbrev pub writing : {P F W : Type 0} → Around P F W → Result ℕ WriteFault → Seen W
-writing a r = seen_by (disk_keepers a.disk a.host.host a.host.file) a.writer r
+abbrev pub writing : {P F W : Type 0} → Around P F W → Seen W
+writing a = seen_by (disk_keepers a.disk a.host.host a.host.file) a.writer
 
-abbrev pub WritesNow : {D H P F W : Type 0} → Around P F W → HostPlan D H → PortFacts → PortFacts → W → W → Result ℕ WriteFault → Type 0
-WritesNow a h port port' out out' r = HostsNow (writing a r) h.task.now (common_with h.config h.tables) port port' out out' r
+-- so it is by the words, and with what the games have in common
+pub record Way (P F W : Type 0) : Type 1 where
+  pub around : Around P F W
+  pub words : HostGames
+  pub common : CommonView
 
-abbrev pub WritesAt : {D H P F W : Type 0} → Around P F W → HostPlan D H → P → PortFacts → W → W → Result ℕ WriteFault → Type 0
-WritesAt a h port port' out out' r = HostsAt a.host (writing a r) h.task.now (common_with h.config h.tables) port port' out out' r
+-- of the files and the host of some games, and of a writer
+abbrev pub way : {D H P F W : Type 0} → (D → DiskFacts) → (H → HostFacts P F) → (P → PortFacts) → (F → KeptFacts) → (W → Option (List ℕ)) → (W → OutputFacts) → HostPlan D H → Way P F W
+way disk host port file written output h = record { around = around (disk h.disk.now) (host h.host.now) port file written output; words = h.task.now; common = common_with h.config h.tables }
 
-abbrev pub BindsAndWrites : {D H P F W : Type 0} → Around P F W → HostPlan D H → W → W → Result ℕ WriteFault → Type 0
-BindsAndWrites a h out out' r = BindsAndHosts a.host (writing a r) h.task.now (common_with h.config h.tables) out out' r
+-- from one history of the host to a later one
+abbrev pub WritesNow : {P F W : Type 0} → Way P F W → Option (List Made) → Option (List Made) → PortFacts → PortFacts → W → W → Result ℕ WriteFault → Type 0
+WritesNow w had has port port' out out' r = HostsNow (writing w.around) w.words w.common had has port port' out out' r
 
-abbrev pub LocksAndWrites : {D H P F W : Type 0} → Around P F W → HostPlan D H → W → W → Result ℕ WriteFault → Type 0
-LocksAndWrites a h out out' r = LocksAndHosts a.host (writing a r) h.task.now (common_with h.config h.tables) out out' r
+abbrev pub WritesAt : {P F W : Type 0} → Way P F W → Option (List Made) → Option (List Made) → P → PortFacts → W → W → Result ℕ WriteFault → Type 0
+WritesAt w had has port port' out out' r = HostsAt w.around.host (writing w.around) w.words w.common had has port port' out out' r
 
-abbrev pub HostsAndTells : {P F W : Type 0} → Around P F W → HostGames → Given → W → W → Result ℕ WriteFault → Type 0
-HostsAndTells a h given out out' r = HostsGames a.disk a.host (writing a r) h given out out' r
+abbrev pub BindsAndWrites : {P F W : Type 0} → Way P F W → Option (List Made) → Option (List Made) → W → W → Result ℕ WriteFault → Type 0
+BindsAndWrites w had has out out' r = BindsAndHosts w.around.host (writing w.around) w.words w.common had has out out' r
+
+abbrev pub LocksAndWrites : {P F W : Type 0} → Way P F W → Option (List Made) → Option (List Made) → W → W → Result ℕ WriteFault → Type 0
+LocksAndWrites w had has out out' r = LocksAndHosts w.around.host (writing w.around) w.words w.common had has out out' r
+
+abbrev pub HostsAndTells : {P F W : Type 0} → Around P F W → HostGames → Given → Option (List Made) → Option (List Made) → W → W → Result ℕ WriteFault → Type 0
+HostsAndTells a h given had has out out' r = HostsGames a.disk a.host (writing a) h given had has out out' r

@@ -25,6 +25,7 @@ pub mod Sends
 pub mod Enters
 pub mod Entries
 pub mod Hostings
+pub mod Makes
 pub mod Audits
 pub mod AuditAgreements
 pub mod Inside

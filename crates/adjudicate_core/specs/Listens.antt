@@ -101,7 +101,7 @@ pub data ServesAt {P F : Type 0} (host : Hosted P F) (S : ServesBy F) (l : Liste
   InUse : Passes had has [] → host.host.bars (kept_lock l.kept.now) lock.Held → Passed port port' [] → TellsIf refused_in_use old new r → ServesAt host S l setup had has port port' old new r
   NoLock : Passes had has [] → host.host.bars (kept_lock l.kept.now) lock.Failed → Passed port port' [] → TellsIf refused_keeper old new r → ServesAt host S l setup had has port port' old new r
   NoRoomToLock : Passes had has [] → Passed port port' [] → TellsIf refused_memory old new r → ServesAt host S l setup had has port port' old new r
-  Locked : (then : Option (List Made)) → Passes had then (LockAt (kept_lock l.kept.now) ∷ []) → host.host.gives_lock (kept_lock l.kept.now) → ServesLocked host S l setup then has port port' old new r → ServesAt host S l setup had has port port' old new r
+  Locked : (between : Option (List Made)) → Passes had between (LockAt (kept_lock l.kept.now) ∷ []) → host.host.gives_lock (kept_lock l.kept.now) → ServesLocked host S l setup between has port port' old new r → ServesAt host S l setup had has port port' old new r
 
 -- memory for binding is refused: by the host, or for a list of more than one address
 abbrev pub LacksRoomToBind : {P F : Type 0} → HostFacts P F → List ℕ → List ℕ → Type 0
@@ -144,7 +144,7 @@ pub data StartsAt {P F T : Type 0} (host : Hosted P F) (seen : Seen F T) (l : Li
 pub data BindsAndServes {P F T : Type 0} (host : Hosted P F) (seen : Seen F T) (l : Listen) (setup : SetupView) (had has : Option (List Made)) (old new : T) (r : Result ℕ WriteFault) : Type 0 where
   Unbound : Passes had has [] → host.host.refuses l.bind.now bind.Unbound → TellsIf refused_port (seen.written old) (seen.written new) r → BindsAndServes host seen l setup had has old new r
   NoRoomToBind : Passes had has [] → LacksRoomToBind host.host l.bind.now l.to.now → TellsIf refused_memory (seen.written old) (seen.written new) r → BindsAndServes host seen l setup had has old new r
-  Bound : (then : Option (List Made)) → Passes had then (PortAt l.bind.now (addresses_of l.to.now) ∷ []) → (port port' : P) → host.host.binds l.bind.now (addresses_of l.to.now) port → (host.port port).addresses ≡ length (addresses_of l.to.now) → StartsAt host seen l setup then has port (host.port port') old new r → BindsAndServes host seen l setup had has old new r
+  Bound : (between : Option (List Made)) → Passes had between (PortAt l.bind.now (addresses_of l.to.now) ∷ []) → (port port' : P) → host.host.binds l.bind.now (addresses_of l.to.now) port → (host.port port).addresses ≡ length (addresses_of l.to.now) → StartsAt host seen l setup between has port (host.port port') old new r → BindsAndServes host seen l setup had has old new r
 
 -- listening: the text of the start is no position; or else a table is refused; or else what follows, with the manifest of the
 -- tables' files. What the host has made before and after it is in its history: the port, the lock and the file, in this order.
@@ -164,17 +164,25 @@ OpensAndWrites facts w l setup keeper keeper' port port' out out' r = OpensAndSe
 abbrev pub KeepsAndWrites : {F W : Type 0} → (F → KeptFacts) → Writers W → Listen → SetupView → F → PortFacts → PortFacts → W → W → Result ℕ WriteFault → Type 0
 KeepsAndWrites facts w l setup file port port' out out' r = KeepsAndServes facts (writing_to facts w out out' r) l setup file port port' (w.written out) (w.written out') r
 
-abbrev pub WritesAt : {P F W : Type 0} → Hosted P F → Writers W → Listen → SetupView → PortFacts → PortFacts → W → W → Result ℕ WriteFault → Type 0
-WritesAt host w l setup port port' out out' r = ServesAt host (writing_to host.file w out out' r) l setup port port' (w.written out) (w.written out') r
+-- what is known of a host and a writer, the words, and how an arbiter is set up
+pub record Way (P F W : Type 0) : Type 1 where
+  pub host : Hosted P F
+  pub writer : Writers W
+  pub words : Listen
+  pub setup : SetupView
 
-abbrev pub LockedAndWrites : {P F W : Type 0} → Hosted P F → Writers W → Listen → SetupView → PortFacts → PortFacts → W → W → Result ℕ WriteFault → Type 0
-LockedAndWrites host w l setup port port' out out' r = ServesLocked host (writing_to host.file w out out' r) l setup port port' (w.written out) (w.written out') r
+-- from one history of the host to a later one
+abbrev pub LockedAndWrites : {P F W : Type 0} → Way P F W → Option (List Made) → Option (List Made) → PortFacts → PortFacts → W → W → Result ℕ WriteFault → Type 0
+LockedAndWrites w had has port port' out out' r = ServesLocked w.host (writing_to w.host.file w.writer out out' r) w.words w.setup had has port port' (w.writer.written out) (w.writer.written out') r
 
-abbrev pub StartsAndWrites : {P F W : Type 0} → Hosted P F → Writers W → Listen → SetupView → P → PortFacts → W → W → Result ℕ WriteFault → Type 0
-StartsAndWrites host w l setup port port' out out' r = StartsAt host (seen_by host.file w r) l setup port port' out out' r
+abbrev pub WritesAt : {P F W : Type 0} → Way P F W → Option (List Made) → Option (List Made) → PortFacts → PortFacts → W → W → Result ℕ WriteFault → Type 0
+WritesAt w had has port port' out out' r = ServesAt w.host (writing_to w.host.file w.writer out out' r) w.words w.setup had has port port' (w.writer.written out) (w.writer.written out') r
 
-abbrev pub BindsAndWrites : {P F W : Type 0} → Hosted P F → Writers W → Listen → SetupView → W → W → Result ℕ WriteFault → Type 0
-BindsAndWrites host w l setup out out' r = BindsAndServes host (seen_by host.file w r) l setup out out' r
+abbrev pub StartsAndWrites : {P F W : Type 0} → Way P F W → Option (List Made) → Option (List Made) → P → PortFacts → W → W → Result ℕ WriteFault → Type 0
+StartsAndWrites w had has port port' out out' r = StartsAt w.host (seen_by w.host.file w.writer r) w.words w.setup had has port port' out out' r
 
-abbrev pub ListensAndWrites : {P F W : Type 0} → Hosted P F → Writers W → Listen → Given → W → W → Result ℕ WriteFault → Type 0
-ListensAndWrites host w l given out out' r = Listens host (seen_by host.file w r) l given out out' r
+abbrev pub BindsAndWrites : {P F W : Type 0} → Way P F W → Option (List Made) → Option (List Made) → W → W → Result ℕ WriteFault → Type 0
+BindsAndWrites w had has out out' r = BindsAndServes w.host (seen_by w.host.file w.writer r) w.words w.setup had has out out' r
+
+abbrev pub ListensAndWrites : {P F W : Type 0} → Hosted P F → Writers W → Listen → Given → Option (List Made) → Option (List Made) → W → W → Result ℕ WriteFault → Type 0
+ListensAndWrites host w l given had has out out' r = Listens host (seen_by host.file w r) l given had has out out' r

@@ -46,7 +46,7 @@ range_of wanted.AtOnce = codes "1 to 65535"
 range_of wanted.Addresses = codes "ADDR[,ADDR], each a host, a colon and a port"
 range_of wanted.Recipients = codes "ADDR[,ADDR], each a host, a colon and a port"
 range_of wanted.Address = codes "ADDR, a host, a colon and a port"
-range_of wanted.Log = codes "all or changes"
+range_of wanted.Log = codes "all, changes or none"
 range_of wanted.GameFile = codes "FOLDER/STAMP.game, with 32 lower-case hexadecimal digits"
 
 -- an option that takes the place of others

@@ -47,6 +47,7 @@ abbrev pub IsLog : Option (List ℕ) → LogForm → Type 0
 IsLog None form = form ≡ log.All
 IsLog (Some text) log.All = text ≡ codes "all"
 IsLog (Some text) log.Changes = text ≡ codes "changes"
+IsLog (Some text) log.Nothing = text ≡ codes "none"
 
 -- the number of an arbiter has to be given, 1 or 2
 abbrev pub IsMe : Option (List ℕ) → Who → Type 0

@@ -5,6 +5,7 @@ use Rattle.std.specs.Global.{Global}
 use Rattle.system_io.specs.Disks.{DiskFacts}
 use Rattle.system_io.specs.Inputs.{InputFacts}
 use Rattle.adjudicate_core.specs.declared.commands.Task.{Task}
+use Rattle.adjudicate_core.specs.declared.system.System.{System}
 use Rattle.adjudicate_core.specs.declared.commands.Task.TheVariants as task
 use Rattle.adjudicate_core.specs.declared.usage.Misuse.{Misuse}
 use Rattle.adjudicate_core.specs.declared.usage.WordsFault.{WordsFault}
@@ -12,7 +13,7 @@ use Rattle.adjudicate_core.specs.declared.usage.WordsFault.TheVariants.{NoText}
 use Rattle.adjudicate_core.specs.declared.usage.Misuse.TheVariants as misuse
 use Rattle.task_files.specs.Given.{Given}
 use Rattle.line_teller.specs.ToldLines.{refused_files, refused_memory}
-use Rattle.system_io.specs.Hosts.{HostFacts}
+use Rattle.system_io.specs.Hosts.{HostFacts, Made}
 use Rattle.system_io.specs.KeptFiles.{KeptFacts}
 use Rattle.system_io.specs.Ports.{PortFacts}
 use Rattle.adjudicate_core.specs.Listens.{Hosted, Listens, hosted, seen_as}
@@ -49,14 +50,21 @@ use Rattle.adjudicate_core.specs.Reply.{AnswersOnce, AnswersRead, IsText}
 use Rattle.adjudicate_core.specs.Telling.{TellsOne}
 use Rattle.adjudicate_core.specs.Tasks.{IsTask, IsMisuse, NamesNone, key_in, named_in}
 
--- what is outside of the program: its disk, its input, and the host of its ports and files
+-- what is outside of the program: its disk, its input, the host of its ports and files, and what that had made before a run and has made
+-- after it
 pub record Outside (P F : Type 0) : Type 1 where
   pub disk : DiskFacts
   pub source : InputFacts
   pub host : Hosted P F
+  pub had : Option (List Made)
+  pub has : Option (List Made)
 
-abbrev pub outside : {P F : Type 0} → DiskFacts → InputFacts → HostFacts P F → (P → PortFacts) → (F → KeptFacts) → Outside P F
-outside disk source host port file = record { disk = disk; source = source; host = hosted host port file }
+abbrev pub outside : {P F : Type 0} → DiskFacts → InputFacts → Hosted P F → Option (List Made) → Option (List Made) → Outside P F
+outside disk source host had has = record { disk = disk; source = source; host = host; had = had; has = has }
+
+-- so it is of this system
+abbrev pub outside_of : {D I H M P F : Type 0} → (D → DiskFacts) → (I → InputFacts) → (H → HostFacts P F) → (M → Option (List Made)) → (P → PortFacts) → (F → KeptFacts) → System D I H → M → M → Outside P F
+outside_of disk source host made port file s history history' = outside (disk s.disk.now) (source s.input.now) (hosted (host s.host.now) port file) (made history) (made history')
 
 -- words as the bytes of their texts
 abbrev pub texts : List (Bor (List ℕ)) → List (List ℕ)
@@ -64,38 +72,38 @@ texts words = map (λ w. w.now) words
 
 -- what the program answers to a task from what was read for it: `judge`, `probe`, `moves`, `game` and `audit` take memory for a
 -- text that is a position, `record` for what is laid out as a record, `list`, `check` and `run` always, `show` and `version` never
-abbrev pub AnswersFrom : {P F : Type 0} → DiskFacts → InputFacts → Hosted P F → Task → Given → Option (List ℕ) → Option (List ℕ) → ℕ → Type 0
-AnswersFrom disk source host (task.Judge t) given old new status = AnswersOnce (judges.IsReply t given) (IsText t.fen.now) old new status
-AnswersFrom disk source host (task.Probe t) given old new status = AnswersOnce (probes.IsReply t given) (IsText t.fen.now) old new status
-AnswersFrom disk source host (task.Moves t) given old new status = AnswersOnce (of_moves.IsReply t) (IsText t.fen.now) old new status
-AnswersFrom disk source host (task.List t) given old new status = AnswersRead (lists.IsReply disk t) (lists.IsUnread disk t) old new status
-AnswersFrom disk source host (task.Check t) given old new status = AnswersRead (checks.IsReply disk t) (checks.IsUnread disk t) old new status
-AnswersFrom disk source host (task.Show t) given old new status = shows.Answers given old new status
-AnswersFrom disk source host (task.Run t) given old new status = AnswersOnce (runs.IsReply t given) (Unit {0}) old new status
-AnswersFrom disk source host (task.Listen t) given old new status = Listens host (seen_as host.file (Ok status)) t given old new (Ok status)
-AnswersFrom disk source host (task.Probes t) given old new status = PutsByTables (of_probes.TellsLineIn t.json (ask_of t.determined)) source given old new status
-AnswersFrom disk source host (task.Game t) given old new status = AnswersOnce (games.IsReply t given) (IsText t.fen.now) old new status
-AnswersFrom disk source host (task.Record t) given old new status = AnswersOnce (records.IsReply given.kept) (records.TakesMemory given.kept) old new status
-AnswersFrom disk source host (task.Audit t) given old new status = AnswersOnce (audits.IsReply t given) (IsText t.start.now) old new status
-AnswersFrom disk source host (task.AuditGames t) given old new status = game_audits.Puts disk t given old new status
-AnswersFrom disk source host (task.Version t) given old new status = versions.Answers old new status
-AnswersFrom disk source host (task.Send t) given old new status = (e : Ended) × (status ≡ ended_status e) × Sends disk source host t old new (Ok e)
-AnswersFrom disk source host (task.Enter t) given old new status = Enters disk source host t old new (Ok status)
-AnswersFrom disk source host (task.Host t) given old new status = HostsGames disk host (seen_hosting (disk_keepers disk host.host host.file) (Ok status)) t given old new (Ok status)
-AnswersFrom disk source host (task.Root t) given old new status = roots.Puts t.json (ask_of t.determined) source t.fen given old new status
-AnswersFrom disk source host (task.Follow t) given old new status = follows.Puts source t given old new status
-AnswersFrom disk source host (task.Status t) given old new status = statuses.Puts disk t old new status
+abbrev pub AnswersFrom : {P F : Type 0} → Outside P F → Task → Given → Option (List ℕ) → Option (List ℕ) → ℕ → Type 0
+AnswersFrom out (task.Judge t) given old new status = AnswersOnce (judges.IsReply t given) (IsText t.fen.now) old new status
+AnswersFrom out (task.Probe t) given old new status = AnswersOnce (probes.IsReply t given) (IsText t.fen.now) old new status
+AnswersFrom out (task.Moves t) given old new status = AnswersOnce (of_moves.IsReply t) (IsText t.fen.now) old new status
+AnswersFrom out (task.List t) given old new status = AnswersRead (lists.IsReply out.disk t) (lists.IsUnread out.disk t) old new status
+AnswersFrom out (task.Check t) given old new status = AnswersRead (checks.IsReply out.disk t) (checks.IsUnread out.disk t) old new status
+AnswersFrom out (task.Show t) given old new status = shows.Answers given old new status
+AnswersFrom out (task.Run t) given old new status = AnswersOnce (runs.IsReply t given) (Unit {0}) old new status
+AnswersFrom out (task.Listen t) given old new status = Listens out.host (seen_as out.host.file (Ok status)) t given out.had out.has old new (Ok status)
+AnswersFrom out (task.Probes t) given old new status = PutsByTables (of_probes.TellsLineIn t.json (ask_of t.determined)) out.source given old new status
+AnswersFrom out (task.Game t) given old new status = AnswersOnce (games.IsReply t given) (IsText t.fen.now) old new status
+AnswersFrom out (task.Record t) given old new status = AnswersOnce (records.IsReply given.kept) (records.TakesMemory given.kept) old new status
+AnswersFrom out (task.Audit t) given old new status = AnswersOnce (audits.IsReply t given) (IsText t.start.now) old new status
+AnswersFrom out (task.AuditGames t) given old new status = game_audits.Puts out.disk t given old new status
+AnswersFrom out (task.Version t) given old new status = versions.Answers old new status
+AnswersFrom out (task.Send t) given old new status = (e : Ended) × (status ≡ ended_status e) × Sends out.disk out.source out.host t out.had out.has old new (Ok e)
+AnswersFrom out (task.Enter t) given old new status = Enters out.disk out.source out.host t old new (Ok status)
+AnswersFrom out (task.Host t) given old new status = HostsGames out.disk out.host (seen_hosting (disk_keepers out.disk out.host.host out.host.file)) t given out.had out.has old new (Ok status)
+AnswersFrom out (task.Root t) given old new status = roots.Puts t.json (ask_of t.determined) out.source t.fen given old new status
+AnswersFrom out (task.Follow t) given old new status = follows.Puts out.source t given old new status
+AnswersFrom out (task.Status t) given old new status = statuses.Puts out.disk t old new status
 
 -- to a task the program answers from what it reads; or something that it reads for it can't be read; or memory was refused while
 -- it read
 pub data AnswersTask {P F : Type 0} (out : Outside P F) (t : Task) (old new : Option (List ℕ)) (status : ℕ) : Type 0 where
-  FromGiven : (given : Given) → IsGiven out.disk out.source (named_in t) given → AnswersFrom out.disk out.source out.host t given old new status → AnswersTask out t old new status
+  FromGiven : (given : Given) → IsGiven out.disk out.source (named_in t) given → AnswersFrom out t given old new status → AnswersTask out t old new status
   Unread : CannotRead out.disk out.source (named_in t) → TellsOne refused_files old new status → AnswersTask out t old new status
   NoMemory : TakesMemory out.source (named_in t) → TellsOne refused_memory old new status → AnswersTask out t old new status
 
 -- the same with a host whose ports seal by these keys
 abbrev pub sealed_by : {P F : Type 0} → Keys → Outside P F → Outside (SealedView P) F
-sealed_by keys out = outside out.disk out.source (keyed_host keys out.host.host) (sealed_facts out.host.port) out.host.file
+sealed_by keys out = outside out.disk out.source (hosted (keyed_host keys out.host.host) (sealed_facts out.host.port) out.host.file) out.had out.has
 
 -- To a task that names no file of keys the program answers with the host as it is. To one that does it answers with that host's ports
 -- sealed by the keys of the file; or it has none, which is told before all else; or memory for them was refused.

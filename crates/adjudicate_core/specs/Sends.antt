@@ -1,5 +1,5 @@
 -- The behaviour of `send` by its words and by what it reads (this project's own).
-use Rattle.std.specs.Prelude.{◌≡◌, ◌⊎◌, ℕ, List, Option, Result, Ok, Err, IfSome, length, option_map, []}
+use Rattle.std.specs.Prelude.{◌≡◌, ◌⊎◌, ℕ, List, [], ◌∷◌, Option, Result, Ok, Err, IfSome, length, option_map}
 use Rattle.board_core.specs.declared.parts.Parts.{Parts}
 use Rattle.board_core.specs.Position.{IsPosition}
 use Rattle.fen_text.specs.declared.fault.FenFault.{FenFault}
@@ -10,6 +10,8 @@ use Rattle.move_msg.specs.Stamps.{stamp_of}
 use Rattle.system_io.specs.declared.output.WriteFault.{WriteFault}
 use Rattle.system_io.specs.Disks.{AtFile, DiskFacts, HasMore}
 use Rattle.system_io.specs.declared.host.BindFault.TheVariants as bind
+use Rattle.system_io.specs.Histories.{Passes}
+use Rattle.system_io.specs.Hosts.{Made, PortAt}
 use Rattle.system_io.specs.Inputs.{InputFacts}
 use Rattle.system_io.specs.Ports.{Passed, PortFacts}
 use Rattle.source_core.specs.declared.lines.Ended.{Ended}
@@ -86,12 +88,13 @@ pub data SendsOver (source : InputFacts) (stamp : Stamp) (most : ℕ) (start : P
   NoRoomForLines : source.takes_memory → Passed port port' [] → EndsOnce refused_memory old new r → SendsOver source stamp most start port port' old new r
 
 -- the port can't be bound; or it is, and sends to each of the addresses
-pub data BindsAndSends {P F : Type 0} (host : Hosted P F) (source : InputFacts) (t : Send) (stamp : Stamp) (start : Parts) (old new : Option (List ℕ)) (r : Result Ended WriteFault) : Type 0 where
-  Unbound : host.host.refuses t.bind.now bind.Unbound → EndsOnce refused_port old new r → BindsAndSends host source t stamp start old new r
-  NoRoomToBind : LacksRoomToBind host.host t.bind.now t.to.now → EndsOnce refused_memory old new r → BindsAndSends host source t stamp start old new r
-  Bound : (port port' : P) → host.host.binds t.bind.now (addresses_of t.to.now) port → (host.port port).addresses ≡ length (addresses_of t.to.now) → SendsOver source stamp t.tries start (host.port port) (host.port port') old new r → BindsAndSends host source t stamp start old new r
+pub data BindsAndSends {P F : Type 0} (host : Hosted P F) (source : InputFacts) (t : Send) (stamp : Stamp) (start : Parts) (had has : Option (List Made)) (old new : Option (List ℕ)) (r : Result Ended WriteFault) : Type 0 where
+  Unbound : Passes had has [] → host.host.refuses t.bind.now bind.Unbound → EndsOnce refused_port old new r → BindsAndSends host source t stamp start had has old new r
+  NoRoomToBind : Passes had has [] → LacksRoomToBind host.host t.bind.now t.to.now → EndsOnce refused_memory old new r → BindsAndSends host source t stamp start had has old new r
+  Bound : Passes had has (PortAt t.bind.now (addresses_of t.to.now) ∷ []) → (port port' : P) → host.host.binds t.bind.now (addresses_of t.to.now) port → (host.port port).addresses ≡ length (addresses_of t.to.now) → SendsOver source stamp t.tries start (host.port port) (host.port port') old new r → BindsAndSends host source t stamp start had has old new r
 
--- sending: there is no game, which is told; or what follows, with its stamp
-pub data Sends {P F : Type 0} (disk : DiskFacts) (source : InputFacts) (host : Hosted P F) (t : Send) (old new : Option (List ℕ)) (r : Result Ended WriteFault) : Type 0 where
-  NoGame : (words : List ℕ) → LacksSent disk t t.game words → EndsOnce words old new r → Sends disk source host t old new r
-  Stamped : (start : Parts) (stamp : Stamp) → IsSent disk t t.game stamp start → BindsAndSends host source t stamp start old new r → Sends disk source host t old new r
+-- sending: there is no game, which is told; or what follows, with its stamp. What the host has made before and after it is in its
+-- history: the port.
+pub data Sends {P F : Type 0} (disk : DiskFacts) (source : InputFacts) (host : Hosted P F) (t : Send) (had has : Option (List Made)) (old new : Option (List ℕ)) (r : Result Ended WriteFault) : Type 0 where
+  NoGame : Passes had has [] → (words : List ℕ) → LacksSent disk t t.game words → EndsOnce words old new r → Sends disk source host t had has old new r
+  Stamped : (start : Parts) (stamp : Stamp) → IsSent disk t t.game stamp start → BindsAndSends host source t stamp start had has old new r → Sends disk source host t had has old new r

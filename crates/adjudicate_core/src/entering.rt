@@ -6,7 +6,9 @@ ghost use Rattle.move_msg.specs.TextLines.{ended, lines_in};
 ghost use Rattle.arbiter_server.specs.GameFiles.{told};
 ghost use Rattle.adjudicate_core.specs.Enters.{ComesOf, Enters, EntersList, EntersOne, HasList, HasText, HasTextAt, IsEntered, IsUnentered};
 ghost use Rattle.adjudicate_core.specs.Enters.{LacksGame, LacksList, LacksText, LacksTextAt, PutsGame, PutsGames, TellsStamp, game_of, told_of};
-ghost use Rattle.adjudicate_core.specs.Inside.Entering.{EntersNext, HasOver, LacksOver, place_of};
+ghost use Rattle.adjudicate_core.specs.Inside.Entering.{EntersNext, HasOver, LacksOver, MakesEntries, MakesGame, MakesGames, place_of};
+ghost use Rattle.arbiter_server.specs.Makings.{MakesOnce};
+ghost use Rattle.system_io.specs.Hosts.{FileAt};
 ghost use Rattle.adjudicate_core.specs.Listens.{hosted};
 ghost use Rattle.system_io.specs.KeptFiles.{bytes_of};
 
@@ -18,6 +20,7 @@ use crate::lines::put_refusal;
 use crate::manifests::manifest_for;
 use crate::numbers::Delay;
 use crate::refusals::Refusal;
+use crate::system::System;
 use arbiter_server::{game_path, write_game};
 use board_core::Position;
 use fen_text::read;
@@ -106,11 +109,18 @@ fn keep_game<F: KeptFile>(alloc: Global, file: &mut F, text: &[u8]) -> Result<()
 }
 
 /// Keeps it in the file at a path.
-fn keep_at<H: Host>(alloc: Global, host: &H, path: &str, text: &[u8]) -> Result<(), KeepFault>
+fn keep_at<H: Host>(
+    alloc: Global,
+    host: &H,
+    history: &mut H::History,
+    path: &str,
+    text: &[u8],
+) -> Result<(), KeepFault>
     ensures ok { OnOk result (HasTextAt (hosted (H.facts host.now) H.Port.facts H.File.facts) path.now text.now) }
     ensures err { IfErr result (LacksTextAt (hosted (H.facts host.now) H.Port.facts H.File.facts) path.now text.now) }
+    ensures made { MakesOnce (H.made history.old) (H.made history.new) (FileAt path.now) }
 {
-    match host.file(alloc, path) {
+    match host.file(alloc, history, path) {
         Ok(mut file) => keep_game(alloc, &mut file, text),
         Err(_) => Err(KeepFault::OutOfMemory),
     }
@@ -120,19 +130,21 @@ fn keep_at<H: Host>(alloc: Global, host: &H, path: &str, text: &[u8]) -> Result<
 fn enter_game<H: Host>(
     alloc: Global,
     place: &GamePlace<'_, H>,
+    history: &mut H::History,
     name: &GameName<'_>,
     start: &Position,
     delay: Delay,
 ) -> Result<Stamp, KeepFault>
     ensures ok { IfOk result (λ stamp. IsEntered (place_of H.facts H.Port.facts H.File.facts place.now) (told name.now start.now delay) stamp.0) }
     ensures err { IfErr result (IsUnentered (place_of H.facts H.Port.facts H.File.facts place.now) (told name.now start.now delay)) }
+    ensures made { MakesGame place.now.games.now (H.made history.old) (H.made history.new) }
 {
     let stamp = name.stamp(start, place.manifest, delay.plies());
     let Ok(path) = game_path(alloc, place.games, stamp) else {
         return Err(KeepFault::OutOfMemory);
     };
     let text = write_game(name.as_bytes(), start, delay.plies());
-    match keep_at(alloc, place.host, path.as_str(), text.as_slice()) {
+    match keep_at(alloc, place.host, history, path.as_str(), text.as_slice()) {
         Ok(()) => Ok(stamp),
         Err(fault) => Err(fault),
     }
@@ -158,41 +170,44 @@ fn put_stamp<W: Write>(out: &mut W, stamp: Stamp) -> Result<u8, WriteFault>
 fn put_game<H: Host, W: Write>(
     alloc: Global,
     place: &GamePlace<'_, H>,
+    history: &mut H::History,
     game: &OneGame<'_>,
     start: &Position,
     out: &mut W,
 ) -> Result<u8, WriteFault>
-    ensures { PutsGame (place_of H.facts H.Port.facts H.File.facts place.now) (game_of game.now start.now) (W.contents out.old) (W.contents out.new) result }
+    ensures puts { PutsGame (place_of H.facts H.Port.facts H.File.facts place.now) (game_of game.now start.now) (W.contents out.old) (W.contents out.new) result }
+    ensures made { MakesGame place.now.games.now (H.made history.old) (H.made history.new) }
 {
-    match enter_game(alloc, place, &game.name, start, game.delay) {
+    match enter_game(alloc, place, history, &game.name, start, game.delay) {
         Ok(stamp) => put_stamp(out, stamp),
         Err(fault) => put_refusal(out, fault.refusal()),
     }
 }
 
 /// Enters the game of the words, and tells the status.
-fn enter_one<D: Disk, H: Host, W: Write>(
+fn enter_one<D: Disk, I, H: Host, W: Write>(
     alloc: Global,
     task: &Enter<'_>,
     game: &OneGame<'_>,
-    disk: &D,
-    host: &H,
+    system: &System<'_, D, I, H>,
+    history: &mut H::History,
     out: &mut W,
 ) -> Result<u8, WriteFault>
-    ensures { EntersOne (D.facts disk.now) (hosted (H.facts host.now) H.Port.facts H.File.facts) task.now game.now (W.contents out.old) (W.contents out.new) result }
+    ensures enters { EntersOne (D.facts system.now.disk.now) (hosted (H.facts system.now.host.now) H.Port.facts H.File.facts) task.now game.now (W.contents out.old) (W.contents out.new) result }
+    ensures made { MakesGame task.now.games.now (H.made history.old) (H.made history.new) }
 {
     let start = match read(game.start.as_bytes()) {
         Ok(start) => start,
         Err(fault) => return put_refusal(out, Refusal::Fen(fault)),
     };
-    match manifest_for(alloc, disk, task.manifest, task.tables) {
+    match manifest_for(alloc, system.disk, task.manifest, task.tables) {
         Ok(manifest) => {
             let place = GamePlace {
-                host,
+                host: system.host,
                 games: task.games,
                 manifest: &manifest,
             };
-            put_game(alloc, &place, game, &start, out)
+            put_game(alloc, &place, history, game, &start, out)
         }
         Err(refusal) => put_refusal(out, refusal),
     }
@@ -213,16 +228,18 @@ pub(crate) enum Step {
 fn enter_line<H: Host>(
     alloc: Global,
     place: &GamePlace<'_, H>,
+    history: &mut H::History,
     line: &[u8],
 ) -> Result<Result<Stamp, EntryFault>, AllocError>
     ensures ok { IfOk result (ComesOf (place_of H.facts H.Port.facts H.File.facts place.now) line.now) }
     ensures memory { OnErr result (LacksGame (place_of H.facts H.Port.facts H.File.facts place.now) line.now KeepFault.OutOfMemory) }
+    ensures made { MakesGame place.now.games.now (H.made history.old) (H.made history.new) }
 {
     let game = match read_entry(line) {
         Ok(game) => game,
         Err(fault) => return Ok(Err(fault)),
     };
-    match enter_game(alloc, place, &game.name, &game.start, game.delay) {
+    match enter_game(alloc, place, history, &game.name, &game.start, game.delay) {
         Ok(stamp) => Ok(Ok(stamp)),
         Err(KeepFault::Keeper) => Ok(Err(EntryFault::Keeper)),
         Err(KeepFault::OutOfMemory) => Err(AllocError),
@@ -253,13 +270,15 @@ fn put_entered<W: Write>(
 fn enter_next<H: Host, W: Write>(
     alloc: Global,
     place: &GamePlace<'_, H>,
+    history: &mut H::History,
     number: usize,
     line: &[u8],
     out: &mut W,
 ) -> Result<Step, WriteFault>
-    ensures { IfOk result (EntersNext (place_of H.facts H.Port.facts H.File.facts place.now) number line.now (W.contents out.old) (W.contents out.new)) }
+    ensures enters { IfOk result (EntersNext (place_of H.facts H.Port.facts H.File.facts place.now) number line.now (W.contents out.old) (W.contents out.new)) }
+    ensures made { MakesGame place.now.games.now (H.made history.old) (H.made history.new) }
 {
-    match enter_line(alloc, place, line) {
+    match enter_line(alloc, place, history, line) {
         Ok(entered) => match put_entered(out, number, entered) {
             Ok(done) => Ok(Step::Told(done)),
             Err(fault) => Err(fault),
@@ -275,16 +294,18 @@ fn enter_next<H: Host, W: Write>(
 fn enter_lines<H: Host, W: Write>(
     alloc: Global,
     place: &GamePlace<'_, H>,
+    history: &mut H::History,
     list: &[u8],
     out: &mut W,
 ) -> Result<u8, WriteFault>
-    ensures { IfOk result (PutsGames (place_of H.facts H.Port.facts H.File.facts place.now) (lines_in list.now) (W.contents out.old) (W.contents out.new)) }
+    ensures puts { IfOk result (PutsGames (place_of H.facts H.Port.facts H.File.facts place.now) (lines_in list.now) (W.contents out.old) (W.contents out.new)) }
+    ensures made { MakesGames place.now.games.now (H.made history.old) (H.made history.new) }
 {
     let mut rest = list;
     let mut before: usize = 0;
     let mut done = true;
     while let Some((line, tail)) = first_line(rest) {
-        match enter_next(alloc, place, before + 1, line, out) {
+        match enter_next(alloc, place, history, before + 1, line, out) {
             Ok(Step::Told(is_entered)) => done &= is_entered,
             Ok(Step::Cut) => return Ok(1),
             Err(fault) => return Err(fault),
@@ -320,24 +341,25 @@ fn list_at<D: Disk, I: Input>(
 }
 
 /// Enters the games of a list by the manifest that the words name, and tells the status.
-fn enter_list<D: Disk, H: Host, W: Write>(
+fn enter_list<D: Disk, I, H: Host, W: Write>(
     alloc: Global,
     task: &Enter<'_>,
     list: &[u8],
-    disk: &D,
-    host: &H,
+    system: &System<'_, D, I, H>,
+    history: &mut H::History,
     out: &mut W,
 ) -> Result<u8, WriteFault>
-    ensures { EntersList (D.facts disk.now) (hosted (H.facts host.now) H.Port.facts H.File.facts) task.now list.now (W.contents out.old) (W.contents out.new) result }
+    ensures enters { EntersList (D.facts system.now.disk.now) (hosted (H.facts system.now.host.now) H.Port.facts H.File.facts) task.now list.now (W.contents out.old) (W.contents out.new) result }
+    ensures made { MakesGames task.now.games.now (H.made history.old) (H.made history.new) }
 {
-    match manifest_for(alloc, disk, task.manifest, task.tables) {
+    match manifest_for(alloc, system.disk, task.manifest, task.tables) {
         Ok(manifest) => {
             let place = GamePlace {
-                host,
+                host: system.host,
                 games: task.games,
                 manifest: &manifest,
             };
-            enter_lines(alloc, &place, list, out)
+            enter_lines(alloc, &place, history, list, out)
         }
         Err(refusal) => put_refusal(out, refusal),
     }
@@ -353,21 +375,22 @@ fn enter_list<D: Disk, H: Host, W: Write>(
 ///
 /// Of a list a line is told for each of its lines: the stamp, or `refused line N` and why, and the next line follows. The status is 0
 /// only where all games are entered. A list that can't be read is told first, as `refused files`, then the manifest or the folder of
-/// the tables. Where memory is refused the last line is `refused memory`. The error comes only where the writer failed.
+/// the tables. Where memory is refused the last line is `refused memory`. At the host the files of
+/// games are opened, of each line at most one, and nothing else is. The error comes only where the writer failed.
 pub fn enter<D: Disk, I: Input, H: Host, W: Write>(
     alloc: Global,
     task: &Enter<'_>,
-    disk: &D,
-    input: &I,
-    host: &H,
+    system: &System<'_, D, I, H>,
+    history: &mut H::History,
     out: &mut W,
 ) -> Result<u8, WriteFault>
-    ensures { Enters (D.facts disk.now) (I.facts input.now) (hosted (H.facts host.now) H.Port.facts H.File.facts) task.now (W.contents out.old) (W.contents out.new) result }
+    ensures enters { Enters (D.facts system.now.disk.now) (I.facts system.now.input.now) (hosted (H.facts system.now.host.now) H.Port.facts H.File.facts) task.now (W.contents out.old) (W.contents out.new) result }
+    ensures made { MakesEntries task.now (H.made history.old) (H.made history.new) }
 {
     match &task.entries {
-        Entries::One(game) => enter_one(alloc, task, game, disk, host, out),
-        Entries::From(path) => match list_at(alloc, disk, input, path) {
-            Ok(list) => enter_list(alloc, task, &list, disk, host, out),
+        Entries::One(game) => enter_one(alloc, task, game, system, history, out),
+        Entries::From(path) => match list_at(alloc, system.disk, system.input, path) {
+            Ok(list) => enter_list(alloc, task, &list, system, history, out),
             Err(ReadFault::Unreadable) => put_refusal(out, Refusal::Files),
             Err(ReadFault::OutOfMemory) => put_refusal(out, Refusal::Memory),
         },

@@ -2,7 +2,7 @@
 
 ghost use Rattle.std.specs.Prelude.{◌≡◌, IfErr, IfOk, List, ℕ};
 ghost use Rattle.arbiter_server.specs.LineLogs.{IsLogOf};
-ghost use Rattle.adjudicate_core.specs.Hostings.{BindsAndWrites, HostsAndTells, LocksAndWrites, WritesAt, WritesNow, around, around_of};
+ghost use Rattle.adjudicate_core.specs.Hostings.{BindsAndWrites, HostsAndTells, LocksAndWrites, WritesAt, WritesNow, around, way};
 ghost use Rattle.adjudicate_core.specs.Inside.HostingParts.{IsUnlisted};
 
 use crate::binding::bind;
@@ -11,6 +11,7 @@ use crate::lines::put_refusal;
 use crate::listening::{manifest_for, ready_line_at};
 use crate::locking::{IN_GAMES, lock};
 use crate::refusals::Refusal;
+use crate::system::System;
 use crate::tables::gather;
 use arbiter_server::{DiskGames, LineLog, Server, ServerConfig, put_line};
 use judge_core::Set;
@@ -24,26 +25,33 @@ struct HostPlan<'h, 'w, 'a, D, H> {
     task: &'h HostGames<'w>,
     config: ServerConfig<'a>,
     tables: Set<'a>,
+    /// Of how many files the tables were read.
+    read: usize,
     disk: &'h D,
     host: &'h H,
 }
 
-/// Serves the games of the folder at a port, with a log of the form that the words name. Where memory for the open games is refused,
-/// that is told.
+/// What is told where the log can't be written and the games go on.
+const LOG_LOST: &str = "the log can't be written: the games go on without it";
+
+/// Serves the games of the folder at a port, with a log of the form that the words name. Where that can't be written, the games go on
+/// without it, if the words say so. Where memory for the open games is refused, that is told.
 fn serve_logged<D: Disk, H: Host, W: Output>(
     alloc: Global,
     plan: HostPlan<'_, '_, '_, D, H>,
+    history: &mut H::History,
     port: &mut H::Port,
     log: &mut LineLog,
     out: &mut W,
 ) -> Result<u8, WriteFault>
     requires { IsLogOf plan.task.now.log log.old }
-    ensures { WritesNow (around_of D.facts H.facts H.Port.facts H.File.facts W.contents W.facts plan.entry) plan.entry (H.Port.facts port.old) (H.Port.facts port.new) out.old out.new result }
+    ensures { WritesNow (way D.facts H.facts H.Port.facts H.File.facts W.contents W.facts plan.entry) (H.made history.old) (H.made history.new) (H.Port.facts port.old) (H.Port.facts port.new) out.old out.new result }
 {
     let HostPlan {
         task,
         config,
         tables,
+        read: _,
         disk,
         host,
     } = plan;
@@ -52,9 +60,19 @@ fn serve_logged<D: Disk, H: Host, W: Output>(
         host,
         folder: task.games,
     };
-    match Server::open(alloc, config, tables, games) {
-        Ok(mut server) => server.serve(alloc, port, task.datagrams, log, out),
-        Err(_) => put_refusal(out, Refusal::Memory),
+    let mut server = match Server::open(alloc, config, tables, games) {
+        Ok(server) => server,
+        Err(_) => return put_refusal(out, Refusal::Memory),
+    };
+    match server.serve(history, port, task.datagrams, log, out) {
+        Ok(status) => Ok(status),
+        Err(fault) => {
+            if !task.outlives_log {
+                return Err(fault);
+            }
+            host.note(LOG_LOST);
+            server.serve(history, port, task.datagrams, &mut LineLog::Nothing, out)
+        }
     }
 }
 
@@ -62,14 +80,22 @@ fn serve_logged<D: Disk, H: Host, W: Output>(
 fn serve_at<D: Disk, H: Host, W: Output>(
     alloc: Global,
     plan: HostPlan<'_, '_, '_, D, H>,
+    history: &mut H::History,
     port: &mut H::Port,
     out: &mut W,
 ) -> Result<u8, WriteFault>
-    ensures { WritesNow (around_of D.facts H.facts H.Port.facts H.File.facts W.contents W.facts plan.entry) plan.entry (H.Port.facts port.old) (H.Port.facts port.new) out.old out.new result }
+    ensures { WritesNow (way D.facts H.facts H.Port.facts H.File.facts W.contents W.facts plan.entry) (H.made history.old) (H.made history.new) (H.Port.facts port.old) (H.Port.facts port.new) out.old out.new result }
 {
     match LineLog::new(alloc, plan.task.log) {
-        Ok(mut log) => serve_logged(alloc, plan, port, &mut log, out),
+        Ok(mut log) => serve_logged(alloc, plan, history, port, &mut log, out),
         Err(_) => put_refusal(out, Refusal::Memory),
+    }
+}
+
+/// Tells of how many files tables were read.
+fn note_tables<H: Host>(alloc: Global, host: &H, read: usize) {
+    if let Ok(line) = format!(in alloc; "tables {read}") {
+        host.note(line.as_str());
     }
 }
 
@@ -78,17 +104,21 @@ fn serve_at<D: Disk, H: Host, W: Output>(
 fn start_at<D: Disk, H: Host, W: Output>(
     alloc: Global,
     plan: HostPlan<'_, '_, '_, D, H>,
+    history: &mut H::History,
     port: &mut H::Port,
     out: &mut W,
 ) -> Result<u8, WriteFault>
-    ensures { WritesAt (around_of D.facts H.facts H.Port.facts H.File.facts W.contents W.facts plan.entry) plan.entry port.old (H.Port.facts port.new) out.old out.new result }
+    ensures { WritesAt (way D.facts H.facts H.Port.facts H.File.facts W.contents W.facts plan.entry) (H.made history.old) (H.made history.new) port.old (H.Port.facts port.new) out.old out.new result }
 {
     let line = match ready_line_at(alloc, plan.host, port) {
         Ok(line) => line,
         Err(refusal) => return put_refusal(out, refusal),
     };
     match put_line(out, line.as_str().as_bytes()) {
-        Ok(()) => serve_at(alloc, plan, port, out),
+        Ok(()) => {
+            note_tables(alloc, plan.host, plan.read);
+            serve_at(alloc, plan, history, port, out)
+        }
         Err(fault) => Err(fault),
     }
 }
@@ -97,12 +127,13 @@ fn start_at<D: Disk, H: Host, W: Output>(
 fn bind_and_serve<D: Disk, H: Host, W: Output>(
     alloc: Global,
     plan: HostPlan<'_, '_, '_, D, H>,
+    history: &mut H::History,
     out: &mut W,
 ) -> Result<u8, WriteFault>
-    ensures { BindsAndWrites (around_of D.facts H.facts H.Port.facts H.File.facts W.contents W.facts plan.entry) plan.entry out.old out.new result }
+    ensures { BindsAndWrites (way D.facts H.facts H.Port.facts H.File.facts W.contents W.facts plan.entry) (H.made history.old) (H.made history.new) out.old out.new result }
 {
-    match bind(alloc, plan.host, plan.task.bind, plan.task.to) {
-        Ok(mut port) => start_at(alloc, plan, &mut port, out),
+    match bind(alloc, plan.host, history, plan.task.bind, plan.task.to) {
+        Ok(mut port) => start_at(alloc, plan, history, &mut port, out),
         Err(BindFault::Unbound) => put_refusal(out, Refusal::Port),
         Err(BindFault::OutOfMemory) => put_refusal(out, Refusal::Memory),
     }
@@ -113,12 +144,13 @@ fn bind_and_serve<D: Disk, H: Host, W: Output>(
 fn lock_and_serve<D: Disk, H: Host, W: Output>(
     alloc: Global,
     plan: HostPlan<'_, '_, '_, D, H>,
+    history: &mut H::History,
     out: &mut W,
 ) -> Result<u8, WriteFault>
-    ensures { LocksAndWrites (around_of D.facts H.facts H.Port.facts H.File.facts W.contents W.facts plan.entry) plan.entry out.old out.new result }
+    ensures { LocksAndWrites (way D.facts H.facts H.Port.facts H.File.facts W.contents W.facts plan.entry) (H.made history.old) (H.made history.new) out.old out.new result }
 {
-    match lock(alloc, plan.host, plan.task.games, IN_GAMES) {
-        Ok(_lock) => bind_and_serve(alloc, plan, out),
+    match lock(alloc, plan.host, history, plan.task.games, IN_GAMES) {
+        Ok(_lock) => bind_and_serve(alloc, plan, history, out),
         Err(refusal) => put_refusal(out, refusal),
     }
 }
@@ -139,23 +171,25 @@ fn list_games<D: Disk>(alloc: Global, disk: &D, folder: &str) -> Result<(), Refu
 ///
 /// The first line is `ready` and the address at which datagrams come, when that is bound; then a line for each datagram, as
 /// `arbiter_server::Server::serve` has it. What is refused is told in one line, in this order: the tables, the folder of games, its lock, and the address. Where memory
-/// is refused the line is `refused memory`. The error comes only where the writer failed.
-pub fn host_games<'a, D: Disk, H: Host, W: Output>(
+/// is refused the line is `refused memory`. At the host the lock, the port, and the files of the records of games that datagrams ask for
+/// are opened, and nothing else is. The host's notes tell of how many files tables were read, and where a log is lost that the games
+/// outlive. The error comes only where the writer failed.
+pub fn host_games<'a, D: Disk, I, H: Host, W: Output>(
     alloc: Global,
     task: &HostGames<'_>,
     sources: &'a Sources,
-    disk: &D,
-    host: &H,
+    system: &System<'_, D, I, H>,
+    history: &mut H::History,
     out: &mut W,
 ) -> Result<u8, WriteFault>
-    ensures { HostsAndTells (around (D.facts disk.now) (H.facts host.now) H.Port.facts H.File.facts W.contents W.facts) task.now sources.now out.old out.new result }
+    ensures { HostsAndTells (around (D.facts system.now.disk.now) (H.facts system.now.host.now) H.Port.facts H.File.facts W.contents W.facts) task.now sources.now (H.made history.old) (H.made history.new) out.old out.new result }
 {
     let tables = match gather(alloc, sources, task.cache) {
         Ok(Ok(tables)) => tables,
         Ok(Err(refusal)) => return put_refusal(out, refusal),
         Err(_) => return put_refusal(out, Refusal::Memory),
     };
-    match list_games(alloc, disk, task.games) {
+    match list_games(alloc, system.disk, task.games) {
         Ok(()) => {}
         Err(refusal) => return put_refusal(out, refusal),
     }
@@ -172,8 +206,9 @@ pub fn host_games<'a, D: Disk, H: Host, W: Output>(
         task,
         config,
         tables,
-        disk,
-        host,
+        read: sources.files().len(),
+        disk: system.disk,
+        host: system.host,
     };
-    lock_and_serve(alloc, plan, out)
+    lock_and_serve(alloc, plan, history, out)
 }

@@ -72,6 +72,7 @@ mod program;
 mod refusals;
 mod sending;
 mod silence;
+mod system;
 mod tables;
 mod usage;
 mod uses;
@@ -85,4 +86,5 @@ pub use commands::{
 pub use game_name::GameName;
 pub use numbers::{CacheSize, Delay};
 pub use program::{refuse_memory, run, run_program};
+pub use system::System;
 pub use usage::{Instead, Misuse, Usage, ValueFault, Wanted, WordsFault};

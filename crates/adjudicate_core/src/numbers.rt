@@ -155,7 +155,7 @@ pub fn at_once_of(text: Option<&str>) -> Option<NonZeroUsize>
     }
 }
 
-/// Which lines of a host a text says are written, and all where there is no text; none where it says neither `all` nor `changes`.
+/// Which lines of a host a text says are written, and all where there is no text; none where it says neither `all` nor `changes` nor `none`.
 pub fn log_of(text: Option<&str>) -> Option<LogForm>
     ensures some { IfSome result (IsLog (option_map (λ s. s.now) text.entry)) }
     ensures none { IfNone result ((form : LogForm) → IsLog (option_map (λ s. s.now) text.entry) form → ⊥) }
@@ -176,6 +176,9 @@ fn log_by(word: &str) -> Option<LogForm>
     }
     if word == "changes" {
         return Some(LogForm::Changes);
+    }
+    if word == "none" {
+        return Some(LogForm::Nothing);
     }
     None
 }

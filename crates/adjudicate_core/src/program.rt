@@ -3,8 +3,8 @@
 ghost use Rattle.std.specs.Prelude.{◌≡◌, ◌≢◌, ◌⊎◌, drop, map, string_bytes, false, Ok, IfOk};
 ghost use Rattle.adjudicate_core.specs.declared.commands.Task.{Task};
 ghost use Rattle.line_teller.specs.ToldLines.{refused_memory};
-ghost use Rattle.adjudicate_core.specs.Listens.{hosted};
-ghost use Rattle.adjudicate_core.specs.Running.{AnswersByKey, AnswersFrom, AnswersTask, Called, Performs, called_by, outside, texts};
+ghost use Rattle.adjudicate_core.specs.Makes.{Makes, MakesCalled, MakesFor};
+ghost use Rattle.adjudicate_core.specs.Running.{AnswersByKey, AnswersFrom, AnswersTask, Called, Performs, called_by, outside_of, texts};
 ghost use Rattle.adjudicate_core.specs.Silences.{IsLoud, TellsIfLost};
 ghost use Rattle.adjudicate_core.specs.Tasks.{IsTask, tells_progress};
 ghost use Rattle.adjudicate_core.specs.Telling.{TellsOne};
@@ -20,6 +20,7 @@ use crate::listening::listen;
 use crate::refusals::Refusal;
 use crate::sending::send;
 use crate::silence::tell_silence;
+use crate::system::System;
 use crate::usage::{Misuse, Usage, WordsFault};
 use crate::uses::tell_misuse;
 use sealed_port::Keyed;
@@ -44,36 +45,36 @@ fn answer_given<D: Disk, I: Input, H: Host, W: Output, E: Output>(
     alloc: Global,
     task: &Task,
     sources: &Sources,
-    disk: &D,
-    input: &I,
-    host: &H,
+    system: &System<'_, D, I, H>,
+    history: &mut H::History,
     out: &mut W,
     errors: &mut E,
 ) -> Result<u8, WriteFault>
     ensures quiet { tells_progress task.now ≡ false → TellsIfLost E.facts E.contents errors.old errors.new task.now result }
-    ensures answered { IfOk result (AnswersFrom (D.facts disk.now) (I.facts input.now) (hosted (H.facts host.now) H.Port.facts H.File.facts) task.now sources.now (W.contents out.old) (W.contents out.new)) }
+    ensures answered { IfOk result (AnswersFrom (outside_of D.facts I.facts H.facts H.made H.Port.facts H.File.facts system.now history.old history.new) task.now sources.now (W.contents out.old) (W.contents out.new)) }
+    ensures made { MakesFor task.now (H.made history.old) (H.made history.new) }
 {
     match task {
         Task::Judge(task) => put_answered(out, task.answer(alloc, sources)),
         Task::Probe(task) => put_answered(out, task.answer(alloc, sources)),
         Task::Moves(task) => put_answered(out, task.answer(alloc)),
-        Task::List(task) => put_read(out, task.answer(alloc, disk, errors)),
-        Task::Check(task) => put_read(out, task.answer(alloc, disk, errors)),
+        Task::List(task) => put_read(out, task.answer(alloc, system.disk, errors)),
+        Task::Check(task) => put_read(out, task.answer(alloc, system.disk, errors)),
         Task::Show(task) => task.answer(sources, out),
         Task::Run(task) => put_answered(out, task.answer(alloc, sources)),
-        Task::Listen(task) => listen(alloc, task, sources, host, out),
-        Task::Probes(task) => task.answer(alloc, sources, input, out, errors),
+        Task::Listen(task) => listen(alloc, task, sources, system.host, history, out),
+        Task::Probes(task) => task.answer(alloc, sources, system.input, out, errors),
         Task::Game(task) => put_answered(out, task.answer(alloc, sources)),
         Task::Record(task) => task.answer(alloc, sources, out),
         Task::Audit(task) => put_answered(out, task.answer(alloc, sources)),
-        Task::AuditGames(task) => task.answer(alloc, sources, disk, out),
+        Task::AuditGames(task) => task.answer(alloc, sources, system.disk, out),
         Task::Version(task) => task.answer(out),
-        Task::Send(task) => tell_silence(errors, send(alloc, task, disk, input, host, out)),
-        Task::Enter(task) => enter(alloc, task, disk, input, host, out),
-        Task::Host(task) => host_games(alloc, task, sources, disk, host, out),
-        Task::Root(task) => task.answer(alloc, sources, input, out, errors),
-        Task::Follow(task) => task.answer(alloc, sources, input, out),
-        Task::Status(task) => task.answer(alloc, disk, out),
+        Task::Send(task) => tell_silence(errors, send(alloc, task, system, history, out)),
+        Task::Enter(task) => enter(alloc, task, system, history, out),
+        Task::Host(task) => host_games(alloc, task, sources, system, history, out),
+        Task::Root(task) => task.answer(alloc, sources, system.input, out, errors),
+        Task::Follow(task) => task.answer(alloc, sources, system.input, out),
+        Task::Status(task) => task.answer(alloc, system.disk, out),
     }
 }
 
@@ -81,18 +82,18 @@ fn answer_given<D: Disk, I: Input, H: Host, W: Output, E: Output>(
 fn run_task<D: Disk, I: Input, H: Host, W: Output, E: Output>(
     alloc: Global,
     task: &Task,
-    disk: &D,
-    input: &I,
-    host: &H,
+    system: &System<'_, D, I, H>,
+    history: &mut H::History,
     out: &mut W,
     errors: &mut E,
 ) -> Result<u8, WriteFault>
     ensures quiet { tells_progress task.now ≡ false → TellsIfLost E.facts E.contents errors.old errors.new task.now result }
-    ensures answered { IfOk result (AnswersTask (outside (D.facts disk.now) (I.facts input.now) (H.facts host.now) H.Port.facts H.File.facts) task.now (W.contents out.old) (W.contents out.new)) }
+    ensures answered { IfOk result (AnswersTask (outside_of D.facts I.facts H.facts H.made H.Port.facts H.File.facts system.now history.old history.new) task.now (W.contents out.old) (W.contents out.new)) }
+    ensures made { MakesFor task.now (H.made history.old) (H.made history.new) }
 {
     let places = task.places();
-    match Sources::read(alloc, disk, input, &places) {
-        Ok(sources) => answer_given(alloc, task, &sources, disk, input, host, out, errors),
+    match Sources::read(alloc, system.disk, system.input, &places) {
+        Ok(sources) => answer_given(alloc, task, &sources, system, history, out, errors),
         Err(ReadFault::Unreadable) => put_refusal(out, Refusal::Files),
         Err(ReadFault::OutOfMemory) => put_refusal(out, Refusal::Memory),
     }
@@ -103,21 +104,26 @@ fn run_task<D: Disk, I: Input, H: Host, W: Output, E: Output>(
 fn run_by_key<D: Disk, I: Input, H: Host, W: Output, E: Output>(
     alloc: Global,
     task: &Task,
-    disk: &D,
-    input: &I,
-    host: &H,
+    system: &System<'_, D, I, H>,
+    history: &mut H::History,
     out: &mut W,
     errors: &mut E,
 ) -> Result<u8, WriteFault>
     ensures quiet { tells_progress task.now ≡ false → TellsIfLost E.facts E.contents errors.old errors.new task.now result }
-    ensures answered { IfOk result (AnswersByKey (outside (D.facts disk.now) (I.facts input.now) (H.facts host.now) H.Port.facts H.File.facts) task.now (W.contents out.old) (W.contents out.new)) }
+    ensures answered { IfOk result (AnswersByKey (outside_of D.facts I.facts H.facts H.made H.Port.facts H.File.facts system.now history.old history.new) task.now (W.contents out.old) (W.contents out.new)) }
+    ensures made { MakesFor task.now (H.made history.old) (H.made history.new) }
 {
     match task.key() {
-        None => run_task(alloc, task, disk, input, host, out, errors),
-        Some(path) => match keys_at(alloc, disk, path) {
+        None => run_task(alloc, task, system, history, out, errors),
+        Some(path) => match keys_at(alloc, system.disk, path) {
             Ok(Ok(keys)) => {
-                let keyed = Keyed::over(host, keys);
-                run_task(alloc, task, disk, input, &keyed, out, errors)
+                let keyed = Keyed::over(system.host, keys);
+                let sealed = System {
+                    disk: system.disk,
+                    input: system.input,
+                    host: &keyed,
+                };
+                run_task(alloc, task, &sealed, history, out, errors)
             }
             Ok(Err(refusal)) => put_refusal(out, refusal),
             Err(_) => put_refusal(out, Refusal::Memory),
@@ -139,8 +145,11 @@ fn first_of<'a>(words: &[&'a str]) -> &'a str {
 /// manifest, for `show`, `run` and `game` the input, to its end, and for `record` and `audit` kept files. What can't be read or has
 /// more than 2^30 bytes, a kept file more than 8217, is told as `refused files`. `list` and `check` hold one file at a time, and so
 /// does `send`. Before that the keys of `listen`, `host` and `send` are read, where a file of keys is named: what is refused of it is
-/// told before all else. `probes`, `follow` and `send` read the input line by line, and answer each line as it comes. `listen` and `send` open a port;
-/// only `listen` writes a kept file, and `enter` a game's file.
+/// told before all else. `probes`, `follow` and `send` read the input line by line, and answer each line as it comes.
+///
+/// At the host `listen` opens a port, the lock of its file and that file, `send` a port, `host` the lock of its folder, a port and files of
+/// records in that folder, and `enter` files of games in its folder. No other task opens anything there, and these nothing else: that is
+/// so of any result, also of an error.
 ///
 /// Answers go to `out`. For a misuse one line on `errors` says what is wrong, followed by the usage. A request for help
 /// gets the usage alone, after a command that of the command. The progress of a task with `--progress` goes there too, and who was silent where
@@ -149,17 +158,17 @@ fn first_of<'a>(words: &[&'a str]) -> &'a str {
 pub fn run<D: Disk, I: Input, H: Host, W: Output, E: Output>(
     alloc: Global,
     words: &[&str],
-    disk: &D,
-    input: &I,
-    host: &H,
+    system: &System<'_, D, I, H>,
+    history: &mut H::History,
     out: &mut W,
     errors: &mut E,
 ) -> Result<u8, WriteFault>
     ensures quiet { errors.new ≢ errors.old → (result ≡ Ok 2) ⊎ ((t : Task) × IsTask (texts words.now) t × IsLoud E.facts E.contents errors.old errors.new t result) }
-    ensures runs { IfOk result (Performs (outside (D.facts disk.now) (I.facts input.now) (H.facts host.now) H.Port.facts H.File.facts) (TellsMisuse E.facts E.contents errors.old errors.new) (texts words.now) (W.contents out.old) (W.contents out.new)) }
+    ensures runs { IfOk result (Performs (outside_of D.facts I.facts H.facts H.made H.Port.facts H.File.facts system.now history.old history.new) (TellsMisuse E.facts E.contents errors.old errors.new) (texts words.now) (W.contents out.old) (W.contents out.new)) }
+    ensures made { Makes (texts words.now) (H.made history.old) (H.made history.new) }
 {
     match parse(alloc, words) {
-        Ok(task) => run_by_key(alloc, &task, disk, input, host, out, errors),
+        Ok(task) => run_by_key(alloc, &task, system, history, out, errors),
         Err(Usage::OutOfMemory) => put_refusal(out, Refusal::Memory),
         Err(Usage::Misuse(misuse)) => {
             tell_misuse(alloc, errors, &misuse, first_of(words));
@@ -201,17 +210,17 @@ pub fn refuse_memory<W: Write>(out: &mut W) -> Result<u8, WriteFault>
 pub fn run_program<D: Disk, I: Input, H: Host, W: Output, E: Output>(
     alloc: Global,
     called: &Result<Vec<String>, WordsFault>,
-    disk: &D,
-    input: &I,
-    host: &H,
+    system: &System<'_, D, I, H>,
+    history: &mut H::History,
     out: &mut W,
     errors: &mut E,
 ) -> Result<u8, WriteFault>
-    ensures { IfOk result (Called (outside (D.facts disk.now) (I.facts input.now) (H.facts host.now) H.Port.facts H.File.facts) (TellsMisuse E.facts E.contents errors.old errors.new) (called_by called.now) (W.contents out.old) (W.contents out.new)) }
+    ensures called { IfOk result (Called (outside_of D.facts I.facts H.facts H.made H.Port.facts H.File.facts system.now history.old history.new) (TellsMisuse E.facts E.contents errors.old errors.new) (called_by called.now) (W.contents out.old) (W.contents out.new)) }
+    ensures made { MakesCalled (called_by called.now) (H.made history.old) (H.made history.new) }
 {
     match called {
         Ok(words) => match tail_of(alloc, words) {
-            Ok(tail) => run(alloc, &tail, disk, input, host, out, errors),
+            Ok(tail) => run(alloc, &tail, system, history, out, errors),
             Err(_) => refuse_memory(out),
         },
         Err(WordsFault::NoText(word)) => {

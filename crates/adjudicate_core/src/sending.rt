@@ -12,6 +12,7 @@ use crate::commands::{GameFile, Send, SentGame, ToldGame};
 use crate::lines::put_refusal;
 use crate::manifests::manifest_for;
 use crate::refusals::Refusal;
+use crate::system::System;
 use arbiter_server::{MOST_GAME_BYTES, read_game};
 use board_core::Position;
 use fen_text::read;
@@ -138,19 +139,19 @@ fn send_over<I: Input, P: Port, W: Output>(
 }
 
 /// Binds the address that the words name, and sends from there. Where it can't be bound, the line is `refused port`.
-fn bind_and_send<I: Input, H: Host, W: Output>(
+fn bind_and_send<D, I: Input, H: Host, W: Output>(
     alloc: Global,
     task: &Send<'_>,
     game: &Stamped,
-    input: &I,
-    host: &H,
+    system: &System<'_, D, I, H>,
+    history: &mut H::History,
     out: &mut W,
 ) -> Result<Ended, WriteFault>
-    ensures { BindsAndSends (hosted (H.facts host.now) H.Port.facts H.File.facts) (I.facts input.now) task.now game.now.stamp game.now.start (W.contents out.old) (W.contents out.new) result }
+    ensures { BindsAndSends (hosted (H.facts system.now.host.now) H.Port.facts H.File.facts) (I.facts system.now.input.now) task.now game.now.stamp game.now.start (H.made history.old) (H.made history.new) (W.contents out.old) (W.contents out.new) result }
 {
     let terms = terms_of(task, game.stamp);
-    match bind(alloc, host, task.bind, task.to) {
-        Ok(mut port) => send_over(alloc, terms, game.start, input, &mut port, out),
+    match bind(alloc, system.host, history, task.bind, task.to) {
+        Ok(mut port) => send_over(alloc, terms, game.start, system.input, &mut port, out),
         Err(BindFault::Unbound) => refuse(out, Refusal::Port),
         Err(BindFault::OutOfMemory) => refuse(out, Refusal::Memory),
     }
@@ -163,19 +164,19 @@ fn bind_and_send<I: Input, H: Host, W: Output>(
 /// with the number of the first line at fault. Then that of the address. Where memory is refused the line is `refused memory`. Tables
 /// are read for the stamp of a game that words tell alone, and none where a manifest is named. A game's file has its stamp in its
 /// name. That the text of the file is of the game with this stamp can't be checked without the manifest of its tables, so it isn't:
-/// under a wrong name no arbiter answers. What follows is as in `source_core::send_game`. The error comes only where the writer failed.
+/// under a wrong name no arbiter answers. What follows is as in `source_core::send_game`. At the host the port is opened, and nothing
+/// else is. The error comes only where the writer failed.
 pub fn send<D: Disk, I: Input, H: Host, W: Output>(
     alloc: Global,
     task: &Send<'_>,
-    disk: &D,
-    input: &I,
-    host: &H,
+    system: &System<'_, D, I, H>,
+    history: &mut H::History,
     out: &mut W,
 ) -> Result<Ended, WriteFault>
-    ensures { Sends (D.facts disk.now) (I.facts input.now) (hosted (H.facts host.now) H.Port.facts H.File.facts) task.now (W.contents out.old) (W.contents out.new) result }
+    ensures { Sends (D.facts system.now.disk.now) (I.facts system.now.input.now) (hosted (H.facts system.now.host.now) H.Port.facts H.File.facts) task.now (H.made history.old) (H.made history.new) (W.contents out.old) (W.contents out.new) result }
 {
-    match game_of(alloc, task, disk) {
-        Ok(game) => bind_and_send(alloc, task, &game, input, host, out),
+    match game_of(alloc, task, system.disk) {
+        Ok(game) => bind_and_send(alloc, task, &game, system, history, out),
         Err(refusal) => refuse(out, refusal),
     }
 }

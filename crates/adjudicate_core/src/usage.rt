@@ -76,7 +76,7 @@ impl Wanted {
                 ": ADDR[,ADDR], each a host, a colon and a port"
             }
             Wanted::Address => ": ADDR, a host, a colon and a port",
-            Wanted::Log => ": all or changes",
+            Wanted::Log => ": all, changes or none",
             Wanted::GameFile => ": FOLDER/STAMP.game, with 32 lower-case hexadecimal digits",
         }
     }

@@ -1,5 +1,5 @@
 -- `host --games DIR --tables DIR [--manifest FILE] --bind ADDR --to ADDR[,ADDR] --me M [--at-once N] [--cache N] [--datagrams N]
--- [--log FORM] [--key FILE]`: arbiters of any number of games; specs/Hostings.antt has what it makes of them (this project's own).
+-- [--log FORM] [--log-failures-ignored] [--key FILE]`: arbiters of any number of games; specs/Hostings.antt has what it makes of them (this project's own).
 use Rattle.std.specs.Prelude.{◌≡◌, ◌++◌, false, List, [], ◌∷◌, Option, Some, None, codes, option_map}
 use Rattle.clap.specs.Words.{Rule, Text}
 use Rattle.adjudicate_core.specs.Addresses.{AreRecipients, IsAddressIfAny}
@@ -8,7 +8,7 @@ use Rattle.adjudicate_core.specs.declared.commands.Form.TheVariants as form
 use Rattle.adjudicate_core.specs.Misuses.{Fault, NoOption, Unfit, me_faults, recipient_faults}
 use Rattle.adjudicate_core.specs.declared.usage.Wanted.TheVariants as wanted
 use Rattle.task_files.specs.Sources.{Named}
-use Rattle.adjudicate_core.specs.Numbers.{IsAtOnce, IsCache, IsDatagrams, IsLog, IsMe}
+use Rattle.adjudicate_core.specs.Numbers.{IsAtOnce, IsCache, IsDatagrams, IsLog, IsMe, is_set}
 use Rattle.adjudicate_core.specs.declared.commands.host.HostGames.{HostGames}
 
 abbrev pub rules : List Rule
@@ -23,7 +23,8 @@ rules =
     ∷ rule_of_form form.Option (codes "cache")
     ∷ rule_of_form form.Option (codes "datagrams")
     ∷ rule_of_form form.Option (codes "key")
-    ∷ rule_of_form form.Option (codes "log") ∷ []
+    ∷ rule_of_form form.Option (codes "log")
+    ∷ rule_of_form form.Flag (codes "log-failures-ignored") ∷ []
 
 -- the values of its arguments
 pub record HasValues (value : Text → Option Text) (h : HostGames) : Type 0 where
@@ -39,6 +40,7 @@ pub record HasValues (value : Text → Option Text) (h : HostGames) : Type 0 whe
   pub cache : IsCache (value (codes "cache")) h.cache
   pub datagrams : IsDatagrams (value (codes "datagrams")) h.datagrams
   pub log : IsLog (value (codes "log")) h.log
+  pub outlives : h.outlives_log ≡ is_set (value (codes "log-failures-ignored"))
   pub key : option_map (λ s. s.now) h.key ≡ value (codes "key")
 
 -- what may be wrong with its values, in the order in which it is told: with the folders and the addresses, the numbers, and that the

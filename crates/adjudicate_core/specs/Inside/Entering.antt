@@ -1,8 +1,10 @@
 -- A game's file by what was found in it, and what comes of the next line of a list; cited by private functions alone.
-use Rattle.std.specs.Prelude.{◌≡◌, ◌≢◌, ℕ, List, Option, Some}
+use Rattle.std.specs.Prelude.{◌≡◌, ◌≢◌, ◌⊎◌, ℕ, List, [], ◌∷◌, Option, Some}
+use Rattle.std.specs.List.{AllByRecursion}
 use Rattle.std.specs.Io.KnownBytes.{Appends}
 use Rattle.move_msg.specs.TextLines.{ended}
-use Rattle.system_io.specs.Hosts.{HostFacts}
+use Rattle.system_io.specs.Histories.{Passes}
+use Rattle.system_io.specs.Hosts.{HostFacts, Made}
 use Rattle.system_io.specs.Ports.{PortFacts}
 use Rattle.system_io.specs.KeptFiles.{FindsOldOrNew, KeptFacts}
 use Rattle.line_teller.specs.ToldLines.{WritesTold, refused_memory}
@@ -13,6 +15,8 @@ use Rattle.adjudicate_core.specs.declared.entering.Step.{Step}
 use Rattle.adjudicate_core.specs.declared.entering.Step.TheVariants as step
 use Rattle.adjudicate_core.specs.Enters.{EntersLine, LacksGame, Place, place}
 use Rattle.adjudicate_core.specs.Listens.{hosted}
+use Rattle.adjudicate_core.specs.Makes.{IsGameIn, IsOfEntries}
+use Rattle.adjudicate_core.specs.declared.commands.enter.Enter.{Enter}
 
 -- the place where games are entered
 abbrev pub place_of : {H P F : Type 0} → (H → HostFacts P F) → (P → PortFacts) → (F → KeptFacts) → GamePlace H → Place P F
@@ -33,3 +37,17 @@ pub record LacksOver {F : Type 0} (facts : F → KeptFacts) (file' : F) (found :
 abbrev pub EntersNext : {P F : Type 0} → Place P F → ℕ → List ℕ → Option (List ℕ) → Option (List ℕ) → Step → Type 0
 EntersNext p number line old new (step.Told done) = WritesTold (EntersLine p number line) old new done
 EntersNext p number line old new step.Cut = LacksGame p line keep.OutOfMemory × Appends old new (ended refused_memory)
+
+-- ---- what is made
+
+-- nothing, or the file of a game of this folder
+abbrev pub MakesGame : List ℕ → Option (List Made) → Option (List Made) → Type 0
+MakesGame games had has = Passes had has [] ⊎ ((made : Made) × IsGameIn games made × Passes had has (made ∷ []))
+
+-- files of games of this folder
+abbrev pub MakesGames : List ℕ → Option (List Made) → Option (List Made) → Type 0
+MakesGames games had has = (more : List Made) × Passes had has more × AllByRecursion (IsGameIn games) more
+
+-- what the words enter
+abbrev pub MakesEntries : Enter → Option (List Made) → Option (List Made) → Type 0
+MakesEntries t had has = (more : List Made) × Passes had has more × IsOfEntries t.games.now t.entries more

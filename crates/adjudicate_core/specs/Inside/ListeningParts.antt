@@ -2,6 +2,15 @@
 use Rattle.std.specs.Prelude.{◌≡◌, ℕ, Bool, List, Option, Some, codes}
 use Rattle.clap.specs.Words.{Text}
 use Rattle.move_msg.specs.declared.who.Who.{Who}
+use Rattle.arbiter_core.specs.Setups.{setup_view}
+use Rattle.arbiter_core.specs.declared.setup.Setup.{Setup}
+use Rattle.arbiter_server.specs.GoingOut.{writers}
+use Rattle.system_io.specs.Hosts.{HostFacts}
+use Rattle.system_io.specs.KeptFiles.{KeptFacts}
+use Rattle.system_io.specs.Outputs.{OutputFacts}
+use Rattle.system_io.specs.Ports.{PortFacts}
+use Rattle.adjudicate_core.specs.declared.listening.ListenAt.{ListenAt}
+use Rattle.adjudicate_core.specs.Listens.{Way, hosted}
 use Rattle.adjudicate_core.specs.Addresses.{AreRecipients, IsAddressIfAny}
 use Rattle.adjudicate_core.specs.Numbers.{IsDatagrams, IsDelay, IsMe, is_set}
 
@@ -11,3 +20,7 @@ AreEnds value bind to kept = (Some bind ≡ value (codes "bind")) × (Some to �
 abbrev pub AreTerms : (Text → Option Text) → Who → ℕ → ℕ → Bool → Bool → Type 0
 AreTerms value me datagrams delay fetch ready =
     IsMe (value (codes "me")) me × IsDatagrams (value (codes "datagrams")) datagrams × IsDelay (value (codes "delay")) delay × (fetch ≡ is_set (value (codes "fetch"))) × (ready ≡ is_set (value (codes "ready"))) × IsAddressIfAny (value (codes "bind"))
+
+-- at this host and with this writer, by the words and the setup
+abbrev pub way : {H P F W : Type 0} → (H → HostFacts P F) → (P → PortFacts) → (F → KeptFacts) → (W → Option (List ℕ)) → (W → OutputFacts) → ListenAt H → Setup → Way P F W
+way host port file written output at setup = record { host = hosted (host at.host.now) port file; writer = writers written output; words = at.listening.now; setup = setup_view setup }

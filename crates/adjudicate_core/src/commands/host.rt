@@ -7,7 +7,7 @@ ghost use Rattle.adjudicate_core.specs.Commands.Host.{end_faults, term_faults};
 ghost use Rattle.adjudicate_core.specs.Misuses.{AreWell, IsFirst, fault_words};
 
 use super::{Form, Value};
-use crate::numbers::CacheSize;
+use crate::numbers::{CacheSize, is_set};
 use crate::usage::ValueFault;
 use crate::values::{
     at_once_in, cache_in, check_bind, datagrams_in, log_in, me_in, option_in, recipients_in,
@@ -41,12 +41,14 @@ pub struct HostGames<'a> {
     pub datagrams: u64,
     /// Which lines are written.
     pub log: LogForm,
+    /// Whether the games go on where these can't be written.
+    pub outlives_log: bool,
     /// The file of the keys by which datagrams are sealed, if they are.
     pub key: Option<&'a str>,
 }
 
 /// The values of `host`.
-pub(crate) const VALUES: [Value; 11] = [
+pub(crate) const VALUES: [Value; 12] = [
     Value {
         name: "games",
         form: Form::Option,
@@ -90,6 +92,10 @@ pub(crate) const VALUES: [Value; 11] = [
     Value {
         name: "log",
         form: Form::Option,
+    },
+    Value {
+        name: "log-failures-ignored",
+        form: Form::Flag,
     },
 ];
 
@@ -167,6 +173,7 @@ impl<'a> HostGames<'a> {
             cache: terms.cache,
             datagrams: terms.datagrams,
             log: terms.log,
+            outlives_log: is_set(matches.get_str("log-failures-ignored")),
             key: matches.get_str("key"),
         })
     }

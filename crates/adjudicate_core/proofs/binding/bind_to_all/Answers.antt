@@ -1,11 +1,12 @@
 use Rattle.std.proofs.Common.{◌≡◌, ◌∙◌, ap, inr, length, map, sym}
 use Rattle.std.proofs.lemmas.List.{length-map}
+use Rattle.system_io.proofs.HistoryLaws.{Passes-nil}
 use Rattle.adjudicate_core.specs.Addresses.{addresses_of}
 use Rattle.adjudicate_core.proofs.BindLaws.{refused_so}
 use Rattle.adjudicate_core.proofs.binding.bind_to_all.Goals as goal
 
 pub returns-in_default : goal.returns-in_default
-returns-in_default g c = record { bound = tt; each = tt; cause = inr c.requires }
+returns-in_default g c = record { bound = tt; each = tt; cause = inr c.requires; made = Passes-nil _ }
 
 pub returns-in-Ok-bind : goal.returns-in-Ok-bind
 returns-in-Ok-bind g c =
@@ -14,7 +15,8 @@ returns-in-Ok-bind g c =
       bound = rw all at c.in-Ok-bind.ensures.bound;
       each = c.in-Ok-bind.ensures.each ∙ sym (length-map c.deref.result.now (λ s. s.now)) ∙ ap length all;
       cause = tt;
+      made = rw all at c.in-Ok-bind.ensures.made;
     }
 
 pub returns : goal.returns
-returns g c = record { bound = tt; each = tt; cause = refused_so (g.H.Host.facts c.args.host.now) c.args.address.now c.args.to.now c.in-Err.fault c.in-Err.ensures.cause }
+returns g c = record { bound = tt; each = tt; cause = refused_so (g.H.Host.facts c.args.host.now) c.args.address.now c.args.to.now c.in-Err.fault c.in-Err.ensures.cause; made = c.in-Err.ensures.made }

@@ -1,5 +1,6 @@
 use Rattle.std.proofs.Common.{refl}
 use Rattle.adjudicate_core.specs.Enters.{NoRoomForPath, NoText}
+use Rattle.adjudicate_core.proofs.MakeLaws.{game_once, no_game}
 use Rattle.adjudicate_core.proofs.entering.enter_game.Goals as goal
 
 pub returns-in_default-clause-err : goal.returns-in_default-clause-err
@@ -18,3 +19,12 @@ returns-clause-err g c =
     let stamp = rw c.plies.ensures.value at c.stamp-stamp.ensures in
     let lacks = rw stamp at (rw c.in-Ok.ensures at (rw c.as_str.ensures.value at (rw c.as_slice.ensures.value at c.in-Err.ensures.err))) in
     NoText c.write_game-text.result.items spells lacks
+
+pub returns-in_default-clause-made : goal.returns-in_default-clause-made
+returns-in_default-clause-made g c = no_game _ _
+
+pub returns-in-Ok-keep_at-clause-made : goal.returns-in-Ok-keep_at-clause-made
+returns-in-Ok-keep_at-clause-made g c = game_once c.args.place.now.games.now c.stamp-stamp.result.0 _ _ (rw c.in-Ok.ensures at (rw c.as_str.ensures.value at c.keep_at.ensures.made))
+
+pub returns-clause-made : goal.returns-clause-made
+returns-clause-made g c = game_once c.args.place.now.games.now c.stamp-stamp.result.0 _ _ (rw c.in-Ok.ensures at (rw c.as_str.ensures.value at c.keep_at.ensures.made))

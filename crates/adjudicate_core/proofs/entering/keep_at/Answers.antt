@@ -1,4 +1,4 @@
-use Rattle.std.proofs.Common.{refl}
+use Rattle.std.proofs.Common.{inl, inr, refl}
 use Rattle.adjudicate_core.specs.Enters.{NoRoomForFile}
 use Rattle.adjudicate_core.proofs.EnterLaws.{kept_at, unkept_at}
 use Rattle.adjudicate_core.proofs.entering.keep_at.Goals as goal
@@ -11,3 +11,9 @@ returns-in-Ok-clause-err g c = unkept_at _ _ _ _ _ _ c.in-Ok.ensures.at c.keep_g
 
 pub returns-in-Err-clause-err : goal.returns-in-Err-clause-err
 returns-in-Err-clause-err g c = NoRoomForFile c.in-Err.ensures.memory refl
+
+pub returns-in-Ok-clause-made : goal.returns-in-Ok-clause-made
+returns-in-Ok-clause-made g c = inr c.in-Ok.ensures.made
+
+pub returns-in-Err-clause-made : goal.returns-in-Err-clause-made
+returns-in-Err-clause-made g c = inl c.in-Err.ensures.made

@@ -1,23 +1,24 @@
 use Rattle.std.proofs.Common.{sym}
 use Rattle.adjudicate_core.specs.Hostings.{BadTables, Hosting, NoRoom}
 use Rattle.adjudicate_core.proofs.HostLaws.{unlisted}
+use Rattle.system_io.proofs.HistoryLaws.{Passes-nil}
 use Rattle.adjudicate_core.proofs.hosting.host_games.Goals as goal
 
 pub returns-in-Ok-Err : goal.returns-in-Ok-Err
 returns-in-Ok-Err g c =
     let refused = rw c.in-Ok-Err.field-0-is at c.in-Ok-Err.ensures in
-    BadTables _ (sym refused) c.put_refusal.ensures
+    BadTables (Passes-nil _) _ (sym refused) c.put_refusal.ensures
 
 pub returns-in-Err : goal.returns-in-Err
-returns-in-Err g c = NoRoom c.put_refusal-in-Err.ensures
+returns-in-Err g c = NoRoom (Passes-nil _) c.put_refusal-in-Err.ensures
 
 pub returns-in-Err-list_games : goal.returns-in-Err-list_games
 returns-in-Err-list_games g c =
     let tables = rw c.in-Ok-Ok.field-0-is at c.in-Ok-Ok.ensures in
-    unlisted _ _ _ _ _ _ _ _ c.in-Err-list_games.refusal c.in-Ok-Ok.tables tables c.in-Err-list_games.ensures.err c.put_refusal-in-Err-list_games.ensures
+    unlisted _ _ _ _ _ _ _ _ _ _ c.in-Err-list_games.refusal c.in-Ok-Ok.tables tables (Passes-nil _) c.in-Err-list_games.ensures.err c.put_refusal-in-Err-list_games.ensures
 
 pub returns-in-Err-manifest_for : goal.returns-in-Err-manifest_for
-returns-in-Err-manifest_for g c = NoRoom c.put_refusal-in-Err-manifest_for.ensures
+returns-in-Err-manifest_for g c = NoRoom (Passes-nil _) c.put_refusal-in-Err-manifest_for.ensures
 
 pub returns : goal.returns
 returns g c =

@@ -1,13 +1,14 @@
 use Rattle.std.proofs.Common.{◌∙◌, inl, inr, refl}
 use Rattle.arbiter_server.proofs.PortLaws.{Passed-nil}
 use Rattle.adjudicate_core.specs.Hostings.{NoAddress, NoRoomForLine, Ready, Unready}
+use Rattle.system_io.proofs.HistoryLaws.{Passes-nil}
 use Rattle.adjudicate_core.proofs.hosting.start_at.Goals as goal
 
 pub returns-in-Err : goal.returns-in-Err
 returns-in-Err g c =
     elim c.in-Err.ensures.err [
-      | inl port ↦ NoAddress port.1 (Passed-nil _) (rw port.0 at c.put_refusal.ensures)
-      | inr memory ↦ NoRoomForLine (Passed-nil _) (rw memory at c.put_refusal.ensures)
+      | inl port ↦ NoAddress (Passes-nil _) port.1 (Passed-nil _) (rw port.0 at c.put_refusal.ensures)
+      | inr memory ↦ NoRoomForLine (Passes-nil _) (Passed-nil _) (rw memory at c.put_refusal.ensures)
     ]
 
 pub returns-in-Ok-put_line : goal.returns-in-Ok-put_line
@@ -20,4 +21,4 @@ pub returns-in-Err-put_line : goal.returns-in-Err-put_line
 returns-in-Err-put_line g c =
     let tells = c.in-Ok.ensures.ok in
     let line = c.as_bytes.ensures.value ∙ c.as_str.ensures.value ∙ tells.2 in
-    Unready tells.0 tells.1 (Passed-nil _) (c.in-Err-put_line.ensures _ line) c.in-Err-put_line.fault refl
+    Unready (Passes-nil _) tells.0 tells.1 (Passed-nil _) (c.in-Err-put_line.ensures _ line) c.in-Err-put_line.fault refl

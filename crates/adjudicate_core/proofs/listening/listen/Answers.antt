@@ -1,8 +1,9 @@
 use Rattle.adjudicate_core.specs.Listens.{BadStart}
+use Rattle.system_io.proofs.HistoryLaws.{Passes-nil}
 use Rattle.adjudicate_core.proofs.listening.listen.Goals as goal
 
 pub returns-in-Err : goal.returns-in-Err
-returns-in-Err g c = BadStart c.in-Err.fault (rw c.as_bytes.ensures.value at c.in-Err.ensures.err) c.put_refusal.ensures
+returns-in-Err g c = BadStart (Passes-nil _) c.in-Err.fault (rw c.as_bytes.ensures.value at c.in-Err.ensures.err) c.put_refusal.ensures
 
 pub listen_from-requires-clause-spelled : goal.listen_from-requires-clause-spelled
 listen_from-requires-clause-spelled g c = rw c.as_bytes.ensures.value at c.in-Ok.ensures.ok

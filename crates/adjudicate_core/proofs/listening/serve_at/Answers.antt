@@ -4,7 +4,7 @@ use Rattle.adjudicate_core.proofs.LockLaws.{unserved}
 use Rattle.adjudicate_core.proofs.listening.serve_at.Goals as goal
 
 pub returns-in-Ok : goal.returns-in-Ok
-returns-in-Ok g c = Locked c.in-Ok.ensures.ok c.serve_over.ensures
+returns-in-Ok g c = Locked _ c.in-Ok.ensures.made c.in-Ok.ensures.ok c.serve_over.ensures
 
 pub returns-in-Err : goal.returns-in-Err
-returns-in-Err g c = unserved _ _ _ _ _ _ _ _ _ c.in-Err.refusal c.in-Err.ensures.err (Passed-nil _) c.put_refusal.ensures
+returns-in-Err g c = unserved _ _ _ _ _ _ _ _ _ _ _ c.in-Err.refusal c.in-Err.ensures.made c.in-Err.ensures.err (Passed-nil _) c.put_refusal.ensures

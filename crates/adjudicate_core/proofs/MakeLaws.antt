@@ -1,0 +1,224 @@
+-- What a task makes, from what it comes to.
+use Rattle.std.proofs.Common.{◌≡◌, ◌++◌, ℕ, List, [], ◌∷◌, Option, refl, ap, inl, inr, subst, sym}
+use Rattle.std.specs.Prelude.{Result, Ok, Err, ◌⊎◌}
+use Rattle.std.specs.List.{AllByRecursion}
+use Rattle.system_io.specs.Disks.{DiskFacts}
+use Rattle.system_io.specs.Histories.{Passes}
+use Rattle.system_io.specs.Hosts.{FileAt, Made}
+use Rattle.system_io.specs.Inputs.{InputFacts}
+use Rattle.system_io.specs.Ports.{Came, Handed, Missed, Passing, PortFacts, Quiet}
+use Rattle.system_io.specs.declared.output.WriteFault.{WriteFault}
+use Rattle.system_io.proofs.HistoryLaws.{Passes-nil, Passes-trans}
+use Rattle.arbiter_core.specs.Setups.{SetupView}
+use Rattle.arbiter_server.specs.GameFolders.{game_path}
+use Rattle.arbiter_server.specs.Games.{CommonView}
+use Rattle.arbiter_server.specs.Makings.{AreMadeFor, IsMadeFor, MakesOnce, MakesWhile}
+use Rattle.source_core.specs.declared.lines.Ended.{Ended}
+use Rattle.task_files.specs.Given.{Given}
+use Rattle.adjudicate_core.specs.Hostings as hosting
+use Rattle.adjudicate_core.specs.Inside.Entering.{MakesEntries, MakesGame, MakesGames}
+use Rattle.adjudicate_core.specs.Listens as listening
+use Rattle.adjudicate_core.specs.Makes.{IsFrontOf, IsGameIn, IsMadeBy, IsOfEntries, IsOfHost, IsRecordIn, MakesCalled, MakesFor, before_games, of_listen, of_send}
+use Rattle.adjudicate_core.specs.Sends as sending
+use Rattle.adjudicate_core.specs.declared.commands.Task.{Task}
+use Rattle.adjudicate_core.specs.declared.commands.Task.TheVariants as task
+use Rattle.adjudicate_core.specs.declared.commands.enter.Enter.{Enter}
+use Rattle.adjudicate_core.specs.declared.commands.enter.Entries.{Entries}
+use Rattle.adjudicate_core.specs.declared.commands.enter.Entries.TheVariants.{From, One}
+use Rattle.adjudicate_core.specs.declared.commands.enter.OneGame.{OneGame}
+use Rattle.adjudicate_core.specs.declared.commands.host.HostGames.{HostGames}
+use Rattle.adjudicate_core.specs.declared.commands.listen.Listen.{Listen}
+use Rattle.adjudicate_core.specs.declared.commands.send.Send.{Send}
+use Rattle.adjudicate_core.specs.declared.usage.WordsFault.{WordsFault}
+use Rattle.std.specs.Borrow.{Bor}
+
+-- ---- nothing
+
+none_entered : (games : List ℕ) (e : Entries) → IsOfEntries games e []
+none_entered games (One g) = inl refl
+none_entered games (From path) = tt
+
+nothing_by : (t : Task) → IsMadeBy t []
+nothing_by (task.Judge t) = refl
+nothing_by (task.Probe t) = refl
+nothing_by (task.Moves t) = refl
+nothing_by (task.List t) = refl
+nothing_by (task.Check t) = refl
+nothing_by (task.Show t) = refl
+nothing_by (task.Run t) = refl
+nothing_by (task.Listen l) = (of_listen l, refl)
+nothing_by (task.Probes t) = refl
+nothing_by (task.Game t) = refl
+nothing_by (task.Record t) = refl
+nothing_by (task.Audit t) = refl
+nothing_by (task.AuditGames t) = refl
+nothing_by (task.Version t) = refl
+nothing_by (task.Send t) = (of_send t, refl)
+nothing_by (task.Enter t) = none_entered t.games.now t.entries
+nothing_by (task.Host h) = inl (before_games h, refl)
+nothing_by (task.Root t) = refl
+nothing_by (task.Follow t) = refl
+nothing_by (task.Status t) = refl
+
+pub makes_nothing : (t : Task) (had : Option (List Made)) → MakesFor t had had
+makes_nothing t had = ([], Passes-nil had, nothing_by t)
+
+-- ---- the first of some
+
+Within : List Made → Option (List Made) → Option (List Made) → Type 0
+Within all had has = (more : List Made) × Passes had has more × IsFrontOf all more
+
+within_none : (all : List Made) (had has : Option (List Made)) → Passes had has [] → Within all had has
+within_none all had has none = ([], none, (all, refl))
+
+within_last : (all : List Made) (made : Made) (had has : Option (List Made)) → Passes had has (made ∷ []) → Within (made ∷ all) had has
+within_last all made had has one = (made ∷ [], one, (all, refl))
+
+within_more : (all : List Made) (made : Made) (had between has : Option (List Made)) → Passes had between (made ∷ []) → Within all between has → Within (made ∷ all) had has
+within_more all made had between has one (more, passes, rest, is) = (made ∷ more, Passes-trans had between has (made ∷ []) more one passes, (rest, ap (λ (l : List Made). made ∷ l) is))
+
+-- ---- `listen`
+
+module _ {P F : Type 0} (host : listening.Hosted P F) (l : Listen) (setup : SetupView) (has : Option (List Made)) (r : Result ℕ WriteFault) where
+  locked_makes : (S : listening.ServesBy F) (had : Option (List Made)) (port port' : PortFacts) (old new : Option (List ℕ)) → listening.ServesLocked host S l setup had has port port' old new r → Within (FileAt l.kept.now ∷ []) had has
+  locked_makes S had port port' old new (listening.AtFile made file there h) = within_last [] _ had has made
+  locked_makes S had port port' old new (listening.NoRoomForFile made why nothing told) = within_none _ had has made
+
+  at_makes : (S : listening.ServesBy F) (had : Option (List Made)) (port port' : PortFacts) (old new : Option (List ℕ)) → listening.ServesAt host S l setup had has port port' old new r → Within _ had has
+  at_makes S had port port' old new (listening.InUse made held nothing told) = within_none _ had has made
+  at_makes S had port port' old new (listening.NoLock made failed nothing told) = within_none _ had has made
+  at_makes S had port port' old new (listening.NoRoomToLock made nothing told) = within_none _ had has made
+  at_makes S had port port' old new (listening.Locked between made given h) = within_more _ _ had between has made (locked_makes S between port port' old new h)
+
+  start_makes : {T : Type 0} (seen : listening.Seen F T) (had : Option (List Made)) (port : P) (port' : PortFacts) (old new : T) → listening.StartsAt host seen l setup had has port port' old new r → Within _ had has
+  start_makes seen had port port' old new (listening.Unasked off h) = at_makes (seen.serves old new) had (host.port port) port' (seen.written old) (seen.written new) h
+  start_makes seen had port port' old new (listening.NoAddress made on none nothing told) = within_none _ had has made
+  start_makes seen had port port' old new (listening.NoRoomForLine made on nothing told) = within_none _ had has made
+  start_makes seen had port port' old new (listening.Ready on own is mid gone h) = at_makes (seen.serves mid new) had (host.port port) port' (seen.written mid) (seen.written new) h
+  start_makes seen had port port' old new (listening.Unready made on own is nothing cut fault failed) = within_none _ had has made
+
+  bound_makes : {T : Type 0} (seen : listening.Seen F T) (had : Option (List Made)) (old new : T) → listening.BindsAndServes host seen l setup had has old new r → Within (of_listen l) had has
+  bound_makes seen had old new (listening.Unbound made why told) = within_none _ had has made
+  bound_makes seen had old new (listening.NoRoomToBind made why told) = within_none _ had has made
+  bound_makes seen had old new (listening.Bound between made port port' bound each h) = within_more _ _ had between has made (start_makes seen between port (host.port port') old new h)
+
+pub listen_makes : {P F T : Type 0} (host : listening.Hosted P F) (seen : listening.Seen F T) (l : Listen) (given : Given) (had has : Option (List Made)) (old new : T) (r : Result ℕ WriteFault) → listening.Listens host seen l given had has old new r → MakesFor (task.Listen l) had has
+listen_makes host seen l given had has old new r (listening.BadStart made fault first told) = within_none _ had has made
+listen_makes host seen l given had has old new r (listening.BadTables made text words refused told) = within_none _ had has made
+listen_makes host seen l given had has old new r (listening.NoRoom made text told) = within_none _ had has made
+listen_makes host seen l given had has old new r (listening.Opened start spells legal set tables manifest is h) = bound_makes host l (listening.setup_for l start set manifest) has r seen had old new h
+
+-- ---- `send`
+
+bound_sends : {P F : Type 0} (host : listening.Hosted P F) (source : InputFacts) (t : Send) (stamp : _) (start : _) (had has : Option (List Made)) (old new : Option (List ℕ)) (r : Result Ended WriteFault) → sending.BindsAndSends host source t stamp start had has old new r → Within (of_send t) had has
+bound_sends host source t stamp start had has old new r (sending.Unbound made why told) = within_none _ had has made
+bound_sends host source t stamp start had has old new r (sending.NoRoomToBind made why told) = within_none _ had has made
+bound_sends host source t stamp start had has old new r (sending.Bound made port port' bound each h) = within_last [] _ had has made
+
+pub send_makes : {P F : Type 0} (disk : DiskFacts) (source : InputFacts) (host : listening.Hosted P F) (t : Send) (had has : Option (List Made)) (old new : Option (List ℕ)) (r : Result Ended WriteFault) → sending.Sends disk source host t had has old new r → MakesFor (task.Send t) had has
+send_makes disk source host t had has old new r (sending.NoGame made words lacks told) = within_none _ had has made
+send_makes disk source host t had has old new r (sending.Stamped start stamp is h) = bound_sends host source t stamp start had has old new r h
+
+-- ---- `host`
+
+all_join : (games : List ℕ) (a b : List Made) → AllByRecursion (IsRecordIn games) a → AllByRecursion (IsRecordIn games) b → AllByRecursion (IsRecordIn games) (a ++ b)
+all_join games [] b all rest = rest
+all_join games (x ∷ a) b all rest = (all.0, all_join games a b all.1 rest)
+
+one_record : (h : HostGames) (datagram : List ℕ) (more : List Made) → IsMadeFor (hosting.record_of h) datagram more → AllByRecursion (IsRecordIn h.games.now) more
+one_record h datagram more (inl none) = subst (AllByRecursion (IsRecordIn h.games.now)) (sym none) tt
+one_record h datagram more (inr (stamp, names, opens, is)) = subst (AllByRecursion (IsRecordIn h.games.now)) (sym is) ((stamp, refl), tt)
+
+all_records : (h : HostGames) (passing : List Passing) (more : List Made) → AreMadeFor (hosting.record_of h) passing more → AllByRecursion (IsRecordIn h.games.now) more
+all_records h [] more none = subst (AllByRecursion (IsRecordIn h.games.now)) (sym none) tt
+all_records h (Came datagram ∷ passing) more (first, rest, is, all, others) =
+    subst (AllByRecursion (IsRecordIn h.games.now)) (sym all) (all_join h.games.now first rest (one_record h datagram first is) (all_records h passing rest others))
+all_records h (Quiet ∷ passing) more others = all_records h passing more others
+all_records h (Missed ∷ passing) more others = all_records h passing more others
+all_records h (Handed to bytes ∷ passing) more others = all_records h passing more others
+
+-- some first things, and files of records behind them
+Hosting : HostGames → List Made → Option (List Made) → Option (List Made) → Type 0
+Hosting h before had has = (more : List Made) × Passes had has more × (IsFrontOf before more ⊎ ((later : List Made) × (more ≡ before ++ later) × AllByRecursion (IsRecordIn h.games.now) later))
+
+hosts_none : (h : HostGames) (before : List Made) (had has : Option (List Made)) → Passes had has [] → Hosting h before had has
+hosts_none h before had has none = ([], none, inl (before, refl))
+
+hosts_more : (h : HostGames) (before : List Made) (made : Made) (had between has : Option (List Made)) → Passes had between (made ∷ []) → Hosting h before between has → Hosting h (made ∷ before) had has
+hosts_more h before made had between has one (more, passes, inl (rest, is)) = (made ∷ more, Passes-trans had between has (made ∷ []) more one passes, inl (rest, ap (λ (l : List Made). made ∷ l) is))
+hosts_more h before made had between has one (more, passes, inr (later, is, all)) = (made ∷ more, Passes-trans had between has (made ∷ []) more one passes, inr (later, ap (λ (l : List Made). made ∷ l) is, all))
+
+records_made : (h : HostGames) (port port' : PortFacts) (had has : Option (List Made)) → MakesWhile (hosting.record_of h) port port' had has → Hosting h [] had has
+records_made h port port' had has (more, while, passes) = (more, passes, inr (more, refl, all_records h while.passing more while.are))
+
+records_twice : (h : HostGames) (port when port' : PortFacts) (had between has : Option (List Made)) → MakesWhile (hosting.record_of h) port when had between → MakesWhile (hosting.record_of h) when port' between has → Hosting h [] had has
+records_twice h port when port' had between has (first, one, passes) (later, two, goes) =
+    (first ++ later, Passes-trans had between has first later passes goes, inr (first ++ later, refl, all_join h.games.now first later (all_records h one.passing first one.are) (all_records h two.passing later two.are)))
+
+module _ {P F T : Type 0} (host : listening.Hosted P F) (seen : hosting.Seen T) (h : HostGames) (has : Option (List Made)) (r : Result ℕ WriteFault) where
+  now_hosts : (t : CommonView) (had : Option (List Made)) (port port' : PortFacts) (old new : T) → hosting.HostsNow seen h t had has port port' old new r → Hosting h [] had has
+  now_hosts t had port port' old new (hosting.Served made run) = records_made h port port' had has made
+  now_hosts t had port port' old new (hosting.Unlogged so between when mid fault made run more rest) = records_twice h port when port' had between has made more
+  now_hosts t had port port' old new (hosting.NoRoomForGames made same told) = hosts_none h [] had has made
+
+  at_hosts : (t : CommonView) (had : Option (List Made)) (port : P) (port' : PortFacts) (old new : T) → hosting.HostsAt host seen h t had has port port' old new r → Hosting h [] had has
+  at_hosts t had port port' old new (hosting.NoAddress made none nothing told) = hosts_none h [] had has made
+  at_hosts t had port port' old new (hosting.NoRoomForLine made nothing told) = hosts_none h [] had has made
+  at_hosts t had port port' old new (hosting.Ready own is mid gone run) = now_hosts t had (host.port port) port' mid new run
+  at_hosts t had port port' old new (hosting.Unready made own is nothing cut fault failed) = hosts_none h [] had has made
+
+  bound_hosts : (t : CommonView) (had : Option (List Made)) (old new : T) → hosting.BindsAndHosts host seen h t had has old new r → Hosting h _ had has
+  bound_hosts t had old new (hosting.Unbound made why told) = hosts_none h _ had has made
+  bound_hosts t had old new (hosting.NoRoomToBind made why told) = hosts_none h _ had has made
+  bound_hosts t had old new (hosting.Bound between made port port' bound each run) = hosts_more h [] _ had between has made (at_hosts t between port (host.port port') old new run)
+
+  lock_hosts : (t : CommonView) (had : Option (List Made)) (old new : T) → hosting.LocksAndHosts host seen h t had has old new r → Hosting h (before_games h) had has
+  lock_hosts t had old new (hosting.InUse made held told) = hosts_none h _ had has made
+  lock_hosts t had old new (hosting.NoLock made failed told) = hosts_none h _ had has made
+  lock_hosts t had old new (hosting.NoRoomToLock made told) = hosts_none h _ had has made
+  lock_hosts t had old new (hosting.Locked between made given run) = hosts_more h _ _ had between has made (bound_hosts t between old new run)
+
+pub host_makes : {P F T : Type 0} (disk : DiskFacts) (host : listening.Hosted P F) (seen : hosting.Seen T) (h : HostGames) (given : Given) (had has : Option (List Made)) (old new : T) (r : Result ℕ WriteFault) → hosting.HostsGames disk host seen h given had has old new r → MakesFor (task.Host h) had has
+host_makes disk host seen h given had has old new r (hosting.BadTables made words refused told) = hosts_none h _ had has made
+host_makes disk host seen h given had has old new r (hosting.NoFolder made set tables fails told) = hosts_none h _ had has made
+host_makes disk host seen h given had has old new r (hosting.NoRoom made told) = hosts_none h _ had has made
+host_makes disk host seen h given had has old new r (hosting.Hosting set tables names lists manifest is run) = lock_hosts host seen h has r (hosting.common_for h set manifest) had old new run
+
+-- ---- `enter`
+
+pub game_once : (games stamp : List ℕ) (had has : Option (List Made)) → MakesOnce had has (FileAt (game_path games stamp)) → MakesGame games had has
+game_once games stamp had has (inl none) = inl none
+game_once games stamp had has (inr one) = inr (FileAt (game_path games stamp), (stamp, refl), one)
+
+pub no_game : (games : List ℕ) (had : Option (List Made)) → MakesGame games had had
+no_game games had = inl (Passes-nil had)
+
+pub no_games : (games : List ℕ) (had : Option (List Made)) → MakesGames games had had
+no_games games had = ([], Passes-nil had, tt)
+
+games_join : (games : List ℕ) (a b : List Made) → AllByRecursion (IsGameIn games) a → AllByRecursion (IsGameIn games) b → AllByRecursion (IsGameIn games) (a ++ b)
+games_join games [] b all rest = rest
+games_join games (x ∷ a) b all rest = (all.0, games_join games a b all.1 rest)
+
+pub games_more : (games : List ℕ) (had between has : Option (List Made)) → MakesGames games had between → MakesGame games between has → MakesGames games had has
+games_more games had between has (more, passes, all) (inl none) = (more ++ [], Passes-trans had between has more [] passes none, games_join games more [] all tt)
+games_more games had between has (more, passes, all) (inr (made, is, one)) = (more ++ made ∷ [], Passes-trans had between has more (made ∷ []) passes one, games_join games more (made ∷ []) all (is, tt))
+
+one_of : (games : List ℕ) (g : OneGame) (had has : Option (List Made)) → MakesGame games had has → (more : List Made) × Passes had has more × IsOfEntries games (One g) more
+one_of games g had has (inl none) = ([], none, inl refl)
+one_of games g had has (inr (made, is, one)) = (made ∷ [], one, inr (made, is, refl))
+
+pub one_entered : (t : Enter) (g : OneGame) (had has : Option (List Made)) → t.entries ≡ One g → MakesGame t.games.now had has → MakesEntries t had has
+one_entered t g had has is made = subst (λ (e : Entries). (more : List Made) × Passes had has more × IsOfEntries t.games.now e more) (sym is) (one_of t.games.now g had has made)
+
+pub list_entered : (t : Enter) (path : Bor (List ℕ)) (had has : Option (List Made)) → t.entries ≡ From path → MakesGames t.games.now had has → MakesEntries t had has
+list_entered t path had has is made = subst (λ (e : Entries). (more : List Made) × Passes had has more × IsOfEntries t.games.now e more) (sym is) made
+
+pub none_entries : (t : Enter) (had : Option (List Made)) → MakesEntries t had had
+none_entries t had = ([], Passes-nil had, none_entered t.games.now t.entries)
+
+-- ---- words
+
+pub none_called : (called : Result (List (List ℕ)) WordsFault) (had : Option (List Made)) → MakesCalled called had had
+none_called (Ok words) had = inl (Passes-nil had)
+none_called (Err fault) had = Passes-nil had

@@ -1,0 +1,84 @@
+-- What each task makes at the host, whatever it comes to: nothing else is opened to be written, and nothing else sends (this project's
+-- own).
+use Rattle.std.specs.Prelude.{◌≡◌, ◌⊎◌, ◌++◌, ℕ, List, [], ◌∷◌, Option, Result, Ok, Err, drop}
+use Rattle.std.specs.List.{AllByRecursion}
+use Rattle.system_io.specs.Histories.{Passes}
+use Rattle.system_io.specs.Hosts.{FileAt, LockAt, Made, PortAt}
+use Rattle.arbiter_server.specs.GameFolders.{game_path, kept_path}
+use Rattle.adjudicate_core.specs.Addresses.{addresses_of}
+use Rattle.adjudicate_core.specs.Locks.{games_lock, kept_lock}
+use Rattle.adjudicate_core.specs.Tasks.{IsTask}
+use Rattle.adjudicate_core.specs.declared.commands.Task.{Task}
+use Rattle.adjudicate_core.specs.declared.commands.Task.TheVariants as task
+use Rattle.adjudicate_core.specs.declared.commands.enter.Entries.{Entries}
+use Rattle.adjudicate_core.specs.declared.commands.enter.Entries.TheVariants.{From, One}
+use Rattle.adjudicate_core.specs.declared.commands.host.HostGames.{HostGames}
+use Rattle.adjudicate_core.specs.declared.commands.listen.Listen.{Listen}
+use Rattle.adjudicate_core.specs.declared.commands.send.Send.{Send}
+use Rattle.adjudicate_core.specs.declared.usage.WordsFault.{WordsFault}
+
+-- the first of these, in their order, and nothing else
+abbrev pub IsFrontOf : List Made → List Made → Type 0
+IsFrontOf all more = (rest : List Made) × (more ++ rest ≡ all)
+
+-- `listen`: its port, the lock of its file, and that file
+abbrev pub of_listen : Listen → List Made
+of_listen l = PortAt l.bind.now (addresses_of l.to.now) ∷ LockAt (kept_lock l.kept.now) ∷ FileAt l.kept.now ∷ []
+
+-- `send`: its port
+abbrev pub of_send : Send → List Made
+of_send t = PortAt t.bind.now (addresses_of t.to.now) ∷ []
+
+-- `host`: the lock of its folder, and its port; and then files of records in that folder
+abbrev pub before_games : HostGames → List Made
+before_games h = LockAt (games_lock h.games.now) ∷ PortAt h.bind.now (addresses_of h.to.now) ∷ []
+
+abbrev pub IsRecordIn : List ℕ → Made → Type 0
+IsRecordIn games made = (stamp : List ℕ) × (made ≡ FileAt (kept_path games stamp))
+
+abbrev pub IsOfHost : HostGames → List Made → Type 0
+IsOfHost h more = IsFrontOf (before_games h) more ⊎ ((later : List Made) × (more ≡ before_games h ++ later) × AllByRecursion (IsRecordIn h.games.now) later)
+
+-- `enter`: files of games in its folder; of one game at most its file
+abbrev pub IsGameIn : List ℕ → Made → Type 0
+IsGameIn games made = (stamp : List ℕ) × (made ≡ FileAt (game_path games stamp))
+
+abbrev pub IsOfEntries : List ℕ → Entries → List Made → Type 0
+IsOfEntries games (One g) more = (more ≡ []) ⊎ ((made : Made) × IsGameIn games made × (more ≡ made ∷ []))
+IsOfEntries games (From path) more = AllByRecursion (IsGameIn games) more
+
+-- each task makes that, and all others nothing
+abbrev pub IsMadeBy : Task → List Made → Type 0
+IsMadeBy (task.Judge t) more = more ≡ []
+IsMadeBy (task.Probe t) more = more ≡ []
+IsMadeBy (task.Moves t) more = more ≡ []
+IsMadeBy (task.List t) more = more ≡ []
+IsMadeBy (task.Check t) more = more ≡ []
+IsMadeBy (task.Show t) more = more ≡ []
+IsMadeBy (task.Run t) more = more ≡ []
+IsMadeBy (task.Listen l) more = IsFrontOf (of_listen l) more
+IsMadeBy (task.Probes t) more = more ≡ []
+IsMadeBy (task.Game t) more = more ≡ []
+IsMadeBy (task.Record t) more = more ≡ []
+IsMadeBy (task.Audit t) more = more ≡ []
+IsMadeBy (task.AuditGames t) more = more ≡ []
+IsMadeBy (task.Version t) more = more ≡ []
+IsMadeBy (task.Send t) more = IsFrontOf (of_send t) more
+IsMadeBy (task.Enter t) more = IsOfEntries t.games.now t.entries more
+IsMadeBy (task.Host h) more = IsOfHost h more
+IsMadeBy (task.Root t) more = more ≡ []
+IsMadeBy (task.Follow t) more = more ≡ []
+IsMadeBy (task.Status t) more = more ≡ []
+
+-- from one history of the host to a later one
+abbrev pub MakesFor : Task → Option (List Made) → Option (List Made) → Type 0
+MakesFor t had has = (more : List Made) × Passes had has more × IsMadeBy t more
+
+-- what is made for words: what is for the task that they name, and else nothing
+abbrev pub Makes : List (List ℕ) → Option (List Made) → Option (List Made) → Type 0
+Makes words had has = Passes had has [] ⊎ ((t : Task) × IsTask words t × MakesFor t had has)
+
+-- so it is for all words that a program is called with, of which the first is its own name
+abbrev pub MakesCalled : Result (List (List ℕ)) WordsFault → Option (List Made) → Option (List Made) → Type 0
+MakesCalled (Ok words) had has = Makes (drop 1 words) had has
+MakesCalled (Err fault) had has = Passes had has []
