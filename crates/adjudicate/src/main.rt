@@ -10,7 +10,7 @@
 //! judge FEN` here, which leaves it in `out/adjudicate`. Unproved, to try something: `rt try -- judge FEN`.
 #![tactic(auto)]
 
-use adjudicate_core::{WordsFault, refuse_memory, run_program};
+use adjudicate_core::{System, WordsFault, refuse_memory, run_program};
 use std::env::{Env, FillError};
 use std::process::ExitCode;
 use std::{env, io};
@@ -68,12 +68,17 @@ fn main(rt: HostRuntime) -> ExitCode {
     let Ok(mut errors) = BufferedOutput::new(rt.alloc(), rt.stderr()) else {
         return ExitCode::from(refuse_memory(&mut io::writer(&rt)).unwrap_or(1));
     };
+    let (host, mut history) = SystemHost::new(&rt, rt.stderr());
+    let system = System {
+        disk: &SystemDisk::new(&rt, rt.stderr()),
+        input: &SystemInput::new(&rt),
+        host: &host,
+    };
     let answered = run_program(
         rt.alloc(),
         &words_of(&rt),
-        &SystemDisk::new(&rt, rt.stderr()),
-        &SystemInput::new(&rt),
-        &SystemHost::new(&rt, rt.stderr()),
+        &system,
+        &mut history,
         &mut out,
         &mut errors,
     );

@@ -11,7 +11,7 @@ use std::rt::Files;
 use std::time::{Clock, Duration};
 use system_io::{
     Arrival, BindFault, Host, LockFault, MadeSocketCall, MemoryPort, MemorySocket, Passage, Port,
-    Recipient, SystemHost, Turn, UdpPort,
+    Recipient, SystemHost, Turn, UdpPort, Unrecorded,
 };
 
 const DATAGRAMS: [&[u8]; 3] = [b"a", b"b", b"c"];
@@ -75,12 +75,17 @@ fn text_at(rt: &impl Abort, alloc: Global, socket: &UdpSocket) -> String {
 }
 
 /// That no port is bound to an address.
-fn expect_unbound<R, W>(rt: &impl Abort, host: &SystemHost<'_, R, W>, alloc: Global, address: &str)
-where
+fn expect_unbound<R, W>(
+    rt: &impl Abort,
+    host: &SystemHost<'_, R, W>,
+    history: &mut Unrecorded,
+    alloc: Global,
+    address: &str,
+) where
     R: Files<File = File> + Net + Clock + AllocGlobal,
     W: io::Write + Copy + Drop,
 {
-    let port = host.bind(alloc, address, &[]);
+    let port = host.bind(alloc, history, address, &[]);
     check_same(rt, matches!(port, Err(BindFault::Unbound)), true, address);
 }
 
@@ -88,10 +93,10 @@ where
 #[test]
 fn binds_no_taken_or_bad_address(rt: HostRuntime) {
     let socket = bound(&rt);
-    let host = SystemHost::new(&rt, rt.stderr());
+    let (host, mut history) = SystemHost::new(&rt, rt.stderr());
     let taken = text_at(&rt, rt.alloc(), &socket);
     for address in [taken.as_str(), "127.0.0.1", "127.0.0.1:65536"] {
-        expect_unbound(&rt, &host, rt.alloc(), address);
+        expect_unbound(&rt, &host, &mut history, rt.alloc(), address);
     }
 }
 
@@ -216,8 +221,8 @@ const BESIDE: &str = "/tmp/checks-test-lock.lock";
 fn locks_nothing_beside_a_folder(rt: HostRuntime) {
     let _left = fs::remove_dir_all(&rt, FOLDER).is_ok();
     fs::create_dir(&rt, FOLDER).expect(&rt, "a folder");
-    let host = SystemHost::new(&rt, sink());
-    let lock = host.lock(rt.alloc(), BESIDE);
+    let (host, mut history) = SystemHost::new(&rt, sink());
+    let lock = host.lock(rt.alloc(), &mut history, BESIDE);
     check_same(&rt, matches!(lock, Err(LockFault::Failed)), true, BESIDE);
     let stands = fs::exists(&rt, BESIDE).expect(&rt, "a folder");
     check_same(&rt, stands, false, BESIDE);
@@ -241,21 +246,21 @@ fn sends_to_an_address_of_its_kind(rt: HostRuntime) {
 /// A lock is given once at a time, and again where it was let go.
 #[test]
 fn locks_once_at_a_time(rt: HostRuntime) {
-    let host = SystemHost::new(&rt, rt.stderr());
-    let first = host.lock(rt.alloc(), "kept.lock");
+    let (host, mut history) = SystemHost::new(&rt, rt.stderr());
+    let first = host.lock(rt.alloc(), &mut history, "kept.lock");
     check_same(&rt, first.is_ok(), true, "a lock");
-    let second = host.lock(rt.alloc(), "kept.lock");
+    let second = host.lock(rt.alloc(), &mut history, "kept.lock");
     check_same(&rt, matches!(second, Err(LockFault::Held)), true, "held");
     drop(first);
     check_same(
         &rt,
-        host.lock(rt.alloc(), "kept.lock").is_ok(),
+        host.lock(rt.alloc(), &mut history, "kept.lock").is_ok(),
         true,
         "again",
     );
     check_same(
         &rt,
-        host.lock(rt.alloc(), "no/kept.lock").is_err(),
+        host.lock(rt.alloc(), &mut history, "no/kept.lock").is_err(),
         true,
         "no folder",
     );

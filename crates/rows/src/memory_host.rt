@@ -132,6 +132,10 @@ impl<'a> MemoryHost<'a> {
     }
 }
 
+/// The history of such a host, which isn't written down.
+#[derive(Drop)]
+pub(crate) struct Unwritten {}
+
 /// Whether this is the only address.
 fn is_only(addresses: &[&str], address: &str) -> bool {
     match addresses {
@@ -147,17 +151,22 @@ impl<'a> Host for MemoryHost<'a> {
 
     type Lock = ();
 
-    ghost use Rattle.std.specs.Prelude.{◌≡◌, false};
+    type History = Unwritten;
+
+    ghost use Rattle.std.specs.Prelude.{◌≡◌, None, false};
     ghost use Rattle.system_io.specs.declared.host.LockFault.TheVariants.{Held};
     ghost use Rattle.system_io.specs.OutputLaws.{untold};
 
     ghost facts = { λ _. record { is_told = false; binds = λ _ _ _. Unit {0}; listens = λ _ _. Unit {0}; refuses = λ _ _. Unit {0}; is_at = λ _ _. Unit {0}; takes_memory = λ _. Unit {0}; gives_lock = λ _. Unit {0}; bars = λ _ fault. fault ≡ Held } };
+
+    ghost made = { λ _. None };
 
     ghost one = { λ _ told. untold told };
 
     fn bind(
         &self,
         _alloc: Global,
+        _history: &mut Unwritten,
         address: &str,
         to: &[&str],
     ) -> Result<WaitingPort<'a>, BindFault> {
@@ -175,11 +184,23 @@ impl<'a> Host for MemoryHost<'a> {
         Some(SocketAddr::new(IpAddr::V4(Ipv4Addr::new(127, 0, 0, 1)), 7701))
     }
 
-    fn file(&self, alloc: Global, _path: &str) -> Result<DiskFile, AllocError> {
+    fn file(
+        &self,
+        alloc: Global,
+        _history: &mut Unwritten,
+        _path: &str,
+    ) -> Result<DiskFile, AllocError> {
         self.on_disk(alloc)
     }
 
-    fn lock(&self, _alloc: Global, _path: &str) -> Result<(), LockFault> {
+    fn lock(
+        &self,
+        _alloc: Global,
+        _history: &mut Unwritten,
+        _path: &str,
+    ) -> Result<(), LockFault> {
         Ok(())
     }
+
+    fn note(&self, _line: &str) {}
 }

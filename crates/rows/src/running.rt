@@ -6,7 +6,8 @@ use crate::paper::Paper;
 use crate::report::{check_end, check_errors, check_output, check_refused, check_text, note_call};
 use crate::shelf::parted;
 use crate::system::tell_system;
-use adjudicate_core::{Task, Usage, parse, run};
+use crate::memory_host::Unwritten;
+use adjudicate_core::{System, Task, Usage, parse, run};
 use line_teller::tell_lines;
 use row_calls::{Fault, Given, tell_call};
 use std::alloc::{AllocError, Global};
@@ -20,12 +21,16 @@ fn ended_over(
     output: &mut Paper,
     errors: &mut Paper,
 ) -> Result<u8, WriteFault> {
+    let system = System {
+        disk,
+        input: &case.input(),
+        host: &case.host(),
+    };
     run(
         alloc,
         &case.words,
-        disk,
-        &case.input(),
-        &case.host(),
+        &system,
+        &mut Unwritten {},
         output,
         errors,
     )
