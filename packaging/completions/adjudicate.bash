@@ -39,7 +39,7 @@ _adjudicate()
         DIR) compopt -o filenames; mapfile -t COMPREPLY < <(compgen -d -- "$word") ;;
         FILE) compopt -o filenames; mapfile -t COMPREPLY < <(compgen -f -- "$word") ;;
         M) mapfile -t COMPREPLY < <(compgen -W '1 2' -- "$word") ;;
-        FORM) mapfile -t COMPREPLY < <(compgen -W 'all changes' -- "$word") ;;
+        FORM) mapfile -t COMPREPLY < <(compgen -W 'all changes none' -- "$word") ;;
     esac
 }
 

@@ -35,7 +35,7 @@ const USAGE: &str = "usage: adjudicate judge [--tables DIR] [--manifest FILE] FE
        adjudicate enter --name N --start FEN --tables DIR [--manifest FILE] [--delay N] --games DIR
        adjudicate enter --from FILE --tables DIR [--manifest FILE] --games DIR
        adjudicate host --games DIR --tables DIR [--manifest FILE] --me M --bind ADDR --to ADDR[,ADDR]
-                       [--at-once N] [--cache N] [--datagrams N] [--log FORM] [--key FILE]
+                       [--at-once N] [--cache N] [--datagrams N] [--log FORM] [--log-failures-ignored] [--key FILE]
        adjudicate version
        adjudicate --version
 ";
