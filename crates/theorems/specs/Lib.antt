@@ -5,3 +5,4 @@ pub mod Seals
 pub mod HostFiles
 pub mod Listens
 pub mod FileWeaves
+pub mod Recording

@@ -14,7 +14,9 @@
 //! In `proofs/`: `Netting` (arbiters), `Seeing` (keepers of any type, seen as what they keep), `Weaving` (an act of a host as
 //! steps of an arbiter), `Stopping`, `Joining`, `Acking`, `Filing` and `FileWeaving` (hosts over files), `Listening`.
 //!
-//! Definitions, in reading order: `Nets`, `Weaves`, `Listens`, `HostFiles`, `FileWeaves`, `Sources`, `Seals`.
+//! `Recording` is a host that records what is made at it: so the clauses of `Host` on histories are those of one.
+//!
+//! Definitions, in reading order: `Nets`, `Weaves`, `Listens`, `HostFiles`, `FileWeaves`, `Sources`, `Seals`, `Recording`.
 //!
 //! - CLAIM: `arbiters_are_worlds`: two arbiters of one game over keepers of any one type, by steps as the contracts of `open` and
 //!   `deliver` have them, come to a world, which is faithful to the game.
@@ -43,6 +45,7 @@ mod arbiters;
 mod host_files;
 mod hosts;
 mod listens;
+mod recording;
 mod seals;
 mod sources;
 
@@ -50,5 +53,6 @@ pub use arbiters::{arbiters_are_worlds, arbiters_tell_the_truth};
 pub use host_files::{host_keeps_what_it_told, hosts_over_files};
 pub use hosts::{acks_are_found, fronts_are_runs, hosts_are_worlds, hosts_tell_the_truth};
 pub use listens::{listen_beside_a_host, listens_are_hosted, listens_are_worlds};
+pub use recording::{MadeAt, Recorded, Recording};
 pub use seals::no_tag_no_forgery;
 pub use sources::{sends_the_log, sources_tell_the_truth};
