@@ -60,20 +60,26 @@ module _ (taken : Taken) where
 
   -- for a datagram that came and was answered
   pub made_by_one : (a b c : PortFacts) (datagram : List ℕ) (outputs : List Message) (old new : Option (List Made)) → Passed a b (Came datagram ∷ []) → Passed b c (flat_map (handed b.addresses) outputs) → MakesFor taken datagram old new → MakesWhile taken a c old new
-  made_by_one a b c datagram outputs old new came sent (more, is, passes) =
-      (more, record {
-        passing = Came datagram ∷ flat_map (handed b.addresses) outputs;
-        passed = Passed-trans a b c (Came datagram ∷ []) (flat_map (handed b.addresses) outputs) came sent;
-        are = (more, [], is, sym (append-nil more), none_handed b.addresses outputs);
-      }, passes)
+  made_by_one a b c datagram outputs old new came sent (more, is, passes) = (
+    more,
+    record {
+      passing = Came datagram ∷ flat_map (handed b.addresses) outputs;
+      passed = Passed-trans a b c (Came datagram ∷ []) (flat_map (handed b.addresses) outputs) came sent;
+      are = (more, [], is, sym (append-nil more), none_handed b.addresses outputs);
+    },
+    passes,
+  )
 
   pub made_then : (a b c : PortFacts) (x y z : Option (List Made)) → MakesWhile taken a b x y → MakesWhile taken b c y z → MakesWhile taken a c x z
-  made_then a b c x y z (first, one, passes) (later, two, goes) =
-      (first ++ later, record {
-        passing = one.passing ++ two.passing;
-        passed = Passed-trans a b c one.passing two.passing one.passed two.passed;
-        are = made_on one.passing two.passing first later one.are two.are;
-      }, Passes-trans x y z first later passes goes)
+  made_then a b c x y z (first, one, passes) (later, two, goes) = (
+    first ++ later,
+    record {
+      passing = one.passing ++ two.passing;
+      passed = Passed-trans a b c one.passing two.passing one.passed two.passed;
+      are = made_on one.passing two.passing first later one.are two.are;
+    },
+    Passes-trans x y z first later passes goes,
+  )
 
 -- so it is of a server that goes on
 pub made_more : {G K : Type 0} (folder : FolderFacts G K) (start now : ServerView G K) (a b c : PortFacts) (x y z : Option (List Made)) → Stays folder start now

@@ -6,7 +6,7 @@ use Rattle.std.proofs.lemmas.Bool.{cases_eq, eq-eqb}
 use Rattle.std.proofs.lemmas.Bool.Decides.{Decides-eqb}
 use Rattle.std.proofs.lemmas.List.{length-set, get_or-set_same, get_or-set_other}
 use Rattle.std.proofs.lemmas.Slice.Eq.{bytes_eq-Decides}
-use Rattle.std.specs.Prelude.{Result}
+use Rattle.std.specs.Prelude.{Result, Ok}
 use Rattle.std.specs.Int.{is_power_of_two}
 use Rattle.move_msg.specs.TextLines.{ended}
 use Rattle.system_io.specs.declared.output.WriteFault.{WriteFault}
@@ -15,8 +15,9 @@ use Rattle.arbiter_server.specs.declared.line_log.LineLog.{LineLog}
 use Rattle.arbiter_server.specs.declared.line_log.LineLog.TheVariants as logs
 use Rattle.arbiter_server.specs.declared.line_log.LogForm.{LogForm}
 use Rattle.arbiter_server.specs.declared.line_log.LogForm.TheVariants as form
-use Rattle.arbiter_server.specs.GoingOut.{LinesEnd, Writers}
-use Rattle.arbiter_server.specs.LineLogs.{RemembersAll, TellsChange, TellsLine, count_of, counted, form_of, is_kind, kind_of, last_at, most, one_more, picked, picked_by, place_of}
+use Rattle.arbiter_server.specs.GoingOut.{GoOut, LinesEnd, Writers}
+use Rattle.arbiter_server.specs.LineLogs.{Remembers, RemembersAll, TellsChange, TellsLine, count_of, counted, form_of, is_kind, kind_of, last_at, most, one_more, picked, picked_by, place_of}
+use Rattle.arbiter_server.proofs.GoingLaws.{none_out}
 use Rattle.arbiter_server.specs.Remembering.{Remembered}
 
 -- a number counted on, of which no more than the most is kept
@@ -156,4 +157,12 @@ tells_by_change w before log was now line out out' r is told = record {
   lines = subst (λ (f : LogForm). LinesEnd w out (picked f before line) out' r) (sym (ap form_of is)) told.lines;
   after = told.after;
   same = sym (ap form_of is);
+}
+
+-- a log of nothing tells nothing
+pub tells_nothing : {W T : Type 0} (w : Writers W) (before : List (List ℕ)) (log : LineLog) (line : List ℕ) (out : W) (x : T) → log ≡ logs.Nothing → TellsLine w before log log line out out (Ok x)
+tells_nothing w before log line out x is = record {
+  lines = subst (λ (f : LogForm). GoOut w out (picked f before line) out) (sym (ap form_of is)) (none_out w out);
+  after = subst (λ (l : LineLog). Remembers l (ended line ∷ before)) (sym is) tt;
+  same = refl;
 }

@@ -29,7 +29,7 @@ MakesForMessage taken message old new = (datagram : List ℕ) → heard_in datag
 -- so it is for each datagram that came to a port, in order
 abbrev pub AreMadeFor : Taken → List Passing → List Made → Type 0
 AreMadeFor taken [] more = more ≡ []
-AreMadeFor taken (Came datagram ∷ passing) more = (first : List Made) (rest : List Made) × IsMadeFor taken datagram first × (more ≡ first ++ rest) × AreMadeFor taken passing rest
+AreMadeFor taken (Came datagram ∷ passing) more = (first : List Made) × (rest : List Made) × IsMadeFor taken datagram first × (more ≡ first ++ rest) × AreMadeFor taken passing rest
 AreMadeFor taken (Quiet ∷ passing) more = AreMadeFor taken passing more
 AreMadeFor taken (Missed ∷ passing) more = AreMadeFor taken passing more
 AreMadeFor taken (Handed to bytes ∷ passing) more = AreMadeFor taken passing more

@@ -81,7 +81,8 @@ fn expect_unbound<R, W>(
     history: &mut Unrecorded,
     alloc: Global,
     address: &str,
-) where
+)
+where
     R: Files<File = File> + Net + Clock + AllocGlobal,
     W: io::Write + Copy + Drop,
 {

@@ -193,12 +193,7 @@ impl<'a> Host for MemoryHost<'a> {
         self.on_disk(alloc)
     }
 
-    fn lock(
-        &self,
-        _alloc: Global,
-        _history: &mut Unwritten,
-        _path: &str,
-    ) -> Result<(), LockFault> {
+    fn lock(&self, _alloc: Global, _history: &mut Unwritten, _path: &str) -> Result<(), LockFault> {
         Ok(())
     }
 

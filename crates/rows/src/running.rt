@@ -2,11 +2,11 @@
 
 use crate::case::{Call, Case};
 use crate::counting::Counting;
+use crate::memory_host::Unwritten;
 use crate::paper::Paper;
 use crate::report::{check_end, check_errors, check_output, check_refused, check_text, note_call};
 use crate::shelf::parted;
 use crate::system::tell_system;
-use crate::memory_host::Unwritten;
 use adjudicate_core::{System, Task, Usage, parse, run};
 use line_teller::tell_lines;
 use row_calls::{Fault, Given, tell_call};
