@@ -1,9 +1,10 @@
 -- A path in its parts.
 use Rattle.std.proofs.Common.{◌≡◌, ◌<◌, ◌++◌, ℕ, List, [], ◌∷◌, length, codes, Option, Some, None, arith, length-append, refl, sym, subst, ap, ◌∙◌}
-use Rattle.std.specs.Prelude.{IfNone, Ok, Result}
-use Rattle.hex.specs.Hex.{decode_sized, encode_lower, lower_digits}
-use Rattle.hex.proofs.HexLemmas.{decode_sized-encode_lower, length-encode_with}
-use Rattle.adjudicate_core.specs.GamePaths.{IsFolderFront, IsStamp, NamesGame}
+use Rattle.std.specs.Prelude.{IfNone}
+use Rattle.hex.specs.Hex.{encode_lower, lower_digits}
+use Rattle.hex.proofs.HexLemmas.{length-encode_with}
+use Rattle.game_status.specs.Listings.{IsStamp}
+use Rattle.adjudicate_core.specs.GamePaths.{IsFolderFront, NamesGame}
 
 same_parts : (a x b y : List ℕ) → length a ≡ length x → a ++ b ≡ x ++ y → (a ≡ x) × (b ≡ y)
 same_parts [] [] b y same e = (refl, e)
@@ -59,10 +60,3 @@ pub too_short_to_end : (path stamp : List ℕ) → length path < 5 → NamesGame
 too_short_to_end path stamp short n =
     let parts : length path ≡ length (n.front ++ encode_lower stamp ++ codes ".game") = ap length n.is in
     omega (arith, short, parts, length-append (n.front ++ encode_lower stamp) (codes ".game"))
-
--- what the digits of a stamp decode to
-pub decodes : (digits stamp : List ℕ) → IsStamp stamp → digits ≡ encode_lower stamp → decode_sized digits 16 ≡ Ok stamp
-decodes digits stamp is e = ap (λ d. decode_sized d 16) e ∙ decode_sized-encode_lower stamp 16 is.0 is.1
-
-pub same_ok : {E : Type 0} (a b : List ℕ) → ◌≡◌ {A = Result (List ℕ) E} (Ok a) (Ok b) → a ≡ b
-same_ok a b e = cc

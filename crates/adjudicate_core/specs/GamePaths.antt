@@ -1,10 +1,7 @@
 -- Paths of games' files: a game's stamp is the name of its file (this project's own).
 use Rattle.std.specs.Prelude.{◌≡◌, ◌⊎◌, ◌++◌, ℕ, List, [], ◌∷◌, length, codes}
-use Rattle.hex.specs.Hex.{IsBytes, encode_lower}
-
--- 16 bytes
-abbrev pub IsStamp : List ℕ → Type 0
-IsStamp stamp = (length stamp ≡ 16) × IsBytes stamp
+use Rattle.hex.specs.Hex.{encode_lower}
+use Rattle.game_status.specs.Listings.{IsStamp}
 
 -- nothing, or the path of a folder with a slash
 abbrev pub IsFolderFront : List ℕ → Type 0

@@ -1,35 +1,10 @@
 //! Paths of games' files.
 
 ghost use Rattle.std.specs.Prelude.{◌≡◌, ◌↔◌, ◌++◌, ℕ, List, length, codes, IfSome, IfNone, IsTrue};
-ghost use Rattle.hex.specs.Hex.{encode_lower};
-ghost use Rattle.adjudicate_core.specs.GamePaths.{IsFolderFront, IsStamp, NamesGame};
+ghost use Rattle.adjudicate_core.specs.GamePaths.{IsFolderFront, NamesGame};
 
-use hex::FromHex;
+use game_status::stamp_of;
 use move_msg::Stamp;
-
-/// Whether digits are the lower-case hexadecimal ones of some bytes.
-fn is_lower(bytes: &[u8; 16], digits: &[u8]) -> bool
-    ensures { IsTrue result ↔ (digits.now ≡ encode_lower bytes.now) }
-{
-    let mut written = [0; 32];
-    hex::encode_to_slice(bytes, &mut written).unwrap();
-    digits == written.as_slice()
-}
-
-/// The stamp that 32 lower-case hexadecimal digits spell.
-fn stamp_of(digits: &[u8]) -> Option<Stamp>
-    ensures some { IfSome result (λ stamp. IsStamp stamp.0 × (digits.now ≡ encode_lower stamp.0)) }
-    ensures none { IfNone result ((stamp : List ℕ) → IsStamp stamp → digits.now ≡ encode_lower stamp → ⊥) }
-{
-    let Ok(bytes) = <[u8; 16]>::from_hex(digits) else {
-        return None;
-    };
-    if is_lower(&bytes, digits) {
-        Some(Stamp(bytes))
-    } else {
-        None
-    }
-}
 
 /// Whether a path up to its last name is nothing, or ends in a slash.
 fn is_folder_front(front: &[u8]) -> bool
@@ -51,7 +26,10 @@ fn stamp_behind(path: &[u8]) -> Option<Stamp>
     }
     let (front, digits) = path.split_at(path.len() - 32);
     if is_folder_front(front) {
-        stamp_of(digits)
+        match stamp_of(digits) {
+            Some(bytes) => Some(Stamp(bytes)),
+            None => None,
+        }
     } else {
         None
     }

@@ -10,7 +10,7 @@
 //! `binding`, `game_name` run the commands that touch ports and files.
 //!
 //! Definitions, in reading order: `Rules`, `Tasks`, `Misuses`, `Uses` for words; `Looks`, `Lines`, `Reply`, `Commands`,
-//! `Schedules`, `LineAnswers`, `Audits` for answers; `Listens`, `Manifests`, `Sends`, `Entries`, `Enters`, `Hostings` for runs;
+//! `Schedules`, `LineAnswers`, `Audits` for answers; `Listens`, `Manifests`, `Sends`, `Entries`, `Enters`, `Hostings`, `Makes` for runs;
 //! `Running` (`Performs`, `Called`) for all. Its cases stand in `rows`.
 //!
 //! - CLAIM: `parse`, clauses `ok`, `misuse`, `named`: where the words name a task it is what they say, by the matches of `clap`.
@@ -20,8 +20,12 @@
 //! - CLAIM: `run`, clause `runs`; `run_program`: where a status is returned, the program on its words answers the task that they
 //!   name over what it read, or one of its sources failed (`refused files`), or memory was refused, or the words are misused and
 //!   nothing is written. The definition of each command's answer is in `AnswersFrom`. Of a call that ends with the writer's error
-//!   only `quiet` speaks. For `list`, `check`, `status`, `run`, `probes`, `root`, `host` and the list of `enter` refused memory has no
-//!   cause.
+//!   only `quiet` and `made` speak. For `list`, `check`, `status`, `audit --games`, `run`, `probes`, `root`, `host` and the list of
+//!   `enter` refused memory has no cause.
+//! - CLAIM: `run`, clause `made`; `run_program`, clause `made`: at the host nothing is opened but what `IsMadeBy` has of the task, whatever
+//!   it comes to: `listen` opens its port, the lock and the kept file, `send` its port, `host` the lock, its port and files of records,
+//!   `enter` files of games. Which of these it has opened where it ends so, and that a record's file is opened once for each Move or
+//!   Fetch at most, is in `Listens`, `Sends`, `HostsGames`.
 //! - CLAIM: `run`, clauses `runs`, `quiet`; `run_program`: for a misuse standard error gets one line of printing bytes (none
 //!   where help is asked for) and then the usage, of which no clause speaks, or as much of these as it takes. It gets bytes for
 //!   nothing else but for a task with progress.

@@ -35,7 +35,7 @@ pub use audit_lines::{AuditLook, Unsound};
 pub use comparing::Compared;
 pub use entry::{Entry, EntryFault};
 pub use game_audit::{AuditTables, tell_audit};
-pub use listing::{Folder, Folders};
+pub use listing::{Folder, Folders, stamp_of};
 pub use side::Side;
 pub use status::tell_status;
 pub use status_lines::Look;

@@ -12,8 +12,8 @@ use std::alloc::{AllocError, Global};
 use std::collections::BTreeSet;
 use system_io::{Disk, ReadFault};
 
-/// The stamp with these 32 lower-case hexadecimal digits.
-fn stamp_of(digits: &[u8]) -> Option<[u8; 16]>
+/// The stamp with these 32 lower-case hexadecimal digits; none where they are no such digits.
+pub fn stamp_of(digits: &[u8]) -> Option<[u8; 16]>
     ensures some { IfSome result (λ stamp. IsStamp stamp × (digits.now ≡ encode_lower stamp)) }
     ensures none { IfNone result ((stamp : List ℕ) → IsStamp stamp → digits.now ≡ encode_lower stamp → ⊥) }
 {
