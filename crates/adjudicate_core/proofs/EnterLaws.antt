@@ -10,6 +10,7 @@ use Rattle.move_msg.proofs.LineLaws.{more_lines}
 use Rattle.move_msg.specs.declared.stamp.Stamp.{Stamp}
 use Rattle.system_io.specs.Disks.{DiskFacts}
 use Rattle.system_io.specs.Inputs.{InputFacts}
+use Rattle.system_io.specs.Failures.{Risen}
 use Rattle.system_io.specs.KeptFiles.{IsOneOfFound, KeptFacts}
 use Rattle.system_io.specs.declared.reading.ReadFault.{ReadFault}
 use Rattle.line_teller.specs.ToldLines.{LineTold, WritesTold, all_told, refused_memory, words_told}
@@ -35,9 +36,9 @@ pub found_kept : {F : Type 0} (facts : F → KeptFacts) (file mid file' : F) (fo
 found_kept facts file mid file' found text (Ok u) one keeps lasts h = found_has facts file mid file' found text one keeps lasts h
 found_kept facts file mid file' found text (Err fault) one keeps lasts h = tt
 
-pub found_unkept : {F : Type 0} (facts : F → KeptFacts) (file file' : F) (found : Option (List ℕ)) (text : List ℕ) (r : Result Unit KeepFault) → IsOneOfFound (facts file) found → IfErr r (LacksOver facts file' found text) → IfErr r (LacksText facts file file' text)
-found_unkept facts file file' found text (Ok u) one h = tt
-found_unkept facts file file' found text (Err fault) one h = Failed found one h.other h.either h.is
+pub found_unkept : {F : Type 0} (facts : F → KeptFacts) (file mid file' : F) (found : Option (List ℕ)) (text : List ℕ) (r : Result Unit KeepFault) → IsOneOfFound (facts file) found → (facts mid).faults ≡ (facts file).faults → IfErr r (LacksOver facts mid file' found text) → IfErr r (LacksText facts file file' text)
+found_unkept facts file mid file' found text (Ok u) one same h = tt
+found_unkept facts file mid file' found text (Err fault) one same h = Failed found one h.other h.either (subst (λ (n : ℕ). Risen n (facts file').faults) same h.failed) h.is
 
 pub kept_at : {P F : Type 0} (host : Hosted P F) (path text : List ℕ) (file file' : F) (r : Result Unit KeepFault) → host.host.is_at path file → OnOk r (HasText host.file file file' text) → OnOk r (HasTextAt host path text)
 kept_at host path text file file' (Ok u) at h = record { file = file; after = file'; at = at; has = h }

@@ -11,6 +11,7 @@ use Rattle.move_msg.specs.TextLines.{ended, lines_in, text_of}
 use Rattle.system_io.specs.declared.output.WriteFault.{WriteFault}
 use Rattle.system_io.specs.declared.reading.ReadFault.TheVariants as read
 use Rattle.system_io.specs.Disks.{AtFile, DiskFacts}
+use Rattle.system_io.specs.Failures.{Risen}
 use Rattle.system_io.specs.Inputs.{InputFacts}
 use Rattle.system_io.specs.KeptFiles.{CannotStart, FindsOldOrNew, IsOneOfFound, KeptFacts}
 use Rattle.arbiter_server.specs.GameFolders.{game_path, stamp_for}
@@ -48,12 +49,12 @@ pub data HasText {F : Type 0} (facts : F → KeptFacts) (file file' : F) (text :
   Left : IsOneOfFound (facts file) (Some text) → ((a b : Option (List ℕ)) → (facts file).finds a b → (facts file').finds a b) → (facts file').finds (Some text) (Some text) → HasText facts file file' text
   Put : (found : Option (List ℕ)) → IsOneOfFound (facts file) found → found ≢ Some text → (facts file').finds (Some text) (Some text) → HasText facts file file' text
 
--- why it hasn't: it can't be brought to the disk or read; or the text can't take its place, and a start finds what was there before,
--- or the text
+-- why it hasn't: it can't be brought to the disk or read; or the text can't take its place, since a call for the file failed, and a start
+-- finds what was there before, or the text
 pub data LacksText {F : Type 0} (facts : F → KeptFacts) (file file' : F) (text : List ℕ) (fault : KeepFault) : Type 0 where
   Unreadable : CannotStart (facts file) read.Unreadable → fault ≡ keep.Keeper → LacksText facts file file' text fault
   NoRoomToRead : CannotStart (facts file) read.OutOfMemory → fault ≡ keep.OutOfMemory → LacksText facts file file' text fault
-  Failed : (found : Option (List ℕ)) → IsOneOfFound (facts file) found → found ≢ Some text → FindsOldOrNew (facts file') found text → fault ≡ keep.Keeper → LacksText facts file file' text fault
+  Failed : (found : Option (List ℕ)) → IsOneOfFound (facts file) found → found ≢ Some text → FindsOldOrNew (facts file') found text → Risen (facts file).faults (facts file').faults → fault ≡ keep.Keeper → LacksText facts file file' text fault
 
 -- so it is of the file at this path
 pub record HasTextAt {P F : Type 0} (host : Hosted P F) (path text : List ℕ) : Type 0 where

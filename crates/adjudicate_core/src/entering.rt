@@ -85,7 +85,7 @@ fn keep_over<F: KeptFile>(
 ) -> Result<(), KeepFault>
     requires { (F.facts file.old).finds (bytes_of found.now) (bytes_of found.now) }
     ensures ok { OnOk result (HasOver F.facts file.old file.new (bytes_of found.now) text.now) }
-    ensures err { IfErr result (LacksOver F.facts file.new (bytes_of found.now) text.now) }
+    ensures err { IfErr result (LacksOver F.facts file.old file.new (bytes_of found.now) text.now) }
 {
     if has_bytes(found, text) {
         return Ok(());

@@ -6,6 +6,7 @@ use Rattle.move_msg.specs.TextLines.{ended}
 use Rattle.system_io.specs.Histories.{Passes}
 use Rattle.system_io.specs.Hosts.{HostFacts, Made}
 use Rattle.system_io.specs.Ports.{PortFacts}
+use Rattle.system_io.specs.Failures.{Risen}
 use Rattle.system_io.specs.KeptFiles.{FindsOldOrNew, KeptFacts}
 use Rattle.line_teller.specs.ToldLines.{WritesTold, refused_memory}
 use Rattle.adjudicate_core.specs.declared.entering.GamePlace.{GamePlace}
@@ -27,10 +28,11 @@ pub data HasOver {F : Type 0} (facts : F → KeptFacts) (file file' : F) (found 
   Same : found ≡ Some text → file' ≡ file → HasOver facts file file' found text
   Replaced : found ≢ Some text → (facts file').finds (Some text) (Some text) → HasOver facts file file' found text
 
--- that fails
-pub record LacksOver {F : Type 0} (facts : F → KeptFacts) (file' : F) (found : Option (List ℕ)) (text : List ℕ) (fault : KeepFault) : Type 0 where
+-- that fails, as a call for the file does
+pub record LacksOver {F : Type 0} (facts : F → KeptFacts) (file file' : F) (found : Option (List ℕ)) (text : List ℕ) (fault : KeepFault) : Type 0 where
   pub other : found ≢ Some text
   pub either : FindsOldOrNew (facts file') found text
+  pub failed : Risen (facts file).faults (facts file').faults
   pub is : fault ≡ keep.Keeper
 
 -- what came of the line with this number is told, and whether its game is entered; or memory was refused for it

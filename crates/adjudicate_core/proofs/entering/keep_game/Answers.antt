@@ -7,7 +7,7 @@ pub returns-in-Ok-clause-ok : goal.returns-in-Ok-clause-ok
 returns-in-Ok-clause-ok g c = found_kept g.F.KeptFile.facts c.args.file.now _ _ _ _ _ c.in-Ok.ensures.one c.in-Ok.ensures.same c.in-Ok.ensures.lasts c.keep_over.ensures.ok
 
 pub returns-in-Ok-clause-err : goal.returns-in-Ok-clause-err
-returns-in-Ok-clause-err g c = found_unkept g.F.KeptFile.facts c.args.file.now _ _ _ _ c.in-Ok.ensures.one c.keep_over.ensures.err
+returns-in-Ok-clause-err g c = found_unkept g.F.KeptFile.facts c.args.file.now _ _ _ _ _ c.in-Ok.ensures.one c.in-Ok.ensures.count c.keep_over.ensures.err
 
 pub returns-in-Err-Unreadable-clause-err : goal.returns-in-Err-Unreadable-clause-err
 returns-in-Err-Unreadable-clause-err g c = Unreadable (rw c.in-Err-Unreadable.field-0-is at c.in-Err-Unreadable.ensures.cause) refl

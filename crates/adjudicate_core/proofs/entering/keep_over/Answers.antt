@@ -14,5 +14,6 @@ pub returns-in-Err-clause-err : goal.returns-in-Err-clause-err
 returns-in-Err-clause-err g c = record {
   other = λ same. false≢true (c.if-has_bytes.ensures.1 same);
   either = c.in-Err.ensures.err (bytes_of c.args.found.now) c.requires;
+  failed = c.in-Err.ensures.count;
   is = refl;
 }
