@@ -1,20 +1,17 @@
 -- What `audit --games` tells is what `audit` tells of the record.
-use Rattle.std.proofs.Common.{◌≡◌, ◌++◌, ◌∙◌, ℕ, List, Bool, true, false, Option, Some, None, length, codes, refl, sym, ap, subst, inl, inr}
+use Rattle.std.proofs.Common.{◌≡◌, ◌++◌, ◌∙◌, ℕ, List, false, Option, Some, None, length, codes, refl, sym, ap, subst, inl, inr}
 use Rattle.std.specs.Prelude.{not}
 use Rattle.hex.specs.Hex.{encode_lower}
 use Rattle.board_core.specs.declared.parts.Parts.{Parts}
 use Rattle.board_core.specs.declared.verdict.Verdict.{Verdict}
 use Rattle.judge_core.specs.Tables.{Tables}
 use Rattle.move_msg.specs.declared.record_bytes.Record.{Record as Records}
-use Rattle.move_msg.specs.Records.{SpellsRecord}
 use Rattle.record_audit.specs.declared.auditing.Finding.{Finding}
 use Rattle.record_audit.specs.declared.auditing.Finding.TheVariants as found
-use Rattle.record_audit.specs.Findings.{IsFound, is_whole, rules_with}
-use Rattle.game_status.specs.declared.audit_lines.AuditLook.{AuditLook}
+use Rattle.record_audit.specs.Findings.{IsFound, rules_with}
 use Rattle.game_status.specs.declared.audit_lines.AuditLook.TheVariants.{Sound, Wrong}
 use Rattle.game_status.specs.declared.audit_lines.Unsound.TheVariants as unsound
 use Rattle.game_status.specs.declared.status_lines.Look.{Look}
-use Rattle.game_status.specs.declared.status_lines.Look.TheVariants as look
 use Rattle.game_status.specs.Comparisons.{mark_by, mark_of}
 use Rattle.game_status.specs.GameAudits.{IsUntrue, IsWhole, kept_finding, mark_of_look, sound_line}
 use Rattle.game_status.specs.Tellings.{is_fault}

@@ -1,6 +1,6 @@
 -- A game's file by what was found in it, and the lines of a list that are entered so far.
 use Rattle.std.proofs.Common.{◌≡◌, ◌≢◌, ◌≤◌, ◌<◌, ◌+◌, ◌++◌, ℕ, Bool, true, false, List, [], ◌∷◌, Option, length, refl, sym, ap, subst, ◌∙◌, append_assoc, append-nil, inl, inr, arith}
-use Rattle.std.specs.Prelude.{◌&&◌, Result, Ok, Err, Some, IfErr, IfOk, OnOk, Vec, codes}
+use Rattle.std.specs.Prelude.{◌&&◌, Result, Ok, Err, IfErr, IfOk, OnOk, Vec, codes}
 use Rattle.std.specs.Global.{Global}
 use Rattle.std.specs.Io.KnownBytes.{Appends}
 use Rattle.std.proofs.KnownBytes.{Appends-nil}

@@ -4,12 +4,14 @@ use Rattle.std.specs.Prelude.{Result, Ok, Err, ◌⊎◌}
 use Rattle.std.specs.List.{AllByRecursion}
 use Rattle.system_io.specs.Disks.{DiskFacts}
 use Rattle.system_io.specs.Histories.{Passes}
-use Rattle.system_io.specs.Hosts.{FileAt, Made}
+use Rattle.system_io.specs.Hosts.{FileAt, LockAt, Made, PortAt}
 use Rattle.system_io.specs.Inputs.{InputFacts}
 use Rattle.system_io.specs.Ports.{Came, Handed, Missed, Passing, PortFacts, Quiet}
 use Rattle.system_io.specs.declared.output.WriteFault.{WriteFault}
 use Rattle.system_io.proofs.HistoryLaws.{Passes-nil, Passes-trans}
 use Rattle.arbiter_core.specs.Setups.{SetupView}
+use Rattle.board_core.specs.declared.parts.Parts.{Parts}
+use Rattle.move_msg.specs.declared.stamp.Stamp.{Stamp}
 use Rattle.arbiter_server.specs.GameFolders.{game_path}
 use Rattle.arbiter_server.specs.Games.{CommonView}
 use Rattle.arbiter_server.specs.Makings.{AreMadeFor, IsMadeFor, MakesOnce, MakesWhile}
@@ -17,8 +19,10 @@ use Rattle.source_core.specs.declared.lines.Ended.{Ended}
 use Rattle.task_files.specs.Given.{Given}
 use Rattle.adjudicate_core.specs.Hostings as hosting
 use Rattle.adjudicate_core.specs.Inside.Entering.{MakesEntries, MakesGame, MakesGames}
+use Rattle.adjudicate_core.specs.Addresses.{addresses_of}
 use Rattle.adjudicate_core.specs.Listens as listening
-use Rattle.adjudicate_core.specs.Makes.{IsFrontOf, IsGameIn, IsMadeBy, IsOfEntries, IsOfHost, IsRecordIn, MakesCalled, MakesFor, before_games, of_listen, of_send}
+use Rattle.adjudicate_core.specs.Locks.{kept_lock}
+use Rattle.adjudicate_core.specs.Makes.{IsFrontOf, IsGameIn, IsMadeBy, IsOfEntries, IsRecordIn, MakesCalled, MakesFor, before_games, of_listen, of_send}
 use Rattle.adjudicate_core.specs.Sends as sending
 use Rattle.adjudicate_core.specs.declared.commands.Task.{Task}
 use Rattle.adjudicate_core.specs.declared.commands.Task.TheVariants as task
@@ -65,7 +69,7 @@ makes_nothing t had = ([], Passes-nil had, nothing_by t)
 
 -- ---- the first of some
 
-Within : List Made → Option (List Made) → Option (List Made) → Type 0
+abbrev Within : List Made → Option (List Made) → Option (List Made) → Type 0
 Within all had has = (more : List Made) × Passes had has more × IsFrontOf all more
 
 within_none : (all : List Made) (had has : Option (List Made)) → Passes had has [] → Within all had has
@@ -75,7 +79,7 @@ within_last : (all : List Made) (made : Made) (had has : Option (List Made)) →
 within_last all made had has one = (made ∷ [], one, (all, refl))
 
 within_more : (all : List Made) (made : Made) (had between has : Option (List Made)) → Passes had between (made ∷ []) → Within all between has → Within (made ∷ all) had has
-within_more all made had between has one (more, passes, rest, is) = (made ∷ more, Passes-trans had between has (made ∷ []) more one passes, (rest, ap (λ (l : List Made). made ∷ l) is))
+within_more all made had between has one (more, passes, (rest, is)) = (made ∷ more, Passes-trans had between has (made ∷ []) more one passes, (rest, ap (λ (l : List Made). made ∷ l) is))
 
 -- ---- `listen`
 
@@ -84,13 +88,13 @@ module _ {P F : Type 0} (host : listening.Hosted P F) (l : Listen) (setup : Setu
   locked_makes S had port port' old new (listening.AtFile made file there h) = within_last [] _ had has made
   locked_makes S had port port' old new (listening.NoRoomForFile made why nothing told) = within_none _ had has made
 
-  at_makes : (S : listening.ServesBy F) (had : Option (List Made)) (port port' : PortFacts) (old new : Option (List ℕ)) → listening.ServesAt host S l setup had has port port' old new r → Within _ had has
+  at_makes : (S : listening.ServesBy F) (had : Option (List Made)) (port port' : PortFacts) (old new : Option (List ℕ)) → listening.ServesAt host S l setup had has port port' old new r → Within (LockAt (kept_lock l.kept.now) ∷ FileAt l.kept.now ∷ []) had has
   at_makes S had port port' old new (listening.InUse made held nothing told) = within_none _ had has made
   at_makes S had port port' old new (listening.NoLock made failed nothing told) = within_none _ had has made
   at_makes S had port port' old new (listening.NoRoomToLock made nothing told) = within_none _ had has made
   at_makes S had port port' old new (listening.Locked between made given h) = within_more _ _ had between has made (locked_makes S between port port' old new h)
 
-  start_makes : {T : Type 0} (seen : listening.Seen F T) (had : Option (List Made)) (port : P) (port' : PortFacts) (old new : T) → listening.StartsAt host seen l setup had has port port' old new r → Within _ had has
+  start_makes : {T : Type 0} (seen : listening.Seen F T) (had : Option (List Made)) (port : P) (port' : PortFacts) (old new : T) → listening.StartsAt host seen l setup had has port port' old new r → Within (LockAt (kept_lock l.kept.now) ∷ FileAt l.kept.now ∷ []) had has
   start_makes seen had port port' old new (listening.Unasked off h) = at_makes (seen.serves old new) had (host.port port) port' (seen.written old) (seen.written new) h
   start_makes seen had port port' old new (listening.NoAddress made on none nothing told) = within_none _ had has made
   start_makes seen had port port' old new (listening.NoRoomForLine made on nothing told) = within_none _ had has made
@@ -110,7 +114,7 @@ listen_makes host seen l given had has old new r (listening.Opened start spells 
 
 -- ---- `send`
 
-bound_sends : {P F : Type 0} (host : listening.Hosted P F) (source : InputFacts) (t : Send) (stamp : _) (start : _) (had has : Option (List Made)) (old new : Option (List ℕ)) (r : Result Ended WriteFault) → sending.BindsAndSends host source t stamp start had has old new r → Within (of_send t) had has
+bound_sends : {P F : Type 0} (host : listening.Hosted P F) (source : InputFacts) (t : Send) (stamp : Stamp) (start : Parts) (had has : Option (List Made)) (old new : Option (List ℕ)) (r : Result Ended WriteFault) → sending.BindsAndSends host source t stamp start had has old new r → Within (of_send t) had has
 bound_sends host source t stamp start had has old new r (sending.Unbound made why told) = within_none _ had has made
 bound_sends host source t stamp start had has old new r (sending.NoRoomToBind made why told) = within_none _ had has made
 bound_sends host source t stamp start had has old new r (sending.Bound made port port' bound each h) = within_last [] _ had has made
@@ -138,7 +142,7 @@ all_records h (Missed ∷ passing) more others = all_records h passing more othe
 all_records h (Handed to bytes ∷ passing) more others = all_records h passing more others
 
 -- some first things, and files of records behind them
-Hosting : HostGames → List Made → Option (List Made) → Option (List Made) → Type 0
+abbrev Hosting : HostGames → List Made → Option (List Made) → Option (List Made) → Type 0
 Hosting h before had has = (more : List Made) × Passes had has more × (IsFrontOf before more ⊎ ((later : List Made) × (more ≡ before ++ later) × AllByRecursion (IsRecordIn h.games.now) later))
 
 hosts_none : (h : HostGames) (before : List Made) (had has : Option (List Made)) → Passes had has [] → Hosting h before had has
@@ -167,7 +171,7 @@ module _ {P F T : Type 0} (host : listening.Hosted P F) (seen : hosting.Seen T) 
   at_hosts t had port port' old new (hosting.Ready own is mid gone run) = now_hosts t had (host.port port) port' mid new run
   at_hosts t had port port' old new (hosting.Unready made own is nothing cut fault failed) = hosts_none h [] had has made
 
-  bound_hosts : (t : CommonView) (had : Option (List Made)) (old new : T) → hosting.BindsAndHosts host seen h t had has old new r → Hosting h _ had has
+  bound_hosts : (t : CommonView) (had : Option (List Made)) (old new : T) → hosting.BindsAndHosts host seen h t had has old new r → Hosting h (PortAt h.bind.now (addresses_of h.to.now) ∷ []) had has
   bound_hosts t had old new (hosting.Unbound made why told) = hosts_none h _ had has made
   bound_hosts t had old new (hosting.NoRoomToBind made why told) = hosts_none h _ had has made
   bound_hosts t had old new (hosting.Bound between made port port' bound each run) = hosts_more h [] _ had between has made (at_hosts t between port (host.port port') old new run)

@@ -1,5 +1,5 @@
 -- What `audit --games` tells is what `audit` tells of the record (this project's own).
-use Rattle.std.specs.Prelude.{◌≡◌, ◌⊎◌, ◌++◌, not, ℕ, List, Option, Some, None, codes}
+use Rattle.std.specs.Prelude.{◌≡◌, ◌⊎◌, ◌++◌, not, ℕ, List, Some, None, codes}
 use Rattle.hex.specs.Hex.{encode_lower}
 use Rattle.judge_core.specs.Tables.{Tables}
 use Rattle.move_msg.specs.declared.record_bytes.Record.{Record as Records}

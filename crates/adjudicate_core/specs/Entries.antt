@@ -2,7 +2,6 @@
 -- tabs.
 use Rattle.std.specs.Prelude.{◌≡◌, ◌≢◌, ℕ, List, [], ◌∷◌, length}
 use Rattle.std.specs.Fmt.{decimal}
-use Rattle.fen_text.specs.declared.fault.FenFault.{FenFault}
 use Rattle.fen_text.specs.Cuts.{cut_at}
 use Rattle.fen_text.specs.Fen.{IsFirstFenFault, SpellsPosition}
 use Rattle.move_msg.specs.Stamps.{IsGameName}

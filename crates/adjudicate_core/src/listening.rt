@@ -105,7 +105,7 @@ fn serve_over<H: Host, W: Output>(
     port: &mut H::Port,
     out: &mut W,
 ) -> Result<u8, WriteFault>
-    ensures { LockedAndWrites (way H.facts H.Port.facts H.File.facts W.contents W.facts at setup.entry) (H.made history.old) (H.made history.new) (H.Port.facts port.old) (H.Port.facts port.new) out.old out.new result }
+    ensures { LockedAndWrites (way H.facts H.Port.facts H.File.facts W.contents W.facts at.entry setup.entry) (H.made history.old) (H.made history.new) (H.Port.facts port.old) (H.Port.facts port.new) out.old out.new result }
 {
     match at.host.file(alloc, history, at.listening.kept) {
         Ok(file) => keep_and_serve(alloc, at.listening, setup, file, port, out),
@@ -123,7 +123,7 @@ fn serve_at<H: Host, W: Output>(
     port: &mut H::Port,
     out: &mut W,
 ) -> Result<u8, WriteFault>
-    ensures { WritesAt (way H.facts H.Port.facts H.File.facts W.contents W.facts at setup.entry) (H.made history.old) (H.made history.new) (H.Port.facts port.old) (H.Port.facts port.new) out.old out.new result }
+    ensures { WritesAt (way H.facts H.Port.facts H.File.facts W.contents W.facts at.entry setup.entry) (H.made history.old) (H.made history.new) (H.Port.facts port.old) (H.Port.facts port.new) out.old out.new result }
 {
     match lock(alloc, at.host, history, at.listening.kept, BESIDE_KEPT) {
         Ok(_lock) => serve_over(alloc, at, setup, history, port, out),
@@ -167,7 +167,7 @@ fn start_at<H: Host, W: Output>(
     port: &mut H::Port,
     out: &mut W,
 ) -> Result<u8, WriteFault>
-    ensures { StartsAndWrites (way H.facts H.Port.facts H.File.facts W.contents W.facts at setup.entry) (H.made history.old) (H.made history.new) port.old (H.Port.facts port.new) out.old out.new result }
+    ensures { StartsAndWrites (way H.facts H.Port.facts H.File.facts W.contents W.facts at.entry setup.entry) (H.made history.old) (H.made history.new) port.old (H.Port.facts port.new) out.old out.new result }
 {
     if !at.listening.ready {
         return serve_at(alloc, at, setup, history, port, out);
@@ -190,7 +190,7 @@ fn bind_and_serve<H: Host, W: Output>(
     history: &mut H::History,
     out: &mut W,
 ) -> Result<u8, WriteFault>
-    ensures { BindsAndWrites (way H.facts H.Port.facts H.File.facts W.contents W.facts at setup.entry) (H.made history.old) (H.made history.new) out.old out.new result }
+    ensures { BindsAndWrites (way H.facts H.Port.facts H.File.facts W.contents W.facts at.entry setup.entry) (H.made history.old) (H.made history.new) out.old out.new result }
 {
     match bind(alloc, at.host, history, at.listening.bind, at.listening.to) {
         Ok(mut port) => start_at(alloc, at, setup, history, &mut port, out),
@@ -217,7 +217,7 @@ fn listen_from<H: Host, W: Output>(
 ) -> Result<u8, WriteFault>
     requires spelled { SpellsPosition at.listening.now.start.now start }
     requires position { IsPosition start }
-    ensures { ListensAndWrites (hosted (H.facts at.host.now) H.Port.facts H.File.facts) (writers W.contents W.facts) at.listening.now sources.now (H.made history.old) (H.made history.new) out.old out.new result }
+    ensures { ListensAndWrites (hosted (H.facts at.entry.host.now) H.Port.facts H.File.facts) (writers W.contents W.facts) at.entry.listening.now sources.now (H.made history.old) (H.made history.new) out.old out.new result }
 {
     let set = match gather(alloc, sources, CacheSize::usual()) {
         Ok(Ok(set)) => set,

@@ -1,5 +1,5 @@
 -- The words of `send`, part by part; cited by private functions alone.
-use Rattle.std.specs.Prelude.{◌≡◌, ℕ, List, Option, Some, codes}
+use Rattle.std.specs.Prelude.{ℕ, Option, codes}
 use Rattle.clap.specs.Words.{Text}
 use Rattle.adjudicate_core.specs.Addresses.{IsAddressIfAny}
 use Rattle.adjudicate_core.specs.Numbers.{IsDelay, IsHundredOr}

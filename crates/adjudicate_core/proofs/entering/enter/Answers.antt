@@ -16,6 +16,3 @@ returns-in-Ok-clause-made g c = list_entered c.args.task.now _ _ _ c.in-From.is 
 
 pub returns-in-Err-Unreadable-clause-made : goal.returns-in-Err-Unreadable-clause-made
 returns-in-Err-Unreadable-clause-made g c = none_entries c.args.task.now _
-
-pub returns-clause-made : goal.returns-clause-made
-returns-clause-made g c = none_entries c.args.task.now _

@@ -1,5 +1,5 @@
 use Rattle.std.proofs.Common.{refl}
-use Rattle.adjudicate_core.specs.Hostings.{Unlogged, NoRoomForGames, Served}
+use Rattle.adjudicate_core.specs.Hostings.{NoRoomForGames, Served, Unlogged}
 use Rattle.system_io.proofs.HistoryLaws.{Passes-nil}
 use Rattle.adjudicate_core.proofs.hosting.serve_logged.Goals as goal
 
@@ -7,5 +7,14 @@ pub returns-in-Err : goal.returns-in-Err
 returns-in-Err g c = NoRoomForGames (Passes-nil _) refl c.put_refusal.ensures
 
 pub returns-in-Ok-serve : goal.returns-in-Ok-serve
-returns-in-Ok-serve g c =
-    Served (rw (c.in-Ok.ensures.common_is, c.in-Ok.ensures.games_are) at c.in-Ok-serve.ensures.made) (rw (c.in-Ok.ensures.common_is, c.in-Ok.ensures.games_are, c.requires.is) at c.in-Ok-serve.ensures.hosts)
+returns-in-Ok-serve g c = Served (rw c.in-Ok.ensures.games_are at c.in-Ok-serve.ensures.made) (rw (c.in-Ok.ensures.common_is, c.in-Ok.ensures.games_are, c.requires.is) at c.in-Ok-serve.ensures.hosts)
+
+pub returns-then-not-task : goal.returns-then-not-task
+returns-then-not-task g c = Served (rw c.in-Ok.ensures.games_are at c.in-Err-serve.ensures.made) (rw (c.in-Ok.ensures.common_is, c.in-Ok.ensures.games_are, c.requires.is) at c.in-Err-serve.ensures.hosts)
+
+pub returns : goal.returns
+returns g c =
+    let first = rw (c.in-Ok.ensures.common_is, c.in-Ok.ensures.games_are, c.requires.is) at c.in-Err-serve.ensures.hosts in
+    let made = rw c.in-Ok.ensures.games_are at c.in-Err-serve.ensures.made in
+    let stays = c.in-Err-serve.ensures.stays in
+    Unlogged c.if-not-task.false _ _ _ _ made first (rw (stays.place, c.in-Ok.ensures.games_are) at c.serve-in-Err-serve.ensures.made) (rw (stays.common, stays.place, c.in-Ok.ensures.common_is, c.in-Ok.ensures.games_are) at c.serve-in-Err-serve.ensures.hosts)

@@ -16,7 +16,7 @@ returns-in-Ok g c = record {
 }
 
 pub returns-in-Err-Misuse-clause-runs : goal.returns-in-Err-Misuse-clause-runs
-returns-in-Err-Misuse-clause-runs g c = ToMisuse c.in-Err-Misuse.misuse (c.in-Err-Misuse.ensures.misuse c.in-Err-Misuse.misuse c.in-Err-Misuse.field-0-is) c.tell_misuse.ensures refl refl
+returns-in-Err-Misuse-clause-runs g c = ToMisuse c.in-Err-Misuse.misuse (c.in-Err-Misuse.ensures.misuse c.in-Err-Misuse.misuse c.in-Err-Misuse.field-0-is) (rw c.in-Err-Misuse.field-0-is at c.tell_misuse.ensures) refl refl
 
 pub returns-in-Err-Misuse-clause-made : goal.returns-in-Err-Misuse-clause-made
 returns-in-Err-Misuse-clause-made g c = inl (Passes-nil _)

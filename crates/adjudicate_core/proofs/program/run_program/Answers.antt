@@ -24,9 +24,6 @@ returns-in-Ok-tail_of-clause-made g c =
     let on_words = rw c.deref.ensures.value at on_rest in
     rw (ap called_by c.in-Ok.is) on_words
 
-pub returns-in-Err-tail_of-clause-made : goal.returns-in-Err-tail_of-clause-made
-returns-in-Err-tail_of-clause-made g c = none_called _ _
-
 pub returns-in-Err-NoText-clause-made : goal.returns-in-Err-NoText-clause-made
 returns-in-Err-NoText-clause-made g c = none_called _ _
 

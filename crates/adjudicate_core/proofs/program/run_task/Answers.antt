@@ -13,6 +13,3 @@ pub returns-in-Err-Unreadable : goal.returns-in-Err-Unreadable
 returns-in-Err-Unreadable g c =
     let cause = rw c.places-places.ensures at (c.in-Err-Unreadable.ensures.cause (ap Err c.in-Err-Unreadable.field-0-is)) in
     record { answered = IfOk-weaker c.put_refusal.result _ _ (λ status h. Unread cause h) c.put_refusal.ensures; quiet = λ unasked. inl refl; made = makes_nothing _ _ }
-
-pub returns-clause-made : goal.returns-clause-made
-returns-clause-made g c = makes_nothing _ _
