@@ -2,3 +2,4 @@ pub mod GameSeats
 pub mod Seats
 pub mod Values
 pub mod Sending
+pub mod Begun

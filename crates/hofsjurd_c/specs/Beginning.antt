@@ -1,5 +1,9 @@
 -- Games that are begun in a handle.
-use Rattle.std.specs.Prelude.{◌≡◌, ◌⊎◌, ℕ, List, Option, Some, None, Ok, Err, pos}
+use Rattle.std.specs.Prelude.{◌≡◌, ◌⊎◌, ◌≤◌, ℕ, List, Option, Some, None, Ok, Err, pos}
+use Rattle.board_core.specs.declared.parts.Parts.{Parts}
+use Rattle.board_core.specs.Delays.{most_delay}
+use Rattle.board_core.specs.Position.{IsPosition}
+use Rattle.fen_text.specs.Fen.{SpellsPosition}
 use Rattle.judge_core.specs.Tables.{Tables}
 use Rattle.probe_api.specs.Plays.{Begins}
 use Rattle.probe_api.specs.Replies.{told, refused, verdict_number}
@@ -11,3 +15,10 @@ use Rattle.hofsjurd_c.specs.declared.held.HeldGame.{HeldGame}
 pub record BeginsIn (tables : Tables) (text : List ℕ) (delay : ℕ) (reply : Reply) (new : Option HeldGame) : Type 0 where
   pub game : (held : HeldGame) → new ≡ Some held → Begins tables text delay (Ok held.game) × (reply ≡ told (pos (verdict_number held.game.verdict)))
   pub none : new ≡ None → (reply ≡ refused 5) ⊎ ((status : ℕ) × (reply ≡ refused status) × Begins tables text delay (Err status))
+
+-- a game can begin so: the delay is not above the greatest one, and the text spells a position
+pub record CanBegin (text : List ℕ) (delay : ℕ) : Type 0 where
+  pub soon : delay ≤ most_delay
+  pub start : Parts
+  pub position : IsPosition start
+  pub spelled : SpellsPosition text start

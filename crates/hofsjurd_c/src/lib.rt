@@ -19,14 +19,18 @@
 //!   `hofsjurd_boards_wdl`, clauses `lengths`, `refused`: these exports, and the others as `docs/C_LIBRARY.md` lists them, answer
 //!   as `probe_api` does for what the handle holds. A closed handle is status 1, no game status 6 (for `hofsjurd_game_fen` the
 //!   length 0). A probe leaves the handle as it was.
+//! - CLAIM: `hofsjurd_add`, clause `memory`; `hofsjurd_game_begin`, clause `memory`: refused memory, status 5, is told of a file only
+//!   where its name, size, magic and flags are good, and of a game only where it can begin. `hofsjurd_open` and `hofsjurd_share` tell
+//!   it without a cause, since `Set::new` and `Set::share` below them have none.
 //! - CLAIM: `hofsjurd_game_begin`, clause `is`; `hofsjurd_game_move`, clauses `no_game`, `closed`, `is`, `open`, `kept`;
 //!   `hofsjurd_game_move_text`, clauses `no_game`, `closed`, `is`, `open`, `kept`: after a move a game's handle holds the game
 //!   after it, or the same game where the status isn't 0.
 #![tactic(auto)]
 
-ghost use Rattle.std.specs.Prelude.{◌≡◌, ◌≢◌, ◌<◌, ◌≤◌, None, Some, length, replicate, pos};
+ghost use Rattle.std.specs.Prelude.{◌≡◌, ◌≢◌, ◌<◌, ◌≤◌, None, Some, IsOk, length, replicate, pos};
 ghost use Rattle.judge_core.specs.Tables.{Holding};
 ghost use Rattle.fen_text.specs.Written.{fen_of};
+ghost use Rattle.table_file.specs.Tables.{head_at};
 ghost use Rattle.probe_api.specs.declared.asking.Question.TheVariants.{Wdl, Dtz, Verdict};
 ghost use Rattle.probe_api.specs.Adding.{Adds};
 ghost use Rattle.probe_api.specs.Batches.{TellsBoards};
@@ -38,7 +42,7 @@ ghost use Rattle.probe_api.specs.Texts.{PutsText};
 ghost use Rattle.probe_api.specs.Version.{version};
 ghost use Rattle.hofsjurd_c.specs.declared.held.Held.{Held};
 ghost use Rattle.hofsjurd_c.specs.declared.held.HeldGame.{HeldGame};
-ghost use Rattle.hofsjurd_c.specs.Beginning.{BeginsIn};
+ghost use Rattle.hofsjurd_c.specs.Beginning.{BeginsIn, CanBegin};
 
 mod asking;
 mod determined_calls;
@@ -61,6 +65,7 @@ use probe_api::{Board, PlainMove, Question, Reply};
 use std::alloc::Global;
 
 /// Begins a game in a closed handle, and tells its first verdict.
+#[tactic(auto, using(crate::proofs::Begun::from_game, crate::proofs::Begun::from_refusal))]
 fn begin_in(
     alloc: Global,
     game: &mut GameHandle,
@@ -70,6 +75,7 @@ fn begin_in(
 ) -> Reply
     requires { game.old.seat.value ≡ None }
     ensures is { BeginsIn set.old.tables fen.now delay result game.new.seat.value }
+    ensures memory { result ≡ refused 5 → CanBegin fen.now delay }
     ensures kept { set.new ≡ set.old }
 {
     let begun = match probe_api::begin_game(alloc, set, fen, delay) {
@@ -118,6 +124,7 @@ pub extern "C" fn hofsjurd_add(
     ensures closed { handle.old.seat.value ≡ None → (result ≡ 1) × (handle.new.seat.value ≡ None) }
     ensures is { (old : Held) → handle.old.seat.value ≡ Some old → (new : Held) → handle.new.seat.value ≡ Some new → Adds name.now bytes.now old.set result new.set }
     ensures open { (old : Held) → handle.old.seat.value ≡ Some old → handle.new.seat.value ≢ None }
+    ensures memory { result ≡ 5 → IsOk (head_at name.now bytes.now) }
 {
     let Some(mut held) = handle.take(alloc) else {
         return 1;
@@ -281,6 +288,7 @@ pub extern "C" fn hofsjurd_game_begin(
 ) -> Reply
     ensures closed { handle.old.seat.value ≡ None → (result ≡ refused 1) × (game.new.seat.value ≡ None) }
     ensures is { (held : Held) → handle.old.seat.value ≡ Some held → BeginsIn held.set.tables fen.now delay result game.new.seat.value }
+    ensures memory { result ≡ refused 5 → CanBegin fen.now delay }
     ensures kept { handle.new.seat.value ≡ handle.old.seat.value }
 {
     let _old = game.take(alloc);

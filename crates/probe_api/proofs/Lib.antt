@@ -3,6 +3,7 @@ pub mod Placing
 pub mod Playing
 pub mod Showing
 pub mod Squares
+pub mod Statuses
 pub mod Telling
 pub mod Texts
 pub mod Writing

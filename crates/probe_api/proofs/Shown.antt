@@ -1,5 +1,5 @@
 -- The board of a position shows it.
-use Rattle.std.proofs.Common.{◌≡◌, ◌∙◌, sym, ap, refl, ℕ, zero, suc, ◌+◌, ◌<◌, ◌==◌, Bool, true, false, List, [], ◌∷◌, Option, Some, None, length, get_or, arith}
+use Rattle.std.proofs.Common.{◌≡◌, ◌∙◌, sym, ap, refl, ℕ, suc, ◌+◌, ◌<◌, ◌==◌, Bool, true, false, List, [], ◌∷◌, Option, Some, None, length, get_or, arith}
 use Rattle.std.proofs.lemmas.Bool.{lt-ltb}
 use Rattle.board_core.specs.declared.parts.Parts.{Parts}
 use Rattle.board_core.specs.declared.parts.Rights.{Rights}
@@ -10,7 +10,7 @@ use Rattle.board_core.specs.declared.piece.Side.{Side}
 use Rattle.board_core.specs.declared.piece.Side.TheVariants.{White, Black}
 use Rattle.board_core.specs.declared.sets.Sets.{Sets}
 use Rattle.board_core.specs.Attack.{man_at}
-use Rattle.board_core.specs.Position.{IsPosition, HasValidEnPassant, is_of, passed_rank}
+use Rattle.board_core.specs.Position.{HasValidEnPassant, is_of, passed_rank}
 use Rattle.board_core.specs.Square.{rank_of}
 use Rattle.board_core.specs.Sets.{is_in, kind_or, man_by, man_on, men_shown, shown_from, side_by}
 use Rattle.board_core.specs.Sides.{squares_where}

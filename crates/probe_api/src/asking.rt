@@ -91,6 +91,8 @@ fn determined_dtz(alloc: Global, set: &mut Set<'_>, position: &Position) -> Repl
 }
 
 /// What is asked of a position.
+// Inlined, the question is known where it is asked: 14 instructions less.
+#[inline(always)]
 pub(crate) fn answer(
     alloc: Global,
     set: &mut Set<'_>,

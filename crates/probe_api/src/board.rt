@@ -64,6 +64,15 @@ fn side_to_move(side: u8) -> Side
 fn rights_on(rights: u8) -> Rights
     ensures { result ≡ rights_on rights }
 {
+    // Most boards have none, and are spared 12 instructions.
+    if rights == 0 {
+        return Rights {
+            white_king: false,
+            white_queen: false,
+            black_king: false,
+            black_queen: false,
+        };
+    }
     Rights {
         white_king: rights & 1 == 1,
         white_queen: rights / 2 & 1 == 1,

@@ -20,8 +20,8 @@
 //!   the set's own where it has one.
 //! - CLAIM: `answer_boards`, clauses `is`, `lengths`, `refused`, `kept`: of many boards each reply is that of its board. The
 //!   status is 0 where there are as many replies as boards, and else 82, and none is written.
-//! - CLAIM: `add`, clause `is`: a file is added as the table that it is, or refused by its first fault or as one that is there; a
-//!   refusal changes nothing.
+//! - CLAIM: `add`, clauses `is`, `memory`: a file is added as the table that it is, or refused by its first fault or as one that is
+//!   there; a refusal changes nothing. Status 5 comes only where the file's name, size, magic and flags are good.
 //! - CLAIM: `moves_of_text`; `moves_of_board`; `PlainMove::of`; `PlainMove::to_move`, clauses `some`, `only`: the legal moves go
 //!   to the front of the caller's array, each once and in order, where all fit; else, and with status 5, which has no cause here,
 //!   it stays as it was.
