@@ -86,9 +86,14 @@ where
         address: &str,
         to: &[&str],
     ) -> Result<H::Port, BindFault> {
-        let entry = MadeAt::Port(String::from_str(alloc, address)?, owned(alloc, to)?);
+        let Ok(text) = String::from_str(alloc, address) else {
+            return Err(BindFault::OutOfMemory);
+        };
+        let Ok(others) = owned(alloc, to) else {
+            return Err(BindFault::OutOfMemory);
+        };
         match self.host.bind(alloc, &mut history.below, address, to) {
-            Ok(port) => match history.made.push(entry) {
+            Ok(port) => match history.made.push(MadeAt::Port(text, others)) {
                 Ok(()) => Ok(port),
                 Err(_) => Err(BindFault::OutOfMemory),
             },
