@@ -41,6 +41,8 @@ ghost use Rattle.hofsjurd_c.specs.declared.held.HeldGame.{HeldGame};
 ghost use Rattle.hofsjurd_c.specs.Beginning.{BeginsIn};
 
 mod asking;
+#[cfg(test)]
+mod call_tests;
 mod determined_calls;
 mod game_handle;
 mod game_seat;
