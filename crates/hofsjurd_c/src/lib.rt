@@ -45,6 +45,8 @@ ghost use Rattle.hofsjurd_c.specs.declared.held.HeldGame.{HeldGame};
 ghost use Rattle.hofsjurd_c.specs.Beginning.{BeginsIn, CanBegin};
 
 mod asking;
+#[cfg(test)]
+mod call_tests;
 mod determined_calls;
 mod game_handle;
 mod game_seat;
