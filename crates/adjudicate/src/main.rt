@@ -11,10 +11,14 @@
 #![tactic(auto)]
 
 use adjudicate_core::{System, WordsFault, refuse_memory, run_program};
+use std::alloc::Global;
 use std::env::{Env, FillError};
 use std::process::ExitCode;
 use std::{env, io};
-use system_io::{BufferedOutput, SystemDisk, SystemHost, SystemInput, end, open_above_standard};
+use system_io::{
+    BufferedOutput, Disk, Host, Input, Output, SystemDisk, SystemHost, SystemInput, WriteFault,
+    end, open_above_standard,
+};
 
 /// The bytes of the word at a place, its own name being at 0; none where there are fewer words.
 fn bytes_of(rt: &HostRuntime, place: usize) -> Result<Option<Vec<u8>>, WordsFault> {
@@ -56,6 +60,21 @@ fn words_of(rt: &HostRuntime) -> Result<Vec<String>, WordsFault> {
     }
 }
 
+/// Runs the program on its words over this disk, input and host.
+fn run_over<D: Disk, I: Input, H: Host, W: Output, E: Output>(
+    alloc: Global,
+    called: &Result<Vec<String>, WordsFault>,
+    disk: &D,
+    input: &I,
+    host: &H,
+    history: &mut H::History,
+    out: &mut W,
+    errors: &mut E,
+) -> Result<u8, WriteFault> {
+    let system = System { disk, input, host };
+    run_program(alloc, called, &system, history, out, errors)
+}
+
 /// Runs the program, and ends with its status, 1 where the output can't be written. Its output is buffered. Nothing that it opens
 /// gets a descriptor of standard input, output or errors, also where it was started without one.
 fn main(rt: HostRuntime) -> ExitCode {
@@ -69,15 +88,12 @@ fn main(rt: HostRuntime) -> ExitCode {
         return ExitCode::from(refuse_memory(&mut io::writer(&rt)).unwrap_or(1));
     };
     let (host, mut history) = SystemHost::new(&rt, rt.stderr());
-    let system = System {
-        disk: &SystemDisk::new(&rt, rt.stderr()),
-        input: &SystemInput::new(&rt),
-        host: &host,
-    };
-    let answered = run_program(
+    let answered = run_over(
         rt.alloc(),
         &words_of(&rt),
-        &system,
+        &SystemDisk::new(&rt, rt.stderr()),
+        &SystemInput::new(&rt),
+        &host,
         &mut history,
         &mut out,
         &mut errors,

@@ -72,9 +72,9 @@ told_or_quiet facts contents old new t (Ok (run.Lost known)) r told quiet is = i
 told_or_quiet facts contents old new t (Err fault) r told quiet is = inl quiet
 
 -- so it is where a game is entered
-pub entered : {P F : Type 0} (disk : DiskFacts) (source : InputFacts) (host : Hosted P F) (t : Enter) (old new : Option (List ℕ)) (r : Result ℕ WriteFault) → Enters disk source host t old new r → IfOk r (λ status. Enters disk source host t old new (Ok status))
-entered disk source host t old new (Ok status) h = h
-entered disk source host t old new (Err fault) h = tt
+pub entered : {P F : Type 0} (disk : DiskFacts) (source : InputFacts) (host : Hosted P F) (t : Enter) (had has : Option (List Made)) (old new : Option (List ℕ)) (r : Result ℕ WriteFault) → Enters disk source host t had has old new r → IfOk r (λ status. Enters disk source host t had has old new (Ok status))
+entered disk source host t had has old new (Ok status) h = h
+entered disk source host t had has old new (Err fault) h = tt
 
 -- by an arbiter: what holds with its writer holds of what is written
 module _ {P F W : Type 0} (host : Hosted P F) (w : Writers W) (status : ℕ) (l : Listen) where

@@ -51,7 +51,7 @@ module _ {P F K W : Type 0} (folders : List ℕ → Keepers K) (host : Hosted P 
   }
 
   now_done : (t : CommonView) (had has : Option (List Made)) (port port' : PortFacts) (out out' : W) → HostsNow (seen_by folders w) h t had has port port' out out' (Ok status) → HostsNow (seen_as folders) h t had has port port' (w.written out) (w.written out') (Ok status)
-  now_done t had has port port' out out' (Served made run) = Served made (served_done (folders h.games.now) t h.log h.datagrams port port' out out' run)
+  now_done t had has port port' out out' (Served only made run) = Served only made (served_done (folders h.games.now) t h.log h.datagrams port port' out out' run)
   now_done t had has port port' out out' (Unlogged so between when mid fault made run more rest) = Unlogged so between when (w.written mid) fault made tt more (served_done (folders h.games.now) t Nothing h.datagrams when port' mid out' rest)
   now_done t had has port port' out out' (NoRoomForGames made same told) = NoRoomForGames made same told
 

@@ -1,5 +1,5 @@
 -- What a task makes, from what it comes to.
-use Rattle.std.proofs.Common.{◌≡◌, ◌++◌, ℕ, List, [], ◌∷◌, Option, refl, ap, inl, inr, subst, sym}
+use Rattle.std.proofs.Common.{◌≡◌, ◌++◌, ℕ, List, [], ◌∷◌, Option, refl, ap, inl, inr, subst, sym, append_assoc, append-nil}
 use Rattle.std.specs.Prelude.{Result, Ok, Err, ◌⊎◌}
 use Rattle.std.specs.List.{AllByRecursion}
 use Rattle.system_io.specs.Disks.{DiskFacts}
@@ -12,13 +12,17 @@ use Rattle.system_io.proofs.HistoryLaws.{Passes-nil, Passes-trans}
 use Rattle.arbiter_core.specs.Setups.{SetupView}
 use Rattle.board_core.specs.declared.parts.Parts.{Parts}
 use Rattle.move_msg.specs.declared.stamp.Stamp.{Stamp}
-use Rattle.arbiter_server.specs.GameFolders.{game_path}
+use Rattle.arbiter_server.specs.GameFiles.{Told}
+use Rattle.arbiter_server.specs.GameFolders.{stamp_for}
+use Rattle.move_msg.specs.TextLines.{lines_in}
 use Rattle.arbiter_server.specs.Games.{CommonView}
 use Rattle.arbiter_server.specs.Makings.{AreMadeFor, IsMadeFor, MakesOnce, MakesWhile}
 use Rattle.source_core.specs.declared.lines.Ended.{Ended}
 use Rattle.task_files.specs.Given.{Given}
 use Rattle.adjudicate_core.specs.Hostings as hosting
-use Rattle.adjudicate_core.specs.Inside.Entering.{MakesEntries, MakesGame, MakesGames}
+use Rattle.adjudicate_core.specs.Entries.{SpellsEntry}
+use Rattle.adjudicate_core.specs.Enters.{AreMadeForLines, BadStart, Entered, Enters, EntersAs, EntersList, IsMadeForLine, Kept, Listed, MakesForLines, NoList, NoManifest, NoRoom, NoRoomForList, NoRoomForManifest, OfList, Place, PutsGame, Unkept, Unstamped, file_of_game, game_of, place}
+use Rattle.adjudicate_core.specs.Inside.Entering.{MakesForLine}
 use Rattle.adjudicate_core.specs.Addresses.{addresses_of}
 use Rattle.adjudicate_core.specs.Listens as listening
 use Rattle.adjudicate_core.specs.Locks.{kept_lock}
@@ -161,7 +165,7 @@ records_twice h port when port' had between has (first, one, passes) (later, two
 
 module _ {P F T : Type 0} (host : listening.Hosted P F) (seen : hosting.Seen T) (h : HostGames) (has : Option (List Made)) (r : Result ℕ WriteFault) where
   now_hosts : (t : CommonView) (had : Option (List Made)) (port port' : PortFacts) (old new : T) → hosting.HostsNow seen h t had has port port' old new r → Hosting h [] had has
-  now_hosts t had port port' old new (hosting.Served made run) = records_made h port port' had has made
+  now_hosts t had port port' old new (hosting.Served only made run) = records_made h port port' had has made
   now_hosts t had port port' old new (hosting.Unlogged so between when mid fault made run more rest) = records_twice h port when port' had between has made more
   now_hosts t had port port' old new (hosting.NoRoomForGames made same told) = hosts_none h [] had has made
 
@@ -190,36 +194,74 @@ host_makes disk host seen h given had has old new r (hosting.Hosting set tables 
 
 -- ---- `enter`
 
-pub game_once : (games stamp : List ℕ) (had has : Option (List Made)) → MakesOnce had has (FileAt (game_path games stamp)) → MakesGame games had has
-game_once games stamp had has (inl none) = inl none
-game_once games stamp had has (inr one) = inr (FileAt (game_path games stamp), (stamp, refl), one)
+module _ {P F : Type 0} (p : Place P F) where
+  pub no_line : (line : List ℕ) (had : Option (List Made)) → MakesForLine p line had had
+  no_line line had = ([], Passes-nil had, inl refl)
 
-pub no_game : (games : List ℕ) (had : Option (List Made)) → MakesGame games had had
-no_game games had = inl (Passes-nil had)
+  pub line_once : (line : List ℕ) (g : Told) (had has : Option (List Made)) → SpellsEntry line g → MakesOnce had has (file_of_game p g) → MakesForLine p line had has
+  line_once line g had has spells (inl none) = ([], none, inl refl)
+  line_once line g had has spells (inr one) = (file_of_game p g ∷ [], one, inr (g, spells, refl))
 
-pub no_games : (games : List ℕ) (had : Option (List Made)) → MakesGames games had had
-no_games games had = ([], Passes-nil had, tt)
+  none_left : (lines : List (List ℕ)) → AreMadeForLines p lines []
+  none_left [] = refl
+  none_left (line ∷ lines) = ([], [], inl refl, refl, none_left lines)
 
-games_join : (games : List ℕ) (a b : List Made) → AllByRecursion (IsGameIn games) a → AllByRecursion (IsGameIn games) b → AllByRecursion (IsGameIn games) (a ++ b)
-games_join games [] b all rest = rest
-games_join games (x ∷ a) b all rest = (all.0, games_join games a b all.1 rest)
+  -- the lines so far, and then any others
+  pub record MadeSoFar (all rest : List ℕ) (had has : Option (List Made)) : Type 0 where
+    pub more : List Made
+    pub passes : Passes had has more
+    pub goes : (later : List Made) → AreMadeForLines p (lines_in rest) later → AreMadeForLines p (lines_in all) (more ++ later)
 
-pub games_more : (games : List ℕ) (had between has : Option (List Made)) → MakesGames games had between → MakesGame games between has → MakesGames games had has
-games_more games had between has (more, passes, all) (inl none) = (more ++ [], Passes-trans had between has more [] passes none, games_join games more [] all tt)
-games_more games had between has (more, passes, all) (inr (made, is, one)) = (more ++ made ∷ [], Passes-trans had between has more (made ∷ []) passes one, games_join games more (made ∷ []) all (is, tt))
+  pub made_none : (all : List ℕ) (had : Option (List Made)) → MadeSoFar all all had had
+  made_none all had = record { more = []; passes = Passes-nil had; goes = λ later h. h }
 
-one_of : (games : List ℕ) (g : OneGame) (had has : Option (List Made)) → MakesGame games had has → (more : List Made) × Passes had has more × IsOfEntries games (One g) more
-one_of games g had has (inl none) = ([], none, inl refl)
-one_of games g had has (inr (made, is, one)) = (made ∷ [], one, inr (made, is, refl))
+  pub made_more : (all rest tail line : List ℕ) (had mid has : Option (List Made)) → MadeSoFar all rest had mid → lines_in rest ≡ line ∷ lines_in tail → MakesForLine p line mid has → MadeSoFar all tail had has
+  made_more all rest tail line had mid has before cut (one, passes, is) = record {
+    more = before.more ++ one;
+    passes = Passes-trans had mid has before.more one before.passes passes;
+    goes = λ later h. subst (AreMadeForLines p (lines_in all)) (sym (append_assoc before.more one later)) (before.goes (one ++ later) (subst (λ (ls : List (List ℕ)). AreMadeForLines p ls (one ++ later)) (sym cut) (one, later, is, refl, h)));
+  }
 
-pub one_entered : (t : Enter) (g : OneGame) (had has : Option (List Made)) → t.entries ≡ One g → MakesGame t.games.now had has → MakesEntries t had has
-one_entered t g had has is made = subst (λ (e : Entries). (more : List Made) × Passes had has more × IsOfEntries t.games.now e more) (sym is) (one_of t.games.now g had has made)
+  pub made_all : (all rest : List ℕ) (had has : Option (List Made)) → MadeSoFar all rest had has → MakesForLines p (lines_in all) had has
+  made_all all rest had has before = (before.more ++ [], subst (Passes had has) (sym (append-nil before.more)) before.passes, before.goes [] (none_left (lines_in rest)))
 
-pub list_entered : (t : Enter) (path : Bor (List ℕ)) (had has : Option (List Made)) → t.entries ≡ From path → MakesGames t.games.now had has → MakesEntries t had has
-list_entered t path had has is made = subst (λ (e : Entries). (more : List Made) × Passes had has more × IsOfEntries t.games.now e more) (sym is) made
+  games_of_lines : (lines : List (List ℕ)) (more : List Made) → AreMadeForLines p lines more → AllByRecursion (IsGameIn p.games) more
+  games_of_lines [] more none = subst (AllByRecursion (IsGameIn p.games)) (sym none) tt
+  games_of_lines (line ∷ lines) more (first, rest, is, all, others) = subst (AllByRecursion (IsGameIn p.games)) (sym all) (game_of_line first rest is (games_of_lines lines rest others))
+    where
+      game_of_line : (first rest : List Made) → IsMadeForLine p line first → AllByRecursion (IsGameIn p.games) rest → AllByRecursion (IsGameIn p.games) (first ++ rest)
+      game_of_line first rest (inl none) others = subst (λ (l : List Made). AllByRecursion (IsGameIn p.games) (l ++ rest)) (sym none) others
+      game_of_line first rest (inr (g, spells, one)) others = subst (λ (l : List Made). AllByRecursion (IsGameIn p.games) (l ++ rest)) (sym one) ((stamp_for g p.manifest, refl), others)
 
-pub none_entries : (t : Enter) (had : Option (List Made)) → MakesEntries t had had
-none_entries t had = ([], Passes-nil had, none_entered t.games.now t.entries)
+  put_makes : (t : OneGame) (g : Told) (had has : Option (List Made)) (old new : Option (List ℕ)) (r : Result ℕ WriteFault) → PutsGame p g had has old new r → (more : List Made) × Passes had has more × IsOfEntries p.games (One t) more
+  put_makes t g had has old new r (Kept made stamp is told) = one_of t g had has made
+    where
+      one_of : (t : OneGame) (g : Told) (had has : Option (List Made)) → MakesOnce had has (file_of_game p g) → (more : List Made) × Passes had has more × IsOfEntries p.games (One t) more
+      one_of t g had has (inl none) = ([], none, inl refl)
+      one_of t g had has (inr one) = (file_of_game p g ∷ [], one, inr (file_of_game p g, (stamp_for g p.manifest, refl), refl))
+  put_makes t g had has old new r (Unkept made fault is told) = one_of t g had has made
+    where
+      one_of : (t : OneGame) (g : Told) (had has : Option (List Made)) → MakesOnce had has (file_of_game p g) → (more : List Made) × Passes had has more × IsOfEntries p.games (One t) more
+      one_of t g had has (inl none) = ([], none, inl refl)
+      one_of t g had has (inr one) = (file_of_game p g ∷ [], one, inr (file_of_game p g, (stamp_for g p.manifest, refl), refl))
+
+module _ {P F : Type 0} (disk : DiskFacts) (source : InputFacts) (host : listening.Hosted P F) (t : Enter) (had has : Option (List Made)) (old new : Option (List ℕ)) (r : Result ℕ WriteFault) where
+  list_makes : (text : List ℕ) → EntersList disk host t text had has old new r → (more : List Made) × Passes had has more × AllByRecursion (IsGameIn t.games.now) more
+  list_makes text (Unstamped made words lacks told) = ([], made, tt)
+  list_makes text (NoRoomForManifest made told) = ([], made, tt)
+  list_makes text (Listed manifest is (more, passes, are) puts) = (more, passes, games_of_lines (place host t.games.now manifest) (lines_in text) more are)
+
+  as_makes : (e : Entries) → EntersAs disk source host t e had has old new r → (more : List Made) × Passes had has more × IsOfEntries t.games.now e more
+  as_makes (One g) (BadStart made fault first told) = ([], made, inl refl)
+  as_makes (One g) (NoManifest made text words lacks told) = ([], made, inl refl)
+  as_makes (One g) (NoRoom made text told) = ([], made, inl refl)
+  as_makes (One g) (Entered start spells legal manifest is puts) = put_makes (place host t.games.now manifest) g (game_of g start) had has old new r puts
+  as_makes (From path) (NoList made lacks told) = ([], made, tt)
+  as_makes (From path) (NoRoomForList made told) = ([], made, tt)
+  as_makes (From path) (OfList text is h) = list_makes text h
+
+  pub enter_makes : Enters disk source host t had has old new r → MakesFor (task.Enter t) had has
+  enter_makes h = as_makes t.entries h
 
 -- ---- words
 

@@ -1,5 +1,5 @@
 -- What `enter` makes of its words and of what it reads (this project's own).
-use Rattle.std.specs.Prelude.{◌≡◌, ◌≢◌, ◌⊎◌, ◌+◌, ℕ, true, false, List, [], ◌∷◌, Option, Some, Result, Ok, Err, IfOk, codes, option_map}
+use Rattle.std.specs.Prelude.{◌≡◌, ◌≢◌, ◌⊎◌, ◌+◌, ◌++◌, ℕ, true, false, List, [], ◌∷◌, Option, Some, Result, Ok, Err, IfOk, codes, option_map}
 use Rattle.std.specs.Io.KnownBytes.{Appends}
 use Rattle.hex.specs.Hex.{encode_lower}
 use Rattle.board_core.specs.declared.parts.Parts.{Parts}
@@ -12,10 +12,13 @@ use Rattle.system_io.specs.declared.output.WriteFault.{WriteFault}
 use Rattle.system_io.specs.declared.reading.ReadFault.TheVariants as read
 use Rattle.system_io.specs.Disks.{AtFile, DiskFacts}
 use Rattle.system_io.specs.Failures.{Risen}
+use Rattle.system_io.specs.Histories.{Passes}
+use Rattle.system_io.specs.Hosts.{FileAt, Made}
 use Rattle.system_io.specs.Inputs.{InputFacts}
 use Rattle.system_io.specs.KeptFiles.{CannotStart, FindsOldOrNew, IsOneOfFound, KeptFacts}
 use Rattle.arbiter_server.specs.GameFolders.{game_path, stamp_for}
 use Rattle.arbiter_server.specs.GameFiles.{SpellsGame, Told, told}
+use Rattle.arbiter_server.specs.Makings.{MakesOnce}
 use Rattle.arbiter_server.specs.ServedLines.{refused_keeper}
 use Rattle.line_teller.specs.ToldLines.{LineTold, all_told, refused_files, refused_memory, words_told}
 use Rattle.adjudicate_core.specs.declared.commands.enter.Enter.{Enter}
@@ -81,6 +84,10 @@ pub data IsUnentered {P F : Type 0} (p : Place P F) (g : Told) (fault : KeepFaul
   NoText : (text : List ℕ) → SpellsGame text g → LacksTextAt p.host (game_path p.games (stamp_for g p.manifest)) text fault → IsUnentered p g fault
   NoRoomForPath : fault ≡ keep.OutOfMemory → IsUnentered p g fault
 
+-- the file of a game in the folder, by its stamp
+abbrev pub file_of_game : {P F : Type 0} → Place P F → Told → Made
+file_of_game p g = FileAt (game_path p.games (stamp_for g p.manifest))
+
 abbrev pub keep_fault_words : KeepFault → List ℕ
 keep_fault_words keep.Keeper = refused_keeper
 keep_fault_words keep.OutOfMemory = refused_memory
@@ -95,18 +102,18 @@ game_of g start = told g.name start g.delay
 abbrev pub TellsStamp : List ℕ → Option (List ℕ) → Option (List ℕ) → Result ℕ WriteFault → Type 0
 TellsStamp stamp old new r = IfOk r (λ status. Appends old new (ended (encode_lower stamp)) × (status ≡ 0))
 
--- it is entered, and its stamp is told; or it isn't, and that is told
-pub data PutsGame {P F : Type 0} (p : Place P F) (g : Told) (old new : Option (List ℕ)) (r : Result ℕ WriteFault) : Type 0 where
-  Kept : (stamp : List ℕ) → IsEntered p g stamp → TellsStamp stamp old new r → PutsGame p g old new r
-  Unkept : (fault : KeepFault) → IsUnentered p g fault → TellsIf (keep_fault_words fault) old new r → PutsGame p g old new r
+-- it is entered, and its stamp is told; or it isn't, and that is told. At the host its file is opened, or nothing.
+pub data PutsGame {P F : Type 0} (p : Place P F) (g : Told) (had has : Option (List Made)) (old new : Option (List ℕ)) (r : Result ℕ WriteFault) : Type 0 where
+  Kept : MakesOnce had has (file_of_game p g) → (stamp : List ℕ) → IsEntered p g stamp → TellsStamp stamp old new r → PutsGame p g had has old new r
+  Unkept : MakesOnce had has (file_of_game p g) → (fault : KeepFault) → IsUnentered p g fault → TellsIf (keep_fault_words fault) old new r → PutsGame p g had has old new r
 
 -- entering: the text of the start is no position; or else there is no manifest; or else the text of the game is kept in the folder
 -- under the stamp of the game by that manifest
-pub data EntersOne {P F : Type 0} (disk : DiskFacts) (host : Hosted P F) (t : Enter) (g : OneGame) (old new : Option (List ℕ)) (r : Result ℕ WriteFault) : Type 0 where
-  BadStart : (fault : FenFault) → IsFirstFenFault g.start.now fault → TellsIf (refused_fen fault) old new r → EntersOne disk host t g old new r
-  NoManifest : IsText g.start.now → (words : List ℕ) → LacksManifest disk (option_map (λ s. s.now) t.manifest) t.tables.now words → TellsIf words old new r → EntersOne disk host t g old new r
-  NoRoom : IsText g.start.now → TellsIf refused_memory old new r → EntersOne disk host t g old new r
-  Entered : (start : Parts) → SpellsPosition g.start.now start → IsPosition start → (manifest : List ℕ) → IsManifestOf disk (option_map (λ s. s.now) t.manifest) t.tables.now manifest → PutsGame (place host t.games.now manifest) (game_of g start) old new r → EntersOne disk host t g old new r
+pub data EntersOne {P F : Type 0} (disk : DiskFacts) (host : Hosted P F) (t : Enter) (g : OneGame) (had has : Option (List Made)) (old new : Option (List ℕ)) (r : Result ℕ WriteFault) : Type 0 where
+  BadStart : Passes had has [] → (fault : FenFault) → IsFirstFenFault g.start.now fault → TellsIf (refused_fen fault) old new r → EntersOne disk host t g had has old new r
+  NoManifest : Passes had has [] → IsText g.start.now → (words : List ℕ) → LacksManifest disk (option_map (λ s. s.now) t.manifest) t.tables.now words → TellsIf words old new r → EntersOne disk host t g had has old new r
+  NoRoom : Passes had has [] → IsText g.start.now → TellsIf refused_memory old new r → EntersOne disk host t g had has old new r
+  Entered : (start : Parts) → SpellsPosition g.start.now start → IsPosition start → (manifest : List ℕ) → IsManifestOf disk (option_map (λ s. s.now) t.manifest) t.tables.now manifest → PutsGame (place host t.games.now manifest) (game_of g start) had has old new r → EntersOne disk host t g had has old new r
 
 -- ---- the games of a list
 
@@ -145,11 +152,23 @@ pub record PutsGames {P F : Type 0} (p : Place P F) (lines : List (List ℕ)) (o
   pub written : Appends old new (text_of (words_told told))
   pub is : status ≡ status_if (all_told told)
 
+-- at the host the file of the game of a line is opened, or nothing; nothing for a line that spells none
+abbrev pub IsMadeForLine : {P F : Type 0} → Place P F → List ℕ → List Made → Type 0
+IsMadeForLine p line more = (more ≡ []) ⊎ ((g : Told) × SpellsEntry line g × (more ≡ file_of_game p g ∷ []))
+
+-- so for each line in turn
+abbrev pub AreMadeForLines : {P F : Type 0} → Place P F → List (List ℕ) → List Made → Type 0
+AreMadeForLines p [] more = more ≡ []
+AreMadeForLines p (line ∷ lines) more = (first : List Made) × (rest : List Made) × IsMadeForLine p line first × (more ≡ first ++ rest) × AreMadeForLines p lines rest
+
+abbrev pub MakesForLines : {P F : Type 0} → Place P F → List (List ℕ) → Option (List Made) → Option (List Made) → Type 0
+MakesForLines p lines had has = (more : List Made) × Passes had has more × AreMadeForLines p lines more
+
 -- there is no manifest, for which memory may be refused too; or the games of the lines of the text are entered by it
-pub data EntersList {P F : Type 0} (disk : DiskFacts) (host : Hosted P F) (t : Enter) (text : List ℕ) (old new : Option (List ℕ)) (r : Result ℕ WriteFault) : Type 0 where
-  Unstamped : (words : List ℕ) → LacksManifest disk (option_map (λ s. s.now) t.manifest) t.tables.now words → TellsIf words old new r → EntersList disk host t text old new r
-  NoRoomForManifest : TellsIf refused_memory old new r → EntersList disk host t text old new r
-  Listed : (manifest : List ℕ) → IsManifestOf disk (option_map (λ s. s.now) t.manifest) t.tables.now manifest → IfOk r (PutsGames (place host t.games.now manifest) (lines_in text) old new) → EntersList disk host t text old new r
+pub data EntersList {P F : Type 0} (disk : DiskFacts) (host : Hosted P F) (t : Enter) (text : List ℕ) (had has : Option (List Made)) (old new : Option (List ℕ)) (r : Result ℕ WriteFault) : Type 0 where
+  Unstamped : Passes had has [] → (words : List ℕ) → LacksManifest disk (option_map (λ s. s.now) t.manifest) t.tables.now words → TellsIf words old new r → EntersList disk host t text had has old new r
+  NoRoomForManifest : Passes had has [] → TellsIf refused_memory old new r → EntersList disk host t text had has old new r
+  Listed : (manifest : List ℕ) → IsManifestOf disk (option_map (λ s. s.now) t.manifest) t.tables.now manifest → MakesForLines (place host t.games.now manifest) (lines_in text) had has → IfOk r (PutsGames (place host t.games.now manifest) (lines_in text) old new) → EntersList disk host t text had has old new r
 
 -- the list is what the input gives where the path is `-`, and else what the file has
 pub data HasList (disk : DiskFacts) (source : InputFacts) (path text : List ℕ) : Type 0 where
@@ -161,16 +180,17 @@ pub data LacksList (disk : DiskFacts) (source : InputFacts) (path : List ℕ) : 
   NoInput : path ≡ codes "-" → source.fails → LacksList disk source path
   NoFile : path ≢ codes "-" → disk.fails (AtFile path) → LacksList disk source path
 
-pub data EntersFrom {P F : Type 0} (disk : DiskFacts) (source : InputFacts) (host : Hosted P F) (t : Enter) (path : List ℕ) (old new : Option (List ℕ)) (r : Result ℕ WriteFault) : Type 0 where
-  NoList : LacksList disk source path → TellsIf refused_files old new r → EntersFrom disk source host t path old new r
-  NoRoomForList : TellsIf refused_memory old new r → EntersFrom disk source host t path old new r
-  OfList : (text : List ℕ) → HasList disk source path text → EntersList disk host t text old new r → EntersFrom disk source host t path old new r
+pub data EntersFrom {P F : Type 0} (disk : DiskFacts) (source : InputFacts) (host : Hosted P F) (t : Enter) (path : List ℕ) (had has : Option (List Made)) (old new : Option (List ℕ)) (r : Result ℕ WriteFault) : Type 0 where
+  NoList : Passes had has [] → LacksList disk source path → TellsIf refused_files old new r → EntersFrom disk source host t path had has old new r
+  NoRoomForList : Passes had has [] → TellsIf refused_memory old new r → EntersFrom disk source host t path had has old new r
+  OfList : (text : List ℕ) → HasList disk source path text → EntersList disk host t text had has old new r → EntersFrom disk source host t path had has old new r
 
 -- ---- one or the other
 
-abbrev pub EntersAs : {P F : Type 0} → DiskFacts → InputFacts → Hosted P F → Enter → Entries → Option (List ℕ) → Option (List ℕ) → Result ℕ WriteFault → Type 0
-EntersAs disk source host t (One g) old new r = EntersOne disk host t g old new r
-EntersAs disk source host t (From path) old new r = EntersFrom disk source host t path.now old new r
+abbrev pub EntersAs : {P F : Type 0} → DiskFacts → InputFacts → Hosted P F → Enter → Entries → Option (List Made) → Option (List Made) → Option (List ℕ) → Option (List ℕ) → Result ℕ WriteFault → Type 0
+EntersAs disk source host t (One g) had has old new r = EntersOne disk host t g had has old new r
+EntersAs disk source host t (From path) had has old new r = EntersFrom disk source host t path.now had has old new r
 
-abbrev pub Enters : {P F : Type 0} → DiskFacts → InputFacts → Hosted P F → Enter → Option (List ℕ) → Option (List ℕ) → Result ℕ WriteFault → Type 0
-Enters disk source host t old new r = EntersAs disk source host t t.entries old new r
+-- what the host has made before and after it is in its history: files of the games that are entered
+abbrev pub Enters : {P F : Type 0} → DiskFacts → InputFacts → Hosted P F → Enter → Option (List Made) → Option (List Made) → Option (List ℕ) → Option (List ℕ) → Result ℕ WriteFault → Type 0
+Enters disk source host t had has old new r = EntersAs disk source host t t.entries had has old new r

@@ -1,5 +1,5 @@
 -- What `host` makes of its words and of what it reads (this project's own).
-use Rattle.std.specs.Prelude.{◌≡◌, ℕ, Bool, true, List, [], ◌∷◌, length, Option, Some, None, Result, Ok, Err}
+use Rattle.std.specs.Prelude.{◌≡◌, ℕ, Bool, true, false, OnErr, List, [], ◌∷◌, length, Option, Some, None, Result, Ok, Err}
 use Rattle.std.specs.Io.KnownBytes.{Appends}
 use Rattle.std.specs.declared.net.socket_addr.SocketAddr.{SocketAddr}
 use Rattle.judge_core.specs.Tables.{Holding}
@@ -84,10 +84,10 @@ abbrev pub record_of : HostGames → List ℕ → Made
 record_of h stamp = FileAt (kept_path h.games.now stamp)
 
 -- The games of the folder that the words name are hosted; of the files of records those are opened that a datagram asks for. Where the
--- words say so, a log that can't be written ends it not: the games go on without lines, for so many datagrams more. Or memory for the
+-- words say so, and only there, a log that can't be written doesn't end that: the games go on without lines, for so many datagrams more. Or memory for the
 -- games that are open, or for the log, was refused, and no datagram was received.
 pub data HostsNow {T : Type 0} (seen : Seen T) (h : HostGames) (t : CommonView) (had has : Option (List Made)) (port port' : PortFacts) (old new : T) (r : Result ℕ WriteFault) : Type 0 where
-  Served : MakesWhile (record_of h) port port' had has → seen.hosts h.games.now t h.log h.datagrams port port' old new r → HostsNow seen h t had has port port' old new r
+  Served : OnErr r (h.outlives_log ≡ false) → MakesWhile (record_of h) port port' had has → seen.hosts h.games.now t h.log h.datagrams port port' old new r → HostsNow seen h t had has port port' old new r
   Unlogged : h.outlives_log ≡ true → (between : Option (List Made)) (when : PortFacts) (mid : T) (fault : WriteFault) → MakesWhile (record_of h) port when had between → seen.hosts h.games.now t h.log h.datagrams port when old mid (Err fault) → MakesWhile (record_of h) when port' between has → seen.hosts h.games.now t Nothing h.datagrams when port' mid new r → HostsNow seen h t had has port port' old new r
   NoRoomForGames : Passes had has [] → port' ≡ port → TellsIf refused_memory (seen.written old) (seen.written new) r → HostsNow seen h t had has port port' old new r
 

@@ -5,8 +5,8 @@ ghost use Rattle.std.specs.Io.KnownBytes.{Appends};
 ghost use Rattle.move_msg.specs.TextLines.{ended, lines_in};
 ghost use Rattle.arbiter_server.specs.GameFiles.{told};
 ghost use Rattle.adjudicate_core.specs.Enters.{ComesOf, Enters, EntersList, EntersOne, HasList, HasText, HasTextAt, IsEntered, IsUnentered};
-ghost use Rattle.adjudicate_core.specs.Enters.{LacksGame, LacksList, LacksText, LacksTextAt, PutsGame, PutsGames, TellsStamp, game_of, told_of};
-ghost use Rattle.adjudicate_core.specs.Inside.Entering.{EntersNext, HasOver, LacksOver, MakesEntries, MakesGame, MakesGames, place_of};
+ghost use Rattle.adjudicate_core.specs.Enters.{LacksGame, LacksList, LacksText, LacksTextAt, MakesForLines, PutsGame, PutsGames, TellsStamp, file_of_game, game_of, told_of};
+ghost use Rattle.adjudicate_core.specs.Inside.Entering.{EntersNext, HasOver, LacksOver, MakesForLine, place_of};
 ghost use Rattle.arbiter_server.specs.Makings.{MakesOnce};
 ghost use Rattle.system_io.specs.Hosts.{FileAt};
 ghost use Rattle.adjudicate_core.specs.Listens.{hosted};
@@ -137,7 +137,7 @@ fn enter_game<H: Host>(
 ) -> Result<Stamp, KeepFault>
     ensures ok { IfOk result (λ stamp. IsEntered (place_of H.facts H.Port.facts H.File.facts place.now) (told name.now start.now delay) stamp.0) }
     ensures err { IfErr result (IsUnentered (place_of H.facts H.Port.facts H.File.facts place.now) (told name.now start.now delay)) }
-    ensures made { MakesGame place.now.games.now (H.made history.old) (H.made history.new) }
+    ensures made { MakesOnce (H.made history.old) (H.made history.new) (file_of_game (place_of H.facts H.Port.facts H.File.facts place.now) (told name.now start.now delay)) }
 {
     let stamp = name.stamp(start, place.manifest, delay.plies());
     let Ok(path) = game_path(alloc, place.games, stamp) else {
@@ -175,8 +175,7 @@ fn put_game<H: Host, W: Write>(
     start: &Position,
     out: &mut W,
 ) -> Result<u8, WriteFault>
-    ensures puts { PutsGame (place_of H.facts H.Port.facts H.File.facts place.now) (game_of game.now start.now) (W.contents out.old) (W.contents out.new) result }
-    ensures made { MakesGame place.now.games.now (H.made history.old) (H.made history.new) }
+    ensures { PutsGame (place_of H.facts H.Port.facts H.File.facts place.now) (game_of game.now start.now) (H.made history.old) (H.made history.new) (W.contents out.old) (W.contents out.new) result }
 {
     match enter_game(alloc, place, history, &game.name, start, game.delay) {
         Ok(stamp) => put_stamp(out, stamp),
@@ -193,8 +192,7 @@ fn enter_one<D: Disk, I, H: Host, W: Write>(
     history: &mut H::History,
     out: &mut W,
 ) -> Result<u8, WriteFault>
-    ensures enters { EntersOne (D.facts system.now.disk.now) (hosted (H.facts system.now.host.now) H.Port.facts H.File.facts) task.now game.now (W.contents out.old) (W.contents out.new) result }
-    ensures made { MakesGame task.now.games.now (H.made history.old) (H.made history.new) }
+    ensures { EntersOne (D.facts system.now.disk.now) (hosted (H.facts system.now.host.now) H.Port.facts H.File.facts) task.now game.now (H.made history.old) (H.made history.new) (W.contents out.old) (W.contents out.new) result }
 {
     let start = match read(game.start.as_bytes()) {
         Ok(start) => start,
@@ -233,7 +231,7 @@ fn enter_line<H: Host>(
 ) -> Result<Result<Stamp, EntryFault>, AllocError>
     ensures ok { IfOk result (ComesOf (place_of H.facts H.Port.facts H.File.facts place.now) line.now) }
     ensures memory { OnErr result (LacksGame (place_of H.facts H.Port.facts H.File.facts place.now) line.now KeepFault.OutOfMemory) }
-    ensures made { MakesGame place.now.games.now (H.made history.old) (H.made history.new) }
+    ensures made { MakesForLine (place_of H.facts H.Port.facts H.File.facts place.now) line.now (H.made history.old) (H.made history.new) }
 {
     let game = match read_entry(line) {
         Ok(game) => game,
@@ -276,7 +274,7 @@ fn enter_next<H: Host, W: Write>(
     out: &mut W,
 ) -> Result<Step, WriteFault>
     ensures enters { IfOk result (EntersNext (place_of H.facts H.Port.facts H.File.facts place.now) number line.now (W.contents out.old) (W.contents out.new)) }
-    ensures made { MakesGame place.now.games.now (H.made history.old) (H.made history.new) }
+    ensures made { MakesForLine (place_of H.facts H.Port.facts H.File.facts place.now) line.now (H.made history.old) (H.made history.new) }
 {
     match enter_line(alloc, place, history, line) {
         Ok(entered) => match put_entered(out, number, entered) {
@@ -299,7 +297,7 @@ fn enter_lines<H: Host, W: Write>(
     out: &mut W,
 ) -> Result<u8, WriteFault>
     ensures puts { IfOk result (PutsGames (place_of H.facts H.Port.facts H.File.facts place.now) (lines_in list.now) (W.contents out.old) (W.contents out.new)) }
-    ensures made { MakesGames place.now.games.now (H.made history.old) (H.made history.new) }
+    ensures made { MakesForLines (place_of H.facts H.Port.facts H.File.facts place.now) (lines_in list.now) (H.made history.old) (H.made history.new) }
 {
     let mut rest = list;
     let mut before: usize = 0;
@@ -349,8 +347,7 @@ fn enter_list<D: Disk, I, H: Host, W: Write>(
     history: &mut H::History,
     out: &mut W,
 ) -> Result<u8, WriteFault>
-    ensures enters { EntersList (D.facts system.now.disk.now) (hosted (H.facts system.now.host.now) H.Port.facts H.File.facts) task.now list.now (W.contents out.old) (W.contents out.new) result }
-    ensures made { MakesGames task.now.games.now (H.made history.old) (H.made history.new) }
+    ensures { EntersList (D.facts system.now.disk.now) (hosted (H.facts system.now.host.now) H.Port.facts H.File.facts) task.now list.now (H.made history.old) (H.made history.new) (W.contents out.old) (W.contents out.new) result }
 {
     match manifest_for(alloc, system.disk, task.manifest, task.tables) {
         Ok(manifest) => {
@@ -384,8 +381,7 @@ pub fn enter<D: Disk, I: Input, H: Host, W: Write>(
     history: &mut H::History,
     out: &mut W,
 ) -> Result<u8, WriteFault>
-    ensures enters { Enters (D.facts system.now.disk.now) (I.facts system.now.input.now) (hosted (H.facts system.now.host.now) H.Port.facts H.File.facts) task.now (W.contents out.old) (W.contents out.new) result }
-    ensures made { MakesEntries task.now (H.made history.old) (H.made history.new) }
+    ensures { Enters (D.facts system.now.disk.now) (I.facts system.now.input.now) (hosted (H.facts system.now.host.now) H.Port.facts H.File.facts) task.now (H.made history.old) (H.made history.new) (W.contents out.old) (W.contents out.new) result }
 {
     match &task.entries {
         Entries::One(game) => enter_one(alloc, task, game, system, history, out),

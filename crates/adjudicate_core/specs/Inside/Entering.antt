@@ -1,6 +1,5 @@
 -- A game's file by what was found in it, and what comes of the next line of a list; cited by private functions alone.
-use Rattle.std.specs.Prelude.{◌≡◌, ◌≢◌, ◌⊎◌, ℕ, List, [], ◌∷◌, Option, Some}
-use Rattle.std.specs.List.{AllByRecursion}
+use Rattle.std.specs.Prelude.{◌≡◌, ◌≢◌, ℕ, List, Option, Some}
 use Rattle.std.specs.Io.KnownBytes.{Appends}
 use Rattle.move_msg.specs.TextLines.{ended}
 use Rattle.system_io.specs.Histories.{Passes}
@@ -14,10 +13,8 @@ use Rattle.adjudicate_core.specs.declared.entering.KeepFault.{KeepFault}
 use Rattle.adjudicate_core.specs.declared.entering.KeepFault.TheVariants as keep
 use Rattle.adjudicate_core.specs.declared.entering.Step.{Step}
 use Rattle.adjudicate_core.specs.declared.entering.Step.TheVariants as step
-use Rattle.adjudicate_core.specs.Enters.{EntersLine, LacksGame, Place, place}
+use Rattle.adjudicate_core.specs.Enters.{EntersLine, IsMadeForLine, LacksGame, Place, place}
 use Rattle.adjudicate_core.specs.Listens.{hosted}
-use Rattle.adjudicate_core.specs.Makes.{IsGameIn, IsOfEntries}
-use Rattle.adjudicate_core.specs.declared.commands.enter.Enter.{Enter}
 
 -- the place where games are entered
 abbrev pub place_of : {H P F : Type 0} → (H → HostFacts P F) → (P → PortFacts) → (F → KeptFacts) → GamePlace H → Place P F
@@ -42,14 +39,6 @@ EntersNext p number line old new step.Cut = LacksGame p line keep.OutOfMemory ×
 
 -- ---- what is made
 
--- nothing, or the file of a game of this folder
-abbrev pub MakesGame : List ℕ → Option (List Made) → Option (List Made) → Type 0
-MakesGame games had has = Passes had has [] ⊎ ((made : Made) × IsGameIn games made × Passes had has (made ∷ []))
-
--- files of games of this folder
-abbrev pub MakesGames : List ℕ → Option (List Made) → Option (List Made) → Type 0
-MakesGames games had has = (more : List Made) × Passes had has more × AllByRecursion (IsGameIn games) more
-
--- what the words enter
-abbrev pub MakesEntries : Enter → Option (List Made) → Option (List Made) → Type 0
-MakesEntries t had has = (more : List Made) × Passes had has more × IsOfEntries t.games.now t.entries more
+-- at the host the file of the game of a line is opened, or nothing
+abbrev pub MakesForLine : {P F : Type 0} → Place P F → List ℕ → Option (List Made) → Option (List Made) → Type 0
+MakesForLine p line had has = (more : List Made) × Passes had has more × IsMadeForLine p line more

@@ -1,6 +1,6 @@
-use Rattle.std.proofs.Common.{refl}
+use Rattle.std.proofs.Common.{inl, refl}
 use Rattle.adjudicate_core.specs.Enters.{NoRoomForPath, NoText}
-use Rattle.adjudicate_core.proofs.MakeLaws.{game_once, no_game}
+use Rattle.system_io.proofs.HistoryLaws.{Passes-nil}
 use Rattle.adjudicate_core.proofs.entering.enter_game.Goals as goal
 
 pub returns-in_default-clause-err : goal.returns-in_default-clause-err
@@ -21,10 +21,14 @@ returns-clause-err g c =
     NoText c.write_game-text.result.items spells lacks
 
 pub returns-in_default-clause-made : goal.returns-in_default-clause-made
-returns-in_default-clause-made g c = no_game _ _
+returns-in_default-clause-made g c = inl (Passes-nil _)
 
 pub returns-in-Ok-keep_at-clause-made : goal.returns-in-Ok-keep_at-clause-made
-returns-in-Ok-keep_at-clause-made g c = game_once c.args.place.now.games.now c.stamp-stamp.result.0 _ _ (rw c.in-Ok.ensures at (rw c.as_str.ensures.value at c.keep_at.ensures.made))
+returns-in-Ok-keep_at-clause-made g c =
+    let stamp = rw c.plies.ensures.value at c.stamp-stamp.ensures in
+    rw stamp at (rw c.in-Ok.ensures at (rw c.as_str.ensures.value at c.keep_at.ensures.made))
 
 pub returns-clause-made : goal.returns-clause-made
-returns-clause-made g c = game_once c.args.place.now.games.now c.stamp-stamp.result.0 _ _ (rw c.in-Ok.ensures at (rw c.as_str.ensures.value at c.keep_at.ensures.made))
+returns-clause-made g c =
+    let stamp = rw c.plies.ensures.value at c.stamp-stamp.ensures in
+    rw stamp at (rw c.in-Ok.ensures at (rw c.as_str.ensures.value at c.keep_at.ensures.made))

@@ -7,10 +7,10 @@ pub returns-in-Err : goal.returns-in-Err
 returns-in-Err g c = NoRoomForGames (Passes-nil _) refl c.put_refusal.ensures
 
 pub returns-in-Ok-serve : goal.returns-in-Ok-serve
-returns-in-Ok-serve g c = Served (rw c.in-Ok.ensures.games_are at c.in-Ok-serve.ensures.made) (rw (c.in-Ok.ensures.common_is, c.in-Ok.ensures.games_are, c.requires.is) at c.in-Ok-serve.ensures.hosts)
+returns-in-Ok-serve g c = Served tt (rw c.in-Ok.ensures.games_are at c.in-Ok-serve.ensures.made) (rw (c.in-Ok.ensures.common_is, c.in-Ok.ensures.games_are, c.requires.is) at c.in-Ok-serve.ensures.hosts)
 
 pub returns-then-not-task : goal.returns-then-not-task
-returns-then-not-task g c = Served (rw c.in-Ok.ensures.games_are at c.in-Err-serve.ensures.made) (rw (c.in-Ok.ensures.common_is, c.in-Ok.ensures.games_are, c.requires.is) at c.in-Err-serve.ensures.hosts)
+returns-then-not-task g c = Served c.if-not-task.true (rw c.in-Ok.ensures.games_are at c.in-Err-serve.ensures.made) (rw (c.in-Ok.ensures.common_is, c.in-Ok.ensures.games_are, c.requires.is) at c.in-Err-serve.ensures.hosts)
 
 pub returns : goal.returns
 returns g c =

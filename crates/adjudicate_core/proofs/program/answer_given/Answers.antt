@@ -2,7 +2,7 @@ use Rattle.std.proofs.Common.{◌∙◌, refl, sym, ap, inl}
 use Rattle.adjudicate_core.specs.Tasks.{tells_progress}
 use Rattle.adjudicate_core.proofs.AnswerLaws.{after_reading, entered, listened, once, once_always, sent, told_or_quiet}
 use Rattle.adjudicate_core.proofs.HostLaws.{hosted_games}
-use Rattle.adjudicate_core.proofs.MakeLaws.{host_makes, listen_makes, makes_nothing, send_makes}
+use Rattle.adjudicate_core.proofs.MakeLaws.{enter_makes, host_makes, listen_makes, makes_nothing, send_makes}
 use Rattle.adjudicate_core.proofs.program.answer_given.Goals as goal
 
 pub returns-in-Judge : goal.returns-in-Judge
@@ -55,7 +55,7 @@ returns-in-Send g c = record {
 }
 
 pub returns-in-Enter : goal.returns-in-Enter
-returns-in-Enter g c = record { answered = rw c.in-Enter.is (entered _ _ _ _ _ _ c.enter.result c.enter.ensures.enters); quiet = λ unasked. inl refl; made = rw c.in-Enter.is c.enter.ensures.made }
+returns-in-Enter g c = record { answered = rw c.in-Enter.is (entered _ _ _ _ _ _ _ _ c.enter.result c.enter.ensures); quiet = λ unasked. inl refl; made = rw c.in-Enter.is (enter_makes _ _ _ _ _ _ _ _ c.enter.result c.enter.ensures) }
 
 pub returns-in-Host : goal.returns-in-Host
 returns-in-Host g c = record { answered = rw c.in-Host.is (hosted_games _ _ _ _ _ _ _ _ _ _ c.host_games.result c.host_games.ensures); quiet = λ unasked. inl refl; made = rw c.in-Host.is (host_makes _ _ _ _ _ _ _ _ _ c.host_games.result c.host_games.ensures) }
