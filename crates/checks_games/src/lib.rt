@@ -3,11 +3,12 @@
 //! - `opening_tests`: keepers that fail
 //! - `serving_tests`: an arbiter in service, over a port in memory, and outputs that fail
 //! - `stopping_tests`: random runs that are stopped
+//! - `hosting_tests`: a server of three games that is stopped
 //! - `udp_tests`: the system's sockets
 //! - `world_tests`: schedules, and what is said of them
 //! - `seeded_world_tests`: random schedules against a plain model
 //!
-//! `positions`, `files`, `arbiters`, `failing` and `comparing` are what the tests share.
+//! `positions`, `files`, `arbiters`, `playing`, `failing` and `comparing` are what the tests share.
 //!
 //! They are in a crate of their own, since a crate is proved a second time for its tests, and use public calls alone. A row of
 //! words and results is a case of `rows` and not a test. `tools/planted` and the edits in `must-fail/` show what the contracts
@@ -23,7 +24,11 @@ mod failing;
 #[cfg(test)]
 mod files;
 #[cfg(test)]
+mod hosting_tests;
+#[cfg(test)]
 mod opening_tests;
+#[cfg(test)]
+mod playing;
 #[cfg(test)]
 mod positions;
 #[cfg(test)]

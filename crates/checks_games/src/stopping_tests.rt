@@ -1,10 +1,10 @@
 //! Random runs of an arbiter over a disk in memory, each stopped anywhere, some with a loss of power and with calls that fail.
 
-use crate::arbiters::{Sent, message_of, record_of, setup_of, stamp_of};
+use crate::arbiters::setup_of;
 use crate::comparing::{check_bytes, check_same};
+use crate::playing::{MOVES, below, message_at, record_at};
 use crate::positions::START;
 use arbiter_server::{Span, Stop, run_after};
-use board_core::Verdict;
 use move_msg::{Message, Record};
 use std::alloc::Global;
 use std::process::Abort;
@@ -13,59 +13,17 @@ use system_io::{
     replace_in_part,
 };
 
-/// The moves of a game, four letters each. The last one mates.
-const GAME: &str = "e2e4 e7e5 f1c4 b8c6 a2a3 a7a6 b2b3 b7b6 d1h5 g8f6 h5f7";
-
-/// How many they are.
-const MOVES: usize = 11;
-
 /// How many runs are made, and how many of them over one disk at most.
 const RUNS: u32 = 200;
 
 const RUNS_OVER_ONE: u32 = 10;
 
-/// The next number of a row of numbers, below a limit.
-fn below(seed: &mut u64, limit: usize) -> usize {
-    *seed = seed
-        .wrapping_mul(6364136223846793005)
-        .wrapping_add(1442695040888963407);
-    (*seed >> 33) as usize % limit.max(1)
-}
-
-/// The first moves of the game, so many.
-fn first_moves(count: usize) -> &'static str {
-    match GAME.get(..count.saturating_mul(5).saturating_sub(1)) {
-        Some(front) => front,
-        None => GAME,
-    }
-}
-
-/// The message of the move with this number.
-fn message_at(rt: &impl Abort, number: usize) -> [u8; 27] {
-    let start = number.saturating_mul(5);
-    let text = GAME
-        .get(start..start.saturating_add(4))
-        .expect(rt, "a move");
-    message_of(rt, stamp_of(rt, START, 0), Sent::Move, number as u32, text).encode()
-}
-
 fn messages(rt: &impl Abort) -> [[u8; 27]; MOVES] {
     let mut all = [[0u8; 27]; MOVES];
     for number in 0..MOVES {
-        all[number] = message_at(rt, number);
+        all[number] = message_at(rt, 0, number);
     }
     all
-}
-
-/// The record of the first moves of the game, so many.
-fn record_at(rt: &impl Abort, alloc: Global, count: usize) -> Vec<u8> {
-    let verdict = if count < MOVES {
-        None
-    } else {
-        Some(Verdict::WhiteMates)
-    };
-    let stamp = stamp_of(rt, START, 0);
-    record_of(rt, alloc, stamp, 0, first_moves(count), verdict)
 }
 
 /// What comes of a call: one in six fails, before, in the middle or after all is done.
@@ -189,7 +147,7 @@ fn run_and_hear(
 
 /// Stops in the middle of a put of the record with one move more than so many, after some of its calls.
 fn cut_put(rt: &impl Abort, alloc: Global, disk: &mut DiskFile, count: u32, seed: &mut u64) {
-    let bytes = record_at(rt, alloc, (count as usize + 1).min(MOVES));
+    let bytes = record_at(rt, alloc, 0, (count as usize + 1).min(MOVES));
     let _done = replace_in_part(disk, &bytes, below(seed, 5));
 }
 
@@ -220,7 +178,7 @@ fn stop(
 fn check_record(rt: &impl Abort, alloc: Global, bytes: &[u8], acknowledged: u32) {
     let count = Record::summary(bytes).expect(rt, "a record").0;
     check_same(rt, count.max(acknowledged), count, "moves at the end");
-    let wanted = record_at(rt, alloc, count as usize);
+    let wanted = record_at(rt, alloc, 0, count as usize);
     check_bytes(rt, bytes, &wanted, "the record");
 }
 
