@@ -65,11 +65,16 @@ struct Folder<'r> {
 }
 
 impl<'r> Games for Folder<'r> {
-    ghost use Rattle.std.specs.Prelude.{ℕ};
+    ghost use Rattle.std.specs.Prelude.{None, ℕ};
+    ghost use Rattle.system_io.specs.Hosts.{FileAt};
 
     type Keeper = MemoryKeeper;
 
-    ghost facts = { record { Place = ℕ; place = λ _. 0; tells = λ _ _ _. Unit {0}; lacks = λ _ _ _. Unit {0}; withholds = λ _ _ _. Unit {0}; is_of = λ _ _ _. Unit {0}; follows = λ _ _. Unit {0}; gives = λ _ _ _. Unit {0} } };
+    type History = ();
+
+    ghost facts = { record { Place = ℕ; place = λ _. 0; tells = λ _ _ _. Unit {0}; lacks = λ _ _ _. Unit {0}; withholds = λ _ _ _. Unit {0}; is_of = λ _ _ _. Unit {0}; follows = λ _ _. Unit {0}; gives = λ _ _ _. Unit {0}; taken = λ _ stamp. FileAt stamp } };
+
+    ghost made = { λ _. None };
 
     fn find(&self, _alloc: Global, stamp: &[u8; 16]) -> Result<Found, Unopened> {
         for game in self.games.iter() {
@@ -84,7 +89,12 @@ impl<'r> Games for Folder<'r> {
         Err(Unopened::NoGame)
     }
 
-    fn take(&mut self, alloc: Global, stamp: &[u8; 16]) -> Result<MemoryKeeper, Unopened> {
+    fn take(
+        &mut self,
+        alloc: Global,
+        _history: &mut (),
+        stamp: &[u8; 16],
+    ) -> Result<MemoryKeeper, Unopened> {
         for game in self.games.iter_mut() {
             if game.stamp.0 == *stamp {
                 return game.keeper(alloc, self.keep);
@@ -127,7 +137,7 @@ fn serve(rt: &impl Abort, alloc: Global, folder: Folder<'_>, port: &mut MemoryPo
     };
     let set = Set::new(alloc, 1).expect(rt, "memory");
     if let Ok(mut server) = Server::open(alloc, config, set, folder) {
-        let _ended = server.serve(alloc, port, 3, &mut LineLog::All, &mut Vec::new(alloc));
+        let _ended = server.serve(&mut (), port, 3, &mut LineLog::All, &mut Vec::new(alloc));
     }
 }
 
