@@ -1,6 +1,6 @@
 -- Nodes of symbols.
-use Rattle.std.proofs.Common.{◌≡◌, ◌≢◌, ℕ, ◌+◌, ◌-◌, ◌<◌, List, [], ◌∷◌, ◌++◌, length, get_or, set, take, refl, sym, ap, subst, ◌∙◌, inl, inr, arith}
-use Rattle.std.proofs.lemmas.List.{length-append, length-set, length-map, get_or-map, map-append, get_or_append_left, get_or-append_right, get_or-set_same, get_or-set_other, get_or_read, get_or_default, take-append-le, take_all, take_more}
+use Rattle.std.proofs.Common.{◌≡◌, ◌≢◌, ℕ, ◌+◌, ◌-◌, ◌<◌, List, ◌++◌, length, get_or, set, take, refl, sym, ap, subst, ◌∙◌, inl, inr, arith}
+use Rattle.std.proofs.lemmas.List.{length-append, length-set, length-map, get_or-map, get_or_append_left, get_or-append_right, get_or-set_same, get_or-set_other, get_or_read, get_or_default, take-append-le, take_all, take_more, take_more_set, map-set}
 use Rattle.std.proofs.lemmas.Bool.{cases_lt, cases_eq}
 use Rattle.pair_dict.specs.Symbols.{symbol_count, left, right, HasValues, leaf, pair, values_of}
 use Rattle.pair_dict.specs.Inside.Counts.{AreCounts, AreSettled, KeepsKnown}
@@ -123,5 +123,9 @@ read_byte symbols bytes h s x lt e =
     let within : s < length bytes = omega (arith, lt, h.lengths, length-counts_in bytes) in
     ap (λ (n : ℕ). n + 1) e ∙ sym (get_or-map (λ (n : ℕ). n + 1) bytes s x 0 within)
 
-pub byte_more : (bytes counts : List ℕ) (i n : ℕ) → i < length counts → n + 1 ≡ get_or counts i 0 → counts_in bytes ≡ take i counts → counts_in (bytes ++ n ∷ []) ≡ take (i + 1) counts
-byte_more bytes counts i n lt n-is e = map-append (λ (m : ℕ). m + 1) bytes (n ∷ []) ∙ rw (e, n-is) (sym (take_more counts i 0 lt))
+-- one byte more
+pub byte_put : (bytes counts : List ℕ) (i v : ℕ) → length bytes ≡ length counts → i < length counts → v + 1 ≡ get_or counts i 0 → take i (counts_in bytes) ≡ take i counts → take (i + 1) (counts_in (set bytes i v)) ≡ take (i + 1) counts
+byte_put bytes counts i v lengths lt is done =
+    let len : i < length (counts_in bytes) = omega (arith, length-counts_in bytes, lengths, lt) in
+    let put : counts_in (set bytes i v) ≡ set (counts_in bytes) i (v + 1) = map-set (λ (n : ℕ). n + 1) bytes i v in
+    rw (put, take_more_set (counts_in bytes) i (v + 1) len, is, done) (sym (take_more counts i 0 lt))

@@ -1,5 +1,5 @@
 -- Runs of short codes.
-use Rattle.std.proofs.Common.{◌≡◌, ℕ, ◌+◌, ◌-◌, ◌*◌, ◌/◌, ◌%◌, ◌^◌, ◌<◌, ◌≤◌, List, length, get_or, set, min, replicate, refl, sym, ap, subst, ◌∙◌, inl, inr, arith}
+use Rattle.std.proofs.Common.{◌≡◌, ◌≢◌, ℕ, ◌+◌, ◌-◌, ◌*◌, ◌/◌, ◌%◌, ◌^◌, ◌<◌, ◌≤◌, List, length, get_or, set, min, replicate, refl, sym, ap, subst, ◌∙◌, inl, inr, arith}
 use Rattle.std.proofs.lemmas.Bool.{cases_lt, cases_eq}
 use Rattle.std.proofs.lemmas.List.{get_or-replicate, get_or-set_same, get_or-set_other, length-replicate, length-set}
 use Rattle.std.proofs.lemmas.Nat.{shr-shr, shl-shr, shr_high, field_of, mul-add-lt, pow-add, pow_pos}
@@ -8,7 +8,7 @@ use Rattle.pair_dict.specs.Symbols.{symbol_count, values_of}
 use Rattle.pair_dict.specs.Inside.Counts.{AreCounts}
 use Rattle.pair_dict.specs.Codes.{Pairing, IsCode, bases, bits}
 use Rattle.pair_dict.specs.Inside.Windows.{Shows, IsFirst, AreFirsts}
-use Rattle.pair_dict.specs.Inside.Runs.{run_values, run_bits, IsLeft, IsSkip, IsRunAt, IsRun, IsRunOf, IsCodeRun, IsTop, AreJoined}
+use Rattle.pair_dict.specs.Inside.Runs.{run_values, run_bits, IsLeft, IsSkip, IsRunAt, IsRun, IsRunOf, IsCodeRun, IsTop, AreJoined, AreWithin}
 use Rattle.pair_dict.specs.declared.window.BitBuffer.{BitBuffer}
 use Rattle.pair_dict.specs.declared.runs.CodeRun.{CodeRun}
 use Rattle.pair_dict.proofs.Longest.{code_complete}
@@ -243,3 +243,11 @@ joined_more d runs width front place run all front-lt place-is within next w f o
           rw (same, get_or-set_same runs place run other within, width-is, front-is) next
       | inr ne ↦ rw (get_or-set_other runs place (2 ^ w + f) run other ne) (all w f other f-lt (omega (arith, f-within, length-set runs place run)))
     ]
+
+-- runs of fewer bits stay as they are
+pub within_put : (runs : List CodeRun) (width n spare behind most place : ℕ) (run : CodeRun) → behind ≡ 2 ^ spare → 1 ≤ n → n + spare ≡ width → 2 ^ width ≤ place → AreWithin runs behind most → AreWithin (set runs place run) behind most
+within_put runs width n spare behind most place run behind-is some sum far h rest lt other =
+    let more : 2 ^ (spare + 1) ≤ 2 ^ width = pow-le-pow_right {n = 2} (omega arith) (omega arith) in
+    let twice : 2 ^ (spare + 1) ≡ 2 ^ spare * 2 = pow-add 2 spare 1 in
+    let ne : behind + rest ≢ place = λ same. omega (arith, more, twice, behind-is, lt, far, same) in
+    rw (get_or-set_other runs place (behind + rest) run other ne) (h rest lt other)

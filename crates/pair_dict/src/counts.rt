@@ -7,7 +7,7 @@ ghost use Rattle.pair_dict.specs.Inside.Nodes.{AreNodes, AreKnownNodes, Joins, c
 ghost use Rattle.pair_dict.specs.declared.fault.DictFault.TheVariants.{BadSymbol, OutOfMemory};
 
 use crate::fault::DictFault;
-use crate::nodes::{Node, Parts};
+use crate::nodes::Node;
 use crate::symbols::{MOST_VALUES, Symbol, symbol_at};
 use std::alloc::{AllocError, Global};
 
@@ -20,12 +20,9 @@ fn joined(nodes: &[Node], left: u16, right: u16, skipped: u16) -> Node
     requires skipped { skipped < 256 }
     ensures { Joins nodes.now left right skipped result }
 {
-    if let Parts::Equal(first) = nodes[left as usize].parts() {
-        if let Parts::Equal(second) = nodes[right as usize].parts() {
-            if first == second {
-                return Node::equal(first);
-            }
-        }
+    let first = nodes[left as usize];
+    if first.is_equal_to(nodes[right as usize]) {
+        return first;
     }
     Node::pair(left, right, skipped)
 }
@@ -138,9 +135,9 @@ pub(crate) fn bytes_of(alloc: Global, counts: &[u16]) -> Result<Vec<u8>, AllocEr
     requires few { (s : ℕ) → s < length counts.now → slice_index counts.now s ≤ 256 }
     ensures { IfOk result (λ bytes. counts_in bytes.items ≡ counts.now) }
 {
-    let mut bytes = Vec::with_capacity(alloc, counts.len())?;
+    let mut bytes = vec![in alloc; 0u8; counts.len()]?;
     for i in 0..counts.len() {
-        bytes.push((counts[i] - 1) as u8)?;
+        bytes[i] = (counts[i] - 1) as u8;
     }
     Ok(bytes)
 }

@@ -1,7 +1,7 @@
 //! Symbols as they are kept for going down to one of their values.
 
-ghost use Rattle.std.specs.Prelude.{◌≡◌, ◌<◌};
-ghost use Rattle.pair_dict.specs.Inside.Nodes.{parts_of};
+ghost use Rattle.std.specs.Prelude.{◌≡◌, ◌<◌, IsTrue};
+ghost use Rattle.pair_dict.specs.Inside.Nodes.{parts_of, HaveOneValue};
 ghost use Rattle.pair_dict.specs.declared.nodes.Parts.TheVariants.{Equal, Pair};
 
 /// What the values of a symbol are.
@@ -50,6 +50,14 @@ impl Node {
         Node {
             packed: left as u32 + 4096 * right as u32 + 16777216 * skipped as u32,
         }
+    }
+
+    /// Whether all values of this node's symbol and of another one's are equal.
+    #[inline]
+    pub(crate) fn is_equal_to(self, other: Node) -> bool
+        ensures { IsTrue result → HaveOneValue self other }
+    {
+        self.packed == other.packed && self.packed / 4096 % 4096 == EQUAL
     }
 
     /// What the values are.

@@ -1,12 +1,12 @@
 //! Codes that stand one after the other in a few bits.
 
-ghost use Rattle.std.specs.Prelude.{◌≡◌, ◌+◌, ◌*◌, ◌^◌, ◌<◌, ◌≤◌, ◌↔◌, length, IsTrue, IfOk};
+ghost use Rattle.std.specs.Prelude.{◌≡◌, ◌+◌, ◌*◌, ◌^◌, ◌<◌, ◌≤◌, ◌↔◌, ℕ, length, IsTrue, IfOk};
 ghost use Rattle.pair_dict.specs.Symbols.{symbol_count};
 ghost use Rattle.pair_dict.specs.Inside.Counts.{AreCounts};
 ghost use Rattle.pair_dict.specs.Reading.{words};
 ghost use Rattle.pair_dict.specs.Inside.Layouts.{pairing_in};
 ghost use Rattle.pair_dict.specs.Inside.Windows.{AreFirsts};
-ghost use Rattle.pair_dict.specs.Inside.Runs.{run_values, run_bits, sum_values, sum_bits, IsCodeRun, IsRunOf, IsTop, AreJoined, AreRuns};
+ghost use Rattle.pair_dict.specs.Inside.Runs.{run_values, run_bits, sum_values, sum_bits, IsCodeRun, IsRunOf, IsTop, AreJoined, AreRuns, IsWithin, AreWithin};
 
 use crate::layout::Layout;
 use crate::two_bytes::word_of;
@@ -171,6 +171,49 @@ fn run_within(layout: &Layout<'_>, runs: &[CodeRun], place: usize, most: usize) 
     }
 }
 
+/// The fewest runs that are looked through together, before they are joined to a code.
+const MANY_RUNS: usize = 16;
+
+/// Whether none of so many runs, from the place of that number on, has more values than this. Of few runs it isn't found out.
+/// They are looked through without a test between them.
+#[inline]
+fn are_within(runs: &[CodeRun], behind: usize, most: usize) -> bool
+    requires { 2 * behind ≤ length runs.now }
+    ensures { IsTrue result → AreWithin runs.now behind most }
+{
+    if behind < MANY_RUNS {
+        return false;
+    }
+    let mut within = true;
+    for rest in 0..behind {
+        within &= runs[behind + rest].values() <= most;
+    }
+    within
+}
+
+/// The run that `run_within` gives. Where it is known that the one at the place has few enough values, that is taken as it
+/// stands.
+#[inline]
+fn run_behind(
+    layout: &Layout<'_>,
+    runs: &[CodeRun],
+    place: usize,
+    most: usize,
+    fits: bool,
+) -> CodeRun
+    requires some { 1 ≤ place }
+    requires known { place < length runs.now }
+    requires joined { AreJoined (pairing_in layout.now).0 runs.now }
+    requires fits { IsTrue fits → IsWithin runs.now place most }
+    ensures is { IsRunOf (pairing_in layout.now).0 place result }
+    ensures few { run_values result ≤ most }
+{
+    if fits {
+        return runs[place];
+    }
+    run_within(layout, runs, place, most)
+}
+
 /// Sets the runs of this many bits that begin with one code: that code, and the run of the bits after it. The layout
 /// serves the clauses alone.
 fn join_code(layout: &Layout<'_>, single: CodeRun, code: usize, width: u32, runs: &mut [CodeRun])
@@ -188,8 +231,9 @@ fn join_code(layout: &Layout<'_>, single: CodeRun, code: usize, width: u32, runs
     let behind = numbers_of(width - single.bits());
     let place = numbers_of(width) + code * behind;
     let most = MOST_RUN_VALUES - single.values();
+    let all_fit = are_within(runs, behind, most);
     for rest in 0..behind {
-        let run = run_within(layout, runs, behind + rest, most);
+        let run = run_behind(layout, runs, behind + rest, most, all_fit);
         runs[place + rest] = single.then(run);
     }
 }

@@ -53,6 +53,10 @@ pub record AreKnownNodes (symbols counts : List ℕ) (nodes : List Node) : Type 
       (s : ℕ) (other : Node) → s < symbol_count symbols → slice_index counts s ≢ 0
       → IsNode symbols s (get_or nodes s other)
 
+-- all values of two symbols are equal to one
+abbrev pub HaveOneValue : Node → Node → Type 0
+HaveOneValue first second = (value : ℕ) × (parts_of first ≡ Equal value) × (parts_of second ≡ Equal value)
+
 -- a node is that of the pair of two symbols with these nodes, the left one with so many values
 abbrev pub Joins : List Node → ℕ → ℕ → ℕ → Node → Type 0
 Joins nodes a b skipped node =
