@@ -1,0 +1,10 @@
+pub mod SlotLemmas
+pub mod RowLemmas
+pub mod PutLemmas
+pub mod BatchLemmas
+pub mod ReadLemmas
+pub mod MirrorLemmas
+pub mod ShelfLemmas
+pub mod StoreLemmas
+pub mod FileLemmas
+pub mod ListLemmas

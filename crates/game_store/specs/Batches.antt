@@ -1,0 +1,25 @@
+-- What a batch makes of a database (this project's own).
+use Rattle.std.specs.Prelude.{◌≡◌, ℕ, List}
+use Rattle.sqlite.specs.Effect.{Database}
+use Rattle.sqlite.specs.State.{State}
+use Rattle.sqlite_catalog.specs.Listing.{IsSound}
+use Rattle.game_store.specs.declared.entry.Entry.{Entry}
+use Rattle.game_store.specs.Games.{with_all}
+use Rattle.game_store.specs.Rows.{AreRows, HasPut, Numbers, game_schema, games_in, stored}
+
+-- the database has the table of the games alone, and rows of games under their numbers
+pub record HasRows (numbers : Numbers) (db : Database) : Type 0 where
+  pub schema : db.schema ≡ game_schema
+  pub sound : IsSound game_schema db.trees
+  pub rows : AreRows numbers (db.trees 0)
+
+-- one database became another where each entry of a batch was put in turn
+pub record Becomes (numbers : Numbers) (entries : List Entry) (old new : Database) : Type 0 where
+  pub has : HasRows numbers new
+  pub games : (stamp : List ℕ) → games_in (new.trees 0) stamp ≡ with_all (games_in (old.trees 0)) entries stamp
+
+-- a row was put
+pub record PutsRow (number : ℕ) (e : Entry) (old new : State) : Type 0 where
+  pub schema : new.now.schema ≡ game_schema
+  pub sound : IsSound game_schema new.now.trees
+  pub put : HasPut (stored number e) (old.now.trees 0) (new.now.trees 0)

@@ -1,0 +1,32 @@
+-- The list of the games (this project's own).
+use Rattle.std.specs.Prelude.{◌≡◌, ℕ, List, [], ◌∷◌, ◌++◌, map, Option, None, Some}
+use Rattle.std.specs.List.Sorted.{IsStrictlySortedBy}
+use Rattle.std.specs.Map.{lookup}
+use Rattle.std.specs.Ordering.{nat_cmp}
+use Rattle.std.specs.Cmp.Lexicographic.{slice_cmp}
+use Rattle.std.specs.Str.{bytes_eq}
+use Rattle.game_store.specs.declared.memory.Kept.{Kept}
+use Rattle.game_store.specs.declared.memory.Text.{Text}
+use Rattle.game_store.specs.Games.{Game, Games}
+use Rattle.game_store.specs.Slots.{Slots, game_of_text}
+
+-- a game with its stamp
+abbrev pub Listed : Type 0
+Listed = List ℕ × Game
+
+abbrev pub as_listed : Kept → Listed
+as_listed k = (k.stamp, record { count = k.count; bytes = k.record.now })
+
+-- looked up by its stamp each game has what is kept of it, and the stamps rise
+pub record ListsGames (all : List Listed) (games : Games) : Type 0 where
+  pub found : (stamp : List ℕ) → lookup (bytes_eq stamp) all ≡ games stamp
+  pub rising : IsStrictlySortedBy (slice_cmp nat_cmp) (map (λ (e : Listed). e.0) all)
+
+abbrev pub listed_if : List ℕ → Option Text → List Listed
+listed_if stamp None = []
+listed_if stamp (Some t) = (stamp, game_of_text t) ∷ []
+
+-- the games in memory that have records
+abbrev pub listed : Slots → List Listed
+listed [] = []
+listed (e ∷ es) = listed_if e.0 e.1.text ++ listed es

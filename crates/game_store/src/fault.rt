@@ -1,0 +1,28 @@
+//! Why a store can't be had, or a batch not be put.
+
+use sqlite::{Error, ErrorCode};
+
+/// Why a store can't be had, or a batch not be put.
+#[derive(Clone, Copy, Debug, PartialEq, Eq)]
+pub enum StoreFault {
+    /// What the database told: memory or the disk failed, or it is none that can be read.
+    Database(Error),
+    /// The database has other tables than that of the games.
+    OtherTables,
+    /// A row of its table is none of a game: its number or its count is none below 2^32, or its stamp none of 16 bytes.
+    BadRow,
+    /// Two rows of its table have one stamp.
+    SameStamp,
+    /// A game that has no row yet can't get a number below 2^32.
+    NoNumber,
+}
+
+/// Memory was refused.
+pub(crate) const OUT_OF_MEMORY: StoreFault = StoreFault::Database(Error::SqliteFailure(
+    ErrorCode::OutOfMemory,
+));
+
+/// The connection is in a transaction.
+pub(crate) const UNCOMMITTED: StoreFault = StoreFault::Database(Error::SqliteFailure(
+    ErrorCode::TransactionState,
+));
