@@ -1,5 +1,5 @@
 -- A game in hand answers, and is closed or kept.
-use Rattle.std.proofs.Common.{◌≡◌, ℕ, Bool, true, false, cond, List, [], ◌∷◌, Option, Some, None, refl, sym, ap, subst, ◌∙◌}
+use Rattle.std.proofs.Common.{◌≡◌, ◌≤◌, ◌<◌, ◌++◌, ℕ, suc, Bool, true, false, cond, List, [], ◌∷◌, Option, Some, None, refl, sym, ap, subst, ◌∙◌, inl, inr, arith}
 use Rattle.std.specs.Prelude.{Result, Ok, Err}
 use Rattle.std.specs.Str.{bytes_eq}
 use Rattle.std.proofs.lemmas.Bool.{cond-true, cond-false}
@@ -9,7 +9,7 @@ use Rattle.move_msg.specs.Heard.{heard_in}
 use Rattle.move_msg.specs.Messages.{stamp_in}
 use Rattle.move_msg.specs.declared.message.Message.{Message}
 use Rattle.arbiter_core.specs.Answering.{Answer}
-use Rattle.arbiter_core.specs.Delivers.{Exchange, Delivers, Answers as Answered, answer_at, answer_of, answer_to_any, exchange, in_game}
+use Rattle.arbiter_core.specs.Delivers.{Exchange, Delivers, Moment, Answers as Answered, answer_at, answer_of, answer_to_any, exchange, in_game}
 use Rattle.arbiter_core.specs.Views.{View}
 use Rattle.arbiter_server.specs.Serving.{outputs_of}
 use Rattle.arbiter_server.specs.Told.{stamped}
@@ -17,11 +17,11 @@ use Rattle.arbiter_server.specs.declared.fault.Unopened.{Unopened}
 use Rattle.arbiter_server.specs.declared.fault.Unopened.TheVariants.{NotOpen}
 use Rattle.arbiter_server.specs.declared.seat.Seat.{Seat}
 use Rattle.arbiter_server.specs.Folders.{Gives, GivesLess, GivesOthers, Keepers}
-use Rattle.arbiter_server.specs.Acts.{Act, Answers, IsAnsweredNext, Opens, Reply, Strange, Unread, answered, opens_by, opens_for, opens_game, stamp_by, stamp_for, unopened, unread}
+use Rattle.arbiter_server.specs.Acts.{Act, AreInRoom, Answers, Closes, IsAnsweredNext, Opens, Reply, Strange, Unread, answered, one_less, open_after, opens_by, opens_for, opens_game, stamp_by, stamp_for, unopened, unread}
 use Rattle.arbiter_server.specs.Games.{CommonView, GoesOn, IsNotOpen, IsStrange, LacksKeeper, Life, Fresh, Shut, Open, life_at}
 use Rattle.arbiter_server.specs.Seats.{At, Evicts, Lives, Nothing, One, IsAnswered, IsAtRest, Stands, in_hand, moment_of}
-use Rattle.arbiter_server.specs.Turns.{ComesInHand, IsOpened, LeadsBy, LeadsFrom, LeadsFromBy, LeadsOne, LeadsOpenFrom, WasOpen}
-use Rattle.arbiter_server.proofs.Turning.{closes, each_join, itself, leads_join, leads_not, leads_one, less_stands, one_act, same_stamp}
+use Rattle.arbiter_server.specs.Turns.{ComesInHand, Effect, IsOpened, Leads, LeadsBy, LeadsFrom, LeadsFromBy, LeadsOne, LeadsOpenFrom, Replied, Took, WasOpen, all_effects, effects_with}
+use Rattle.arbiter_server.proofs.Turning.{closes, closes_one, each_join, itself, leads_join, leads_not, leads_one, less_stands, one_act, same_stamp}
 
 module _ {K : Type 0} where
   -- one that isn't open is not the one that is in hand
@@ -31,9 +31,9 @@ module _ {K : Type 0} where
     | false ↦ λ e. refl
   ]) refl
 
-  pub absent_still : (follows : K → K → Type 0) (old new : Gives K) (at at' : At K) (stamp : List ℕ) → at stamp ≡ None → Evicts follows old at new at' → at' stamp ≡ None
-  absent_still follows old new at at' stamp absent (Nothing less same) = same stamp ∙ absent
-  absent_still follows old new at at' stamp absent (One gone seat was after left others) = after stamp ∙ cond_none (bytes_eq gone stamp)
+  pub absent_still : (follows : K → K → Type 0) (most : ℕ) (old new : Gives K) (at at' : At K) (k k' : ℕ) (stamp : List ℕ) → at stamp ≡ None → Evicts follows most old at k new at' k' → at' stamp ≡ None
+  absent_still follows most old new at at' k k' stamp absent (Nothing less same _) = same stamp ∙ absent
+  absent_still follows most old new at at' k k' stamp absent (One gone seat was after left others _ _) = after stamp ∙ cond_none (bytes_eq gone stamp)
     where
       cond_none : (b : Bool) → cond b None (at stamp) ≡ None
       cond_none true = refl
@@ -49,33 +49,64 @@ module _ {K : Type 0} where
   holds_it : (stamp : List ℕ) (seat : Seat K) (at : At K) → in_hand stamp (Some seat) at stamp ≡ Some seat
   holds_it stamp seat at = cond-true (bytes_eq stamp stamp) (Some seat) (at stamp) (itself stamp)
 
-module _ {K : Type 0} (s : Keepers K) (t : CommonView) where
-  pub evicting : (old new : Gives K) (at at' : At K) (stamp : List ℕ) (seat : Seat K) → at stamp ≡ None → Evicts s.follows old at new at' → LeadsFrom s t old (in_hand stamp (Some seat) at) new (in_hand stamp (Some seat) at') []
-  evicting old new at at' stamp seat absent (Nothing less same) =
-      leads_not s t old new _ _ less (λ other. ap (λ (o : Option (Seat K)). cond (bytes_eq stamp other) (Some seat) o) (same other))
-  evicting old new at at' stamp seat absent (One gone least was after left others) =
-      let apart = apart_from at stamp gone least absent was in
-      closes s t old new _ _ gone least (cond-false (bytes_eq stamp gone) (Some seat) (at gone) apart ∙ was)
-      (λ other. ap (λ (o : Option (Seat K)). cond (bytes_eq stamp other) (Some seat) o) (after other) ∙ swap other apart) left others
-    where
-      swap : (other : List ℕ) → bytes_eq stamp gone ≡ false → cond (bytes_eq stamp other) (Some seat) (cond (bytes_eq gone other) None (at other)) ≡ cond (bytes_eq gone other) None (cond (bytes_eq stamp other) (Some seat) (at other))
-      swap other apart = (elim (bytes_eq gone other) as (λ b. bytes_eq gone other ≡ b → cond (bytes_eq stamp other) (Some seat) (cond b None (at other)) ≡ cond b None (cond (bytes_eq stamp other) (Some seat) (at other))) [
-        | true ↦ λ e. cond-false (bytes_eq stamp other) (Some seat) None (subst (λ (o : List ℕ). bytes_eq stamp o ≡ false) (same_stamp gone other e) apart)
-        | false ↦ λ e. refl
-      ]) refl
+  -- what is taken out while another game is in hand
+  swapped : (stamp gone : List ℕ) (seat : Seat K) (at : At K) → bytes_eq stamp gone ≡ false → (other : List ℕ) → cond (bytes_eq stamp other) (Some seat) (cond (bytes_eq gone other) None (at other)) ≡ cond (bytes_eq gone other) None (cond (bytes_eq stamp other) (Some seat) (at other))
+  swapped stamp gone seat at apart other = (elim (bytes_eq gone other) as (λ b. bytes_eq gone other ≡ b → cond (bytes_eq stamp other) (Some seat) (cond b None (at other)) ≡ cond b None (cond (bytes_eq stamp other) (Some seat) (at other))) [
+    | true ↦ λ e. cond-false (bytes_eq stamp other) (Some seat) None (subst (λ (o : List ℕ). bytes_eq stamp o ≡ false) (same_stamp gone other e) apart)
+    | false ↦ λ e. refl
+  ]) refl
 
-  -- a game in hand is closed
-  pub hand_closes : (old new : Gives K) (at at' : At K) (stamp : List ℕ) (seat : Seat K) → at stamp ≡ None → ((other : List ℕ) → at' other ≡ at other) → ((next : K) → new stamp next → s.follows seat.keeper next) → GivesOthers stamp old new → LeadsFrom s t old (in_hand stamp (Some seat) at) new at' []
-  hand_closes old new at at' stamp seat absent same left others =
-      closes s t old new (in_hand stamp (Some seat) at) at' stamp seat (holds_it stamp seat at) (λ other. same other ∙ out_of_hand stamp seat at absent other) left others
+module _ {K : Type 0} (s : Keepers K) (t : CommonView) where
+  pub evicting : (before : Option (List ℕ)) (old new : Gives K) (at at' : At K) (k k' : ℕ) (stamp : List ℕ) (seat : Seat K) → at stamp ≡ None → Evicts s.follows t.at_once old at k new at' k' → LeadsFrom s t before (suc k) old (in_hand stamp (Some seat) at) new (in_hand stamp (Some seat) at') (suc k') []
+  evicting before old new at at' k k' stamp seat absent (Nothing less same still) =
+      subst (λ (m : ℕ). LeadsFrom s t before (suc k) old (in_hand stamp (Some seat) at) new (in_hand stamp (Some seat) at') (suc m) []) (sym still)
+      (leads_not s t before (suc k) old new _ _ less (λ other. ap (λ (o : Option (Seat K)). cond (bytes_eq stamp other) (Some seat) o) (same other)))
+  evicting before old new at at' k k' stamp seat absent (One gone least was after left others full one) =
+      let apart = apart_from at stamp gone least absent was in
+      let room : t.at_once < suc k = omega (arith, full) in
+      subst (λ (m : ℕ). LeadsFrom s t before (suc k) old (in_hand stamp (Some seat) at) new (in_hand stamp (Some seat) at') m []) one
+      (closes s t before (suc k) old new _ _ gone least (inl room) (cond-false (bytes_eq stamp gone) (Some seat) (at gone) apart ∙ was)
+      (λ other. ap (λ (o : Option (Seat K)). cond (bytes_eq stamp other) (Some seat) o) (after other) ∙ swapped stamp gone seat at apart other) left others)
+
+  -- a game in hand, which has just answered, is closed
+  pub hand_closes : (k : ℕ) (old new : Gives K) (at at' : At K) (stamp : List ℕ) (seat : Seat K) → at stamp ≡ None → ((other : List ℕ) → at' other ≡ at other) → ((next : K) → new stamp next → s.follows seat.keeper next) → GivesOthers stamp old new → LeadsFrom s t (Some stamp) (suc k) old (in_hand stamp (Some seat) at) new at' k []
+  hand_closes k old new at at' stamp seat absent same left others =
+      closes s t (Some stamp) (suc k) old new (in_hand stamp (Some seat) at) at' stamp seat (inr refl) (holds_it stamp seat at) (λ other. same other ∙ out_of_hand stamp seat at absent other) left others
 
   -- it stays open
-  pub hand_stays : (old : Gives K) (at at' : At K) (stamp : List ℕ) (seat : Seat K) → ((other : List ℕ) → at' other ≡ cond (bytes_eq stamp other) (Some seat) (at other)) → LeadsFrom s t old (in_hand stamp (Some seat) at) old at' []
-  hand_stays old at at' stamp seat put = leads_not s t old old (in_hand stamp (Some seat) at) at' (λ other keeper given. given) put
+  pub hand_stays : (before : Option (List ℕ)) (k : ℕ) (old : Gives K) (at at' : At K) (stamp : List ℕ) (seat : Seat K) → ((other : List ℕ) → at' other ≡ cond (bytes_eq stamp other) (Some seat) (at other)) → LeadsFrom s t before k old (in_hand stamp (Some seat) at) old at' k []
+  hand_stays before k old at at' stamp seat put = leads_not s t before k old old (in_hand stamp (Some seat) at) at' (λ other keeper given. given) put
 
-  pub after_room : (old mid new : Gives K) (at at1 at' : At K) (stamp : List ℕ) (seat : Seat K) → at stamp ≡ None → Evicts s.follows old at mid at1 → LeadsFrom s t mid (in_hand stamp (Some seat) at1) new at' [] → LeadsFrom s t old (in_hand stamp (Some seat) at) new at' []
-  after_room old mid new at at1 at' stamp seat absent room more = λ lives stand.
-      leads_join s t mid new (in_hand stamp (Some seat) at1) at' lives [] [] (evicting old mid at at1 stamp seat absent room lives stand) more
+  -- room is made for it, and then it is closed
+  pub no_room : (k m : ℕ) (old mid new : Gives K) (at at1 at' : At K) (stamp : List ℕ) (seat : Seat K) → at stamp ≡ None → Evicts s.follows t.at_once old at k mid at1 m → ((other : List ℕ) → at' other ≡ at1 other)
+      → ((next : K) → new stamp next → s.follows seat.keeper next) → GivesOthers stamp mid new → LeadsFrom s t (Some stamp) (suc k) old (in_hand stamp (Some seat) at) new at' m []
+  no_room k m old mid new at at1 at' stamp seat absent (Nothing less same still) put left others =
+      subst (λ (j : ℕ). LeadsFrom s t (Some stamp) (suc k) old (in_hand stamp (Some seat) at) new at' j []) (sym still) (λ lives stand.
+      hand_closes k mid new at1 at' stamp seat (same stamp ∙ absent) put left others lives
+      (λ other. less_stands s t (old other) (mid other) (in_hand stamp (Some seat) at1 other) (lives other) (less other)
+      (subst (λ (o : Option (Seat K)). Stands s t (old other) o (lives other)) (sym (ap (λ (o : Option (Seat K)). cond (bytes_eq stamp other) (Some seat) o) (same other))) (stand other))))
+  no_room k m old mid new at at1 at' stamp seat absent (One gone least was after gives_left others_left full one) put left others = λ lives stand.
+      let apart = apart_from at stamp gone least absent was in
+      let room : t.at_once < suc k = omega (arith, full) in
+      let there : at1 stamp ≡ None = absent_still s.follows t.at_once old mid at at1 k m stamp absent (One gone least was after gives_left others_left full one) in
+      let first = closes_one s t old mid (in_hand stamp (Some seat) at) (in_hand stamp (Some seat) at1) gone least (cond-false (bytes_eq stamp gone) (Some seat) (at gone) apart ∙ was)
+      (λ other. ap (λ (o : Option (Seat K)). cond (bytes_eq stamp other) (Some seat) o) (after other) ∙ swapped stamp gone seat at apart other) gives_left others_left lives stand in
+      let second = closes_one s t mid new (in_hand stamp (Some seat) at1) at' stamp seat (holds_it stamp seat at1) (λ other. put other ∙ out_of_hand stamp seat at1 there other) left others first.new first.stand in
+      record {
+        acts = Closes gone least.keeper ∷ Closes stamp seat.keeper ∷ [];
+        new = second.new;
+        turns = each_join s t lives first.new second.new (Closes gone least.keeper ∷ []) (Closes stamp seat.keeper ∷ []) first.turns second.turns;
+        opened = tt;
+        room = (inl room, (inr refl, ap one_less (sym one)));
+        stand = second.stand;
+        effects_are = refl;
+      }
+
+  -- room is made for it, and then it stays open
+  pub stays_open : (k m : ℕ) (old mid : Gives K) (at at1 at' : At K) (stamp : List ℕ) (seat : Seat K) → at stamp ≡ None → Evicts s.follows t.at_once old at k mid at1 m
+      → ((other : List ℕ) → at' other ≡ cond (bytes_eq stamp other) (Some seat) (at1 other)) → LeadsFrom s t (Some stamp) (suc k) old (in_hand stamp (Some seat) at) mid at' (suc m) []
+  stays_open k m old mid at at1 at' stamp seat absent room put = λ lives stand.
+      leads_join s t (Some stamp) (suc k) (suc m) (suc m) mid mid (in_hand stamp (Some seat) at1) at' lives [] [] (evicting (Some stamp) old mid at at1 k m stamp seat absent room lives stand) (hand_stays None (suc m) mid at1 at' stamp seat put)
 
   pub not_open : (gives : K → Type 0) (life : Life K) → Stands s t gives None life → IsNotOpen life
   not_open gives Fresh stand = tt
@@ -83,41 +114,55 @@ module _ {K : Type 0} (s : Keepers K) (t : CommonView) where
   not_open gives (Open at) stand = stand
 
   -- a message of a game that isn't open: it opens none, or there is no keeper
-  pub strange_to : (old new : Gives K) (at : At K) (stamp datagram : List ℕ) (why : Unopened) → stamp_for datagram ≡ Some stamp → at stamp ≡ None → IsStrange s t.manifest stamp (opens_for datagram) why → GivesLess old new → LeadsFrom s t old at new at (unopened stamp datagram why ∷ [])
-  strange_to old new at stamp datagram why sorted absent strange less = λ lives stand.
-      let there : Stands s t (old stamp) None (lives stamp) = subst (λ (x : Option (Seat K)). Stands s t (old stamp) x (lives stamp)) absent (stand stamp) in
-      leads_one s t (Strange stamp datagram why) lives new at tt
-      (one_act s t old new at at lives stamp (Strange stamp datagram why) (lives stamp) refl sorted (not_open (old stamp) (lives stamp) there, strange, refl)
-      (less_stands s t (old stamp) (new stamp) (at stamp) (lives stamp) (less stamp) (stand stamp)) (λ other _. less other) (λ other _. refl) stand)
+  pub strange_to : (k : ℕ) (old new : Gives K) (at : At K) (stamp datagram : List ℕ) (tried : Bool) (why : Unopened) → stamp_for datagram ≡ Some stamp → at stamp ≡ None → IsStrange s t.manifest stamp (opens_for datagram) tried why → GivesLess old new → LeadsFrom s t None k old at new at k (effects_with (cond tried (stamp ∷ []) []) (unopened stamp datagram why))
+  strange_to k old new at stamp datagram tried why sorted absent strange less = λ lives stand.
+      subst (λ (es : List Effect). Leads s t None k lives new at k es) (sym (tried_with tried)) (goes lives stand)
+    where
+      tried_with : (b : Bool) → effects_with (cond b (stamp ∷ []) []) (unopened stamp datagram why) ≡ cond b (Took stamp ∷ []) [] ++ Replied (unopened stamp datagram why) ∷ []
+      tried_with true = refl
+      tried_with false = refl
+
+      goes : LeadsFrom s t None k old at new at k (cond tried (Took stamp ∷ []) [] ++ Replied (unopened stamp datagram why) ∷ [])
+      goes = λ lives stand.
+          let there : Stands s t (old stamp) None (lives stamp) = subst (λ (x : Option (Seat K)). Stands s t (old stamp) x (lives stamp)) absent (stand stamp) in
+          leads_one s t None k (Strange stamp datagram tried why) lives new at tt tt
+          (one_act s t old new at at lives stamp (Strange stamp datagram tried why) (lives stamp) refl sorted (not_open (old stamp) (lives stamp) there, strange, refl)
+          (less_stands s t (old stamp) (new stamp) (at stamp) (lives stamp) (less stamp) (stand stamp)) (λ other _. less other) (λ other _. refl) stand)
 
   -- there is no keeper for one that would open it
-  pub lacking_to : (old new : Gives K) (at : At K) (stamp datagram : List ℕ) (why : Unopened) → stamp_for datagram ≡ Some stamp → opens_for datagram ≡ true → at stamp ≡ None → LacksKeeper s t.manifest stamp why → GivesLess old new → LeadsFrom s t old at new at (unopened stamp datagram why ∷ [])
-  lacking_to old new at stamp datagram why sorted opens absent lacks less =
-      strange_to old new at stamp datagram why sorted absent (subst (λ (b : Bool). IsStrange s t.manifest stamp b why) (sym opens) lacks) less
+  pub lacking_to : (k : ℕ) (old new : Gives K) (at : At K) (stamp datagram : List ℕ) (why : Unopened) → stamp_for datagram ≡ Some stamp → opens_for datagram ≡ true → at stamp ≡ None → LacksKeeper s t.manifest stamp why → GivesLess old new → LeadsFrom s t None k old at new at k (effects_with [] (unopened stamp datagram why))
+  lacking_to k old new at stamp datagram why sorted opens absent lacks less =
+      strange_to k old new at stamp datagram false why sorted absent (subst (λ (b : Bool). IsStrange s t.manifest stamp b false why) (sym opens) lacks) less
+
+  -- its file was opened, and there is none over that
+  pub withheld_to : (k : ℕ) (old new : Gives K) (at : At K) (stamp datagram : List ℕ) (why : Unopened) → stamp_for datagram ≡ Some stamp → opens_for datagram ≡ true → at stamp ≡ None → s.withholds stamp why → GivesLess old new → LeadsFrom s t None k old at new at k (effects_with (stamp ∷ []) (unopened stamp datagram why))
+  withheld_to k old new at stamp datagram why sorted opens absent withheld less =
+      strange_to k old new at stamp datagram true why sorted absent (subst (λ (b : Bool). IsStrange s t.manifest stamp b true why) (sym opens) withheld) less
 
   -- it opens none
-  pub idle_to : (gives : Gives K) (at : At K) (datagram : List ℕ) (message : Message) → heard_in datagram ≡ Ok message → opens_game message ≡ false → at (stamp_in message).0 ≡ None → LeadsFrom s t gives at gives at (unopened (stamp_in message).0 datagram NotOpen ∷ [])
-  idle_to gives at datagram message says opens absent =
-      strange_to gives gives at (stamp_in message).0 datagram NotOpen (ap stamp_by says) absent
-      (subst (λ (b : Bool). IsStrange s t.manifest (stamp_in message).0 b NotOpen) (sym (ap opens_by says ∙ opens)) refl) (λ other keeper given. given)
+  pub idle_to : (k : ℕ) (gives : Gives K) (at : At K) (datagram : List ℕ) (message : Message) → heard_in datagram ≡ Ok message → opens_game message ≡ false → at (stamp_in message).0 ≡ None → LeadsFrom s t None k gives at gives at k (effects_with [] (unopened (stamp_in message).0 datagram NotOpen))
+  idle_to k gives at datagram message says opens absent =
+      strange_to k gives gives at (stamp_in message).0 datagram false NotOpen (ap stamp_by says) absent
+      (subst (λ (b : Bool). IsStrange s t.manifest (stamp_in message).0 b false NotOpen) (sym (ap opens_by says ∙ opens)) (refl, refl)) (λ other keeper given. given)
 
   -- bytes that are no message
-  pub unread_to : (gives : Gives K) (at : At K) (datagram : List ℕ) (fault : MessageFault) → heard_in datagram ≡ Err fault → LeadsFrom s t gives at gives at (unread datagram fault ∷ [])
-  unread_to gives at datagram fault is = λ lives stand. record {
+  pub unread_to : (k : ℕ) (gives : Gives K) (at : At K) (datagram : List ℕ) (fault : MessageFault) → heard_in datagram ≡ Err fault → LeadsFrom s t None k gives at gives at k (effects_with [] (unread datagram fault))
+  unread_to k gives at datagram fault is = λ lives stand. record {
     acts = Unread datagram fault ∷ [];
     new = lives;
     turns = record { each = λ stamp. refl; sorted = (is, tt) };
     opened = tt;
+    room = (tt, refl);
     stand = stand;
-    replies_are = refl;
+    effects_are = refl;
   }
 
 -- ---- a game in hand answers
 
 module _ {K : Type 0} (s : Keepers K) (t : CommonView) where
   -- its answer, and what comes after it
-  answer_rest : (stamp : List ℕ) (e : Exchange K) (mid new : Gives K) (at at' : At K) (lives : Lives K) (ys : List Reply) → LeadsOne s t (Answers stamp e) lives mid at → LeadsFrom s t mid at new at' ys → LeadsBy s t stamp e.datagram lives new at' (answered stamp e ∷ ys)
-  answer_rest stamp e mid new at at' lives ys one more =
+  answer_rest : (stamp : List ℕ) (e : Exchange K) (k k' : ℕ) (mid new : Gives K) (at at' : At K) (lives : Lives K) (ys : List Effect) → e.after.arbiter.is_down ≡ false → LeadsOne s t (Answers stamp e) lives mid at → LeadsFrom s t (Some stamp) k mid at new at' k' ys → LeadsBy s t stamp e.datagram k lives new at' k' (Replied (answered stamp e) ∷ ys)
+  answer_rest stamp e k k' mid new at at' lives ys runs one more =
       let two = more one.new one.stand in
       record {
         leads = record {
@@ -125,8 +170,9 @@ module _ {K : Type 0} (s : Keepers K) (t : CommonView) where
           new = two.new;
           turns = each_join s t lives one.new two.new (Answers stamp e ∷ []) two.acts one.turns two.turns;
           opened = two.opened;
+          room = (tt, subst (λ (m : ℕ). AreInRoom t.at_once m (Some stamp) two.acts k') (sym (cond-false e.after.arbiter.is_down (one_less k) k runs)) two.room);
           stand = two.stand;
-          replies_are = ap (λ (rs : List Reply). answered stamp e ∷ rs) two.replies_are;
+          effects_are = ap (λ (es : List Effect). Replied (answered stamp e) ∷ es) two.effects_are;
         };
         exchange = e;
         rest = two.acts;
@@ -135,9 +181,9 @@ module _ {K : Type 0} (s : Keepers K) (t : CommonView) where
       }
 
   -- its answer alone
-  answer_alone : (stamp : List ℕ) (e : Exchange K) (new : Gives K) (at' : At K) (lives : Lives K) → LeadsOne s t (Answers stamp e) lives new at' → LeadsBy s t stamp e.datagram lives new at' (answered stamp e ∷ [])
-  answer_alone stamp e new at' lives one = record {
-    leads = record { acts = Answers stamp e ∷ []; new = one.new; turns = one.turns; opened = tt; stand = one.stand; replies_are = refl };
+  answer_alone : (stamp : List ℕ) (e : Exchange K) (k : ℕ) (new : Gives K) (at' : At K) (lives : Lives K) → e.after.arbiter.is_down ≡ true → LeadsOne s t (Answers stamp e) lives new at' → LeadsBy s t stamp e.datagram (suc k) lives new at' k (Replied (answered stamp e) ∷ [])
+  answer_alone stamp e k new at' lives down one = record {
+    leads = record { acts = Answers stamp e ∷ []; new = one.new; turns = one.turns; opened = tt; room = (tt, sym (cond-true e.after.arbiter.is_down k (suc k) down)); stand = one.stand; effects_are = refl };
     exchange = e;
     rest = [];
     acts_are = refl;
@@ -145,8 +191,8 @@ module _ {K : Type 0} (s : Keepers K) (t : CommonView) where
   }
 
   -- a game is opened for a datagram, which its arbiter answers then
-  opens_then : (stamp datagram : List ℕ) (old mid new : Gives K) (at at1 at' : At K) (ys : List Reply) → opens_for datagram ≡ true → LeadsOpenFrom s t stamp old at mid at1 → LeadsFromBy s t stamp datagram mid at1 new at' ys → LeadsFrom s t old at new at' ys
-  opens_then stamp datagram old mid new at at1 at' ys opens first more = λ lives stand.
+  opens_then : (stamp datagram : List ℕ) (k k' : ℕ) (old mid new : Gives K) (at at1 at' : At K) (ys : List Effect) → opens_for datagram ≡ true → k ≤ t.at_once → LeadsOpenFrom s t stamp old at mid at1 → LeadsFromBy s t stamp datagram (suc k) mid at1 new at' k' ys → LeadsFrom s t None k old at new at' k' (Took stamp ∷ ys)
+  opens_then stamp datagram k k' old mid new at at1 at' ys opens room first more = λ lives stand.
       let a = first lives stand in
       let b = more a.one.new a.one.stand in
       let next : IsAnsweredNext stamp b.leads.acts = subst (λ (acts : List (Act K)). IsAnsweredNext stamp acts) (sym b.acts_are) (refl, ap opens_for b.is ∙ opens) in
@@ -155,16 +201,20 @@ module _ {K : Type 0} (s : Keepers K) (t : CommonView) where
         new = b.leads.new;
         turns = each_join s t lives a.one.new b.leads.new (Opens stamp a.over a.arbiter ∷ []) b.leads.acts a.one.turns b.leads.turns;
         opened = (next, b.leads.opened);
+        room = (room, b.leads.room);
         stand = b.leads.stand;
-        replies_are = b.leads.replies_are;
+        effects_are = ap (λ (es : List Effect). Took stamp ∷ es) b.leads.effects_are;
       }
 
   -- a game comes into hand, and answers
-  pub comes_then : (message : Message) (datagram : List ℕ) (old mid new : Gives K) (at at1 at' : At K) (ys : List Reply) → heard_in datagram ≡ Ok message → ComesInHand s t message old at mid at1 → LeadsFromBy s t (stamp_in message).0 datagram mid at1 new at' ys → LeadsFrom s t old at new at' ys
-  comes_then message datagram old mid new at at1 at' ys says (WasOpen was) more = λ lives stand.
-      leads_join s t mid new at1 at' lives [] ys (was lives stand) (λ m there. let b = more m there in b.leads)
-  comes_then message datagram old mid new at at1 at' ys says (IsOpened opens first) more =
-      opens_then (stamp_in message).0 datagram old mid new at at1 at' ys (ap opens_by says ∙ opens) first more
+  pub comes_then : (message : Message) (datagram : List ℕ) (k m k' : ℕ) (old mid new : Gives K) (at at1 at' : At K) (more : List (List ℕ)) (r : Reply) → heard_in datagram ≡ Ok message → ComesInHand s t message old at k mid at1 m more → LeadsFromBy s t (stamp_in message).0 datagram (suc m) mid at1 new at' k' (effects_with [] r) → LeadsFrom s t None k old at new at' k' (effects_with more r)
+  comes_then message datagram k m k' old mid new at at1 at' more r says (WasOpen was none) answers =
+      subst (λ (ms : List (List ℕ)). LeadsFrom s t None k old at new at' k' (effects_with ms r)) (sym none)
+      (λ lives stand. leads_join s t None k (suc m) k' mid new at1 at' lives [] (effects_with [] r) (was lives stand) (λ l there. let b = answers l there in b.leads))
+  comes_then message datagram k m k' old mid new at at1 at' more r says (IsOpened opens room first same one) answers =
+      subst (λ (ms : List (List ℕ)). LeadsFrom s t None k old at new at' k' (effects_with ms r)) (sym one)
+      (opens_then (stamp_in message).0 datagram k k' old mid new at at1 at' (effects_with [] r) (ap opens_by says ∙ opens) room first
+      (subst (λ (n : ℕ). LeadsFromBy s t (stamp_in message).0 datagram (suc n) mid at1 new at' k' (effects_with [] r)) same answers))
 
 runs_on : {K : Type 0} (set : Holding) (seat : Seat K) → seat.state.is_down ≡ false → life_at (moment_of set seat) ≡ Open (moment_of set seat)
 runs_on set seat runs = cond-false seat.state.is_down (Shut seat.keeper) (Open (moment_of set seat)) runs
@@ -172,14 +222,14 @@ runs_on set seat runs = cond-false seat.state.is_down (Shut seat.keeper) (Open (
 is_shut : {K : Type 0} (set : Holding) (seat : Seat K) → seat.state.is_down ≡ true → life_at (moment_of set seat) ≡ Shut seat.keeper
 is_shut set seat down = cond-true seat.state.is_down (Shut seat.keeper) (Open (moment_of set seat)) down
 
-module _ {K : Type 0} (s : Keepers K) (t : CommonView) (old new : Gives K) (at at' : At K) (stamp : List ℕ) (before after : Seat K) (e : Exchange K) (sorted : stamp_for e.datagram ≡ Some stamp) (delivered : Delivers s.facts (moment_of t.set before) e) (is : e.after ≡ moment_of t.set after) where
+module _ {K : Type 0} (s : Keepers K) (t : CommonView) (k k' : ℕ) (old new : Gives K) (at at' : At K) (stamp : List ℕ) (before after : Seat K) (e : Exchange K) (sorted : stamp_for e.datagram ≡ Some stamp) (delivered : Delivers s.facts (moment_of t.set before) e) (is : e.after ≡ moment_of t.set after) where
   answers_on : (life l : Life K) → life ≡ Open (moment_of t.set before) → l ≡ life_at (moment_of t.set after) → GoesOn s t stamp life (Answers stamp e) l
   answers_on life l was now = subst (λ (x : Life K). GoesOn s t stamp x (Answers stamp e) l) (sym was) (delivered, now ∙ ap life_at (sym is))
 
   -- its keeper still keeps, and it stays in hand
   pub answers_to : IsAtRest s.facts t.set after → after.state.is_down ≡ false
-      → LeadsFrom s t old (in_hand stamp (Some after) at) new at' []
-      → LeadsFromBy s t stamp e.datagram old (in_hand stamp (Some before) at) new at' (answered stamp e ∷ [])
+      → LeadsFrom s t (Some stamp) (suc k) old (in_hand stamp (Some after) at) new at' k' []
+      → LeadsFromBy s t stamp e.datagram (suc k) old (in_hand stamp (Some before) at) new at' k' (effects_with [] (answered stamp e))
   answers_to rests runs more = λ lives stand.
       let there : Stands s t (old stamp) (Some before) (lives stamp) = subst (λ (x : Option (Seat K)). Stands s t (old stamp) x (lives stamp)) (holds_it stamp before at) (stand stamp) in
       let one : LeadsOne s t (Answers stamp e) lives old (in_hand stamp (Some after) at) =
@@ -188,14 +238,14 @@ module _ {K : Type 0} (s : Keepers K) (t : CommonView) (old new : Gives K) (at a
       (subst (λ (x : Option (Seat K)). Stands s t (old stamp) x (Open (moment_of t.set after))) (sym (holds_it stamp after at)) (record { rests = rests; runs = runs }, refl))
       (λ other _ keeper given. given)
       (λ other e. cond-false (bytes_eq stamp other) (Some after) (at other) e ∙ sym (cond-false (bytes_eq stamp other) (Some before) (at other) e)) stand in
-      answer_rest s t stamp e old new (in_hand stamp (Some after) at) at' lives [] one more
+      answer_rest s t stamp e (suc k) k' old new (in_hand stamp (Some after) at) at' lives [] (ap (λ (m : Moment K). m.arbiter.is_down) is ∙ runs) one more
 
   -- its keeper failed, and it is closed
   pub fails_to : after.state.is_down ≡ true → at stamp ≡ None → ((other : List ℕ) → at' other ≡ at other) → ((next : K) → new stamp next → s.follows after.keeper next) → GivesOthers stamp old new
-      → LeadsFromBy s t stamp e.datagram old (in_hand stamp (Some before) at) new at' (answered stamp e ∷ [])
+      → LeadsFromBy s t stamp e.datagram (suc k) old (in_hand stamp (Some before) at) new at' k (effects_with [] (answered stamp e))
   fails_to down absent same left others = λ lives stand.
       let there : Stands s t (old stamp) (Some before) (lives stamp) = subst (λ (x : Option (Seat K)). Stands s t (old stamp) x (lives stamp)) (holds_it stamp before at) (stand stamp) in
-      answer_alone s t stamp e new at' lives
+      answer_alone s t stamp e k new at' lives (ap (λ (m : Moment K). m.arbiter.is_down) is ∙ down)
       (one_act s t old new (in_hand stamp (Some before) at) at' lives stamp (Answers stamp e) (Shut after.keeper) refl sorted
       (answers_on (lives stamp) (Shut after.keeper) there.1 (sym (is_shut t.set after down)))
       (subst (λ (x : Option (Seat K)). Stands s t (new stamp) x (Shut after.keeper)) (sym (same stamp ∙ absent)) left)
@@ -205,30 +255,32 @@ pub runs_not : (b : Bool) → b ≡ true → b ≡ false → ⊥
 runs_not b up down = let wrong : true ≡ false = sym up ∙ down in cc
 
 -- so a game in hand answers, whichever it is
-by_keeper : {K : Type 0} (s : Keepers K) (t : CommonView) (old new : Gives K) (at at' : At K) (stamp : List ℕ) (before after : Seat K) (e : Exchange K) (b : Bool) → after.state.is_down ≡ b → stamp_for e.datagram ≡ Some stamp → Delivers s.facts (moment_of t.set before) e → e.after ≡ moment_of t.set after
+by_keeper : {K : Type 0} (s : Keepers K) (t : CommonView) (k k' : ℕ) (old new : Gives K) (at at' : At K) (stamp : List ℕ) (before after : Seat K) (e : Exchange K) (b : Bool) → after.state.is_down ≡ b → stamp_for e.datagram ≡ Some stamp → Delivers s.facts (moment_of t.set before) e → e.after ≡ moment_of t.set after
     → at stamp ≡ None → IsAtRest s.facts t.set after
-    → (after.state.is_down ≡ false → LeadsFrom s t old (in_hand stamp (Some after) at) new at' [])
-    → (after.state.is_down ≡ true → ((next : K) → new stamp next → s.follows after.keeper next) × GivesOthers stamp old new × ((other : List ℕ) → at' other ≡ at other))
-    → LeadsFromBy s t stamp e.datagram old (in_hand stamp (Some before) at) new at' (answered stamp e ∷ [])
-by_keeper s t old new at at' stamp before after e true is sorted delivered later absent rests runs down =
-    let d = down is in fails_to s t old new at at' stamp before after e sorted delivered later is absent d.2 d.0 d.1
-by_keeper s t old new at at' stamp before after e false is sorted delivered later absent rests runs down =
-    answers_to s t old new at at' stamp before after e sorted delivered later rests is (runs is)
+    → (after.state.is_down ≡ false → LeadsFrom s t (Some stamp) (suc k) old (in_hand stamp (Some after) at) new at' k' [])
+    → (after.state.is_down ≡ true → ((next : K) → new stamp next → s.follows after.keeper next) × GivesOthers stamp old new × ((other : List ℕ) → at' other ≡ at other) × (k' ≡ k))
+    → LeadsFromBy s t stamp e.datagram (suc k) old (in_hand stamp (Some before) at) new at' k' (effects_with [] (answered stamp e))
+by_keeper s t k k' old new at at' stamp before after e true is sorted delivered later absent rests runs down =
+    let d = down is in
+    subst (λ (m : ℕ). LeadsFromBy s t stamp e.datagram (suc k) old (in_hand stamp (Some before) at) new at' m (effects_with [] (answered stamp e))) (sym d.3)
+    (fails_to s t k k' old new at at' stamp before after e sorted delivered later is absent d.2 d.0 d.1)
+by_keeper s t k k' old new at at' stamp before after e false is sorted delivered later absent rests runs down =
+    answers_to s t k k' old new at at' stamp before after e sorted delivered later rests is (runs is)
 
 -- to whichever datagram says its message
-pub answers_reply : {K : Type 0} (s : Keepers K) (t : CommonView) (old new : Gives K) (at at' : At K) (stamp : List ℕ) (message : Message) (before after : Seat K) (outputs : List Message) (line : List ℕ) → stamp ≡ (stamp_in message).0
+pub answers_reply : {K : Type 0} (s : Keepers K) (t : CommonView) (k k' : ℕ) (old new : Gives K) (at at' : At K) (stamp : List ℕ) (message : Message) (before after : Seat K) (outputs : List Message) (line : List ℕ) → stamp ≡ (stamp_in message).0
     → at stamp ≡ None → IsAtRest s.facts t.set after → IsAnswered s.facts (moment_of t.set before) message (moment_of t.set after) outputs line
-    → (after.state.is_down ≡ false → LeadsFrom s t old (in_hand stamp (Some after) at) new at' [])
-    → (after.state.is_down ≡ true → ((next : K) → new stamp next → s.follows after.keeper next) × GivesOthers stamp old new × ((other : List ℕ) → at' other ≡ at other))
+    → (after.state.is_down ≡ false → LeadsFrom s t (Some stamp) (suc k) old (in_hand stamp (Some after) at) new at' k' [])
+    → (after.state.is_down ≡ true → ((next : K) → new stamp next → s.follows after.keeper next) × GivesOthers stamp old new × ((other : List ℕ) → at' other ≡ at other) × (k' ≡ k))
     → (datagram : List ℕ) → heard_in datagram ≡ Ok message
-    → LeadsFromBy s t stamp datagram old (in_hand stamp (Some before) at) new at' (record { datagram = datagram; outputs = outputs; line = stamped stamp line } ∷ [])
-answers_reply {K = K} s t old new at at' stamp message before after outputs line own absent rests here runs down datagram says =
+    → LeadsFromBy s t stamp datagram (suc k) old (in_hand stamp (Some before) at) new at' k' (effects_with [] (record { datagram = datagram; outputs = outputs; line = stamped stamp line }))
+answers_reply {K = K} s t k k' old new at at' stamp message before after outputs line own absent rests here runs down datagram says =
     let was : View = (moment_of t.set before).arbiter in
     let same : answer_at was datagram ≡ answer_to_any was message = ap (λ (h : Result Message MessageFault). answer_of was (in_game was.me.stamp h)) says in
     let sorted : stamp_for datagram ≡ Some stamp = ap stamp_by says ∙ ap Some (sym own) in
     let x : Exchange K = exchange datagram here.told (moment_of t.set after) in
     let delivered : Delivers s.facts (moment_of t.set before) x = subst (λ (a : Answer). Answered s.facts (moment_of t.set before) a here.told (moment_of t.set after)) (sym same) here.answers in
-    let leads : LeadsFromBy s t stamp datagram old (in_hand stamp (Some before) at) new at' (answered stamp x ∷ []) =
-    by_keeper s t old new at at' stamp before after x after.state.is_down refl sorted delivered refl absent rests runs down in
-    subst (λ (o : List Message). LeadsFromBy s t stamp datagram old (in_hand stamp (Some before) at) new at' (record { datagram = datagram; outputs = o; line = stamped stamp line } ∷ [])) (sym here.outputs_are)
-    (subst (λ (l : List ℕ). LeadsFromBy s t stamp datagram old (in_hand stamp (Some before) at) new at' (record { datagram = datagram; outputs = outputs_of here.told; line = stamped stamp l } ∷ [])) (sym here.line_is) leads)
+    let leads : LeadsFromBy s t stamp datagram (suc k) old (in_hand stamp (Some before) at) new at' k' (effects_with [] (answered stamp x)) =
+    by_keeper s t k k' old new at at' stamp before after x after.state.is_down refl sorted delivered refl absent rests runs down in
+    subst (λ (o : List Message). LeadsFromBy s t stamp datagram (suc k) old (in_hand stamp (Some before) at) new at' k' (effects_with [] (record { datagram = datagram; outputs = o; line = stamped stamp line }))) (sym here.outputs_are)
+    (subst (λ (l : List ℕ). LeadsFromBy s t stamp datagram (suc k) old (in_hand stamp (Some before) at) new at' k' (effects_with [] (record { datagram = datagram; outputs = outputs_of here.told; line = stamped stamp l }))) (sym here.line_is) leads)

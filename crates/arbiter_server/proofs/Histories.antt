@@ -49,7 +49,7 @@ module _ {K : Type 0} (stamp : List ℕ) where
 pub own_replies : {K : Type 0} → OwnReplies K
 own_replies [] stamp sorted = refl
 own_replies (act.Unread datagram fault ∷ acts) stamp sorted = loud stamp false (act.Unread datagram fault) _ (acts_of stamp acts) (all_replies acts) refl (ap (λ h. is_stamp stamp (stamp_by h)) sorted.0) (own_replies acts stamp sorted.1)
-own_replies (act.Strange of datagram why ∷ acts) stamp sorted = loud stamp (bytes_eq of stamp) (act.Strange of datagram why) _ (acts_of stamp acts) (all_replies acts) refl (ap (is_stamp stamp) sorted.0) (own_replies acts stamp sorted.1)
+own_replies (act.Strange of datagram tried why ∷ acts) stamp sorted = loud stamp (bytes_eq of stamp) (act.Strange of datagram tried why) _ (acts_of stamp acts) (all_replies acts) refl (ap (is_stamp stamp) sorted.0) (own_replies acts stamp sorted.1)
 own_replies (act.Refuses of datagram over fault ∷ acts) stamp sorted = loud stamp (bytes_eq of stamp) (act.Refuses of datagram over fault) _ (acts_of stamp acts) (all_replies acts) refl (ap (is_stamp stamp) sorted.0) (own_replies acts stamp sorted.1)
 own_replies (act.Opens of over arbiter ∷ acts) stamp sorted = silent stamp (bytes_eq of stamp) (act.Opens of over arbiter) (acts_of stamp acts) refl ∙ own_replies acts stamp sorted.1
 own_replies (act.Answers of e ∷ acts) stamp sorted = loud stamp (bytes_eq of stamp) (act.Answers of e) _ (acts_of stamp acts) (all_replies acts) refl (ap (is_stamp stamp) sorted.0) (own_replies acts stamp sorted.1)
@@ -145,7 +145,7 @@ module _ {K : Type 0} (s : Keepers K) (t : CommonView) (stamp : List ℕ) where
 
   act_own : (old : Life K) (a : Act K) (new : Life K) → game.GoesOn s t stamp old a new → OwnLife old → OwnLife new
   act_own old (act.Unread datagram fault) new h own = absurd h
-  act_own old (act.Strange of datagram why) new h own = subst OwnLife (sym h.2) own
+  act_own old (act.Strange of datagram tried why) new h own = subst OwnLife (sym h.2) own
   act_own old (act.Refuses of datagram o fault) new h own = subst OwnLife (sym h.new_is) tt
   act_own old (act.Opens of o arbiter) new h own = subst OwnLife (sym h.new_is) (opened_own s.facts o.setup o.before o.now arbiter h.opening)
   act_own old (act.Answers of e) new h own = answered_own old e new h own
@@ -204,11 +204,11 @@ module _ {K : Type 0} (stamp : List ℕ) where
 pub openings_are_few : {K : Type 0} → OpeningsAreFew K
 openings_are_few [] stamp sorted opened = omega arith
 openings_are_few (act.Unread datagram fault ∷ acts) stamp sorted opened = at_least stamp _ _ (all_replies acts) (openings_are_few acts stamp sorted.1 opened)
-openings_are_few (act.Strange of datagram why ∷ acts) stamp sorted opened = at_least stamp _ _ (all_replies acts) (still_few stamp (bytes_eq of stamp) (act.Strange of datagram why) acts (all_replies acts) refl (openings_are_few acts stamp sorted.1 opened))
+openings_are_few (act.Strange of datagram tried why ∷ acts) stamp sorted opened = at_least stamp _ _ (all_replies acts) (still_few stamp (bytes_eq of stamp) (act.Strange of datagram tried why) acts (all_replies acts) refl (openings_are_few acts stamp sorted.1 opened))
 openings_are_few (act.Refuses of datagram over fault ∷ acts) stamp sorted opened = for_datagram stamp (act.Refuses of datagram over fault) of datagram acts _ (all_replies acts) refl sorted.0 opened.0 (openings_are_few acts stamp sorted.1 opened.1)
 openings_are_few (act.Opens of over arbiter ∷ []) stamp sorted opened = absurd opened.0
 openings_are_few (act.Opens of over arbiter ∷ act.Unread datagram fault ∷ acts) stamp sorted opened = absurd opened.0
-openings_are_few (act.Opens of over arbiter ∷ act.Strange other datagram why ∷ acts) stamp sorted opened = absurd opened.0
+openings_are_few (act.Opens of over arbiter ∷ act.Strange other datagram tried why ∷ acts) stamp sorted opened = absurd opened.0
 openings_are_few (act.Opens of over arbiter ∷ act.Refuses other datagram next fault ∷ acts) stamp sorted opened = absurd opened.0
 openings_are_few (act.Opens of over arbiter ∷ act.Opens other next later ∷ acts) stamp sorted opened = absurd opened.0
 openings_are_few (act.Opens of over arbiter ∷ act.Closes other left ∷ acts) stamp sorted opened = absurd opened.0

@@ -5,7 +5,10 @@ use Rattle.std.specs.List.{flat_map}
 use Rattle.std.proofs.lemmas.List.{length-map, map-append}
 use Rattle.std.proofs.lemmas.List.Concat.{flat_map-append}
 use Rattle.arbiter_core.specs.Keeping.{KeeperFacts}
+use Rattle.system_io.specs.Histories.{Passes}
+use Rattle.system_io.specs.Hosts.{Made}
 use Rattle.system_io.specs.Ports.{Came, Passed, Passing, PortFacts}
+use Rattle.system_io.proofs.HistoryLaws.{Passes-nil, Passes-trans}
 use Rattle.arbiter_server.specs.Serving.{handed}
 use Rattle.system_io.specs.Failures.{Risen}
 use Rattle.system_io.specs.declared.output.WriteFault.{WriteFault}
@@ -15,14 +18,14 @@ use Rattle.arbiter_server.proofs.PortLaws.{Passed-nil, Passed-on, Passed-trans, 
 use Rattle.arbiter_server.proofs.GoingLaws.{cut_later, go_join, none_out}
 use Rattle.arbiter_server.specs.declared.seat.Seat.{Seat}
 use Rattle.arbiter_server.specs.Folders.{FolderFacts, Gives, Keepers, keepers, keepers_at}
-use Rattle.arbiter_server.specs.Acts.{Reply, passing_at}
+use Rattle.arbiter_server.specs.Acts.{Act, Reply, all_replies, all_taken, passing_at}
 use Rattle.arbiter_server.specs.Games.{CommonView, Fresh, Life, Open, Shut}
 use Rattle.arbiter_server.specs.Room.{at_stamp}
 use Rattle.arbiter_server.specs.Seats.{At, Stands}
 use Rattle.arbiter_server.specs.Servers.{ServerView, Stays}
 use Rattle.arbiter_server.specs.Hosts.{Ends, Hosts, IsLeft, all_lines, all_passing, missed_if}
-use Rattle.arbiter_server.specs.Turns.{HasServed, Leads, LeadsFrom, Receives, TakesTurn, TurnsTo}
-use Rattle.arbiter_server.proofs.Turning.{goes_still, leads_join}
+use Rattle.arbiter_server.specs.Turns.{Effect, HasServed, Leads, LeadsFrom, Receives, ShutsFrom, TakesTurn, TurnsTo, all_effects, effects_of, effects_with, replies_in, taken_in}
+use Rattle.arbiter_server.proofs.Turning.{closings_open, closings_say, each_join, goes_still, leads_join, openings_join, replies_join, replies_with, taken_join, taken_with, their_replies, they_take}
 use Rattle.arbiter_server.proofs.Handing.{not_open}
 use Rattle.move_msg.specs.TextLines.{ended}
 use Rattle.arbiter_server.specs.declared.line_log.LineLog.{LineLog}
@@ -35,9 +38,12 @@ pub came_and_sent : (a b c : PortFacts) (r : Reply) → Passed a b (Came r.datag
 came_and_sent a b c r came sent = Passed-on a b c (Came r.datagram ∷ []) (λ n. flat_map (handed n) r.outputs) came sent
 
 -- so many datagrams came and were answered
-pub record HasHosted {K W : Type 0} (s : Keepers K) (t : CommonView) (w : Writers W) (form : LogForm) (log : LineLog) (gives : Gives K) (at : At K) (port now : PortFacts) (out out' : W) (n : ℕ) : Type 0 where
+pub record HasHosted {K W : Type 0} (s : Keepers K) (t : CommonView) (w : Writers W) (form : LogForm) (log : LineLog) (gives : Gives K) (at : At K) (k0 : ℕ) (file : List ℕ → Made) (made made' : Option (List Made)) (port now : PortFacts) (out out' : W) (n : ℕ) : Type 0 where
+  pub effects : List Effect
   pub replies : List Reply
-  pub leads : Leads s t (λ stamp. Fresh) gives at replies
+  pub replies_are : replies_in effects ≡ replies
+  pub leads : Leads s t None 0 (λ stamp. Fresh) gives at k0 effects
+  pub makes : Passes made made' (map file (taken_in effects))
   pub passed : Passed port now (flat_map (passing_at port.addresses) replies)
   pub lines : GoOut w out (logged form (map (λ (r : Reply). r.line) replies)) out'
   pub remembered : Remembers log (texts_after [] (map (λ (r : Reply). r.line) replies))
@@ -50,18 +56,36 @@ pub record IsTold {W : Type 0} (w : Writers W) (form : LogForm) (before : List (
   pub after : Remembers log (ended line ∷ before)
   pub same : form_of log ≡ form
 
+-- what is made by some effects, and by those for one datagram more
+made_more : (file : List ℕ → Made) (made mid last : Option (List Made)) (effects : List Effect) (more : List (List ℕ)) (r : Reply) → Passes made mid (map file (taken_in effects)) → Passes mid last (map file more) → Passes made last (map file (taken_in (effects ++ effects_with more r)))
+made_more file made mid last effects more r had one =
+    let taken : taken_in (effects ++ effects_with more r) ≡ taken_in effects ++ more = taken_join effects (effects_with more r) ∙ ap (λ (ms : List (List ℕ)). taken_in effects ++ ms) (taken_with more r) in
+    subst (λ (ms : List Made). Passes made last ms) (sym (ap (map file) taken ∙ map-append file (taken_in effects) more))
+    (Passes-trans made mid last (map file (taken_in effects)) (map file more) had one)
+
+-- what is made by some effects, and nothing after it
+made_still : (file : List ℕ → Made) (made mid last : Option (List Made)) (effects : List Effect) → Passes made mid (map file (taken_in effects)) → Passes mid last [] → Passes made last (map file (taken_in effects))
+made_still file made mid last effects had none = subst (λ (ms : List Made). Passes made last ms) (append-nil (map file (taken_in effects))) (Passes-trans made mid last (map file (taken_in effects)) [] had none)
+
+replies_more : (effects : List Effect) (replies : List Reply) (more : List (List ℕ)) (r : Reply) → replies_in effects ≡ replies → replies_in (effects ++ effects_with more r) ≡ replies ++ r ∷ []
+replies_more effects replies more r is = replies_join effects (effects_with more r) ∙ ap (λ (rs : List Reply). rs ++ replies_in (effects_with more r)) is ∙ ap (λ (rs : List Reply). replies ++ rs) (replies_with more r)
+
 module _ {K W : Type 0} (s : Keepers K) (t : CommonView) (w : Writers W) (form : LogForm) where
-  pub none_hosted : (log : LineLog) (gives : Gives K) (at : At K) (port : PortFacts) (out : W) → form_of log ≡ form → Remembers log [] → ((stamp : List ℕ) → at stamp ≡ None) → HasHosted s t w form log gives at port port out out 0
-  none_hosted log gives at port out same remembers none = record {
+  pub none_hosted : (log : LineLog) (gives : Gives K) (at : At K) (k0 : ℕ) (file : List ℕ → Made) (made : Option (List Made)) (port : PortFacts) (out : W) → form_of log ≡ form → Remembers log [] → k0 ≡ 0 → ((stamp : List ℕ) → at stamp ≡ None) → HasHosted s t w form log gives at k0 file made made port port out out 0
+  none_hosted log gives at k0 file made port out same remembers zero none = record {
+    effects = [];
     replies = [];
+    replies_are = refl;
     leads = record {
       acts = [];
       new = λ stamp. Fresh;
       turns = record { each = λ stamp. refl; sorted = tt };
       opened = tt;
+      room = zero;
       stand = λ stamp. subst (λ (o : Option (Seat K)). Stands s t (gives stamp) o Fresh) (sym (none stamp)) tt;
-      replies_are = refl;
+      effects_are = refl;
     };
+    makes = Passes-nil made;
     passed = Passed-nil port;
     lines = subst (λ (ls : List (List ℕ)). GoOut w out ls out) (sym (logged_none form)) (none_out w out);
     remembered = subst (Remembers log) (sym (no_texts [])) remembers;
@@ -87,16 +111,20 @@ module _ {K W : Type 0} (s : Keepers K) (t : CommonView) (w : Writers W) (form :
   cuts_more : (lines : List (List ℕ)) (line : List ℕ) (first out out' : W) → GoOut w first (logged form lines) out → LastIsCut w out (picked form (texts_after [] lines) line) out' → LastIsCut w first (logged form (lines ++ line ∷ [])) out'
   cuts_more lines line first out out' had cut = subst (λ (ls : List (List ℕ)). LastIsCut w first ls out') (sym (logged_more form lines line)) (cut_later w first out out' _ (picked form (texts_after [] lines) line) had cut)
 
-  module _ (old new : Gives K) (at at' : At K) (port now later : PortFacts) (log log' : LineLog) (first out out' : W) (n : ℕ) (had : HasHosted s t w form log old at port now first out n) (line : List ℕ) where
-    pub more_hosted : Receives (LeadsFrom s t old at new at') now later line false → IsTold w form (texts_after [] (map (λ (x : Reply). x.line) had.replies)) log' line out out' → HasHosted s t w form log' new at' port later first out' (n + 1)
+  module _ (old new : Gives K) (at at' : At K) (k k' : ℕ) (file : List ℕ → Made) (made mid last : Option (List Made)) (port now later : PortFacts) (log log' : LineLog) (first out out' : W) (n : ℕ) (had : HasHosted s t w form log old at k file made mid port now first out n) (line : List ℕ) where
+    pub more_hosted : Receives (LeadsFrom s t None k old at new at' k') file mid last now later line false → IsTold w form (texts_after [] (map (λ (x : Reply). x.line) had.replies)) log' line out out' → HasHosted s t w form log' new at' k' file made last port later first out' (n + 1)
     more_hosted one told =
         let r = one.0 in
+        let more : List (List ℕ) = one.1.0 in
         let before = had.came in
         let mapped : List (List ℕ) = map (λ (x : Reply). x.line) had.replies in
         let is : IsTold w form (texts_after [] mapped) log' r.line out out' = subst (λ (l : List ℕ). IsTold w form (texts_after [] mapped) log' l out out') one.2 told in
         record {
+          effects = had.effects ++ effects_with more r;
           replies = had.replies ++ r ∷ [];
-          leads = leads_join s t old new at at' (λ stamp. Fresh) had.replies (r ∷ []) had.leads one.1;
+          replies_are = replies_more had.effects had.replies more r had.replies_are;
+          leads = leads_join s t None 0 k k' old new at at' (λ stamp. Fresh) had.effects (effects_with more r) had.leads one.1.2;
+          makes = made_more file made mid last had.effects more r had.makes one.1.1;
           passed = passed_more port now later had.replies r had.passed one.3;
           lines = subst (λ (ls : List (List ℕ)). GoOut w first (logged form ls) out') (sym (lines_more had.replies r)) (logs_more mapped r.line first out out' had.lines is.went);
           remembered = subst (λ (ls : List (List ℕ)). Remembers log' (texts_after [] ls)) (sym (lines_more had.replies r)) (subst (Remembers log') (sym (texts_more [] mapped r.line)) is.after);
@@ -105,56 +133,65 @@ module _ {K W : Type 0} (s : Keepers K) (t : CommonView) (w : Writers W) (form :
         }
 
   -- all of a run, by what was hosted
-  served : (gives : Gives K) (at : At K) (port now later : PortFacts) (first out' : W) (n : ℕ) (replies : List Reply) (lost : Bool) (ended : Result ℕ WriteFault)
-      → Leads s t (λ stamp. Fresh) gives at replies → Passed port now (flat_map (passing_at port.addresses) replies)
+  served : (gives : Gives K) (at : At K) (k : ℕ) (file : List ℕ → Made) (made last : Option (List Made)) (port now later : PortFacts) (first out' : W) (n : ℕ) (effects : List Effect) (replies : List Reply) (lost : Bool) (ended : Result ℕ WriteFault)
+      → replies_in effects ≡ replies → Leads s t None 0 (λ stamp. Fresh) gives at k effects → Passes made last (map file (taken_in effects)) → Passed port now (flat_map (passing_at port.addresses) replies)
       → Passed now later (missed_if lost) → (lost ≡ true → Risen now.faults later.faults) → Ends n replies lost ended → LinesEnd w first (logged form (all_lines replies lost)) out' ended
-      → HasServed s t w form n gives at port later first out' ended
-  served gives at port now later first out' n replies lost ended leads passed missed cause ends lines =
+      → HasServed s t w form n gives at file made last port later first out' ended
+  served gives at k file made last port now later first out' n effects replies lost ended are leads makes passed missed cause ends lines =
       let count = passed.count in
       record {
-        replies = replies;
+        effects = effects;
+        count = k;
         leads = leads;
+        made = makes;
         lost = lost;
-        passed = Passed-trans port now later _ (missed_if lost) passed missed;
+        passed = subst (λ (rs : List Reply). Passed port later (all_passing port.addresses rs lost)) (sym are) (Passed-trans port now later _ (missed_if lost) passed missed);
         cause = λ is. Risen-later port.faults now.faults later.faults count (cause is);
-        ends = ends;
-        lines = lines;
+        ends = subst (λ (rs : List Reply). Ends n rs lost ended) (sym are) ends;
+        lines = subst (λ (rs : List Reply). LinesEnd w first (logged form (all_lines rs lost)) out' ended) (sym are) lines;
       }
 
   never_lost : (a b : ℕ) → false ≡ true → Risen a b
   never_lost a b e = absurd (let wrong : false ≡ true = e in cc)
 
   -- all came
-  pub served_all : (log : LineLog) (gives : Gives K) (at : At K) (port now : PortFacts) (first out : W) (n : ℕ) → HasHosted s t w form log gives at port now first out n → HasServed s t w form n gives at port now first out (Ok 0)
-  served_all log gives at port now first out n had =
-      served gives at port now now first out n had.replies false (Ok 0) had.leads had.passed (Passed-nil now) (never_lost now.faults now.faults) (had.came, refl)
+  pub served_all : (log : LineLog) (gives : Gives K) (at : At K) (k : ℕ) (file : List ℕ → Made) (made last : Option (List Made)) (port now : PortFacts) (first out : W) (n : ℕ) → HasHosted s t w form log gives at k file made last port now first out n → HasServed s t w form n gives at file made last port now first out (Ok 0)
+  served_all log gives at k file made last port now first out n had =
+      served gives at k file made last port now now first out n had.effects had.replies false (Ok 0) had.replies_are had.leads had.makes had.passed (Passed-nil now) (never_lost now.faults now.faults) (had.came, refl)
       (subst (λ (ls : List (List ℕ)). GoOut w first (logged form ls) out) (sym (append-nil (map (λ (r : Reply). r.line) had.replies))) had.lines)
 
-  module _ (old new : Gives K) (at at' : At K) (port now later : PortFacts) (log : LineLog) (first out out' : W) (k n : ℕ) (had : HasHosted s t w form log old at port now first out k) (few : k < n) (line : List ℕ) where
+  module _ (old new : Gives K) (at at' : At K) (k0 k1 : ℕ) (file : List ℕ → Made) (made mid last : Option (List Made)) (port now later : PortFacts) (log : LineLog) (first out out' : W) (k n : ℕ) (had : HasHosted s t w form log old at k0 file made mid port now first out k) (few : k < n) (line : List ℕ) where
     -- what is known of lines by now
     abbrev so_far : List (List ℕ)
     so_far = map (λ (x : Reply). x.line) had.replies
 
+    -- it goes on from one moment of the folder and the games to the next
+    abbrev Next : List Effect → Type 0
+    Next = LeadsFrom s t None k0 old at new at' k1
+
     -- the port is lost
-    served_until : Receives (LeadsFrom s t old at new at') now later line true → GoOut w out (picked form (texts_after [] so_far) line) out' → HasServed s t w form n new at' port later first out' (Ok 1)
+    served_until : Receives Next file mid last now later line true → GoOut w out (picked form (texts_after [] so_far) line) out' → HasServed s t w form n new at' file made last port later first out' (Ok 1)
     served_until one went =
         let came = had.came in
-        served new at' port now later first out' n had.replies true (Ok 1) (goes_still s t old new at at' (λ stamp. Fresh) had.replies had.leads one.0) had.passed one.2 (λ _. one.3) (omega (arith, few, came), refl)
+        served new at' k1 file made last port now later first out' n had.effects had.replies true (Ok 1) had.replies_are (goes_still s t None 0 k0 k1 old new at at' (λ stamp. Fresh) had.effects had.leads one.0.0) (made_still file made mid last had.effects had.makes one.0.1)
+        had.passed one.2 (λ _. one.3) (omega (arith, few, came), refl)
         (logs_more so_far refused_port first out out' had.lines (subst (λ (l : List ℕ). GoOut w out (picked form (texts_after [] so_far) l) out') one.1 went))
 
     -- the line of a port that is lost is cut short
-    cut_at_loss : (fault : WriteFault) → Receives (LeadsFrom s t old at new at') now later line true → LastIsCut w out (picked form (texts_after [] so_far) line) out' → HasServed s t w form n new at' port later first out' (Err fault)
+    cut_at_loss : (fault : WriteFault) → Receives Next file mid last now later line true → LastIsCut w out (picked form (texts_after [] so_far) line) out' → HasServed s t w form n new at' file made last port later first out' (Err fault)
     cut_at_loss fault one cut =
         let came = had.came in
         let size : length (map (λ (r : Reply). r.line) had.replies) ≡ length had.replies = length-map had.replies (λ (r : Reply). r.line) in
         let all : length (map (λ (r : Reply). r.line) had.replies ++ refused_port ∷ []) ≡ length (map (λ (r : Reply). r.line) had.replies) + 1 = length-append (map (λ (r : Reply). r.line) had.replies) (refused_port ∷ []) in
-        served new at' port now later first out' n had.replies true (Err fault) (goes_still s t old new at at' (λ stamp. Fresh) had.replies had.leads one.0) had.passed one.2 (λ _. one.3) (omega (arith, few, came, size, all))
+        served new at' k1 file made last port now later first out' n had.effects had.replies true (Err fault) had.replies_are (goes_still s t None 0 k0 k1 old new at at' (λ stamp. Fresh) had.effects had.leads one.0.0) (made_still file made mid last had.effects had.makes one.0.1)
+        had.passed one.2 (λ _. one.3) (omega (arith, few, came, size, all))
         (cuts_more so_far refused_port first out out' had.lines (subst (λ (l : List ℕ). LastIsCut w out (picked form (texts_after [] so_far) l) out') one.1 cut))
 
     -- the line of a datagram is cut short
-    cut_at_reply : (fault : WriteFault) → Receives (LeadsFrom s t old at new at') now later line false → LastIsCut w out (picked form (texts_after [] so_far) line) out' → HasServed s t w form n new at' port later first out' (Err fault)
+    cut_at_reply : (fault : WriteFault) → Receives Next file mid last now later line false → LastIsCut w out (picked form (texts_after [] so_far) line) out' → HasServed s t w form n new at' file made last port later first out' (Err fault)
     cut_at_reply fault one cut =
         let r = one.0 in
+        let more : List (List ℕ) = one.1.0 in
         let came = had.came in
         let all : List Reply = had.replies ++ r ∷ [] in
         let lines : LastIsCut w first (logged form (map (λ (x : Reply). x.line) all)) out' =
@@ -164,49 +201,54 @@ module _ {K W : Type 0} (s : Keepers K) (t : CommonView) (w : Writers W) (form :
         let one_more : length all ≡ length had.replies + 1 = length-append had.replies (r ∷ []) in
         let ends : length (map (λ (x : Reply). x.line) all) ≤ n = omega (arith, few, came, size, one_more) in
         let none : map (λ (x : Reply). x.line) all ++ [] ≡ map (λ (x : Reply). x.line) all = append-nil (map (λ (x : Reply). x.line) all) in
-        served new at' port later later first out' n all false (Err fault) (leads_join s t old new at at' (λ stamp. Fresh) had.replies (r ∷ []) had.leads one.1)
+        served new at' k1 file made last port later later first out' n (had.effects ++ effects_with more r) all false (Err fault) (replies_more had.effects had.replies more r had.replies_are)
+        (leads_join s t None 0 k0 k1 old new at at' (λ stamp. Fresh) had.effects (effects_with more r) had.leads one.1.2) (made_more file made mid last had.effects more r had.makes one.1.1)
         (passed_more port now later had.replies r had.passed one.3) (Passed-nil later) (never_lost later.faults later.faults)
         (subst (λ (ls : List (List ℕ)). length ls ≤ n) (sym none) ends)
         (subst (λ (ls : List (List ℕ)). LastIsCut w first (logged form ls) out') (sym none) lines)
 
-    served_cut : (fault : WriteFault) (lost : Bool) → Receives (LeadsFrom s t old at new at') now later line lost → LastIsCut w out (picked form (texts_after [] so_far) line) out' → HasServed s t w form n new at' port later first out' (Err fault)
+    served_cut : (fault : WriteFault) (lost : Bool) → Receives Next file mid last now later line lost → LastIsCut w out (picked form (texts_after [] so_far) line) out' → HasServed s t w form n new at' file made last port later first out' (Err fault)
     served_cut fault true one cut = cut_at_loss fault one cut
     served_cut fault false one cut = cut_at_reply fault one cut
 
-module _ {K W : Type 0} (s : Keepers K) (t : CommonView) (w : Writers W) (form : LogForm) (old new : Gives K) (at at' : At K) (port now later : PortFacts) (log log' : LineLog) (first out out' : W) (k : ℕ) (had : HasHosted s t w form log old at port now first out k) where
+module _ {K W : Type 0} (s : Keepers K) (t : CommonView) (w : Writers W) (form : LogForm) (old new : Gives K) (at at' : At K) (k0 k1 : ℕ) (file : List ℕ → Made) (made mid last : Option (List Made)) (port now later : PortFacts) (log log' : LineLog) (first out out' : W) (k : ℕ) (had : HasHosted s t w form log old at k0 file made mid port now first out k) where
   -- what was told before
   abbrev told_before : List (List ℕ)
   told_before = texts_after [] (map (λ (x : Reply). x.line) had.replies)
 
+  -- it goes on from one moment of the folder and the games to the next
+  abbrev Onward : List Effect → Type 0
+  Onward = LeadsFrom s t None k0 old at new at' k1
+
   -- the turn is taken after it
   abbrev pub Taken : Result Bool WriteFault → Type 0
-  Taken told = (before : List (List ℕ)) → Remembers log before → TakesTurn (LeadsFrom s t old at new at') w before log log' now later out out' told
+  Taken told = (before : List (List ℕ)) → Remembers log before → TakesTurn Onward file w before log log' mid last now later out out' told
 
   -- a turn after which the run goes on
-  pub more_by_turn : (told : Result Bool WriteFault) (lost : Bool) → Taken told → told ≡ Ok lost → lost ≡ false → HasHosted s t w form log' new at' port later first out' (k + 1)
+  pub more_by_turn : (told : Result Bool WriteFault) (lost : Bool) → Taken told → told ≡ Ok lost → lost ≡ false → HasHosted s t w form log' new at' k1 file made last port later first out' (k + 1)
   more_by_turn told lost taken is on =
-      let x : TakesTurn (LeadsFrom s t old at new at') w told_before log log' now later out out' told = taken told_before had.remembered in
+      let x : TakesTurn Onward file w told_before log log' mid last now later out out' told = taken told_before had.remembered in
       let lines : GoOut w out (picked (form_of log) told_before x.line) out' = subst (λ (r : Result Bool WriteFault). LinesEnd w out (picked (form_of log) told_before x.line) out' r) is x.tells.lines in
       let same : lost ≡ x.lost = subst (λ (r : Result Bool WriteFault). IfOk r (λ b. b ≡ x.lost)) is x.is in
-      let received : Receives (LeadsFrom s t old at new at') now later x.line false = subst (λ (b : Bool). Receives (LeadsFrom s t old at new at') now later x.line b) (sym same ∙ on) x.received in
+      let received : Receives Onward file mid last now later x.line false = subst (λ (b : Bool). Receives Onward file mid last now later x.line b) (sym same ∙ on) x.received in
       let one : IsTold w form told_before log' x.line out out' = record { went = subst (λ (f : LogForm). GoOut w out (picked f told_before x.line) out') had.same lines; after = x.tells.after; same = x.tells.same ∙ had.same } in
-      more_hosted s t w form old new at at' port now later log log' first out out' k had x.line received one
+      more_hosted s t w form old new at at' k0 k1 file made mid last port now later log log' first out out' k had x.line received one
 
   -- one at which the port is lost
-  pub ends_by_loss : (n : ℕ) → k < n → (told : Result Bool WriteFault) (lost : Bool) → Taken told → told ≡ Ok lost → lost ≡ true → HasServed s t w form n new at' port later first out' (Ok 1)
+  pub ends_by_loss : (n : ℕ) → k < n → (told : Result Bool WriteFault) (lost : Bool) → Taken told → told ≡ Ok lost → lost ≡ true → HasServed s t w form n new at' file made last port later first out' (Ok 1)
   ends_by_loss n few told lost taken is off =
-      let x : TakesTurn (LeadsFrom s t old at new at') w told_before log log' now later out out' told = taken told_before had.remembered in
+      let x : TakesTurn Onward file w told_before log log' mid last now later out out' told = taken told_before had.remembered in
       let lines : GoOut w out (picked (form_of log) told_before x.line) out' = subst (λ (r : Result Bool WriteFault). LinesEnd w out (picked (form_of log) told_before x.line) out' r) is x.tells.lines in
       let same : lost ≡ x.lost = subst (λ (r : Result Bool WriteFault). IfOk r (λ b. b ≡ x.lost)) is x.is in
-      let received : Receives (LeadsFrom s t old at new at') now later x.line true = subst (λ (b : Bool). Receives (LeadsFrom s t old at new at') now later x.line b) (sym same ∙ off) x.received in
-      served_until s t w form old new at at' port now later log first out out' k n had few x.line received (subst (λ (f : LogForm). GoOut w out (picked f told_before x.line) out') had.same lines)
+      let received : Receives Onward file mid last now later x.line true = subst (λ (b : Bool). Receives Onward file mid last now later x.line b) (sym same ∙ off) x.received in
+      served_until s t w form old new at at' k0 k1 file made mid last port now later log first out out' k n had few x.line received (subst (λ (f : LogForm). GoOut w out (picked f told_before x.line) out') had.same lines)
 
   -- one whose line is cut short
-  pub ends_by_cut : (n : ℕ) → k < n → (told : Result Bool WriteFault) (fault : WriteFault) → Taken told → told ≡ Err fault → HasServed s t w form n new at' port later first out' (Err fault)
+  pub ends_by_cut : (n : ℕ) → k < n → (told : Result Bool WriteFault) (fault : WriteFault) → Taken told → told ≡ Err fault → HasServed s t w form n new at' file made last port later first out' (Err fault)
   ends_by_cut n few told fault taken is =
-      let x : TakesTurn (LeadsFrom s t old at new at') w told_before log log' now later out out' told = taken told_before had.remembered in
+      let x : TakesTurn Onward file w told_before log log' mid last now later out out' told = taken told_before had.remembered in
       let lines : LastIsCut w out (picked (form_of log) told_before x.line) out' = subst (λ (r : Result Bool WriteFault). LinesEnd w out (picked (form_of log) told_before x.line) out' r) is x.tells.lines in
-      served_cut s t w form old new at at' port now later log first out out' k n had few x.line fault x.lost x.received (subst (λ (f : LogForm). LastIsCut w out (picked f told_before x.line) out') had.same lines)
+      served_cut s t w form old new at at' k0 k1 file made mid last port now later log first out out' k n had few x.line fault x.lost x.received (subst (λ (f : LogForm). LastIsCut w out (picked f told_before x.line) out') had.same lines)
 
 left_so : {K : Type 0} (s : Keepers K) (t : CommonView) (gives : K → Type 0) (life : Life K) → Stands s t gives None life → IsLeft s gives life
 left_so s t gives Fresh h = tt
@@ -214,32 +256,45 @@ left_so s t gives (Shut left) h = h
 left_so s t gives (Open at) h = h
 
 -- the games that are open are closed
-pub hosts_closed : {K W : Type 0} (s : Keepers K) (t : CommonView) (w : Writers W) (form : LogForm) (n : ℕ) (gives gives' : Gives K) (at at' : At K) (port port' : PortFacts) (out out' : W) (ended : Result ℕ WriteFault)
-    → HasServed s t w form n gives at port port' out out' ended → LeadsFrom s t gives at gives' at' [] → ((stamp : List ℕ) → at' stamp ≡ None) → Hosts s t w form n gives' port port' out out' ended
-hosts_closed {K = K} s t w form n gives gives' at at' port port' out out' ended had closing none =
-    let leads : Leads s t (λ stamp. Fresh) gives' at' had.replies = goes_still s t gives gives' at at' (λ stamp. Fresh) had.replies had.leads closing in
-    let shut : (stamp : List ℕ) → Stands s t (gives' stamp) None (leads.new stamp) = λ stamp. subst (λ (o : Option (Seat K)). Stands s t (gives' stamp) o (leads.new stamp)) (none stamp) (leads.stand stamp) in
-    record {
-      acts = leads.acts;
-      hosted = record {
-        games = leads.new;
-        each = leads.turns.each;
-        sorted = leads.turns.sorted;
-        opened = leads.opened;
-        closed = λ stamp. not_open s t (gives' stamp) (leads.new stamp) (shut stamp);
-      };
-      left = λ stamp. left_so s t (gives' stamp) (leads.new stamp) (shut stamp);
-      lost = had.lost;
-      passed = subst (λ (rs : List Reply). Passed port port' (all_passing port.addresses rs had.lost)) (sym leads.replies_are) had.passed;
-      cause = had.cause;
-      ends = subst (λ (rs : List Reply). Ends n rs had.lost ended) (sym leads.replies_are) had.ends;
-      lines = subst (λ (rs : List Reply). LinesEnd w out (logged form (all_lines rs had.lost)) out' ended) (sym leads.replies_are) had.lines;
-    }
+pub hosts_closed : {K W : Type 0} (s : Keepers K) (t : CommonView) (w : Writers W) (form : LogForm) (n : ℕ) (gives gives' : Gives K) (at at' : At K) (file : List ℕ → Made) (made last : Option (List Made)) (port port' : PortFacts) (out out' : W) (ended : Result ℕ WriteFault)
+    → HasServed s t w form n gives at file made last port port' out out' ended → ShutsFrom s t gives at gives' at' → ((stamp : List ℕ) → at' stamp ≡ None)
+    → (taken : List (List ℕ)) × Passes made last (map file taken) × Hosts s t w form n taken gives' port port' out out' ended
+hosts_closed {K = K} s t w form n gives gives' at at' file made last port port' out out' ended had closing none =
+    let ending = closing had.leads.new had.leads.stand in
+    let acts : List (Act K) = had.leads.acts ++ ending.acts in
+    let shut : (stamp : List ℕ) → Stands s t (gives' stamp) None (ending.new stamp) = λ stamp. subst (λ (o : Option (Seat K)). Stands s t (gives' stamp) o (ending.new stamp)) (none stamp) (ending.stand stamp) in
+    let effects : all_effects acts ≡ had.effects =
+    flat_map-append effects_of had.leads.acts ending.acts ∙ ap (λ (es : List Effect). es ++ all_effects ending.acts) had.leads.effects_are
+    ∙ ap (λ (es : List Effect). had.effects ++ es) (closings_say ending.acts ending.closing) ∙ append-nil had.effects in
+    let replies : replies_in had.effects ≡ all_replies acts = ap replies_in (sym effects) ∙ their_replies acts in
+    let turns = each_join s t (λ stamp. Fresh) had.leads.new ending.new had.leads.acts ending.acts had.leads.turns ending.turns in (
+      taken_in had.effects,
+      had.made,
+      record {
+        acts = acts;
+        hosted = record {
+          games = ending.new;
+          each = turns.each;
+          sorted = turns.sorted;
+          opened = openings_join had.leads.acts ending.acts had.leads.opened (closings_open ending.acts ending.closing);
+          closed = λ stamp. not_open s t (gives' stamp) (ending.new stamp) (shut stamp);
+        };
+        few = record { first = had.leads.acts; last = ending.acts; is = refl; count = had.count; room = had.leads.room; closing = ending.closing };
+        takes = sym (ap taken_in (sym effects) ∙ they_take acts);
+        left = λ stamp. left_so s t (gives' stamp) (ending.new stamp) (shut stamp);
+        lost = had.lost;
+        passed = subst (λ (rs : List Reply). Passed port port' (all_passing port.addresses rs had.lost)) replies had.passed;
+        cause = had.cause;
+        ends = subst (λ (rs : List Reply). Ends n rs had.lost ended) replies had.ends;
+        lines = subst (λ (rs : List Reply). LinesEnd w out (logged form (all_lines rs had.lost)) out' ended) replies had.lines;
+      },
+    )
 
 -- a turn of a server, by what its games had in common and its folder at the start
-pub turn_from : {G K W : Type 0} (facts : KeeperFacts K) (folder : FolderFacts G K) (w : Writers W) (start now later : ServerView G K) → Stays folder start now → (log log' : LineLog) (port port' : PortFacts) (out out' : W) (told : Result Bool WriteFault)
-    → ((before : List (List ℕ)) → Remembers log before → TakesTurn (TurnsTo facts folder now later) w before log log' port port' out out' told)
-    → (before : List (List ℕ)) → Remembers log before → TakesTurn (LeadsFrom (keepers facts folder start.games) start.common (folder.gives now.games) (at_stamp now.seats) (folder.gives later.games) (at_stamp later.seats)) w before log log' port port' out out' told
-turn_from facts folder w start now later stays log log' port port' out out' told taken before remembers =
-    subst (λ (p : folder.Place). TakesTurn (LeadsFrom (keepers_at facts folder p) start.common (folder.gives now.games) (at_stamp now.seats) (folder.gives later.games) (at_stamp later.seats)) w before log log' port port' out out' told) stays.place
-    (subst (λ (t : CommonView). TakesTurn (LeadsFrom (keepers facts folder now.games) t (folder.gives now.games) (at_stamp now.seats) (folder.gives later.games) (at_stamp later.seats)) w before log log' port port' out out' told) stays.common (taken before remembers))
+pub turn_from : {G K W : Type 0} (facts : KeeperFacts K) (folder : FolderFacts G K) (w : Writers W) (start now later : ServerView G K) → Stays folder start now → (log log' : LineLog) (had has : Option (List Made)) (port port' : PortFacts) (out out' : W) (told : Result Bool WriteFault)
+    → ((before : List (List ℕ)) → Remembers log before → TakesTurn (TurnsTo facts folder now later) (folder.taken (folder.place now.games)) w before log log' had has port port' out out' told)
+    → (before : List (List ℕ)) → Remembers log before
+    → TakesTurn (LeadsFrom (keepers facts folder start.games) start.common None (length now.seats) (folder.gives now.games) (at_stamp now.seats) (folder.gives later.games) (at_stamp later.seats) (length later.seats)) (folder.taken (folder.place start.games)) w before log log' had has port port' out out' told
+turn_from facts folder w start now later stays log log' had has port port' out out' told taken before remembers =
+    subst (λ (p : folder.Place). TakesTurn (LeadsFrom (keepers_at facts folder p) start.common None (length now.seats) (folder.gives now.games) (at_stamp now.seats) (folder.gives later.games) (at_stamp later.seats) (length later.seats)) (folder.taken p) w before log log' had has port port' out out' told) stays.place
+    (subst (λ (t : CommonView). TakesTurn (LeadsFrom (keepers facts folder now.games) t None (length now.seats) (folder.gives now.games) (at_stamp now.seats) (folder.gives later.games) (at_stamp later.seats) (length later.seats)) (folder.taken (folder.place now.games)) w before log log' had has port port' out out' told) stays.common (taken before remembers))

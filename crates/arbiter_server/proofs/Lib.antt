@@ -26,4 +26,3 @@ pub mod Logging
 pub mod Hosted
 pub mod Histories
 pub mod WholeRuns
-pub mod Makings

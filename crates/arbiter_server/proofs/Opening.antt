@@ -19,7 +19,7 @@ use Rattle.arbiter_server.specs.Acts.{Act, Opening, Opens, Refuses, game_of, IsS
 use Rattle.arbiter_server.specs.Told.{unopened_by}
 use Rattle.arbiter_server.specs.Games.{CommonView, GoesOn, IsGameOf, IsOver, IsSetupOf, IsToldAs, Life, Fresh, Shut, Open, OpensTo, life_after, setup_of}
 use Rattle.arbiter_server.specs.Seats.{At, AreLives, IsSeated, Lives, Stands, in_hand}
-use Rattle.arbiter_server.specs.Turns.{IsFoundAs, LeadsFrom, LeadsOne, LeadsOpenFrom}
+use Rattle.arbiter_server.specs.Turns.{IsFoundAs, LeadsFrom, LeadsOne, LeadsOpenFrom, effects_with}
 use Rattle.arbiter_server.proofs.Turning.{itself, leads_one, one_act}
 
 -- what `open` ensures
@@ -81,9 +81,9 @@ module _ {K : Type 0} (s : Keepers K) (t : CommonView) (old mid : Gives K) (stam
       record { over = record { setup = setup; before = before; now = now }; arbiter = awake r t.set; one = one }
 
   pub refused_over : (new : Gives K) (fault : OpenFault) → IsOpening s.facts setup before now (Err fault)
-      → ((next : K) → new stamp next → s.follows now next) → GivesOthers stamp mid new → (at : At K) (datagram : List ℕ) → at stamp ≡ None → stamp_for datagram ≡ Some stamp → opens_for datagram ≡ true → LeadsFrom s t old at new at (unopened stamp datagram (unopened_by fault) ∷ [])
-  refused_over new fault opening left others at datagram absent sorted opens = λ lives stand.
-      leads_one s t (Refuses stamp datagram (record { setup = setup; before = before; now = now }) fault) lives new at (opens, tt)
+      → ((next : K) → new stamp next → s.follows now next) → GivesOthers stamp mid new → (at : At K) (k : ℕ) (datagram : List ℕ) → at stamp ≡ None → stamp_for datagram ≡ Some stamp → opens_for datagram ≡ true → LeadsFrom s t None k old at new at k (effects_with (stamp ∷ []) (unopened stamp datagram (unopened_by fault)))
+  refused_over new fault opening left others at k datagram absent sorted opens = λ lives stand.
+      leads_one s t None k (Refuses stamp datagram (record { setup = setup; before = before; now = now }) fault) lives new at (opens, tt) tt
       (opens_to s t old new at at stamp (record { setup = setup; before = before; now = now }) (Err fault) (Refuses stamp datagram (record { setup = setup; before = before; now = now }) fault) absent is given told_as game opening
       refl sorted (λ old new h. h)
       (subst (λ (x : Option (Seat K)). Stands s t (new stamp) x (Shut now)) (sym absent) left)

@@ -1,4 +1,4 @@
--- What is found by a stamp after an entry is taken out or put in.
+-- What is found by a stamp after an entry is taken out or put in, and how many there are.
 use Rattle.std.proofs.Common.{◌≡◌, ℕ, ◌+◌, ◌-◌, ◌≤◌, ◌<◌, true, false, cond, zero, suc, List, [], ◌∷◌, ◌++◌, length, take, Option, Some, None, refl, sym, ap, subst, ◌∙◌, arith, length-append}
 use Rattle.std.specs.Prelude.{slice_get, IfNone, IfSome}
 use Rattle.std.specs.List.{IsDistinct, AllByRecursion}
@@ -79,6 +79,10 @@ module _ {S : Type 0} where
   none_left [] less stamp is h = (refl, ap (λ (l : List (List ℕ × S)). at_stamp l stamp) is)
   none_left (e ∷ es) less stamp is h = absurd (has_last e es h)
 
+  pub empty_left : (es less : List (List ℕ × S)) → less ≡ take (length es - 1) es → last_entry es ≡ None → length less ≡ 0
+  empty_left [] less is h = ap (λ (l : List (List ℕ × S)). length l) is
+  empty_left (e ∷ es) less is h = absurd (has_last e es h)
+
   pub fewer_left : (es less : List (List ℕ × S)) (x : List ℕ × S) → less ≡ take (length es - 1) es → last_entry es ≡ Some x → length less < length es
   fewer_left es less x is h =
       let e : length es ≡ length (take (length es - 1) es) + 1 = ap (λ (l : List (List ℕ × S)). length l) (split_last es x h) ∙ length-append (take (length es - 1) es) (x ∷ []) in
@@ -92,6 +96,28 @@ module _ {S : Type 0} where
     | false ↦ λ e. no_entry es stamp e
   ]) h
 
+  -- one less where it was there
+  pub one_taken : (es : List (List ℕ × S)) (stamp : List ℕ) (seat : S) → at_stamp es stamp ≡ Some seat → length es ≡ suc (length (remove_entry (bytes_eq stamp) es))
+  one_taken [] stamp seat there = cc
+  one_taken (e ∷ es) stamp seat there = (elim (bytes_eq stamp e.0) as (λ b. cond b (Some e.1) (at_stamp es stamp) ≡ Some seat → suc (length es) ≡ suc (length (cond b es (e ∷ remove_entry (bytes_eq stamp) es)))) [
+    | true ↦ λ h. refl
+    | false ↦ λ h. ap suc (one_taken es stamp seat h)
+  ]) there
+
+  -- as many where it was not
+  pub none_taken : (es : List (List ℕ × S)) (stamp : List ℕ) → at_stamp es stamp ≡ None → length (remove_entry (bytes_eq stamp) es) ≡ length es
+  none_taken [] stamp absent = refl
+  none_taken (e ∷ es) stamp absent = (elim (bytes_eq stamp e.0) as (λ b. cond b (Some e.1) (at_stamp es stamp) ≡ None → length (cond b es (e ∷ remove_entry (bytes_eq stamp) es)) ≡ suc (length es)) [
+    | true ↦ λ h. cc
+    | false ↦ λ h. ap suc (none_taken es stamp h)
+  ]) absent
+
+  pub one_left : (es less : List (List ℕ × S)) (x : List ℕ × S) → less ≡ take (length es - 1) es → last_entry es ≡ Some x → length es ≡ suc (length less)
+  one_left es less x is h =
+      let e : length es ≡ length (take (length es - 1) es) + 1 = ap (λ (l : List (List ℕ × S)). length l) (split_last es x h) ∙ length-append (take (length es - 1) es) (x ∷ []) in
+      let same : length less ≡ length (take (length es - 1) es) = ap (λ (l : List (List ℕ × S)). length l) is in
+      omega (arith, e, same)
+
   take_all_of : (n : ℕ) (es : List (List ℕ × S)) → length es ≤ n → take n es ≡ es
   take_all_of n [] h = take_none n
     where
@@ -101,12 +127,17 @@ module _ {S : Type 0} where
   take_all_of zero (e ∷ es) h = absurd (omega arith)
   take_all_of (suc n) (e ∷ es) h = ap (λ (xs : List (List ℕ × S)). e ∷ xs) (take_all_of n es (omega arith))
 
-  pub put_there : (c : LruCache (List ℕ) S) (stamp other : List ℕ) (seat : S) → at_stamp c.entries stamp ≡ None → length c.entries < c.cap → at_stamp (put_entries bytes_eq c stamp seat) other ≡ cond (bytes_eq stamp other) (Some seat) (at_stamp c.entries other)
-  put_there c stamp other seat absent room =
+  put_is : (c : LruCache (List ℕ) S) (stamp : List ℕ) (seat : S) → at_stamp c.entries stamp ≡ None → length c.entries < c.cap → put_entries bytes_eq c stamp seat ≡ (stamp, seat) ∷ c.entries
+  put_is c stamp seat absent room =
       let none = no_entry c.entries stamp absent in
       let all : take (c.cap - 1) c.entries ≡ c.entries = take_all_of (c.cap - 1) c.entries (omega arith) in
-      let entries : put_entries bytes_eq c stamp seat ≡ (stamp, seat) ∷ c.entries =
       ap (λ (o : Option (List ℕ × S)). option_map_or (λ (e : List ℕ × S). (e.0, seat) ∷ remove_entry (bytes_eq stamp) c.entries) o ((stamp, seat) ∷ take (c.cap - 1) c.entries)) none
-      ∙ ap (λ (xs : List (List ℕ × S)). (stamp, seat) ∷ xs) all in
-      ap (λ (xs : List (List ℕ × S)). at_stamp xs other) entries
+      ∙ ap (λ (xs : List (List ℕ × S)). (stamp, seat) ∷ xs) all
+
+  pub one_put : (c : LruCache (List ℕ) S) (stamp : List ℕ) (seat : S) → at_stamp c.entries stamp ≡ None → length c.entries < c.cap → length (put_entries bytes_eq c stamp seat) ≡ suc (length c.entries)
+  one_put c stamp seat absent room = ap (λ (xs : List (List ℕ × S)). length xs) (put_is c stamp seat absent room)
+
+  pub put_there : (c : LruCache (List ℕ) S) (stamp other : List ℕ) (seat : S) → at_stamp c.entries stamp ≡ None → length c.entries < c.cap → at_stamp (put_entries bytes_eq c stamp seat) other ≡ cond (bytes_eq stamp other) (Some seat) (at_stamp c.entries other)
+  put_there c stamp other seat absent room =
+      ap (λ (xs : List (List ℕ × S)). at_stamp xs other) (put_is c stamp seat absent room)
       ∙ ap (λ b. cond b (Some seat) (at_stamp c.entries other)) (nat_list_eq_equiv.symm other stamp)

@@ -1,17 +1,21 @@
 -- The seat of a game, and its answer to a datagram.
-use Rattle.std.proofs.Common.{◌≡◌, ℕ, Bool, true, false, cond, List, [], ◌++◌, Option, Some, None, refl, sym, subst, ◌∙◌}
-use Rattle.std.specs.Prelude.{IfSome}
+use Rattle.std.proofs.Common.{◌≡◌, ℕ, suc, Bool, true, false, cond, List, [], Option, Some, None, refl, sym, subst, ◌∙◌}
+use Rattle.std.specs.Prelude.{Result, Ok, Err, IfOk, IfSome, OnOk}
 use Rattle.std.specs.Str.{bytes_eq}
 use Rattle.std.proofs.lemmas.Bool.{cond-true, cond-false}
 use Rattle.judge_core.specs.Tables.{Holding}
 use Rattle.arbiter_core.specs.Keeping.{KeeperFacts}
 use Rattle.arbiter_server.specs.declared.seat.Seat.{Seat}
 use Rattle.arbiter_server.specs.Folders.{FolderFacts, Gives, Keepers, keepers, keepers_at}
-use Rattle.arbiter_server.specs.Acts.{Reply}
 use Rattle.arbiter_server.specs.Games.{CommonView, Life, Fresh, Open}
 use Rattle.arbiter_server.specs.Seats.{At, AreSeated, IsAtRest, IsSeated, Stands, in_hand, moment_of}
-use Rattle.arbiter_server.specs.Turns.{LeadsFrom, LeadsFromBy, LeadsOpenFrom}
+use Rattle.arbiter_server.specs.Turns.{Effect, LeadsFrom, LeadsFromBy, LeadsOpenFrom, ShutsFrom}
 use Rattle.arbiter_server.proofs.Turning.{itself, leads_join, same_stamp}
+
+-- what is so of a result, and of any that is good
+pub both : {A E : Type 0} (r : Result A E) (P Q : A → Type 0) (M : Type 0) → ((x : A) → P x → M → Q x) → IfOk r P → OnOk r M → IfOk r Q
+both (Ok x) P Q M join p m = join x p m
+both (Err e) P Q M join p m = tt
 
 module _ {K : Type 0} where
   -- a game that was taken out is in hand
@@ -60,16 +64,13 @@ module _ {K : Type 0} (facts : KeeperFacts K) (set : Holding) where
 
 module _ {K : Type 0} (s : Keepers K) (t : CommonView) where
   -- from games that are open in the same way
-  pub from_same : (old new : Gives K) (at at1 at' : At K) (replies : List Reply) → ((other : List ℕ) → at1 other ≡ at other) → LeadsFrom s t old at1 new at' replies → LeadsFrom s t old at new at' replies
-  from_same old new at at1 at' replies same h = λ lives stand.
+  pub from_same : (k k' : ℕ) (old new : Gives K) (at at1 at' : At K) (effects : List Effect) → ((other : List ℕ) → at1 other ≡ at other) → LeadsFrom s t None k old at1 new at' k' effects → LeadsFrom s t None k old at new at' k' effects
+  from_same k k' old new at at1 at' effects same h = λ lives stand.
       h lives (λ stamp. subst (λ (x : Option (Seat K)). Stands s t (old stamp) x (lives stamp)) (sym (same stamp)) (stand stamp))
 
   pub opens_same : (stamp : List ℕ) (old new : Gives K) (at at1 at' : At K) → ((other : List ℕ) → at1 other ≡ at other) → LeadsOpenFrom s t stamp old at1 new at' → LeadsOpenFrom s t stamp old at new at'
   opens_same stamp old new at at1 at' same h = λ lives stand.
       h lives (λ other. subst (λ (x : Option (Seat K)). Stands s t (old other) x (lives other)) (sym (same other)) (stand other))
-
-  pub goes_into : (old mid new : Gives K) (at at1 at' : At K) (xs ys : List Reply) → LeadsFrom s t old at mid at1 xs → LeadsFrom s t mid at1 new at' ys → LeadsFrom s t old at new at' (xs ++ ys)
-  goes_into old mid new at at1 at' xs ys one more = λ lives stand. leads_join s t mid new at1 at' lives xs ys (one lives stand) more
 
 -- acts lead from games that can answer to such games
 module _ {K : Type 0} (s : Keepers K) (t : CommonView) where
@@ -85,30 +86,30 @@ module _ {K : Type 0} (s : Keepers K) (t : CommonView) where
   seat_of gives None life stands = tt
   seat_of gives (Some seat) life stands = stands.0
 
-  seated_after : (gives gives' : Gives K) (at at' : At K) (replies : List Reply) → LeadsFrom s t gives at gives' at' replies → AreSeated s.facts t.set at → AreSeated s.facts t.set at'
-  seated_after gives gives' at at' replies leads are = λ stamp.
+  seated_after : (before : Option (List ℕ)) (k k' : ℕ) (gives gives' : Gives K) (at at' : At K) (effects : List Effect) → LeadsFrom s t before k gives at gives' at' k' effects → AreSeated s.facts t.set at → AreSeated s.facts t.set at'
+  seated_after before k k' gives gives' at at' effects leads are = λ stamp.
       let there = leads (λ other. life_of (at other)) (λ other. stands_so (gives other) (at other) (are other)) in
       seat_of (gives' stamp) (at' stamp) (there.new stamp) (there.stand stamp)
 
   -- so do those that are left where one is settled
-  settled_by : (down : Bool) (gives gives' : Gives K) (at at' : At K) (stamp : List ℕ) (seat : Seat K) → seat.state.is_down ≡ down → AreSeated s.facts t.set at → IsAtRest s.facts t.set seat
-      → (seat.state.is_down ≡ false → LeadsFrom s t gives (in_hand stamp (Some seat) at) gives' at' []) → (seat.state.is_down ≡ true → (other : List ℕ) → at' other ≡ at other) → AreSeated s.facts t.set at'
-  settled_by true gives gives' at at' stamp seat is are rests runs down = same_seated s.facts t.set at at' (down is) are
-  settled_by false gives gives' at at' stamp seat is are rests runs down =
-      seated_after gives gives' (in_hand stamp (Some seat) at) at' [] (runs is)
+  settled_by : (down : Bool) (k k' : ℕ) (gives gives' : Gives K) (at at' : At K) (stamp : List ℕ) (seat : Seat K) → seat.state.is_down ≡ down → AreSeated s.facts t.set at → IsAtRest s.facts t.set seat
+      → (seat.state.is_down ≡ false → LeadsFrom s t (Some stamp) (suc k) gives (in_hand stamp (Some seat) at) gives' at' k' []) → (seat.state.is_down ≡ true → (other : List ℕ) → at' other ≡ at other) → AreSeated s.facts t.set at'
+  settled_by true k k' gives gives' at at' stamp seat is are rests runs down = same_seated s.facts t.set at at' (down is) are
+  settled_by false k k' gives gives' at at' stamp seat is are rests runs down =
+      seated_after (Some stamp) (suc k) k' gives gives' (in_hand stamp (Some seat) at) at' [] (runs is)
       (seated_with s.facts t.set at (in_hand stamp (Some seat) at) stamp seat (record { rests = rests; runs = is }) (λ other. refl) are)
 
-  pub settled : (gives gives' : Gives K) (at at' : At K) (stamp : List ℕ) (seat : Seat K) → AreSeated s.facts t.set at → IsAtRest s.facts t.set seat
-      → (seat.state.is_down ≡ false → LeadsFrom s t gives (in_hand stamp (Some seat) at) gives' at' []) → (seat.state.is_down ≡ true → (other : List ℕ) → at' other ≡ at other) → AreSeated s.facts t.set at'
-  settled gives gives' at at' stamp seat are rests runs down = settled_by seat.state.is_down gives gives' at at' stamp seat refl are rests runs down
+  pub settled : (k k' : ℕ) (gives gives' : Gives K) (at at' : At K) (stamp : List ℕ) (seat : Seat K) → AreSeated s.facts t.set at → IsAtRest s.facts t.set seat
+      → (seat.state.is_down ≡ false → LeadsFrom s t (Some stamp) (suc k) gives (in_hand stamp (Some seat) at) gives' at' k' []) → (seat.state.is_down ≡ true → (other : List ℕ) → at' other ≡ at other) → AreSeated s.facts t.set at'
+  settled k k' gives gives' at at' stamp seat are rests runs down = settled_by seat.state.is_down k k' gives gives' at at' stamp seat refl are rests runs down
 
 -- a folder that is where it was at the start has the keepers that it had then
-pub from_place : {G K : Type 0} (facts : KeeperFacts K) (folder : FolderFacts G K) (start now : G) → folder.place now ≡ folder.place start → (t : CommonView) (old new : Gives K) (at at' : At K) (replies : List Reply)
-    → LeadsFrom (keepers facts folder now) t old at new at' replies → LeadsFrom (keepers facts folder start) t old at new at' replies
-from_place facts folder start now same t old new at at' replies leads =
-    subst (λ (p : folder.Place). LeadsFrom (keepers_at facts folder p) t old at new at' replies) same leads
+pub from_place : {G K : Type 0} (facts : KeeperFacts K) (folder : FolderFacts G K) (start now : G) → folder.place now ≡ folder.place start → (t : CommonView) (old new : Gives K) (at at' : At K)
+    → ShutsFrom (keepers facts folder now) t old at new at' → ShutsFrom (keepers facts folder start) t old at new at'
+from_place facts folder start now same t old new at at' shuts =
+    subst (λ (p : folder.Place). ShutsFrom (keepers_at facts folder p) t old at new at') same shuts
 
-pub from_place_by : {G K : Type 0} (facts : KeeperFacts K) (folder : FolderFacts G K) (start now : G) → folder.place now ≡ folder.place start → (t : CommonView) (stamp datagram : List ℕ) (old new : Gives K) (at at' : At K) (replies : List Reply)
-    → LeadsFromBy (keepers facts folder now) t stamp datagram old at new at' replies → LeadsFromBy (keepers facts folder start) t stamp datagram old at new at' replies
-from_place_by facts folder start now same t stamp datagram old new at at' replies leads =
-    subst (λ (p : folder.Place). LeadsFromBy (keepers_at facts folder p) t stamp datagram old at new at' replies) same leads
+pub from_place_by : {G K : Type 0} (facts : KeeperFacts K) (folder : FolderFacts G K) (start now : G) → folder.place now ≡ folder.place start → (t : CommonView) (stamp datagram : List ℕ) (k k' : ℕ) (old new : Gives K) (at at' : At K) (effects : List Effect)
+    → LeadsFromBy (keepers facts folder now) t stamp datagram k old at new at' k' effects → LeadsFromBy (keepers facts folder start) t stamp datagram k old at new at' k' effects
+from_place_by facts folder start now same t stamp datagram k k' old new at at' effects leads =
+    subst (λ (p : folder.Place). LeadsFromBy (keepers_at facts folder p) t stamp datagram k old at new at' k' effects) same leads

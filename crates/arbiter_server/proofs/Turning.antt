@@ -1,5 +1,5 @@
 -- One act after another.
-use Rattle.std.proofs.Common.{◌≡◌, ℕ, true, false, cond, List, [], ◌∷◌, ◌++◌, Option, Some, None, refl, sym, ap, subst, ◌∙◌, append-nil}
+use Rattle.std.proofs.Common.{◌≡◌, ℕ, Bool, true, false, cond, List, [], ◌∷◌, ◌++◌, map, Option, Some, None, refl, sym, ap, subst, ◌∙◌, append-nil, inl, inr}
 use Rattle.std.specs.List.{AllByRecursion}
 use Rattle.std.specs.Str.{bytes_eq}
 use Rattle.std.proofs.lemmas.Bool.{cond-true, cond-false}
@@ -8,10 +8,10 @@ use Rattle.std.proofs.lemmas.List.Elements.{filter-append}
 use Rattle.std.proofs.lemmas.Slice.Eq.{bytes_eq-Decides}
 use Rattle.arbiter_server.specs.declared.seat.Seat.{Seat}
 use Rattle.arbiter_server.specs.Folders.{Gives, GivesLess, GivesOthers, Keepers}
-use Rattle.arbiter_server.specs.Acts.{Act, AreOpenings, IsAnsweredNext, IsSorted, Reply, Unread, Strange, Refuses, Opens, Answers, Closes, acts_of, all_replies, game_of, is_stamp, replies_of}
+use Rattle.arbiter_server.specs.Acts.{Act, AreInRoom, AreOpenings, IsAnsweredNext, IsClosing, IsInRoom, IsSorted, Reply, Unread, Strange, Refuses, Opens, Answers, Closes, acts_of, all_replies, all_taken, answerer, game_of, is_stamp, one_less, open_after, replies_of, taken_by}
 use Rattle.arbiter_server.specs.Games.{CommonView, Goes, GoesOn, Life, Fresh, Shut, Open}
 use Rattle.arbiter_server.specs.Seats.{At, AreLives, Lives, Stands}
-use Rattle.arbiter_server.specs.Turns.{Each, Leads, LeadsFrom, LeadsOne}
+use Rattle.arbiter_server.specs.Turns.{Each, Effect, Leads, LeadsFrom, LeadsOne, Shuts, ShutsFrom, all_effects, effects_of, effects_with, replies_in, reply_in, take_in, taken_in}
 
 pub same_stamp : (a b : List ℕ) → bytes_eq a b ≡ true → a ≡ b
 same_stamp a b e = (bytes_eq-Decides a b).0 e
@@ -26,20 +26,109 @@ sorted_join (x ∷ xs) ys p q = (p.0, sorted_join xs ys p.1 q)
 next_join : {K : Type 0} (stamp : List ℕ) (xs ys : List (Act K)) → IsAnsweredNext stamp xs → IsAnsweredNext stamp (xs ++ ys)
 next_join stamp [] ys p = absurd p
 next_join stamp (Unread datagram fault ∷ xs) ys p = absurd p
-next_join stamp (Strange of datagram why ∷ xs) ys p = absurd p
+next_join stamp (Strange of datagram tried why ∷ xs) ys p = absurd p
 next_join stamp (Refuses of datagram over fault ∷ xs) ys p = absurd p
 next_join stamp (Opens of over arbiter ∷ xs) ys p = absurd p
 next_join stamp (Answers of exchange ∷ xs) ys p = p
 next_join stamp (Closes of left ∷ xs) ys p = absurd p
 
-openings_join : {K : Type 0} (xs ys : List (Act K)) → AreOpenings xs → AreOpenings ys → AreOpenings (xs ++ ys)
+pub openings_join : {K : Type 0} (xs ys : List (Act K)) → AreOpenings xs → AreOpenings ys → AreOpenings (xs ++ ys)
 openings_join [] ys p q = q
 openings_join (Unread datagram fault ∷ xs) ys p q = openings_join xs ys p q
-openings_join (Strange of datagram why ∷ xs) ys p q = openings_join xs ys p q
+openings_join (Strange of datagram tried why ∷ xs) ys p q = openings_join xs ys p q
 openings_join (Refuses of datagram over fault ∷ xs) ys p q = (p.0, openings_join xs ys p.1 q)
 openings_join (Opens of over arbiter ∷ xs) ys p q = (next_join of xs ys p.0, openings_join xs ys p.1 q)
 openings_join (Answers of exchange ∷ xs) ys p q = openings_join xs ys p q
 openings_join (Closes of left ∷ xs) ys p q = openings_join xs ys p q
+
+-- ---- what comes of acts
+
+pub replies_join : (xs ys : List Effect) → replies_in (xs ++ ys) ≡ replies_in xs ++ replies_in ys
+replies_join xs ys = flat_map-append reply_in xs ys
+
+pub taken_join : (xs ys : List Effect) → taken_in (xs ++ ys) ≡ taken_in xs ++ taken_in ys
+taken_join xs ys = flat_map-append take_in xs ys
+
+pub replies_with : (more : List (List ℕ)) (r : Reply) → replies_in (effects_with more r) ≡ r ∷ []
+replies_with [] r = refl
+replies_with (m ∷ more) r = replies_with more r
+
+pub taken_with : (more : List (List ℕ)) (r : Reply) → taken_in (effects_with more r) ≡ more
+taken_with [] r = refl
+taken_with (m ∷ more) r = ap (λ (ms : List (List ℕ)). m ∷ ms) (taken_with more r)
+
+module _ {K : Type 0} where
+  act_replies : (act : Act K) → replies_in (effects_of act) ≡ replies_of act
+  act_replies (Unread datagram fault) = refl
+  act_replies (Strange stamp datagram true why) = refl
+  act_replies (Strange stamp datagram false why) = refl
+  act_replies (Refuses stamp datagram over fault) = refl
+  act_replies (Opens stamp over arbiter) = refl
+  act_replies (Answers stamp exchange) = refl
+  act_replies (Closes stamp left) = refl
+
+  act_takes : (act : Act K) → taken_in (effects_of act) ≡ taken_by act
+  act_takes (Unread datagram fault) = refl
+  act_takes (Strange stamp datagram true why) = refl
+  act_takes (Strange stamp datagram false why) = refl
+  act_takes (Refuses stamp datagram over fault) = refl
+  act_takes (Opens stamp over arbiter) = refl
+  act_takes (Answers stamp exchange) = refl
+  act_takes (Closes stamp left) = refl
+
+  pub their_replies : (acts : List (Act K)) → replies_in (all_effects acts) ≡ all_replies acts
+  their_replies [] = refl
+  their_replies (act ∷ acts) = replies_join (effects_of act) (all_effects acts) ∙ ap (λ (rs : List Reply). rs ++ replies_in (all_effects acts)) (act_replies act) ∙ ap (λ (rs : List Reply). replies_of act ++ rs) (their_replies acts)
+
+  pub they_take : (acts : List (Act K)) → taken_in (all_effects acts) ≡ all_taken acts
+  they_take [] = refl
+  they_take (act ∷ acts) = taken_join (effects_of act) (all_effects acts) ∙ ap (λ (ms : List (List ℕ)). ms ++ taken_in (all_effects acts)) (act_takes act) ∙ ap (λ (ms : List (List ℕ)). taken_by act ++ ms) (they_take acts)
+
+-- ---- how many are open
+
+module _ {K : Type 0} (n : ℕ) where
+  -- what holds where no answer came before holds after any
+  close_after_any : (k : ℕ) (before : Option (List ℕ)) (stamp : List ℕ) (left : K) → IsInRoom n k None (Closes stamp left) → IsInRoom n k before (Closes stamp left)
+  close_after_any k before stamp left (inl h) = inl h
+  close_after_any k before stamp left (inr h) = cc
+
+  after_any : (k k' : ℕ) (before : Option (List ℕ)) (acts : List (Act K)) → AreInRoom n k None acts k' → AreInRoom n k before acts k'
+  after_any k k' before [] h = h
+  after_any k k' before (Unread datagram fault ∷ acts) h = h
+  after_any k k' before (Strange stamp datagram tried why ∷ acts) h = h
+  after_any k k' before (Refuses stamp datagram over fault ∷ acts) h = h
+  after_any k k' before (Opens stamp over arbiter ∷ acts) h = h
+  after_any k k' before (Answers stamp exchange ∷ acts) h = h
+  after_any k k' before (Closes stamp left ∷ acts) h = (close_after_any k before stamp left h.0, after_any (one_less k) k' before acts h.1)
+
+  pub room_join : (k mid k' : ℕ) (before : Option (List ℕ)) (xs ys : List (Act K)) → AreInRoom n k before xs mid → AreInRoom n mid None ys k' → AreInRoom n k before (xs ++ ys) k'
+  room_join k mid k' before [] ys p q = after_any k k' before ys (subst (λ (m : ℕ). AreInRoom n m None ys k') p q)
+  room_join k mid k' before (x ∷ xs) ys p q = (p.0, room_join (open_after k x) mid k' (answerer before x) xs ys p.1 q)
+
+-- ---- closings
+
+module _ {K : Type 0} where
+  closings_join : (xs ys : List (Act K)) → AllByRecursion IsClosing xs → AllByRecursion IsClosing ys → AllByRecursion IsClosing (xs ++ ys)
+  closings_join [] ys p q = q
+  closings_join (x ∷ xs) ys p q = (p.0, closings_join xs ys p.1 q)
+
+  pub closings_open : (acts : List (Act K)) → AllByRecursion IsClosing acts → AreOpenings acts
+  closings_open [] h = tt
+  closings_open (Unread datagram fault ∷ acts) h = absurd h.0
+  closings_open (Strange stamp datagram tried why ∷ acts) h = absurd h.0
+  closings_open (Refuses stamp datagram over fault ∷ acts) h = absurd h.0
+  closings_open (Opens stamp over arbiter ∷ acts) h = absurd h.0
+  closings_open (Answers stamp exchange ∷ acts) h = absurd h.0
+  closings_open (Closes stamp left ∷ acts) h = closings_open acts h.1
+
+  pub closings_say : (acts : List (Act K)) → AllByRecursion IsClosing acts → all_effects acts ≡ []
+  closings_say [] h = refl
+  closings_say (Unread datagram fault ∷ acts) h = absurd h.0
+  closings_say (Strange stamp datagram tried why ∷ acts) h = absurd h.0
+  closings_say (Refuses stamp datagram over fault ∷ acts) h = absurd h.0
+  closings_say (Opens stamp over arbiter ∷ acts) h = absurd h.0
+  closings_say (Answers stamp exchange ∷ acts) h = absurd h.0
+  closings_say (Closes stamp left ∷ acts) h = closings_say acts h.1
 
 module _ {K : Type 0} (s : Keepers K) (t : CommonView) where
   goes_join : (stamp : List ℕ) (old mid new : Life K) (xs ys : List (Act K)) → Goes s t stamp old xs mid → Goes s t stamp mid ys new → Goes s t stamp old (xs ++ ys) new
@@ -63,14 +152,15 @@ module _ {K : Type 0} (s : Keepers K) (t : CommonView) where
   less_stands old new (Some seat) life less h = h
 
   -- each game that is open stays open, no other is opened, and the folder gives no more than before
-  pub leads_not : (old new : Gives K) (at at' : At K) → GivesLess old new → ((other : List ℕ) → at' other ≡ at other) → LeadsFrom s t old at new at' []
-  leads_not old new at at' less same = λ lives stand. record {
+  pub leads_not : (before : Option (List ℕ)) (k : ℕ) (old new : Gives K) (at at' : At K) → GivesLess old new → ((other : List ℕ) → at' other ≡ at other) → LeadsFrom s t before k old at new at' k []
+  leads_not before k old new at at' less same = λ lives stand. record {
     acts = [];
     new = lives;
     turns = record { each = λ stamp. refl; sorted = tt };
     opened = tt;
+    room = refl;
     stand = λ stamp. less_stands (old stamp) (new stamp) (at' stamp) (lives stamp) (less stamp) (subst (λ (o : Option (Seat K)). Stands s t (old stamp) o (lives stamp)) (sym (same stamp)) (stand stamp));
-    replies_are = refl;
+    effects_are = refl;
   }
 
   -- one act of a game
@@ -88,14 +178,15 @@ module _ {K : Type 0} (s : Keepers K) (t : CommonView) where
   }
 
   -- which is no opening, and nothing comes after it
-  pub leads_one : (act : Act K) (lives : Lives K) (new : Gives K) (at' : At K) → AreOpenings (act ∷ []) → LeadsOne s t act lives new at' → Leads s t lives new at' (replies_of act)
-  leads_one act lives new at' opened one = record {
+  pub leads_one : (before : Option (List ℕ)) (k : ℕ) (act : Act K) (lives : Lives K) (new : Gives K) (at' : At K) → AreOpenings (act ∷ []) → IsInRoom t.at_once k before act → LeadsOne s t act lives new at' → Leads s t before k lives new at' (open_after k act) (effects_of act)
+  leads_one before k act lives new at' opened room one = record {
     acts = act ∷ [];
     new = one.new;
     turns = one.turns;
     opened = opened;
+    room = (room, refl);
     stand = one.stand;
-    replies_are = append-nil (replies_of act);
+    effects_are = append-nil (effects_of act);
   }
 
   pub each_join : (old mid new : Lives K) (xs ys : List (Act K)) → Each s t old mid xs → Each s t mid new ys → Each s t old new (xs ++ ys)
@@ -105,31 +196,67 @@ module _ {K : Type 0} (s : Keepers K) (t : CommonView) where
     sorted = sorted_join xs ys one.sorted two.sorted;
   }
 
-  pub leads_join : (mid new : Gives K) (at at' : At K) (lives : Lives K) (xs ys : List Reply) → Leads s t lives mid at xs → LeadsFrom s t mid at new at' ys → Leads s t lives new at' (xs ++ ys)
-  leads_join mid new at at' lives xs ys one more =
+  pub leads_join : (before : Option (List ℕ)) (k m k' : ℕ) (mid new : Gives K) (at at' : At K) (lives : Lives K) (xs ys : List Effect) → Leads s t before k lives mid at m xs → LeadsFrom s t None m mid at new at' k' ys → Leads s t before k lives new at' k' (xs ++ ys)
+  leads_join before k m k' mid new at at' lives xs ys one more =
       let two = more one.new one.stand in
       record {
         acts = one.acts ++ two.acts;
         new = two.new;
         turns = each_join lives one.new two.new one.acts two.acts one.turns two.turns;
         opened = openings_join one.acts two.acts one.opened two.opened;
+        room = room_join t.at_once k m k' before one.acts two.acts one.room two.room;
         stand = two.stand;
-        replies_are = flat_map-append replies_of one.acts two.acts ∙ ap (λ (rs : List Reply). rs ++ all_replies two.acts) one.replies_are ∙ ap (λ (rs : List Reply). xs ++ rs) two.replies_are;
+        effects_are = flat_map-append effects_of one.acts two.acts ∙ ap (λ (es : List Effect). es ++ all_effects two.acts) one.effects_are ∙ ap (λ (es : List Effect). xs ++ es) two.effects_are;
       }
 
-  -- with no reply more
-  pub goes_still : (mid new : Gives K) (at at' : At K) (lives : Lives K) (replies : List Reply) → Leads s t lives mid at replies → LeadsFrom s t mid at new at' [] → Leads s t lives new at' replies
-  goes_still mid new at at' lives replies one more = subst (λ (rs : List Reply). Leads s t lives new at' rs) (append-nil replies) (leads_join mid new at at' lives replies [] one more)
+  -- with no effect more
+  pub goes_still : (before : Option (List ℕ)) (k m k' : ℕ) (mid new : Gives K) (at at' : At K) (lives : Lives K) (effects : List Effect) → Leads s t before k lives mid at m effects → LeadsFrom s t None m mid at new at' k' [] → Leads s t before k lives new at' k' effects
+  goes_still before k m k' mid new at at' lives effects one more = subst (λ (es : List Effect). Leads s t before k lives new at' k' es) (append-nil effects) (leads_join before k m k' mid new at at' lives effects [] one more)
 
   -- a game that is open is closed
-  pub closes : (old new : Gives K) (at at' : At K) (stamp : List ℕ) (seat : Seat K)
+  pub closes_one : (old new : Gives K) (at at' : At K) (stamp : List ℕ) (seat : Seat K)
       → at stamp ≡ Some seat → ((other : List ℕ) → at' other ≡ cond (bytes_eq stamp other) None (at other))
-      → ((next : K) → new stamp next → s.follows seat.keeper next) → GivesOthers stamp old new → LeadsFrom s t old at new at' []
-  closes old new at at' stamp seat was gone left others = λ lives stand.
+      → ((next : K) → new stamp next → s.follows seat.keeper next) → GivesOthers stamp old new → (lives : Lives K) → AreLives s t old at lives → LeadsOne s t (Closes stamp seat.keeper) lives new at'
+  closes_one old new at at' stamp seat was gone left others lives stand =
       let there : Stands s t (old stamp) (Some seat) (lives stamp) = subst (λ (o : Option (Seat K)). Stands s t (old stamp) o (lives stamp)) was (stand stamp) in
       let here : at' stamp ≡ None = gone stamp ∙ cond-true (bytes_eq stamp stamp) None (at stamp) (itself stamp) in
-      leads_one (Closes stamp seat.keeper) lives new at' tt
-      (one_act old new at at' lives stamp (Closes stamp seat.keeper) (Shut seat.keeper) refl tt
+      one_act old new at at' lives stamp (Closes stamp seat.keeper) (Shut seat.keeper) refl tt
       (subst (λ (l : Life K). GoesOn s t stamp l (Closes stamp seat.keeper) (Shut seat.keeper)) (sym there.1) (refl, refl))
       (subst (λ (o : Option (Seat K)). Stands s t (new stamp) o (Shut seat.keeper)) (sym here) left)
-      others (λ other e. gone other ∙ cond-false (bytes_eq stamp other) None (at other) e) stand)
+      others (λ other e. gone other ∙ cond-false (bytes_eq stamp other) None (at other) e) stand
+
+  -- so it is where that makes room, or comes right after its own answer
+  pub closes : (before : Option (List ℕ)) (k : ℕ) (old new : Gives K) (at at' : At K) (stamp : List ℕ) (seat : Seat K) → IsInRoom t.at_once k before (Closes stamp seat.keeper)
+      → at stamp ≡ Some seat → ((other : List ℕ) → at' other ≡ cond (bytes_eq stamp other) None (at other))
+      → ((next : K) → new stamp next → s.follows seat.keeper next) → GivesOthers stamp old new → LeadsFrom s t before k old at new at' (one_less k) []
+  closes before k old new at at' stamp seat room was gone left others = λ lives stand.
+      leads_one before k (Closes stamp seat.keeper) lives new at' tt room (closes_one old new at at' stamp seat was gone left others lives stand)
+
+  -- and at the end of a run
+  pub shuts : (old new : Gives K) (at at' : At K) (stamp : List ℕ) (seat : Seat K)
+      → at stamp ≡ Some seat → ((other : List ℕ) → at' other ≡ cond (bytes_eq stamp other) None (at other))
+      → ((next : K) → new stamp next → s.follows seat.keeper next) → GivesOthers stamp old new → ShutsFrom s t old at new at'
+  shuts old new at at' stamp seat was gone left others = λ lives stand.
+      let one = closes_one old new at at' stamp seat was gone left others lives stand in
+      record { acts = Closes stamp seat.keeper ∷ []; new = one.new; turns = one.turns; closing = (tt, tt); stand = one.stand }
+
+  pub shuts_not : (old new : Gives K) (at at' : At K) → GivesLess old new → ((other : List ℕ) → at' other ≡ at other) → ShutsFrom s t old at new at'
+  shuts_not old new at at' less same = λ lives stand. record {
+    acts = [];
+    new = lives;
+    turns = record { each = λ stamp. refl; sorted = tt };
+    closing = tt;
+    stand = λ stamp. less_stands (old stamp) (new stamp) (at' stamp) (lives stamp) (less stamp) (subst (λ (o : Option (Seat K)). Stands s t (old stamp) o (lives stamp)) (sym (same stamp)) (stand stamp));
+  }
+
+  pub shuts_join : (old mid new : Gives K) (at at1 at' : At K) → ShutsFrom s t old at mid at1 → ShutsFrom s t mid at1 new at' → ShutsFrom s t old at new at'
+  shuts_join old mid new at at1 at' first more = λ lives stand.
+      let one = first lives stand in
+      let two = more one.new one.stand in
+      record {
+        acts = one.acts ++ two.acts;
+        new = two.new;
+        turns = each_join lives one.new two.new one.acts two.acts one.turns two.turns;
+        closing = closings_join one.acts two.acts one.closing two.closing;
+        stand = two.stand;
+      }

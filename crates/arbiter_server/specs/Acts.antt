@@ -1,5 +1,5 @@
 -- What a host does, act by act (this project's own).
-use Rattle.std.specs.Prelude.{◌≡◌, ◌++◌, ℕ, Bool, true, false, List, [], ◌∷◌, Option, Some, None, Result, Ok, Err, codes}
+use Rattle.std.specs.Prelude.{◌≡◌, ◌≤◌, ◌<◌, ◌⊎◌, ◌++◌, ℕ, zero, suc, Bool, true, false, cond, List, [], ◌∷◌, Option, Some, None, Result, Ok, Err, codes}
 use Rattle.std.specs.List.{filter, flat_map}
 use Rattle.std.specs.Str.{bytes_eq}
 use Rattle.move_msg.specs.declared.message.Message.{Message}
@@ -28,8 +28,9 @@ pub record Opening (K : Type 0) : Type 0 where
 pub data Act (K : Type 0) : Type 0 where
   -- bytes came that are no message
   Unread : (datagram : List ℕ) (fault : MessageFault) → Act K
-  -- a message came of a game that isn't open: it opens none, or there is no keeper of the game
-  Strange : (stamp : List ℕ) (datagram : List ℕ) (why : Unopened) → Act K
+  -- a message came of a game that isn't open: it opens none, or there is no keeper of the game; `tried` is whether one was asked for over
+  -- its file
+  Strange : (stamp : List ℕ) (datagram : List ℕ) (tried : Bool) (why : Unopened) → Act K
   -- a message came of a game that isn't open, and over its keeper no arbiter can be opened
   Refuses : (stamp : List ℕ) (datagram : List ℕ) (over : Opening K) (fault : OpenFault) → Act K
   -- the arbiter of a game was opened
@@ -44,7 +45,7 @@ pub data Act (K : Type 0) : Type 0 where
 -- the game that an act is of
 abbrev pub game_of : {K : Type 0} → Act K → Option (List ℕ)
 game_of (Unread datagram fault) = None
-game_of (Strange stamp datagram why) = Some stamp
+game_of (Strange stamp datagram tried why) = Some stamp
 game_of (Refuses stamp datagram over fault) = Some stamp
 game_of (Opens stamp over arbiter) = Some stamp
 game_of (Answers stamp exchange) = Some stamp
@@ -69,7 +70,7 @@ stamp_for datagram = stamp_by (heard_in datagram)
 -- an act is of the game that its datagram's message is of
 abbrev pub IsSorted : {K : Type 0} → Act K → Type 0
 IsSorted (Unread datagram fault) = heard_in datagram ≡ Err fault
-IsSorted (Strange stamp datagram why) = stamp_for datagram ≡ Some stamp
+IsSorted (Strange stamp datagram tried why) = stamp_for datagram ≡ Some stamp
 IsSorted (Refuses stamp datagram over fault) = stamp_for datagram ≡ Some stamp
 IsSorted (Opens stamp over arbiter) = Unit {0}
 IsSorted (Answers stamp exchange) = stamp_for exchange.datagram ≡ Some stamp
@@ -96,7 +97,7 @@ opens_for datagram = opens_by (heard_in datagram)
 abbrev pub IsAnsweredNext : {K : Type 0} → List ℕ → List (Act K) → Type 0
 IsAnsweredNext stamp [] = ⊥
 IsAnsweredNext stamp (Unread datagram fault ∷ acts) = ⊥
-IsAnsweredNext stamp (Strange of datagram why ∷ acts) = ⊥
+IsAnsweredNext stamp (Strange of datagram tried why ∷ acts) = ⊥
 IsAnsweredNext stamp (Refuses of datagram over fault ∷ acts) = ⊥
 IsAnsweredNext stamp (Opens of over arbiter ∷ acts) = ⊥
 IsAnsweredNext stamp (Answers of exchange ∷ acts) = (of ≡ stamp) × (opens_for exchange.datagram ≡ true)
@@ -106,7 +107,7 @@ IsAnsweredNext stamp (Closes of left ∷ acts) = ⊥
 abbrev pub AreOpenings : {K : Type 0} → List (Act K) → Type 0
 AreOpenings [] = Unit {0}
 AreOpenings (Unread datagram fault ∷ acts) = AreOpenings acts
-AreOpenings (Strange of datagram why ∷ acts) = AreOpenings acts
+AreOpenings (Strange of datagram tried why ∷ acts) = AreOpenings acts
 AreOpenings (Refuses of datagram over fault ∷ acts) = (opens_for datagram ≡ true) × AreOpenings acts
 AreOpenings (Opens of over arbiter ∷ acts) = IsAnsweredNext of acts × AreOpenings acts
 AreOpenings (Answers of exchange ∷ acts) = AreOpenings acts
@@ -132,7 +133,7 @@ answered stamp e = record { datagram = e.datagram; outputs = outputs_of e.told; 
 -- the reply that an act is, if a datagram came with it
 abbrev pub replies_of : {K : Type 0} → Act K → List Reply
 replies_of (Unread datagram fault) = unread datagram fault ∷ []
-replies_of (Strange stamp datagram why) = unopened stamp datagram why ∷ []
+replies_of (Strange stamp datagram tried why) = unopened stamp datagram why ∷ []
 replies_of (Refuses stamp datagram over fault) = unopened stamp datagram (unopened_by fault) ∷ []
 replies_of (Opens stamp over arbiter) = []
 replies_of (Answers stamp exchange) = answered stamp exchange ∷ []
@@ -144,3 +145,64 @@ all_replies acts = flat_map replies_of acts
 -- at a port of so many addresses the datagram comes, and then each message is handed over for each address once, in order
 abbrev pub passing_at : ℕ → Reply → List Passing
 passing_at addresses r = Came r.datagram ∷ flat_map (handed addresses) r.outputs
+
+-- ---- whose keepers are taken, and how many games are open
+
+-- the game whose keeper is taken by an act, if one is: where a game is opened, or was to be
+abbrev pub taken_by : {K : Type 0} → Act K → List (List ℕ)
+taken_by (Unread datagram fault) = []
+taken_by (Strange stamp datagram tried why) = cond tried (stamp ∷ []) []
+taken_by (Refuses stamp datagram over fault) = stamp ∷ []
+taken_by (Opens stamp over arbiter) = stamp ∷ []
+taken_by (Answers stamp exchange) = []
+taken_by (Closes stamp left) = []
+
+abbrev pub all_taken : {K : Type 0} → List (Act K) → List (List ℕ)
+all_taken acts = flat_map taken_by acts
+
+-- one less, where there is one
+abbrev pub one_less : ℕ → ℕ
+one_less zero = zero
+one_less (suc k) = k
+
+-- how many games are open after an act, of so many before it
+abbrev pub open_after : {K : Type 0} → ℕ → Act K → ℕ
+open_after k (Unread datagram fault) = k
+open_after k (Strange stamp datagram tried why) = k
+open_after k (Refuses stamp datagram over fault) = k
+open_after k (Opens stamp over arbiter) = suc k
+open_after k (Answers stamp exchange) = cond exchange.after.arbiter.is_down (one_less k) k
+open_after k (Closes stamp left) = one_less k
+
+-- the game since whose answer nothing was done but closing games
+abbrev pub answerer : {K : Type 0} → Option (List ℕ) → Act K → Option (List ℕ)
+answerer before (Unread datagram fault) = None
+answerer before (Strange stamp datagram tried why) = None
+answerer before (Refuses stamp datagram over fault) = None
+answerer before (Opens stamp over arbiter) = None
+answerer before (Answers stamp exchange) = Some stamp
+answerer before (Closes stamp left) = before
+
+-- Where n games are to be open: one is opened where no more than these are, so that there may be one more. One is closed where more than
+-- n are open, or where nothing but closing was done since its own answer.
+abbrev pub IsInRoom : {K : Type 0} → ℕ → ℕ → Option (List ℕ) → Act K → Type 0
+IsInRoom n k before (Unread datagram fault) = Unit {0}
+IsInRoom n k before (Strange stamp datagram tried why) = Unit {0}
+IsInRoom n k before (Refuses stamp datagram over fault) = Unit {0}
+IsInRoom n k before (Opens stamp over arbiter) = k ≤ n
+IsInRoom n k before (Answers stamp exchange) = Unit {0}
+IsInRoom n k before (Closes stamp left) = (n < k) ⊎ (before ≡ Some stamp)
+
+-- so it is of each act, from where so many are open to where so many are
+abbrev pub AreInRoom : {K : Type 0} → ℕ → ℕ → Option (List ℕ) → List (Act K) → ℕ → Type 0
+AreInRoom n k before [] k' = k' ≡ k
+AreInRoom n k before (act ∷ acts) k' = IsInRoom n k before act × AreInRoom n (open_after k act) (answerer before act) acts k'
+
+-- a game is closed
+abbrev pub IsClosing : {K : Type 0} → Act K → Type 0
+IsClosing (Unread datagram fault) = ⊥
+IsClosing (Strange stamp datagram tried why) = ⊥
+IsClosing (Refuses stamp datagram over fault) = ⊥
+IsClosing (Opens stamp over arbiter) = ⊥
+IsClosing (Answers stamp exchange) = ⊥
+IsClosing (Closes stamp left) = Unit {0}

@@ -49,6 +49,7 @@ disk_keepers disk host files folder = record {
   facts = keeper_over files;
   tells = λ stamp game. HasGame disk folder stamp (told game.name.items game.start game.delay);
   refuses = λ stamp why. Lacks disk folder stamp why ⊎ IsUnkept host files folder stamp why;
+  withholds = IsUnkept host files folder;
   is_of = IsOverFile host files folder;
   follows = λ left next. Unit {0};
 }

@@ -1,7 +1,8 @@
 -- What a folder of games tells and gives (this project's own).
-use Rattle.std.specs.Prelude.{◌≡◌, ◌⊎◌, ℕ, false, List}
+use Rattle.std.specs.Prelude.{◌≡◌, ◌⊎◌, ◌∷◌, [], ℕ, false, List, Option}
 use Rattle.std.specs.Str.{bytes_eq}
 use Rattle.arbiter_core.specs.Keeping.{KeeperFacts}
+use Rattle.system_io.specs.Histories.{Passes}
 use Rattle.system_io.specs.Hosts.{Made}
 use Rattle.arbiter_server.specs.declared.fault.Unopened.{Unopened}
 use Rattle.arbiter_server.specs.declared.games.Found.{Found}
@@ -17,6 +18,10 @@ GivesOthers {K = K} stamp old new = (other : List ℕ) → bytes_eq stamp other 
 -- all are
 abbrev pub GivesLess : {K : Type 0} → Gives K → Gives K → Type 0
 GivesLess {K = K} old new = (other : List ℕ) (keeper : K) → new other keeper → old other keeper
+
+-- nothing was made, or this alone
+abbrev pub MakesOnce : Option (List Made) → Option (List Made) → Made → Type 0
+MakesOnce old new made = Passes old new [] ⊎ Passes old new (made ∷ [])
 
 -- what is known of folders of a type, with keepers of a type
 pub record FolderFacts (G K : Type 0) : Type 1 where
@@ -44,6 +49,8 @@ pub record Keepers (K : Type 0) : Type 1 where
   pub tells : List ℕ → Found → Type 0
   -- it lacks the game, or withholds its keeper
   pub refuses : List ℕ → Unopened → Type 0
+  -- it withholds its keeper
+  pub withholds : List ℕ → Unopened → Type 0
   pub is_of : List ℕ → K → Type 0
   pub follows : K → K → Type 0
 
@@ -53,6 +60,7 @@ keepers_at facts folder place = record {
   facts = facts;
   tells = folder.tells place;
   refuses = λ stamp why. folder.lacks place stamp why ⊎ folder.withholds place stamp why;
+  withholds = folder.withholds place;
   is_of = folder.is_of place;
   follows = folder.follows;
 }

@@ -1,4 +1,5 @@
 -- What a game goes through at a host (this project's own).
+use Rattle.std.specs.NonZero.{non_zero_usize_get}
 use Rattle.std.specs.Prelude.{◌≡◌, ℕ, Bool, true, false, List, [], ◌∷◌, cond, Ok, Err}
 use Rattle.board_core.specs.declared.parts.Parts.{Parts}
 use Rattle.fen_text.specs.Written.{fen_of}
@@ -20,9 +21,11 @@ pub record CommonView : Type 0 where
   pub manifest : List ℕ
   pub number : ℕ
   pub set : Holding
+  -- how many are open at once, at most
+  pub at_once : ℕ
 
 abbrev pub common_with : ServerConfig → Holding → CommonView
-common_with c set = record { manifest = c.manifest.now; number = who_number c.me; set = set }
+common_with c set = record { manifest = c.manifest.now; number = who_number c.me; set = set; at_once = non_zero_usize_get c.at_once }
 
 abbrev pub setup_of : CommonView → List ℕ → Parts → ℕ → SetupView
 setup_of t name start delay = record { name = name; start = start; manifest = t.manifest; me = t.number; delay = delay; set = t.set }
@@ -42,10 +45,12 @@ pub data LacksKeeper {K : Type 0} (s : Keepers K) (manifest stamp : List ℕ) (w
   IsRefused : s.refuses stamp why → LacksKeeper s manifest stamp why
   IsAnother : (game : Found) → s.tells stamp game → (IsGameOf manifest stamp game.name.items game.start game.delay → ⊥) → why ≡ OtherGame → LacksKeeper s manifest stamp why
 
--- why a message of a game that isn't open gets no arbiter: it opens none; or it would, and there is no keeper of the game
-abbrev pub IsStrange : {K : Type 0} → Keepers K → List ℕ → List ℕ → Bool → Unopened → Type 0
-IsStrange s manifest stamp false why = why ≡ NotOpen
-IsStrange s manifest stamp true why = LacksKeeper s manifest stamp why
+-- why a message of a game that isn't open gets no arbiter: it opens none; or it would, and there is no keeper of the game, or, where its
+-- file was opened, none over that
+abbrev pub IsStrange : {K : Type 0} → Keepers K → List ℕ → List ℕ → Bool → Bool → Unopened → Type 0
+IsStrange s manifest stamp false tried why = (why ≡ NotOpen) × (tried ≡ false)
+IsStrange s manifest stamp true false why = LacksKeeper s manifest stamp why
+IsStrange s manifest stamp true true why = s.withholds stamp why
 
 -- where the arbiter of a game is
 pub data Life (K : Type 0) : Type 0 where
@@ -105,7 +110,7 @@ ClosesTo (Open at) left new = (left ≡ at.keeper) × (new ≡ Shut left)
 -- one act of a game
 abbrev pub GoesOn : {K : Type 0} → Keepers K → CommonView → List ℕ → Life K → Act K → Life K → Type 0
 GoesOn s t stamp old (Unread datagram fault) new = ⊥
-GoesOn s t stamp old (Strange of datagram why) new = IsNotOpen old × IsStrange s t.manifest stamp (opens_for datagram) why × (new ≡ old)
+GoesOn s t stamp old (Strange of datagram tried why) new = IsNotOpen old × IsStrange s t.manifest stamp (opens_for datagram) tried why × (new ≡ old)
 GoesOn s t stamp old (Refuses of datagram o fault) new = OpensTo s t stamp old o (Err fault) new
 GoesOn s t stamp old (Opens of o arbiter) new = OpensTo s t stamp old o (Ok arbiter) new
 GoesOn s t stamp old (Answers of e) new = AnswersTo s old e new

@@ -1,5 +1,5 @@
 -- What a host leaves (this project's own).
-use Rattle.std.specs.Prelude.{◌≡◌, ◌<◌, ◌≤◌, ◌++◌, ℕ, Bool, true, false, List, [], ◌∷◌, length, map, Result, Ok, Err}
+use Rattle.std.specs.Prelude.{◌≡◌, ◌<◌, ◌≤◌, ◌++◌, ℕ, Bool, true, false, List, [], ◌∷◌, length, map, None, Result, Ok, Err}
 use Rattle.std.specs.List.{AllByRecursion, flat_map}
 use Rattle.system_io.specs.Failures.{Risen}
 use Rattle.system_io.specs.Ports.{Passing, Missed, Passed, PortFacts}
@@ -9,7 +9,7 @@ use Rattle.arbiter_server.specs.LineLogs.{logged}
 use Rattle.arbiter_server.specs.declared.line_log.LogForm.{LogForm}
 use Rattle.arbiter_server.specs.ServedLines.{refused_port}
 use Rattle.arbiter_server.specs.Folders.{Gives, Keepers}
-use Rattle.arbiter_server.specs.Acts.{Act, AreOpenings, IsSorted, Reply, acts_of, all_replies, passing_at}
+use Rattle.arbiter_server.specs.Acts.{Act, AreInRoom, AreOpenings, IsClosing, IsSorted, Reply, acts_of, all_replies, all_taken, passing_at}
 use Rattle.arbiter_server.specs.Games.{CommonView, Fresh, Goes, IsNotOpen, Life, Open, Shut}
 
 -- each game's own acts lead from where it was never opened to where it is now, by the steps of an arbiter alone; each act is of the
@@ -51,12 +51,23 @@ IsLeft s gives Fresh = Unit {0}
 IsLeft {K = K} s gives (Shut left) = (next : K) → gives next → s.follows left next
 IsLeft s gives (Open at) = ⊥
 
+-- a game is opened where no more than so many are open; one is closed where more are, after its own answer, or at the end
+pub record AreFew {K : Type 0} (n : ℕ) (acts : List (Act K)) : Type 0 where
+  pub first : List (Act K)
+  pub last : List (Act K)
+  pub is : acts ≡ first ++ last
+  pub count : ℕ
+  pub room : AreInRoom n 0 None first count
+  pub closing : AllByRecursion IsClosing last
+
 -- A host's run for n datagrams: some acts, by which each game goes its own way. All that passes at the port are the datagrams and
 -- what is answered, and the lines are those of the datagrams: what a log of this form has of each goes out before the next datagram is
--- awaited. These keepers may be given after it.
-pub record Hosts {K W : Type 0} (s : Keepers K) (t : CommonView) (w : Writers W) (form : LogForm) (n : ℕ) (gives : Gives K) (port port' : PortFacts) (out out' : W) (ended : Result ℕ WriteFault) : Type 0 where
+-- awaited. Keepers of these games, and no others, are taken, each where its game is opened or was to be, in this order. These keepers may be given after it.
+pub record Hosts {K W : Type 0} (s : Keepers K) (t : CommonView) (w : Writers W) (form : LogForm) (n : ℕ) (taken : List (List ℕ)) (gives : Gives K) (port port' : PortFacts) (out out' : W) (ended : Result ℕ WriteFault) : Type 0 where
   pub acts : List (Act K)
   pub hosted : IsHosted s t acts
+  pub few : AreFew t.at_once acts
+  pub takes : all_taken acts ≡ taken
   pub left : (stamp : List ℕ) → IsLeft s (gives stamp) (hosted.games stamp)
   pub lost : Bool
   pub passed : Passed port port' (all_passing port.addresses (all_replies acts) lost)

@@ -21,7 +21,7 @@ OwnReplies K =
 -- an arbiter of the game is opened, or refused
 abbrev pub is_opening : {K : Type 0} → Act K → Bool
 is_opening (Unread datagram fault) = false
-is_opening (Strange stamp datagram why) = false
+is_opening (Strange stamp datagram tried why) = false
 is_opening (Refuses stamp datagram over fault) = true
 is_opening (Opens stamp over arbiter) = true
 is_opening (Answers stamp exchange) = false

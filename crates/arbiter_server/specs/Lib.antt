@@ -21,4 +21,3 @@ pub mod Servers
 pub mod Remembering
 pub mod LineLogs
 pub mod Turns
-pub mod Makings

@@ -1,5 +1,5 @@
 -- Games that are open, and the others; cited by private clauses alone.
-use Rattle.std.specs.Prelude.{◌≡◌, ℕ, false, cond, List, Option, Some, None, IfSome}
+use Rattle.std.specs.Prelude.{◌≡◌, ◌≤◌, ℕ, suc, false, cond, List, Option, Some, None, IfSome}
 use Rattle.std.specs.Str.{bytes_eq}
 use Rattle.judge_core.specs.Tables.{Holding}
 use Rattle.move_msg.specs.declared.message.Message.{Message}
@@ -40,6 +40,11 @@ At K = List ℕ → Option (Seat K)
 abbrev pub AreSeated : {K : Type 0} → KeeperFacts K → Holding → At K → Type 0
 AreSeated facts set at = (stamp : List ℕ) → IfSome (at stamp) (IsSeated facts set)
 
+-- so they can, and there is room for as many as there are to be at once
+pub record HasRoomFor {K : Type 0} (facts : KeeperFacts K) (set : Holding) (at : At K) (cap most : ℕ) : Type 0 where
+  pub seated : AreSeated facts set at
+  pub room : cap ≡ most
+
 -- where the arbiters of all games are
 abbrev pub Lives : Type 0 → Type 0
 Lives K = List ℕ → Life K
@@ -58,7 +63,7 @@ AreLives s t gives at lives = (stamp : List ℕ) → Stands s t (gives stamp) (a
 abbrev pub in_hand : {K : Type 0} → List ℕ → Option (Seat K) → At K → At K
 in_hand stamp seat at other = cond (bytes_eq stamp other) seat (at other)
 
--- nothing is closed; or one game is, of which the folder gives from now on what was left
-pub data Evicts {K : Type 0} (follows : K → K → Type 0) (old : Gives K) (at : At K) (new : Gives K) (at' : At K) : Type 0 where
-  Nothing : GivesLess old new → ((other : List ℕ) → at' other ≡ at other) → Evicts follows old at new at'
-  One : (stamp : List ℕ) (seat : Seat K) → at stamp ≡ Some seat → ((other : List ℕ) → at' other ≡ cond (bytes_eq stamp other) None (at other)) → ((next : K) → new stamp next → follows seat.keeper next) → GivesOthers stamp old new → Evicts follows old at new at'
+-- of so many nothing is closed; or, where they are too many, one game is, of which the folder gives from now on what was left
+pub data Evicts {K : Type 0} (follows : K → K → Type 0) (most : ℕ) (old : Gives K) (at : At K) (k : ℕ) (new : Gives K) (at' : At K) (k' : ℕ) : Type 0 where
+  Nothing : GivesLess old new → ((other : List ℕ) → at' other ≡ at other) → k' ≡ k → Evicts follows most old at k new at' k'
+  One : (stamp : List ℕ) (seat : Seat K) → at stamp ≡ Some seat → ((other : List ℕ) → at' other ≡ cond (bytes_eq stamp other) None (at other)) → ((next : K) → new stamp next → follows seat.keeper next) → GivesOthers stamp old new → most ≤ k → k ≡ suc k' → Evicts follows most old at k new at' k'

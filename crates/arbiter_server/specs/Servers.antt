@@ -1,5 +1,7 @@
 -- A server of games (this project's own).
-use Rattle.std.specs.Prelude.{◌≡◌, ℕ, List, None, Result}
+use Rattle.std.specs.Prelude.{◌≡◌, ℕ, List, length, map, Option, None, Result}
+use Rattle.system_io.specs.Histories.{Passes}
+use Rattle.system_io.specs.Hosts.{Made}
 use Rattle.system_io.specs.Ports.{PortFacts}
 use Rattle.system_io.specs.declared.output.WriteFault.{WriteFault}
 use Rattle.arbiter_core.specs.Keeping.{KeeperFacts}
@@ -18,8 +20,9 @@ pub record ServerView (G K : Type 0) : Type 0 where
   pub seats : List (List ℕ × Seat K)
 
 -- no game is open
-abbrev pub IsIdle : {G K : Type 0} → ServerView G K → Type 0
-IsIdle v = (stamp : List ℕ) → at_stamp v.seats stamp ≡ None
+pub record IsIdle {G K : Type 0} (v : ServerView G K) : Type 0 where
+  pub closed : length v.seats ≡ 0
+  pub absent : (stamp : List ℕ) → at_stamp v.seats stamp ≡ None
 
 -- it is over this folder, and no game is open yet
 pub record IsNew {G K : Type 0} (common : CommonView) (games : G) (v : ServerView G K) : Type 0 where
@@ -33,5 +36,6 @@ pub record Stays {G K : Type 0} (folder : FolderFacts G K) (old new : ServerView
   pub place : folder.place new.games ≡ folder.place old.games
 
 -- a run of it for n datagrams
-abbrev pub ServerHosts : {G K W : Type 0} → KeeperFacts K → FolderFacts G K → Writers W → LogForm → ℕ → ServerView G K → ServerView G K → PortFacts → PortFacts → W → W → Result ℕ WriteFault → Type 0
-ServerHosts facts folder w form n old new port port' out out' ended = Hosts (keepers facts folder old.games) old.common w form n (folder.gives new.games) port port' out out' ended
+abbrev pub ServerHosts : {G K W : Type 0} → KeeperFacts K → FolderFacts G K → Writers W → LogForm → ℕ → ServerView G K → ServerView G K → Option (List Made) → Option (List Made) → PortFacts → PortFacts → W → W → Result ℕ WriteFault → Type 0
+ServerHosts facts folder w form n old new had has port port' out out' ended =
+    (taken : List (List ℕ)) × Passes had has (map (folder.taken (folder.place old.games)) taken) × Hosts (keepers facts folder old.games) old.common w form n taken (folder.gives new.games) port port' out out' ended

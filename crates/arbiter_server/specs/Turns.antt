@@ -1,6 +1,6 @@
 -- From one moment of a host to a later one; cited by private clauses alone.
-use Rattle.std.specs.Prelude.{◌≡◌, ℕ, Bool, true, false, List, [], ◌∷◌, Some, None, Result, Ok, IfOk}
-use Rattle.std.specs.List.{AllByRecursion}
+use Rattle.std.specs.Prelude.{◌≡◌, ◌≤◌, ◌++◌, ℕ, suc, Bool, true, false, cond, List, [], ◌∷◌, length, map, Option, Some, None, Result, Ok, IfOk}
+use Rattle.std.specs.List.{AllByRecursion, flat_map}
 use Rattle.judge_core.specs.Tables.{Holding}
 use Rattle.move_msg.specs.declared.message.Message.{Message}
 use Rattle.move_msg.specs.Heard.{heard_in}
@@ -10,6 +10,8 @@ use Rattle.arbiter_core.specs.Keeping.{KeeperFacts}
 use Rattle.arbiter_core.specs.Setups.{SetupView}
 use Rattle.arbiter_core.specs.Views.{View}
 use Rattle.system_io.specs.Failures.{Risen}
+use Rattle.system_io.specs.Histories.{Passes}
+use Rattle.system_io.specs.Hosts.{Made}
 use Rattle.system_io.specs.Ports.{Missed, Passed, PortFacts}
 use Rattle.system_io.specs.declared.output.WriteFault.{WriteFault}
 use Rattle.arbiter_server.specs.GoingOut.{LinesEnd, Writers}
@@ -21,31 +23,79 @@ use Rattle.arbiter_server.specs.declared.fault.Unopened.{Unopened}
 use Rattle.arbiter_server.specs.declared.seat.Seat.{Seat}
 use Rattle.arbiter_server.specs.Folders.{FolderFacts, Gives, GivesOthers, Keepers, keepers}
 use Rattle.arbiter_server.specs.declared.turn.Answered.{Answered}
-use Rattle.arbiter_server.specs.Told.{line_words}
-use Rattle.arbiter_server.specs.Acts.{Act, Answers, AreOpenings, IsSorted, Opening, Opens, Reply, acts_of, all_replies, opens_for, opens_game, passing_at, stamp_for, unopened}
+use Rattle.arbiter_server.specs.Told.{line_words, unopened_by}
+use Rattle.arbiter_server.specs.Acts.{Act, Answers, AreInRoom, AreOpenings, Closes as ClosesGame, IsClosing, IsSorted, Opening, Opens, Refuses as RefusesGame, Reply, Strange, Unread, acts_of, answered, opens_for, opens_game, passing_at, stamp_for, unopened, unread}
 use Rattle.arbiter_server.specs.Games.{CommonView, Fresh, Goes, IsSetupOf, IsToldAs}
 use Rattle.arbiter_server.specs.Hosts.{Ends, all_lines, all_passing}
 use Rattle.arbiter_server.specs.Room.{at_stamp}
 use Rattle.arbiter_server.specs.Seats.{At, AreLives, IsSeated, Lives, in_hand}
 use Rattle.arbiter_server.specs.Servers.{ServerView}
 
+-- ---- what comes of acts
+
+-- a reply, or that the keeper of a game is taken
+pub data Effect : Type 0 where
+  Replied : Reply → Effect
+  Took : (stamp : List ℕ) → Effect
+
+abbrev pub effects_of : {K : Type 0} → Act K → List Effect
+effects_of (Unread datagram fault) = Replied (unread datagram fault) ∷ []
+effects_of (Strange stamp datagram tried why) = cond tried (Took stamp ∷ []) [] ++ Replied (unopened stamp datagram why) ∷ []
+effects_of (RefusesGame stamp datagram over fault) = Took stamp ∷ Replied (unopened stamp datagram (unopened_by fault)) ∷ []
+effects_of (Opens stamp over arbiter) = Took stamp ∷ []
+effects_of (Answers stamp exchange) = Replied (answered stamp exchange) ∷ []
+effects_of (ClosesGame stamp left) = []
+
+abbrev pub all_effects : {K : Type 0} → List (Act K) → List Effect
+all_effects acts = flat_map effects_of acts
+
+abbrev pub reply_in : Effect → List Reply
+reply_in (Replied r) = r ∷ []
+reply_in (Took m) = []
+
+abbrev pub replies_in : List Effect → List Reply
+replies_in effects = flat_map reply_in effects
+
+abbrev pub take_in : Effect → List (List ℕ)
+take_in (Replied r) = []
+take_in (Took stamp) = stamp ∷ []
+
+abbrev pub taken_in : List Effect → List (List ℕ)
+taken_in effects = flat_map take_in effects
+
+-- whose keepers are taken for a datagram, and then its reply
+abbrev pub effects_with : List (List ℕ) → Reply → List Effect
+effects_with more r = map Took more ++ Replied r ∷ []
+
+-- from one history to a later one the files of some games were made, with which this is so
+abbrev pub TakesAnd : (List ℕ → Made) → Option (List Made) → Option (List Made) → (List (List ℕ) → Type 0) → Type 0
+TakesAnd file had has Does = (more : List (List ℕ)) × Passes had has (map file more) × Does more
+
+-- so it is of keepers that this folder gives
+abbrev pub MakesAnd : {G H K : Type 0} → FolderFacts G K → (H → Option (List Made)) → G → H → H → (List (List ℕ) → Type 0) → Type 0
+MakesAnd folder made games history history' Does = TakesAnd (folder.taken (folder.place games)) (made history) (made history') Does
+
+-- ---- acts in turn
+
 -- the acts of each game lead from its old life to its new one, whatever stands between them
 pub record Each {K : Type 0} (s : Keepers K) (t : CommonView) (old new : Lives K) (acts : List (Act K)) : Type 0 where
   pub each : (stamp : List ℕ) → Goes s t stamp (old stamp) (acts_of stamp acts) (new stamp)
   pub sorted : AllByRecursion IsSorted acts
 
--- some acts lead from these lives to where the games are now, with these replies
-pub record Leads {K : Type 0} (s : Keepers K) (t : CommonView) (old : Lives K) (gives : Gives K) (at : At K) (replies : List Reply) : Type 0 where
+-- where the last act was an answer of this game, if of any, some acts lead from these lives to where the games are now, and from so many
+-- that are open to so many, with these effects
+pub record Leads {K : Type 0} (s : Keepers K) (t : CommonView) (before : Option (List ℕ)) (k : ℕ) (old : Lives K) (gives : Gives K) (at : At K) (k' : ℕ) (effects : List Effect) : Type 0 where
   pub acts : List (Act K)
   pub new : Lives K
   pub turns : Each s t old new acts
   pub opened : AreOpenings acts
+  pub room : AreInRoom t.at_once k before acts k'
   pub stand : AreLives s t gives at new
-  pub replies_are : all_replies acts ≡ replies
+  pub effects_are : all_effects acts ≡ effects
 
 -- so they do, and the first is the answer of this game's arbiter to this datagram
-pub record LeadsBy {K : Type 0} (s : Keepers K) (t : CommonView) (stamp datagram : List ℕ) (old : Lives K) (gives : Gives K) (at : At K) (replies : List Reply) : Type 0 where
-  pub leads : Leads s t old gives at replies
+pub record LeadsBy {K : Type 0} (s : Keepers K) (t : CommonView) (stamp datagram : List ℕ) (k : ℕ) (old : Lives K) (gives : Gives K) (at : At K) (k' : ℕ) (effects : List Effect) : Type 0 where
+  pub leads : Leads s t None k old gives at k' effects
   pub exchange : Exchange K
   pub rest : List (Act K)
   pub acts_are : leads.acts ≡ Answers stamp exchange ∷ rest
@@ -63,27 +113,40 @@ pub record LeadsOpen {K : Type 0} (s : Keepers K) (t : CommonView) (stamp : List
   pub arbiter : View
   pub one : LeadsOne s t (Opens stamp over arbiter) old gives at
 
--- so they do for all lives for which the games stood before
-abbrev pub LeadsFrom : {K : Type 0} → Keepers K → CommonView → Gives K → At K → Gives K → At K → List Reply → Type 0
-LeadsFrom {K = K} s t gives at gives' at' replies = (lives : Lives K) → AreLives s t gives at lives → Leads s t lives gives' at' replies
+-- closings do
+pub record Shuts {K : Type 0} (s : Keepers K) (t : CommonView) (old : Lives K) (gives : Gives K) (at : At K) : Type 0 where
+  pub acts : List (Act K)
+  pub new : Lives K
+  pub turns : Each s t old new acts
+  pub closing : AllByRecursion IsClosing acts
+  pub stand : AreLives s t gives at new
 
-abbrev pub LeadsFromBy : {K : Type 0} → Keepers K → CommonView → List ℕ → List ℕ → Gives K → At K → Gives K → At K → List Reply → Type 0
-LeadsFromBy {K = K} s t stamp datagram gives at gives' at' replies = (lives : Lives K) → AreLives s t gives at lives → LeadsBy s t stamp datagram lives gives' at' replies
+-- so they do for all lives for which the games stood before
+abbrev pub LeadsFrom : {K : Type 0} → Keepers K → CommonView → Option (List ℕ) → ℕ → Gives K → At K → Gives K → At K → ℕ → List Effect → Type 0
+LeadsFrom {K = K} s t before k gives at gives' at' k' effects = (lives : Lives K) → AreLives s t gives at lives → Leads s t before k lives gives' at' k' effects
+
+abbrev pub LeadsFromBy : {K : Type 0} → Keepers K → CommonView → List ℕ → List ℕ → ℕ → Gives K → At K → Gives K → At K → ℕ → List Effect → Type 0
+LeadsFromBy {K = K} s t stamp datagram k gives at gives' at' k' effects = (lives : Lives K) → AreLives s t gives at lives → LeadsBy s t stamp datagram k lives gives' at' k' effects
 
 abbrev pub LeadsOpenFrom : {K : Type 0} → Keepers K → CommonView → List ℕ → Gives K → At K → Gives K → At K → Type 0
 LeadsOpenFrom {K = K} s t stamp gives at gives' at' = (lives : Lives K) → AreLives s t gives at lives → LeadsOpen s t stamp lives gives' at'
 
+abbrev pub ShutsFrom : {K : Type 0} → Keepers K → CommonView → Gives K → At K → Gives K → At K → Type 0
+ShutsFrom {K = K} s t gives at gives' at' = (lives : Lives K) → AreLives s t gives at lives → Shuts s t lives gives' at'
+
 -- from a folder to a later one, by the keepers of where it was first
-abbrev pub Turns : {G K : Type 0} → KeeperFacts K → FolderFacts G K → CommonView → G → At K → G → At K → List Reply → Type 0
-Turns facts folder t games at games' at' replies = LeadsFrom (keepers facts folder games) t (folder.gives games) at (folder.gives games') at' replies
+abbrev pub Turns : {G K : Type 0} → KeeperFacts K → FolderFacts G K → CommonView → G → At K → ℕ → G → At K → ℕ → List Effect → Type 0
+Turns facts folder t games at k games' at' k' effects = LeadsFrom (keepers facts folder games) t None k (folder.gives games) at (folder.gives games') at' k' effects
 
--- whatever the games have in common, and with no reply
-abbrev pub TurnsAnyhow : {G K : Type 0} → KeeperFacts K → FolderFacts G K → G → At K → G → At K → Type 0
-TurnsAnyhow facts folder games at games' at' = (t : CommonView) → Turns facts folder t games at games' at' []
+-- closings do, whatever the games have in common
+abbrev pub ShutsAnyhow : {G K : Type 0} → KeeperFacts K → FolderFacts G K → G → At K → G → At K → Type 0
+ShutsAnyhow facts folder games at games' at' = (t : CommonView) → ShutsFrom (keepers facts folder games) t (folder.gives games) at (folder.gives games') at'
 
--- so it does from where this game is in hand
-abbrev pub TurnsInHand : {G K : Type 0} → KeeperFacts K → FolderFacts G K → G → At K → List ℕ → Seat K → G → At K → Type 0
-TurnsInHand facts folder games at stamp seat games' at' = TurnsAnyhow facts folder games (in_hand stamp (Some seat) at) games' at'
+-- where this game is in hand, and has just answered, with no effect, whatever the games have in common but how many are open at once;
+-- the numbers are of those that are not in hand
+abbrev pub TurnsInHand : {G K : Type 0} → KeeperFacts K → FolderFacts G K → ℕ → G → At K → ℕ → List ℕ → Seat K → G → At K → ℕ → Type 0
+TurnsInHand facts folder most games at k stamp seat games' at' k' =
+    (t : CommonView) → t.at_once ≡ most → LeadsFrom (keepers facts folder games) t (Some stamp) (suc k) (folder.gives games) (in_hand stamp (Some seat) at) (folder.gives games') at' k' []
 
 -- what was lent comes back: the tables as they were, and the folder where it was
 pub record ComesBack {G K : Type 0} (folder : FolderFacts G K) (tables : Holding) (games : G) (tables' : Holding) (games' : G) : Type 0 where
@@ -100,17 +163,17 @@ pub record IsFoundAs {G K : Type 0} (facts : KeeperFacts K) (folder : FolderFact
   pub game : IsSetupOf t stamp setup
   pub told : IsToldAs (keepers facts folder games) stamp setup
 
--- or it isn't, and its datagram is refused so
-abbrev pub RefusesSeat : {G K : Type 0} → KeeperFacts K → FolderFacts G K → CommonView → G → G → List ℕ → Unopened → Type 0
-RefusesSeat {K = K} facts folder t games games' stamp why =
-    (at : At K) (datagram : List ℕ) → at stamp ≡ None → stamp_for datagram ≡ Some stamp → opens_for datagram ≡ true → Turns facts folder t games at games' at (unopened stamp datagram why ∷ [])
+-- or it isn't, and its datagram is refused so, for which this is made
+abbrev pub RefusesSeat : {G K : Type 0} → KeeperFacts K → FolderFacts G K → CommonView → G → G → List ℕ → Unopened → List (List ℕ) → Type 0
+RefusesSeat {K = K} facts folder t games games' stamp why more =
+    (at : At K) (k : ℕ) (datagram : List ℕ) → at stamp ≡ None → stamp_for datagram ≡ Some stamp → opens_for datagram ≡ true → Turns facts folder t games at k games' at k (effects_with more (unopened stamp datagram why))
 
 -- so it is of each setup that is found so
 abbrev pub OpensFound : {G K : Type 0} → KeeperFacts K → FolderFacts G K → G → G → List ℕ → SetupView → Seat K → Type 0
 OpensFound facts folder games games' stamp setup seat = (t : CommonView) → IsFoundAs facts folder t games stamp setup → OpensSeat facts folder t games games' stamp seat
 
-abbrev pub RefusesFound : {G K : Type 0} → KeeperFacts K → FolderFacts G K → G → G → List ℕ → SetupView → Unopened → Type 0
-RefusesFound facts folder games games' stamp setup why = (t : CommonView) → IsFoundAs facts folder t games stamp setup → RefusesSeat facts folder t games games' stamp why
+abbrev pub RefusesFound : {G K : Type 0} → KeeperFacts K → FolderFacts G K → G → G → List ℕ → SetupView → Unopened → List (List ℕ) → Type 0
+RefusesFound facts folder games games' stamp setup why more = (t : CommonView) → IsFoundAs facts folder t games stamp setup → RefusesSeat facts folder t games games' stamp why more
 
 -- the keeper of a game is given back: what the folder gives next of it is over what this one left, and of the others no more
 pub record Closes {G K : Type 0} (folder : FolderFacts G K) (games games' : G) (stamp : List ℕ) (left : K) : Type 0 where
@@ -119,9 +182,13 @@ pub record Closes {G K : Type 0} (folder : FolderFacts G K) (games games' : G) (
 
 -- ---- a server
 
--- from one moment of a server to a later one, with these replies
-abbrev pub TurnsTo : {G K : Type 0} → KeeperFacts K → FolderFacts G K → ServerView G K → ServerView G K → List Reply → Type 0
-TurnsTo facts folder old new replies = Turns facts folder old.common old.games (at_stamp old.seats) new.games (at_stamp new.seats) replies
+-- from one moment of a server to a later one, with these effects
+abbrev pub TurnsTo : {G K : Type 0} → KeeperFacts K → FolderFacts G K → ServerView G K → ServerView G K → List Effect → Type 0
+TurnsTo facts folder old new effects = Turns facts folder old.common old.games (at_stamp old.seats) (length old.seats) new.games (at_stamp new.seats) (length new.seats) effects
+
+-- the datagram is replied to so, after this was made
+abbrev pub RepliesSo : {G K : Type 0} → KeeperFacts K → FolderFacts G K → ServerView G K → ServerView G K → Reply → List (List ℕ) → Type 0
+RepliesSo facts folder old new r more = TurnsTo facts folder old new (effects_with more r)
 
 -- a game that isn't open is opened for a message, which opens games, and in hand
 pub record OpensFor {G K : Type 0} (facts : KeeperFacts K) (folder : FolderFacts G K) (t : CommonView) (games games' : G) (message : Message) (seat : Seat K) : Type 0 where
@@ -129,65 +196,67 @@ pub record OpensFor {G K : Type 0} (facts : KeeperFacts K) (folder : FolderFacts
   pub opened : OpensSeat facts folder t games games' (stamp_in message).0 seat
 
 -- or it isn't, and the message is refused so by whichever datagram it comes
-abbrev pub RefusesFor : {G K : Type 0} → KeeperFacts K → FolderFacts G K → CommonView → G → G → Message → Unopened → Type 0
-RefusesFor {K = K} facts folder t games games' message why =
-    (at : At K) (datagram : List ℕ) → at (stamp_in message).0 ≡ None → heard_in datagram ≡ Ok message → Turns facts folder t games at games' at (unopened (stamp_in message).0 datagram why ∷ [])
+abbrev pub RefusesFor : {G K : Type 0} → KeeperFacts K → FolderFacts G K → CommonView → G → G → Message → Unopened → List (List ℕ) → Type 0
+RefusesFor {K = K} facts folder t games games' message why more =
+    (at : At K) (k : ℕ) (datagram : List ℕ) → at (stamp_in message).0 ≡ None → heard_in datagram ≡ Ok message → Turns facts folder t games at k games' at k (effects_with more (unopened (stamp_in message).0 datagram why))
 
--- how a game comes into hand: it was open, or it is opened for a message
-pub data ComesInHand {K : Type 0} (s : Keepers K) (t : CommonView) (message : Message) (gives : Gives K) (at : At K) (gives' : Gives K) (at' : At K) : Type 0 where
-  WasOpen : LeadsFrom s t gives at gives' at' [] → ComesInHand s t message gives at gives' at'
-  IsOpened : opens_game message ≡ true → LeadsOpenFrom s t (stamp_in message).0 gives at gives' at' → ComesInHand s t message gives at gives' at'
+-- how a game comes into hand, beside which so many are open: it was open; or it is opened for a message, where there is room
+pub data ComesInHand {K : Type 0} (s : Keepers K) (t : CommonView) (message : Message) (gives : Gives K) (at : At K) (k : ℕ) (gives' : Gives K) (at' : At K) (k' : ℕ) (more : List (List ℕ)) : Type 0 where
+  WasOpen : LeadsFrom s t None k gives at gives' at' (suc k') [] → more ≡ [] → ComesInHand s t message gives at k gives' at' k' more
+  IsOpened : opens_game message ≡ true → k ≤ t.at_once → LeadsOpenFrom s t (stamp_in message).0 gives at gives' at' → k' ≡ k → more ≡ (stamp_in message).0 ∷ [] → ComesInHand s t message gives at k gives' at' k' more
 
 -- the game of a message is in hand after it
-pub record TakesSeat {G K : Type 0} (facts : KeeperFacts K) (folder : FolderFacts G K) (old new : ServerView G K) (message : Message) (seat : Seat K) : Type 0 where
+pub record TakesSeat {G K : Type 0} (facts : KeeperFacts K) (folder : FolderFacts G K) (old new : ServerView G K) (message : Message) (seat : Seat K) (more : List (List ℕ)) : Type 0 where
   pub absent : at_stamp new.seats (stamp_in message).0 ≡ None
   pub seated : IsSeated facts old.common.set seat
-  pub comes : ComesInHand (keepers facts folder old.games) old.common message (folder.gives old.games) (at_stamp old.seats) (folder.gives new.games) (in_hand (stamp_in message).0 (Some seat) (at_stamp new.seats))
+  pub comes : ComesInHand (keepers facts folder old.games) old.common message (folder.gives old.games) (at_stamp old.seats) (length old.seats) (folder.gives new.games) (in_hand (stamp_in message).0 (Some seat) (at_stamp new.seats)) (length new.seats) more
 
 -- a message is refused so by whichever datagram it comes
-abbrev pub Refuses : {G K : Type 0} → KeeperFacts K → FolderFacts G K → ServerView G K → ServerView G K → Message → Unopened → Type 0
-Refuses facts folder old new message why = (datagram : List ℕ) → heard_in datagram ≡ Ok message → TurnsTo facts folder old new (unopened (stamp_in message).0 datagram why ∷ [])
+abbrev pub Refuses : {G K : Type 0} → KeeperFacts K → FolderFacts G K → ServerView G K → ServerView G K → Message → Unopened → List (List ℕ) → Type 0
+Refuses facts folder old new message why more = (datagram : List ℕ) → heard_in datagram ≡ Ok message → RepliesSo facts folder old new (unopened (stamp_in message).0 datagram why) more
 
 -- the reply to a datagram
 abbrev pub reply_of : List ℕ → Answered → Reply
 reply_of datagram r = record { datagram = datagram; outputs = r.outputs.items; line = line_words r.line }
 
 -- a message that comes by any datagram is answered so
-abbrev pub AnswersMessage : {G K : Type 0} → KeeperFacts K → FolderFacts G K → ServerView G K → Message → ServerView G K → Answered → Type 0
-AnswersMessage facts folder old message new r = (datagram : List ℕ) → heard_in datagram ≡ Ok message → TurnsTo facts folder old new (reply_of datagram r ∷ [])
+abbrev pub AnswersMessage : {G K : Type 0} → KeeperFacts K → FolderFacts G K → ServerView G K → Message → ServerView G K → Answered → List (List ℕ) → Type 0
+AnswersMessage facts folder old message new r more = (datagram : List ℕ) → heard_in datagram ≡ Ok message → RepliesSo facts folder old new (reply_of datagram r) more
 
 -- so it is by a game that is in hand
 abbrev pub AnswersInHand : {G K : Type 0} → KeeperFacts K → FolderFacts G K → ServerView G K → Seat K → Message → ServerView G K → Answered → Type 0
 AnswersInHand facts folder old seat message new r =
-    (datagram : List ℕ) → heard_in datagram ≡ Ok message → LeadsFromBy (keepers facts folder old.games) old.common (stamp_in message).0 datagram (folder.gives old.games) (in_hand (stamp_in message).0 (Some seat) (at_stamp old.seats)) (folder.gives new.games) (at_stamp new.seats) (reply_of datagram r ∷ [])
+    (datagram : List ℕ) → heard_in datagram ≡ Ok message → LeadsFromBy (keepers facts folder old.games) old.common (stamp_in message).0 datagram (suc (length old.seats)) (folder.gives old.games) (in_hand (stamp_in message).0 (Some seat) (at_stamp old.seats)) (folder.gives new.games) (at_stamp new.seats) (length new.seats) (effects_with [] (reply_of datagram r))
 
--- with these replies something goes on
+-- with these effects something goes on
 abbrev pub Going : Type 1
-Going = List Reply → Type 0
+Going = List Effect → Type 0
 
--- a datagram came and was answered, and this is its line; or the port is lost, and nothing is done
-abbrev pub Receives : Going → PortFacts → PortFacts → List ℕ → Bool → Type 0
-Receives turns port port' line false = (r : Reply) × turns (r ∷ []) × (line ≡ r.line) × Passed port port' (passing_at port.addresses r)
-Receives turns port port' line true = turns [] × (line ≡ refused_port) × Passed port port' (Missed ∷ []) × Risen port.faults port'.faults
+-- a datagram came and was answered, with what was made for it, and this is its line; or the port is lost, and nothing is done
+abbrev pub Receives : Going → (List ℕ → Made) → Option (List Made) → Option (List Made) → PortFacts → PortFacts → List ℕ → Bool → Type 0
+Receives turns file had has port port' line false = (r : Reply) × TakesAnd file had has (λ more. turns (effects_with more r)) × (line ≡ r.line) × Passed port port' (passing_at port.addresses r)
+Receives turns file had has port port' line true = (turns [] × Passes had has []) × (line ≡ refused_port) × Passed port port' (Missed ∷ []) × Risen port.faults port'.faults
 
 -- so it was, and the line was told by the log: what was picked of it has gone out or was cut short
-pub record TakesTurn {W : Type 0} (turns : Going) (w : Writers W) (before : List (List ℕ)) (log log' : LineLog) (port port' : PortFacts) (out out' : W) (told : Result Bool WriteFault) : Type 0 where
+pub record TakesTurn {W : Type 0} (turns : Going) (file : List ℕ → Made) (w : Writers W) (before : List (List ℕ)) (log log' : LineLog) (had has : Option (List Made)) (port port' : PortFacts) (out out' : W) (told : Result Bool WriteFault) : Type 0 where
   pub line : List ℕ
   pub lost : Bool
-  pub received : Receives turns port port' line lost
+  pub received : Receives turns file had has port port' line lost
   pub tells : TellsLine w before log log' line out out' told
   pub is : IfOk told (λ x. x ≡ lost)
 
 -- a run for n datagrams, before the games that are open then are closed
-pub record HasServed {K W : Type 0} (s : Keepers K) (t : CommonView) (w : Writers W) (form : LogForm) (n : ℕ) (gives : Gives K) (at : At K) (port port' : PortFacts) (out out' : W) (ended : Result ℕ WriteFault) : Type 0 where
-  pub replies : List Reply
-  pub leads : Leads s t (λ stamp. Fresh) gives at replies
+pub record HasServed {K W : Type 0} (s : Keepers K) (t : CommonView) (w : Writers W) (form : LogForm) (n : ℕ) (gives : Gives K) (at : At K) (file : List ℕ → Made) (had has : Option (List Made)) (port port' : PortFacts) (out out' : W) (ended : Result ℕ WriteFault) : Type 0 where
+  pub effects : List Effect
+  pub count : ℕ
+  pub leads : Leads s t None 0 (λ stamp. Fresh) gives at count effects
+  pub made : Passes had has (map file (taken_in effects))
   pub lost : Bool
-  pub passed : Passed port port' (all_passing port.addresses replies lost)
+  pub passed : Passed port port' (all_passing port.addresses (replies_in effects) lost)
   pub cause : lost ≡ true → Risen port.faults port'.faults
-  pub ends : Ends n replies lost ended
-  pub lines : LinesEnd w out (logged form (all_lines replies lost)) out' ended
+  pub ends : Ends n (replies_in effects) lost ended
+  pub lines : LinesEnd w out (logged form (all_lines (replies_in effects) lost)) out' ended
 
 -- such a run of a server
-abbrev pub ServesOn : {G K W : Type 0} → KeeperFacts K → FolderFacts G K → Writers W → LogForm → ℕ → ServerView G K → ServerView G K → PortFacts → PortFacts → W → W → Result ℕ WriteFault → Type 0
-ServesOn facts folder w form n old new port port' out out' ended = HasServed (keepers facts folder old.games) old.common w form n (folder.gives new.games) (at_stamp new.seats) port port' out out' ended
+abbrev pub ServesOn : {G K W : Type 0} → KeeperFacts K → FolderFacts G K → Writers W → LogForm → ℕ → ServerView G K → ServerView G K → Option (List Made) → Option (List Made) → PortFacts → PortFacts → W → W → Result ℕ WriteFault → Type 0
+ServesOn facts folder w form n old new had has port port' out out' ended = HasServed (keepers facts folder old.games) old.common w form n (folder.gives new.games) (at_stamp new.seats) (folder.taken (folder.place old.games)) had has port port' out out' ended

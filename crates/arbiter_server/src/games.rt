@@ -1,9 +1,9 @@
 //! Where games are told and kept.
 
-ghost use Rattle.std.specs.Prelude.{◌≡◌, ℕ, List, Option, IfOk, IfErr, false};
+ghost use Rattle.std.specs.Prelude.{◌≡◌, ◌∷◌, [], ℕ, List, Option, IfOk, IfErr, OnErr, OnOk, false};
 ghost use Rattle.std.specs.Str.{bytes_eq};
-ghost use Rattle.arbiter_server.specs.Folders.{FolderFacts, GivesLess, GivesOthers};
-ghost use Rattle.arbiter_server.specs.Makings.{MakesOnce};
+ghost use Rattle.arbiter_server.specs.Folders.{FolderFacts, GivesLess, GivesOthers, MakesOnce};
+ghost use Rattle.system_io.specs.Histories.{Passes};
 ghost use Rattle.system_io.specs.Hosts.{Made};
 
 use crate::fault::Unopened;
@@ -54,7 +54,8 @@ pub trait Games {
         ensures refused { IfErr result (facts.withholds (facts.place self.old) stamp.now) }
         ensures same { GivesLess (facts.gives self.old) (facts.gives self.new) }
         ensures place { facts.place self.new ≡ facts.place self.old }
-        ensures made { MakesOnce (made history.old) (made history.new) (facts.taken (facts.place self.old) stamp.now) };
+        ensures made { OnOk result (Passes (made history.old) (made history.new) (facts.taken (facts.place self.old) stamp.now ∷ [])) }
+        ensures tried { OnErr result (MakesOnce (made history.old) (made history.new) (facts.taken (facts.place self.old) stamp.now)) };
 
     /// Shows the keeper of a game that is closed now, to look at and not to write: what it gives next of this game is a keeper over
     /// what this one left.

@@ -6,8 +6,8 @@
 //!   record in a file (`FileKeeper`), and `run_after` over what a stop left of it.
 //! - **Any number of games**: a message names its game by a stamp. `Server` looks up a game that isn't open by its stamp: its
 //!   name, its start, its delay and its keeper (`Games`; in a folder of files, `DiskGames`). Where no room is left, the one used
-//!   least recently is closed (which, when, and how many are open is no clause). All judge by one set of tables, lent to the one
-//!   that answers. What it does for a game is a list of its openings, deliveries and closings (`Hosts`).
+//!   least recently is closed (which one that is, is no clause). All judge by one set of tables, lent to the one that answers. What
+//!   it does for a game is a list of its openings, deliveries and closings (`Hosts`).
 //!
 //! For one game: `file_keeper`, `heard` (lines), `serving`, `over_file`, `stopping`. For many: `config`, `server`, `turn`, `seat`
 //! (an open game), `settling`, `room`, `line`, `line_log` (which lines are written), `last_lines`, `games`, `disk_games`, `folder`,
@@ -35,7 +35,10 @@
 //!   arbiter only where it is an acknowledgement or a verdict of a game that isn't open, the folder refuses its game, gives a game of
 //!   another stamp, or `ArbiterState::open` refuses. A game is opened for a move or a request, which it answers next. The acts end
 //!   with no game open, the folder is where it was, and the status is 0 only where all datagrams came. The traffic is that of the
-//!   answers. Their lines are told; those that a log of its form has are written, and each is out before the next.
+//!   answers. Their lines are told; those that a log of its form has are written, and each is out before the next. A keeper is taken
+//!   only where its game is opened or was to be: the history has the files of these, in order, and nothing else. A game is opened only
+//!   where no more than `at_once` are open, so that there may be one more (that it doesn't stay so is no clause). One whose keeper works
+//!   is closed only where more are open, right after its own answer (why is no clause), or at the end.
 //! - CLAIM: `LineLog::new`; `laws::changes_hide_nothing`: a log begins with nothing remembered (the error of `new` has no cause). Of
 //!   changes it has each line that was told of a game that is open, so that each count and verdict stands in it.
 //! - CLAIM: `laws::own_replies`; `laws::records_go_on`; `laws::openings_are_few`: a game's replies are those to the datagrams that

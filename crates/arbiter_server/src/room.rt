@@ -1,6 +1,6 @@
 //! Games that are open, found by their stamps, the one used least recently last.
 
-ghost use Rattle.std.specs.Prelude.{◌≡◌, ◌<◌, ℕ, List, length, cond, None, Some, IfNone, IfSome, IfOk, IfErr, OnOk, OnErr};
+ghost use Rattle.std.specs.Prelude.{◌≡◌, ◌<◌, ◌≤◌, ℕ, suc, List, length, cond, None, Some, IfNone, IfSome, IfOk, IfErr, OnOk, OnErr};
 ghost use Rattle.std.specs.Str.{bytes_eq};
 ghost use Rattle.arbiter_server.specs.Room.{at_stamp};
 
@@ -10,6 +10,10 @@ use lru::LruCache;
 pub(crate) fn take_out<S: Drop>(seats: &mut LruCache<[u8; 16], S>, stamp: &[u8; 16]) -> Option<S>
     ensures value { result ≡ at_stamp seats.old.entries stamp.now }
     ensures after { (other : List ℕ) → at_stamp seats.new.entries other ≡ cond (bytes_eq stamp.now other) None (at_stamp seats.old.entries other) }
+    ensures one { IfSome result (λ _. length seats.old.entries ≡ suc (length seats.new.entries)) }
+    ensures none { IfNone result (length seats.new.entries ≡ length seats.old.entries) }
+    ensures few { length seats.old.entries ≤ seats.old.cap }
+    ensures cap { seats.new.cap ≡ seats.old.cap }
 {
     // Called for its contract: it brings the map's invariant into the proof.
     let _valid = seats.len();
@@ -21,7 +25,9 @@ pub(crate) fn least_used<S: Drop>(seats: &mut LruCache<[u8; 16], S>) -> Option<(
     ensures none { IfNone result (seats.new ≡ seats.old) }
     ensures was { IfSome result (λ x. at_stamp seats.old.entries x.0 ≡ Some x.1) }
     ensures after { IfSome result (λ x. (other : List ℕ) → at_stamp seats.new.entries other ≡ cond (bytes_eq x.0 other) None (at_stamp seats.old.entries other)) }
+    ensures full { IfSome result (λ _. (seats.old.cap ≤ length seats.old.entries) × (length seats.old.entries ≡ suc (length seats.new.entries))) }
     ensures room { length seats.new.entries < seats.new.cap }
+    ensures cap { seats.new.cap ≡ seats.old.cap }
 {
     if seats.len() < seats.cap().get() {
         return None;
@@ -32,9 +38,11 @@ pub(crate) fn least_used<S: Drop>(seats: &mut LruCache<[u8; 16], S>) -> Option<(
 /// Takes the game out that was used least recently, if there is one.
 pub(crate) fn take_last<S: Drop>(seats: &mut LruCache<[u8; 16], S>) -> Option<([u8; 16], S)>
     ensures none { IfNone result ((stamp : List ℕ) → (at_stamp seats.old.entries stamp ≡ None) × (at_stamp seats.new.entries stamp ≡ None)) }
+    ensures empty { IfNone result (length seats.new.entries ≡ 0) }
     ensures was { IfSome result (λ x. at_stamp seats.old.entries x.0 ≡ Some x.1) }
     ensures after { IfSome result (λ x. (other : List ℕ) → at_stamp seats.new.entries other ≡ cond (bytes_eq x.0 other) None (at_stamp seats.old.entries other)) }
     ensures fewer { IfSome result (λ x. length seats.new.entries < length seats.old.entries) }
+    ensures cap { seats.new.cap ≡ seats.old.cap }
 {
     // Called for its contract: it brings the map's invariant into the proof.
     let _valid = seats.len();
@@ -50,6 +58,8 @@ pub(crate) fn put_in<S: Drop>(
     requires absent { at_stamp seats.old.entries stamp ≡ None }
     requires room { length seats.old.entries < seats.old.cap }
     ensures ok { OnOk result ((other : List ℕ) → at_stamp seats.new.entries other ≡ cond (bytes_eq stamp other) (Some seat) (at_stamp seats.old.entries other)) }
+    ensures one { OnOk result (length seats.new.entries ≡ suc (length seats.old.entries)) }
+    ensures cap { OnOk result (seats.new.cap ≡ seats.old.cap) }
     ensures err { IfErr result (λ back. (back ≡ seat) × (seats.new ≡ seats.old)) }
 {
     match seats.put(stamp, seat) {

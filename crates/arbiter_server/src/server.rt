@@ -1,18 +1,18 @@
 //! A server of games: how it is set up, its tables, its folder and the games that are open.
 
-ghost use Rattle.std.specs.Prelude.{◌≡◌, ◌∷◌, [], ℕ, List, None, IfOk, IfErr};
+ghost use Rattle.std.specs.Prelude.{◌≡◌, ◌∷◌, [], ℕ, List, None, IfOk, IfErr, OnOk};
 ghost use Rattle.move_msg.specs.Messages.{stamp_in};
+ghost use Rattle.system_io.specs.Histories.{Passes};
 ghost use Rattle.arbiter_core.specs.Setups.{terms_with};
 ghost use Rattle.arbiter_server.specs.GoingOut.{writers};
 ghost use Rattle.arbiter_server.specs.Told.{line_words};
 ghost use Rattle.arbiter_server.specs.LineLogs.{Remembers, form_of};
 ghost use Rattle.arbiter_server.specs.Games.{common_with};
-ghost use Rattle.arbiter_server.specs.Makings.{MakesFor, MakesForMessage, MakesOnce, MakesWhile};
 ghost use Rattle.arbiter_server.specs.Room.{at_stamp};
 ghost use Rattle.arbiter_server.specs.Seats.{IsSeated};
 ghost use Rattle.arbiter_server.specs.Servers.{IsIdle, IsNew, ServerHosts, Stays};
 ghost use Rattle.arbiter_server.specs.Turns.{ComesBack, OpensFor, OpensFound, OpensSeat, RefusesFor, RefusesFound, RefusesSeat};
-ghost use Rattle.arbiter_server.specs.Turns.{AnswersInHand, AnswersMessage, Receives, Refuses, ServesOn, TakesSeat, TakesTurn, TurnsTo, reply_of};
+ghost use Rattle.arbiter_server.specs.Turns.{AnswersInHand, AnswersMessage, MakesAnd, Receives, Refuses, RepliesSo, ServesOn, TakesSeat, TakesTurn, TurnsTo, reply_of};
 
 use crate::config::ServerConfig;
 use crate::fault::Unopened;
@@ -42,9 +42,9 @@ fn open_by<'a, G: Games>(
     stamp: &[u8; 16],
 ) -> Result<Seat<'a, G::Keeper>, Unopened>
     ensures lent { ComesBack G.facts tables.old games.old tables.new games.new }
-    ensures made { MakesOnce (G.made history.old) (G.made history.new) (G.facts.taken (G.facts.place games.old) stamp.now) }
+    ensures made { OnOk result (Passes (G.made history.old) (G.made history.new) (G.facts.taken (G.facts.place games.old) stamp.now ∷ [])) }
     ensures opened { IfOk result (OpensFound G.Keeper.facts G.facts games.old games.new stamp.now (terms_with terms.entry tables.old)) }
-    ensures unopened { IfErr result (RefusesFound G.Keeper.facts G.facts games.old games.new stamp.now (terms_with terms.entry tables.old)) }
+    ensures unopened { IfErr result (λ why. MakesAnd G.facts G.made games.old history.old history.new (RefusesFound G.Keeper.facts G.facts games.old games.new stamp.now (terms_with terms.entry tables.old) why)) }
 {
     let mut keeper = match games.take(alloc, history, stamp) {
         Ok(keeper) => keeper,
@@ -69,9 +69,9 @@ fn open_told<'a, G: Games>(
     stamp: &[u8; 16],
 ) -> Result<Seat<'a, G::Keeper>, Unopened>
     ensures lent { ComesBack G.facts tables.old games.old tables.new games.new }
-    ensures made { MakesOnce (G.made history.old) (G.made history.new) (G.facts.taken (G.facts.place games.old) stamp.now) }
+    ensures made { OnOk result (Passes (G.made history.old) (G.made history.new) (G.facts.taken (G.facts.place games.old) stamp.now ∷ [])) }
     ensures opened { IfOk result (OpensSeat G.Keeper.facts G.facts (common_with config.now tables.old) games.old games.new stamp.now) }
-    ensures unopened { IfErr result (RefusesSeat G.Keeper.facts G.facts (common_with config.now tables.old) games.old games.new stamp.now) }
+    ensures unopened { IfErr result (λ why. MakesAnd G.facts G.made games.old history.old history.new (RefusesSeat G.Keeper.facts G.facts (common_with config.now tables.old) games.old games.new stamp.now why)) }
 {
     match found(alloc, config.manifest, games, stamp) {
         Ok(game) => open_by(alloc, games, tables, history, config.terms(game), stamp),
@@ -89,9 +89,9 @@ fn open_for<'a, G: Games>(
     message: &Message,
 ) -> Result<Seat<'a, G::Keeper>, Unopened>
     ensures lent { ComesBack G.facts tables.old games.old tables.new games.new }
-    ensures made { MakesForMessage (G.facts.taken (G.facts.place games.old)) message.now (G.made history.old) (G.made history.new) }
+    ensures made { OnOk result (Passes (G.made history.old) (G.made history.new) (G.facts.taken (G.facts.place games.old) (stamp_in message.now).0 ∷ [])) }
     ensures opened { IfOk result (OpensFor G.Keeper.facts G.facts (common_with config.now tables.old) games.old games.new message.now) }
-    ensures unopened { IfErr result (RefusesFor G.Keeper.facts G.facts (common_with config.now tables.old) games.old games.new message.now) }
+    ensures unopened { IfErr result (λ why. MakesAnd G.facts G.made games.old history.old history.new (RefusesFor G.Keeper.facts G.facts (common_with config.now tables.old) games.old games.new message.now why)) }
 {
     if !opens_game(message) {
         return Err(Unopened::NotOpen);
@@ -111,16 +111,17 @@ pub struct Server<'a, G: Games + Drop> {
 }
 
 impl<'a, G: Games + Drop> Model for Server<'a, G> {
+    ghost use Rattle.std.specs.NonZero.{non_zero_usize_get};
     ghost use Rattle.arbiter_server.specs.Games.{common_with};
     ghost use Rattle.arbiter_server.specs.Room.{at_stamp};
-    ghost use Rattle.arbiter_server.specs.Seats.{AreSeated};
+    ghost use Rattle.arbiter_server.specs.Seats.{HasRoomFor};
     ghost use Rattle.arbiter_server.specs.Servers.{ServerView};
 
     ghost Value = { ServerView G G.Keeper };
 
     ghost view = { λ s. record { common = common_with s.config s.tables; games = s.games; seats = s.seats.entries } };
 
-    ghost invariant = { λ s. AreSeated G.Keeper.facts s.tables (at_stamp s.seats.entries) };
+    ghost invariant = { λ s. HasRoomFor G.Keeper.facts s.tables (at_stamp s.seats.entries) s.seats.cap (non_zero_usize_get s.config.at_once) };
 }
 
 impl<'a, G: Games + Drop> Server<'a, G> {
@@ -152,9 +153,8 @@ impl<'a, G: Games + Drop> Server<'a, G> {
         message: &Message,
     ) -> Result<Seat<'a, G::Keeper>, Unopened>
         ensures stays { Stays G.facts self.old self.new }
-        ensures made { MakesForMessage (G.facts.taken (G.facts.place self.old.games)) message.now (G.made history.old) (G.made history.new) }
-        ensures opened { IfOk result (TakesSeat G.Keeper.facts G.facts self.old self.new message.now) }
-        ensures unopened { IfErr result (Refuses G.Keeper.facts G.facts self.old self.new message.now) }
+        ensures opened { IfOk result (λ seat. MakesAnd G.facts G.made self.old.games history.old history.new (TakesSeat G.Keeper.facts G.facts self.old self.new message.now seat)) }
+        ensures unopened { IfErr result (λ why. MakesAnd G.facts G.made self.old.games history.old history.new (Refuses G.Keeper.facts G.facts self.old self.new message.now why)) }
     {
         let stamp = message.stamp().0;
         match take_out(&mut self.seats, &stamp) {
@@ -191,8 +191,7 @@ impl<'a, G: Games + Drop> Server<'a, G> {
     /// Lets the arbiter of the game that a message is of answer it, if there is one.
     fn answer(&mut self, history: &mut G::History, message: &Message) -> Answered
         ensures stays { Stays G.facts self.old self.new }
-        ensures made { MakesForMessage (G.facts.taken (G.facts.place self.old.games)) message.now (G.made history.old) (G.made history.new) }
-        ensures answers { AnswersMessage G.Keeper.facts G.facts self.old message.now self.new result }
+        ensures answers { MakesAnd G.facts G.made self.old.games history.old history.new (AnswersMessage G.Keeper.facts G.facts self.old message.now self.new result) }
     {
         match self.seat_for(history, message) {
             Ok(seat) => self.answer_at(seat, message),
@@ -203,8 +202,7 @@ impl<'a, G: Games + Drop> Server<'a, G> {
     /// Answers a datagram.
     fn hear(&mut self, history: &mut G::History, bytes: &[u8]) -> Answered
         ensures stays { Stays G.facts self.old self.new }
-        ensures made { MakesFor (G.facts.taken (G.facts.place self.old.games)) bytes.now (G.made history.old) (G.made history.new) }
-        ensures turns { TurnsTo G.Keeper.facts G.facts self.old self.new (reply_of bytes.now result ∷ []) }
+        ensures turns { MakesAnd G.facts G.made self.old.games history.old history.new (RepliesSo G.Keeper.facts G.facts self.old self.new (reply_of bytes.now result)) }
     {
         match Message::decode(bytes) {
             Ok(message) => self.answer(history, &message),
@@ -215,8 +213,7 @@ impl<'a, G: Games + Drop> Server<'a, G> {
     /// Receives a datagram and answers it; tells the line for it, and whether the port is lost.
     fn receive<P: Port>(&mut self, history: &mut G::History, port: &mut P) -> (Line, bool)
         ensures stays { Stays G.facts self.old self.new }
-        ensures made { MakesWhile (G.facts.taken (G.facts.place self.old.games)) (P.facts port.old) (P.facts port.new) (G.made history.old) (G.made history.new) }
-        ensures received { Receives (TurnsTo G.Keeper.facts G.facts self.old self.new) (P.facts port.old) (P.facts port.new) (line_words result.0) result.1 }
+        ensures received { Receives (TurnsTo G.Keeper.facts G.facts self.old self.new) (G.facts.taken (G.facts.place self.old.games)) (G.made history.old) (G.made history.new) (P.facts port.old) (P.facts port.new) (line_words result.0) result.1 }
     {
         let mut buffer = [0u8; 64];
         match port.receive(&mut buffer) {
@@ -238,8 +235,7 @@ impl<'a, G: Games + Drop> Server<'a, G> {
         out: &mut W,
     ) -> Result<bool, WriteFault>
         ensures stays { Stays G.facts self.old self.new }
-        ensures made { MakesWhile (G.facts.taken (G.facts.place self.old.games)) (P.facts port.old) (P.facts port.new) (G.made history.old) (G.made history.new) }
-        ensures taken { (before : List (List ℕ)) → Remembers log.old before → TakesTurn (TurnsTo G.Keeper.facts G.facts self.old self.new) (writers W.Write.contents W.facts) before log.old log.new (P.facts port.old) (P.facts port.new) out.old out.new result }
+        ensures taken { (before : List (List ℕ)) → Remembers log.old before → TakesTurn (TurnsTo G.Keeper.facts G.facts self.old self.new) (G.facts.taken (G.facts.place self.old.games)) (writers W.Write.contents W.facts) before log.old log.new (G.made history.old) (G.made history.new) (P.facts port.old) (P.facts port.new) out.old out.new result }
     {
         let (line, lost) = self.receive(history, port);
         match log.tell(out, line) {
@@ -260,8 +256,7 @@ impl<'a, G: Games + Drop> Server<'a, G> {
         requires idle { IsIdle self.old }
         requires none { Remembers log.old [] }
         ensures stays { Stays G.facts self.old self.new }
-        ensures made { MakesWhile (G.facts.taken (G.facts.place self.old.games)) (P.facts port.old) (P.facts port.new) (G.made history.old) (G.made history.new) }
-        ensures served { ServesOn G.Keeper.facts G.facts (writers W.Write.contents W.facts) (form_of log.old) n self.old self.new (P.facts port.old) (P.facts port.new) out.old out.new result }
+        ensures served { ServesOn G.Keeper.facts G.facts (writers W.Write.contents W.facts) (form_of log.old) n self.old self.new (G.made history.old) (G.made history.new) (P.facts port.old) (P.facts port.new) out.old out.new result }
     {
         for _ in 0..n {
             match self.turn(history, port, log, out) {
@@ -286,7 +281,8 @@ impl<'a, G: Games + Drop> Server<'a, G> {
     /// closed, and opened again over its file when its next move or request comes. Where no datagram can be received the line is
     /// `refused port`, and the status 1.
     ///
-    /// The history is lent to take keepers, and nothing else is made: for each datagram that opens games at most the keeper of its game.
+    /// The history is lent to take keepers, and nothing else is made: where a game is opened, or is to be, its keeper is taken once. One is
+    /// opened where no more are open than `at_once` of the configuration says, and then one is closed where they are more.
     ///
     /// The error comes only where the writer failed: each line before has gone out whole, of the last one a front may be written.
     pub fn serve<P: Port, W: Output>(
@@ -299,9 +295,8 @@ impl<'a, G: Games + Drop> Server<'a, G> {
     ) -> Result<u8, WriteFault>
         requires idle { IsIdle self.old }
         requires none { Remembers log.old [] }
-        ensures hosts { ServerHosts G.Keeper.facts G.facts (writers W.Write.contents W.facts) (form_of log.old) n self.old self.new (P.facts port.old) (P.facts port.new) out.old out.new result }
+        ensures hosts { ServerHosts G.Keeper.facts G.facts (writers W.Write.contents W.facts) (form_of log.old) n self.old self.new (G.made history.old) (G.made history.new) (P.facts port.old) (P.facts port.new) out.old out.new result }
         ensures stays { Stays G.facts self.old self.new }
-        ensures made { MakesWhile (G.facts.taken (G.facts.place self.old.games)) (P.facts port.old) (P.facts port.new) (G.made history.old) (G.made history.new) }
         ensures idle { IsIdle self.new }
     {
         let ended = self.run(history, port, n, log, out);

@@ -4,7 +4,7 @@ ghost use Rattle.std.specs.Prelude.{◌≡◌, ◌<◌, ℕ, List, None, Some, l
 ghost use Rattle.arbiter_server.specs.Folders.{GivesOthers};
 ghost use Rattle.arbiter_server.specs.Room.{at_stamp};
 ghost use Rattle.arbiter_server.specs.Seats.{Evicts};
-ghost use Rattle.arbiter_server.specs.Turns.{Closes, TurnsAnyhow, TurnsInHand};
+ghost use Rattle.arbiter_server.specs.Turns.{Closes, ShutsAnyhow, TurnsInHand};
 
 use crate::games::Games;
 use crate::room::{least_used, put_in, take_last};
@@ -22,8 +22,9 @@ pub(crate) fn close<'a, G: Games>(games: &mut G, stamp: &[u8; 16], seat: Seat<'a
 
 /// Closes the game that was used least recently, where there is no room for one more.
 fn make_room<'a, G: Games>(games: &mut G, seats: &mut LruCache<[u8; 16], Seat<'a, G::Keeper>>)
-    ensures closes { Evicts G.facts.follows (G.facts.gives games.old) (at_stamp seats.old.entries) (G.facts.gives games.new) (at_stamp seats.new.entries) }
+    ensures closes { Evicts G.facts.follows seats.old.cap (G.facts.gives games.old) (at_stamp seats.old.entries) (length seats.old.entries) (G.facts.gives games.new) (at_stamp seats.new.entries) (length seats.new.entries) }
     ensures room { length seats.new.entries < seats.new.cap }
+    ensures cap { seats.new.cap ≡ seats.old.cap }
     ensures place { G.facts.place games.new ≡ G.facts.place games.old }
 {
     match least_used(seats) {
@@ -40,8 +41,10 @@ pub(crate) fn close_all<'a, G: Games>(
     games: &mut G,
     seats: &mut LruCache<[u8; 16], Seat<'a, G::Keeper>>,
 )
-    ensures closes { TurnsAnyhow G.Keeper.facts G.facts games.old (at_stamp seats.old.entries) games.new (at_stamp seats.new.entries) }
+    ensures closes { ShutsAnyhow G.Keeper.facts G.facts games.old (at_stamp seats.old.entries) games.new (at_stamp seats.new.entries) }
+    ensures cap { seats.new.cap ≡ seats.old.cap }
     ensures none { (stamp : List ℕ) → at_stamp seats.new.entries stamp ≡ None }
+    ensures empty { length seats.new.entries ≡ 0 }
     ensures place { G.facts.place games.new ≡ G.facts.place games.old }
 {
     while let Some(last) = take_last(seats) {
@@ -58,9 +61,10 @@ pub(crate) fn settle<'a, G: Games>(
     seat: Seat<'a, G::Keeper>,
 )
     requires { at_stamp seats.old.entries stamp.now ≡ None }
-    ensures runs { seat.entry.state.is_down ≡ false → TurnsInHand G.Keeper.facts G.facts games.old (at_stamp seats.old.entries) stamp.now seat.entry games.new (at_stamp seats.new.entries) }
+    ensures runs { seat.entry.state.is_down ≡ false → TurnsInHand G.Keeper.facts G.facts seats.old.cap games.old (at_stamp seats.old.entries) (length seats.old.entries) stamp.now seat.entry games.new (at_stamp seats.new.entries) (length seats.new.entries) }
     ensures down { seat.entry.state.is_down ≡ true → Closes G.facts games.old games.new stamp.now seat.entry.keeper × (seats.new ≡ seats.old) }
     ensures place { G.facts.place games.new ≡ G.facts.place games.old }
+    ensures cap { seats.new.cap ≡ seats.old.cap }
 {
     if seat.state.is_down() {
         close(games, stamp, seat);

@@ -264,7 +264,7 @@ module _ (grow : PutsGrow) {F : Type 0} (facts : F → KeptFacts) (game : Judged
   act_back : (old : Held F) (act : Act (FileKeeper F)) (new : Held F) (later : Option (List ℕ)) → Holds facts old → is_stamp game.stamp.0 (game_of act) ≡ true → ActsAt facts game who log old act new → IsFoundIn facts new later
       → (found : Option (List ℕ)) × IsFoundIn facts old found × ((net : Net) → site_of net who ≡ site_at old found → net.log ≡ log → GivesOwn (keeper_over facts) game net who act (changed net who (site_at new later) (sent_in act)))
   act_back old (Unread datagram fault) new later safe own h found = (later, found_before old new later h found, λ net at same. same_back old new later net h at)
-  act_back old (Strange stamp datagram why) new later safe own h found = (later, found_before old new later h found, λ net at same. same_back old new later net h at)
+  act_back old (Strange stamp datagram tried why) new later safe own h found = (later, found_before old new later h found, λ net at same. same_back old new later net h at)
   act_back (Rests file) (Refuses stamp datagram o fault) new later safe own h found = (stored o.before, h.starts.one, λ net at same. refused_back file o fault new later h found net at)
   act_back (Plays now) (Refuses stamp datagram o fault) new later safe own h found = absurd h
   act_back (Rests file) (Opens stamp o v) new later safe own h found = (stored o.before, h.starts.one, λ net at same. opened_back file o v new later h found net at)
@@ -363,7 +363,7 @@ module _ (grow : PutsGrow) {F : Type 0} (facts : F → KeptFacts) (game : Judged
 
   act_holds : (old : Held F) (act : Act (FileKeeper F)) (new : Held F) → Holds facts old → ActsAt facts game who log old act new → Holds facts new
   act_holds old (Unread datagram fault) new safe h = subst (Holds facts) (sym h) safe
-  act_holds old (Strange stamp datagram why) new safe h = subst (Holds facts) (sym h) safe
+  act_holds old (Strange stamp datagram tried why) new safe h = subst (Holds facts) (sym h) safe
   act_holds (Rests file) (Refuses stamp datagram o fault) new safe h = subst (Holds facts) (sym h.to) tt
   act_holds (Plays now) (Refuses stamp datagram o fault) new safe h = absurd h
   act_holds (Rests file) (Opens stamp o v) new safe h = opens_holds file o v new h

@@ -143,8 +143,8 @@ module _ {P F : Type 0} (disk : DiskFacts) (host : HostFacts P F) (facts : F →
       ends facts Starts setup Q first file left life es st
       (subst (λ (f : F). StopsOver facts Starts life f left) leaves (subst (λ (l : Life (FileKeeper F)). StopsOver facts Starts l mid left) goes stops))
   walk t (Unread datagram fault ∷ acts) first file mid left life life' es st goes one leaves stops = absurd goes.1
-  walk t (Strange of datagram why ∷ acts) first file mid left life life' es st goes one leaves stops =
-      one_more facts Starts setup Q first left es (Strange of datagram why) acts tt
+  walk t (Strange of datagram tried why ∷ acts) first file mid left life life' es st goes one leaves stops =
+      one_more facts Starts setup Q first left es (Strange of datagram tried why) acts tt
       (walk t acts first file mid left goes.0 life' es (subst (λ (l : Life (FileKeeper F)). Standing facts Starts setup Q first file l es) (sym goes.1.2) st) goes.2 one.1 leaves stops)
   walk t (Refuses of datagram o fault ∷ acts) first file mid left life life' es (Busy at opened has run) goes one leaves stops =
       absurd (open_opens disk host facts folder stamp t life at o.before opened goes.1.over)

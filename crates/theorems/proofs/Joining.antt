@@ -37,7 +37,7 @@ module _ {K : Type 0} (s : Keepers K) (stamp : List ℕ) where
 
   one_life : (t u : CommonView) (old x y : Life K) (a : Act K) → GoesOn s t stamp old a x → GoesOn s u stamp old a y → x ≡ y
   one_life t u old x y (act.Unread datagram fault) h k = absurd h
-  one_life t u old x y (act.Strange of_game datagram why) h k = h.2 ∙ sym k.2
+  one_life t u old x y (act.Strange of_game datagram tried why) h k = h.2 ∙ sym k.2
   one_life t u old x y (act.Refuses of_game datagram o fault) h k = h.new_is ∙ sym k.new_is
   one_life t u old x y (act.Opens of_game o arbiter) h k = h.new_is ∙ sym k.new_is
   one_life t u old x y (act.Answers of_game e) h k = one_answered old x y e h k

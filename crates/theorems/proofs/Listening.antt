@@ -139,7 +139,7 @@ module _ {F : Type 0} (facts : F → KeptFacts) (setup : SetupView) (stamp : Lis
         answers : (b : Bool) → bytes_eq stamp stamp ≡ b → b ≡ true → GoesOwn (Open at) (Answers stamp e ∷ []) (life_at e.after)
         answers b is holds = rw (is ∙ holds) (life_at e.after, (d, refl), refl)
 
-        by_stamp : (m : Message) → heard_in e.datagram ≡ Ok m → (b : Bool) → bytes_eq (stamp_in m).0 stamp ≡ b → GoesOwn (Open at) (cond b (Answers stamp e) (Strange (stamp_in m).0 e.datagram (why_none e.datagram)) ∷ []) (life_at e.after)
+        by_stamp : (m : Message) → heard_in e.datagram ≡ Ok m → (b : Bool) → bytes_eq (stamp_in m).0 stamp ≡ b → GoesOwn (Open at) (cond b (Answers stamp e) (Strange (stamp_in m).0 e.datagram false (why_none e.datagram)) ∷ []) (life_at e.after)
         by_stamp m is true same = answers true (own_bytes stamp) refl
         by_stamp m is false other =
             let r = refused (keeper_over facts) at e d up deliver.Stranger (ap (in_game at.arbiter.me.stamp) is ∙ strange_so m other) in
@@ -161,15 +161,15 @@ module _ {F : Type 0} (facts : F → KeptFacts) (setup : SetupView) (stamp : Lis
     other_step : (e : Exchange (FileKeeper F)) → GoesOther Fresh (act_of stamp e ∷ []) Fresh
     other_step e = by (heard_in e.datagram)
       where
-        why : (b : Bool) → IsStrange (one_game facts setup stamp) setup.manifest of b (cond b unopened.NoGame unopened.NotOpen)
+        why : (b : Bool) → IsStrange (one_game facts setup stamp) setup.manifest of b false (cond b unopened.NoGame unopened.NotOpen)
         why true = IsRefused (not_own, refl)
-        why false = refl
+        why false = (refl, refl)
 
-        strange : (m : Message) (b : Bool) → bytes_eq (stamp_in m).0 of ≡ b → GoesOther Fresh (Strange (stamp_in m).0 e.datagram (why_none e.datagram) ∷ []) Fresh
+        strange : (m : Message) (b : Bool) → bytes_eq (stamp_in m).0 of ≡ b → GoesOther Fresh (Strange (stamp_in m).0 e.datagram false (why_none e.datagram) ∷ []) Fresh
         strange m true is = rw is (Fresh, (tt, why (opens_for e.datagram), refl), refl)
         strange m false is = rw is refl
 
-        by_stamp : (m : Message) (b : Bool) → GoesOther Fresh (cond b (Answers stamp e) (Strange (stamp_in m).0 e.datagram (why_none e.datagram)) ∷ []) Fresh
+        by_stamp : (m : Message) (b : Bool) → GoesOther Fresh (cond b (Answers stamp e) (Strange (stamp_in m).0 e.datagram false (why_none e.datagram)) ∷ []) Fresh
         by_stamp m true = rw apart refl
         by_stamp m false = strange m (bytes_eq (stamp_in m).0 of) refl
 
@@ -204,7 +204,7 @@ module _ {K : Type 0} (stamp : List ℕ) (e : Exchange K) where
   sorted_step : IsSorted (act_of stamp e)
   sorted_step = by (heard_in e.datagram) refl
     where
-      by_stamp : (m : Message) → heard_in e.datagram ≡ Ok m → (b : Bool) → bytes_eq (stamp_in m).0 stamp ≡ b → IsSorted {K = K} (cond b (Answers stamp e) (Strange (stamp_in m).0 e.datagram (why_none e.datagram)))
+      by_stamp : (m : Message) → heard_in e.datagram ≡ Ok m → (b : Bool) → bytes_eq (stamp_in m).0 stamp ≡ b → IsSorted {K = K} (cond b (Answers stamp e) (Strange (stamp_in m).0 e.datagram false (why_none e.datagram)))
       by_stamp m is true same = ap stamp_by is ∙ ap (λ (x : List ℕ). Some x) (same_bytes (stamp_in m).0 stamp same)
       by_stamp m is false other = ap stamp_by is
 
@@ -219,7 +219,7 @@ module _ {K : Type 0} (stamp : List ℕ) (e : Exchange K) where
     passed_step : flat_map (passing_at addresses) (replies_of (act_of stamp e)) ≡ passing_of addresses e
     passed_step = by (heard_in e.datagram) refl
       where
-        by_stamp : (m : Message) → heard_in e.datagram ≡ Ok m → (b : Bool) → bytes_eq (stamp_in m).0 stamp ≡ b → flat_map (passing_at addresses) (replies_of {K = K} (cond b (Answers stamp e) (Strange (stamp_in m).0 e.datagram (why_none e.datagram)))) ≡ passing_of addresses e
+        by_stamp : (m : Message) → heard_in e.datagram ≡ Ok m → (b : Bool) → bytes_eq (stamp_in m).0 stamp ≡ b → flat_map (passing_at addresses) (replies_of {K = K} (cond b (Answers stamp e) (Strange (stamp_in m).0 e.datagram false (why_none e.datagram)))) ≡ passing_of addresses e
         by_stamp m is true same = append-nil (passing_of addresses e)
         by_stamp m is false other = nothing_more deliver.Stranger (refused facts at e d up deliver.Stranger (ap (in_game at.arbiter.me.stamp) is ∙ rw (mine, other) refl)).0
 

@@ -291,7 +291,7 @@ module _ {K : Type 0} (s : Keepers K) (t : CommonView) (game : Judged) (who : Wh
 
   own_goes : (life later : Life K) (a : Act K) → IsHere life → GoesOn s t game.stamp.0 life a later → GivesOwn s.facts game old who a new → GoesTo later
   own_goes life later (act.Unread datagram fault) here to g = absurd to
-  own_goes life later (act.Strange stamp datagram why) here to g = moved life later to.2 (stays life here g)
+  own_goes life later (act.Strange stamp datagram tried why) here to g = moved life later to.2 (stays life here g)
   own_goes life later (act.Refuses stamp datagram o fault) here to g = opening_goes o (Err fault) g life later to
   own_goes life later (act.Opens stamp o arbiter) here to g = opening_goes o (Ok arbiter) g life later to
   own_goes life later (act.Answers stamp e) here to g = answering_goes life later e here to g

@@ -76,7 +76,7 @@ ClosesAt (Plays at) left new = (left ≡ at.keeper) × (new ≡ Rests (file_of l
 
 abbrev pub ActsAt : {F : Type 0} → (F → KeptFacts) → Judged → Who → List Message → Held F → Act (FileKeeper F) → Held F → Type 0
 ActsAt facts game who log old (Unread datagram fault) new = new ≡ old
-ActsAt facts game who log old (Strange stamp datagram why) new = new ≡ old
+ActsAt facts game who log old (Strange stamp datagram tried why) new = new ≡ old
 ActsAt facts game who log old (Refuses stamp datagram o fault) new = OpensAt facts game who old o (Err fault) new
 ActsAt facts game who log old (Opens stamp o arbiter) new = OpensAt facts game who old o (Ok arbiter) new
 ActsAt facts game who log old (Answers stamp e) new = AnswersAt facts game log old e new
@@ -103,7 +103,7 @@ DoesAt {F} facts game who log old Ends new = (left : F) × EndsAt facts game who
 -- the messages that are sent for the game
 abbrev pub sent_in : {K : Type 0} → Act K → List Message
 sent_in (Unread datagram fault) = []
-sent_in (Strange stamp datagram why) = []
+sent_in (Strange stamp datagram tried why) = []
 sent_in (Refuses stamp datagram o fault) = []
 sent_in (Opens stamp o arbiter) = []
 sent_in (Answers stamp e) = sent_with e.told

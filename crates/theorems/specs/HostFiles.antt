@@ -26,7 +26,7 @@ pub record HostRun (F : Type 0) : Type 0 where
 abbrev pub Leaves : {F : Type 0} → (F → FileKeeper F → Type 0) → F → List (Act (FileKeeper F)) → F → Type 0
 Leaves Starts file [] last = last ≡ file
 Leaves Starts file (Unread datagram fault ∷ acts) last = Leaves Starts file acts last
-Leaves Starts file (Strange stamp datagram why ∷ acts) last = Leaves Starts file acts last
+Leaves Starts file (Strange stamp datagram tried why ∷ acts) last = Leaves Starts file acts last
 Leaves Starts file (Refuses stamp datagram o fault ∷ acts) last = Starts file o.before × Leaves Starts (file_of o.now) acts last
 Leaves Starts file (Opens stamp o arbiter ∷ acts) last = Starts file o.before × Leaves Starts (file_of o.now) acts last
 Leaves Starts file (Answers stamp e ∷ acts) last = Leaves Starts (file_of e.after.keeper) acts last
@@ -45,7 +45,7 @@ pub data StopsOver {F : Type 0} (facts : F → KeptFacts) (Starts : F → FileKe
 -- an opening is of this setup
 abbrev pub IsOfSetup : {F : Type 0} → SetupView → Act (FileKeeper F) → Type 0
 IsOfSetup setup (Unread datagram fault) = Unit {0}
-IsOfSetup setup (Strange stamp datagram why) = Unit {0}
+IsOfSetup setup (Strange stamp datagram tried why) = Unit {0}
 IsOfSetup setup (Refuses stamp datagram o fault) = o.setup ≡ setup
 IsOfSetup setup (Opens stamp o arbiter) = o.setup ≡ setup
 IsOfSetup setup (Answers stamp e) = Unit {0}
@@ -71,7 +71,7 @@ HostRunsInTurn facts Starts s stamp setup first (r ∷ rs) last = HostRanOver fa
 -- what is said of an answer holds of an act, if it is one
 abbrev pub IfAnswers : {F : Type 0} → (Exchange (FileKeeper F) → Type 0) → Act (FileKeeper F) → Type 0
 IfAnswers P (Unread datagram fault) = Unit {0}
-IfAnswers P (Strange stamp datagram why) = Unit {0}
+IfAnswers P (Strange stamp datagram tried why) = Unit {0}
 IfAnswers P (Refuses stamp datagram o fault) = Unit {0}
 IfAnswers P (Opens stamp o arbiter) = Unit {0}
 IfAnswers P (Answers stamp e) = P e

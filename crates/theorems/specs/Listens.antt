@@ -1,6 +1,6 @@
 -- A run of `listen` as one of a host that has one game (this project's own): so two runs of `listen`, and one beside a host, come under the
 -- theorem of two hosts. A run that asks for moves first (`--fetch`) isn't one: a host never asks.
-use Rattle.std.specs.Prelude.{◌≡◌, ℕ, List, [], ◌∷◌, ◌++◌, map, cond, Result, Ok, Err}
+use Rattle.std.specs.Prelude.{◌≡◌, ℕ, false, List, [], ◌∷◌, ◌++◌, map, cond, Result, Ok, Err}
 use Rattle.std.specs.List.{AllByRecursion, flat_map}
 use Rattle.std.specs.Str.{bytes_eq}
 use Rattle.move_msg.specs.declared.message.Message.{Message}
@@ -35,12 +35,13 @@ one_game facts setup stamp = record {
   facts = keeper_over facts;
   tells = λ of game. (of ≡ stamp) × IsNamed setup game;
   refuses = λ of why. (of ≡ stamp → ⊥) × (why ≡ unopened.NoGame);
+  withholds = λ of why. ⊥;
   is_of = λ of keeper. of ≡ stamp;
   follows = λ left next. Unit {0};
 }
 
 abbrev pub common_of : SetupView → CommonView
-common_of setup = record { manifest = setup.manifest; number = setup.me; set = setup.set }
+common_of setup = record { manifest = setup.manifest; number = setup.me; set = setup.set; at_once = 1 }
 
 -- ---- the acts of a run
 
@@ -51,7 +52,7 @@ why_none datagram = cond (opens_for datagram) unopened.NoGame unopened.NotOpen
 -- what a datagram is to such a host: no message, a message of a game that isn't there, or one that the arbiter answers
 abbrev pub act_by : {K : Type 0} → List ℕ → Exchange K → Result Message MessageFault → Act K
 act_by stamp e (Err fault) = Unread e.datagram fault
-act_by stamp e (Ok message) = cond (bytes_eq (stamp_in message).0 stamp) (Answers stamp e) (Strange (stamp_in message).0 e.datagram (why_none e.datagram))
+act_by stamp e (Ok message) = cond (bytes_eq (stamp_in message).0 stamp) (Answers stamp e) (Strange (stamp_in message).0 e.datagram false (why_none e.datagram))
 
 abbrev pub act_of : {K : Type 0} → List ℕ → Exchange K → Act K
 act_of stamp e = act_by stamp e (heard_in e.datagram)

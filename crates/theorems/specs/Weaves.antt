@@ -163,7 +163,7 @@ pub record Stops (game : Judged) (old : Net) (who : Who) (new : Net) : Type 0 wh
 -- that isn't open), and a closing leaves what is found
 abbrev pub GivesOwn : {K : Type 0} → KeeperFacts K → Judged → Net → Who → Act K → Net → Type 0
 GivesOwn facts game old who (Unread datagram fault) new = new ≡ old
-GivesOwn facts game old who (Strange stamp datagram why) new = new ≡ old
+GivesOwn facts game old who (Strange stamp datagram tried why) new = new ≡ old
 GivesOwn facts game old who (Refuses stamp datagram o fault) new = Finds facts game old who o (Err fault) new
 GivesOwn facts game old who (Opens stamp o arbiter) new = Finds facts game old who o (Ok arbiter) new
 GivesOwn facts game old who (Answers stamp e) new = Hears facts game old who e new

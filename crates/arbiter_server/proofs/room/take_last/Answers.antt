@@ -1,7 +1,7 @@
 use Rattle.std.proofs.Common.{ℕ, List, ap, sym, ◌∙◌}
 use Rattle.lru.specs.LruCache.{LruCache}
 use Rattle.arbiter_server.specs.Room.{at_stamp}
-use Rattle.arbiter_server.proofs.Rooms.{fewer_left, if_none, if_some, last_was, last_gone, none_left}
+use Rattle.arbiter_server.proofs.Rooms.{empty_left, fewer_left, if_none, if_some, last_was, last_gone, none_left}
 use Rattle.arbiter_server.proofs.room.take_last.Goals as goal
 
 pub returns-clause-none : goal.returns-clause-none
@@ -19,3 +19,6 @@ returns-clause-after g c = if_some _ c.pop_lru.result (λ x is. λ other.
 pub returns-clause-fewer : goal.returns-clause-fewer
 returns-clause-fewer g c = if_some _ c.pop_lru.result (λ x is.
     fewer_left c.args.seats.now.entries c.pop_lru.new.self.entries x (ap (λ (l : LruCache (List ℕ) g.row.S.Denot). l.entries) c.pop_lru.ensures.entries) (sym c.pop_lru.ensures.value ∙ is))
+
+pub returns-clause-empty : goal.returns-clause-empty
+returns-clause-empty g c = if_none _ c.pop_lru.result (λ is. empty_left c.args.seats.now.entries c.pop_lru.new.self.entries (ap (λ (l : LruCache (List ℕ) g.row.S.Denot). l.entries) c.pop_lru.ensures.entries) (sym c.pop_lru.ensures.value ∙ is))

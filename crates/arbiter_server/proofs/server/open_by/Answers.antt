@@ -1,4 +1,4 @@
-use Rattle.std.proofs.Common.{refl, inr}
+use Rattle.std.proofs.Common.{[], ◌∷◌, refl, inl, inr}
 use Rattle.std.specs.Prelude.{Ok, Err}
 use Rattle.judge_core.specs.Tables.{Holding}
 use Rattle.arbiter_core.specs.Resting.{awake}
@@ -6,12 +6,25 @@ use Rattle.arbiter_server.specs.Folders.{keepers}
 use Rattle.arbiter_core.specs.Setups.{SetupView, terms_with}
 use Rattle.arbiter_server.specs.Games.{IsRefused}
 use Rattle.arbiter_server.proofs.Opening.{is_opening, opened_over, refused_over, seated_over}
-use Rattle.arbiter_server.proofs.Handing.{lacking_to}
+use Rattle.arbiter_server.proofs.Handing.{lacking_to, withheld_to}
 use Rattle.arbiter_server.proofs.server.open_by.Goals as goal
 
 pub returns-in-Err-clause-unopened : goal.returns-in-Err-clause-unopened
-returns-in-Err-clause-unopened g c = λ t found at datagram absent sorted opens.
-    lacking_to (keepers g.G.Keeper.Keeper.facts g.G.Games.facts c.args.games.now) t (g.G.Games.facts.gives c.args.games.now) (g.G.Games.facts.gives c.take.new.self) at c.args.stamp.now datagram c.in-Err.why sorted opens absent (IsRefused (inr c.in-Err.ensures.refused)) c.take.ensures.same
+returns-in-Err-clause-unopened g c =
+    elim c.in-Err.ensures.tried [
+      | inl none ↦ (
+        [],
+        none,
+        λ t found at k datagram absent sorted opens.
+            lacking_to (keepers g.G.Keeper.Keeper.facts g.G.Games.facts c.args.games.now) t k (g.G.Games.facts.gives c.args.games.now) (g.G.Games.facts.gives c.take.new.self) at c.args.stamp.now datagram c.in-Err.why sorted opens absent (IsRefused (inr c.in-Err.ensures.refused)) c.take.ensures.same,
+      )
+      | inr one ↦ (
+        c.args.stamp.now ∷ [],
+        one,
+        λ t found at k datagram absent sorted opens.
+            withheld_to (keepers g.G.Keeper.Keeper.facts g.G.Games.facts c.args.games.now) t k (g.G.Games.facts.gives c.args.games.now) (g.G.Games.facts.gives c.take.new.self) at c.args.stamp.now datagram c.in-Err.why sorted opens absent c.in-Err.ensures.refused c.take.ensures.same,
+      )
+    ]
 
 pub returns-in-Ok-open-clause-opened : goal.returns-in-Ok-open-clause-opened
 returns-in-Ok-open-clause-opened g c = λ t found.
@@ -27,9 +40,13 @@ returns-in-Ok-open-clause-opened g c = λ t found.
     }
 
 pub returns-clause-unopened : goal.returns-clause-unopened
-returns-clause-unopened g c = λ t found at datagram absent sorted opens.
-    let setup : SetupView = terms_with c.args.terms c.args.tables.now in
-    let opening = is_opening g.G.Keeper.Keeper.facts setup c.in-Ok.keeper c.open.new.keeper (Err c.in-Err-open.refused.fault) c.in-Err-open.ensures.good c.in-Err-open.ensures.bad in
-    rw c.by.ensures
-    (refused_over (keepers g.G.Keeper.Keeper.facts g.G.Games.facts c.args.games.now) t (g.G.Games.facts.gives c.args.games.now) (g.G.Games.facts.gives c.take.new.self) c.args.stamp.now setup c.in-Ok.keeper c.open.new.keeper c.in-Ok.ensures.of c.in-Ok.ensures.given c.take.ensures.same found.told found.game
-    (g.G.Games.facts.gives c.give_back.new.self) c.in-Err-open.refused.fault opening c.give_back.ensures.left c.give_back.ensures.others at datagram absent sorted opens)
+returns-clause-unopened g c = (
+  c.args.stamp.now ∷ [],
+  c.in-Ok.ensures.made,
+  λ t found at k datagram absent sorted opens.
+      let setup : SetupView = terms_with c.args.terms c.args.tables.now in
+      let opening = is_opening g.G.Keeper.Keeper.facts setup c.in-Ok.keeper c.open.new.keeper (Err c.in-Err-open.refused.fault) c.in-Err-open.ensures.good c.in-Err-open.ensures.bad in
+      rw c.by.ensures
+      (refused_over (keepers g.G.Keeper.Keeper.facts g.G.Games.facts c.args.games.now) t (g.G.Games.facts.gives c.args.games.now) (g.G.Games.facts.gives c.take.new.self) c.args.stamp.now setup c.in-Ok.keeper c.open.new.keeper c.in-Ok.ensures.of c.in-Ok.ensures.given c.take.ensures.same found.told found.game
+      (g.G.Games.facts.gives c.give_back.new.self) c.in-Err-open.refused.fault opening c.give_back.ensures.left c.give_back.ensures.others at k datagram absent sorted opens),
+)

@@ -1,18 +1,22 @@
-use Rattle.std.proofs.Common.{ap, sym, refl, ◌∙◌}
+use Rattle.std.proofs.Common.{[], ap, sym, refl, ◌∙◌}
 use Rattle.std.proofs.lemmas.Result.{IfOk-weaker, IfErr-weaker}
 use Rattle.arbiter_server.specs.Acts.{opens_by, stamp_by}
 use Rattle.arbiter_server.specs.Folders.{keepers}
 use Rattle.arbiter_server.specs.Games.{common_with}
 use Rattle.arbiter_server.proofs.Handing.{idle_to}
-use Rattle.arbiter_server.proofs.Makings.{nothing_for_message, once_for}
+use Rattle.system_io.proofs.HistoryLaws.{Passes-nil}
 use Rattle.arbiter_server.proofs.server.open_for.Goals as goal
 
 pub returns-then-not-opens_game-clause-lent : goal.returns-then-not-opens_game-clause-lent
 returns-then-not-opens_game-clause-lent g c = record { same = refl; place = refl }
 
 pub returns-then-not-opens_game-clause-unopened : goal.returns-then-not-opens_game-clause-unopened
-returns-then-not-opens_game-clause-unopened g c = λ at datagram absent says.
-    idle_to (keepers g.G.Keeper.Keeper.facts g.G.Games.facts c.args.games.now) (common_with c.args.config.now c.args.tables.now) _ at datagram c.args.message.now says (sym c.if-not-opens_game.ensures) absent
+returns-then-not-opens_game-clause-unopened g c = (
+  [],
+  Passes-nil _,
+  λ at k datagram absent says.
+      idle_to (keepers g.G.Keeper.Keeper.facts g.G.Games.facts c.args.games.now) (common_with c.args.config.now c.args.tables.now) k _ at datagram c.args.message.now says (sym c.if-not-opens_game.ensures) absent,
+)
 
 pub returns-clause-opened : goal.returns-clause-opened
 returns-clause-opened g c =
@@ -22,10 +26,7 @@ returns-clause-opened g c =
 pub returns-clause-unopened : goal.returns-clause-unopened
 returns-clause-unopened g c =
     let unopened = rw c.stamp.ensures at c.open_told.ensures.unopened in
-    IfErr-weaker c.open_told.result _ _ (λ why h. λ at datagram absent says. h at datagram absent (ap stamp_by says) (ap opens_by says ∙ sym c.opens_game.ensures ∙ c.if-not-opens_game.false)) unopened
-
-pub returns-then-not-opens_game-clause-made : goal.returns-then-not-opens_game-clause-made
-returns-then-not-opens_game-clause-made g c = nothing_for_message _ _ _
+    IfErr-weaker c.open_told.result _ _ (λ why h. (h.0, h.1, λ at k datagram absent says. h.2 at k datagram absent (ap stamp_by says) (ap opens_by says ∙ sym c.opens_game.ensures ∙ c.if-not-opens_game.false))) unopened
 
 pub returns-clause-made : goal.returns-clause-made
-returns-clause-made g c = once_for _ c.args.message.now _ _ (sym c.opens_game.ensures ∙ c.if-not-opens_game.false) (rw c.stamp.ensures at c.open_told.ensures.made)
+returns-clause-made g c = rw c.stamp.ensures at c.open_told.ensures.made

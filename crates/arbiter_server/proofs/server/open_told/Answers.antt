@@ -1,10 +1,11 @@
+use Rattle.std.proofs.Common.{[]}
 use Rattle.std.proofs.lemmas.Result.{IfOk-weaker, IfErr-weaker}
 use Rattle.arbiter_core.specs.Setups.{terms_with}
 use Rattle.arbiter_server.specs.Folders.{keepers}
 use Rattle.arbiter_server.specs.Games.{common_with}
 use Rattle.arbiter_server.proofs.Opening.{found_as}
 use Rattle.arbiter_server.proofs.Handing.{lacking_to}
-use Rattle.arbiter_server.proofs.Makings.{nothing_once}
+use Rattle.system_io.proofs.HistoryLaws.{Passes-nil}
 use Rattle.arbiter_server.proofs.server.open_told.Goals as goal
 
 pub returns-in-Ok-clause-opened : goal.returns-in-Ok-clause-opened
@@ -17,11 +18,12 @@ pub returns-in-Ok-clause-unopened : goal.returns-in-Ok-clause-unopened
 returns-in-Ok-clause-unopened g c =
     let t = common_with c.args.config.now c.args.tables.now in
     let is = found_as g.G.Keeper.Keeper.facts g.G.Games.facts t c.args.games.now c.args.stamp.now c.in-Ok.game (terms_with c.terms.result c.args.tables.now) (c.terms.ensures c.args.tables.now) c.in-Ok.ensures.ok c.in-Ok.ensures.told in
-    IfErr-weaker c.open_by.result _ _ (λ why h. h t is) c.open_by.ensures.unopened
+    IfErr-weaker c.open_by.result _ _ (λ why h. (h.0, h.1, h.2 t is)) c.open_by.ensures.unopened
 
 pub returns-in-Err-clause-unopened : goal.returns-in-Err-clause-unopened
-returns-in-Err-clause-unopened g c = λ at datagram absent sorted opens.
-    lacking_to (keepers g.G.Keeper.Keeper.facts g.G.Games.facts c.args.games.now) (common_with c.args.config.now c.args.tables.now) _ _ at c.args.stamp.now datagram c.in-Err.why sorted opens absent c.in-Err.ensures.err (λ other keeper given. given)
-
-pub returns-in-Err-clause-made : goal.returns-in-Err-clause-made
-returns-in-Err-clause-made g c = nothing_once _ _
+returns-in-Err-clause-unopened g c = (
+  [],
+  Passes-nil _,
+  λ at k datagram absent sorted opens.
+      lacking_to (keepers g.G.Keeper.Keeper.facts g.G.Games.facts c.args.games.now) (common_with c.args.config.now c.args.tables.now) k _ _ at c.args.stamp.now datagram c.in-Err.why sorted opens absent c.in-Err.ensures.err (λ other keeper given. given),
+)

@@ -1,4 +1,4 @@
-use Rattle.std.proofs.Common.{ℕ, List, ap, subst, sym}
+use Rattle.std.proofs.Common.{ℕ, List, length, ap, subst, sym, ◌∙◌}
 use Rattle.lru.specs.LruCache.{LruCache}
 use Rattle.judge_core.specs.Tables.{Holding}
 use Rattle.move_msg.specs.declared.stamp.Stamp.{Stamp}
@@ -19,11 +19,14 @@ pub settle-requires : goal.settle-requires
 settle-requires g c = rw (sym c.self.view_is, sym c.stamp.ensures) at c.requires.absent
 
 pub invariant_of-self : goal.invariant_of-self
-invariant_of-self g c =
-    subst (λ (set : Holding). AreSeated g.G.Keeper.Keeper.facts set (at_stamp c.settle.new.seats.entries)) (sym c.deliver-answer.ensures.same)
-    (settled (keepers g.G.Keeper.Keeper.facts g.G.Games.facts c.self.inside.games) (common_with c.self.inside.config c.self.inside.tables) _ _ (at_stamp c.self.inside.seats.entries) (at_stamp c.settle.new.seats.entries) c.stamp.result.0 c.deliver-answer.new.self c.self.invariant c.deliver-answer.ensures.rests
-    (λ runs. c.settle.ensures.runs runs (common_with c.self.inside.config c.self.inside.tables))
-    (λ down other. ap (λ (l : LruCache (List ℕ) (Seat g.row.G-Keeper.Denot)). at_stamp l.entries other) (c.settle.ensures.down down).1))
+invariant_of-self g c = record {
+  seated =
+      subst (λ (set : Holding). AreSeated g.G.Keeper.Keeper.facts set (at_stamp c.settle.new.seats.entries)) (sym c.deliver-answer.ensures.same)
+      (settled (keepers g.G.Keeper.Keeper.facts g.G.Games.facts c.self.inside.games) (common_with c.self.inside.config c.self.inside.tables) _ _ _ _ (at_stamp c.self.inside.seats.entries) (at_stamp c.settle.new.seats.entries) c.stamp.result.0 c.deliver-answer.new.self c.self.invariant.seated c.deliver-answer.ensures.rests
+      (λ runs. c.settle.ensures.runs runs (common_with c.self.inside.config c.self.inside.tables) (sym c.self.invariant.room))
+      (λ down other. ap (λ (l : LruCache (List ℕ) (Seat g.row.G-Keeper.Denot)). at_stamp l.entries other) (c.settle.ensures.down down).1));
+  room = c.settle.ensures.cap ∙ c.self.invariant.room;
+}
 
 pub returns-clause-stays : goal.returns-clause-stays
 returns-clause-stays g c = rw (sym c.self.view_is) (record { common = ap (λ (set : Holding). common_with c.self.inside.config set) c.deliver-answer.ensures.same; place = c.settle.ensures.place })
@@ -33,7 +36,7 @@ returns-clause-answers g c =
     let t = common_with c.self.inside.config c.self.inside.tables in
     let absent = rw (sym c.self.view_is, sym c.stamp.ensures) at c.requires.absent in
     rw (sym c.self.view_is, sym c.stamp.ensures)
-    (answers_reply (keepers g.G.Keeper.Keeper.facts g.G.Games.facts c.self.inside.games) t (g.G.Games.facts.gives c.self.inside.games) (g.G.Games.facts.gives c.settle.new.games) (at_stamp c.self.inside.seats.entries) (at_stamp c.settle.new.seats.entries) c.stamp.result.0 c.args.message.now c.args.seat c.deliver-answer.new.self
+    (answers_reply (keepers g.G.Keeper.Keeper.facts g.G.Games.facts c.self.inside.games) t _ _ (g.G.Games.facts.gives c.self.inside.games) (g.G.Games.facts.gives c.settle.new.games) (at_stamp c.self.inside.seats.entries) (at_stamp c.settle.new.seats.entries) c.stamp.result.0 c.args.message.now c.args.seat c.deliver-answer.new.self
     c.deliver-answer.result.outputs.items (heard_line c.deliver-answer.result.heard) (ap (λ (x : Stamp). x.0) c.stamp.ensures) absent c.deliver-answer.ensures.rests c.deliver-answer.ensures.answered
-    (λ runs. c.settle.ensures.runs runs t)
-    (λ down. let closed = c.settle.ensures.down down in (closed.0.next, closed.0.others, λ other. ap (λ (l : LruCache (List ℕ) (Seat g.row.G-Keeper.Denot)). at_stamp l.entries other) closed.1)))
+    (λ runs. c.settle.ensures.runs runs t (sym c.self.invariant.room))
+    (λ down. let closed = c.settle.ensures.down down in (closed.0.next, closed.0.others, λ other. ap (λ (l : LruCache (List ℕ) (Seat g.row.G-Keeper.Denot)). at_stamp l.entries other) closed.1, ap (λ (l : LruCache (List ℕ) (Seat g.row.G-Keeper.Denot)). length l.entries) closed.1)))

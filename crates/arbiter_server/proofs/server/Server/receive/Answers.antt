@@ -1,11 +1,11 @@
-use Rattle.std.proofs.Common.{take, refl}
+use Rattle.std.proofs.Common.{None, length, take, refl}
 use Rattle.arbiter_server.specs.Folders.{keepers}
 use Rattle.arbiter_server.specs.Room.{at_stamp}
 use Rattle.arbiter_server.specs.Turns.{reply_of}
 use Rattle.arbiter_server.proofs.Hosted.{came_and_sent}
 use Rattle.arbiter_server.proofs.WholeRuns.{as_before}
 use Rattle.arbiter_server.proofs.Turning.{leads_not}
-use Rattle.arbiter_server.proofs.Makings.{made_by_one, nothing_missed}
+use Rattle.system_io.proofs.HistoryLaws.{Passes-nil}
 use Rattle.arbiter_server.proofs.server.Server.receive.Goals as goal
 
 pub returns-in-Ok-clause-received : goal.returns-in-Ok-clause-received
@@ -14,14 +14,7 @@ returns-in-Ok-clause-received g c =
     (r, c.hear-told.ensures.turns, refl, came_and_sent (g.P.Port.facts c.args.port.now) (g.P.Port.facts c.receive.new.self) (g.P.Port.facts c.send_all.new.port) r c.in-Ok.ensures.came (rw c.as_slice.ensures at c.send_all.ensures))
 
 pub returns-in-Err-clause-received : goal.returns-in-Err-clause-received
-returns-in-Err-clause-received g c = (leads_not (keepers g.G.Keeper.Keeper.facts g.G.Games.facts c.args.self.now.games) c.args.self.now.common _ _ (at_stamp c.args.self.now.seats) (at_stamp c.args.self.now.seats) (λ other keeper given. given) (λ other. refl), refl, c.in-Err.ensures.missed, c.in-Err.ensures.cause)
+returns-in-Err-clause-received g c = ((leads_not (keepers g.G.Keeper.Keeper.facts g.G.Games.facts c.args.self.now.games) c.args.self.now.common None (length c.args.self.now.seats) _ _ (at_stamp c.args.self.now.seats) (at_stamp c.args.self.now.seats) (λ other keeper given. given) (λ other. refl), Passes-nil _), refl, c.in-Err.ensures.missed, c.in-Err.ensures.cause)
 
 pub returns-in-Err-clause-stays : goal.returns-in-Err-clause-stays
 returns-in-Err-clause-stays g c = as_before g.G.Games.facts c.args.self.now
-
-pub returns-in-Ok-clause-made : goal.returns-in-Ok-clause-made
-returns-in-Ok-clause-made g c =
-    made_by_one _ (g.P.Port.facts c.args.port.now) (g.P.Port.facts c.receive.new.self) (g.P.Port.facts c.send_all.new.port) (take c.in-Ok.length c.receive.new.buffer) c.hear-told.result.outputs.items _ _ c.in-Ok.ensures.came (rw c.as_slice.ensures at c.send_all.ensures) c.hear-told.ensures.made
-
-pub returns-in-Err-clause-made : goal.returns-in-Err-clause-made
-returns-in-Err-clause-made g c = nothing_missed _ _ _ _ c.in-Err.ensures.missed
