@@ -1,9 +1,9 @@
 -- A game's file by what was found in it, and the lines of a list that are entered so far.
-use Rattle.std.proofs.Common.{◌≡◌, ◌≢◌, ◌≤◌, ◌<◌, ◌+◌, ◌++◌, ℕ, Bool, true, false, List, [], ◌∷◌, Option, length, refl, sym, ap, subst, ◌∙◌, append_assoc, append-nil, inl, inr, arith}
-use Rattle.std.specs.Prelude.{◌&&◌, Result, Ok, Err, IfErr, IfOk, OnOk, Vec, codes}
+use Rattle.std.proofs.Common.{◌≡◌, ◌≢◌, ◌≤◌, ◌<◌, ◌+◌, ◌++◌, ◌⊎◌, ℕ, Bool, true, false, List, [], ◌∷◌, Option, length, refl, sym, ap, subst, ◌∙◌, append_assoc, append-nil, inl, inr, arith}
+use Rattle.std.specs.Prelude.{◌&&◌, Result, Ok, Err, IfErr, IfOk, OnOk, Vec, codes, take}
 use Rattle.std.specs.Global.{Global}
 use Rattle.std.specs.Io.KnownBytes.{Appends}
-use Rattle.std.proofs.KnownBytes.{Appends-nil}
+use Rattle.std.proofs.KnownBytes.{Appends-nil, Appends-trans}
 use Rattle.std.proofs.lemmas.List.{map-append}
 use Rattle.move_msg.specs.TextLines.{ended, lines_in, text_of}
 use Rattle.move_msg.proofs.LineLaws.{more_lines}
@@ -13,11 +13,11 @@ use Rattle.system_io.specs.Inputs.{InputFacts}
 use Rattle.system_io.specs.Failures.{Risen}
 use Rattle.system_io.specs.KeptFiles.{IsOneOfFound, KeptFacts}
 use Rattle.system_io.specs.declared.reading.ReadFault.{ReadFault}
-use Rattle.line_teller.specs.ToldLines.{LineTold, WritesTold, all_told, refused_memory, words_told}
+use Rattle.line_teller.specs.ToldLines.{HasFront, LineTold, WritesTold, all_told, refused_memory, words_told}
 use Rattle.adjudicate_core.specs.declared.entering.KeepFault.{KeepFault}
 use Rattle.adjudicate_core.specs.declared.entering.KeepFault.TheVariants as keep
 use Rattle.adjudicate_core.specs.declared.entries.EntryFault.{EntryFault}
-use Rattle.adjudicate_core.specs.Enters.{ComesOf, EntersLine, EntersLines, Failed, HasList, HasText, HasTextAt, LacksGame, LacksText, LacksTextAt, Left, OfFile, OfInput, OverFile, Place, Put, PutsGames, told_of}
+use Rattle.adjudicate_core.specs.Enters.{ComesOf, CutsGames, CutsLine, EntersFirst, EntersLine, EntersLines, Failed, HasList, HasText, HasTextAt, LacksGame, LacksText, LacksTextAt, Left, OfFile, OfInput, OverFile, Place, Put, PutsAll, told_of}
 use Rattle.adjudicate_core.specs.Inside.Entering.{HasOver, LacksOver, Replaced, Same}
 use Rattle.adjudicate_core.specs.Listens.{Hosted}
 use Rattle.adjudicate_core.specs.Reply.{status_if}
@@ -61,9 +61,9 @@ file_list disk source path (Err fault) other h = tt
 -- ---- lines
 
 -- what came of a line is told
-pub line_told : {P F : Type 0} (p : Place P F) (number : ℕ) (line : List ℕ) (r : Result Stamp EntryFault) (old new : Option (List ℕ)) (done : Bool) → ComesOf p line r → Appends old new (ended (told_of number r).words) × (done ≡ (told_of number r).done) → WritesTold (EntersLine p number line) old new done
-line_told p number line r old new done comes h =
-    ((told_of number r).words, (r, comes, ap (λ (d : Bool). the_line (told_of number r).words d) h.1), h.0)
+pub line_told : {P F : Type 0} (p : Place P F) (number : ℕ) (line : List ℕ) (r : Result Stamp EntryFault) (old new : Option (List ℕ)) (done : Bool) → ComesOf p line r → Appends old new (ended (told_of number r).words) → done ≡ (told_of number r).done → WritesTold (EntersLine p number line) old new done
+line_told p number line r old new done comes wrote is =
+    ((told_of number r).words, (r, comes, ap (λ (d : Bool). the_line (told_of number r).words d) is), wrote)
   where
     the_line : List ℕ → Bool → LineTold
     the_line words d = record { words = words; done = d }
@@ -71,13 +71,14 @@ line_told p number line r old new done comes h =
 -- so many lines of a list are entered and told, and whatever comes of the rest comes of all of them then
 pub record EnteredSoFar {P F : Type 0} (p : Place P F) (all rest : List ℕ) (before : ℕ) (old now : Option (List ℕ)) (done : Bool) : Type 0 where
   pub told : List LineTold
+  pub first : (later : List LineTold) → EntersFirst p (before + 1) (lines_in rest) later → EntersFirst p 1 (lines_in all) (told ++ later)
   pub goes : (later : List LineTold) → EntersLines p (before + 1) (lines_in rest) later → EntersLines p 1 (lines_in all) (told ++ later)
   pub written : Appends old now (text_of (words_told told))
   pub is : (later : List LineTold) → all_told (told ++ later) ≡ (done && all_told later)
   pub room : before + length rest ≤ length all
 
 pub entered_none : {P F : Type 0} (p : Place P F) (all : List ℕ) (out : Option (List ℕ)) → EnteredSoFar p all all 0 out out true
-entered_none p all out = record { told = []; goes = λ later h. h; written = Appends-nil out; is = λ later. refl; room = omega arith }
+entered_none p all out = record { told = []; first = λ later h. h; goes = λ later h. h; written = Appends-nil out; is = λ later. refl; room = omega arith }
 
 written_more : (old mid new : Option (List ℕ)) (told : List LineTold) (one : LineTold) → Appends old mid (text_of (words_told told)) → Appends mid new (ended one.words) → Appends old new (text_of (words_told (told ++ one ∷ [])))
 written_more old mid new told one h wrote =
@@ -102,6 +103,7 @@ entered_more p all rest tail line before old mid new done is_entered both h cut 
     let again : (later : List LineTold) → (h.told ++ one ∷ []) ++ later ≡ h.told ++ one ∷ later = λ later. append_assoc h.told (one ∷ []) later in
     record {
       told = h.told ++ one ∷ [];
+      first = λ later k. subst (EntersFirst p 1 (lines_in all)) (sym (again later)) (h.first (one ∷ later) (subst (λ (ls : List (List ℕ)). EntersFirst p (before + 1) ls (one ∷ later)) (sym cut) (inl (enters, k))));
       goes = λ later k. subst (EntersLines p 1 (lines_in all)) (sym (again later)) (h.goes (one ∷ later) (subst (λ (ls : List (List ℕ)). EntersLines p (before + 1) ls (one ∷ later)) (sym cut) (inl (enters, k))));
       written = written_more old mid new h.told one h.written wrote;
       is = λ later. ap all_told (again later) ∙ h.is (one ∷ later) ∙ and_apart done is_entered (all_told later) ∙ ap (λ (b : Bool). b && all_told later) (sym e);
@@ -109,7 +111,7 @@ entered_more p all rest tail line before old mid new done is_entered both h cut 
     }
 
 -- no line is left
-pub entered_all : {P F : Type 0} (p : Place P F) (all rest : List ℕ) (before status : ℕ) (old new : Option (List ℕ)) (done : Bool) → EnteredSoFar p all rest before old new done → lines_in rest ≡ [] → status ≡ status_if done → PutsGames p (lines_in all) old new status
+pub entered_all : {P F : Type 0} (p : Place P F) (all rest : List ℕ) (before status : ℕ) (old new : Option (List ℕ)) (done : Bool) → EnteredSoFar p all rest before old new done → lines_in rest ≡ [] → status ≡ status_if done → PutsAll p (lines_in all) old new status
 entered_all p all rest before status old new done h none e =
     record {
       told = h.told;
@@ -119,7 +121,7 @@ entered_all p all rest before status old new done h none e =
     }
 
 -- memory was refused for the game of a line
-pub entered_cut : {P F : Type 0} (p : Place P F) (all rest tail line : List ℕ) (before : ℕ) (old mid new : Option (List ℕ)) (done : Bool) → EnteredSoFar p all rest before old mid done → lines_in rest ≡ line ∷ lines_in tail → LacksGame p line keep.OutOfMemory → Appends mid new (ended refused_memory) → PutsGames p (lines_in all) old new 1
+pub entered_cut : {P F : Type 0} (p : Place P F) (all rest tail line : List ℕ) (before : ℕ) (old mid new : Option (List ℕ)) (done : Bool) → EnteredSoFar p all rest before old mid done → lines_in rest ≡ line ∷ lines_in tail → LacksGame p line keep.OutOfMemory → Appends mid new (ended refused_memory) → PutsAll p (lines_in all) old new 1
 entered_cut p all rest tail line before old mid new done h cut lacks wrote =
     let one : LineTold = record { words = refused_memory; done = false } in
     record {
@@ -128,3 +130,21 @@ entered_cut p all rest tail line before old mid new done h cut lacks wrote =
       written = written_more old mid new h.told one h.written wrote;
       is = ap status_if (sym (h.is (one ∷ []) ∙ and_false done));
     }
+
+-- the writer failed at a line
+pub entered_front : {P F : Type 0} (p : Place P F) (all rest tail line : List ℕ) (before : ℕ) (old mid new : Option (List ℕ)) (done : Bool) → EnteredSoFar p all rest before old mid done → lines_in rest ≡ line ∷ lines_in tail → (t : LineTold) × (EntersLine p (before + 1) line t ⊎ CutsLine p line t) × HasFront mid new (ended t.words) → CutsGames p (lines_in all) old new
+entered_front p all rest tail line before old mid new done h cut (t, comes, (n, front)) = record {
+  told = h.told ++ t ∷ [];
+  enters = h.first (t ∷ []) (subst (λ (ls : List (List ℕ)). EntersFirst p (before + 1) ls (t ∷ [])) (sym cut) (one comes));
+  written = record {
+    earlier = words_told h.told;
+    last = t.words;
+    front = n;
+    all = map-append (λ (t : LineTold). t.words) h.told (t ∷ []);
+    written = Appends-trans old mid new (text_of (words_told h.told)) (take n (ended t.words)) h.written front;
+  };
+}
+  where
+    one : EntersLine p (before + 1) line t ⊎ CutsLine p line t → (EntersLine p (before + 1) line t × Unit {0}) ⊎ (CutsLine p line t × (◌≡◌ {A = List LineTold} [] []))
+    one (inl enters) = inl (enters, tt)
+    one (inr cuts) = inr (cuts, refl)

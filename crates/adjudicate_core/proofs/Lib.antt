@@ -22,3 +22,4 @@ pub mod EntryLaws
 pub mod RootLines
 pub mod JsonLaws
 pub mod MakeLaws
+pub mod GoneLaws

@@ -11,20 +11,20 @@ use Rattle.adjudicate_core.specs.Hostings as hosting
 use Rattle.adjudicate_core.specs.Lines.{refusal_words}
 use Rattle.adjudicate_core.specs.Listens as listening
 use Rattle.adjudicate_core.specs.Locks.{IsBarred, games_lock, kept_lock}
-use Rattle.adjudicate_core.specs.Telling.{TellsIf}
+use Rattle.adjudicate_core.specs.Telling.{TellsOne}
 use Rattle.adjudicate_core.specs.declared.commands.host.HostGames.{HostGames}
 use Rattle.adjudicate_core.specs.declared.commands.listen.Listen.{Listen}
 use Rattle.adjudicate_core.specs.declared.refusals.Refusal.{Refusal}
 
-told_as : (why is : Refusal) (old new : Option (List ℕ)) (r : Result ℕ WriteFault) → why ≡ is → TellsIf (refusal_words why) old new r → TellsIf (refusal_words is) old new r
-told_as why is old new r same told = subst (λ (x : Refusal). TellsIf (refusal_words x) old new r) same told
+told_as : (why is : Refusal) (old new : Option (List ℕ)) (r : Result ℕ WriteFault) → why ≡ is → TellsOne (refusal_words why) old new r → TellsOne (refusal_words is) old new r
+told_as why is old new r same told = subst (λ (x : Refusal). TellsOne (refusal_words x) old new r) same told
 
-pub unhosted : {P F T : Type 0} (host : listening.Hosted P F) (seen : hosting.Seen T) (h : HostGames) (t : CommonView) (had has : Option (List Made)) (old new : T) (r : Result ℕ WriteFault) (why : Refusal) → Passes had has [] → IsBarred host.host (games_lock h.games.now) why → TellsIf (refusal_words why) (seen.written old) (seen.written new) r → hosting.LocksAndHosts host seen h t had has old new r
+pub unhosted : {P F T : Type 0} (host : listening.Hosted P F) (seen : hosting.Seen T) (h : HostGames) (t : CommonView) (had has : Option (List Made)) (old new : T) (r : Result ℕ WriteFault) (why : Refusal) → Passes had has [] → IsBarred host.host (games_lock h.games.now) why → TellsOne (refusal_words why) (seen.written old) (seen.written new) r → hosting.LocksAndHosts host seen h t had has old new r
 unhosted host seen h t had has old new r why made (inl (is, held)) told = hosting.InUse made held (told_as why _ _ _ r is told)
 unhosted host seen h t had has old new r why made (inr (inl (is, failed))) told = hosting.NoLock made failed (told_as why _ _ _ r is told)
 unhosted host seen h t had has old new r why made (inr (inr is)) told = hosting.NoRoomToLock made (told_as why _ _ _ r is told)
 
-pub unserved : {P F : Type 0} (host : listening.Hosted P F) (S : listening.ServesBy F) (l : Listen) (setup : SetupView) (had has : Option (List Made)) (port port' : PortFacts) (old new : Option (List ℕ)) (r : Result ℕ WriteFault) (why : Refusal) → Passes had has [] → IsBarred host.host (kept_lock l.kept.now) why → Passed port port' [] → TellsIf (refusal_words why) old new r → listening.ServesAt host S l setup had has port port' old new r
+pub unserved : {P F : Type 0} (host : listening.Hosted P F) (S : listening.ServesBy F) (l : Listen) (setup : SetupView) (had has : Option (List Made)) (port port' : PortFacts) (old new : Option (List ℕ)) (r : Result ℕ WriteFault) (why : Refusal) → Passes had has [] → IsBarred host.host (kept_lock l.kept.now) why → Passed port port' [] → TellsOne (refusal_words why) old new r → listening.ServesAt host S l setup had has port port' old new r
 unserved host S l setup had has port port' old new r why made (inl (is, held)) nothing told = listening.InUse made held nothing (told_as why _ _ _ r is told)
 unserved host S l setup had has port port' old new r why made (inr (inl (is, failed))) nothing told = listening.NoLock made failed nothing (told_as why _ _ _ r is told)
 unserved host S l setup had has port port' old new r why made (inr (inr is)) nothing told = listening.NoRoomToLock made nothing (told_as why _ _ _ r is told)

@@ -1,5 +1,5 @@
 -- What a task makes, from what it comes to.
-use Rattle.std.proofs.Common.{◌≡◌, ◌++◌, ℕ, List, [], ◌∷◌, Option, refl, ap, inl, inr, subst, sym, append_assoc, append-nil}
+use Rattle.std.proofs.Common.{◌≡◌, ◌++◌, ℕ, List, [], ◌∷◌, map, Option, refl, ap, inl, inr, subst, sym, append_assoc, append-nil}
 use Rattle.std.specs.Prelude.{Result, Ok, Err, ◌⊎◌}
 use Rattle.std.specs.List.{AllByRecursion}
 use Rattle.system_io.specs.Disks.{DiskFacts}
@@ -13,10 +13,10 @@ use Rattle.arbiter_core.specs.Setups.{SetupView}
 use Rattle.board_core.specs.declared.parts.Parts.{Parts}
 use Rattle.move_msg.specs.declared.stamp.Stamp.{Stamp}
 use Rattle.arbiter_server.specs.GameFiles.{Told}
+use Rattle.arbiter_server.specs.Folders.{MakesOnce}
 use Rattle.arbiter_server.specs.GameFolders.{stamp_for}
 use Rattle.move_msg.specs.TextLines.{lines_in}
 use Rattle.arbiter_server.specs.Games.{CommonView}
-use Rattle.arbiter_server.specs.Makings.{AreMadeFor, IsMadeFor, MakesOnce, MakesWhile}
 use Rattle.source_core.specs.declared.lines.Ended.{Ended}
 use Rattle.task_files.specs.Given.{Given}
 use Rattle.adjudicate_core.specs.Hostings as hosting
@@ -133,17 +133,9 @@ all_join : (games : List ℕ) (a b : List Made) → AllByRecursion (IsRecordIn g
 all_join games [] b all rest = rest
 all_join games (x ∷ a) b all rest = (all.0, all_join games a b all.1 rest)
 
-one_record : (h : HostGames) (datagram : List ℕ) (more : List Made) → IsMadeFor (hosting.record_of h) datagram more → AllByRecursion (IsRecordIn h.games.now) more
-one_record h datagram more (inl none) = subst (AllByRecursion (IsRecordIn h.games.now)) (sym none) tt
-one_record h datagram more (inr (stamp, names, opens, is)) = subst (AllByRecursion (IsRecordIn h.games.now)) (sym is) ((stamp, refl), tt)
-
-all_records : (h : HostGames) (passing : List Passing) (more : List Made) → AreMadeFor (hosting.record_of h) passing more → AllByRecursion (IsRecordIn h.games.now) more
-all_records h [] more none = subst (AllByRecursion (IsRecordIn h.games.now)) (sym none) tt
-all_records h (Came datagram ∷ passing) more (first, rest, is, all, others) =
-    subst (AllByRecursion (IsRecordIn h.games.now)) (sym all) (all_join h.games.now first rest (one_record h datagram first is) (all_records h passing rest others))
-all_records h (Quiet ∷ passing) more others = all_records h passing more others
-all_records h (Missed ∷ passing) more others = all_records h passing more others
-all_records h (Handed to bytes ∷ passing) more others = all_records h passing more others
+all_records : (h : HostGames) (taken : List (List ℕ)) → AllByRecursion (IsRecordIn h.games.now) (map (hosting.record_of h) taken)
+all_records h [] = tt
+all_records h (stamp ∷ taken) = ((stamp, refl), all_records h taken)
 
 -- some first things, and files of records behind them
 abbrev Hosting : HostGames → List Made → Option (List Made) → Option (List Made) → Type 0
@@ -156,17 +148,19 @@ hosts_more : (h : HostGames) (before : List Made) (made : Made) (had between has
 hosts_more h before made had between has one (more, passes, inl (rest, is)) = (made ∷ more, Passes-trans had between has (made ∷ []) more one passes, inl (rest, ap (λ (l : List Made). made ∷ l) is))
 hosts_more h before made had between has one (more, passes, inr (later, is, all)) = (made ∷ more, Passes-trans had between has (made ∷ []) more one passes, inr (later, ap (λ (l : List Made). made ∷ l) is, all))
 
-records_made : (h : HostGames) (port port' : PortFacts) (had has : Option (List Made)) → MakesWhile (hosting.record_of h) port port' had has → Hosting h [] had has
-records_made h port port' had has (more, while, passes) = (more, passes, inr (more, refl, all_records h while.passing more while.are))
+records_made : (h : HostGames) (taken : List (List ℕ)) (had has : Option (List Made)) → Passes had has (map (hosting.record_of h) taken) → Hosting h [] had has
+records_made h taken had has passes = (map (hosting.record_of h) taken, passes, inr (map (hosting.record_of h) taken, refl, all_records h taken))
 
-records_twice : (h : HostGames) (port when port' : PortFacts) (had between has : Option (List Made)) → MakesWhile (hosting.record_of h) port when had between → MakesWhile (hosting.record_of h) when port' between has → Hosting h [] had has
-records_twice h port when port' had between has (first, one, passes) (later, two, goes) =
-    (first ++ later, Passes-trans had between has first later passes goes, inr (first ++ later, refl, all_join h.games.now first later (all_records h one.passing first one.are) (all_records h two.passing later two.are)))
+records_twice : (h : HostGames) (first later : List (List ℕ)) (had between has : Option (List Made)) → Passes had between (map (hosting.record_of h) first) → Passes between has (map (hosting.record_of h) later) → Hosting h [] had has
+records_twice h first later had between has passes goes =
+    let one = map (hosting.record_of h) first in
+    let two = map (hosting.record_of h) later in
+    (one ++ two, Passes-trans had between has one two passes goes, inr (one ++ two, refl, all_join h.games.now one two (all_records h first) (all_records h later)))
 
 module _ {P F T : Type 0} (host : listening.Hosted P F) (seen : hosting.Seen T) (h : HostGames) (has : Option (List Made)) (r : Result ℕ WriteFault) where
   now_hosts : (t : CommonView) (had : Option (List Made)) (port port' : PortFacts) (old new : T) → hosting.HostsNow seen h t had has port port' old new r → Hosting h [] had has
-  now_hosts t had port port' old new (hosting.Served only made run) = records_made h port port' had has made
-  now_hosts t had port port' old new (hosting.Unlogged so between when mid fault made run more rest) = records_twice h port when port' had between has made more
+  now_hosts t had port port' old new (hosting.Served only taken made run) = records_made h taken had has made
+  now_hosts t had port port' old new (hosting.Unlogged so between when mid fault first later made run more rest) = records_twice h first later had between has made more
   now_hosts t had port port' old new (hosting.NoRoomForGames made same told) = hosts_none h [] had has made
 
   at_hosts : (t : CommonView) (had : Option (List Made)) (port : P) (port' : PortFacts) (old new : T) → hosting.HostsAt host seen h t had has port port' old new r → Hosting h [] had has

@@ -1,7 +1,7 @@
 -- A stream that is shown message by message.
 use Rattle.std.proofs.Common.{◌≡◌, ℕ, ◌+◌, ◌≤◌, List, [], ◌∷◌, ◌++◌, length, map, Option, codes, refl, sym, ap, ap₂, subst, ◌∙◌, arith}
 use Rattle.std.specs.Io.KnownBytes.{Appends}
-use Rattle.std.proofs.KnownBytes.{Appends-nil}
+use Rattle.std.proofs.KnownBytes.{Appends-nil, Appends-trans}
 use Rattle.std.proofs.lemmas.List.{length-append, map-append}
 use Rattle.move_msg.specs.declared.message.Message.{Message}
 use Rattle.move_msg.specs.declared.message.MessageFault.{MessageFault}
@@ -10,8 +10,13 @@ use Rattle.move_msg.specs.Streams.{BeginsBy, EndsSo, AfterMessage, Cut, AtFault}
 use Rattle.move_msg.specs.TextLines.{ended, text_of}
 use Rattle.move_msg.specs.MessageWords.{message_words}
 use Rattle.adjudicate_core.specs.Lines.{refused_message}
-use Rattle.adjudicate_core.specs.Commands.Show.{IsShown, shown}
-use Rattle.adjudicate_core.specs.Reply.{Reply, WritesReply}
+use Rattle.adjudicate_core.specs.Commands.Show.{AtEnd, AtMessage, CutsShown, IsShown, Shows, shown}
+use Rattle.adjudicate_core.specs.Reply.{Reply}
+use Rattle.adjudicate_core.specs.Telling.{TellsOne}
+use Rattle.line_teller.specs.ToldLines.{HasFront}
+use Rattle.line_teller.proofs.FrontLaws.{front_of_lines}
+use Rattle.std.specs.Prelude.{Result, Ok, Err, take}
+use Rattle.system_io.specs.declared.output.WriteFault.{WriteFault}
 use Rattle.move_msg.proofs.LineLaws.{more_lines}
 
 -- the lines of some messages were written, and the rest of the stream is left
@@ -46,22 +51,39 @@ shows_more stream rest tail text m old mid new number h whole e s line =
       written = subst (λ (lines : List (List ℕ)). Appends old new (text_of lines)) (sym (map-append message_words h.done (m ∷ []))) (more_lines old mid new (map message_words h.done) (message_words m) h.written line);
     }
 
--- the stream ends after a message
-pub shown_whole : (stream rest : List ℕ) (old new : Option (List ℕ)) (number : ℕ) → HasShown stream rest old new number → EndsSo rest AfterMessage → (r : Reply) × IsShown stream r × WritesReply old new r 0
-shown_whole stream rest old new number h end =
-    (shown h.done AfterMessage, (h.done, AfterMessage, record { rest = rest; messages = h.begins; ending = end }, refl), (h.written, refl))
+-- the writer failed at a message
+pub shown_front : (stream rest tail text : List ℕ) (m : Message) (old mid new : Option (List ℕ)) (number : ℕ) → HasShown stream rest old mid number → rest ≡ text ++ tail → SpellsMessage text m → HasFront mid new (ended (message_words m)) → CutsShown stream old new
+shown_front stream rest tail text m old mid new number h e s (n, cut) =
+    AtMessage h.done m tail (begins_more stream h.done rest text tail m h.begins e s) (n, Appends-trans old mid new (text_of (map message_words h.done)) (take n (ended (message_words m))) h.written cut)
 
-refused_lines : (stream rest : List ℕ) (old mid new : Option (List ℕ)) (number : ℕ) (name named : List ℕ) → (h : HasShown stream rest old mid number) → named ≡ name → Appends mid new (ended (refused_message number named)) → Appends old new (text_of (map message_words h.done ++ refused_message (length h.done + 1) name ∷ []))
-refused_lines stream rest old mid new number name named h is line =
-    let same : refused_message number named ≡ refused_message (length h.done + 1) name = ap₂ refused_message h.next is in
-    more_lines old mid new (map message_words h.done) (refused_message (length h.done + 1) name) h.written (subst (λ (l : List ℕ). Appends mid new (ended l)) same line)
+-- the stream ends after a message
+pub shown_whole : (stream rest : List ℕ) (old new : Option (List ℕ)) (number : ℕ) → HasShown stream rest old new number → EndsSo rest AfterMessage → (r : Reply) × IsShown stream r × Appends old new r.text × (0 ≡ r.status)
+shown_whole stream rest old new number h end =
+    (shown h.done AfterMessage, (h.done, AfterMessage, record { rest = rest; messages = h.begins; ending = end }, refl), h.written, refl)
+
+-- or with a refusal, which is told
+refused_so : (stream rest : List ℕ) (old mid new : Option (List ℕ)) (number : ℕ) (r : Result ℕ WriteFault) (name named : List ℕ) (reply : Reply) → (h : HasShown stream rest old mid number) → named ≡ name → reply ≡ record { text = text_of (map message_words h.done ++ refused_message (length h.done + 1) name ∷ []); status = 1 } → IsShown stream reply
+    → TellsOne (refused_message number named) mid new r → Shows stream old new r
+refused_so stream rest old mid new number r name named reply h is made are told = by_result r (subst (λ (l : List ℕ). TellsOne l mid new r) same told)
+  where
+    same : refused_message number named ≡ refused_message (length h.done + 1) name
+    same = ap₂ refused_message h.next is
+
+    by_result : (r : Result ℕ WriteFault) → TellsOne (refused_message (length h.done + 1) name) mid new r → Shows stream old new r
+    by_result (Ok status) (wrote, one) = (
+      reply,
+      are,
+      subst (λ (q : Reply). Appends old new q.text) (sym made) (more_lines old mid new (map message_words h.done) (refused_message (length h.done + 1) name) h.written wrote),
+      one ∙ ap (λ (q : Reply). q.status) (sym made),
+    )
+    by_result (Err fault) front = AtEnd reply are (subst (λ (q : Reply). HasFront old new q.text) (sym made) (front_of_lines old mid new (map message_words h.done) (refused_message (length h.done + 1) name) h.written front))
 
 -- it ends inside a message
-pub shown_cut : (stream rest : List ℕ) (old mid new : Option (List ℕ)) (number status : ℕ) (named : List ℕ) → HasShown stream rest old mid number → EndsSo rest Cut → named ≡ codes "Cut" → Appends mid new (ended (refused_message number named)) × (status ≡ 1) → (r : Reply) × IsShown stream r × WritesReply old new r status
-shown_cut stream rest old mid new number status named h end is line =
-    (shown h.done Cut, (h.done, Cut, record { rest = rest; messages = h.begins; ending = end }, refl), (refused_lines stream rest old mid new number (codes "Cut") named h is line.0, line.1))
+pub shown_cut : (stream rest : List ℕ) (old mid new : Option (List ℕ)) (number : ℕ) (r : Result ℕ WriteFault) (named : List ℕ) → HasShown stream rest old mid number → EndsSo rest Cut → named ≡ codes "Cut" → TellsOne (refused_message number named) mid new r → Shows stream old new r
+shown_cut stream rest old mid new number r named h end is told =
+    refused_so stream rest old mid new number r (codes "Cut") named (shown h.done Cut) h is refl (h.done, Cut, record { rest = rest; messages = h.begins; ending = end }, refl) told
 
 -- or at a fault
-pub shown_fault : (stream rest : List ℕ) (old mid new : Option (List ℕ)) (number status : ℕ) (fault : MessageFault) (named : List ℕ) → HasShown stream rest old mid number → EndsSo rest (AtFault fault) → named ≡ fault_name fault → Appends mid new (ended (refused_message number named)) × (status ≡ 1) → (r : Reply) × IsShown stream r × WritesReply old new r status
-shown_fault stream rest old mid new number status fault named h end is line =
-    (shown h.done (AtFault fault), (h.done, AtFault fault, record { rest = rest; messages = h.begins; ending = end }, refl), (refused_lines stream rest old mid new number (fault_name fault) named h is line.0, line.1))
+pub shown_fault : (stream rest : List ℕ) (old mid new : Option (List ℕ)) (number : ℕ) (r : Result ℕ WriteFault) (fault : MessageFault) (named : List ℕ) → HasShown stream rest old mid number → EndsSo rest (AtFault fault) → named ≡ fault_name fault → TellsOne (refused_message number named) mid new r → Shows stream old new r
+shown_fault stream rest old mid new number r fault named h end is told =
+    refused_so stream rest old mid new number r (fault_name fault) named (shown h.done (AtFault fault)) h is refl (h.done, AtFault fault, record { rest = rest; messages = h.begins; ending = end }, refl) told

@@ -1,5 +1,5 @@
 -- What `enter` makes of its words and of what it reads (this project's own).
-use Rattle.std.specs.Prelude.{◌≡◌, ◌≢◌, ◌⊎◌, ◌+◌, ◌++◌, ℕ, true, false, List, [], ◌∷◌, Option, Some, Result, Ok, Err, IfOk, codes, option_map}
+use Rattle.std.specs.Prelude.{◌≡◌, ◌≢◌, ◌⊎◌, ◌+◌, ◌++◌, ℕ, true, false, List, [], ◌∷◌, Option, Some, Result, Ok, Err, codes, option_map}
 use Rattle.std.specs.Io.KnownBytes.{Appends}
 use Rattle.hex.specs.Hex.{encode_lower}
 use Rattle.board_core.specs.declared.parts.Parts.{Parts}
@@ -18,7 +18,7 @@ use Rattle.system_io.specs.Inputs.{InputFacts}
 use Rattle.system_io.specs.KeptFiles.{CannotStart, FindsOldOrNew, IsOneOfFound, KeptFacts}
 use Rattle.arbiter_server.specs.GameFolders.{game_path, stamp_for}
 use Rattle.arbiter_server.specs.GameFiles.{SpellsGame, Told, told}
-use Rattle.arbiter_server.specs.Makings.{MakesOnce}
+use Rattle.arbiter_server.specs.Folders.{MakesOnce}
 use Rattle.arbiter_server.specs.ServedLines.{refused_keeper}
 use Rattle.line_teller.specs.ToldLines.{LineTold, all_told, refused_files, refused_memory, words_told}
 use Rattle.adjudicate_core.specs.declared.commands.enter.Enter.{Enter}
@@ -34,7 +34,8 @@ use Rattle.adjudicate_core.specs.Lines.{refused_entry, refused_fen}
 use Rattle.adjudicate_core.specs.Listens.{Hosted}
 use Rattle.adjudicate_core.specs.Manifests.{IsManifestOf, LacksManifest}
 use Rattle.adjudicate_core.specs.Reply.{IsText, status_if}
-use Rattle.adjudicate_core.specs.Telling.{TellsIf}
+use Rattle.adjudicate_core.specs.Telling.{TellsOne, TellsText}
+use Rattle.source_core.specs.Lines.{IsCut}
 
 -- where games are entered: the host of their files, the folder, and the manifest by which they are stamped
 pub record Place (P F : Type 0) : Type 1 where
@@ -98,21 +99,21 @@ keep_fault_words keep.OutOfMemory = refused_memory
 abbrev pub game_of : OneGame → Parts → Told
 game_of g start = told g.name start g.delay
 
--- the stamp is the one line, in lower-case hexadecimal digits, where it could be written, and all is done
+-- the stamp is the one line, in lower-case hexadecimal digits, and all is done
 abbrev pub TellsStamp : List ℕ → Option (List ℕ) → Option (List ℕ) → Result ℕ WriteFault → Type 0
-TellsStamp stamp old new r = IfOk r (λ status. Appends old new (ended (encode_lower stamp)) × (status ≡ 0))
+TellsStamp stamp old new r = TellsText (ended (encode_lower stamp)) 0 old new r
 
 -- it is entered, and its stamp is told; or it isn't, and that is told. At the host its file is opened, or nothing.
 pub data PutsGame {P F : Type 0} (p : Place P F) (g : Told) (had has : Option (List Made)) (old new : Option (List ℕ)) (r : Result ℕ WriteFault) : Type 0 where
   Kept : MakesOnce had has (file_of_game p g) → (stamp : List ℕ) → IsEntered p g stamp → TellsStamp stamp old new r → PutsGame p g had has old new r
-  Unkept : MakesOnce had has (file_of_game p g) → (fault : KeepFault) → IsUnentered p g fault → TellsIf (keep_fault_words fault) old new r → PutsGame p g had has old new r
+  Unkept : MakesOnce had has (file_of_game p g) → (fault : KeepFault) → IsUnentered p g fault → TellsOne (keep_fault_words fault) old new r → PutsGame p g had has old new r
 
 -- entering: the text of the start is no position; or else there is no manifest; or else the text of the game is kept in the folder
 -- under the stamp of the game by that manifest
 pub data EntersOne {P F : Type 0} (disk : DiskFacts) (host : Hosted P F) (t : Enter) (g : OneGame) (had has : Option (List Made)) (old new : Option (List ℕ)) (r : Result ℕ WriteFault) : Type 0 where
-  BadStart : Passes had has [] → (fault : FenFault) → IsFirstFenFault g.start.now fault → TellsIf (refused_fen fault) old new r → EntersOne disk host t g had has old new r
-  NoManifest : Passes had has [] → IsText g.start.now → (words : List ℕ) → LacksManifest disk (option_map (λ s. s.now) t.manifest) t.tables.now words → TellsIf words old new r → EntersOne disk host t g had has old new r
-  NoRoom : Passes had has [] → IsText g.start.now → TellsIf refused_memory old new r → EntersOne disk host t g had has old new r
+  BadStart : Passes had has [] → (fault : FenFault) → IsFirstFenFault g.start.now fault → TellsOne (refused_fen fault) old new r → EntersOne disk host t g had has old new r
+  NoManifest : Passes had has [] → IsText g.start.now → (words : List ℕ) → LacksManifest disk (option_map (λ s. s.now) t.manifest) t.tables.now words → TellsOne words old new r → EntersOne disk host t g had has old new r
+  NoRoom : Passes had has [] → IsText g.start.now → TellsOne refused_memory old new r → EntersOne disk host t g had has old new r
   Entered : (start : Parts) → SpellsPosition g.start.now start → IsPosition start → (manifest : List ℕ) → IsManifestOf disk (option_map (λ s. s.now) t.manifest) t.tables.now manifest → PutsGame (place host t.games.now manifest) (game_of g start) had has old new r → EntersOne disk host t g had has old new r
 
 -- ---- the games of a list
@@ -145,12 +146,29 @@ EntersLines p number (line ∷ lines) [] = ⊥
 EntersLines p number (line ∷ lines) (t ∷ told) =
     (EntersLine p number line t × EntersLines p (number + 1) lines told) ⊎ (CutsLine p line t × (told ≡ []))
 
+-- so for the first lines
+abbrev pub EntersFirst : {P F : Type 0} → Place P F → ℕ → List (List ℕ) → List LineTold → Type 0
+EntersFirst p number lines [] = Unit {0}
+EntersFirst p number [] (t ∷ told) = ⊥
+EntersFirst p number (line ∷ lines) (t ∷ told) =
+    (EntersLine p number line t × EntersFirst p (number + 1) lines told) ⊎ (CutsLine p line t × (told ≡ []))
+
 -- what came of each line was written, and the status is 0 only where all games are entered
-pub record PutsGames {P F : Type 0} (p : Place P F) (lines : List (List ℕ)) (old new : Option (List ℕ)) (status : ℕ) : Type 0 where
+pub record PutsAll {P F : Type 0} (p : Place P F) (lines : List (List ℕ)) (old new : Option (List ℕ)) (status : ℕ) : Type 0 where
   pub told : List LineTold
   pub enters : EntersLines p 1 lines told
   pub written : Appends old new (text_of (words_told told))
   pub is : status ≡ status_if (all_told told)
+
+-- the writer failed at one of the lines: what came of those before it was written, and of it a front
+pub record CutsGames {P F : Type 0} (p : Place P F) (lines : List (List ℕ)) (old new : Option (List ℕ)) : Type 0 where
+  pub told : List LineTold
+  pub enters : EntersFirst p 1 lines told
+  pub written : IsCut (words_told told) old new
+
+abbrev pub PutsGames : {P F : Type 0} → Place P F → List (List ℕ) → Option (List ℕ) → Option (List ℕ) → Result ℕ WriteFault → Type 0
+PutsGames p lines old new (Ok status) = PutsAll p lines old new status
+PutsGames p lines old new (Err fault) = CutsGames p lines old new
 
 -- at the host the file of the game of a line is opened, or nothing; nothing for a line that spells none
 abbrev pub IsMadeForLine : {P F : Type 0} → Place P F → List ℕ → List Made → Type 0
@@ -166,9 +184,9 @@ MakesForLines p lines had has = (more : List Made) × Passes had has more × Are
 
 -- there is no manifest, for which memory may be refused too; or the games of the lines of the text are entered by it
 pub data EntersList {P F : Type 0} (disk : DiskFacts) (host : Hosted P F) (t : Enter) (text : List ℕ) (had has : Option (List Made)) (old new : Option (List ℕ)) (r : Result ℕ WriteFault) : Type 0 where
-  Unstamped : Passes had has [] → (words : List ℕ) → LacksManifest disk (option_map (λ s. s.now) t.manifest) t.tables.now words → TellsIf words old new r → EntersList disk host t text had has old new r
-  NoRoomForManifest : Passes had has [] → TellsIf refused_memory old new r → EntersList disk host t text had has old new r
-  Listed : (manifest : List ℕ) → IsManifestOf disk (option_map (λ s. s.now) t.manifest) t.tables.now manifest → MakesForLines (place host t.games.now manifest) (lines_in text) had has → IfOk r (PutsGames (place host t.games.now manifest) (lines_in text) old new) → EntersList disk host t text had has old new r
+  Unstamped : Passes had has [] → (words : List ℕ) → LacksManifest disk (option_map (λ s. s.now) t.manifest) t.tables.now words → TellsOne words old new r → EntersList disk host t text had has old new r
+  NoRoomForManifest : Passes had has [] → TellsOne refused_memory old new r → EntersList disk host t text had has old new r
+  Listed : (manifest : List ℕ) → IsManifestOf disk (option_map (λ s. s.now) t.manifest) t.tables.now manifest → MakesForLines (place host t.games.now manifest) (lines_in text) had has → PutsGames (place host t.games.now manifest) (lines_in text) old new r → EntersList disk host t text had has old new r
 
 -- the list is what the input gives where the path is `-`, and else what the file has
 pub data HasList (disk : DiskFacts) (source : InputFacts) (path text : List ℕ) : Type 0 where
@@ -181,8 +199,8 @@ pub data LacksList (disk : DiskFacts) (source : InputFacts) (path : List ℕ) : 
   NoFile : path ≢ codes "-" → disk.fails (AtFile path) → LacksList disk source path
 
 pub data EntersFrom {P F : Type 0} (disk : DiskFacts) (source : InputFacts) (host : Hosted P F) (t : Enter) (path : List ℕ) (had has : Option (List Made)) (old new : Option (List ℕ)) (r : Result ℕ WriteFault) : Type 0 where
-  NoList : Passes had has [] → LacksList disk source path → TellsIf refused_files old new r → EntersFrom disk source host t path had has old new r
-  NoRoomForList : Passes had has [] → TellsIf refused_memory old new r → EntersFrom disk source host t path had has old new r
+  NoList : Passes had has [] → LacksList disk source path → TellsOne refused_files old new r → EntersFrom disk source host t path had has old new r
+  NoRoomForList : Passes had has [] → TellsOne refused_memory old new r → EntersFrom disk source host t path had has old new r
   OfList : (text : List ℕ) → HasList disk source path text → EntersList disk host t text had has old new r → EntersFrom disk source host t path had has old new r
 
 -- ---- one or the other

@@ -31,15 +31,15 @@ use Rattle.system_io.specs.Histories.{Passes}
 use Rattle.system_io.specs.Hosts.{FileAt, HostFacts, LockAt, Made, PortAt}
 use Rattle.system_io.specs.declared.output.WriteFault.{WriteFault}
 use Rattle.arbiter_server.specs.ServedLines.{refused_keeper, refused_port}
-use Rattle.line_teller.specs.ToldLines.{refused_memory}
+use Rattle.line_teller.specs.ToldLines.{HasFront, refused_memory}
 use Rattle.adjudicate_core.specs.Lines.{ready_words, refused_fen, refused_in_use}
 use Rattle.adjudicate_core.specs.Locks.{kept_lock}
 use Rattle.adjudicate_core.specs.Looks.{gathered}
 use Rattle.system_io.specs.Ports.{Passed, PortFacts}
-use Rattle.arbiter_server.specs.Serving.{Scene, scene}
+use Rattle.arbiter_server.specs.Serving.{Scene, lines_of, scene}
 use Rattle.adjudicate_core.specs.Reply.{IsText}
 use Rattle.arbiter_server.specs.StoredBytes.{CannotKeep, StartsOver, keeper_over}
-use Rattle.adjudicate_core.specs.Telling.{TellsIf}
+use Rattle.adjudicate_core.specs.Telling.{TellsOne, WritesTo}
 
 -- the setup of the arbiter
 abbrev pub setup_for : Listen → Parts → Holding → List ℕ → SetupView
@@ -47,11 +47,11 @@ setup_for l start set manifest = record { name = l.name; start = start; manifest
 
 -- what is told where no arbiter is opened
 abbrev pub TellsUnopened : OpenFault → Option (List ℕ) → Option (List ℕ) → Result ℕ WriteFault → Type 0
-TellsUnopened BadSetup old new r = TellsIf refused_keeper old new r
-TellsUnopened KeeperFailed old new r = TellsIf refused_keeper old new r
-TellsUnopened BadRecord old new r = TellsIf refused_keeper old new r
-TellsUnopened OtherStamp old new r = TellsIf refused_keeper old new r
-TellsUnopened OutOfMemory old new r = TellsIf refused_memory old new r
+TellsUnopened BadSetup old new r = TellsOne refused_keeper old new r
+TellsUnopened KeeperFailed old new r = TellsOne refused_keeper old new r
+TellsUnopened BadRecord old new r = TellsOne refused_keeper old new r
+TellsUnopened OtherStamp old new r = TellsOne refused_keeper old new r
+TellsUnopened OutOfMemory old new r = TellsOne refused_memory old new r
 
 -- ---- serving
 
@@ -59,9 +59,13 @@ TellsUnopened OutOfMemory old new r = TellsIf refused_memory old new r
 abbrev pub ServesBy : Type 0 → Type 1
 ServesBy F = SetupView → ℕ → Bool → Scene (FileKeeper F) → Scene (FileKeeper F) → Type 0
 
--- it serves so, up to this end
+-- it serves up to this end, and these are the lines that are written: where the writer failed, of the last a front
+pub record ServesTo {F : Type 0} (facts : F → KeptFacts) (setup : SetupView) (n : ℕ) (fetch : Bool) (old new : Scene (FileKeeper F)) (r : Result ℕ WriteFault) : Type 0 where
+  pub serves : ServesOpened facts setup n fetch old new r
+  pub lines : WritesTo (lines_of serves.run) old.written new.written r
+
 abbrev pub serving_to : {F : Type 0} → (F → KeptFacts) → Result ℕ WriteFault → ServesBy F
-serving_to facts r = λ setup n fetch old new. ServesOpened facts setup n fetch old new r
+serving_to facts r = λ setup n fetch old new. ServesTo facts setup n fetch old new r
 
 -- and each of its lines has gone out at the writer before the next comes; of the last a front at most, where the writer failed
 abbrev pub writing_to : {F W : Type 0} → (F → KeptFacts) → Writers W → W → W → Result ℕ WriteFault → ServesBy F
@@ -87,20 +91,20 @@ pub data OpensAndServes {F : Type 0} (facts : F → KeptFacts) (S : ServesBy F) 
 -- over the file in which the record is kept: it can't be brought to the disk or read; or an arbiter is opened over a keeper that
 -- started over this file, and so has stored one of any two that it said a start finds, and what every later start finds
 pub data KeepsAndServes {F : Type 0} (facts : F → KeptFacts) (S : ServesBy F) (l : Listen) (setup : SetupView) (file : F) (port port' : PortFacts) (old new : Option (List ℕ)) (r : Result ℕ WriteFault) : Type 0 where
-  Unreadable : CannotKeep (facts file) read.Unreadable → Passed port port' [] → TellsIf refused_keeper old new r → KeepsAndServes facts S l setup file port port' old new r
-  NoRoomToKeep : CannotKeep (facts file) read.OutOfMemory → Passed port port' [] → TellsIf refused_memory old new r → KeepsAndServes facts S l setup file port port' old new r
+  Unreadable : CannotKeep (facts file) read.Unreadable → Passed port port' [] → TellsOne refused_keeper old new r → KeepsAndServes facts S l setup file port port' old new r
+  NoRoomToKeep : CannotKeep (facts file) read.OutOfMemory → Passed port port' [] → TellsOne refused_memory old new r → KeepsAndServes facts S l setup file port port' old new r
   Kept : (keeper after : FileKeeper F) → StartsOver facts file keeper → OpensAndServes facts S l setup (scene keeper port old) (scene after port' new) r → KeepsAndServes facts S l setup file port port' old new r
 
 -- at a port, over the file at the path of the words
 pub data ServesLocked {P F : Type 0} (host : Hosted P F) (S : ServesBy F) (l : Listen) (setup : SetupView) (had has : Option (List Made)) (port port' : PortFacts) (old new : Option (List ℕ)) (r : Result ℕ WriteFault) : Type 0 where
   AtFile : Passes had has (FileAt l.kept.now ∷ []) → (file : F) → host.host.is_at l.kept.now file → KeepsAndServes host.file S l setup file port port' old new r → ServesLocked host S l setup had has port port' old new r
-  NoRoomForFile : Passes had has [] → host.host.takes_memory l.kept.now → Passed port port' [] → TellsIf refused_memory old new r → ServesLocked host S l setup had has port port' old new r
+  NoRoomForFile : Passes had has [] → host.host.takes_memory l.kept.now → Passed port port' [] → TellsOne refused_memory old new r → ServesLocked host S l setup had has port port' old new r
 
 -- that file is another process's, or can't be locked; or it is locked, and what follows is under its lock
 pub data ServesAt {P F : Type 0} (host : Hosted P F) (S : ServesBy F) (l : Listen) (setup : SetupView) (had has : Option (List Made)) (port port' : PortFacts) (old new : Option (List ℕ)) (r : Result ℕ WriteFault) : Type 0 where
-  InUse : Passes had has [] → host.host.bars (kept_lock l.kept.now) lock.Held → Passed port port' [] → TellsIf refused_in_use old new r → ServesAt host S l setup had has port port' old new r
-  NoLock : Passes had has [] → host.host.bars (kept_lock l.kept.now) lock.Failed → Passed port port' [] → TellsIf refused_keeper old new r → ServesAt host S l setup had has port port' old new r
-  NoRoomToLock : Passes had has [] → Passed port port' [] → TellsIf refused_memory old new r → ServesAt host S l setup had has port port' old new r
+  InUse : Passes had has [] → host.host.bars (kept_lock l.kept.now) lock.Held → Passed port port' [] → TellsOne refused_in_use old new r → ServesAt host S l setup had has port port' old new r
+  NoLock : Passes had has [] → host.host.bars (kept_lock l.kept.now) lock.Failed → Passed port port' [] → TellsOne refused_keeper old new r → ServesAt host S l setup had has port port' old new r
+  NoRoomToLock : Passes had has [] → Passed port port' [] → TellsOne refused_memory old new r → ServesAt host S l setup had has port port' old new r
   Locked : (between : Option (List Made)) → Passes had between (LockAt (kept_lock l.kept.now) ∷ []) → host.host.gives_lock (kept_lock l.kept.now) → ServesLocked host S l setup between has port port' old new r → ServesAt host S l setup had has port port' old new r
 
 -- memory for binding is refused: by the host, or for a list of more than one address
@@ -125,7 +129,7 @@ pub record Seen (F T : Type 0) : Type 1 where
 
 -- by what is written
 abbrev pub seen_as : {F : Type 0} → (F → KeptFacts) → Result ℕ WriteFault → Seen F (Option (List ℕ))
-seen_as facts r = record { written = λ t. t; told = λ old line new. Appends old new (ended line); cut = λ old line new. Unit {0}; serves = λ old new. serving_to facts r }
+seen_as facts r = record { written = λ t. t; told = λ old line new. Appends old new (ended line); cut = λ old line new. HasFront old new (ended line); serves = λ old new. serving_to facts r }
 
 -- by the writer
 abbrev pub seen_by : {F W : Type 0} → (F → KeptFacts) → Writers W → Result ℕ WriteFault → Seen F W
@@ -135,23 +139,23 @@ seen_by facts w r = record { written = w.written; told = λ out line now. GoOut 
 -- that is cut short
 pub data StartsAt {P F T : Type 0} (host : Hosted P F) (seen : Seen F T) (l : Listen) (setup : SetupView) (had has : Option (List Made)) (port : P) (port' : PortFacts) (old new : T) (r : Result ℕ WriteFault) : Type 0 where
   Unasked : l.ready ≡ false → ServesAt host (seen.serves old new) l setup had has (host.port port) port' (seen.written old) (seen.written new) r → StartsAt host seen l setup had has port port' old new r
-  NoAddress : Passes had has [] → l.ready ≡ true → host.host.listens port None → Passed (host.port port) port' [] → TellsIf refused_port (seen.written old) (seen.written new) r → StartsAt host seen l setup had has port port' old new r
-  NoRoomForLine : Passes had has [] → l.ready ≡ true → Passed (host.port port) port' [] → TellsIf refused_memory (seen.written old) (seen.written new) r → StartsAt host seen l setup had has port port' old new r
+  NoAddress : Passes had has [] → l.ready ≡ true → host.host.listens port None → Passed (host.port port) port' [] → TellsOne refused_port (seen.written old) (seen.written new) r → StartsAt host seen l setup had has port port' old new r
+  NoRoomForLine : Passes had has [] → l.ready ≡ true → Passed (host.port port) port' [] → TellsOne refused_memory (seen.written old) (seen.written new) r → StartsAt host seen l setup had has port port' old new r
   Ready : l.ready ≡ true → (own : SocketAddr) → host.host.listens port (Some own) → (mid : T) → seen.told old (ready_words own) mid → ServesAt host (seen.serves mid new) l setup had has (host.port port) port' (seen.written mid) (seen.written new) r → StartsAt host seen l setup had has port port' old new r
   Unready : Passes had has [] → l.ready ≡ true → (own : SocketAddr) → host.host.listens port (Some own) → Passed (host.port port) port' [] → seen.cut old (ready_words own) new → (fault : WriteFault) → r ≡ Err fault → StartsAt host seen l setup had has port port' old new r
 
 -- with these tables: the port can't be bound; or it is, sends to each of the addresses, and the record is kept in the file at the path
 pub data BindsAndServes {P F T : Type 0} (host : Hosted P F) (seen : Seen F T) (l : Listen) (setup : SetupView) (had has : Option (List Made)) (old new : T) (r : Result ℕ WriteFault) : Type 0 where
-  Unbound : Passes had has [] → host.host.refuses l.bind.now bind.Unbound → TellsIf refused_port (seen.written old) (seen.written new) r → BindsAndServes host seen l setup had has old new r
-  NoRoomToBind : Passes had has [] → LacksRoomToBind host.host l.bind.now l.to.now → TellsIf refused_memory (seen.written old) (seen.written new) r → BindsAndServes host seen l setup had has old new r
+  Unbound : Passes had has [] → host.host.refuses l.bind.now bind.Unbound → TellsOne refused_port (seen.written old) (seen.written new) r → BindsAndServes host seen l setup had has old new r
+  NoRoomToBind : Passes had has [] → LacksRoomToBind host.host l.bind.now l.to.now → TellsOne refused_memory (seen.written old) (seen.written new) r → BindsAndServes host seen l setup had has old new r
   Bound : (between : Option (List Made)) → Passes had between (PortAt l.bind.now (addresses_of l.to.now) ∷ []) → (port port' : P) → host.host.binds l.bind.now (addresses_of l.to.now) port → (host.port port).addresses ≡ length (addresses_of l.to.now) → StartsAt host seen l setup between has port (host.port port') old new r → BindsAndServes host seen l setup had has old new r
 
 -- listening: the text of the start is no position; or else a table is refused; or else what follows, with the manifest of the
 -- tables' files. What the host has made before and after it is in its history: the port, the lock and the file, in this order.
 pub data Listens {P F T : Type 0} (host : Hosted P F) (seen : Seen F T) (l : Listen) (given : Given) (had has : Option (List Made)) (old new : T) (r : Result ℕ WriteFault) : Type 0 where
-  BadStart : Passes had has [] → (fault : FenFault) → IsFirstFenFault l.start.now fault → TellsIf (refused_fen fault) (seen.written old) (seen.written new) r → Listens host seen l given had has old new r
-  BadTables : Passes had has [] → IsText l.start.now → (words : List ℕ) → gathered given ≡ Err words → TellsIf words (seen.written old) (seen.written new) r → Listens host seen l given had has old new r
-  NoRoom : Passes had has [] → IsText l.start.now → TellsIf refused_memory (seen.written old) (seen.written new) r → Listens host seen l given had has old new r
+  BadStart : Passes had has [] → (fault : FenFault) → IsFirstFenFault l.start.now fault → TellsOne (refused_fen fault) (seen.written old) (seen.written new) r → Listens host seen l given had has old new r
+  BadTables : Passes had has [] → IsText l.start.now → (words : List ℕ) → gathered given ≡ Err words → TellsOne words (seen.written old) (seen.written new) r → Listens host seen l given had has old new r
+  NoRoom : Passes had has [] → IsText l.start.now → TellsOne refused_memory (seen.written old) (seen.written new) r → Listens host seen l given had has old new r
   Opened : (start : Parts) → SpellsPosition l.start.now start → IsPosition start → (set : Holding) → Ok set.tables ≡ gathered given → (manifest : List ℕ) → SpellsManifest manifest (entries_of given.files) → BindsAndServes host seen l (setup_for l start set manifest) had has old new r → Listens host seen l given had has old new r
 
 -- ---- with the writer

@@ -1,14 +1,14 @@
 -- Replies: a text and a status (this project's own).
 use Rattle.std.specs.Prelude.{◌≡◌, ℕ, Bool, List, Option, Result, Ok, Err, if◌then◌else◌}
-use Rattle.std.specs.Io.KnownBytes.{Appends}
 use Rattle.board_core.specs.declared.parts.Parts.{Parts}
 use Rattle.board_core.specs.Position.{IsPosition}
 use Rattle.fen_text.specs.declared.fault.FenFault.{FenFault}
 use Rattle.fen_text.specs.Fen.{SpellsPosition, IsFirstFenFault}
 use Rattle.judge_core.specs.Tables.{Tables}
 use Rattle.move_msg.specs.TextLines.{ended}
+use Rattle.system_io.specs.declared.output.WriteFault.{WriteFault}
 use Rattle.adjudicate_core.specs.Lines.{refused_fen}
-use Rattle.adjudicate_core.specs.Telling.{TellsOne}
+use Rattle.adjudicate_core.specs.Telling.{TellsOne, TellsText}
 use Rattle.line_teller.specs.ToldLines.{refused_files, refused_memory}
 
 pub record Reply : Type 0 where
@@ -18,6 +18,11 @@ pub record Reply : Type 0 where
 -- 0 where all is done, 1 where something is refused
 abbrev pub status_if : Bool → ℕ
 status_if done = if done then 0 else 1
+
+-- so it is of what a call tells of that, unless the writer failed
+abbrev pub status_told : Result Bool WriteFault → Result ℕ WriteFault
+status_told (Ok done) = Ok (status_if done)
+status_told (Err fault) = Err fault
 
 -- a refusal is one line, with status 1
 abbrev pub refused : List ℕ → Reply
@@ -37,17 +42,17 @@ pub data IsForText (text : List ℕ) (IsAnswer : Parts → Reply → Type 0) (r 
 abbrev pub IsText : List ℕ → Type 0
 IsText text = (p : Parts) × SpellsPosition text p × IsPosition p
 
--- the reply was written whole, and its status told
-abbrev pub WritesReply : Option (List ℕ) → Option (List ℕ) → Reply → ℕ → Type 0
-WritesReply old new r status = Appends old new r.text × (status ≡ r.status)
+-- the reply was written whole, and its status told; or, where the writer failed, a front of it was written
+abbrev pub WritesReply : Option (List ℕ) → Option (List ℕ) → Reply → Result ℕ WriteFault → Type 0
+WritesReply old new reply r = TellsText reply.text reply.status old new r
 
 -- what a command answers that tells all at once: its reply, or, where the reply takes memory, that memory was refused
-pub data AnswersOnce (IsReply : Reply → Type 0) (TakesMemory : Type 0) (old new : Option (List ℕ)) (status : ℕ) : Type 0 where
-  Replied : (r : Reply) → IsReply r → WritesReply old new r status → AnswersOnce IsReply TakesMemory old new status
-  Refused : TakesMemory → TellsOne refused_memory old new status → AnswersOnce IsReply TakesMemory old new status
+pub data AnswersOnce (IsReply : Reply → Type 0) (TakesMemory : Type 0) (old new : Option (List ℕ)) (r : Result ℕ WriteFault) : Type 0 where
+  Replied : (reply : Reply) → IsReply reply → WritesReply old new reply r → AnswersOnce IsReply TakesMemory old new r
+  Refused : TakesMemory → TellsOne refused_memory old new r → AnswersOnce IsReply TakesMemory old new r
 
 -- what a command answers that reads files on the way: its reply; or something that it reads can't be read; or memory was refused
-pub data AnswersRead (IsReply : Reply → Type 0) (CannotRead : Type 0) (old new : Option (List ℕ)) (status : ℕ) : Type 0 where
-  ReadAll : (r : Reply) → IsReply r → WritesReply old new r status → AnswersRead IsReply CannotRead old new status
-  Unread : CannotRead → TellsOne refused_files old new status → AnswersRead IsReply CannotRead old new status
-  NoRoomToRead : TellsOne refused_memory old new status → AnswersRead IsReply CannotRead old new status
+pub data AnswersRead (IsReply : Reply → Type 0) (CannotRead : Type 0) (old new : Option (List ℕ)) (r : Result ℕ WriteFault) : Type 0 where
+  ReadAll : (reply : Reply) → IsReply reply → WritesReply old new reply r → AnswersRead IsReply CannotRead old new r
+  Unread : CannotRead → TellsOne refused_files old new r → AnswersRead IsReply CannotRead old new r
+  NoRoomToRead : TellsOne refused_memory old new r → AnswersRead IsReply CannotRead old new r

@@ -1,5 +1,6 @@
 -- The behaviour of `send` by its words and by what it reads (this project's own).
 use Rattle.std.specs.Prelude.{◌≡◌, ◌⊎◌, ℕ, List, [], ◌∷◌, Option, Result, Ok, Err, IfSome, length, option_map}
+use Rattle.std.specs.Io.KnownBytes.{Appends}
 use Rattle.board_core.specs.declared.parts.Parts.{Parts}
 use Rattle.board_core.specs.Position.{IsPosition}
 use Rattle.fen_text.specs.declared.fault.FenFault.{FenFault}
@@ -7,6 +8,7 @@ use Rattle.fen_text.specs.Fen.{SpellsPosition, IsFirstFenFault}
 use Rattle.fen_text.specs.Written.{fen_of}
 use Rattle.move_msg.specs.declared.stamp.Stamp.{Stamp}
 use Rattle.move_msg.specs.Stamps.{stamp_of}
+use Rattle.move_msg.specs.TextLines.{ended}
 use Rattle.system_io.specs.declared.output.WriteFault.{WriteFault}
 use Rattle.system_io.specs.Disks.{AtFile, DiskFacts, HasMore}
 use Rattle.system_io.specs.declared.host.BindFault.TheVariants as bind
@@ -31,13 +33,12 @@ use Rattle.adjudicate_core.specs.Lines.{refused_fen, refused_line}
 use Rattle.adjudicate_core.specs.Listens.{Hosted, LacksRoomToBind}
 use Rattle.adjudicate_core.specs.Manifests.{IsManifestOf, LacksManifest}
 use Rattle.adjudicate_core.specs.Reply.{IsText}
-use Rattle.adjudicate_core.specs.Telling.{TellsOne}
-use Rattle.line_teller.specs.ToldLines.{refused_files, refused_memory}
+use Rattle.line_teller.specs.ToldLines.{HasFront, refused_files, refused_memory}
 
--- a line alone with status 1, where it could be written
+-- a line alone with status 1; where the writer failed, a front of it
 abbrev pub EndsOnce : List ℕ → Option (List ℕ) → Option (List ℕ) → Result Ended WriteFault → Type 0
-EndsOnce line old new (Ok ended) = (ended ≡ run.With 1) × TellsOne line old new 1
-EndsOnce line old new (Err fault) = Unit {0}
+EndsOnce line old new (Ok end) = (end ≡ run.With 1) × Appends old new (ended line)
+EndsOnce line old new (Err fault) = HasFront old new (ended line)
 
 -- ---- the game that is sent
 

@@ -1,13 +1,21 @@
--- A refusal of all else.
-use Rattle.std.specs.Prelude.{◌≡◌, ℕ, List, Option, Result, IfOk}
+-- A text that is written, or a front of it where the writer fails; and a refusal of all else.
+use Rattle.std.specs.Prelude.{◌≡◌, ℕ, List, Option, Result, Ok, Err}
 use Rattle.std.specs.Io.KnownBytes.{Appends}
-use Rattle.move_msg.specs.TextLines.{ended}
+use Rattle.line_teller.specs.ToldLines.{HasFront}
+use Rattle.move_msg.specs.TextLines.{ended, text_of}
+use Rattle.source_core.specs.Lines.{IsCut}
 use Rattle.system_io.specs.declared.output.WriteFault.{WriteFault}
 
--- a line alone with status 1
-abbrev pub TellsOne : List ℕ → Option (List ℕ) → Option (List ℕ) → ℕ → Type 0
-TellsOne line old new status = Appends old new (ended line) × (status ≡ 1)
+-- the text was written whole, and this is the status; or, where the writer failed, a front of it was written, and nothing else
+abbrev pub TellsText : List ℕ → ℕ → Option (List ℕ) → Option (List ℕ) → Result ℕ WriteFault → Type 0
+TellsText text status old new (Ok is) = Appends old new text × (is ≡ status)
+TellsText text status old new (Err fault) = HasFront old new text
 
--- so it is where the line could be written
-abbrev pub TellsIf : List ℕ → Option (List ℕ) → Option (List ℕ) → Result ℕ WriteFault → Type 0
-TellsIf line old new r = IfOk r (TellsOne line old new)
+-- a line alone with status 1
+abbrev pub TellsOne : List ℕ → Option (List ℕ) → Option (List ℕ) → Result ℕ WriteFault → Type 0
+TellsOne line old new r = TellsText (ended line) 1 old new r
+
+-- these lines were written whole; or, where the writer failed, all but the last one, and of that one a front
+abbrev pub WritesTo : {T : Type 0} → List (List ℕ) → Option (List ℕ) → Option (List ℕ) → Result T WriteFault → Type 0
+WritesTo lines old new (Ok x) = Appends old new (text_of lines)
+WritesTo lines old new (Err fault) = IsCut lines old new

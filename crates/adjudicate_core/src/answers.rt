@@ -1,19 +1,18 @@
 //! Answers as values, and their text.
 
-ghost use Rattle.std.specs.Prelude.{◌≡◌, map, IfOk, OnOk};
-ghost use Rattle.std.specs.Io.KnownBytes.{Appends};
+ghost use Rattle.std.specs.Prelude.{◌≡◌, map};
 ghost use Rattle.move_msg.specs.TextLines.{text_of};
 ghost use Rattle.adjudicate_core.specs.Inside.Asked.{PutsAnswered, PutsRead, reply_of};
 ghost use Rattle.adjudicate_core.specs.Lines.{words_of};
-ghost use Rattle.adjudicate_core.specs.Reply.{WritesReply, status_if};
+ghost use Rattle.adjudicate_core.specs.Reply.{WritesReply, status_if, status_told};
+ghost use Rattle.system_io.specs.Outputs.{WritesFront};
 
-use crate::json_answers::put_json;
+use crate::json_answers::put_json_fault;
 use crate::lines::{Line, put_line, put_refusal};
 use crate::refusals::Refusal;
-use json_lines::JsonLine;
+use fen_text::FenFault;
 use std::alloc::AllocError;
-use std::io::Write;
-use system_io::{ReadFault, WriteFault};
+use system_io::{Output, ReadFault, WriteFault};
 
 /// An answer before it is written.
 #[derive(Drop)]
@@ -24,10 +23,10 @@ pub(crate) enum Answer {
     One(Line, bool),
     /// Lines, and whether all is done.
     Lines(Vec<Line>, bool),
-    /// A text; all is done.
-    Text(Vec<u8>),
-    /// One object of JSON.
-    Json(JsonLine),
+    /// A text, and whether all is done.
+    Text(Vec<u8>, bool),
+    /// Why a text is no position, as one object of JSON.
+    JsonFault(FenFault),
 }
 
 /// The status: 0 where all is done, 1 where something is refused.
@@ -37,9 +36,19 @@ pub(crate) fn status_if(done: bool) -> u8
     if done { 0 } else { 1 }
 }
 
+/// The status of what a call told, unless the writer failed.
+pub(crate) fn status_told(told: Result<bool, WriteFault>) -> Result<u8, WriteFault>
+    ensures { result ≡ status_told told }
+{
+    match told {
+        Ok(done) => Ok(status_if(done)),
+        Err(fault) => Err(fault),
+    }
+}
+
 /// Writes lines.
-fn put_lines<W: Write>(out: &mut W, lines: &[Line]) -> Result<(), WriteFault>
-    ensures { OnOk result (Appends (W.contents out.old) (W.contents out.new) (text_of (map words_of lines.now))) }
+fn put_lines<W: Output>(out: &mut W, lines: &[Line]) -> Result<(), WriteFault>
+    ensures { WritesFront (W.contents out.old) (W.contents out.new) (text_of (map words_of lines.now)) result }
 {
     for line in lines {
         match put_line(out, line) {
@@ -51,8 +60,8 @@ fn put_lines<W: Write>(out: &mut W, lines: &[Line]) -> Result<(), WriteFault>
 }
 
 /// Writes an answer, and returns its status.
-pub(crate) fn put_answer<W: Write>(out: &mut W, answer: &Answer) -> Result<u8, WriteFault>
-    ensures { IfOk result (WritesReply (W.contents out.old) (W.contents out.new) (reply_of answer.now)) }
+pub(crate) fn put_answer<W: Output>(out: &mut W, answer: &Answer) -> Result<u8, WriteFault>
+    ensures { WritesReply (W.contents out.old) (W.contents out.new) (reply_of answer.now) result }
 {
     match answer {
         Answer::Refused(refusal) => put_refusal(out, *refusal),
@@ -64,23 +73,23 @@ pub(crate) fn put_answer<W: Write>(out: &mut W, answer: &Answer) -> Result<u8, W
             Ok(()) => Ok(status_if(*done)),
             Err(fault) => Err(fault),
         },
-        Answer::Text(text) => match out.write_all(text) {
-            Ok(()) => Ok(0),
-            Err(_) => Err(WriteFault::Io),
+        Answer::Text(text, done) => match out.put(text) {
+            Ok(()) => Ok(status_if(*done)),
+            Err(fault) => Err(fault),
         },
-        Answer::Json(line) => match put_json(out, line) {
-            Ok(()) => Ok(status_if(line.is_done())),
+        Answer::JsonFault(fault) => match put_json_fault(out, *fault) {
+            Ok(()) => Ok(1),
             Err(fault) => Err(fault),
         },
     }
 }
 
 /// Writes an answer, or the line `refused memory` where memory was refused for it, and returns the status.
-pub(crate) fn put_answered<W: Write>(
+pub(crate) fn put_answered<W: Output>(
     out: &mut W,
     answered: Result<Answer, AllocError>,
 ) -> Result<u8, WriteFault>
-    ensures { IfOk result (PutsAnswered answered (W.contents out.old) (W.contents out.new)) }
+    ensures { PutsAnswered answered (W.contents out.old) (W.contents out.new) result }
 {
     match answered {
         Ok(answer) => put_answer(out, &answer),
@@ -89,11 +98,11 @@ pub(crate) fn put_answered<W: Write>(
 }
 
 /// Writes an answer, or why something for it wasn't read, and returns the status.
-pub(crate) fn put_read<W: Write>(
+pub(crate) fn put_read<W: Output>(
     out: &mut W,
     answered: Result<Answer, ReadFault>,
 ) -> Result<u8, WriteFault>
-    ensures { IfOk result (PutsRead answered (W.contents out.old) (W.contents out.new)) }
+    ensures { PutsRead answered (W.contents out.old) (W.contents out.new) result }
 {
     match answered {
         Ok(answer) => put_answer(out, &answer),

@@ -1,14 +1,16 @@
 //! Games that are entered in a folder.
 
-ghost use Rattle.std.specs.Prelude.{◌≡◌, ◌↔◌, Some, IsTrue, IfOk, IfErr, IsErrOf, OnErr, OnOk, codes};
+ghost use Rattle.std.specs.Prelude.{◌≡◌, ◌↔◌, Some, IsTrue, IfOk, IfErr, IfSome, IsErrOf, OnErr, OnOk, codes};
 ghost use Rattle.std.specs.Io.KnownBytes.{Appends};
+ghost use Rattle.hex.specs.Hex.{encode_lower};
 ghost use Rattle.move_msg.specs.TextLines.{ended, lines_in};
 ghost use Rattle.arbiter_server.specs.GameFiles.{told};
 ghost use Rattle.adjudicate_core.specs.Enters.{ComesOf, Enters, EntersList, EntersOne, HasList, HasText, HasTextAt, IsEntered, IsUnentered};
 ghost use Rattle.adjudicate_core.specs.Enters.{LacksGame, LacksList, LacksText, LacksTextAt, MakesForLines, PutsGame, PutsGames, TellsStamp, file_of_game, game_of, told_of};
 ghost use Rattle.adjudicate_core.specs.Inside.Entering.{EntersNext, HasOver, LacksOver, MakesForLine, place_of};
-ghost use Rattle.arbiter_server.specs.Makings.{MakesOnce};
+ghost use Rattle.arbiter_server.specs.Folders.{MakesOnce};
 ghost use Rattle.system_io.specs.Hosts.{FileAt};
+ghost use Rattle.system_io.specs.Outputs.{WritesFront};
 ghost use Rattle.adjudicate_core.specs.Listens.{hosted};
 ghost use Rattle.system_io.specs.KeptFiles.{bytes_of};
 
@@ -22,12 +24,13 @@ use crate::numbers::Delay;
 use crate::refusals::Refusal;
 use crate::system::System;
 use arbiter_server::{game_path, write_game};
+use arrayvec::ArrayVec;
 use board_core::Position;
 use fen_text::read;
 use move_msg::Stamp;
 use std::alloc::{AllocError, Global};
 use std::io::Write;
-use system_io::{Disk, Host, Input, KeptFile, ReadFault, WriteFault, begin, replace};
+use system_io::{Disk, Host, Input, KeptFile, Output, ReadFault, WriteFault, begin, replace};
 
 /// Why the text of a game isn't in its file.
 #[derive(Clone, Copy)]
@@ -150,9 +153,9 @@ fn enter_game<H: Host>(
     }
 }
 
-/// Writes a stamp in hexadecimal digits, in a line of its own, and tells the status 0.
-fn put_stamp<W: Write>(out: &mut W, stamp: Stamp) -> Result<u8, WriteFault>
-    ensures { TellsStamp stamp.0 (W.contents out.old) (W.contents out.new) result }
+/// Writes a stamp in hexadecimal digits, in a line of its own.
+fn put_digits<W: Write>(out: &mut W, stamp: Stamp) -> Result<(), WriteFault>
+    ensures { OnOk result (Appends (W.contents out.old) (W.contents out.new) (ended (encode_lower stamp.0))) }
 {
     let mut digits = [0; 32];
     hex::encode_to_slice(&stamp.0, &mut digits).unwrap();
@@ -161,13 +164,38 @@ fn put_stamp<W: Write>(out: &mut W, stamp: Stamp) -> Result<u8, WriteFault>
         Err(_) => return Err(WriteFault::Io),
     }
     match out.write_all(b"\n") {
-        Ok(()) => Ok(0),
+        Ok(()) => Ok(()),
         Err(_) => Err(WriteFault::Io),
     }
 }
 
+/// The text of that line; none where it has more than 64 bytes, which none has.
+fn stamp_line(stamp: Stamp) -> Option<ArrayVec<u8, 64>>
+    ensures { IfSome result (λ line. line.items ≡ ended (encode_lower stamp.0)) }
+{
+    let mut line = ArrayVec::new();
+    match put_digits(&mut line, stamp) {
+        Ok(()) => Some(line),
+        Err(_) => None,
+    }
+}
+
+/// Writes a stamp in hexadecimal digits, in a line of its own, and tells the status 0. Where the writer fails, a front of the line is
+/// written.
+fn put_stamp<W: Output>(out: &mut W, stamp: Stamp) -> Result<u8, WriteFault>
+    ensures { TellsStamp stamp.0 (W.contents out.old) (W.contents out.new) result }
+{
+    let Some(line) = stamp_line(stamp) else {
+        return Err(WriteFault::Io);
+    };
+    match out.put(line.as_slice()) {
+        Ok(()) => Ok(0),
+        Err(fault) => Err(fault),
+    }
+}
+
 /// Enters the game of the words from this start, and tells its stamp.
-fn put_game<H: Host, W: Write>(
+fn put_game<H: Host, W: Output>(
     alloc: Global,
     place: &GamePlace<'_, H>,
     history: &mut H::History,
@@ -184,7 +212,7 @@ fn put_game<H: Host, W: Write>(
 }
 
 /// Enters the game of the words, and tells the status.
-fn enter_one<D: Disk, I, H: Host, W: Write>(
+fn enter_one<D: Disk, I, H: Host, W: Output>(
     alloc: Global,
     task: &Enter<'_>,
     game: &OneGame<'_>,
@@ -245,12 +273,13 @@ fn enter_line<H: Host>(
 }
 
 /// Tells what came of the line with this number, and whether its game is entered.
-fn put_entered<W: Write>(
+fn put_entered<W: Output>(
     out: &mut W,
     number: usize,
     entered: Result<Stamp, EntryFault>,
 ) -> Result<bool, WriteFault>
-    ensures { IfOk result (λ done. Appends (W.contents out.old) (W.contents out.new) (ended (told_of number entered).words) × (done ≡ (told_of number entered).done)) }
+    ensures written { WritesFront (W.contents out.old) (W.contents out.new) (ended (told_of number entered).words) result }
+    ensures done { IfOk result (λ done. done ≡ (told_of number entered).done) }
 {
     match entered {
         Ok(stamp) => match put_stamp(out, stamp) {
@@ -265,7 +294,7 @@ fn put_entered<W: Write>(
 }
 
 /// Enters the game of the line with this number, and tells what came of it. Where memory is refused the line is `refused memory`.
-fn enter_next<H: Host, W: Write>(
+fn enter_next<H: Host, W: Output>(
     alloc: Global,
     place: &GamePlace<'_, H>,
     history: &mut H::History,
@@ -273,7 +302,7 @@ fn enter_next<H: Host, W: Write>(
     line: &[u8],
     out: &mut W,
 ) -> Result<Step, WriteFault>
-    ensures enters { IfOk result (EntersNext (place_of H.facts H.Port.facts H.File.facts place.now) number line.now (W.contents out.old) (W.contents out.new)) }
+    ensures enters { EntersNext (place_of H.facts H.Port.facts H.File.facts place.now) number line.now (W.contents out.old) (W.contents out.new) result }
     ensures made { MakesForLine (place_of H.facts H.Port.facts H.File.facts place.now) line.now (H.made history.old) (H.made history.new) }
 {
     match enter_line(alloc, place, history, line) {
@@ -289,14 +318,14 @@ fn enter_next<H: Host, W: Write>(
 }
 
 /// Enters the games of the lines of a list in turn, and tells what came of each in a line, and the status, 0 where all are entered.
-fn enter_lines<H: Host, W: Write>(
+fn enter_lines<H: Host, W: Output>(
     alloc: Global,
     place: &GamePlace<'_, H>,
     history: &mut H::History,
     list: &[u8],
     out: &mut W,
 ) -> Result<u8, WriteFault>
-    ensures puts { IfOk result (PutsGames (place_of H.facts H.Port.facts H.File.facts place.now) (lines_in list.now) (W.contents out.old) (W.contents out.new)) }
+    ensures puts { PutsGames (place_of H.facts H.Port.facts H.File.facts place.now) (lines_in list.now) (W.contents out.old) (W.contents out.new) result }
     ensures made { MakesForLines (place_of H.facts H.Port.facts H.File.facts place.now) (lines_in list.now) (H.made history.old) (H.made history.new) }
 {
     let mut rest = list;
@@ -339,7 +368,7 @@ fn list_at<D: Disk, I: Input>(
 }
 
 /// Enters the games of a list by the manifest that the words name, and tells the status.
-fn enter_list<D: Disk, I, H: Host, W: Write>(
+fn enter_list<D: Disk, I, H: Host, W: Output>(
     alloc: Global,
     task: &Enter<'_>,
     list: &[u8],
@@ -374,7 +403,7 @@ fn enter_list<D: Disk, I, H: Host, W: Write>(
 /// only where all games are entered. A list that can't be read is told first, as `refused files`, then the manifest or the folder of
 /// the tables. Where memory is refused the last line is `refused memory`. At the host the files of
 /// games are opened, of each line at most one, and nothing else is. The error comes only where the writer failed.
-pub fn enter<D: Disk, I: Input, H: Host, W: Write>(
+pub fn enter<D: Disk, I: Input, H: Host, W: Output>(
     alloc: Global,
     task: &Enter<'_>,
     system: &System<'_, D, I, H>,

@@ -1,25 +1,97 @@
 //! Answers as JSON: one object a line.
 
-ghost use Rattle.std.specs.Prelude.{OnOk};
+ghost use Rattle.std.specs.Prelude.{◌≡◌, IfOk, IfSome, IsErrOf, OnOk};
 ghost use Rattle.std.specs.Io.KnownBytes.{Appends};
+ghost use Rattle.adjudicate_core.specs.Inside.Asked.{HasText, reply_of};
+ghost use Rattle.adjudicate_core.specs.JsonAnswers.{json_reply};
 ghost use Rattle.json_lines.specs.Objects.{json_text, line_json};
+ghost use Rattle.json_lines.specs.declared.told.JsonLine.TheVariants as line;
+ghost use Rattle.line_teller.specs.ToldLines.{HasFront};
 ghost use Rattle.move_msg.specs.TextLines.{ended};
+ghost use Rattle.system_io.specs.Outputs.{WritesFront};
 
+use crate::answers::Answer;
+use arrayvec::ArrayVec;
+use fen_text::FenFault;
 use json_lines::{Ask, JsonLine, put_json_line};
 use judge_core::Set;
 use line_teller::{TellFault, Teller};
-use std::alloc::Global;
+use std::alloc::{AllocError, Global};
 use std::io::Write;
-use system_io::WriteFault;
+use system_io::{Output, WriteFault};
 
 /// Writes an object and a line feed.
-pub(crate) fn put_json<W: Write>(out: &mut W, line: &JsonLine) -> Result<(), WriteFault>
+fn put_json<W: Write>(out: &mut W, line: &JsonLine) -> Result<(), WriteFault>
     ensures { OnOk result (Appends (W.contents out.old) (W.contents out.new) (ended (json_text (line_json line.now)))) }
 {
     put_json_line(out, line)?;
     match out.write_all(b"\n") {
         Ok(()) => Ok(()),
         Err(_) => Err(WriteFault::Io),
+    }
+}
+
+/// The text of an object, with its line feed.
+fn text_of(alloc: Global, line: &JsonLine) -> Result<Vec<u8>, AllocError>
+    ensures { IfOk result (λ text. text.items ≡ ended (json_text (line_json line.now))) }
+{
+    let mut text = Vec::new(alloc);
+    match put_json(&mut text, line) {
+        Ok(()) => Ok(text),
+        Err(_) => Err(AllocError),
+    }
+}
+
+/// The answer that is this object.
+pub(crate) fn answer_as_json(alloc: Global, line: &JsonLine) -> Result<Answer, AllocError>
+    ensures { IfOk result (λ a. reply_of a ≡ json_reply line.now) }
+{
+    match text_of(alloc, line) {
+        Ok(text) => Ok(Answer::Text(text, line.is_done())),
+        Err(fault) => Err(fault),
+    }
+}
+
+/// The text of the object that says why a text is no position, with its line feed; none where it has more than 256 bytes, which none
+/// has.
+fn fault_text(fault: FenFault) -> Option<ArrayVec<u8, 256>>
+    ensures { IfSome result (λ text. text.items ≡ ended (json_text (line_json (line.Fault fault)))) }
+{
+    let mut text = ArrayVec::new();
+    match put_json(&mut text, &JsonLine::Fault(fault)) {
+        Ok(()) => Some(text),
+        Err(_) => None,
+    }
+}
+
+/// Writes why a text is no position. This takes no memory.
+pub(crate) fn put_json_fault<W: Output>(out: &mut W, fault: FenFault) -> Result<(), WriteFault>
+    ensures { WritesFront (W.contents out.old) (W.contents out.new) (ended (json_text (line_json (line.Fault fault)))) result }
+{
+    match fault_text(fault) {
+        Some(text) => out.put(text.as_slice()),
+        None => Err(WriteFault::Io),
+    }
+}
+
+/// Writes an object and a line feed, for which memory is taken but where a text is no position.
+fn put_told<W: Output>(alloc: Global, out: &mut W, told: &JsonLine) -> Result<(), TellFault>
+    ensures written { OnOk result (Appends (W.contents out.old) (W.contents out.new) (ended (json_text (line_json told.now)))) }
+    ensures front { IsErrOf result TellFault.Io → HasFront (W.contents out.old) (W.contents out.new) (ended (json_text (line_json told.now))) }
+    ensures memory { IsErrOf result TellFault.OutOfMemory → HasText told.now × (W.contents out.new ≡ W.contents out.old) }
+{
+    if let JsonLine::Fault(fault) = told {
+        return match put_json_fault(out, *fault) {
+            Ok(()) => Ok(()),
+            Err(_) => Err(TellFault::Io),
+        };
+    }
+    let Ok(text) = text_of(alloc, told) else {
+        return Err(TellFault::OutOfMemory);
+    };
+    match out.put(&text) {
+        Ok(()) => Ok(()),
+        Err(_) => Err(TellFault::Io),
     }
 }
 
@@ -44,11 +116,11 @@ impl<'a> Teller for JsonTeller<'a> {
 
     ghost takes_memory = { IsText };
 
-    fn tell<W: Write>(&mut self, line: &[u8], out: &mut W) -> Result<bool, TellFault> {
+    fn tell<W: Output>(&mut self, line: &[u8], out: &mut W) -> Result<bool, TellFault> {
         match JsonLine::of_text(self.alloc, &mut self.set, line, self.ask, self.with_moves) {
-            Ok(told) => match put_json(out, &told) {
+            Ok(told) => match put_told(self.alloc, out, &told) {
                 Ok(()) => Ok(told.is_done()),
-                Err(_) => Err(TellFault::Io),
+                Err(fault) => Err(fault),
             },
             Err(_) => Err(TellFault::OutOfMemory),
         }

@@ -17,10 +17,10 @@
 //!   A misuse is reported only where the first word is missing, asks for help or names no command, where the command refuses the
 //!   words, or where a value that the command needs is missing or out of its range, or one is there beside another that takes its
 //!   place. Words that name no command are always a misuse.
-//! - CLAIM: `run`, clause `runs`; `run_program`: where a status is returned, the program on its words answers the task that they
+//! - CLAIM: `run`, clause `runs`; `run_program`: the program on its words answers the task that they
 //!   name over what it read, or one of its sources failed (`refused files`), or memory was refused, or the words are misused and
 //!   nothing is written. The definition of each command's answer is in `AnswersFrom`. Of a call that ends with the writer's error
-//!   only `quiet` and `made` speak. For `list`, `check`, `status`, `audit --games`, `run`, `probes`, `root`, `host` and the list of
+//!   it says that a front of that answer was written: the lines before whole, and of the last a front. For `list`, `check`, `status`, `audit --games`, `run`, `probes`, `root`, `host` and the list of
 //!   `enter` refused memory has no cause.
 //! - CLAIM: `run`, clause `made`; `run_program`, clause `made`: at the host nothing is opened but what `IsMadeBy` has of the task, whatever
 //!   it comes to: `listen` opens its port, the lock and the kept file, `send` its port, `host` the lock, its port and files of records,

@@ -22,7 +22,7 @@ fn put_lines_told<T: Teller, L: LineReader, W: Output, E: Write>(
     errors: &mut E,
     progress: bool,
 ) -> Result<u8, WriteFault>
-    ensures written { IfOk result (PutsLines (T.tells teller.old) T.takes_memory (stops_by (L.facts lines.old)) (L.facts lines.old).left (W.contents out.old) (W.contents out.new)) }
+    ensures written { PutsLines (T.tells teller.old) T.takes_memory (stops_by (L.facts lines.old)) (L.facts lines.old).left (W.contents out.old) (W.contents out.new) result }
     ensures quiet { progress ≡ false → errors.new ≡ errors.old }
 {
     match tell_lines(alloc, teller, lines, out, errors, progress) {
@@ -41,7 +41,7 @@ pub(crate) fn put_told<T: Teller, I: Input, W: Output, E: Write>(
     errors: &mut E,
     progress: bool,
 ) -> Result<u8, WriteFault>
-    ensures written { IfOk result (PutsLinesOrNone (T.tells teller.old) T.takes_memory (I.facts input.now) (W.contents out.old) (W.contents out.new)) }
+    ensures written { PutsLinesOrNone (T.tells teller.old) T.takes_memory (I.facts input.now) (W.contents out.old) (W.contents out.new) result }
     ensures quiet { progress ≡ false → errors.new ≡ errors.old }
 {
     match input.lines(alloc) {

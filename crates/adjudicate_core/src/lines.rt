@@ -1,13 +1,14 @@
 //! The lines that the program writes.
 
-ghost use Rattle.std.specs.Prelude.{◌≡◌, ◌++◌, Some, IfOk, OnOk, codes};
+ghost use Rattle.std.specs.Prelude.{◌≡◌, ◌++◌, Some, IfSome, codes};
 ghost use Rattle.std.specs.Fmt.{DisplaysOnOk};
-ghost use Rattle.std.specs.Io.KnownBytes.{Appends};
 ghost use Rattle.move_msg.specs.TextLines.{ended};
 ghost use Rattle.arbiter_server.specs.ServedLines.{verdict_or_none};
 ghost use Rattle.judge_core.specs.Words.{column_words};
 ghost use Rattle.adjudicate_core.specs.Lines.{arbiter_words, mark_word, probed_of, refusal_words, root_line_words, root_words, state_word, told_words, words_of};
+ghost use Rattle.adjudicate_core.specs.Telling.{TellsOne};
 ghost use Rattle.relay_world.specs.Texts.{who_word};
+ghost use Rattle.system_io.specs.Outputs.{WritesFront};
 
 use crate::refusals::Refusal;
 use crate::tables::FileFault;
@@ -19,9 +20,8 @@ use judge_core::{BoardState, Column, Columns, Effect, Outcome, Probed, RootMove,
 use move_msg::{Message, Who};
 use record_audit::Finding;
 use relay_world::State;
-use std::fmt;
-use std::io::Write;
-use system_io::WriteFault;
+use std::fmt::{self, Write as _};
+use system_io::{Output, WriteFault};
 
 /// What an arbiter keeps.
 #[derive(Clone, Copy)]
@@ -226,19 +226,30 @@ impl fmt::Display for Line {
     }
 }
 
-/// Writes a line.
-pub(crate) fn put_line<W: Write>(out: &mut W, line: &Line) -> Result<(), WriteFault>
-    ensures { OnOk result (Appends (W.contents out.old) (W.contents out.new) (ended (words_of line.now))) }
+/// The text of a line with its line feed; none where it has more than 256 bytes, which no line has.
+fn text_of(line: &Line) -> Option<ArrayString<256>>
+    ensures { IfSome result (λ t. t.bytes ≡ ended (words_of line.now)) }
 {
-    match writeln!(out, "{line}") {
-        Ok(()) => Ok(()),
-        Err(_) => Err(WriteFault::Io),
+    let mut text = ArrayString::new();
+    match writeln!(text, "{line}") {
+        Ok(()) => Some(text),
+        Err(_) => None,
+    }
+}
+
+/// Writes a line. Where the writer fails, a front of it is written.
+pub(crate) fn put_line<W: Output>(out: &mut W, line: &Line) -> Result<(), WriteFault>
+    ensures { WritesFront (W.contents out.old) (W.contents out.new) (ended (words_of line.now)) result }
+{
+    match text_of(line) {
+        Some(text) => out.put(text.as_bytes()),
+        None => Err(WriteFault::Io),
     }
 }
 
 /// Writes a refusal of everything, and returns the status 1.
-pub(crate) fn put_refusal<W: Write>(out: &mut W, refusal: Refusal) -> Result<u8, WriteFault>
-    ensures { IfOk result (λ status. Appends (W.contents out.old) (W.contents out.new) (ended (refusal_words refusal)) × (status ≡ 1)) }
+pub(crate) fn put_refusal<W: Output>(out: &mut W, refusal: Refusal) -> Result<u8, WriteFault>
+    ensures { TellsOne (refusal_words refusal) (W.contents out.old) (W.contents out.new) result }
 {
     match put_line(out, &Line::Refused(refusal)) {
         Ok(()) => Ok(1),

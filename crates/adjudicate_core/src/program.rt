@@ -7,7 +7,8 @@ ghost use Rattle.adjudicate_core.specs.Makes.{Makes, MakesCalled, MakesFor};
 ghost use Rattle.adjudicate_core.specs.Running.{AnswersByKey, AnswersFrom, AnswersTask, Called, Performs, called_by, outside_of, texts};
 ghost use Rattle.adjudicate_core.specs.Silences.{IsLoud, TellsIfLost};
 ghost use Rattle.adjudicate_core.specs.Tasks.{IsTask, tells_progress};
-ghost use Rattle.adjudicate_core.specs.Telling.{TellsOne};
+ghost use Rattle.move_msg.specs.TextLines.{ended};
+ghost use Rattle.std.specs.Io.KnownBytes.{Appends};
 ghost use Rattle.adjudicate_core.specs.Uses.{TellsMisuse};
 
 use crate::answers::{put_answered, put_read};
@@ -51,7 +52,7 @@ fn answer_given<D: Disk, I: Input, H: Host, W: Output, E: Output>(
     errors: &mut E,
 ) -> Result<u8, WriteFault>
     ensures quiet { tells_progress task.now ≡ false → TellsIfLost E.facts E.contents errors.old errors.new task.now result }
-    ensures answered { IfOk result (AnswersFrom (outside_of D.facts I.facts H.facts H.made H.Port.facts H.File.facts system.now history.old history.new) task.now sources.now (W.contents out.old) (W.contents out.new)) }
+    ensures answered { AnswersFrom (outside_of D.facts I.facts H.facts H.made H.Port.facts H.File.facts system.now history.old history.new) task.now sources.now (W.contents out.old) (W.contents out.new) result }
     ensures made { MakesFor task.now (H.made history.old) (H.made history.new) }
 {
     match task {
@@ -65,7 +66,7 @@ fn answer_given<D: Disk, I: Input, H: Host, W: Output, E: Output>(
         Task::Listen(task) => listen(alloc, task, sources, system.host, history, out),
         Task::Probes(task) => task.answer(alloc, sources, system.input, out, errors),
         Task::Game(task) => put_answered(out, task.answer(alloc, sources)),
-        Task::Record(task) => task.answer(alloc, sources, out),
+        Task::Record(task) => put_answered(out, task.answer(alloc, sources)),
         Task::Audit(task) => put_answered(out, task.answer(alloc, sources)),
         Task::AuditGames(task) => task.answer(alloc, sources, system.disk, out),
         Task::Version(task) => task.answer(out),
@@ -88,7 +89,7 @@ fn run_task<D: Disk, I: Input, H: Host, W: Output, E: Output>(
     errors: &mut E,
 ) -> Result<u8, WriteFault>
     ensures quiet { tells_progress task.now ≡ false → TellsIfLost E.facts E.contents errors.old errors.new task.now result }
-    ensures answered { IfOk result (AnswersTask (outside_of D.facts I.facts H.facts H.made H.Port.facts H.File.facts system.now history.old history.new) task.now (W.contents out.old) (W.contents out.new)) }
+    ensures answered { AnswersTask (outside_of D.facts I.facts H.facts H.made H.Port.facts H.File.facts system.now history.old history.new) task.now (W.contents out.old) (W.contents out.new) result }
     ensures made { MakesFor task.now (H.made history.old) (H.made history.new) }
 {
     let places = task.places();
@@ -110,7 +111,7 @@ fn run_by_key<D: Disk, I: Input, H: Host, W: Output, E: Output>(
     errors: &mut E,
 ) -> Result<u8, WriteFault>
     ensures quiet { tells_progress task.now ≡ false → TellsIfLost E.facts E.contents errors.old errors.new task.now result }
-    ensures answered { IfOk result (AnswersByKey (outside_of D.facts I.facts H.facts H.made H.Port.facts H.File.facts system.now history.old history.new) task.now (W.contents out.old) (W.contents out.new)) }
+    ensures answered { AnswersByKey (outside_of D.facts I.facts H.facts H.made H.Port.facts H.File.facts system.now history.old history.new) task.now (W.contents out.old) (W.contents out.new) result }
     ensures made { MakesFor task.now (H.made history.old) (H.made history.new) }
 {
     match task.key() {
@@ -164,7 +165,7 @@ pub fn run<D: Disk, I: Input, H: Host, W: Output, E: Output>(
     errors: &mut E,
 ) -> Result<u8, WriteFault>
     ensures quiet { errors.new ≢ errors.old → (result ≡ Ok 2) ⊎ ((t : Task) × IsTask (texts words.now) t × IsLoud E.facts E.contents errors.old errors.new t result) }
-    ensures runs { IfOk result (Performs (outside_of D.facts I.facts H.facts H.made H.Port.facts H.File.facts system.now history.old history.new) (TellsMisuse E.facts E.contents errors.old errors.new) (texts words.now) (W.contents out.old) (W.contents out.new)) }
+    ensures runs { Performs (outside_of D.facts I.facts H.facts H.made H.Port.facts H.File.facts system.now history.old history.new) (TellsMisuse E.facts E.contents errors.old errors.new) (texts words.now) (W.contents out.old) (W.contents out.new) result }
     ensures made { Makes (texts words.now) (H.made history.old) (H.made history.new) }
 {
     match parse(alloc, words) {
@@ -198,11 +199,15 @@ fn texts_of<'a>(alloc: Global, words: &'a [String]) -> Result<Vec<&'a str>, Allo
     Ok(texts)
 }
 
-/// Writes the line `refused memory`, and returns the status 1.
+/// Writes the line `refused memory`, and returns the status 1. It takes a writer that may be none of `run`'s, since memory for that one
+/// was refused.
 pub fn refuse_memory<W: Write>(out: &mut W) -> Result<u8, WriteFault>
-    ensures { IfOk result (TellsOne refused_memory (W.contents out.old) (W.contents out.new)) }
+    ensures { IfOk result (λ status. Appends (W.contents out.old) (W.contents out.new) (ended refused_memory) × (status ≡ 1)) }
 {
-    put_refusal(out, Refusal::Memory)
+    match out.write_all(b"refused memory\n") {
+        Ok(()) => Ok(1),
+        Err(_) => Err(WriteFault::Io),
+    }
 }
 
 /// Runs the program on all words that it was called with, its own name first. A word that is not UTF-8 is a misuse.
@@ -215,18 +220,18 @@ pub fn run_program<D: Disk, I: Input, H: Host, W: Output, E: Output>(
     out: &mut W,
     errors: &mut E,
 ) -> Result<u8, WriteFault>
-    ensures called { IfOk result (Called (outside_of D.facts I.facts H.facts H.made H.Port.facts H.File.facts system.now history.old history.new) (TellsMisuse E.facts E.contents errors.old errors.new) (called_by called.now) (W.contents out.old) (W.contents out.new)) }
+    ensures called { Called (outside_of D.facts I.facts H.facts H.made H.Port.facts H.File.facts system.now history.old history.new) (TellsMisuse E.facts E.contents errors.old errors.new) (called_by called.now) (W.contents out.old) (W.contents out.new) result }
     ensures made { MakesCalled (called_by called.now) (H.made history.old) (H.made history.new) }
 {
     match called {
         Ok(words) => match tail_of(alloc, words) {
             Ok(tail) => run(alloc, &tail, system, history, out, errors),
-            Err(_) => refuse_memory(out),
+            Err(_) => put_refusal(out, Refusal::Memory),
         },
         Err(WordsFault::NoText(word)) => {
             tell_misuse(alloc, errors, &Misuse::NoText(word.as_slice()), "");
             Ok(2)
         }
-        Err(WordsFault::OutOfMemory) => refuse_memory(out),
+        Err(WordsFault::OutOfMemory) => put_refusal(out, Refusal::Memory),
     }
 }

@@ -104,9 +104,3 @@ whole_so start tables r (found.BadRecord fault) e own h = let f : false ≡ true
 whole_so start tables r found.OtherStamp e own h = let f : false ≡ true = e in absurd (cc)
 whole_so start tables r (found.BadMoves place) e own h = let f : false ≡ true = e in absurd (cc)
 whole_so start tables r (found.BadVerdict verdict) e own h = let f : false ≡ true = e in absurd (cc)
-
--- ---- folders that aren't told
-
-pub cut_so : (fault : ReadFault) (disk : DiskFacts) (folder : List ℕ) (other : Option (List ℕ)) (Tells : Listing → Option Listing → List ℕ → GameTold → Type 0) (old new : Option (List ℕ)) (done : Bool) → (fault ≡ read.Unreadable → CannotList disk folder other) → (done ≡ false) × Appends old new (ended (cut_words fault)) → TellsFolders disk folder other Tells old new done
-cut_so read.Unreadable disk folder other Tells old new done cause h = Unlisted (cause refl) h.1 h.0
-cut_so read.OutOfMemory disk folder other Tells old new done cause h = NoRoomToList h.1 h.0

@@ -1,6 +1,7 @@
 -- Games that are told one by one and counted.
 use Rattle.std.proofs.Common.{◌≡◌, ◌≤◌, ◌<◌, ◌+◌, ◌^◌, ◌++◌, ◌∙◌, ℕ, Bool, true, false, cond, List, [], ◌∷◌, length, take, get_or, refl, sym, ap, subst, Option, length-append, append_assoc, arith}
-use Rattle.std.specs.Prelude.{filter}
+use Rattle.std.specs.Prelude.{filter, Result, Ok, Err, IfOk, IsErrOf, OnErr}
+use Rattle.system_io.specs.declared.output.WriteFault.{WriteFault}
 use Rattle.std.specs.List.{AllZip}
 use Rattle.std.specs.Io.KnownBytes.{Appends}
 use Rattle.std.proofs.KnownBytes.{Appends-nil, Appends-trans}
@@ -11,9 +12,9 @@ use Rattle.move_msg.specs.TextLines.{ended, text_of}
 use Rattle.move_msg.proofs.LineLaws.{more_lines}
 use Rattle.game_status.specs.declared.telling.Mark.{Mark}
 use Rattle.game_status.specs.declared.telling.Sums.{Sums}
-use Rattle.line_teller.specs.ToldLines.{refused_memory}
-use Rattle.game_status.specs.Tellings.{GameTold, NoRoom, TellsAll, TellsGames, WritesGame, are_well, sums_words, count_marked, is_apart, is_fault, is_ruled, sums_of, words_told}
-use Rattle.game_status.specs.Inside.Counting.{AddsMark, AreFew, TellsEach, TellsSome}
+use Rattle.line_teller.specs.ToldLines.{HasFront, refused_memory}
+use Rattle.game_status.specs.Tellings.{AtGame, AtRefusal, AtSums, CutsGame, CutsGames, GameTold, GamesTo, NoRoom, TellsNoMore, TellsAll, TellsGames, WritesGame, are_well, sums_words, count_marked, is_apart, is_fault, is_ruled, sums_of, words_told}
+use Rattle.game_status.specs.Inside.Counting.{AddsMark, AreFew, CutsSome, TellsEach, TellsSome}
 
 -- a line in two parts
 pub joined : (old mid new : Option (List ℕ)) (a b : List ℕ) → Appends old mid a → Appends mid new (ended b) → Appends old new (ended (a ++ b))
@@ -90,3 +91,31 @@ module _ (Tells : List ℕ → GameTold → Type 0) (stamps : List (List ℕ)) w
 
   pub ends_short : (compares : Bool) (old mid new : Option (List ℕ)) (done : Bool) → TellsSome Tells stamps old mid → done ≡ false → Appends mid new (ended refused_memory) → TellsGames Tells stamps compares old new done
   ends_short compares old mid new done (count, told, are) e wrote = NoRoom count told are.0 (more_lines old mid new (words_told told) refused_memory are.1 wrote) e
+
+-- ---- a writer that fails
+
+module _ (Tells : List ℕ → GameTold → Type 0) (stamps : List (List ℕ)) where
+  pub front_told : (Later : List ℕ → GameTold → Type 0) (i : ℕ) (stamp other : List ℕ) (old mid new : Option (List ℕ)) (s : Sums) → i < length stamps → stamp ≡ get_or stamps i other → TellsEach Tells (take i stamps) old mid s → TellsNoMore Tells Later → CutsGame (Later stamp) mid new → CutsSome Tells stamps old new
+  front_told Later i stamp other old mid new s within at (told, are, is) same (last, tells, (n, front)) =
+      let front_of : take (i + 1) stamps ≡ take i stamps ++ stamp ∷ [] = take_more stamps i other within ∙ ap (λ (s : List ℕ). take i stamps ++ s ∷ []) (sym at) in (
+        i + 1,
+        told,
+        last,
+        subst (λ (ss : List (List ℕ)). AllZip Tells ss (told ++ last ∷ [])) (sym front_of) (zip_more Tells (take i stamps) told stamp last are.0 (same stamp last tells)),
+        (n, Appends-trans old mid new (text_of (words_told told)) (take n (ended last.words)) are.1 front),
+      )
+
+  pub cuts_sums : (compares : Bool) (old mid new : Option (List ℕ)) (s : Sums) → TellsEach Tells stamps old mid s → HasFront mid new (ended (sums_words compares s)) → CutsGames Tells stamps compares old new
+  cuts_sums compares old mid new s (told, are, is) (n, front) =
+      AtSums told are.0 (n, Appends-trans old mid new (text_of (words_told told)) (take n (ended (sums_words compares (sums_of told)))) are.1 (subst (λ (x : Sums). Appends mid new (take n (ended (sums_words compares x)))) is front))
+
+  pub cuts_short : (compares : Bool) (old mid new : Option (List ℕ)) (r : Result Bool WriteFault) → TellsSome Tells stamps old mid → IfOk r (λ done. (done ≡ false) × Appends mid new (ended refused_memory)) → OnErr r (HasFront mid new (ended refused_memory)) → GamesTo Tells stamps compares old new r
+  cuts_short compares old mid new (Ok done) some h k = ends_short Tells stamps compares old mid new done some h.0 h.1
+  cuts_short compares old mid new (Err fault) (count, told, are) h (n, front) = AtRefusal count told are.0 (n, Appends-trans old mid new (text_of (words_told told)) (take n (ended refused_memory)) are.1 front)
+
+  pub cuts_game : (compares : Bool) (old new : Option (List ℕ)) → CutsSome Tells stamps old new → CutsGames Tells stamps compares old new
+  cuts_game compares old new (count, told, last, are, cut) = AtGame count told last are cut
+
+-- an error of this kind, whatever else might be returned
+pub other_err : {T U E : Type 0} (a b : E) → IsErrOf {T = T} (Err a) b → IsErrOf {T = U} (Err a) b
+other_err a b h = let same : a ≡ b = cc in ap Err same

@@ -1,5 +1,5 @@
 -- Games of a folder, or of two, that are audited by one set of tables (this project's own).
-use Rattle.std.specs.Prelude.{◌≡◌, ◌≤◌, ◌++◌, ℕ, Bool, true, false, List, [], Option, Some, None, IfSome, length, codes}
+use Rattle.std.specs.Prelude.{◌≡◌, ◌≤◌, ◌++◌, ℕ, Bool, true, false, List, [], Option, Some, None, IfSome, Result, length, codes}
 use Rattle.hex.specs.Hex.{encode_lower}
 use Rattle.board_core.specs.Delays.{most_delay}
 use Rattle.board_core.specs.declared.parts.Parts.{Parts}
@@ -10,6 +10,7 @@ use Rattle.arbiter_server.specs.Games.{IsGameOf}
 use Rattle.record_audit.specs.declared.auditing.Finding.{Finding}
 use Rattle.record_audit.specs.declared.auditing.Finding.TheVariants as found
 use Rattle.record_audit.specs.Findings.{IsFound, finding_words, is_whole, rules_with}
+use Rattle.system_io.specs.declared.output.WriteFault.{WriteFault}
 use Rattle.system_io.specs.Disks.{DiskFacts}
 use Rattle.game_status.specs.declared.audit_lines.AuditLook.{AuditLook}
 use Rattle.game_status.specs.declared.audit_lines.AuditLook.TheVariants.{Sound, Wrong}
@@ -26,7 +27,7 @@ use Rattle.game_status.specs.declared.telling.Mark.TheVariants as mark
 use Rattle.game_status.specs.Comparisons.{compared_words, mark_of}
 use Rattle.game_status.specs.Listings.{Listing}
 use Rattle.game_status.specs.Statuses.{IsLook, fault_line, other_fault_line}
-use Rattle.game_status.specs.Tellings.{GameTold, TellsFolders}
+use Rattle.game_status.specs.Tellings.{FoldersTo, GameTold, TellsFolders}
 
 -- ---- one record
 
@@ -138,6 +139,10 @@ IsAudit manifest tables disk one other stamp told = (audit : AuditLook) × IsAud
 
 abbrev pub TellsAudit : List ℕ → Tables → DiskFacts → List ℕ → Option (List ℕ) → Option (List ℕ) → Option (List ℕ) → Bool → Type 0
 TellsAudit manifest tables disk folder other = TellsFolders disk folder other (IsAudit manifest tables disk)
+
+-- the same, or the writer failed on the way
+abbrev pub TellsAuditTo : List ℕ → Tables → DiskFacts → List ℕ → Option (List ℕ) → Option (List ℕ) → Option (List ℕ) → Result Bool WriteFault → Type 0
+TellsAuditTo manifest tables disk folder other = FoldersTo disk folder other (IsAudit manifest tables disk)
 
 -- ---- what the files have, where a record is judged
 

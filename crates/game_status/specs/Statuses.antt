@@ -1,9 +1,10 @@
 -- How far the games of a folder, or of two, have come (this project's own).
-use Rattle.std.specs.Prelude.{◌≡◌, ◌≢◌, ◌++◌, ℕ, Bool, List, Option, Some, None, length, codes}
+use Rattle.std.specs.Prelude.{◌≡◌, ◌≢◌, ◌++◌, ℕ, Bool, List, Option, Some, None, Result, length, codes}
 use Rattle.std.specs.Fmt.{decimal}
 use Rattle.hex.specs.Hex.{encode_lower}
 use Rattle.move_msg.specs.declared.record_bytes.Record.{Record as Records}
 use Rattle.arbiter_server.specs.ServedLines.{verdict_or_none}
+use Rattle.system_io.specs.declared.output.WriteFault.{WriteFault}
 use Rattle.system_io.specs.Disks.{DiskFacts}
 use Rattle.game_status.specs.declared.comparing.Compared.{Compared}
 use Rattle.game_status.specs.declared.entry.EntryFault.{EntryFault}
@@ -16,7 +17,7 @@ use Rattle.game_status.specs.Comparisons.{IsComparedAs, compared_words, mark_of,
 use Rattle.game_status.specs.Entries.{fault_words, game_told}
 use Rattle.game_status.specs.Listings.{Listing}
 use Rattle.game_status.specs.Sides.{HasSide, LacksSide}
-use Rattle.game_status.specs.Tellings.{GameTold, TellsFolders}
+use Rattle.game_status.specs.Tellings.{FoldersTo, GameTold, TellsFolders}
 
 -- ---- the lines
 
@@ -79,3 +80,7 @@ IsStatus disk one other stamp told = (l : Look) × IsLook disk one other stamp l
 
 abbrev pub TellsStatus : DiskFacts → List ℕ → Option (List ℕ) → Option (List ℕ) → Option (List ℕ) → Bool → Type 0
 TellsStatus disk folder other = TellsFolders disk folder other (IsStatus disk)
+
+-- the same, or the writer failed on the way
+abbrev pub TellsStatusTo : DiskFacts → List ℕ → Option (List ℕ) → Option (List ℕ) → Option (List ℕ) → Result Bool WriteFault → Type 0
+TellsStatusTo disk folder other = FoldersTo disk folder other (IsStatus disk)

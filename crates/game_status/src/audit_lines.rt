@@ -1,8 +1,9 @@
 //! The lines of games that are audited.
 
-ghost use Rattle.std.specs.Prelude.{◌≡◌, ◌++◌, List, ℕ, IfOk, OnOk, codes};
+ghost use Rattle.std.specs.Prelude.{◌≡◌, ◌++◌, List, ℕ, IfOk, OnErr, OnOk, codes};
 ghost use Rattle.std.specs.Io.KnownBytes.{Appends};
 ghost use Rattle.hex.specs.Hex.{encode_lower};
+ghost use Rattle.line_teller.specs.ToldLines.{HasFront};
 ghost use Rattle.move_msg.specs.TextLines.{ended};
 ghost use Rattle.record_audit.specs.Findings.{finding_words};
 ghost use Rattle.game_status.specs.GameAudits.{audit_told, kept_finding, mark_of_look, pair_mark, pair_words, parted_words, sound_line, unsound_line};
@@ -12,10 +13,11 @@ use crate::comparing::{Compared, mark_of};
 use crate::entry::EntryFault;
 use crate::status_lines::{Look, put, put_fault_line, put_other_fault_line, put_stamp};
 use crate::telling::Mark;
+use arrayvec::ArrayVec;
 use move_msg::Record;
 use record_audit::Finding;
 use std::io::Write;
-use system_io::WriteFault;
+use system_io::{Output, WriteFault};
 
 /// What is wrong with a game whose files an audit can read.
 #[derive(Clone, Copy)]
@@ -202,11 +204,7 @@ fn mark_of_look(look: &Look) -> Mark
 }
 
 /// Writes the line of a game that is audited, and returns how it is counted.
-pub(crate) fn put_audit<W: Write>(
-    out: &mut W,
-    stamp: &[u8; 16],
-    look: &AuditLook,
-) -> Result<Mark, WriteFault>
+fn put_audit<W: Write>(out: &mut W, stamp: &[u8; 16], look: &AuditLook) -> Result<Mark, WriteFault>
     ensures { IfOk result (WritesTold (audit_told stamp.now look.now) (W.contents out.old) (W.contents out.new)) }
 {
     match look {
@@ -218,5 +216,25 @@ pub(crate) fn put_audit<W: Write>(
             Ok(()) => Ok(Mark::AtFault),
             Err(fault) => Err(fault),
         },
+    }
+}
+
+/// Writes the line of a game that is audited at once, and returns how it is counted. Where the writer fails, a front of it is written. No line has
+/// more than 512 bytes.
+pub(crate) fn tell_look<W: Output>(
+    out: &mut W,
+    stamp: &[u8; 16],
+    look: &AuditLook,
+) -> Result<Mark, WriteFault>
+    ensures told { IfOk result (WritesTold (audit_told stamp.now look.now) (W.contents out.old) (W.contents out.new)) }
+    ensures front { OnErr result (HasFront (W.contents out.old) (W.contents out.new) (ended (audit_told stamp.now look.now).words)) }
+{
+    let mut line: ArrayVec<u8, 512> = ArrayVec::new();
+    match put_audit(&mut line, stamp, look) {
+        Ok(mark) => match out.put(line.as_slice()) {
+            Ok(()) => Ok(mark),
+            Err(fault) => Err(fault),
+        },
+        Err(fault) => Err(fault),
     }
 }

@@ -3,10 +3,10 @@
 ghost use Rattle.std.specs.Prelude.{◌≡◌, ◌≤◌, ◌↔◌, option_map, IfOk, IfSome, IfNone, IsTrue};
 ghost use Rattle.board_core.specs.Delays.{most_delay};
 ghost use Rattle.arbiter_server.specs.Games.{IsGameOf};
-ghost use Rattle.game_status.specs.GameAudits.{AreFewDelays, IsAuditLook, IsAuditOf, IsSoundSide, IsSoundLook, IsUnsoundLook, IsUnsoundPair, IsUnsoundSide, IsUntrue, IsWhole, TellsAudit};
+ghost use Rattle.game_status.specs.GameAudits.{AreFewDelays, IsAuditLook, IsAuditOf, IsSoundSide, IsSoundLook, IsUnsoundLook, IsUnsoundPair, IsUnsoundSide, IsUntrue, IsWhole, TellsAuditTo};
 ghost use Rattle.game_status.specs.Listings.{listing_of};
 
-use crate::audit_lines::{AuditLook, Unsound, put_audit};
+use crate::audit_lines::{AuditLook, Unsound, tell_look};
 use crate::listing::list_folders;
 use crate::side::Side;
 use crate::status::StatusTeller;
@@ -19,8 +19,7 @@ use line_teller::TellFault;
 use move_msg::{Record, Stamp};
 use record_audit::{Finding, judge_moves};
 use std::alloc::{AllocError, Global};
-use std::io::Write;
-use system_io::{Disk, WriteFault};
+use system_io::{Disk, Output, WriteFault};
 
 /// By what games are audited.
 #[derive(Drop)]
@@ -181,11 +180,11 @@ impl<'a, 't, D: Disk> GameTeller for AuditTeller<'a, 't, D> {
 
     ghost tells = { λ t. IsAudit t.tables.manifest.now t.tables.set.tables (D.facts t.files.disk.now) (listing_of t.files.one.now) (option_map (λ f. listing_of f.now) t.files.other) };
 
-    fn tell<W: Write>(&mut self, stamp: &[u8; 16], out: &mut W) -> Result<Mark, TellFault> {
+    fn tell<W: Output>(&mut self, stamp: &[u8; 16], out: &mut W) -> Result<Mark, TellFault> {
         let Ok(look) = audit_game(&self.files, &mut self.tables, Stamp(*stamp)) else {
             return Err(TellFault::OutOfMemory);
         };
-        match put_audit(out, stamp, &look) {
+        match tell_look(out, stamp, &look) {
             Ok(mark) => Ok(mark),
             Err(_) => Err(TellFault::Io),
         }
@@ -199,7 +198,7 @@ impl<'a, 't, D: Disk> GameTeller for AuditTeller<'a, 't, D> {
 /// judged as `record_audit::audit` judges it. A game of which nothing is kept is no fault. Memory is that of the stamps, and of one
 /// game. `refused files` comes alone where a folder can't be listed, and `refused memory` where memory was refused, after the whole
 /// lines before it. The error comes only where the writer failed.
-pub fn tell_audit<D: Disk, W: Write>(
+pub fn tell_audit<D: Disk, W: Output>(
     alloc: Global,
     disk: &D,
     tables: AuditTables<'_>,
@@ -207,7 +206,7 @@ pub fn tell_audit<D: Disk, W: Write>(
     other: Option<&str>,
     out: &mut W,
 ) -> Result<bool, WriteFault>
-    ensures { IfOk result (TellsAudit tables.entry.manifest.now tables.entry.set.tables (D.facts disk.now) folder.now (option_map (λ s. s.now) other.entry) (W.contents out.old) (W.contents out.new)) }
+    ensures { TellsAuditTo tables.entry.manifest.now tables.entry.set.tables (D.facts disk.now) folder.now (option_map (λ s. s.now) other.entry) (W.contents out.old) (W.contents out.new) result }
 {
     let folders = match list_folders(alloc, disk, folder, other) {
         Ok(folders) => folders,

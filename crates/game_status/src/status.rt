@@ -3,13 +3,13 @@
 ghost use Rattle.std.specs.Prelude.{◌≡◌, ◌↔◌, option_map, IfOk, IsTrue};
 ghost use Rattle.game_status.specs.Entries.{game_told};
 ghost use Rattle.game_status.specs.Listings.{listing_of};
-ghost use Rattle.game_status.specs.Statuses.{IsLook, IsLookAtBoth, IsLookBeside, TellsStatus};
+ghost use Rattle.game_status.specs.Statuses.{IsLook, IsLookAtBoth, IsLookBeside, TellsStatusTo};
 
 use crate::comparing::compare_kept;
 use crate::entry::EntryFault;
 use crate::listing::{Folder, list_folders};
 use crate::side::{Side, read_side};
-use crate::status_lines::{Look, put_look};
+use crate::status_lines::{Look, tell_look};
 use crate::telling::{GameTeller, Mark, put_cut, tell_games};
 use arbiter_server::Game;
 use board_core::Position;
@@ -18,8 +18,7 @@ use fen_text::write;
 use line_teller::TellFault;
 use move_msg::Stamp;
 use std::alloc::{AllocError, Global};
-use std::io::Write;
-use system_io::{Disk, WriteFault};
+use system_io::{Disk, Output, WriteFault};
 
 /// Whether two texts are one.
 fn is_same_text(one: &[u8], other: &[u8]) -> bool
@@ -107,11 +106,11 @@ impl<'a, D: Disk> GameTeller for StatusTeller<'a, D> {
 
     ghost tells = { λ t. IsStatus (D.facts t.disk.now) (listing_of t.one.now) (option_map (λ f. listing_of f.now) t.other) };
 
-    fn tell<W: Write>(&mut self, stamp: &[u8; 16], out: &mut W) -> Result<Mark, TellFault> {
+    fn tell<W: Output>(&mut self, stamp: &[u8; 16], out: &mut W) -> Result<Mark, TellFault> {
         let Ok(look) = self.look(Stamp(*stamp)) else {
             return Err(TellFault::OutOfMemory);
         };
-        match put_look(out, stamp, &look) {
+        match tell_look(out, stamp, &look) {
             Ok(mark) => Ok(mark),
             Err(_) => Err(TellFault::Io),
         }
@@ -124,14 +123,14 @@ impl<'a, D: Disk> GameTeller for StatusTeller<'a, D> {
 /// A game is one whose file a folder lists as `STAMP.game`, and its record is listed as `STAMP.kept`. No move is judged. Memory is
 /// that of the stamps, and of one game. `refused files` comes alone where a folder can't be listed, and `refused memory` where memory
 /// was refused, after the whole lines before it. The error comes only where the writer failed.
-pub fn tell_status<D: Disk, W: Write>(
+pub fn tell_status<D: Disk, W: Output>(
     alloc: Global,
     disk: &D,
     folder: &str,
     other: Option<&str>,
     out: &mut W,
 ) -> Result<bool, WriteFault>
-    ensures { IfOk result (TellsStatus (D.facts disk.now) folder.now (option_map (λ s. s.now) other.entry) (W.contents out.old) (W.contents out.new)) }
+    ensures { TellsStatusTo (D.facts disk.now) folder.now (option_map (λ s. s.now) other.entry) (W.contents out.old) (W.contents out.new) result }
 {
     let folders = match list_folders(alloc, disk, folder, other) {
         Ok(folders) => folders,

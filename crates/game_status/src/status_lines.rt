@@ -1,8 +1,9 @@
 //! The lines of games whose records are told.
 
-ghost use Rattle.std.specs.Prelude.{◌≡◌, ◌++◌, List, ℕ, IfOk, OnOk, codes};
+ghost use Rattle.std.specs.Prelude.{◌≡◌, ◌++◌, List, ℕ, IfOk, OnErr, OnOk, codes};
 ghost use Rattle.std.specs.Io.KnownBytes.{Appends};
 ghost use Rattle.hex.specs.Hex.{encode_lower};
+ghost use Rattle.line_teller.specs.ToldLines.{HasFront};
 ghost use Rattle.move_msg.specs.TextLines.{ended};
 ghost use Rattle.game_status.specs.Comparisons.{compared_words};
 ghost use Rattle.game_status.specs.Entries.{fault_words};
@@ -14,9 +15,10 @@ use crate::entry::EntryFault;
 use crate::side::Side;
 use crate::telling::Mark;
 use arbiter_server::verdict_or_none;
+use arrayvec::ArrayVec;
 use move_msg::Record;
 use std::io::Write;
-use system_io::WriteFault;
+use system_io::{Output, WriteFault};
 
 /// What is told of a game.
 #[derive(Drop)]
@@ -185,15 +187,31 @@ fn put_line<W: Write>(out: &mut W, stamp: &[u8; 16], look: &Look) -> Result<(), 
 }
 
 /// Writes the line of a game, and returns how it is counted.
-pub(crate) fn put_look<W: Write>(
-    out: &mut W,
-    stamp: &[u8; 16],
-    look: &Look,
-) -> Result<Mark, WriteFault>
+fn put_look<W: Write>(out: &mut W, stamp: &[u8; 16], look: &Look) -> Result<Mark, WriteFault>
     ensures { IfOk result (WritesTold (told_by stamp.now look.now) (W.contents out.old) (W.contents out.new)) }
 {
     match put_line(out, stamp, look) {
         Ok(()) => Ok(mark_for(look)),
+        Err(fault) => Err(fault),
+    }
+}
+
+/// Writes the line of a game at once, and returns how it is counted. Where the writer fails, a front of it is written. No line has more than
+/// 512 bytes.
+pub(crate) fn tell_look<W: Output>(
+    out: &mut W,
+    stamp: &[u8; 16],
+    look: &Look,
+) -> Result<Mark, WriteFault>
+    ensures told { IfOk result (WritesTold (told_by stamp.now look.now) (W.contents out.old) (W.contents out.new)) }
+    ensures front { OnErr result (HasFront (W.contents out.old) (W.contents out.new) (ended (told_by stamp.now look.now).words)) }
+{
+    let mut line: ArrayVec<u8, 512> = ArrayVec::new();
+    match put_look(&mut line, stamp, look) {
+        Ok(mark) => match out.put(line.as_slice()) {
+            Ok(()) => Ok(mark),
+            Err(fault) => Err(fault),
+        },
         Err(fault) => Err(fault),
     }
 }

@@ -1,16 +1,18 @@
 //! Games that are told one by one, a line each, and counted.
 
-ghost use Rattle.std.specs.Prelude.{◌≡◌, ◌++◌, false, List, [], ℕ, IfOk, OnOk, IsErrOf};
+ghost use Rattle.std.specs.Prelude.{◌≡◌, ◌++◌, false, List, [], ℕ, IfOk, OnErr, OnOk, IsErrOf};
 ghost use Rattle.std.specs.Fmt.{decimal};
 ghost use Rattle.std.specs.Io.KnownBytes.{Appends};
 ghost use Rattle.move_msg.specs.TextLines.{ended};
-ghost use Rattle.line_teller.specs.ToldLines.{cut_words};
-ghost use Rattle.game_status.specs.Tellings.{GameTold, TellsGames, TellsNoMore, WritesGame, are_well, counts_words, differ_words, sums_of, sums_words};
-ghost use Rattle.game_status.specs.Inside.Counting.{AddsMark, AreFew, TellsEach, TellsSome};
+ghost use Rattle.system_io.specs.Outputs.{WritesFront};
+ghost use Rattle.line_teller.specs.ToldLines.{HasFront, cut_words};
+ghost use Rattle.game_status.specs.Tellings.{CutsGame, GameTold, GamesTo, TellsNoMore, WritesGame, are_well, counts_words, differ_words, sums_of, sums_words};
+ghost use Rattle.game_status.specs.Inside.Counting.{AddsMark, AreFew, CutsSome, TellsEach, TellsSome};
 
+use arrayvec::ArrayVec;
 use line_teller::TellFault;
 use std::io::Write;
-use system_io::{ReadFault, WriteFault};
+use system_io::{Output, ReadFault, WriteFault};
 
 /// How a game is counted.
 #[derive(Clone, Copy, PartialEq, Eq, Debug)]
@@ -91,21 +93,23 @@ pub trait GameTeller {
     ghost tells: { Self → List ℕ → GameTold → Type 0 };
 
     /// Writes the line of the game with this stamp, and returns how the game is counted. What is told later could have been told
-    /// before. Nothing of the line is written where memory is refused. After `Io` a part of it may be.
-    fn tell<W: Write>(&mut self, stamp: &[u8; 16], out: &mut W) -> Result<Mark, TellFault>
+    /// before. Nothing of the line is written where memory is refused. After `Io` a front of it is, and nothing else.
+    fn tell<W: Output>(&mut self, stamp: &[u8; 16], out: &mut W) -> Result<Mark, TellFault>
         ensures told { IfOk result (WritesGame (tells self.old stamp.now) (W.contents out.old) (W.contents out.new)) }
         ensures memory { IsErrOf result TellFault.OutOfMemory → W.contents out.new ≡ W.contents out.old }
+        ensures front { IsErrOf result TellFault.Io → CutsGame (tells self.old stamp.now) (W.contents out.old) (W.contents out.new) }
         ensures same { TellsNoMore (tells self.old) (tells self.new) };
 }
 
 /// Tells the games with these stamps in turn, and counts them.
-fn tell_each<T: GameTeller, W: Write>(
+fn tell_each<T: GameTeller, W: Output>(
     teller: &mut T,
     stamps: &[[u8; 16]],
     out: &mut W,
 ) -> Result<Sums, TellFault>
     ensures told { IfOk result (TellsEach (T.tells teller.old) stamps.now (W.contents out.old) (W.contents out.new)) }
     ensures memory { IsErrOf result TellFault.OutOfMemory → TellsSome (T.tells teller.old) stamps.now (W.contents out.old) (W.contents out.new) }
+    ensures front { IsErrOf result TellFault.Io → CutsSome (T.tells teller.old) stamps.now (W.contents out.old) (W.contents out.new) }
 {
     let mut sums = Sums::none();
     for stamp in stamps {
@@ -159,17 +163,35 @@ fn put_sums<W: Write>(out: &mut W, sums: &Sums, compares: bool) -> Result<(), Wr
     put_differ(out, sums.differ, compares)
 }
 
-/// Writes why no more is told, and returns that not all is.
-pub(crate) fn put_cut<W: Write>(out: &mut W, fault: ReadFault) -> Result<bool, WriteFault>
-    ensures { IfOk result (λ done. (done ≡ false) × Appends (W.contents out.old) (W.contents out.new) (ended (cut_words fault))) }
+/// Writes the line of the sums at once. Where the writer fails, a front of it is written. It has at most 128 bytes.
+fn tell_sums<W: Output>(out: &mut W, sums: &Sums, compares: bool) -> Result<(), WriteFault>
+    ensures { WritesFront (W.contents out.old) (W.contents out.new) (ended (sums_words compares sums.now)) result }
 {
-    let written = match fault {
-        ReadFault::Unreadable => out.write_all(b"refused files\n"),
-        ReadFault::OutOfMemory => out.write_all(b"refused memory\n"),
-    };
-    match written {
+    let mut line: ArrayVec<u8, 128> = ArrayVec::new();
+    match put_sums(&mut line, sums, compares) {
+        Ok(()) => out.put(line.as_slice()),
+        Err(fault) => Err(fault),
+    }
+}
+
+/// The line that says why no more is told, with its line feed.
+fn cut_line(fault: ReadFault) -> &'static str
+    ensures { result.now ≡ ended (cut_words fault) }
+{
+    match fault {
+        ReadFault::Unreadable => "refused files\n",
+        ReadFault::OutOfMemory => "refused memory\n",
+    }
+}
+
+/// Writes why no more is told, and returns that not all is. Where the writer fails, a front of that is written.
+pub(crate) fn put_cut<W: Output>(out: &mut W, fault: ReadFault) -> Result<bool, WriteFault>
+    ensures cut { IfOk result (λ done. (done ≡ false) × Appends (W.contents out.old) (W.contents out.new) (ended (cut_words fault))) }
+    ensures front { OnErr result (HasFront (W.contents out.old) (W.contents out.new) (ended (cut_words fault))) }
+{
+    match out.put(cut_line(fault).as_bytes()) {
         Ok(()) => Ok(false),
-        Err(_) => Err(WriteFault::Io),
+        Err(fault) => Err(fault),
     }
 }
 
@@ -178,16 +200,16 @@ pub(crate) fn put_cut<W: Write>(out: &mut W, fault: ReadFault) -> Result<bool, W
 ///
 /// Memory is that of one game. Where it is refused for one, the line `refused memory` follows the whole lines before it, and nothing
 /// more. The error comes only where the writer failed.
-pub(crate) fn tell_games<T: GameTeller, W: Write>(
+pub(crate) fn tell_games<T: GameTeller, W: Output>(
     teller: &mut T,
     stamps: &[[u8; 16]],
     compares: bool,
     out: &mut W,
 ) -> Result<bool, WriteFault>
-    ensures { IfOk result (TellsGames (T.tells teller.old) stamps.now compares (W.contents out.old) (W.contents out.new)) }
+    ensures { GamesTo (T.tells teller.old) stamps.now compares (W.contents out.old) (W.contents out.new) result }
 {
     match tell_each(teller, stamps, out) {
-        Ok(sums) => match put_sums(out, &sums, compares) {
+        Ok(sums) => match tell_sums(out, &sums, compares) {
             Ok(()) => Ok(sums.are_well()),
             Err(fault) => Err(fault),
         },

@@ -1,6 +1,6 @@
 -- What is told ply by ply and what is told of the whole game are one.
 use Rattle.std.proofs.Common.{◌≡◌, ◌∙◌, sym, ap, subst, refl, inl, inr, ℕ, zero, suc, ◌+◌, ◌<◌, Bool, List, [], ◌∷◌, ◌++◌, length, take, Option, Some, None, IsSome, append-nil, append_assoc, ◌⊎◌, arith}
-use Rattle.std.specs.Prelude.{slice_get}
+use Rattle.std.specs.Prelude.{slice_get, Result, Ok, Err, IfOk}
 use Rattle.std.specs.Io.KnownBytes.{Appends}
 use Rattle.std.proofs.lemmas.List.{length-append, length-take, length-take-le, take_all, take-append-le, take-take}
 use Rattle.board_core.specs.declared.moves.Move.{Move as Moves}
@@ -15,12 +15,13 @@ use Rattle.judge_core.proofs.InWords.{looks_back}
 use Rattle.judge_core.proofs.OneOutcome.{one_outcome}
 use Rattle.line_teller.proofs.TellLaws.{read_front, read_one, reads_the_text}
 use Rattle.move_msg.specs.TextLines.{ended, lines_in, text_of}
+use Rattle.system_io.specs.declared.output.WriteFault.{WriteFault}
 use Rattle.system_io.specs.declared.reading.ReadFault.{ReadFault}
 use Rattle.system_io.specs.LineReaders.{ReadsLine}
 use Rattle.game_teller.specs.declared.lines.Stop.{Stop}
 use Rattle.game_teller.specs.declared.lines.Stop.TheVariants as stop
 use Rattle.game_teller.specs.Plies.{ply_words, stop_words}
-use Rattle.game_teller.specs.Followings.{Follows, NotBegun, Open, Ruled, Stopped, StopsAt, TellsPlies, TellsPly}
+use Rattle.game_teller.specs.Followings.{Follows, FollowsTo, NotBegun, Open, Ruled, Stopped, StopsAt, TellsPlies, TellsPly}
 use Rattle.game_teller.specs.Agreements.{AgreesIfKnown, AgreesWithGame, EndsWithLine, IsCutShort, IsLastLine}
 
 -- the last of some lines
@@ -154,3 +155,7 @@ module _ (one : HasOneMove) where
   pub agrees_if_known : (rules : Rules) (Stops : ReadFault → Type 0) (left old new : Option (List ℕ)) (done : Bool) → Follows rules Stops left old new done → AgreesIfKnown rules left old new
   agrees_if_known rules Stops None old new done h = tt
   agrees_if_known rules Stops (Some text) old new done h = agrees rules Stops text old new done h
+
+  pub agrees_to : (rules : Rules) (Stops : ReadFault → Type 0) (left old new : Option (List ℕ)) (r : Result Bool WriteFault) → FollowsTo rules Stops left old new r → IfOk r (λ done. AgreesIfKnown rules left old new)
+  agrees_to rules Stops left old new (Ok done) h = agrees_if_known rules Stops left old new done h
+  agrees_to rules Stops left old new (Err fault) h = tt

@@ -1,9 +1,9 @@
 -- A game that is told ply by ply as its moves come.
 use Rattle.std.proofs.Common.{◌≡◌, ◌∙◌, sym, ap, subst, refl, ◌⊎◌, inl, inr, ℕ, zero, suc, Bool, ◌+◌, ◌-◌, ◌^◌, ◌<◌, ◌≤◌, true, false, List, [], ◌∷◌, ◌++◌, length, take, Option, Some, None, IsSome, is_some, append-nil, arith}
-use Rattle.std.specs.Prelude.{slice_get}
+use Rattle.std.specs.Prelude.{slice_get, Result, Ok, Err}
 use Rattle.std.specs.Option.{option_and_then}
 use Rattle.std.specs.Io.KnownBytes.{Appends, IsAtEnd, Keeps}
-use Rattle.std.proofs.KnownBytes.{Keeps-refl}
+use Rattle.std.proofs.KnownBytes.{Appends-trans, Keeps-refl}
 use Rattle.std.proofs.lemmas.List.{take_all, take-append-le, length-append}
 use Rattle.board_core.specs.declared.moves.Move.{Move as Moves}
 use Rattle.board_core.specs.declared.parts.Parts.{Parts}
@@ -17,10 +17,11 @@ use Rattle.judge_core.specs.Standings.{IsAt, Reached}
 use Rattle.judge_core.proofs.Plies.{goes_on}
 use Rattle.judge_core.proofs.WholeGames.{is_first_at_end, is_going_at_end}
 use Rattle.judge_core.specs.Tables.{Holding, Tables}
-use Rattle.line_teller.specs.ToldLines.{AreRead, AsksInTurn, AsksOne, TellsInTurn, refused_files, refused_memory}
+use Rattle.line_teller.specs.ToldLines.{AreRead, AsksInTurn, AsksOne, CutsAfter, HasFront, TellsInTurn, refused_files, refused_memory}
 use Rattle.line_teller.proofs.TellLaws.{are_read_more}
 use Rattle.move_msg.specs.TextLines.{ended, text_of}
 use Rattle.move_msg.proofs.LineLaws.{more_lines}
+use Rattle.system_io.specs.declared.output.WriteFault.{WriteFault}
 use Rattle.system_io.specs.declared.reading.ReadFault.{ReadFault}
 use Rattle.system_io.specs.declared.reading.ReadFault.TheVariants as read
 use Rattle.system_io.specs.LineReaders.{LineFacts, ReadsLine}
@@ -28,8 +29,8 @@ use Rattle.system_io.specs.Outputs.{OutputFacts}
 use Rattle.game_teller.specs.declared.lines.Stop.{Stop}
 use Rattle.game_teller.specs.declared.lines.Stop.TheVariants as stop
 use Rattle.game_teller.specs.Plies.{ply_words, stop_words}
-use Rattle.game_teller.specs.Followings.{Follows, HasFollowed, NotBegun, Open, Ruled, Stopped, StopsAt, TellsPlies, TellsPly}
-use Rattle.game_teller.specs.Inside.Steps.{HasBegun, HasTurned, IsNoTurn, PutsPly, stop_by}
+use Rattle.game_teller.specs.Followings.{AtBegin, AtPly, AtStop, CutsGame, Follows, FollowsTo, HasFollowed, NotBegun, Open, Ruled, Stopped, StopsAt, TellsPlies, TellsPly}
+use Rattle.game_teller.specs.Inside.Steps.{HasBegun, HasTurned, IsNoTurn, PutsPly, StepCuts, stop_by}
 
 -- no ply before the one after a further move has a verdict
 none_before : (r : Rules) (moves : List Moves) (m : Moves) → IsGoing r moves → IsUnruled r (moves ++ m ∷ []) (length (moves ++ m ∷ []))
@@ -210,21 +211,60 @@ module _ (rules : Rules) where
     pub too_many : (mid new : Option (List ℕ)) → FollowedSoFar count left now old mid s → 2 ^ 64 - 1 ≤ count → Appends mid new (ended (stop_words stop.Unread)) → Follows rules Stops left old new false
     too_many mid new h many wrote = stopped now mid new h stop.Unread (inr (subst (λ n. 2 ^ 64 - 1 ≤ n) (sym h.count_is) many)) wrote
 
+-- ---- a writer that fails
+
+module _ (rules : Rules) where
+  after : (old mid new : Option (List ℕ)) (told : List (List ℕ)) (last : List ℕ) → Appends old mid (text_of told) → HasFront mid new (ended last) → CutsAfter told last old new
+  after old mid new told last wrote (n, front) = (n, Appends-trans old mid new (text_of told) (take n (ended last)) wrote front)
+
+  -- at the line of the start
+  pub start_cut : (Stops : ReadFault → Type 0) (s : Reached) (left old new : Option (List ℕ)) → IsAt rules [] s → (v : Option Verdict) × (v ≡ verdict_after rules []) × HasFront old new (ended (ply_words 0 v s.position)) → CutsGame rules Stops left old new
+  unfolding start_told
+  start_cut Stops s left old new at (v, is, front) = AtPly left [] [] (ply_words 0 v s.position) (start_told rules s v left None None at is tt).has front
+
+  unwritten : (count : ℕ) (left now old new : Option (List ℕ)) (s : Reached) → FollowedSoFar rules count left now old new s → FollowedSoFar rules count left now None None s
+  unwritten count left now old new s h = record { moves = h.moves; told = h.told; has = h.has; at = h.at; going = h.going; written = tt; count_is = h.count_is }
+
+  -- at what came of a line
+  pub next_cut : (Now Stops : ReadFault → Type 0) (tables : Tables) (delay : ℕ) → rules.tables ≡ tables → rules.delay ≡ delay → ((fault : ReadFault) → Now fault → Stops fault) → (count : ℕ) (left now next old mid new : Option (List ℕ)) (s t : Reached) → FollowedSoFar rules count left now old mid s → StepCuts Now tables delay count now next s t mid new → CutsGame rules Stops left old new
+  unfolding told_more unwritten
+  next_cut Now Stops tables delay by_tables by_delay back count left now next old mid new s t h (inl (line, read, inl (turned, (v, verdict, front)))) =
+      let more = told_more rules tables delay by_tables by_delay count left now next None None None s t v (unwritten count left now old mid s h) (line, read, turned, (verdict, tt)) in
+      AtPly next more.moves h.told (ply_words (count + 1) v t.position) more.has (after old mid new h.told (ply_words (count + 1) v t.position) h.written front)
+  next_cut Now Stops tables delay by_tables by_delay back count left now next old mid new s t h (inl (line, read, inr (why, bad, front))) =
+      AtStop now next h.moves h.told h.has h.going why (stops_at rules Stops count left now old s tables by_tables next mid h line why read bad) (after old mid new h.told (stop_words why) h.written front)
+  next_cut Now Stops tables delay by_tables by_delay back count left now next old mid new s t h (inr (fault, is, front)) =
+      AtStop now next h.moves h.told h.has h.going (stop_by fault) (stops_by_fault rules Stops count left now old s next mid h fault (back fault is)) (after old mid new h.told (stop_words (stop_by fault)) h.written front)
+
+  -- so many moves were read that no more are counted
+  pub many_cut : (Stops : ReadFault → Type 0) (count : ℕ) (left now old mid new : Option (List ℕ)) (s : Reached) → FollowedSoFar rules count left now old mid s → 2 ^ 64 - 1 ≤ count → HasFront mid new (ended (stop_words stop.Unread)) → CutsGame rules Stops left old new
+  many_cut Stops count left now old mid new s h many front =
+      AtStop now now h.moves h.told h.has h.going stop.Unread (inr (subst (λ n. 2 ^ 64 - 1 ≤ n) (sym h.count_is) many)) (after old mid new h.told (stop_words stop.Unread) h.written front)
+
 -- ---- another reason for a failure
 
-pub follows_so : (rules : Rules) (Now Stops : ReadFault → Type 0) (left old new : Option (List ℕ)) (done : Bool) → ((fault : ReadFault) → Now fault → Stops fault) → Follows rules Now left old new done → Follows rules Stops left old new done
+stops_so : (rules : Rules) (Now Stops : ReadFault → Type 0) → ((fault : ReadFault) → Now fault → Stops fault) → (now after : Option (List ℕ)) (moves : List Moves) (why : Stop) → StopsAt rules Now now after moves why → StopsAt rules Stops now after moves why
+stops_so rules Now Stops back now after moves (stop.NotAMove place) h = h
+stops_so rules Now Stops back now after moves (stop.Illegal place) h = h
+stops_so rules Now Stops back now after moves stop.Unread (inl h) = inl (back read.Unreadable h)
+stops_so rules Now Stops back now after moves stop.Unread (inr h) = inr h
+stops_so rules Now Stops back now after moves stop.OutOfMemory (inl h) = inl (back read.OutOfMemory h)
+stops_so rules Now Stops back now after moves stop.OutOfMemory (inr h) = inr h
+
+follows_so : (rules : Rules) (Now Stops : ReadFault → Type 0) (left old new : Option (List ℕ)) (done : Bool) → ((fault : ReadFault) → Now fault → Stops fault) → Follows rules Now left old new done → Follows rules Stops left old new done
 follows_so rules Now Stops left old new done back (Ruled now moves told has v out wrote is) = Ruled now moves told has v out wrote is
 follows_so rules Now Stops left old new done back (Open now moves told has out end wrote is) = Open now moves told has out end wrote is
-follows_so rules Now Stops left old new done back (Stopped now after moves told has out why at wrote is) = Stopped now after moves told has out why (stops_so why at) wrote is
-  where
-    stops_so : (why : Stop) → StopsAt rules Now now after moves why → StopsAt rules Stops now after moves why
-    stops_so (stop.NotAMove place) h = h
-    stops_so (stop.Illegal place) h = h
-    stops_so stop.Unread (inl h) = inl (back read.Unreadable h)
-    stops_so stop.Unread (inr h) = inr h
-    stops_so stop.OutOfMemory (inl h) = inl (back read.OutOfMemory h)
-    stops_so stop.OutOfMemory (inr h) = inr h
+follows_so rules Now Stops left old new done back (Stopped now after moves told has out why at wrote is) = Stopped now after moves told has out why (stops_so rules Now Stops back now after moves why at) wrote is
 follows_so rules Now Stops left old new done back (NotBegun lists wrote is) = NotBegun lists wrote is
+
+cuts_so : (rules : Rules) (Now Stops : ReadFault → Type 0) (left old new : Option (List ℕ)) → ((fault : ReadFault) → Now fault → Stops fault) → CutsGame rules Now left old new → CutsGame rules Stops left old new
+cuts_so rules Now Stops left old new back (AtPly now moves told last has cut) = AtPly now moves told last has cut
+cuts_so rules Now Stops left old new back (AtStop now after moves told has out why at cut) = AtStop now after moves told has out why (stops_so rules Now Stops back now after moves why at) cut
+cuts_so rules Now Stops left old new back (AtBegin lists front) = AtBegin lists front
+
+pub follows_to : (rules : Rules) (Now Stops : ReadFault → Type 0) (left old new : Option (List ℕ)) (r : Result Bool WriteFault) → ((fault : ReadFault) → Now fault → Stops fault) → FollowsTo rules Now left old new r → FollowsTo rules Stops left old new r
+follows_to rules Now Stops left old new (Ok done) back h = follows_so rules Now Stops left old new done back h
+follows_to rules Now Stops left old new (Err fault) back h = cuts_so rules Now Stops left old new back h
 
 -- ---- in turn
 

@@ -1,5 +1,5 @@
 -- A game that is told ply by ply as its moves come (this project's own).
-use Rattle.std.specs.Prelude.{◌≡◌, ◌≤◌, ◌⊎◌, ◌+◌, ◌-◌, ◌^◌, ◌++◌, ℕ, Bool, true, false, List, [], ◌∷◌, length, take, slice_get, Option, Some}
+use Rattle.std.specs.Prelude.{◌≡◌, ◌≤◌, ◌⊎◌, ◌+◌, ◌-◌, ◌^◌, ◌++◌, ℕ, Bool, true, false, List, [], ◌∷◌, length, take, slice_get, Option, Some, Result, Ok, Err}
 use Rattle.std.specs.Io.KnownBytes.{Appends, IsAtEnd}
 use Rattle.board_core.specs.declared.parts.Parts.{Parts}
 use Rattle.board_core.specs.declared.moves.Move.{Move as Moves}
@@ -8,8 +8,9 @@ use Rattle.fen_text.specs.Coordinates.{AreMoves, SpellsMove}
 use Rattle.judge_core.specs.Answers.{ListsMovesForVerdict}
 use Rattle.judge_core.specs.declared.game.GameOutcome.TheVariants as outcome
 use Rattle.judge_core.specs.Games.{IsOutcome, Rules, position_after_all, verdict_after}
-use Rattle.line_teller.specs.ToldLines.{AreRead, TellsInTurn}
+use Rattle.line_teller.specs.ToldLines.{AreRead, CutsAfter, HasFront, TellsInTurn}
 use Rattle.move_msg.specs.TextLines.{ended, text_of}
+use Rattle.system_io.specs.declared.output.WriteFault.{WriteFault}
 use Rattle.system_io.specs.declared.reading.ReadFault.{ReadFault}
 use Rattle.system_io.specs.declared.reading.ReadFault.TheVariants as read
 use Rattle.system_io.specs.LineReaders.{LineFacts, ReadsLine}
@@ -54,6 +55,18 @@ pub data Follows (rules : Rules) (Stops : ReadFault → Type 0) (left old new : 
   Open : (now : Option (List ℕ)) (moves : List Moves) (told : List (List ℕ)) → HasFollowed rules left now moves told → IsOutcome rules moves outcome.Going → IsAtEnd now → Appends old new (text_of told) → done ≡ true → Follows rules Stops left old new done
   Stopped : (now after : Option (List ℕ)) (moves : List Moves) (told : List (List ℕ)) → HasFollowed rules left now moves told → IsOutcome rules moves outcome.Going → (why : Stop) → StopsAt rules Stops now after moves why → Appends old new (text_of (told ++ stop_words why ∷ [])) → done ≡ false → Follows rules Stops left old new done
   NotBegun : ListsMovesForVerdict rules.tables rules.start → Appends old new (ended (stop_words stop.OutOfMemory)) → done ≡ false → Follows rules Stops left old new done
+
+-- What a writer that failed leaves: the lines of the plies so far, of the last of which a front; or these whole, and a front of the line that
+-- says why no more is told; or a front of that line alone, where memory was refused for the start.
+pub data CutsGame (rules : Rules) (Stops : ReadFault → Type 0) (left old new : Option (List ℕ)) : Type 0 where
+  AtPly : (now : Option (List ℕ)) (moves : List Moves) (told : List (List ℕ)) (last : List ℕ) → HasFollowed rules left now moves (told ++ last ∷ []) → CutsAfter told last old new → CutsGame rules Stops left old new
+  AtStop : (now after : Option (List ℕ)) (moves : List Moves) (told : List (List ℕ)) → HasFollowed rules left now moves told → IsOutcome rules moves outcome.Going → (why : Stop) → StopsAt rules Stops now after moves why → CutsAfter told (stop_words why) old new → CutsGame rules Stops left old new
+  AtBegin : ListsMovesForVerdict rules.tables rules.start → HasFront old new (ended (stop_words stop.OutOfMemory)) → CutsGame rules Stops left old new
+
+-- the game is told; or the writer failed on the way
+abbrev pub FollowsTo : Rules → (ReadFault → Type 0) → Option (List ℕ) → Option (List ℕ) → Option (List ℕ) → Result Bool WriteFault → Type 0
+FollowsTo rules Stops left old new (Ok done) = Follows rules Stops left old new done
+FollowsTo rules Stops left old new (Err fault) = CutsGame rules Stops left old new
 
 -- ---- in turn
 

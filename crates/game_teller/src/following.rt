@@ -1,6 +1,6 @@
 //! A game that is told ply by ply as its moves come.
 
-ghost use Rattle.std.specs.Prelude.{◌≡◌, ◌≤◌, ◌<◌, ◌^◌, ◌-◌, IfErr, IfOk, List, OnOk, Option, Some, ℕ};
+ghost use Rattle.std.specs.Prelude.{◌≡◌, ◌≤◌, ◌<◌, ◌^◌, ◌-◌, IfErr, IfOk, List, OnErr, OnOk, Option, Some, ℕ};
 ghost use Rattle.board_core.specs.ComputedMoves.{position_after};
 ghost use Rattle.board_core.specs.declared.moves.Move.{Move as Moves};
 ghost use Rattle.board_core.specs.Delays.{most_delay};
@@ -9,8 +9,8 @@ ghost use Rattle.judge_core.specs.Games.{Rules};
 ghost use Rattle.line_teller.specs.ToldLines.{TellsInTurn, stops_by};
 ghost use Rattle.system_io.specs.declared.reading.ReadFault.{ReadFault};
 ghost use Rattle.game_teller.specs.Agreements.{AgreesIfKnown};
-ghost use Rattle.game_teller.specs.Followings.{Follows, FollowsInTurn};
-ghost use Rattle.game_teller.specs.Inside.Steps.{HasBegun, IsNoNext, LineSteps, PutsPly, Steps, Turns, stop_by};
+ghost use Rattle.game_teller.specs.Followings.{FollowsInTurn, FollowsTo};
+ghost use Rattle.game_teller.specs.Inside.Steps.{CutsPly, HasBegun, IsNoNext, LineCuts, LineSteps, PutsPly, StepCuts, Steps, Turns, stop_by};
 
 use crate::lines::{Stop, put_ply_now, put_stop};
 use board_core::{Position, Verdict};
@@ -97,6 +97,7 @@ impl<'a> Course<'a> {
     ) -> Result<Option<Verdict>, WriteFault>
         requires { self.now.delay ≤ most_delay }
         ensures ply { IfOk result (PutsPly self.now.delay number self.now.standing (W.contents out.old) (W.contents out.new)) }
+        ensures front { OnErr result (CutsPly self.now.delay number self.now.standing (W.contents out.old) (W.contents out.new)) }
         ensures gone { OnOk result (W.facts out.new).gone }
     {
         let verdict = self.standing.verdict(self.delay);
@@ -116,6 +117,7 @@ impl<'a> Course<'a> {
         requires delay { self.old.delay ≤ most_delay }
         requires more { number < 2 ^ 64 - 1 }
         ensures steps { IfOk result (LineSteps self.old.set.tables self.old.delay number self.old.standing line.now self.new.standing (W.contents out.old) (W.contents out.new)) }
+        ensures front { OnErr result (LineCuts self.old.set.tables self.old.delay number self.old.standing line.now self.new.standing (W.contents out.old) (W.contents out.new)) }
         ensures gone { IfOk result (λ step. (v : Option Verdict) → step ≡ Step.Told v → (W.facts out.new).gone) }
         ensures set { self.new.set ≡ self.old.set }
         ensures delay { self.new.delay ≡ self.old.delay }
@@ -145,6 +147,7 @@ impl<'a> Course<'a> {
         // No line is awaited before what was told has gone out.
         requires gone { (W.facts out.old).gone }
         ensures steps { IfOk result (Steps (stops_by (L.facts reader.old)) self.old.set.tables self.old.delay number (L.facts reader.old).left (L.facts reader.new).left self.old.standing self.new.standing (W.contents out.old) (W.contents out.new)) }
+        ensures front { OnErr result (StepCuts (stops_by (L.facts reader.old)) self.old.set.tables self.old.delay number (L.facts reader.old).left (L.facts reader.new).left self.old.standing self.new.standing (W.contents out.old) (W.contents out.new)) }
         ensures gone { IfOk result (λ step. (v : Option Verdict) → step ≡ Step.Told v → (W.facts out.new).gone) }
         ensures reader { (fault : ReadFault) → stops_by (L.facts reader.new) fault → stops_by (L.facts reader.old) fault }
         ensures set { self.new.set ≡ self.old.set }
@@ -170,7 +173,7 @@ impl<'a> Course<'a> {
         requires delay { self.old.delay ≤ most_delay }
         requires gone { (W.facts out.old).gone }
         ensures follows { (rules : Rules) (before : Option (List ℕ)) → rules.tables ≡ self.old.set.tables → rules.delay ≡ self.old.delay
-            → HasBegun rules self.old.standing before (W.contents out.old) → IfOk result (Follows rules (stops_by (L.facts reader.old)) (L.facts reader.old).left before (W.contents out.new)) }
+            → HasBegun rules self.old.standing before (W.contents out.old) → FollowsTo rules (stops_by (L.facts reader.old)) (L.facts reader.old).left before (W.contents out.new) result }
         ensures turns { OnOk result (TellsInTurn L.facts W.facts W.contents reader.old out.old out.new) }
     {
         let mut line = Vec::new(self.alloc);
@@ -200,7 +203,7 @@ fn follow_moves<L: LineReader, W: Output>(
     out: &mut W,
 ) -> Result<bool, WriteFault>
     requires { delay ≤ most_delay }
-    ensures follows { IfOk result (Follows (record { start = start.now; tables = set.entry.tables; delay = delay }) (stops_by (L.facts reader.old)) (L.facts reader.old).left (W.contents out.old) (W.contents out.new)) }
+    ensures follows { FollowsTo (record { start = start.now; tables = set.entry.tables; delay = delay }) (stops_by (L.facts reader.old)) (L.facts reader.old).left (W.contents out.old) (W.contents out.new) result }
     ensures turns { OnOk result (FollowsInTurn L.facts W.facts W.contents reader.old out.old out.new) }
 {
     let standing = match set.begin(alloc, start) {
@@ -242,8 +245,8 @@ pub fn follow_game<L: LineReader, W: Output>(
     out: &mut W,
 ) -> Result<bool, WriteFault>
     requires { delay ≤ most_delay }
-    // Each ply is told up to the first verdict.
-    ensures follows { IfOk result (Follows (record { start = start.now; tables = set.entry.tables; delay = delay }) (stops_by (L.facts reader.old)) (L.facts reader.old).left (W.contents out.old) (W.contents out.new)) }
+    // Each ply is told up to the first verdict. Where the writer fails, the lines before are written whole, and a front of the last.
+    ensures follows { FollowsTo (record { start = start.now; tables = set.entry.tables; delay = delay }) (stops_by (L.facts reader.old)) (L.facts reader.old).left (W.contents out.old) (W.contents out.new) result }
 
     // The last line is that of the outcome of the whole game.
     ensures as_game { IfOk result (λ done. AgreesIfKnown (record { start = start.now; tables = set.entry.tables; delay = delay }) (L.facts reader.old).left (W.contents out.old) (W.contents out.new)) }

@@ -1,10 +1,12 @@
 //! The lines of a game that is told ply by ply.
 
-ghost use Rattle.std.specs.Prelude.{◌≡◌, OnOk};
+ghost use Rattle.std.specs.Prelude.{◌≡◌, IfSome, OnOk};
 ghost use Rattle.std.specs.Io.KnownBytes.{Appends};
 ghost use Rattle.move_msg.specs.TextLines.{ended};
 ghost use Rattle.game_teller.specs.Plies.{ply_words, stop_words};
+ghost use Rattle.system_io.specs.Outputs.{WritesFront};
 
+use arrayvec::ArrayVec;
 use board_core::{Position, Verdict};
 use fen_text::write;
 use judge_core::verdict_or_open;
@@ -41,13 +43,34 @@ impl fmt::Display for Stop {
     }
 }
 
-/// Writes why no more is told.
-pub(crate) fn put_stop<W: Write>(out: &mut W, stop: Stop) -> Result<(), WriteFault>
+/// Writes the line that says why no more is told.
+fn put_stop_line<W: Write>(out: &mut W, stop: Stop) -> Result<(), WriteFault>
     ensures { OnOk result (Appends (W.contents out.old) (W.contents out.new) (ended (stop_words stop))) }
 {
     match writeln!(out, "{stop}") {
         Ok(()) => Ok(()),
         Err(_) => Err(WriteFault::Io),
+    }
+}
+
+/// The text of that line; none where it has more than 64 bytes, which none has.
+fn stop_text(stop: Stop) -> Option<ArrayVec<u8, 64>>
+    ensures { IfSome result (λ t. t.items ≡ ended (stop_words stop)) }
+{
+    let mut text = ArrayVec::new();
+    match put_stop_line(&mut text, stop) {
+        Ok(()) => Some(text),
+        Err(_) => None,
+    }
+}
+
+/// Writes why no more is told. Where the writer fails, a front of that is written.
+pub(crate) fn put_stop<W: Output>(out: &mut W, stop: Stop) -> Result<(), WriteFault>
+    ensures { WritesFront (W.contents out.old) (W.contents out.new) (ended (stop_words stop)) result }
+{
+    match stop_text(stop) {
+        Some(text) => out.put(text.as_slice()),
+        None => Err(WriteFault::Io),
     }
 }
 
@@ -68,17 +91,35 @@ fn put_ply<W: Write>(
     }
 }
 
-/// Writes a ply, and flushes it.
+/// The text of a ply; none where it has more than 256 bytes, which none has.
+fn ply_text(
+    number: usize,
+    verdict: Option<Verdict>,
+    position: &Position,
+) -> Option<ArrayVec<u8, 256>>
+    ensures { IfSome result (λ t. t.items ≡ ended (ply_words number verdict position.now)) }
+{
+    let mut text = ArrayVec::new();
+    match put_ply(&mut text, number, verdict, position) {
+        Ok(()) => Some(text),
+        Err(_) => None,
+    }
+}
+
+/// Writes a ply, and flushes it. Where the writer fails, a front of its line is written.
 pub(crate) fn put_ply_now<W: Output>(
     out: &mut W,
     number: usize,
     verdict: Option<Verdict>,
     position: &Position,
 ) -> Result<(), WriteFault>
-    ensures ply { OnOk result (Appends (W.contents out.old) (W.contents out.new) (ended (ply_words number verdict position.now))) }
+    ensures front { WritesFront (W.contents out.old) (W.contents out.new) (ended (ply_words number verdict position.now)) result }
     ensures gone { OnOk result (W.facts out.new).gone }
 {
-    match put_ply(out, number, verdict, position) {
+    let Some(text) = ply_text(number, verdict, position) else {
+        return Err(WriteFault::Io);
+    };
+    match out.put(text.as_slice()) {
         Ok(()) => out.flush_all(),
         Err(fault) => Err(fault),
     }

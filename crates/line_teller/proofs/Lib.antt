@@ -1,1 +1,2 @@
 pub mod TellLaws
+pub mod FrontLaws

@@ -1,22 +1,23 @@
 -- Lines of an input that are told as they come.
 use Rattle.std.proofs.Common.{◌≡◌, ◌≢◌, ◌⊎◌, ℕ, ◌+◌, ◌-◌, ◌^◌, ◌≤◌, ◌<◌, Bool, true, false, All, List, [], ◌∷◌, ◌++◌, cond, length, ne_eqb, Option, Some, None, IfSome, refl, sym, ap, subst, ◌∙◌, append_assoc, append-nil, inl, inr, arith, length-append}
-use Rattle.std.specs.Prelude.{◌&&◌, ◌==◌, Err}
+use Rattle.std.specs.Prelude.{◌&&◌, ◌==◌, Result, Ok, Err, OnOk, take}
 use Rattle.std.specs.Result.{IsErrOf}
 use Rattle.std.specs.List.{AllByRecursion, onto_first, slice_split}
 use Rattle.std.proofs.lemmas.List.Elements.{recursion_from_All}
 use Rattle.std.proofs.lemmas.List.Splits.{length-slice_split}
 use Rattle.std.specs.Io.KnownBytes.{Appends, IsAtEnd, Keeps}
-use Rattle.std.proofs.KnownBytes.{Appends-kept, Appends-nil}
+use Rattle.std.proofs.KnownBytes.{Appends-kept, Appends-nil, Appends-trans}
 use Rattle.std.proofs.lemmas.List.{map-append}
 use Rattle.move_msg.specs.TextLines.{ended, lines_in, text_of, whole_lines}
 use Rattle.move_msg.proofs.LineLaws.{more_lines}
 use Rattle.system_io.specs.LineReaders.{LineFacts, ReadsLine}
 use Rattle.system_io.specs.Outputs.{OutputFacts}
+use Rattle.system_io.specs.declared.output.WriteFault.{WriteFault}
 use Rattle.system_io.specs.declared.reading.ReadFault.{ReadFault}
 use Rattle.system_io.specs.declared.reading.ReadFault.TheVariants as read
 use Rattle.line_teller.specs.declared.told_lines.Step.{Step}
 use Rattle.line_teller.specs.declared.told_lines.Step.TheVariants as step
-use Rattle.line_teller.specs.ToldLines.{AllTold, AreRead, AsksInTurn, AsksOne, MayWait, TellsInTurn, CutOff, CutShort, HasTold, IsCut, LineTold, ReadAll, StepTells, TellsLines, TextCutShort, WantsMemory, WritesRead, WritesText, WritesTold, all_told, cut_words, refused_files, refused_memory, stops_by, words_told}
+use Rattle.line_teller.specs.ToldLines.{AllTold, AreRead, AtAnswer, AtRefusal, AtStop, Between, CutsRead, HasFront, StepCut, TellsNoMore, TellsRead, AsksInTurn, AsksOne, MayWait, TellsInTurn, CutOff, CutShort, HasTold, IsCut, LineTold, ReadAll, StepTells, TellsLines, TextCutShort, WantsMemory, WritesRead, WritesText, WritesTold, all_told, cut_words, refused_files, refused_memory, stops_by, words_told}
 
 pub are_read_more : (a b c : Option (List ℕ)) (lines : List (List ℕ)) (line : List ℕ) → AreRead a lines b → ReadsLine b c line → AreRead a (lines ++ line ∷ []) c
 unfolding AreRead
@@ -100,6 +101,33 @@ cut_by input read.OutOfMemory room = inr (refl, room)
 pub told_most : (Tells : List ℕ → LineTold → Type 0) (TakesMemory : List ℕ → Type 0) (Fails : ReadFault → Type 0) (count : ℕ) (input now old mid new : Option (List ℕ)) (done : Bool) → ToldSoFar Tells count input now old mid done → 2 ^ 64 - 1 ≤ count → Appends mid new (ended refused_files) → WritesRead Tells TakesMemory Fails input old new false
 told_most Tells TakesMemory Fails count input now old mid new done h many wrote = CutShort h.told now refused_files h.has (inl (refl, inr (subst (λ n. 2 ^ 64 - 1 ≤ n) (sym h.count_is) many))) (more_lines old mid new (words_told h.told) refused_files h.written wrote) refl
 
+-- ---- a writer that fails
+
+-- what is written so far, and a front of one line more
+front_later : (old mid new : Option (List ℕ)) (first text : List ℕ) → Appends old mid first → HasFront mid new text → (n : ℕ) × Appends old new (first ++ take n text)
+front_later old mid new first text wrote (n, cut) = (n, Appends-trans old mid new first (take n text) wrote cut)
+
+-- nothing is written where nothing was
+pub front_of_same : (old mid new : Option (List ℕ)) (text : List ℕ) → mid ≡ old → HasFront mid new text → HasFront old new text
+front_of_same old mid new text same h = subst (λ o. HasFront o new text) same h
+
+-- what was told can't go out
+pub cuts_between : (Tells : List ℕ → LineTold → Type 0) (TakesMemory : List ℕ → Type 0) (Fails : ReadFault → Type 0) (count : ℕ) (input now old mid new : Option (List ℕ)) (done : Bool) → ToldSoFar Tells count input now old mid done → Keeps mid new → CutsRead Tells TakesMemory Fails input old new
+cuts_between Tells TakesMemory Fails count input now old mid new done h kept = Between h.told now h.has (Appends-kept old mid new _ h.written kept)
+
+pub cuts_next : (Tells Later : List ℕ → LineTold → Type 0) (TakesMemory : List ℕ → Type 0) (Now Fails : ReadFault → Type 0) (count : ℕ) (input now next old mid new : Option (List ℕ)) (done : Bool) → ToldSoFar Tells count input now old mid done → ((fault : ReadFault) → Now fault → Fails fault) → TellsNoMore Tells Later → StepCut Later TakesMemory Now now next mid new → CutsRead Tells TakesMemory Fails input old new
+cuts_next Tells Later TakesMemory Now Fails count input now next old mid new done h back same (inl (line, read, inl (last, tells, front))) = AtAnswer h.told now next line h.has read last (same line last tells) (front_later old mid new (text_of (words_told h.told)) (ended last.words) h.written front)
+cuts_next Tells Later TakesMemory Now Fails count input now next old mid new done h back same (inl (line, read, inr (takes, front))) = AtRefusal h.told now next line h.has read takes (front_later old mid new (text_of (words_told h.told)) (ended refused_memory) h.written front)
+cuts_next Tells Later TakesMemory Now Fails count input now next old mid new done h back same (inr (words, is, front)) = AtStop h.told now words h.has (cut_after Now Fails h.told words back is) (front_later old mid new (text_of (words_told h.told)) (ended words) h.written front)
+
+pub cuts_most : (Tells : List ℕ → LineTold → Type 0) (TakesMemory : List ℕ → Type 0) (Fails : ReadFault → Type 0) (count : ℕ) (input now old mid new : Option (List ℕ)) (done : Bool) → ToldSoFar Tells count input now old mid done → 2 ^ 64 - 1 ≤ count → HasFront mid new (ended refused_files) → CutsRead Tells TakesMemory Fails input old new
+cuts_most Tells TakesMemory Fails count input now old mid new done h many front = AtStop h.told now refused_files h.has (inl (refl, inr (subst (λ n. 2 ^ 64 - 1 ≤ n) (sym h.count_is) many))) (front_later old mid new (text_of (words_told h.told)) (ended refused_files) h.written front)
+
+-- an error says what the writer left
+pub cuts_read : (Tells : List ℕ → LineTold → Type 0) (TakesMemory : List ℕ → Type 0) (Fails : ReadFault → Type 0) (input old new : Option (List ℕ)) (r : Result Bool WriteFault) → OnOk r ⊥ → CutsRead Tells TakesMemory Fails input old new → TellsRead Tells TakesMemory Fails input old new r
+cuts_read Tells TakesMemory Fails input old new (Ok done) none h = absurd none
+cuts_read Tells TakesMemory Fails input old new (Err fault) none h = h
+
 -- why a line isn't read, by what its reader says of each cause
 pub stops_so : {T : Type 0} (input : LineFacts) (fault : ReadFault) → (IsErrOf {T = T} (Err fault) read.Unreadable → input.fails) → (IsErrOf {T = T} (Err fault) read.OutOfMemory → input.takes_memory) → stops_by input fault
 stops_so input read.Unreadable fails room = fails refl
@@ -131,15 +159,25 @@ module _ {L W : Type 0} (lines : L → LineFacts) (outs : W → OutputFacts) (co
 
 -- ---- another reason for a failure
 
+stops_for : (Now Fails : ReadFault → Type 0) (told : List LineTold) (words : List ℕ) → ((fault : ReadFault) → Now fault → Fails fault) → IsCut Now told words → IsCut Fails told words
+stops_for Now Fails told words back (inl (e, inl fails)) = inl (e, inl (back read.Unreadable fails))
+stops_for Now Fails told words back (inl (e, inr many)) = inl (e, inr many)
+stops_for Now Fails told words back (inr (e, room)) = inr (e, back read.OutOfMemory room)
+
 pub fails_so : (Tells : List ℕ → LineTold → Type 0) (TakesMemory : List ℕ → Type 0) (Now Fails : ReadFault → Type 0) (input old new : Option (List ℕ)) (done : Bool) → ((fault : ReadFault) → Now fault → Fails fault) → WritesRead Tells TakesMemory Now input old new done → WritesRead Tells TakesMemory Fails input old new done
 fails_so Tells TakesMemory Now Fails input old new done back (ReadAll told now has end wrote is) = ReadAll told now has end wrote is
 fails_so Tells TakesMemory Now Fails input old new done back (WantsMemory told now after line has read takes wrote is) = WantsMemory told now after line has read takes wrote is
-fails_so Tells TakesMemory Now Fails input old new done back (CutShort told now words has is wrote not_done) = CutShort told now words has (cut_so is) wrote not_done
-  where
-    cut_so : IsCut Now told words → IsCut Fails told words
-    cut_so (inl (e, inl fails)) = inl (e, inl (back read.Unreadable fails))
-    cut_so (inl (e, inr many)) = inl (e, inr many)
-    cut_so (inr (e, room)) = inr (e, back read.OutOfMemory room)
+fails_so Tells TakesMemory Now Fails input old new done back (CutShort told now words has is wrote not_done) = CutShort told now words has (stops_for Now Fails told words back is) wrote not_done
+
+pub cuts_so : (Tells : List ℕ → LineTold → Type 0) (TakesMemory : List ℕ → Type 0) (Now Fails : ReadFault → Type 0) (input old new : Option (List ℕ)) → ((fault : ReadFault) → Now fault → Fails fault) → CutsRead Tells TakesMemory Now input old new → CutsRead Tells TakesMemory Fails input old new
+cuts_so Tells TakesMemory Now Fails input old new back (Between told now has wrote) = Between told now has wrote
+cuts_so Tells TakesMemory Now Fails input old new back (AtAnswer told now after line has read last tells cut) = AtAnswer told now after line has read last tells cut
+cuts_so Tells TakesMemory Now Fails input old new back (AtRefusal told now after line has read takes cut) = AtRefusal told now after line has read takes cut
+cuts_so Tells TakesMemory Now Fails input old new back (AtStop told now words has is cut) = AtStop told now words has (stops_for Now Fails told words back is) cut
+
+pub tells_so : (Tells : List ℕ → LineTold → Type 0) (TakesMemory : List ℕ → Type 0) (Now Fails : ReadFault → Type 0) (input old new : Option (List ℕ)) (r : Result Bool WriteFault) → ((fault : ReadFault) → Now fault → Fails fault) → TellsRead Tells TakesMemory Now input old new r → TellsRead Tells TakesMemory Fails input old new r
+tells_so Tells TakesMemory Now Fails input old new (Ok done) back h = fails_so Tells TakesMemory Now Fails input old new done back h
+tells_so Tells TakesMemory Now Fails input old new (Err fault) back h = cuts_so Tells TakesMemory Now Fails input old new back h
 
 -- ---- over a whole text
 

@@ -1,10 +1,11 @@
 -- The answers to the lines of an input, a line each, as they come (this project's own).
-use Rattle.std.specs.Prelude.{◌≡◌, ◌≤◌, ◌⊎◌, ◌++◌, ◌^◌, ◌-◌, ℕ, Bool, false, List, [], ◌∷◌, length, map, Option, IfSome, codes}
+use Rattle.std.specs.Prelude.{◌≡◌, ◌≤◌, ◌⊎◌, ◌++◌, ◌^◌, ◌-◌, ℕ, Bool, false, List, [], ◌∷◌, length, map, take, Option, IfSome, Result, Ok, Err, codes}
 use Rattle.std.specs.Fmt.{decimal}
 use Rattle.std.specs.List.{Contains, list_all}
 use Rattle.std.specs.Io.KnownBytes.{Appends, IsAtEnd, Keeps}
 use Rattle.system_io.specs.Outputs.{OutputFacts}
 use Rattle.system_io.specs.LineReaders.{LineFacts, ReadsLine}
+use Rattle.system_io.specs.declared.output.WriteFault.{WriteFault}
 use Rattle.system_io.specs.declared.reading.ReadFault.{ReadFault}
 use Rattle.system_io.specs.declared.reading.ReadFault.TheVariants as read
 use Rattle.move_msg.specs.TextLines.{ended, lines_in, text_of}
@@ -36,6 +37,18 @@ TellsNoMore Before After = (line : List ℕ) (told : LineTold) → After line to
 -- what is told of one line was written
 abbrev pub WritesTold : (LineTold → Type 0) → Option (List ℕ) → Option (List ℕ) → Bool → Type 0
 WritesTold IsTold old new done = (words : List ℕ) × IsTold (record { words = words; done = done }) × Appends old new (ended words)
+
+-- of a text a front was written, and nothing else
+abbrev pub HasFront : Option (List ℕ) → Option (List ℕ) → List ℕ → Type 0
+HasFront old new text = (n : ℕ) × Appends old new (take n text)
+
+-- of what is told of one line a front was written
+abbrev pub CutsTold : (LineTold → Type 0) → Option (List ℕ) → Option (List ℕ) → Type 0
+CutsTold IsTold old new = (told : LineTold) × IsTold told × HasFront old new (ended told.words)
+
+-- these lines were written whole, and of one more a front
+abbrev pub CutsAfter : List (List ℕ) → List ℕ → Option (List ℕ) → Option (List ℕ) → Type 0
+CutsAfter lines last old new = (n : ℕ) × Appends old new (text_of lines ++ take n (ended last))
 
 -- how many lines are done on the way
 abbrev pub done_words : ℕ → List ℕ
@@ -97,6 +110,19 @@ pub data WritesRead (Tells : List ℕ → LineTold → Type 0) (TakesMemory : Li
   WantsMemory : (told : List LineTold) (now after : Option (List ℕ)) (line : List ℕ) → HasTold Tells input now told → ReadsLine now after line → TakesMemory line → Appends old new (text_of (words_told told ++ refused_memory ∷ [])) → done ≡ false → WritesRead Tells TakesMemory Fails input old new done
   CutShort : (told : List LineTold) (now : Option (List ℕ)) (words : List ℕ) → HasTold Tells input now told → IsCut Fails told words → Appends old new (text_of (words_told told ++ words ∷ [])) → done ≡ false → WritesRead Tells TakesMemory Fails input old new done
 
+-- What a writer that failed leaves: all that was told is written whole, and it can't go out; or the lines before, and a front of what is
+-- told of the line that was read last, of the refusal of memory for it, or of the line that says why no more is read.
+pub data CutsRead (Tells : List ℕ → LineTold → Type 0) (TakesMemory : List ℕ → Type 0) (Fails : ReadFault → Type 0) (input old new : Option (List ℕ)) : Type 0 where
+  Between : (told : List LineTold) (now : Option (List ℕ)) → HasTold Tells input now told → Appends old new (text_of (words_told told)) → CutsRead Tells TakesMemory Fails input old new
+  AtAnswer : (told : List LineTold) (now after : Option (List ℕ)) (line : List ℕ) → HasTold Tells input now told → ReadsLine now after line → (last : LineTold) → Tells line last → CutsAfter (words_told told) last.words old new → CutsRead Tells TakesMemory Fails input old new
+  AtRefusal : (told : List LineTold) (now after : Option (List ℕ)) (line : List ℕ) → HasTold Tells input now told → ReadsLine now after line → TakesMemory line → CutsAfter (words_told told) refused_memory old new → CutsRead Tells TakesMemory Fails input old new
+  AtStop : (told : List LineTold) (now : Option (List ℕ)) (words : List ℕ) → HasTold Tells input now told → IsCut Fails told words → CutsAfter (words_told told) words old new → CutsRead Tells TakesMemory Fails input old new
+
+-- the lines were told, up to where no more is told; or the writer failed on the way
+abbrev pub TellsRead : (List ℕ → LineTold → Type 0) → (List ℕ → Type 0) → (ReadFault → Type 0) → Option (List ℕ) → Option (List ℕ) → Option (List ℕ) → Result Bool WriteFault → Type 0
+TellsRead Tells TakesMemory Fails input old new (Ok done) = WritesRead Tells TakesMemory Fails input old new done
+TellsRead Tells TakesMemory Fails input old new (Err fault) = CutsRead Tells TakesMemory Fails input old new
+
 -- what came of a line that was read
 abbrev pub LineTells : (LineTold → Type 0) → Type 0 → Option (List ℕ) → Option (List ℕ) → Step → Type 0
 LineTells IsTold TakesMemory old new (step.Told done) = WritesTold IsTold old new done
@@ -110,6 +136,15 @@ StepTells Tells TakesMemory Fails input left old new step.Ended = IsAtEnd input 
 StepTells Tells TakesMemory Fails input left old new step.Cut =
     ((line : List ℕ) × ReadsLine input left line × TakesMemory line × Appends old new (ended refused_memory))
     ⊎ ((words : List ℕ) × IsCut Fails [] words × Appends old new (ended words))
+
+-- what a writer that failed leaves of a line that was read
+abbrev pub LineCut : (LineTold → Type 0) → Type 0 → Option (List ℕ) → Option (List ℕ) → Type 0
+LineCut IsTold TakesMemory old new = CutsTold IsTold old new ⊎ (TakesMemory × HasFront old new (ended refused_memory))
+
+-- of the next line
+abbrev pub StepCut : (List ℕ → LineTold → Type 0) → (List ℕ → Type 0) → (ReadFault → Type 0) → Option (List ℕ) → Option (List ℕ) → Option (List ℕ) → Option (List ℕ) → Type 0
+StepCut Tells TakesMemory Fails input left old new =
+    ((line : List ℕ) × ReadsLine input left line × LineCut (Tells line) (TakesMemory line) old new) ⊎ ((words : List ℕ) × IsCut Fails [] words × HasFront old new (ended words))
 
 -- ---- the same over the whole text
 

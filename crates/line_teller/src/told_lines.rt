@@ -1,10 +1,10 @@
 //! The answers to the lines of an input, a line each, as they come.
 
-ghost use Rattle.std.specs.Prelude.{◌≡◌, ◌≢◌, ◌%◌, List, ℕ, false, IfOk, OnOk, IsErrOf};
+ghost use Rattle.std.specs.Prelude.{◌≡◌, ◌≢◌, ◌%◌, List, ℕ, false, IfOk, OnErr, OnOk, IsErrOf};
 ghost use Rattle.std.specs.Io.KnownBytes.{Appends, Keeps};
 ghost use Rattle.move_msg.specs.TextLines.{ended};
 ghost use Rattle.system_io.specs.declared.reading.ReadFault.{ReadFault};
-ghost use Rattle.line_teller.specs.ToldLines.{LineTells, LineTold, MayWait, StepTells, TellsInTurn, TellsNoMore, WritesIfKnown, WritesRead, WritesTold, cut_words, done_words, stops_by};
+ghost use Rattle.line_teller.specs.ToldLines.{CutsTold, HasFront, LineCut, LineTells, LineTold, MayWait, StepCut, StepTells, TellsInTurn, TellsNoMore, TellsRead, WritesIfKnown, WritesTold, cut_words, done_words, stops_by};
 
 use std::alloc::Global;
 use std::io::Write;
@@ -34,10 +34,11 @@ pub trait Teller {
     /// later could have been given before.
     ///
     /// `OutOfMemory` comes only for a line that takes memory, and nothing of the answer is written then. After `Io` a
-    /// part of it may be.
-    fn tell<W: Write>(&mut self, line: &[u8], out: &mut W) -> Result<bool, TellFault>
+    /// front of it is, and nothing else.
+    fn tell<W: Output>(&mut self, line: &[u8], out: &mut W) -> Result<bool, TellFault>
         ensures told { IfOk result (WritesTold (tells self.old line.now) (W.contents out.old) (W.contents out.new)) }
         ensures memory { IsErrOf result TellFault.OutOfMemory → takes_memory line.now × (W.contents out.new ≡ W.contents out.old) }
+        ensures front { IsErrOf result TellFault.Io → CutsTold (tells self.old line.now) (W.contents out.old) (W.contents out.new) }
         ensures same { TellsNoMore (tells self.old) (tells self.new) };
 }
 
@@ -76,34 +77,35 @@ pub(crate) enum Step {
     Cut,
 }
 
-/// The line that says why no more is read.
-fn cut_words(fault: ReadFault) -> &'static str
-    ensures { result.now ≡ cut_words fault }
+/// The line that says why no more is read, with its line feed.
+fn cut_line(fault: ReadFault) -> &'static str
+    ensures { result.now ≡ ended (cut_words fault) }
 {
     match fault {
-        ReadFault::Unreadable => "refused files",
-        ReadFault::OutOfMemory => "refused memory",
+        ReadFault::Unreadable => "refused files\n",
+        ReadFault::OutOfMemory => "refused memory\n",
     }
 }
 
 /// Writes why no more lines are answered.
-fn put_cut<W: Write>(out: &mut W, fault: ReadFault) -> Result<Step, WriteFault>
-    ensures { IfOk result (λ step. (step ≡ Step.Cut) × Appends (W.contents out.old) (W.contents out.new) (ended (cut_words fault))) }
+fn put_cut<W: Output>(out: &mut W, fault: ReadFault) -> Result<Step, WriteFault>
+    ensures cut { IfOk result (λ step. (step ≡ Step.Cut) × Appends (W.contents out.old) (W.contents out.new) (ended (cut_words fault))) }
+    ensures front { OnErr result (HasFront (W.contents out.old) (W.contents out.new) (ended (cut_words fault))) }
 {
-    let words = cut_words(fault);
-    match writeln!(out, "{words}") {
+    match out.put(cut_line(fault).as_bytes()) {
         Ok(()) => Ok(Step::Cut),
-        Err(_) => Err(WriteFault::Io),
+        Err(fault) => Err(fault),
     }
 }
 
 /// Answers a line.
-fn tell_line<T: Teller, W: Write>(
+fn tell_line<T: Teller, W: Output>(
     teller: &mut T,
     line: &[u8],
     out: &mut W,
 ) -> Result<Step, WriteFault>
     ensures told { IfOk result (LineTells (T.tells teller.old line.now) (T.takes_memory line.now) (W.contents out.old) (W.contents out.new)) }
+    ensures front { OnErr result (LineCut (T.tells teller.old line.now) (T.takes_memory line.now) (W.contents out.old) (W.contents out.new)) }
     ensures same { TellsNoMore (T.tells teller.old) (T.tells teller.new) }
 {
     match teller.tell(line, out) {
@@ -123,6 +125,7 @@ fn tell_next<T: Teller, L: LineReader, W: Output>(
     // No line is awaited before what was written has gone out.
     requires { MayWait (L.facts reader.old) (W.facts out.old) }
     ensures told { IfOk result (StepTells (T.tells teller.old) T.takes_memory (stops_by (L.facts reader.old)) (L.facts reader.old).left (L.facts reader.new).left (W.contents out.old) (W.contents out.new)) }
+    ensures front { OnErr result (StepCut (T.tells teller.old) T.takes_memory (stops_by (L.facts reader.old)) (L.facts reader.old).left (L.facts reader.new).left (W.contents out.old) (W.contents out.new)) }
     ensures reader { (fault : ReadFault) → stops_by (L.facts reader.new) fault → stops_by (L.facts reader.old) fault }
     ensures same { TellsNoMore (T.tells teller.old) (T.tells teller.new) }
 {
@@ -154,7 +157,7 @@ fn flush_before_wait<L: LineReader, W: Output>(reader: &L, out: &mut W) -> Resul
 ///
 /// With `progress` a line such as `20000 done` goes to `errors` after every 10,000 lines. Without it nothing is written
 /// there. A failure there changes nothing. The error comes where the writer of the lines fails, or the teller says that
-/// it did. What the writer then holds isn't stated.
+/// it did. The lines before are whole then, and of the last a front is written.
 pub fn tell_lines<T: Teller, L: LineReader, W: Output, E: Write>(
     alloc: Global,
     teller: &mut T,
@@ -163,8 +166,8 @@ pub fn tell_lines<T: Teller, L: LineReader, W: Output, E: Write>(
     errors: &mut E,
     progress: bool,
 ) -> Result<bool, WriteFault>
-    // The lines that were read are answered.
-    ensures written { IfOk result (WritesRead (T.tells teller.old) T.takes_memory (stops_by (L.facts reader.old)) (L.facts reader.old).left (W.contents out.old) (W.contents out.new)) }
+    // The lines that were read are answered. Where the writer fails, those before are written whole, and a front of the last.
+    ensures written { TellsRead (T.tells teller.old) T.takes_memory (stops_by (L.facts reader.old)) (L.facts reader.old).left (W.contents out.old) (W.contents out.new) result }
 
     // Where the reader's bytes are stated, these are the lines of the whole text, or those until it was cut short.
     ensures same_text { IfOk result (WritesIfKnown (T.tells teller.old) T.takes_memory (L.facts reader.old) (W.contents out.old) (W.contents out.new)) }

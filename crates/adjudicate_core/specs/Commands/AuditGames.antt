@@ -1,18 +1,19 @@
 -- `audit --games DIR [--other DIR] --tables DIR [--manifest FILE]`: the audit of the games of a folder, or of two (this project's own).
-use Rattle.std.specs.Prelude.{◌≡◌, ◌++◌, ℕ, Bool, false, List, [], ◌∷◌, Option, Some, None, Ok, Err, codes, option_map}
+use Rattle.std.specs.Prelude.{◌≡◌, ◌++◌, ℕ, Bool, false, List, [], ◌∷◌, Option, Some, None, Result, Ok, Err, codes, option_map}
 use Rattle.clap.specs.Words.{Text}
 use Rattle.judge_core.specs.Tables.{Tables}
 use Rattle.move_msg.specs.Files.{entries_of}
 use Rattle.move_msg.specs.Manifests.{SpellsManifest}
 use Rattle.system_io.specs.Disks.{DiskFacts}
+use Rattle.system_io.specs.declared.output.WriteFault.{WriteFault}
 use Rattle.task_files.specs.Sources.{Named}
 use Rattle.task_files.specs.Given.{Given}
-use Rattle.game_status.specs.GameAudits.{TellsAudit}
+use Rattle.game_status.specs.GameAudits.{TellsAuditTo}
 use Rattle.line_teller.specs.ToldLines.{refused_memory}
 use Rattle.adjudicate_core.specs.Misuses.{Fault, NoOption, NotWith, WordNotWith}
 use Rattle.adjudicate_core.specs.declared.usage.Instead.TheVariants as instead
 use Rattle.adjudicate_core.specs.Looks.{gathered}
-use Rattle.adjudicate_core.specs.Reply.{status_if}
+use Rattle.adjudicate_core.specs.Reply.{status_told}
 use Rattle.adjudicate_core.specs.Telling.{TellsOne}
 use Rattle.adjudicate_core.specs.Commands.Audit as one_game
 use Rattle.adjudicate_core.specs.declared.commands.audit_games.AuditGames.{AuditGames}
@@ -56,15 +57,15 @@ named t = record { folder = Some t.tables.now; manifest = option_map (λ s. s.no
 
 -- by these tables and the manifest of their files the games were audited, and the status says whether nothing is at fault and nothing
 -- differs
-pub record PutsAudit (disk : DiskFacts) (t : AuditGames) (given : Given) (tables : Tables) (old new : Option (List ℕ)) (status : ℕ) : Type 0 where
+pub record PutsAudit (disk : DiskFacts) (t : AuditGames) (given : Given) (tables : Tables) (old new : Option (List ℕ)) (r : Result ℕ WriteFault) : Type 0 where
   pub manifest : List ℕ
   pub spells : SpellsManifest manifest (entries_of given.files)
-  pub done : Bool
-  pub tells : TellsAudit manifest tables disk t.games.now (option_map (λ s. s.now) t.other) old new done
-  pub is : status ≡ status_if done
+  pub told : Result Bool WriteFault
+  pub tells : TellsAuditTo manifest tables disk t.games.now (option_map (λ s. s.now) t.other) old new told
+  pub is : r ≡ status_told told
 
 -- the refusal of the tables; or else the audit; or memory for the tables or their manifest was refused
-pub data Puts (disk : DiskFacts) (t : AuditGames) (given : Given) (old new : Option (List ℕ)) (status : ℕ) : Type 0 where
-  BadTables : (words : List ℕ) → gathered given ≡ Err words → TellsOne words old new status → Puts disk t given old new status
-  Audited : (tables : Tables) → gathered given ≡ Ok tables → PutsAudit disk t given tables old new status → Puts disk t given old new status
-  NoRoom : TellsOne refused_memory old new status → Puts disk t given old new status
+pub data Puts (disk : DiskFacts) (t : AuditGames) (given : Given) (old new : Option (List ℕ)) (r : Result ℕ WriteFault) : Type 0 where
+  BadTables : (words : List ℕ) → gathered given ≡ Err words → TellsOne words old new r → Puts disk t given old new r
+  Audited : (tables : Tables) → gathered given ≡ Ok tables → PutsAudit disk t given tables old new r → Puts disk t given old new r
+  NoRoom : TellsOne refused_memory old new r → Puts disk t given old new r

@@ -1,9 +1,10 @@
 -- `root --tables DIR [--manifest FILE] [--json] [--determined] [FEN]`: what tables tell of the legal moves of a position, or of the positions of the input
 -- (this project's own).
-use Rattle.std.specs.Prelude.{◌≡◌, ◌++◌, ◌&&◌, ◌==◌, ℕ, Bool, true, false, List, [], ◌∷◌, map, Option, Some, None, codes, option_map}
+use Rattle.std.specs.Prelude.{◌≡◌, ◌++◌, ◌&&◌, ◌==◌, ℕ, Bool, true, false, List, [], ◌∷◌, map, Option, Some, None, Result, codes, option_map}
 use Rattle.std.specs.Borrow.{Bor}
 use Rattle.std.specs.List.{list_all}
 use Rattle.system_io.specs.Inputs.{InputFacts}
+use Rattle.system_io.specs.declared.output.WriteFault.{WriteFault}
 use Rattle.board_core.specs.declared.parts.Parts.{Parts}
 use Rattle.judge_core.specs.declared.probed.Probed.{Probed}
 use Rattle.judge_core.specs.declared.root_move.RootMove.{RootMove}
@@ -79,6 +80,6 @@ TellsLineIn true ask = TellsJson ask true
 TellsLineIn false ask = TellsLine ask
 
 -- what is told of the position of the words, or of those of the input
-abbrev pub Puts : Bool → Ask → InputFacts → Option (Bor (List ℕ)) → Given → Option (List ℕ) → Option (List ℕ) → ℕ → Type 0
-Puts json ask source (Some fen) given old new status = AnswersOnce (IsForTextIn json fen.now (ByTables (gathered given) (IsToldIn json ask))) (IsText fen.now) old new status
-Puts json ask source None given old new status = PutsByTables (TellsLineIn json ask) source given old new status
+abbrev pub Puts : Bool → Ask → InputFacts → Option (Bor (List ℕ)) → Given → Option (List ℕ) → Option (List ℕ) → Result ℕ WriteFault → Type 0
+Puts json ask source (Some fen) given old new r = AnswersOnce (IsForTextIn json fen.now (ByTables (gathered given) (IsToldIn json ask))) (IsText fen.now) old new r
+Puts json ask source None given old new r = PutsByTables (TellsLineIn json ask) source given old new r

@@ -1,16 +1,19 @@
 -- `show`: the messages of the input (this project's own).
-use Rattle.std.specs.Prelude.{◌≡◌, ◌+◌, ◌++◌, ℕ, true, List, [], ◌∷◌, length, map, Option, None, codes}
+use Rattle.std.specs.Prelude.{◌≡◌, ◌+◌, ◌++◌, ℕ, true, List, [], ◌∷◌, length, map, Option, None, Result, Ok, Err, codes}
+use Rattle.std.specs.Io.KnownBytes.{Appends}
 use Rattle.move_msg.specs.MessageWords.{message_words}
 use Rattle.move_msg.specs.declared.message.Message.{Message}
 use Rattle.move_msg.specs.Messages.{fault_name as message_fault_name}
-use Rattle.move_msg.specs.Streams.{End, AfterMessage, Cut, AtFault, SpellsStream}
+use Rattle.move_msg.specs.Streams.{BeginsBy, End, AfterMessage, Cut, AtFault, SpellsStream}
 use Rattle.move_msg.specs.TextLines.{text_of}
 use Rattle.clap.specs.Words.{Rule}
 use Rattle.adjudicate_core.specs.Misuses.{Fault}
+use Rattle.system_io.specs.declared.output.WriteFault.{WriteFault}
 use Rattle.task_files.specs.Sources.{Named}
 use Rattle.task_files.specs.Given.{Given}
 use Rattle.adjudicate_core.specs.Lines.{refused_message}
-use Rattle.adjudicate_core.specs.Reply.{Reply, WritesReply}
+use Rattle.adjudicate_core.specs.Reply.{Reply}
+use Rattle.line_teller.specs.ToldLines.{CutsAfter, HasFront}
 
 abbrev pub rules : List Rule
 rules = []
@@ -33,5 +36,14 @@ shown ms (AtFault fault) =
 abbrev pub IsShown : List ℕ → Reply → Type 0
 IsShown input r = (ms : List Message) × (end : End) × SpellsStream input ms end × (r ≡ shown ms end)
 
-abbrev pub Answers : Given → Option (List ℕ) → Option (List ℕ) → ℕ → Type 0
-Answers given old new status = (r : Reply) × IsShown given.input r × WritesReply old new r status
+-- what a writer that failed leaves: the lines of the first messages, and a front of that of one more; or a front of all
+pub data CutsShown (input : List ℕ) (old new : Option (List ℕ)) : Type 0 where
+  AtMessage : (ms : List Message) (last : Message) (rest : List ℕ) → BeginsBy input (ms ++ last ∷ []) rest → CutsAfter (map message_words ms) (message_words last) old new → CutsShown input old new
+  AtEnd : (reply : Reply) → IsShown input reply → HasFront old new reply.text → CutsShown input old new
+
+abbrev pub Shows : List ℕ → Option (List ℕ) → Option (List ℕ) → Result ℕ WriteFault → Type 0
+Shows input old new (Ok status) = (reply : Reply) × IsShown input reply × Appends old new reply.text × (status ≡ reply.status)
+Shows input old new (Err fault) = CutsShown input old new
+
+abbrev pub Answers : Given → Option (List ℕ) → Option (List ℕ) → Result ℕ WriteFault → Type 0
+Answers given old new r = Shows given.input old new r

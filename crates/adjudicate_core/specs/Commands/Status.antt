@@ -1,13 +1,14 @@
 -- `status --games DIR [--other DIR]`: how far the games of a folder have come, or those of two (this project's own).
-use Rattle.std.specs.Prelude.{◌≡◌, ℕ, Bool, List, [], ◌∷◌, Option, Some, codes, option_map}
+use Rattle.std.specs.Prelude.{◌≡◌, ℕ, Bool, List, [], ◌∷◌, Option, Some, Result, codes, option_map}
 use Rattle.clap.specs.Words.{Rule, Text}
 use Rattle.system_io.specs.Disks.{DiskFacts}
+use Rattle.system_io.specs.declared.output.WriteFault.{WriteFault}
 use Rattle.task_files.specs.Sources.{Named, nothing}
-use Rattle.game_status.specs.Statuses.{TellsStatus}
+use Rattle.game_status.specs.Statuses.{TellsStatusTo}
 use Rattle.adjudicate_core.specs.Rules.{rule_of_form}
 use Rattle.adjudicate_core.specs.declared.commands.Form.TheVariants as form
 use Rattle.adjudicate_core.specs.Misuses.{Fault, NoOption}
-use Rattle.adjudicate_core.specs.Reply.{status_if}
+use Rattle.adjudicate_core.specs.Reply.{status_told}
 use Rattle.adjudicate_core.specs.declared.commands.status.ShowStatus.{ShowStatus}
 
 abbrev pub rules : List Rule
@@ -28,5 +29,5 @@ abbrev pub named : Named
 named = nothing
 
 -- how far the games have come was told, and the status says whether nothing is at fault and nothing differs
-abbrev pub Puts : DiskFacts → ShowStatus → Option (List ℕ) → Option (List ℕ) → ℕ → Type 0
-Puts disk t old new status = (done : Bool) × TellsStatus disk t.games.now (option_map (λ s. s.now) t.other) old new done × (status ≡ status_if done)
+abbrev pub Puts : DiskFacts → ShowStatus → Option (List ℕ) → Option (List ℕ) → Result ℕ WriteFault → Type 0
+Puts disk t old new r = (told : Result Bool WriteFault) × TellsStatusTo disk t.games.now (option_map (λ s. s.now) t.other) old new told × (r ≡ status_told told)

@@ -1,9 +1,10 @@
 -- `version`: the program's version (this project's own).
-use Rattle.std.specs.Prelude.{◌≡◌, ℕ, List, [], Option, codes}
-use Rattle.std.specs.Io.KnownBytes.{Appends}
+use Rattle.std.specs.Prelude.{ℕ, List, [], Option, Result, codes}
 use Rattle.clap.specs.Words.{Rule}
 use Rattle.adjudicate_core.specs.Misuses.{Fault}
+use Rattle.system_io.specs.declared.output.WriteFault.{WriteFault}
 use Rattle.task_files.specs.Sources.{Named, nothing}
+use Rattle.adjudicate_core.specs.Telling.{TellsText}
 
 abbrev pub rules : List Rule
 rules = []
@@ -20,5 +21,5 @@ named = nothing
 abbrev pub version_text : List ℕ
 version_text = codes "adjudicate 1.0.0\n"
 
-abbrev pub Answers : Option (List ℕ) → Option (List ℕ) → ℕ → Type 0
-Answers old new status = Appends old new version_text × (status ≡ 0)
+abbrev pub Answers : Option (List ℕ) → Option (List ℕ) → Result ℕ WriteFault → Type 0
+Answers old new r = TellsText version_text 0 old new r

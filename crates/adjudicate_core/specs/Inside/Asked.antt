@@ -1,13 +1,16 @@
 -- Answers before they are written; cited by private functions alone.
 use Rattle.std.specs.Prelude.{ℕ, List, map, Option, Result, Ok, Err}
 use Rattle.adjudicate_core.specs.declared.answers.Answer.{Answer}
-use Rattle.adjudicate_core.specs.declared.answers.Answer.TheVariants.{Refused, One, Lines, Text, Json}
+use Rattle.adjudicate_core.specs.declared.answers.Answer.TheVariants.{Refused, One, Lines, Text, JsonFault}
 use Rattle.move_msg.specs.TextLines.{ended, text_of}
+use Rattle.json_lines.specs.declared.told.JsonLine.{JsonLine}
+use Rattle.json_lines.specs.declared.told.JsonLine.TheVariants as line
 use Rattle.adjudicate_core.specs.JsonAnswers.{json_reply}
 use Rattle.adjudicate_core.specs.Lines.{refusal_words, words_of}
 use Rattle.adjudicate_core.specs.Reply.{Reply, WritesReply, refused, status_if}
 use Rattle.adjudicate_core.specs.Telling.{TellsOne}
 use Rattle.line_teller.specs.ToldLines.{refused_files, refused_memory}
+use Rattle.system_io.specs.declared.output.WriteFault.{WriteFault}
 use Rattle.system_io.specs.declared.reading.ReadFault.{ReadFault}
 use Rattle.system_io.specs.declared.reading.ReadFault.TheVariants.{OutOfMemory, Unreadable}
 
@@ -16,16 +19,22 @@ abbrev pub reply_of : Answer → Reply
 reply_of (Refused refusal) = refused (refusal_words refusal)
 reply_of (One line done) = record { text = ended (words_of line); status = status_if done }
 reply_of (Lines lines done) = record { text = text_of (map words_of lines.items); status = status_if done }
-reply_of (Text bytes) = record { text = bytes.items; status = 0 }
-reply_of (Json line) = json_reply line
+reply_of (Text bytes done) = record { text = bytes.items; status = status_if done }
+reply_of (JsonFault fault) = json_reply (line.Fault fault)
 
 -- the reply was written, or that memory was refused for it
-abbrev pub PutsAnswered : {E : Type 0} → Result Answer E → Option (List ℕ) → Option (List ℕ) → ℕ → Type 0
-PutsAnswered (Ok answer) old new status = WritesReply old new (reply_of answer) status
-PutsAnswered (Err e) old new status = TellsOne refused_memory old new status
+abbrev pub PutsAnswered : {E : Type 0} → Result Answer E → Option (List ℕ) → Option (List ℕ) → Result ℕ WriteFault → Type 0
+PutsAnswered (Ok answer) old new r = WritesReply old new (reply_of answer) r
+PutsAnswered (Err e) old new r = TellsOne refused_memory old new r
 
 -- the same where something may not have been read
-abbrev pub PutsRead : Result Answer ReadFault → Option (List ℕ) → Option (List ℕ) → ℕ → Type 0
-PutsRead (Ok answer) old new status = WritesReply old new (reply_of answer) status
-PutsRead (Err Unreadable) old new status = TellsOne refused_files old new status
-PutsRead (Err OutOfMemory) old new status = TellsOne refused_memory old new status
+abbrev pub PutsRead : Result Answer ReadFault → Option (List ℕ) → Option (List ℕ) → Result ℕ WriteFault → Type 0
+PutsRead (Ok answer) old new r = WritesReply old new (reply_of answer) r
+PutsRead (Err Unreadable) old new r = TellsOne refused_files old new r
+PutsRead (Err OutOfMemory) old new r = TellsOne refused_memory old new r
+
+-- it is the line of a position, and not of a text's fault
+abbrev pub HasText : JsonLine → Type 0
+HasText (line.Fault fault) = ⊥
+HasText (line.Position told) = Unit {0}
+HasText (line.Root told moves) = Unit {0}

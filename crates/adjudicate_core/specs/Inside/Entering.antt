@@ -1,19 +1,20 @@
 -- A game's file by what was found in it, and what comes of the next line of a list; cited by private functions alone.
-use Rattle.std.specs.Prelude.{◌≡◌, ◌≢◌, ℕ, List, Option, Some}
+use Rattle.std.specs.Prelude.{◌≡◌, ◌≢◌, ◌⊎◌, ℕ, List, Option, Some, Result, Ok, Err}
 use Rattle.std.specs.Io.KnownBytes.{Appends}
 use Rattle.move_msg.specs.TextLines.{ended}
+use Rattle.system_io.specs.declared.output.WriteFault.{WriteFault}
 use Rattle.system_io.specs.Histories.{Passes}
 use Rattle.system_io.specs.Hosts.{HostFacts, Made}
 use Rattle.system_io.specs.Ports.{PortFacts}
 use Rattle.system_io.specs.Failures.{Risen}
 use Rattle.system_io.specs.KeptFiles.{FindsOldOrNew, KeptFacts}
-use Rattle.line_teller.specs.ToldLines.{WritesTold, refused_memory}
+use Rattle.line_teller.specs.ToldLines.{HasFront, LineTold, WritesTold, refused_memory}
 use Rattle.adjudicate_core.specs.declared.entering.GamePlace.{GamePlace}
 use Rattle.adjudicate_core.specs.declared.entering.KeepFault.{KeepFault}
 use Rattle.adjudicate_core.specs.declared.entering.KeepFault.TheVariants as keep
 use Rattle.adjudicate_core.specs.declared.entering.Step.{Step}
 use Rattle.adjudicate_core.specs.declared.entering.Step.TheVariants as step
-use Rattle.adjudicate_core.specs.Enters.{EntersLine, IsMadeForLine, LacksGame, Place, place}
+use Rattle.adjudicate_core.specs.Enters.{CutsLine, EntersLine, IsMadeForLine, LacksGame, Place, place}
 use Rattle.adjudicate_core.specs.Listens.{hosted}
 
 -- the place where games are entered
@@ -32,10 +33,12 @@ pub record LacksOver {F : Type 0} (facts : F → KeptFacts) (file file' : F) (fo
   pub failed : Risen (facts file).faults (facts file').faults
   pub is : fault ≡ keep.Keeper
 
--- what came of the line with this number is told, and whether its game is entered; or memory was refused for it
-abbrev pub EntersNext : {P F : Type 0} → Place P F → ℕ → List ℕ → Option (List ℕ) → Option (List ℕ) → Step → Type 0
-EntersNext p number line old new (step.Told done) = WritesTold (EntersLine p number line) old new done
-EntersNext p number line old new step.Cut = LacksGame p line keep.OutOfMemory × Appends old new (ended refused_memory)
+-- what came of the line with this number is told, and whether its game is entered; or memory was refused for it; or the writer failed at
+-- what is told of it
+abbrev pub EntersNext : {P F : Type 0} → Place P F → ℕ → List ℕ → Option (List ℕ) → Option (List ℕ) → Result Step WriteFault → Type 0
+EntersNext p number line old new (Ok (step.Told done)) = WritesTold (EntersLine p number line) old new done
+EntersNext p number line old new (Ok step.Cut) = LacksGame p line keep.OutOfMemory × Appends old new (ended refused_memory)
+EntersNext p number line old new (Err fault) = (t : LineTold) × (EntersLine p number line t ⊎ CutsLine p line t) × HasFront old new (ended t.words)
 
 -- ---- what is made
 

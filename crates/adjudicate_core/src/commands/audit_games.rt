@@ -6,7 +6,7 @@ ghost use Rattle.adjudicate_core.specs.Commands.AuditGames.{HasValues, LacksGame
 ghost use Rattle.adjudicate_core.specs.Misuses.{AreWell, IsFirst, fault_words};
 ghost use Rattle.task_files.specs.Sources.{named_by};
 
-use crate::answers::status_if;
+use crate::answers::status_told;
 use crate::lines::put_refusal;
 use crate::listening::manifest_for;
 use crate::numbers::CacheSize;
@@ -17,8 +17,7 @@ use crate::values::{option_in, without, without_word};
 use clap::ArgMatches;
 use game_status::{AuditTables, tell_audit};
 use std::alloc::Global;
-use std::io::Write;
-use system_io::{Disk, WriteFault};
+use system_io::{Disk, Output, WriteFault};
 use task_files::{Places, Sources};
 
 /// The audit of the games of a folder.
@@ -77,14 +76,14 @@ impl<'a> AuditGames<'a> {
 
     /// Audits the games of the folders, as `game_status::tell_audit` has it, by the tables of the files. Returns the status, 0 where
     /// nothing is at fault and nothing differs, else 1. The tables are refused first.
-    pub(crate) fn answer<D: Disk, W: Write>(
+    pub(crate) fn answer<D: Disk, W: Output>(
         &self,
         alloc: Global,
         sources: &Sources,
         disk: &D,
         out: &mut W,
     ) -> Result<u8, WriteFault>
-        ensures { IfOk result (Puts (D.facts disk.now) self.now sources.now (W.contents out.old) (W.contents out.new)) }
+        ensures { Puts (D.facts disk.now) self.now sources.now (W.contents out.old) (W.contents out.new) result }
     {
         let set = match gather(alloc, sources, CacheSize::usual()) {
             Ok(Ok(set)) => set,
@@ -99,9 +98,6 @@ impl<'a> AuditGames<'a> {
             set,
             manifest: &manifest,
         };
-        match tell_audit(alloc, disk, tables, self.games, self.other, out) {
-            Ok(done) => Ok(status_if(done)),
-            Err(fault) => Err(fault),
-        }
+        status_told(tell_audit(alloc, disk, tables, self.games, self.other, out))
     }
 }

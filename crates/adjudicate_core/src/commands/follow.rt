@@ -9,7 +9,7 @@ ghost use Rattle.adjudicate_core.specs.Misuses.{IsFirst, fault_words};
 ghost use Rattle.task_files.specs.Sources.{named_by};
 
 use super::{Form, Value};
-use crate::answers::status_if;
+use crate::answers::status_told;
 use crate::lines::put_refusal;
 use crate::numbers::{CacheSize, Delay};
 use crate::refusals::Refusal;
@@ -67,15 +67,12 @@ fn put_game<I: Input, W: Output>(
     input: &I,
     out: &mut W,
 ) -> Result<u8, WriteFault>
-    ensures { IfOk result (PutsGame (I.facts input.now) delay start.now set.entry.tables (W.contents out.old) (W.contents out.new)) }
+    ensures { PutsGame (I.facts input.now) delay start.now set.entry.tables (W.contents out.old) (W.contents out.new) result }
 {
     let Ok(mut lines) = input.lines(alloc) else {
         return put_refusal(out, Refusal::Memory);
     };
-    match follow_game(alloc, set, start, delay.plies(), &mut lines, out) {
-        Ok(done) => Ok(status_if(done)),
-        Err(fault) => Err(fault),
-    }
+    status_told(follow_game(alloc, set, start, delay.plies(), &mut lines, out))
 }
 
 impl<'a> Follow<'a> {
@@ -116,7 +113,7 @@ impl<'a> Follow<'a> {
     ) -> Result<u8, WriteFault>
         requires spelled { SpellsPosition self.now.fen.now start.now }
         requires position { IsPosition start.now }
-        ensures { IfOk result (Puts (I.facts input.now) self.now sources.now (W.contents out.old) (W.contents out.new)) }
+        ensures { Puts (I.facts input.now) self.now sources.now (W.contents out.old) (W.contents out.new) result }
     {
         match gather(alloc, sources, CacheSize::usual()) {
             Ok(Ok(set)) => put_game(alloc, set, start, self.delay, input, out),
@@ -135,7 +132,7 @@ impl<'a> Follow<'a> {
         input: &I,
         out: &mut W,
     ) -> Result<u8, WriteFault>
-        ensures { IfOk result (Puts (I.facts input.now) self.now sources.now (W.contents out.old) (W.contents out.new)) }
+        ensures { Puts (I.facts input.now) self.now sources.now (W.contents out.old) (W.contents out.new) result }
     {
         match read(self.fen.as_bytes()) {
             Err(fault) => put_refusal(out, Refusal::Fen(fault)),

@@ -76,7 +76,7 @@ impl<'a> List<'a> {
             Err(fault) => return Err(fault),
         };
         match manifest_write(alloc, &lines) {
-            Ok(text) => Ok(Answer::Text(text)),
+            Ok(text) => Ok(Answer::Text(text, true)),
             Err(_) => Err(ReadFault::OutOfMemory),
         }
     }

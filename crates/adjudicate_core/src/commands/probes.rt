@@ -125,7 +125,7 @@ impl<'a> Teller for Prober<'a> {
 
     ghost takes_memory = { IsText };
 
-    fn tell<W: Write>(&mut self, line: &[u8], out: &mut W) -> Result<bool, TellFault> {
+    fn tell<W: Output>(&mut self, line: &[u8], out: &mut W) -> Result<bool, TellFault> {
         match probe_line(self.ask, self.alloc, &mut self.set, line) {
             Ok((told, is_told)) => match put_line(out, &told) {
                 Ok(()) => Ok(is_told),
@@ -173,7 +173,7 @@ impl<'a> Probes<'a> {
         out: &mut W,
         errors: &mut E,
     ) -> Result<u8, WriteFault>
-        ensures written { IfOk result (PutsLinesOrNone (TellsLineIn self.now.json (ask_of self.now.determined) set.entry.tables) IsText (I.facts input.now) (W.contents out.old) (W.contents out.new)) }
+        ensures written { PutsLinesOrNone (TellsLineIn self.now.json (ask_of self.now.determined) set.entry.tables) IsText (I.facts input.now) (W.contents out.old) (W.contents out.new) result }
         ensures quiet { self.now.progress ≡ false → errors.new ≡ errors.old }
     {
         let ask = Ask::of(self.determined);
@@ -209,7 +209,7 @@ impl<'a> Probes<'a> {
         out: &mut W,
         errors: &mut E,
     ) -> Result<u8, WriteFault>
-        ensures written { IfOk result (PutsByTables (TellsLineIn self.now.json (ask_of self.now.determined)) (I.facts input.now) sources.now (W.contents out.old) (W.contents out.new)) }
+        ensures written { PutsByTables (TellsLineIn self.now.json (ask_of self.now.determined)) (I.facts input.now) sources.now (W.contents out.old) (W.contents out.new) result }
         ensures quiet { self.now.progress ≡ false → errors.new ≡ errors.old }
     {
         match gather(alloc, sources, CacheSize::usual()) {

@@ -1,17 +1,17 @@
 //! `record`: the contents of a kept record.
 
-ghost use Rattle.std.specs.Prelude.{◌≡◌, ◌++◌, IfErr, IfOk, OnOk, codes};
+ghost use Rattle.std.specs.Prelude.{◌≡◌, ◌++◌, IfErr, IfOk, OnErr, OnOk, codes};
 ghost use Rattle.fen_text.specs.Coordinates.{move_text};
 ghost use Rattle.std.specs.Io.KnownBytes.{Appends};
 ghost use Rattle.clap.specs.Words.{first_value, found_of};
 ghost use Rattle.move_msg.specs.TextLines.{ended, text_of};
 ghost use Rattle.adjudicate_core.specs.Commands.Record.{HasValues, IsReply, TakesMemory, delay_words, faults, moves_words, named, record_lines, ruling_words, spaced, stamp_words};
 ghost use Rattle.adjudicate_core.specs.Misuses.{IsFirst, fault_words};
-ghost use Rattle.adjudicate_core.specs.Reply.{AnswersOnce};
+ghost use Rattle.adjudicate_core.specs.Inside.Asked.{reply_of};
 ghost use Rattle.task_files.specs.Sources.{named_by};
 
 use super::{Form, Value};
-use crate::lines::put_refusal;
+use crate::answers::Answer;
 use crate::refusals::Refusal;
 use crate::usage::ValueFault;
 use crate::values::word_in;
@@ -20,7 +20,7 @@ use board_core::{Move, Verdict};
 use clap::ArgMatches;
 use fen_text::write_move;
 use move_msg::{Record, RecordFault, Stamp};
-use std::alloc::Global;
+use std::alloc::{AllocError, Global};
 use std::io::Write;
 use system_io::WriteFault;
 use task_files::{Places, Sources};
@@ -121,6 +121,17 @@ fn put_record<W: Write>(out: &mut W, kept: &Record) -> Result<(), WriteFault>
     put_verdict(out, kept.verdict)
 }
 
+/// The text of a record.
+fn text_of(alloc: Global, kept: &Record) -> Result<Vec<u8>, AllocError>
+    ensures { IfOk result (λ text. text.items ≡ text_of (record_lines kept.now)) }
+{
+    let mut text = Vec::new(alloc);
+    match put_record(&mut text, kept) {
+        Ok(()) => Ok(text),
+        Err(_) => Err(AllocError),
+    }
+}
+
 impl<'a> ShowRecord<'a> {
     /// The task with these values, or the first thing that is wrong with them.
     pub(crate) fn of(matches: &ArgMatches<'a>) -> Result<ShowRecord<'a>, ValueFault<'a>>
@@ -145,23 +156,19 @@ impl<'a> ShowRecord<'a> {
         }
     }
 
-    /// Writes a line for each part of the record in the kept file, or why it is none. Returns the status, 0 or 1.
-    pub(crate) fn answer<W: Write>(
-        &self,
-        alloc: Global,
-        sources: &Sources,
-        out: &mut W,
-    ) -> Result<u8, WriteFault>
-        ensures { IfOk result (AnswersOnce (IsReply sources.now.kept) (TakesMemory sources.now.kept) (W.contents out.old) (W.contents out.new)) }
+    /// The answer: a line for each part of the record in the kept file, or why it is none.
+    pub(crate) fn answer(&self, alloc: Global, sources: &Sources) -> Result<Answer, AllocError>
+        ensures ok { IfOk result (λ a. IsReply sources.now.kept (reply_of a)) }
+        ensures memory { OnErr result (TakesMemory sources.now.kept) }
     {
         match Record::decode(alloc, sources.kept()) {
-            Ok(record) => match put_record(out, &record) {
-                Ok(()) => Ok(0),
+            Ok(record) => match text_of(alloc, &record) {
+                Ok(text) => Ok(Answer::Text(text, true)),
                 Err(fault) => Err(fault),
             },
             Err(fault) => match fault {
-                RecordFault::OutOfMemory => put_refusal(out, Refusal::Memory),
-                _ => put_refusal(out, Refusal::Record(fault)),
+                RecordFault::OutOfMemory => Err(AllocError),
+                _ => Ok(Answer::Refused(Refusal::Record(fault))),
             },
         }
     }

@@ -1,7 +1,7 @@
 //! `root`: the legal moves of a position, or of those of the input, by their values in tables.
 
-ghost use Rattle.std.specs.Prelude.{◌≡◌, ◌==◌, IfOk, OnErr, IfErr, IsErrOf};
-ghost use Rattle.std.specs.Io.KnownBytes.{Appends};
+ghost use Rattle.std.specs.Prelude.{◌≡◌, ◌==◌, IfOk, OnErr, IfErr};
+ghost use Rattle.system_io.specs.Outputs.{WritesFront};
 ghost use Rattle.clap.specs.Words.{first_value, found_of};
 ghost use Rattle.adjudicate_core.specs.Commands.Root.{HasValues, IsTold, IsToldIn, Puts, TellsLineIn, faults, named, told};
 ghost use Rattle.adjudicate_core.specs.Inside.Asked.{reply_of};
@@ -18,7 +18,7 @@ ghost use Rattle.task_files.specs.Sources.{named_by};
 
 use super::{Form, Value};
 use crate::answers::{Answer, put_answer, put_answered};
-use crate::json_answers::JsonTeller;
+use crate::json_answers::{JsonTeller, answer_as_json};
 use crate::line_answers::put_told;
 use crate::lines::{Line, RootLine, put_refusal};
 use crate::numbers::{CacheSize, is_set};
@@ -137,7 +137,7 @@ fn told_as_json(
 {
     let with_moves = true;
     match JsonLine::of_position(alloc, set, position, ask, with_moves) {
-        Ok(line) => Ok(Answer::Json(line)),
+        Ok(line) => answer_as_json(alloc, &line),
         Err(fault) => Err(fault),
     }
 }
@@ -182,7 +182,7 @@ fn refused_in(fault: FenFault, json: bool) -> Answer
     ensures { reply_of result ≡ refused_in json fault }
 {
     if json {
-        Answer::Json(JsonLine::Fault(fault))
+        Answer::JsonFault(fault)
     } else {
         Answer::Refused(Refusal::Fen(fault))
     }
@@ -205,17 +205,17 @@ fn answer_text(
     }
 }
 
-/// Writes an answer and an empty line, and returns whether the answer is complete.
-fn put_with_empty_line<W: Write>(out: &mut W, answer: &Answer) -> Result<bool, TellFault>
-    ensures told { IfOk result (λ done. Appends (W.contents out.old) (W.contents out.new) (ended (reply_of answer.now).text) × (done ≡ ((reply_of answer.now).status == 0))) }
-    ensures memory { IsErrOf result TellFault.OutOfMemory → ⊥ }
+/// Writes an answer and an empty line, and returns whether the answer is complete. Where the writer fails, a front of them is written.
+fn put_with_empty_line<W: Output>(out: &mut W, answer: &Answer) -> Result<bool, WriteFault>
+    ensures written { WritesFront (W.contents out.old) (W.contents out.new) (ended (reply_of answer.now).text) result }
+    ensures done { IfOk result (λ done. done ≡ ((reply_of answer.now).status == 0)) }
 {
     match put_answer(out, answer) {
-        Ok(status) => match out.write_all(b"\n") {
+        Ok(status) => match out.put(b"\n") {
             Ok(()) => Ok(status == 0),
-            Err(_) => Err(TellFault::Io),
+            Err(fault) => Err(fault),
         },
-        Err(_) => Err(TellFault::Io),
+        Err(fault) => Err(fault),
     }
 }
 
@@ -238,9 +238,12 @@ impl<'a> Teller for Ranker<'a> {
 
     ghost takes_memory = { IsText };
 
-    fn tell<W: Write>(&mut self, line: &[u8], out: &mut W) -> Result<bool, TellFault> {
+    fn tell<W: Output>(&mut self, line: &[u8], out: &mut W) -> Result<bool, TellFault> {
         match answer_line(self.ask, self.alloc, &mut self.set, line) {
-            Ok(answer) => put_with_empty_line(out, &answer),
+            Ok(answer) => match put_with_empty_line(out, &answer) {
+                Ok(done) => Ok(done),
+                Err(_) => Err(TellFault::Io),
+            },
             Err(_) => Err(TellFault::OutOfMemory),
         }
     }
@@ -283,7 +286,7 @@ impl<'a> Root<'a> {
         out: &mut W,
         errors: &mut E,
     ) -> Result<u8, WriteFault>
-        ensures written { IfOk result (PutsLinesOrNone (TellsLineIn self.now.json (ask_of self.now.determined) set.entry.tables) IsText (I.facts input.now) (W.contents out.old) (W.contents out.new)) }
+        ensures written { PutsLinesOrNone (TellsLineIn self.now.json (ask_of self.now.determined) set.entry.tables) IsText (I.facts input.now) (W.contents out.old) (W.contents out.new) result }
         ensures quiet { errors.new ≡ errors.old }
     {
         let ask = Ask::of(self.determined);
@@ -311,7 +314,7 @@ impl<'a> Root<'a> {
         out: &mut W,
         errors: &mut E,
     ) -> Result<u8, WriteFault>
-        ensures written { IfOk result (PutsByTables (TellsLineIn self.now.json (ask_of self.now.determined)) (I.facts input.now) sources.now (W.contents out.old) (W.contents out.new)) }
+        ensures written { PutsByTables (TellsLineIn self.now.json (ask_of self.now.determined)) (I.facts input.now) sources.now (W.contents out.old) (W.contents out.new) result }
         ensures quiet { errors.new ≡ errors.old }
     {
         match gather(alloc, sources, CacheSize::usual()) {
@@ -337,7 +340,7 @@ impl<'a> Root<'a> {
         out: &mut W,
         errors: &mut E,
     ) -> Result<u8, WriteFault>
-        ensures written { IfOk result (Puts self.now.json (ask_of self.now.determined) (I.facts input.now) self.now.fen sources.now (W.contents out.old) (W.contents out.new)) }
+        ensures written { Puts self.now.json (ask_of self.now.determined) (I.facts input.now) self.now.fen sources.now (W.contents out.old) (W.contents out.new) result }
         ensures quiet { errors.new ≡ errors.old }
     {
         match self.fen {

@@ -1,17 +1,15 @@
 //! `show`: the messages of the input as lines.
 
-ghost use Rattle.std.specs.Prelude.{◌≡◌, IfOk};
+ghost use Rattle.std.specs.Prelude.{◌≡◌};
 ghost use Rattle.move_msg.specs.Streams.{nothing_fed};
-ghost use Rattle.adjudicate_core.specs.Commands.Show.{Answers, IsShown, named};
-ghost use Rattle.adjudicate_core.specs.Reply.{Reply, WritesReply};
+ghost use Rattle.adjudicate_core.specs.Commands.Show.{Answers, Shows, named};
 ghost use Rattle.adjudicate_core.specs.Inside.Fronts.{IsFront};
 ghost use Rattle.task_files.specs.Sources.{named_by};
 
 use crate::lines::{Line, put_line, put_refusal};
 use crate::refusals::Refusal;
 use move_msg::{Feeder, Message, MessageFault};
-use std::io::Write;
-use system_io::WriteFault;
+use system_io::{Output, WriteFault};
 use task_files::{Places, Sources};
 
 /// The messages of the input.
@@ -46,8 +44,8 @@ fn read_front<'a>(feeder: &mut Feeder, stream: &'a [u8]) -> Front<'a>
 
 /// Writes a line for each message of a stream, and a refusal where it doesn't end after one. Returns the status, 0 done
 /// or 1 refused.
-fn show_messages<W: Write>(stream: &[u8], out: &mut W) -> Result<u8, WriteFault>
-    ensures { IfOk result (λ status. (r : Reply) × IsShown stream.now r × WritesReply (W.contents out.old) (W.contents out.new) r status) }
+fn show_messages<W: Output>(stream: &[u8], out: &mut W) -> Result<u8, WriteFault>
+    ensures { Shows stream.now (W.contents out.old) (W.contents out.new) result }
 {
     let mut feeder = Feeder::new();
     let mut rest = stream;
@@ -86,8 +84,8 @@ impl Show {
     }
 
     /// Writes a line for each message of the input, and returns the status.
-    pub(crate) fn answer<W: Write>(&self, sources: &Sources, out: &mut W) -> Result<u8, WriteFault>
-        ensures { IfOk result (Answers sources.now (W.contents out.old) (W.contents out.new)) }
+    pub(crate) fn answer<W: Output>(&self, sources: &Sources, out: &mut W) -> Result<u8, WriteFault>
+        ensures { Answers sources.now (W.contents out.old) (W.contents out.new) result }
     {
         show_messages(sources.input(), out)
     }

@@ -7,14 +7,13 @@ ghost use Rattle.adjudicate_core.specs.Misuses.{IsFirst, fault_words};
 ghost use Rattle.task_files.specs.Sources.{named_by};
 
 use super::{Form, Value};
-use crate::answers::status_if;
+use crate::answers::status_told;
 use crate::usage::ValueFault;
 use crate::values::option_in;
 use clap::ArgMatches;
 use game_status::tell_status;
 use std::alloc::Global;
-use std::io::Write;
-use system_io::{Disk, WriteFault};
+use system_io::{Disk, Output, WriteFault};
 use task_files::Places;
 
 /// How far the games of a folder have come.
@@ -59,17 +58,14 @@ impl<'a> ShowStatus<'a> {
 
     /// Tells how far the games have come, as `game_status::tell_status` has it. Returns the status, 0 where nothing is at fault and
     /// nothing differs, else 1.
-    pub(crate) fn answer<D: Disk, W: Write>(
+    pub(crate) fn answer<D: Disk, W: Output>(
         &self,
         alloc: Global,
         disk: &D,
         out: &mut W,
     ) -> Result<u8, WriteFault>
-        ensures { IfOk result (Puts (D.facts disk.now) self.now (W.contents out.old) (W.contents out.new)) }
+        ensures { Puts (D.facts disk.now) self.now (W.contents out.old) (W.contents out.new) result }
     {
-        match tell_status(alloc, disk, self.games, self.other, out) {
-            Ok(done) => Ok(status_if(done)),
-            Err(fault) => Err(fault),
-        }
+        status_told(tell_status(alloc, disk, self.games, self.other, out))
     }
 }

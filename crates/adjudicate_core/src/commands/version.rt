@@ -1,11 +1,10 @@
 //! `version`: the program's version.
 
-ghost use Rattle.std.specs.Prelude.{◌≡◌, IfOk};
+ghost use Rattle.std.specs.Prelude.{◌≡◌};
 ghost use Rattle.adjudicate_core.specs.Commands.Version.{Answers, named};
 ghost use Rattle.task_files.specs.Sources.{named_by};
 
-use std::io::Write;
-use system_io::WriteFault;
+use system_io::{Output, WriteFault};
 use task_files::Places;
 
 /// The program's version.
@@ -25,12 +24,12 @@ impl Version {
     }
 
     /// Writes the version as a line, and returns the status 0.
-    pub(crate) fn answer<W: Write>(&self, out: &mut W) -> Result<u8, WriteFault>
-        ensures { IfOk result (Answers (W.contents out.old) (W.contents out.new)) }
+    pub(crate) fn answer<W: Output>(&self, out: &mut W) -> Result<u8, WriteFault>
+        ensures { Answers (W.contents out.old) (W.contents out.new) result }
     {
-        match out.write_all(TEXT.as_bytes()) {
+        match out.put(TEXT.as_bytes()) {
             Ok(()) => Ok(0),
-            Err(_) => Err(WriteFault::Io),
+            Err(fault) => Err(fault),
         }
     }
 }

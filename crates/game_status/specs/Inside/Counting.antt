@@ -1,7 +1,8 @@
 -- Games that are counted on the way; cited by private functions alone.
-use Rattle.std.specs.Prelude.{◌≡◌, ◌≤◌, ◌<◌, ◌+◌, ◌^◌, ℕ, List, Option, cond, take}
+use Rattle.std.specs.Prelude.{◌≡◌, ◌≤◌, ◌<◌, ◌+◌, ◌^◌, ◌++◌, ℕ, List, [], ◌∷◌, Option, cond, take}
 use Rattle.std.specs.List.{AllZip}
 use Rattle.std.specs.Io.KnownBytes.{Appends}
+use Rattle.line_teller.specs.ToldLines.{CutsAfter}
 use Rattle.move_msg.specs.TextLines.{text_of}
 use Rattle.game_status.specs.declared.telling.Mark.{Mark}
 use Rattle.game_status.specs.declared.telling.Sums.{Sums}
@@ -32,3 +33,7 @@ TellsEach Tells stamps old new sums = (told : List GameTold) × AreTold Tells st
 -- the first ones are told
 abbrev pub TellsSome : (List ℕ → GameTold → Type 0) → List (List ℕ) → Option (List ℕ) → Option (List ℕ) → Type 0
 TellsSome Tells stamps old new = (count : ℕ) × (told : List GameTold) × AreTold Tells (take count stamps) old new told
+
+-- and of the line of one more a front is written
+abbrev pub CutsSome : (List ℕ → GameTold → Type 0) → List (List ℕ) → Option (List ℕ) → Option (List ℕ) → Type 0
+CutsSome Tells stamps old new = (count : ℕ) × (told : List GameTold) × (last : GameTold) × AllZip Tells (take count stamps) (told ++ last ∷ []) × CutsAfter (words_told told) last.words old new

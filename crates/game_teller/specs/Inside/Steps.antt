@@ -10,6 +10,7 @@ use Rattle.judge_core.specs.Answers.{ListsMovesForVerdict}
 use Rattle.judge_core.specs.Games.{Rules, verdict_after}
 use Rattle.judge_core.specs.Standings.{IsAt, Reached}
 use Rattle.judge_core.specs.Tables.{Tables}
+use Rattle.line_teller.specs.ToldLines.{HasFront}
 use Rattle.move_msg.specs.TextLines.{ended}
 use Rattle.system_io.specs.declared.reading.ReadFault.{ReadFault}
 use Rattle.system_io.specs.declared.reading.ReadFault.TheVariants as read
@@ -52,6 +53,10 @@ HasVerdict delay s verdict = (rules : Rules) (moves : List Moves) → rules.dela
 abbrev pub PutsPly : ℕ → ℕ → Reached → Option (List ℕ) → Option (List ℕ) → Option Verdict → Type 0
 PutsPly delay number s old new verdict = HasVerdict delay s verdict × Appends old new (ended (ply_words number verdict s.position))
 
+-- of that a front was written
+abbrev pub CutsPly : ℕ → ℕ → Reached → Option (List ℕ) → Option (List ℕ) → Type 0
+CutsPly delay number s old new = (v : Option Verdict) × HasVerdict delay s v × HasFront old new (ended (ply_words number v s.position))
+
 -- what came of a line that was read
 abbrev pub LineSteps : Tables → ℕ → ℕ → Reached → List ℕ → Reached → Option (List ℕ) → Option (List ℕ) → Step → Type 0
 LineSteps tables delay number old line new out out' (step.Told verdict) = HasTurned tables old line new × PutsPly delay (number + 1) new out out' verdict
@@ -70,6 +75,16 @@ Steps Stops tables delay number left now old new out out' step.Ended = IsAtEnd l
 Steps Stops tables delay number left now old new out out' step.Stopped =
     ((line : List ℕ) × (why : Stop) × ReadsLine left now line × IsNoTurn tables old.position number line why × Appends out out' (ended (stop_words why)))
     ⊎ ((fault : ReadFault) × Stops fault × Appends out out' (ended (stop_words (stop_by fault))))
+
+-- of what came of a line that was read a front was written
+abbrev pub LineCuts : Tables → ℕ → ℕ → Reached → List ℕ → Reached → Option (List ℕ) → Option (List ℕ) → Type 0
+LineCuts tables delay number old line new out out' =
+    (HasTurned tables old line new × CutsPly delay (number + 1) new out out') ⊎ ((why : Stop) × IsNoTurn tables old.position number line why × HasFront out out' (ended (stop_words why)))
+
+-- of what came of the next line
+abbrev pub StepCuts : (ReadFault → Type 0) → Tables → ℕ → ℕ → Option (List ℕ) → Option (List ℕ) → Reached → Reached → Option (List ℕ) → Option (List ℕ) → Type 0
+StepCuts Stops tables delay number left now old new out out' =
+    ((line : List ℕ) × ReadsLine left now line × LineCuts tables delay number old line new out out') ⊎ ((fault : ReadFault) × Stops fault × HasFront out out' (ended (stop_words (stop_by fault))))
 
 -- the start is told, which has no verdict
 abbrev pub HasBegun : Rules → Reached → Option (List ℕ) → Option (List ℕ) → Type 0

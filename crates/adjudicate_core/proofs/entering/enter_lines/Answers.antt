@@ -1,5 +1,5 @@
 use Rattle.std.proofs.Common.{refl}
-use Rattle.adjudicate_core.proofs.EnterLaws.{entered_all, entered_cut, entered_more, entered_none}
+use Rattle.adjudicate_core.proofs.EnterLaws.{entered_all, entered_cut, entered_front, entered_more, entered_none}
 use Rattle.adjudicate_core.proofs.MakeLaws.{made_all, made_more, made_none}
 use Rattle.adjudicate_core.proofs.entering.enter_lines.Goals as goal
 
@@ -27,3 +27,6 @@ returns-in-Err-clause-made g c = made_all _ _ _ _ _ (made_more _ _ _ _ _ _ _ _ c
 
 pub returns-clause-made : goal.returns-clause-made
 returns-clause-made g c = made_all _ _ _ _ _ c.loop-line.invariant.1
+
+pub returns-in-Err-clause-puts : goal.returns-in-Err-clause-puts
+returns-in-Err-clause-puts g c = entered_front _ _ _ _ _ _ _ _ _ _ c.loop-line.invariant.0 c.in-Some.ensures.some c.in-Err.ensures.enters

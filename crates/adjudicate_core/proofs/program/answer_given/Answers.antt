@@ -1,6 +1,6 @@
 use Rattle.std.proofs.Common.{◌∙◌, refl, sym, ap, inl}
 use Rattle.adjudicate_core.specs.Tasks.{tells_progress}
-use Rattle.adjudicate_core.proofs.AnswerLaws.{after_reading, entered, listened, once, once_always, sent, told_or_quiet}
+use Rattle.adjudicate_core.proofs.AnswerLaws.{after_reading, listened, once, once_always, sent, told_or_quiet}
 use Rattle.adjudicate_core.proofs.HostLaws.{hosted_games}
 use Rattle.adjudicate_core.proofs.MakeLaws.{enter_makes, host_makes, listen_makes, makes_nothing, send_makes}
 use Rattle.adjudicate_core.proofs.program.answer_given.Goals as goal
@@ -36,7 +36,7 @@ pub returns-in-Check : goal.returns-in-Check
 returns-in-Check g c = record { answered = rw c.in-Check.is (after_reading c.answer-in-Check.result _ _ c.answer-in-Check.ensures.ok c.answer-in-Check.ensures.cause c.put_read-in-Check.result _ _ c.put_read-in-Check.ensures); quiet = λ unasked. inl (c.answer-in-Check.ensures.quiet (ap tells_progress (sym c.in-Check.is) ∙ unasked)); made = makes_nothing _ _ }
 
 pub returns-in-Record : goal.returns-in-Record
-returns-in-Record g c = record { answered = rw c.in-Record.is c.answer-in-Record.ensures; quiet = λ unasked. inl refl; made = makes_nothing _ _ }
+returns-in-Record g c = record { answered = rw c.in-Record.is (once c.answer-in-Record.result _ c.answer-in-Record.ensures.ok c.put_answered-in-Record.result _ _ c.put_answered-in-Record.ensures _ c.answer-in-Record.ensures.memory); quiet = λ unasked. inl refl; made = makes_nothing _ _ }
 
 pub returns-in-Audit : goal.returns-in-Audit
 returns-in-Audit g c = record { answered = rw c.in-Audit.is (once c.answer-in-Audit.result _ c.answer-in-Audit.ensures.ok c.put_answered-in-Audit.result _ _ c.put_answered-in-Audit.ensures _ c.answer-in-Audit.ensures.memory); quiet = λ unasked. inl refl; made = makes_nothing _ _ }
@@ -49,13 +49,13 @@ returns-in-Version g c = record { answered = rw c.in-Version.is c.answer-in-Vers
 
 pub returns-in-Send : goal.returns-in-Send
 returns-in-Send g c = record {
-  answered = rw c.in-Send.is (sent _ _ _ _ _ _ _ _ c.send.result c.tell_silence.result c.send.ensures c.tell_silence.ensures.status c.tell_silence.ensures.err);
+  answered = rw c.in-Send.is (c.send.result, sent c.send.result c.tell_silence.result c.tell_silence.ensures.status c.tell_silence.ensures.err, c.send.ensures);
   quiet = λ unasked. rw c.in-Send.is (told_or_quiet g.E.Output.facts g.E.Write.contents _ _ _ c.send.result c.tell_silence.result c.tell_silence.ensures.told c.tell_silence.ensures.quiet c.tell_silence.ensures.status);
   made = rw c.in-Send.is (send_makes _ _ _ _ _ _ _ _ c.send.result c.send.ensures);
 }
 
 pub returns-in-Enter : goal.returns-in-Enter
-returns-in-Enter g c = record { answered = rw c.in-Enter.is (entered _ _ _ _ _ _ _ _ c.enter.result c.enter.ensures); quiet = λ unasked. inl refl; made = rw c.in-Enter.is (enter_makes _ _ _ _ _ _ _ _ c.enter.result c.enter.ensures) }
+returns-in-Enter g c = record { answered = rw c.in-Enter.is c.enter.ensures; quiet = λ unasked. inl refl; made = rw c.in-Enter.is (enter_makes _ _ _ _ _ _ _ _ c.enter.result c.enter.ensures) }
 
 pub returns-in-Host : goal.returns-in-Host
 returns-in-Host g c = record { answered = rw c.in-Host.is (hosted_games _ _ _ _ _ _ _ _ _ _ c.host_games.result c.host_games.ensures); quiet = λ unasked. inl refl; made = rw c.in-Host.is (host_makes _ _ _ _ _ _ _ _ _ c.host_games.result c.host_games.ensures) }

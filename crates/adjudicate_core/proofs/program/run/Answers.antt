@@ -1,5 +1,4 @@
 use Rattle.std.proofs.Common.{◌≡◌, ◌⊎◌, Bool, true, false, refl, inl, inr}
-use Rattle.std.proofs.lemmas.Result.{IfOk-weaker}
 use Rattle.adjudicate_core.specs.Running.{ToTask, ToMisuse}
 use Rattle.system_io.proofs.HistoryLaws.{Passes-nil}
 use Rattle.adjudicate_core.proofs.program.run.Goals as goal
@@ -10,7 +9,7 @@ not_quiet false quiet differ = elim (quiet refl) [ inl same ↦ absurd (differ s
 
 pub returns-in-Ok : goal.returns-in-Ok
 returns-in-Ok g c = record {
-  runs = IfOk-weaker c.run_by_key.result _ _ (λ status h. ToTask c.in-Ok.task c.in-Ok.ensures.ok h) c.run_by_key.ensures.answered;
+  runs = ToTask c.in-Ok.task c.in-Ok.ensures.ok c.run_by_key.ensures.answered;
   quiet = λ differ. inr (c.in-Ok.task, c.in-Ok.ensures.ok, not_quiet _ c.run_by_key.ensures.quiet differ);
   made = inr (c.in-Ok.task, c.in-Ok.ensures.ok, c.run_by_key.ensures.made);
 }

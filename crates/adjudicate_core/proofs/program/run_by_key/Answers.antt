@@ -12,7 +12,7 @@ use Rattle.adjudicate_core.proofs.program.run_by_key.Goals as goal
 pub returns-in-None : goal.returns-in-None
 returns-in-None g c =
     let none : key_in c.args.task.now ≡ None = sym c.key.ensures ∙ ap (option_map (λ s. s.now)) c.in-None.is in
-    record { answered = IfOk-weaker c.run_task.result _ _ (λ status h. Bare none h) c.run_task.ensures.answered; quiet = c.run_task.ensures.quiet; made = c.run_task.ensures.made }
+    record { answered = Bare none c.run_task.ensures.answered; quiet = c.run_task.ensures.quiet; made = c.run_task.ensures.made }
 
 pub returns-in-Ok-Ok : goal.returns-in-Ok-Ok
 returns-in-Ok-Ok g c =
@@ -21,7 +21,7 @@ returns-in-Ok-Ok g c =
     let has = subst (GivesKeys (g.D.Disk.facts c.args.system.now.disk.now) c.in-Some.path.now) c.in-Ok-Ok.field-0-is c.in-Ok-Ok.ensures in
     let over = over_keyed (g.D.Disk.facts c.args.system.now.disk.now) (g.I.Input.facts c.args.system.now.input.now) g.H.Host.facts g.H.Port.Port.facts g.H.File.KeptFile.facts c.args.system.now.host.now keys c.over-keyed.result _ _ in
     record {
-      answered = IfOk-weaker c.run_task-in-Ok-Ok.result _ _ (λ status h. BySeal c.in-Some.path.now named keys has (over _ _ _ _ c.over-keyed.ensures h)) c.run_task-in-Ok-Ok.ensures.answered;
+      answered = BySeal c.in-Some.path.now named keys has (over _ _ _ _ c.over-keyed.ensures c.run_task-in-Ok-Ok.ensures.answered);
       quiet = c.run_task-in-Ok-Ok.ensures.quiet;
       made = c.run_task-in-Ok-Ok.ensures.made;
     }
@@ -31,7 +31,7 @@ returns-in-Ok-Err g c =
     let named : key_in c.args.task.now ≡ Some c.in-Some.path.now = sym c.key.ensures ∙ ap (option_map (λ s. s.now)) c.in-Some.is in
     let lacks = subst (GivesKeys (g.D.Disk.facts c.args.system.now.disk.now) c.in-Some.path.now) c.in-Ok-Err.field-0-is c.in-Ok-Err.ensures in
     record {
-      answered = IfOk-weaker c.put_refusal.result _ _ (λ status h. NoKeys c.in-Some.path.now named (refusal_words c.in-Ok-Err.refusal) lacks h) c.put_refusal.ensures;
+      answered = NoKeys c.in-Some.path.now named (refusal_words c.in-Ok-Err.refusal) lacks c.put_refusal.ensures;
       quiet = λ unasked. inl refl;
       made = makes_nothing _ _;
     }
@@ -40,7 +40,7 @@ pub returns-in-Err : goal.returns-in-Err
 returns-in-Err g c =
     let named : key_in c.args.task.now ≡ Some c.in-Some.path.now = sym c.key.ensures ∙ ap (option_map (λ s. s.now)) c.in-Some.is in
     record {
-      answered = IfOk-weaker c.put_refusal-in-Err.result _ _ (λ status h. NoRoomForKeys c.in-Some.path.now named h) c.put_refusal-in-Err.ensures;
+      answered = NoRoomForKeys c.in-Some.path.now named c.put_refusal-in-Err.ensures;
       quiet = λ unasked. inl refl;
       made = makes_nothing _ _;
     }

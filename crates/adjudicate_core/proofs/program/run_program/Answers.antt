@@ -1,5 +1,4 @@
 use Rattle.std.proofs.Common.{◌≡◌, Err, ap, refl, rules}
-use Rattle.std.proofs.lemmas.Result.{IfOk-weaker}
 use Rattle.adjudicate_core.specs.declared.usage.WordsFault.TheVariants.{NoText}
 use Rattle.adjudicate_core.specs.Running.{OnNoText, OnWords, called_by}
 use Rattle.adjudicate_core.proofs.MakeLaws.{none_called}
@@ -10,7 +9,7 @@ returns-in-Ok-tail_of-clause-called g c =
     let on_tail = rw c.deref-in-Ok-tail_of.ensures.value at c.run.ensures.runs in
     let on_rest = rw c.in-Ok-tail_of.ensures at on_tail in
     let on_words = rw c.deref.ensures.value at on_rest in
-    IfOk-weaker c.run.result _ _ (λ status h. OnWords _ (ap called_by c.in-Ok.is) h) on_words
+    OnWords _ (ap called_by c.in-Ok.is) on_words
 
 pub returns-in-Err-NoText-clause-called : goal.returns-in-Err-NoText-clause-called
 returns-in-Err-NoText-clause-called g c =

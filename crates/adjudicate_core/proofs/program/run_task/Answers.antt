@@ -1,5 +1,4 @@
 use Rattle.std.proofs.Common.{Err, ap, refl, inl}
-use Rattle.std.proofs.lemmas.Result.{IfOk-weaker}
 use Rattle.adjudicate_core.specs.Running.{FromGiven, Unread}
 use Rattle.adjudicate_core.proofs.MakeLaws.{makes_nothing}
 use Rattle.adjudicate_core.proofs.program.run_task.Goals as goal
@@ -7,9 +6,9 @@ use Rattle.adjudicate_core.proofs.program.run_task.Goals as goal
 pub returns-in-Ok : goal.returns-in-Ok
 returns-in-Ok g c =
     let given = rw c.places-places.ensures at c.in-Ok.ensures.given in
-    record { answered = IfOk-weaker c.answer_given.result _ _ (λ status h. FromGiven _ given h) c.answer_given.ensures.answered; quiet = c.answer_given.ensures.quiet; made = c.answer_given.ensures.made }
+    record { answered = FromGiven _ given c.answer_given.ensures.answered; quiet = c.answer_given.ensures.quiet; made = c.answer_given.ensures.made }
 
 pub returns-in-Err-Unreadable : goal.returns-in-Err-Unreadable
 returns-in-Err-Unreadable g c =
     let cause = rw c.places-places.ensures at (c.in-Err-Unreadable.ensures.cause (ap Err c.in-Err-Unreadable.field-0-is)) in
-    record { answered = IfOk-weaker c.put_refusal.result _ _ (λ status h. Unread cause h) c.put_refusal.ensures; quiet = λ unasked. inl refl; made = makes_nothing _ _ }
+    record { answered = Unread cause c.put_refusal.ensures; quiet = λ unasked. inl refl; made = makes_nothing _ _ }

@@ -1,5 +1,5 @@
 use Rattle.std.proofs.Common.{rules, refl}
-use Rattle.game_status.proofs.TellingLaws.{few, more_told}
+use Rattle.game_status.proofs.TellingLaws.{few, front_told, more_told, other_err}
 use Rattle.game_status.proofs.telling.tell_each.Goals as goal
 
 pub with-sums-requires : goal.with-sums-requires
@@ -12,3 +12,6 @@ loop-stamp-preserved g c =
       told = more_told (g.T.GameTeller.tells c.args.teller.now) c.args.stamps.now c.loop-stamp.stamp-index _ _ _ _ _ c.loop-stamp.sums c.with-sums.result c.in-Ok.mark c.loop-stamp-test.true refl c.loop-stamp.invariant.told (words, c.loop-stamp.invariant.same _ _ tells, wrote) c.with-sums.ensures;
       same = λ stamp told h. c.loop-stamp.invariant.same stamp told (c.in-Ok.ensures.same stamp told h);
     }
+
+pub returns-in-Err-clause-front : goal.returns-in-Err-clause-front
+returns-in-Err-clause-front g c = λ is. front_told (g.T.GameTeller.tells c.args.teller.now) c.args.stamps.now _ c.loop-stamp.stamp-index _ _ _ _ _ c.loop-stamp.sums c.loop-stamp-test.true refl c.loop-stamp.invariant.told c.loop-stamp.invariant.same (c.in-Err.ensures.front (other_err c.in-Err.fault _ is))

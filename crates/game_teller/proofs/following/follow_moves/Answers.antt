@@ -6,7 +6,7 @@ use Rattle.line_teller.specs.ToldLines.{AsksNone}
 use Rattle.move_msg.specs.TextLines.{ended}
 use Rattle.game_teller.specs.Plies.{ply_words, stop_words}
 use Rattle.game_teller.specs.declared.lines.Stop.TheVariants.{OutOfMemory}
-use Rattle.game_teller.proofs.FollowLaws.{asked_all, ruled, start_told}
+use Rattle.game_teller.proofs.FollowLaws.{asked_all, ruled, start_cut, start_told}
 use Rattle.game_teller.proofs.following.follow_moves.Goals.{in-Ok-put_stop, in-Err-put_stop}
 use Rattle.game_teller.proofs.following.follow_moves.Goals as goal
 
@@ -33,3 +33,10 @@ returns-in-Ok-Some-clause-follows g c =
 
 pub returns-in-Ok-Some-clause-turns : goal.returns-in-Ok-Some-clause-turns
 returns-in-Ok-Some-clause-turns g c = record { first = c.put_standing.new.out; words = _; wrote = c.in-Ok-Some.ensures.ply.1; turns = asked_all g.L.LineReader.facts g.W.Output.facts g.W.Write.contents _ _ _ _ _ (AsksNone _ _ refl refl) refl }
+
+pub returns-clause-follows : goal.returns-clause-follows
+returns-clause-follows g c =
+    let rules : Rules = record { start = c.args.start.now; tables = c.args.set.tables; delay = c.args.delay } in
+    let at = c.in-Ok.ensures.at rules refl refl in
+    let cut = c.in-Err-put_standing.ensures.front in
+    start_cut rules _ _ _ _ _ at (cut.0, cut.1 rules [] refl at, cut.2)

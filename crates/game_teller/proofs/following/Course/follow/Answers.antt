@@ -1,6 +1,6 @@
 use Rattle.std.proofs.Common.{◌∙◌, inl, inr, refl, sym}
 use Rattle.line_teller.specs.ToldLines.{AsksNone, refused_files, stops_by}
-use Rattle.game_teller.proofs.FollowLaws.{all_read, asked_all, asked_cut, asked_more, begun, ruled, still_by, still_going, stops, told_more, too_many}
+use Rattle.game_teller.proofs.FollowLaws.{all_read, asked_all, asked_cut, asked_more, begun, many_cut, next_cut, ruled, still_by, still_going, stops, told_more, too_many}
 use Rattle.game_teller.proofs.following.Course.follow.Goals as goal
 
 pub loop-number-init : goal.loop-number-init
@@ -59,3 +59,11 @@ returns-in-Ok-clause-follows g c = λ rules before by_tables by_delay has. too_m
 
 pub returns-in-Ok-clause-turns : goal.returns-in-Ok-clause-turns
 returns-in-Ok-clause-turns g c = record { now = c.loop-number.reader; at = c.loop-number.out; asked = c.loop-number.invariant.turns; rest = inr (refused_files, inl refl, c.in-Ok.ensures) }
+
+pub returns-in-Err-clause-follows : goal.returns-in-Err-clause-follows
+returns-in-Err-clause-follows g c = λ rules before by_tables by_delay has.
+    let old = c.loop-number.invariant in
+    next_cut rules (stops_by (g.L.LineReader.facts c.loop-number.reader)) _ _ _ (still_by _ _ _ by_tables old.set) (by_delay ∙ sym old.delay) old.fails _ _ _ _ _ _ _ _ _ (old.far rules before by_tables by_delay has) c.in-Err.ensures.front
+
+pub returns-clause-follows : goal.returns-clause-follows
+returns-clause-follows g c = λ rules before by_tables by_delay has. many_cut rules _ _ _ _ _ _ _ _ (c.loop-number.invariant.far rules before by_tables by_delay has) (search rules) c.in-Err-put_stop.ensures

@@ -1,5 +1,4 @@
 use Rattle.std.proofs.Common.{sym}
-use Rattle.std.proofs.lemmas.Result.{IfOk-weaker}
 use Rattle.adjudicate_core.specs.Commands.Follow.{BadTables, Followed, NoRoom}
 use Rattle.adjudicate_core.specs.Lines.{refusal_words}
 use Rattle.adjudicate_core.proofs.commands.follow.Follow.answer_from.Goals as goal
@@ -7,12 +6,12 @@ use Rattle.adjudicate_core.proofs.commands.follow.Follow.answer_from.Goals as go
 pub returns-in-Ok-Ok : goal.returns-in-Ok-Ok
 returns-in-Ok-Ok g c =
     let is = sym (rw c.in-Ok-Ok.field-0-is at c.in-Ok-Ok.ensures) in
-    IfOk-weaker c.put_game.result _ _ (λ status h. Followed c.args.start.now c.requires.spelled c.requires.position c.in-Ok-Ok.set.tables is h) c.put_game.ensures
+    Followed c.args.start.now c.requires.spelled c.requires.position c.in-Ok-Ok.set.tables is c.put_game.ensures
 
 pub returns-in-Ok-Err : goal.returns-in-Ok-Err
 returns-in-Ok-Err g c =
     let is = sym (rw c.in-Ok-Err.field-0-is at c.in-Ok-Err.ensures) in
-    IfOk-weaker c.put_refusal.result _ _ (λ status h. BadTables (c.args.start.now, c.requires.spelled, c.requires.position) (refusal_words c.in-Ok-Err.refusal) is h) c.put_refusal.ensures
+    BadTables (c.args.start.now, c.requires.spelled, c.requires.position) (refusal_words c.in-Ok-Err.refusal) is c.put_refusal.ensures
 
 pub returns-in-Err : goal.returns-in-Err
-returns-in-Err g c = IfOk-weaker c.put_refusal-in-Err.result _ _ (λ status h. NoRoom (c.args.start.now, c.requires.spelled, c.requires.position) h) c.put_refusal-in-Err.ensures
+returns-in-Err g c = NoRoom (c.args.start.now, c.requires.spelled, c.requires.position) c.put_refusal-in-Err.ensures

@@ -1,5 +1,4 @@
 use Rattle.std.proofs.Common.{sym, refl}
-use Rattle.std.proofs.lemmas.Result.{IfOk-weaker}
 use Rattle.adjudicate_core.specs.Lines.{refusal_words}
 use Rattle.adjudicate_core.specs.TableAnswers.{PutsLinesOf, PutsRefusal}
 use Rattle.adjudicate_core.proofs.commands.probes.Probes.answer.Goals as goal
@@ -7,9 +6,9 @@ use Rattle.adjudicate_core.proofs.commands.probes.Probes.answer.Goals as goal
 pub returns-in-Ok-Ok : goal.returns-in-Ok-Ok
 returns-in-Ok-Ok g c =
     let is = sym (rw c.in-Ok-Ok.field-0-is at c.in-Ok-Ok.ensures) in
-    record { written = IfOk-weaker c.answer_lines.result _ _ (λ status h. PutsLinesOf c.in-Ok-Ok.set.tables is h) c.answer_lines.ensures.written; quiet = c.answer_lines.ensures.quiet }
+    record { written = PutsLinesOf c.in-Ok-Ok.set.tables is c.answer_lines.ensures.written; quiet = c.answer_lines.ensures.quiet }
 
 pub returns-in-Ok-Err : goal.returns-in-Ok-Err
 returns-in-Ok-Err g c =
     let is = sym (rw c.in-Ok-Err.field-0-is at c.in-Ok-Err.ensures) in
-    record { written = IfOk-weaker c.put_refusal.result _ _ (λ status h. PutsRefusal (refusal_words c.in-Ok-Err.refusal) is h) c.put_refusal.ensures; quiet = λ unasked. refl }
+    record { written = PutsRefusal (refusal_words c.in-Ok-Err.refusal) is c.put_refusal.ensures; quiet = λ unasked. refl }

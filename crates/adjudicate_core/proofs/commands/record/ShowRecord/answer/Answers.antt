@@ -1,14 +1,20 @@
-use Rattle.std.proofs.Common.{refl}
-use Rattle.std.proofs.lemmas.Result.{IfOk-weaker}
+use Rattle.std.proofs.Common.{List, ℕ, ap, refl}
 use Rattle.adjudicate_core.specs.Commands.Record.{OfNone, OfRecord}
-use Rattle.adjudicate_core.specs.Reply.{Replied}
+use Rattle.adjudicate_core.specs.Reply.{Reply}
+use Rattle.move_msg.proofs.RecordLaws.{read_back}
 use Rattle.adjudicate_core.proofs.commands.record.ShowRecord.answer.Goals as goal
 
-pub returns-in-Ok-put_record : goal.returns-in-Ok-put_record
-returns-in-Ok-put_record g c =
-    Replied _ (OfRecord c.in-Ok.record (rw c.kept.ensures at c.in-Ok.ensures.ok) refl) (c.in-Ok-put_record.ensures, refl)
+abbrev so : List ℕ → Reply
+so text = record { text = text; status = 0 }
 
-pub returns : goal.returns
-returns g c =
+pub returns-in-Ok-text_of-clause-ok : goal.returns-in-Ok-text_of-clause-ok
+returns-in-Ok-text_of-clause-ok c =
+    OfRecord c.in-Ok.record (rw c.kept.ensures at c.in-Ok.ensures.ok) (ap so c.in-Ok-text_of.ensures)
+
+pub returns-clause-ok : goal.returns-clause-ok
+returns-clause-ok c =
     let first = rw c.kept.ensures at (c.in-Err.ensures.err c.in_default.not-OutOfMemory) in
-    IfOk-weaker c.put_refusal-in_default.result _ _ (λ status h. Replied _ (OfNone c.in-Err.fault first refl) h) c.put_refusal-in_default.ensures
+    OfNone c.in-Err.fault first refl
+
+pub returns-in-Ok-clause-memory : goal.returns-in-Ok-clause-memory
+returns-in-Ok-clause-memory c = (read_back _ c.in-Ok.record (rw c.kept.ensures at c.in-Ok.ensures.ok)).layout

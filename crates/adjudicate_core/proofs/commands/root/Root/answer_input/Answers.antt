@@ -1,5 +1,4 @@
 use Rattle.std.proofs.Common.{sym}
-use Rattle.std.proofs.lemmas.Result.{IfOk-weaker}
 use Rattle.adjudicate_core.specs.Lines.{refusal_words}
 use Rattle.adjudicate_core.specs.TableAnswers.{PutsLinesOf, PutsRefusal}
 use Rattle.adjudicate_core.proofs.commands.root.Root.answer_input.Goals as goal
@@ -7,9 +6,9 @@ use Rattle.adjudicate_core.proofs.commands.root.Root.answer_input.Goals as goal
 pub returns-in-Ok-Ok-clause-written : goal.returns-in-Ok-Ok-clause-written
 returns-in-Ok-Ok-clause-written g c =
     let is = sym (rw c.in-Ok-Ok.field-0-is at c.in-Ok-Ok.ensures) in
-    IfOk-weaker c.answer_lines.result _ _ (λ status h. PutsLinesOf c.in-Ok-Ok.set.tables is h) c.answer_lines.ensures.written
+    PutsLinesOf c.in-Ok-Ok.set.tables is c.answer_lines.ensures.written
 
 pub returns-in-Ok-Err-clause-written : goal.returns-in-Ok-Err-clause-written
 returns-in-Ok-Err-clause-written g c =
     let is = sym (rw c.in-Ok-Err.field-0-is at c.in-Ok-Err.ensures) in
-    IfOk-weaker c.put_refusal.result _ _ (λ status h. PutsRefusal (refusal_words c.in-Ok-Err.refusal) is h) c.put_refusal.ensures
+    PutsRefusal (refusal_words c.in-Ok-Err.refusal) is c.put_refusal.ensures
