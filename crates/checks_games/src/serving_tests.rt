@@ -89,7 +89,7 @@ fn check_lines(rt: &impl Abort, alloc: Global, port: &mut MemoryPort<'_>, row: &
 fn letter_of(passage: &Passage) -> u8 {
     match passage {
         Passage::Came(_) => b'c',
-        Passage::Quiet => b'q',
+        Passage::Quiet(_) => b'q',
         Passage::Missed => b'm',
         Passage::Handed { to, .. } => { if *to == 0 { b'h' } else { b'i' } }
     }

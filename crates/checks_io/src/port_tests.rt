@@ -34,7 +34,7 @@ fn receive<P: Port>(port: &mut P) {
 fn push_passage(rt: &impl Abort, text: &mut Vec<u8>, passage: &Passage) {
     match passage {
         Passage::Came(bytes) => push_bytes(rt, text, bytes),
-        Passage::Quiet => push_bytes(rt, text, b"?"),
+        Passage::Quiet(_) => push_bytes(rt, text, b"?"),
         Passage::Missed => push_bytes(rt, text, b"!"),
         Passage::Handed { to, bytes } => {
             push_bytes(rt, text, if *to == 0 { b"0" } else { b"1" });

@@ -74,7 +74,7 @@ fn digit_of(datagram: &[u8]) -> u8 {
 fn letter_of(passage: &Passage) -> u8 {
     match passage {
         Passage::Came(_) => b'c',
-        Passage::Quiet => b'q',
+        Passage::Quiet(_) => b'q',
         Passage::Missed => b'm',
         Passage::Handed { bytes, .. } => digit_of(bytes),
     }

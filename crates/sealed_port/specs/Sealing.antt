@@ -35,7 +35,7 @@ opened is datagram = cond is (before_tag datagram) no_tag
 -- what passes at a sealed port, by what passes at the port below it: what was sent counts only with the tag of the first key
 abbrev pub unsealed : Keys → Passing → Passing
 unsealed keys (Came bytes) = Came (opened (is_sealed_by keys bytes) bytes)
-unsealed keys Quiet = Quiet
+unsealed keys (Quiet nanos) = Quiet nanos
 unsealed keys Missed = Missed
 unsealed keys (Handed to bytes) = Handed to (opened (is_sealed keys.first bytes) bytes)
 

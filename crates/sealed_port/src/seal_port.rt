@@ -143,6 +143,7 @@ impl<P: Port + Drop> Sealed<P> {
 
 impl<P: Port + Drop> Port for Sealed<P> {
     ghost use Rattle.std.specs.Prelude.{◌≡◌, ◌<◌, ◌≤◌, [], ◌∷◌, None, Ok, Err, length, take, IfOk, IfSome, OnErr};
+    ghost use Rattle.std.specs.Duration.{as_nanos};
     ghost use Rattle.system_io.specs.Failures.{Risen};
     ghost use Rattle.system_io.specs.Ports.{Came, Quiet, Missed, Passed, to_each};
     ghost use Rattle.system_io.specs.declared.port.PortFault.TheVariants.{Failed};
@@ -170,7 +171,7 @@ impl<P: Port + Drop> Port for Sealed<P> {
     ) -> Result<Option<usize>, PortFault>
         ensures length { IfOk result (λ got. IfSome got (λ n. n ≤ 64)) }
         ensures came { IfOk result (λ got. IfSome got (λ n. Passed (sealed_facts P.facts self.old) (sealed_facts P.facts self.new) (Came (take n buffer.new) ∷ []))) }
-        ensures quiet { result ≡ Ok None → Passed (sealed_facts P.facts self.old) (sealed_facts P.facts self.new) (Quiet ∷ []) }
+        ensures quiet { result ≡ Ok None → Passed (sealed_facts P.facts self.old) (sealed_facts P.facts self.new) (Quiet (as_nanos wait) ∷ []) }
         ensures missed { OnErr result (Passed (sealed_facts P.facts self.old) (sealed_facts P.facts self.new) (Missed ∷ [])) }
         ensures cause { OnErr result (Risen (sealed_facts P.facts self.old).faults (sealed_facts P.facts self.new).faults) }
         ensures stays { Stays self.old self.new }

@@ -26,19 +26,20 @@ use Rattle.move_msg.specs.declared.who.Who.TheVariants.{A}
 use Rattle.source_core.specs.declared.lines.End.TheVariants as at_end
 use Rattle.source_core.specs.declared.turn.Next.{Next}
 use Rattle.source_core.specs.declared.turn.Next.TheVariants as next
+use Rattle.source_core.specs.declared.turn.Terms.{Terms}
 use Rattle.source_core.specs.declared.turn.Turn.{Turn}
 use Rattle.source_core.specs.declared.turn.Turn.TheVariants as at_turn
 use Rattle.system_io.specs.Outputs.{WritesFront}
 use Rattle.system_io.specs.LineReaders.{ReadsLine}
 use Rattle.system_io.specs.Ports.{Passing, Came, Quiet, Missed, Handed, PortFacts, Passed, to_each}
 use Rattle.source_core.specs.Reports.{Knows, StandsSo}
-use Rattle.source_core.specs.Turns.{ComesTo, HasSpelling, HasWaited, IsReceived, IsTurn, move_message, one_try, tries_of}
+use Rattle.source_core.specs.Turns.{ComesTo, EachWaitsSoLong, HasSpelling, HasWaited, IsReceived, IsTurn, WaitsSoLong, move_message, one_try, tries_of}
 use Rattle.source_core.specs.Lines.{IsCut, acked_words, end_words, ended_by}
 use Rattle.source_core.specs.declared.lines.Ended.{Ended}
 use Rattle.source_core.specs.Boards.{AreBelieved, IsBelieved}
 use Rattle.source_core.proofs.BoardLaws.{believed_first, is_belied}
 use Rattle.std.proofs.lemmas.Option.{same_Some}
-use Rattle.source_core.specs.Sendings.{At, AckedMove, ClosesSo, again, EndsIfAny, EndsWith, Unread, Refused, Closed, Sent, Game, InTurn, IsAckedTurn, IsClosed, IsLastMove, IsRefusedLine, IsSending, IsUnread, OnlyHands, Sending, WritesLines, causes, last_lines, last_of, line_of, lines_of, sent_in}
+use Rattle.source_core.specs.Sendings.{At, AckedMove, ClosesSo, again, EndsIfAny, EndsWith, Unread, Refused, Closed, Sent, Game, InTurn, IsAckedTurn, IsClosed, IsLastMove, IsRefusedLine, IsSending, IsUnread, OnlyHands, Sending, WritesLines, causes, game_at, last_lines, last_of, line_of, lines_of, sent_in, text_in}
 use Rattle.source_core.specs.Inside.Steps.{Closes, EndsAt, HasEnded, IsPlayed, Steps, StepsOn, StepsSo, begun_at, end_by, is_ruled, no_cause}
 use Rattle.source_core.proofs.PortLaws.{Passed-nil, Passed-trans}
 use Rattle.source_core.proofs.ReportLaws.{all_agreed, is_acked, is_ruled_so, is_unsettled, knows_nothing, knows_past, not_both}
@@ -47,49 +48,49 @@ use Rattle.source_core.proofs.TurnLaws.{again_reports_nothing, all_more}
 -- ---- one step
 
 -- where the number is that of the moves before it
-last_move : (g : Game) (at : At) (input : Option (List ℕ)) (line : List ℕ) (after : Parts) (m : Moves) (known known' : Known) (port port' : PortFacts) (turn : Turn) (tries : List (List Passing)) → ReadsLine at.input input line → IsPlayed at.position (length at.moves) line m after → IsTurn g.stamp g.most (length at.moves) m (length at.moves + 1) after port port' known known' turn tries → IsLastMove g at input (m ∷ []) (sent_in g at.moves m tries)
-last_move g at input line after m known known' port port' turn tries read r t = record { line = line; move = m; tries = tries; after = after; read = read; spelled = r.spelled; legal = r.legal; room = r.room; spelling = t.spelling; are = (t.few, t.received); only = refl; passed = refl }
+last_move : (g : Game) (at : At) (input : Option (List ℕ)) (line : List ℕ) (after : Parts) (m : Moves) (known known' : Known) (port port' : PortFacts) (turn : Turn) (tries : List (List Passing)) → Knows g.terms.stamp at.passed known → ReadsLine at.input input line → IsPlayed at.position (length at.moves) line m after → IsTurn g.terms (length at.moves) m (length at.moves + 1) after port port' known known' turn tries → port.addresses ≡ g.addresses → IsLastMove g at input (m ∷ []) (sent_in g at.moves m tries)
+last_move g at input line after m known known' port port' turn tries k read r t e = record { line = line; move = m; tries = tries; after = after; read = read; spelled = r.spelled; legal = r.legal; room = r.room; spelling = t.spelling; are = record { few = t.few; received = t.received; again = t.again; waited = subst (λ n. EachWaitsSoLong g.terms (length at.moves) n (text_in g at.moves m) at.passed tries) e (t.waited at.passed k) }; only = refl; passed = refl }
 
 -- the course after the move was played
 abbrev pub course_at : Parts → Known → Moves → Course
 course_at after known m = record { position = after; known = known; last = Some m }
 
 -- a turn ends the run, or the run goes on
-turned : (cause : ReadFault → Type 0) (stamp : Stamp) (most : ℕ) (input input' : Option (List ℕ)) (line : List ℕ) (position after : Parts) (m : Moves) (known known' : Known) (port port' : PortFacts) (turn : Turn) (tries : List (List Passing)) (before : List Passing) (moves : List Moves)
-    → ReadsLine input input' line → IsPlayed position (length moves) line m after → IsTurn stamp most (length moves) m (length moves + 1) after port port' known known' turn tries → Knows stamp before known
-    → StepsSo cause (record { stamp = stamp; addresses = port.addresses; most = most }) (record { input = input; position = position; moves = moves; passed = before }) input' (course_at after known' m) port port' (end_by turn)
+turned : (cause : ReadFault → Type 0) (terms : Terms) (input input' : Option (List ℕ)) (line : List ℕ) (position after : Parts) (m : Moves) (known known' : Known) (port port' : PortFacts) (turn : Turn) (tries : List (List Passing)) (before : List Passing) (moves : List Moves)
+    → ReadsLine input input' line → IsPlayed position (length moves) line m after → IsTurn terms (length moves) m (length moves + 1) after port port' known known' turn tries → Knows terms.stamp before known
+    → StepsSo cause (game_at terms port) (record { input = input; position = position; moves = moves; passed = before }) input' (course_at after known' m) port port' (end_by turn)
 unfolding StepsSo last_move
-turned cause stamp most input input' line position after m known known' port port' at_turn.Acked tries before moves read r t k =
+turned cause terms input input' line position after m known known' port port' at_turn.Acked tries before moves read r t k =
     let done = t.ends before k in
-    let sent : List Passing = tries_of port.addresses (message_text (move_message stamp (length moves) m)) tries in (
+    let sent : List Passing = tries_of port.addresses (message_text (move_message terms.stamp (length moves) m)) tries in (
       record { line = line; move = m; tries = tries; after = record { input = input'; position = after; moves = moves ++ m ∷ []; passed = before ++ sent } },
-      record { read = read; spelled = r.spelled; legal = r.legal; room = r.room; spelling = t.spelling; tries = (t.few, t.received); moves = refl; passed = refl; acked = done.0 },
+      record { read = read; spelled = r.spelled; legal = r.legal; room = r.room; spelling = t.spelling; tries = record { few = t.few; received = t.received; again = t.again; waited = t.waited before k }; moves = refl; passed = refl; acked = done.0 },
       refl,
       refl,
       refl,
       t.passed,
       done.1,
     )
-turned cause stamp most input input' line position after m known known' port port' (at_turn.Ruled r') tries before moves read r t k =
-    (m ∷ [], _, Sent (last_move _ _ input' line after m known known' port port' (at_turn.Ruled r') tries read r t) (t.ends before k) (λ e. absurd (let x : at_end.Ruled r' ≡ at_end.Lost = e in cc)), t.passed, λ e. absurd (let x : at_end.Ruled r' ≡ at_end.Lost = e in cc))
-turned cause stamp most input input' line position after m known known' port port' (at_turn.Clashed c) tries before moves read r t k =
-    (m ∷ [], _, Sent (last_move _ _ input' line after m known known' port port' (at_turn.Clashed c) tries read r t) (t.ends before k) (λ e. absurd (let x : at_end.Clashed c ≡ at_end.Lost = e in cc)), t.passed, λ e. absurd (let x : at_end.Clashed c ≡ at_end.Lost = e in cc))
-turned cause stamp most input input' line position after m known known' port port' (at_turn.Belied r') tries before moves read r t k =
-    (m ∷ [], _, Sent (last_move _ _ input' line after m known known' port port' (at_turn.Belied r') tries read r t) (t.ends before k) (λ e. absurd (let x : at_end.Belied r' ≡ at_end.Lost = e in cc)), t.passed, λ e. absurd (let x : at_end.Belied r' ≡ at_end.Lost = e in cc))
-turned cause stamp most input input' line position after m known known' port port' at_turn.Lost tries before moves read r t k =
-    (m ∷ [], _, Sent (last_move _ _ input' line after m known known' port port' at_turn.Lost tries read r t) (t.ends before k).0 (λ e. t.lost refl), t.passed, λ e. (t.ends before k).1)
-turned cause stamp most input input' line position after m known known' port port' at_turn.PortLost tries before moves read r t k =
-    (m ∷ [], _, Sent (last_move _ _ input' line after m known known' port port' at_turn.PortLost tries read r t) (t.ends before k) (λ e. absurd (let x : at_end.PortLost ≡ at_end.Lost = e in cc)), t.passed, λ e. absurd (let x : at_end.PortLost ≡ at_end.Lost = e in cc))
+turned cause terms input input' line position after m known known' port port' (at_turn.Ruled r') tries before moves read r t k =
+    (m ∷ [], _, Sent (last_move _ _ input' line after m known known' port port' (at_turn.Ruled r') tries k read r t refl) (t.ends before k) (λ e. absurd (let x : at_end.Ruled r' ≡ at_end.Lost = e in cc)), t.passed, λ e. absurd (let x : at_end.Ruled r' ≡ at_end.Lost = e in cc))
+turned cause terms input input' line position after m known known' port port' (at_turn.Clashed c) tries before moves read r t k =
+    (m ∷ [], _, Sent (last_move _ _ input' line after m known known' port port' (at_turn.Clashed c) tries k read r t refl) (t.ends before k) (λ e. absurd (let x : at_end.Clashed c ≡ at_end.Lost = e in cc)), t.passed, λ e. absurd (let x : at_end.Clashed c ≡ at_end.Lost = e in cc))
+turned cause terms input input' line position after m known known' port port' (at_turn.Belied r') tries before moves read r t k =
+    (m ∷ [], _, Sent (last_move _ _ input' line after m known known' port port' (at_turn.Belied r') tries k read r t refl) (t.ends before k) (λ e. absurd (let x : at_end.Belied r' ≡ at_end.Lost = e in cc)), t.passed, λ e. absurd (let x : at_end.Belied r' ≡ at_end.Lost = e in cc))
+turned cause terms input input' line position after m known known' port port' at_turn.Lost tries before moves read r t k =
+    (m ∷ [], _, Sent (last_move _ _ input' line after m known known' port port' at_turn.Lost tries k read r t refl) (t.ends before k).0 (λ e. t.lost refl), t.passed, λ e. (t.ends before k).1)
+turned cause terms input input' line position after m known known' port port' at_turn.PortLost tries before moves read r t k =
+    (m ∷ [], _, Sent (last_move _ _ input' line after m known known' port port' at_turn.PortLost tries k read r t refl) (t.ends before k) (λ e. absurd (let x : at_end.PortLost ≡ at_end.Lost = e in cc)), t.passed, λ e. absurd (let x : at_end.PortLost ≡ at_end.Lost = e in cc))
 
-pub steps_on : (stamp : Stamp) (most number : ℕ) (line : List ℕ) (course course' : Course) (after : Parts) (m : Moves) (known' : Known) (port port' : PortFacts) (turn : Turn) (o : Option End)
-    → course' ≡ course_at after known' m → IsPlayed course.position number line m after → (tries : List (List Passing)) × IsTurn stamp most number m (number + 1) after port port' course.known known' turn tries → o ≡ end_by turn
-    → StepsOn stamp most number line course course' port port' o
-steps_on stamp most number line course course' after m known' port port' turn o at_new r (tries, t) is input input' read before moves k e last =
-    let g : Game = record { stamp = stamp; addresses = port.addresses; most = most } in
+pub steps_on : (terms : Terms) (number : ℕ) (line : List ℕ) (course course' : Course) (after : Parts) (m : Moves) (known' : Known) (port port' : PortFacts) (turn : Turn) (o : Option End)
+    → course' ≡ course_at after known' m → IsPlayed course.position number line m after → (tries : List (List Passing)) × IsTurn terms number m (number + 1) after port port' course.known known' turn tries → o ≡ end_by turn
+    → StepsOn terms number line course course' port port' o
+steps_on terms number line course course' after m known' port port' turn o at_new r (tries, t) is input input' read before moves k e last =
+    let g : Game = game_at terms port in
     let at : At = record { input = input; position = course.position; moves = moves; passed = before } in
     subst (λ c. StepsSo no_cause g at input' c port port' o) (sym at_new)
     (subst (StepsSo no_cause g at input' (course_at after known' m) port port') (sym is)
-    (turned no_cause stamp most input input' line course.position after m course.known known' port port' turn tries before moves read (subst (λ n. IsPlayed course.position n line m after) e r) (subst (λ n. IsTurn stamp most n m (n + 1) after port port' course.known known' turn tries) e t) k))
+    (turned no_cause terms input input' line course.position after m course.known known' port port' turn tries before moves read (subst (λ n. IsPlayed course.position n line m after) e r) (subst (λ n. IsTurn terms n m (n + 1) after port port' course.known known' turn tries) e t) k))
 
 -- no line is refused, and no read fails, as an arbiter that doesn't answer
 not_refused : (position : Parts) (number : ℕ) (line : List ℕ) (end : End) → IsRefusedLine position number line end → end ≡ at_end.Lost → ⊥
@@ -98,39 +99,39 @@ not_refused position number line end h is = subst (IsRefusedLine position number
 not_unread : (cause : ReadFault → Type 0) (end : End) → IsUnread cause end → end ≡ at_end.Lost → ⊥
 not_unread cause end h is = subst (IsUnread cause) is h
 
-pub steps_refused : (stamp : Stamp) (most number : ℕ) (line : List ℕ) (course : Course) (port : PortFacts) (end : End) → IsRefusedLine course.position number line end → StepsOn stamp most number line course course port port (Some end)
+pub steps_refused : (terms : Terms) (number : ℕ) (line : List ℕ) (course : Course) (port : PortFacts) (end : End) → IsRefusedLine course.position number line end → StepsOn terms number line course course port port (Some end)
 unfolding StepsSo
-steps_refused stamp most number line course port end h input input' read before moves k e last =
+steps_refused terms number line course port end h input input' read before moves k e last =
     ([], [], Refused line refl refl read (subst (λ n. IsRefusedLine course.position n line end) e h), Passed-nil port, λ is. absurd (not_refused course.position number line end h is))
 
-pub steps_unread : (cause : ReadFault → Type 0) (stamp : Stamp) (most number : ℕ) (input input' : Option (List ℕ)) (course : Course) (port : PortFacts) (end : End) → IsUnread cause end → Steps cause stamp most number input input' course course port port (Some end)
+pub steps_unread : (cause : ReadFault → Type 0) (terms : Terms) (number : ℕ) (input input' : Option (List ℕ)) (course : Course) (port : PortFacts) (end : End) → IsUnread cause end → Steps cause terms number input input' course course port port (Some end)
 unfolding StepsSo
-steps_unread cause stamp most number input input' course port end h before moves k e last = ([], [], Unread refl refl h, Passed-nil port, λ is. absurd (not_unread cause end h is))
+steps_unread cause terms number input input' course port end h before moves k e last = ([], [], Unread refl refl h, Passed-nil port, λ is. absurd (not_unread cause end h is))
 
-closed_at : (stamp : Stamp) (number : ℕ) (position : Parts) (moves : List Moves) (last : Option Moves) (known : Known) (port port' : PortFacts) (end : End) → number ≡ length moves → last ≡ last_of moves → Closes stamp number position last known port port' end → Closes stamp (length moves) position (last_of moves) known port port' end
-closed_at stamp number position moves last known port port' end e f h = subst (λ l. Closes stamp (length moves) position l known port port' end) f (subst (λ n. Closes stamp n position last known port port' end) e h)
+closed_at : (terms : Terms) (number : ℕ) (position : Parts) (moves : List Moves) (last : Option Moves) (known : Known) (port port' : PortFacts) (end : End) → number ≡ length moves → last ≡ last_of moves → Closes terms number position last known port port' end → Closes terms (length moves) position (last_of moves) known port port' end
+closed_at terms number position moves last known port port' end e f h = subst (λ l. Closes terms (length moves) position l known port port' end) f (subst (λ n. Closes terms n position last known port port' end) e h)
 
 -- after the input's end no arbiter counts as silent
 not_closed : (stamp : Stamp) (number : ℕ) (position : Parts) (all : List Passing) (end : End) → ClosesSo stamp number position all end → end ≡ at_end.Lost → ⊥
 not_closed stamp number position all end h is = subst (ClosesSo stamp number position all) is h
 
-closed_with : (cause : ReadFault → Type 0) (g : Game) (input input' : Option (List ℕ)) (course : Course) (known' : Known) (port port' : PortFacts) (before : List Passing) (moves : List Moves) (end : End) → IsAtEnd input → Knows g.stamp before course.known → Closes g.stamp (length moves) course.position (last_of moves) course.known port port' end → port.addresses ≡ g.addresses
-    → (sent : List Moves) × (more : List Passing) × EndsWith cause g (record { input = input; position = course.position; moves = moves; passed = before }) input' sent more end × Passed port port' more × (end ≡ at_end.Lost → Knows g.stamp (before ++ more) known')
+closed_with : (cause : ReadFault → Type 0) (g : Game) (input input' : Option (List ℕ)) (course : Course) (known' : Known) (port port' : PortFacts) (before : List Passing) (moves : List Moves) (end : End) → IsAtEnd input → Knows g.terms.stamp before course.known → Closes g.terms (length moves) course.position (last_of moves) course.known port port' end → port.addresses ≡ g.addresses
+    → (sent : List Moves) × (more : List Passing) × EndsWith cause g (record { input = input; position = course.position; moves = moves; passed = before }) input' sent more end × Passed port port' more × (end ≡ at_end.Lost → Knows g.terms.stamp (before ++ more) known')
 closed_with cause g input input' course known' port port' before moves end done k h e =
-    let handed : ℕ → List Passing = λ n. again g.stamp n (length moves - 1) (last_of moves) in
-    let stands : ClosesSo g.stamp (length moves) course.position (before ++ (handed g.addresses ++ h.came)) end = subst (λ n. ClosesSo g.stamp (length moves) course.position (before ++ (handed n ++ h.came)) end) e (h.stands before k) in (
+    let handed : ℕ → List Passing = λ n. again g.terms.stamp n (length moves - 1) (last_of moves) in
+    let stands : ClosesSo g.terms.stamp (length moves) course.position (before ++ (handed g.addresses ++ h.came)) end = subst (λ n. ClosesSo g.terms.stamp (length moves) course.position (before ++ (handed n ++ h.came)) end) e (h.stands before k) in (
       [],
       handed g.addresses ++ h.came,
-      Closed refl done (record { came = h.came; spelling = h.spelling; passed = refl; received = h.received; waited = h.waited; stands = stands }),
+      Closed refl done (record { came = h.came; spelling = h.spelling; passed = refl; received = h.received; waits = subst (λ n. WaitsSoLong g.terms 0 (length moves) (before ++ handed n) h.came) e (h.waits before k); waited = h.waited; stands = stands }),
       subst (λ n. Passed port port' (handed n ++ h.came)) e h.passed,
-      λ is. absurd (not_closed g.stamp (length moves) course.position _ end stands is),
+      λ is. absurd (not_closed g.terms.stamp (length moves) course.position _ end stands is),
     )
 
-pub steps_closed : (cause : ReadFault → Type 0) (stamp : Stamp) (most number : ℕ) (input input' : Option (List ℕ)) (course course' : Course) (port port' : PortFacts) (end : End) → IsAtEnd input → Closes stamp number course.position course.last course.known port port' end → Steps cause stamp most number input input' course course' port port' (Some end)
+pub steps_closed : (cause : ReadFault → Type 0) (terms : Terms) (number : ℕ) (input input' : Option (List ℕ)) (course course' : Course) (port port' : PortFacts) (end : End) → IsAtEnd input → Closes terms number course.position course.last course.known port port' end → Steps cause terms number input input' course course' port port' (Some end)
 unfolding StepsSo
-steps_closed cause stamp most number input input' course course' port port' end done closes before moves k e last =
-    let g : Game = record { stamp = stamp; addresses = port.addresses; most = most } in
-    closed_with cause g input input' course course'.known port port' before moves end done k (closed_at stamp number course.position moves course.last course.known port port' end e last closes) refl
+steps_closed cause terms number input input' course course' port port' end done closes before moves k e last =
+    let g : Game = game_at terms port in
+    closed_with cause g input input' course course'.known port port' before moves end done k (closed_at terms number course.position moves course.last course.known port port' end e last closes) refl
 
 -- ---- the input can't be read
 
@@ -162,8 +163,8 @@ unfolding StepsSo
 still_steps U V g at input course port port' None f h = h
 still_steps U V g at input course port port' (Some end) f (sent, more, ends, passed, knows) = (sent, more, still_ends U V g at input sent more end f ends, passed, knows)
 
-pub steps_read : (cause : ReadFault → Type 0) (stamp : Stamp) (most number : ℕ) (line : List ℕ) (input input' : Option (List ℕ)) (course course' : Course) (port port' : PortFacts) (o : Option End) → ReadsLine input input' line → StepsOn stamp most number line course course' port port' o → Steps cause stamp most number input input' course course' port port' o
-steps_read cause stamp most number line input input' course course' port port' o read h before moves k e last =
+pub steps_read : (cause : ReadFault → Type 0) (terms : Terms) (number : ℕ) (line : List ℕ) (input input' : Option (List ℕ)) (course course' : Course) (port port' : PortFacts) (o : Option End) → ReadsLine input input' line → StepsOn terms number line course course' port port' o → Steps cause terms number input input' course course' port port' o
+steps_read cause terms number line input input' course course' port port' o read h before moves k e last =
     still_steps no_cause cause _ _ _ _ _ _ o (λ fault none. absurd none) (h input input' read before moves k e last)
 
 -- ---- after the input's end
@@ -176,37 +177,39 @@ record HasAgain (stamp : Stamp) (number : ℕ) (last : Option Moves) (port port'
 has_again : (stamp : Stamp) (n number : ℕ) (last : Option Moves) (port port' : PortFacts) → n ≡ number → IfSome last (HasSpelling stamp n) → Passed port port' (again stamp port.addresses n last) → HasAgain stamp number last port port'
 has_again stamp n number last port port' e spelling passed = subst (λ k. HasAgain stamp k last port port') e (record { spelling = spelling; passed = passed })
 
-closes_so : (stamp : Stamp) (number : ℕ) (position : Parts) (last : Option Moves) (old new : Known) (port mid port' : PortFacts) (end : Next) (h : HasEnded stamp old new mid port' end)
-    → HasAgain stamp (number - 1) last port mid
-    → (so_ends : End) → ((count : ℕ) → so_ends ≡ at_end.Open count → HasWaited h.came) → ((all : List Passing) → ComesTo stamp all new end → ClosesSo stamp number position all so_ends) → Closes stamp number position last old port port' so_ends
-closes_so stamp number position last old new port mid port' end h sent so_ends waits so =
-    let handed : List Passing = again stamp port.addresses (number - 1) last in record {
+closes_so : (terms : Terms) (number : ℕ) (position : Parts) (last : Option Moves) (old new : Known) (port mid port' : PortFacts) (end : Next) (h : HasEnded terms 0 number old new mid port' end)
+    → HasAgain terms.stamp (number - 1) last port mid
+    → (so_ends : End) → ((count : ℕ) → so_ends ≡ at_end.Open count → HasWaited h.came) → ((all : List Passing) → ComesTo terms.stamp all new end → ClosesSo terms.stamp number position all so_ends) → Closes terms number position last old port port' so_ends
+closes_so terms number position last old new port mid port' end h sent so_ends waits so =
+    let handed : List Passing = again terms.stamp port.addresses (number - 1) last in
+    let knows : (before : List Passing) → Knows terms.stamp before old → Knows terms.stamp (before ++ handed) old = λ before k. knows_past terms.stamp before handed old (again_reports_nothing terms.stamp port.addresses (number - 1) last) k in record {
       came = h.came;
       spelling = sent.spelling;
       received = h.received;
+      waits = λ before k. h.waited (before ++ handed) (knows before k);
       waited = waits;
       passed = Passed-trans port mid port' handed h.came sent.passed h.passed;
-      stands = λ before k. so (before ++ (handed ++ h.came)) (subst (λ l. ComesTo stamp l new end) (append_assoc before handed h.came) (h.learns (before ++ handed) (knows_past stamp before handed old (again_reports_nothing stamp port.addresses (number - 1) last) k)));
+      stands = λ before k. so (before ++ (handed ++ h.came)) (subst (λ l. ComesTo terms.stamp l new end) (append_assoc before handed h.came) (h.learns (before ++ handed) (knows before k)));
     }
 
 has_waited : (came : List Passing) (known : Known) → is_ruled known ≡ false → HasWaited came ⊎ (is_ruled known ≡ true) → HasWaited came
 has_waited came known open_yet (inl w) = w
 has_waited came known open_yet (inr ruled) = absurd cc
 
-ended_waiting : (stamp : Stamp) (old new : Known) (port port' : PortFacts) (end : Next) → (end ≡ next.GoesOn) ⊎ (end ≡ next.Waited) → HasEnded stamp old new port port' end → HasEnded stamp old new port port' next.Waited
-ended_waiting stamp old new port port' end (inl e) h = let never = subst (HasEnded stamp old new port port') e h in absurd never.waits
-ended_waiting stamp old new port port' end (inr e) h = subst (HasEnded stamp old new port port') e h
+ended_waiting : (terms : Terms) (index number : ℕ) (old new : Known) (port port' : PortFacts) (end : Next) → (end ≡ next.GoesOn) ⊎ (end ≡ next.Waited) → HasEnded terms index number old new port port' end → HasEnded terms index number old new port port' next.Waited
+ended_waiting terms index number old new port port' end (inl e) h = let never = subst (HasEnded terms index number old new port port') e h in absurd never.waits
+ended_waiting terms index number old new port port' end (inr e) h = subst (HasEnded terms index number old new port port') e h
 
-pub closes_waited : (stamp : Stamp) (n number : ℕ) (position : Parts) (last : Option Moves) (old new : Known) (port mid port' : PortFacts) (next' : Next) (end : End) → n ≡ number - 1 → IfSome last (HasSpelling stamp n) → Passed port mid (again stamp port.addresses n last) → (next' ≡ next.GoesOn) ⊎ (next' ≡ next.Waited) → HasEnded stamp old new mid port' next' → EndsAt number position new end → Closes stamp number position last old port port' end
-closes_waited stamp n number position last old new port mid port' next' end e spelling sent is ended ends =
-    let h = ended_waiting stamp old new mid port' next' is ended in
-    closes_so stamp number position last old new port mid port' next.Waited h (has_again stamp n (number - 1) last port mid e spelling sent) end (λ count is_open. has_waited h.came new (ends.0 count is_open) h.waits) (λ all k. ends.1 stamp all k)
+pub closes_waited : (terms : Terms) (n number : ℕ) (position : Parts) (last : Option Moves) (old new : Known) (port mid port' : PortFacts) (next' : Next) (end : End) → n ≡ number - 1 → IfSome last (HasSpelling terms.stamp n) → Passed port mid (again terms.stamp port.addresses n last) → (next' ≡ next.GoesOn) ⊎ (next' ≡ next.Waited) → HasEnded terms 0 number old new mid port' next' → EndsAt number position new end → Closes terms number position last old port port' end
+closes_waited terms n number position last old new port mid port' next' end e spelling sent is ended ends =
+    let h = ended_waiting terms 0 number old new mid port' next' is ended in
+    closes_so terms number position last old new port mid port' next.Waited h (has_again terms.stamp n (number - 1) last port mid e spelling sent) end (λ count is_open. has_waited h.came new (ends.0 count is_open) h.waits) (λ all k. ends.1 terms.stamp all k)
 
-pub closes_clashed : (stamp : Stamp) (n number : ℕ) (position : Parts) (last : Option Moves) (old new : Known) (port mid port' : PortFacts) (c : Clash) → n ≡ number - 1 → IfSome last (HasSpelling stamp n) → Passed port mid (again stamp port.addresses n last) → HasEnded stamp old new mid port' (next.Clashed c) → Closes stamp number position last old port port' (at_end.Clashed c)
-closes_clashed stamp n number position last old new port mid port' c e spelling sent h = closes_so stamp number position last old new port mid port' (next.Clashed c) h (has_again stamp n (number - 1) last port mid e spelling sent) (at_end.Clashed c) (λ count is. cc) (λ all k. k)
+pub closes_clashed : (terms : Terms) (n number : ℕ) (position : Parts) (last : Option Moves) (old new : Known) (port mid port' : PortFacts) (c : Clash) → n ≡ number - 1 → IfSome last (HasSpelling terms.stamp n) → Passed port mid (again terms.stamp port.addresses n last) → HasEnded terms 0 number old new mid port' (next.Clashed c) → Closes terms number position last old port port' (at_end.Clashed c)
+closes_clashed terms n number position last old new port mid port' c e spelling sent h = closes_so terms number position last old new port mid port' (next.Clashed c) h (has_again terms.stamp n (number - 1) last port mid e spelling sent) (at_end.Clashed c) (λ count is. cc) (λ all k. k)
 
-pub closes_missed : (stamp : Stamp) (n number : ℕ) (position : Parts) (last : Option Moves) (old new : Known) (port mid port' : PortFacts) → n ≡ number - 1 → IfSome last (HasSpelling stamp n) → Passed port mid (again stamp port.addresses n last) → HasEnded stamp old new mid port' next.PortLost → Closes stamp number position last old port port' at_end.PortLost
-closes_missed stamp n number position last old new port mid port' e spelling sent h = closes_so stamp number position last old new port mid port' next.PortLost h (has_again stamp n (number - 1) last port mid e spelling sent) at_end.PortLost (λ count is. cc) (λ all k. k)
+pub closes_missed : (terms : Terms) (n number : ℕ) (position : Parts) (last : Option Moves) (old new : Known) (port mid port' : PortFacts) → n ≡ number - 1 → IfSome last (HasSpelling terms.stamp n) → Passed port mid (again terms.stamp port.addresses n last) → HasEnded terms 0 number old new mid port' next.PortLost → Closes terms number position last old port port' at_end.PortLost
+closes_missed terms n number position last old new port mid port' e spelling sent h = closes_so terms number position last old new port mid port' next.PortLost h (has_again terms.stamp n (number - 1) last port mid e spelling sent) at_end.PortLost (λ count is. cc) (λ all k. k)
 
 -- ---- how a game stands at the input's end
 
@@ -244,7 +247,7 @@ heard_hands : (bytes : List ℕ) (came : List Passing) → AllByRecursion IsRece
 unfolding HandsOnly
 heard_hands bytes [] h = tt
 heard_hands bytes (Came x ∷ came) h = (λ to its is. absurd cc, heard_hands bytes came h.1)
-heard_hands bytes (Quiet ∷ came) h = (λ to its is. absurd cc, heard_hands bytes came h.1)
+heard_hands bytes (Quiet nanos ∷ came) h = (λ to its is. absurd cc, heard_hands bytes came h.1)
 heard_hands bytes (Missed ∷ came) h = (λ to its is. absurd cc, heard_hands bytes came h.1)
 heard_hands bytes (Handed n x ∷ came) h = absurd h.0
 
@@ -286,12 +289,12 @@ pub record HasSent (g : Game) (start : Parts) (input0 input : Option (List ℕ))
   pub moves : List Moves
   pub passed : List Passing
   pub in_turn : InTurn g (record { input = input0; position = start; moves = []; passed = [] }) turns (record { input = input; position = course.position; moves = moves; passed = passed })
-  pub knows : Knows g.stamp passed course.known
+  pub knows : Knows g.terms.stamp passed course.known
   pub last : course.last ≡ last_of moves
   pub count : k ≡ length moves
   pub room : k ≤ most_moves
   pub at_port : Passed port0 port passed
-  pub source : OnlyHands g.stamp moves passed
+  pub source : OnlyHands g.terms.stamp moves passed
 
 sent_nothing : (g : Game) (start : Parts) (input out : Option (List ℕ)) (port : PortFacts) → (h : HasSent g start input input (begun_at start) port port 0) × Appends out out (text_of (map line_of h.turns))
 unfolding InTurn
@@ -301,7 +304,7 @@ sent_nothing g start input out port = (
     moves = [];
     passed = [];
     in_turn = refl;
-    knows = knows_nothing g.stamp;
+    knows = knows_nothing g.terms.stamp;
     last = refl;
     count = refl;
     room = omega arith;
@@ -314,8 +317,8 @@ sent_nothing g start input out port = (
 sent_none : (g : Game) (start : Parts) (input out : Option (List ℕ)) (course : Course) (port : PortFacts) → course ≡ begun_at start → (h : HasSent g start input input course port port 0) × Appends out out (text_of (map line_of h.turns))
 sent_none g start input out course port is = subst (λ c. (h : HasSent g start input input c port port 0) × Appends out out (text_of (map line_of h.turns))) (sym is) (sent_nothing g start input out port)
 
-same_game : (cause : ReadFault → Type 0) (g : Game) (n : ℕ) (at : At) (input : Option (List ℕ)) (course : Course) (port port' : PortFacts) (o : Option End) → n ≡ g.addresses → StepsSo cause (record { stamp = g.stamp; addresses = n; most = g.most }) at input course port port' o → StepsSo cause g at input course port port' o
-same_game cause g n at input course port port' o e h = subst (λ k. StepsSo cause (record { stamp = g.stamp; addresses = k; most = g.most }) at input course port port' o) e h
+same_game : (cause : ReadFault → Type 0) (g : Game) (n : ℕ) (at : At) (input : Option (List ℕ)) (course : Course) (port port' : PortFacts) (o : Option End) → n ≡ g.addresses → StepsSo cause (record { terms = g.terms; addresses = n }) at input course port port' o → StepsSo cause g at input course port port' o
+same_game cause g n at input course port port' o e h = subst (λ k. StepsSo cause (record { terms = g.terms; addresses = k }) at input course port port' o) e h
 
 last_now : (moves : List Moves) (m : Moves) → Some m ≡ last_of (moves ++ m ∷ [])
 last_now moves m =
@@ -343,7 +346,7 @@ sent_more cause g start input0 input1 input2 c1 c2 port0 port1 port2 k h (t, ack
         count = sym longer;
         room = omega arith;
         at_port = subst (Passed port0 port2) (sym acked.passed) (Passed-trans port0 port1 port2 h.passed sent h.at_port passed);
-        source = subst (λ l. OnlyHands g.stamp l t.after.passed) (sym acked.moves) (subst (OnlyHands g.stamp (h.moves ++ t.move ∷ [])) (sym acked.passed) (hands_more g.stamp g.addresses h.moves t.move h.passed t.tries h.source acked.spelling acked.tries.1));
+        source = subst (λ l. OnlyHands g.terms.stamp l t.after.passed) (sym acked.moves) (subst (OnlyHands g.terms.stamp (h.moves ++ t.move ∷ [])) (sym acked.passed) (hands_more g.terms.stamp g.addresses h.moves t.move h.passed t.tries h.source acked.spelling acked.tries.received));
       },
       map-append line_of h.turns (t ∷ []) ∙ ap (λ n. map line_of h.turns ++ acked_words n ∷ []) longer,
     )
@@ -356,7 +359,7 @@ run_cut cause g start input0 input course port0 port k h = (
     turns = h.in_turn;
     last = (refl, refl);
     passed = subst (Passed port0 port) (sym (append-nil h.passed)) h.at_port;
-    source = subst (λ l. OnlyHands g.stamp l (h.passed ++ [])) (sym (append-nil h.moves)) (subst (OnlyHands g.stamp h.moves) (sym (append-nil h.passed)) h.source);
+    source = subst (λ l. OnlyHands g.terms.stamp l (h.passed ++ [])) (sym (append-nil h.moves)) (subst (OnlyHands g.terms.stamp h.moves) (sym (append-nil h.passed)) h.source);
     knows = λ is. absurd (let e : None ≡ Some at_end.Lost = is in cc);
   },
   refl,
@@ -381,22 +384,22 @@ again_hands stamp addresses moves (Some m) is say to bytes in' =
 hands_join : (stamp : Stamp) (moves : List Moves) (xs ys : List Passing) → OnlyHands stamp moves xs → OnlyHands stamp moves ys → OnlyHands stamp moves (xs ++ ys)
 hands_join stamp moves xs ys h k to bytes in' = elim (Contains-append_cases xs ys (Handed to bytes) in') [ inl first ↦ h to bytes first | inr second ↦ k to bytes second ]
 
-closed_hands : (g : Game) (position : Parts) (moves sent : List Moves) (all more : List Passing) (end : End) → sent ≡ [] → IsClosed g position moves all more end → OnlyHands g.stamp moves all → OnlyHands g.stamp (moves ++ sent) (all ++ more)
+closed_hands : (g : Game) (position : Parts) (moves sent : List Moves) (all more : List Passing) (end : End) → sent ≡ [] → IsClosed g position moves all more end → OnlyHands g.terms.stamp moves all → OnlyHands g.terms.stamp (moves ++ sent) (all ++ more)
 closed_hands g position moves sent all more end no_moves closed h =
-    let handed : List Passing = again g.stamp g.addresses (length moves - 1) (last_of moves) in
-    let heard : OnlyHands g.stamp moves closed.came = λ to bytes in'. absurd (none_handed closed.came to bytes closed.received in') in
-    let now : OnlyHands g.stamp moves (handed ++ closed.came) = hands_join g.stamp moves handed closed.came (again_hands g.stamp g.addresses moves (last_of moves) refl closed.spelling) heard in
-    subst (λ l. OnlyHands g.stamp (moves ++ l) (all ++ more)) (sym no_moves)
-    (subst (λ l. OnlyHands g.stamp l (all ++ more)) (sym (append-nil moves))
-    (subst (λ l. OnlyHands g.stamp moves (all ++ l)) (sym closed.passed)
-    (hands_join g.stamp moves all (handed ++ closed.came) h now)))
+    let handed : List Passing = again g.terms.stamp g.addresses (length moves - 1) (last_of moves) in
+    let heard : OnlyHands g.terms.stamp moves closed.came = λ to bytes in'. absurd (none_handed closed.came to bytes closed.received in') in
+    let now : OnlyHands g.terms.stamp moves (handed ++ closed.came) = hands_join g.terms.stamp moves handed closed.came (again_hands g.terms.stamp g.addresses moves (last_of moves) refl closed.spelling) heard in
+    subst (λ l. OnlyHands g.terms.stamp (moves ++ l) (all ++ more)) (sym no_moves)
+    (subst (λ l. OnlyHands g.terms.stamp l (all ++ more)) (sym (append-nil moves))
+    (subst (λ l. OnlyHands g.terms.stamp moves (all ++ l)) (sym closed.passed)
+    (hands_join g.terms.stamp moves all (handed ++ closed.came) h now)))
 
-ended_hands : (cause : ReadFault → Type 0) (g : Game) (at : At) (input : Option (List ℕ)) (sent : List Moves) (more : List Passing) (end : End) → EndsWith cause g at input sent more end → OnlyHands g.stamp at.moves at.passed → OnlyHands g.stamp (at.moves ++ sent) (at.passed ++ more)
-ended_hands cause g at input sent more end (Unread no_moves none why) h = nothing_hands g.stamp at.moves sent at.passed more no_moves none h
-ended_hands cause g at input sent more end (Refused line no_moves none read why) h = nothing_hands g.stamp at.moves sent at.passed more no_moves none h
+ended_hands : (cause : ReadFault → Type 0) (g : Game) (at : At) (input : Option (List ℕ)) (sent : List Moves) (more : List Passing) (end : End) → EndsWith cause g at input sent more end → OnlyHands g.terms.stamp at.moves at.passed → OnlyHands g.terms.stamp (at.moves ++ sent) (at.passed ++ more)
+ended_hands cause g at input sent more end (Unread no_moves none why) h = nothing_hands g.terms.stamp at.moves sent at.passed more no_moves none h
+ended_hands cause g at input sent more end (Refused line no_moves none read why) h = nothing_hands g.terms.stamp at.moves sent at.passed more no_moves none h
 ended_hands cause g at input sent more end (Closed no_moves done closed) h = closed_hands g at.position at.moves sent at.passed more end no_moves closed h
 ended_hands cause g at input sent more end (Sent t is all) h =
-    subst (λ l. OnlyHands g.stamp (at.moves ++ l) (at.passed ++ more)) (sym t.only) (subst (λ l. OnlyHands g.stamp (at.moves ++ t.move ∷ []) (at.passed ++ l)) (sym t.passed) (hands_more g.stamp g.addresses at.moves t.move at.passed t.tries h t.spelling t.are.1))
+    subst (λ l. OnlyHands g.terms.stamp (at.moves ++ l) (at.passed ++ more)) (sym t.only) (subst (λ l. OnlyHands g.terms.stamp (at.moves ++ t.move ∷ []) (at.passed ++ l)) (sym t.passed) (hands_more g.terms.stamp g.addresses at.moves t.move at.passed t.tries h t.spelling t.are.received))
 
 run_ended : (cause : ReadFault → Type 0) (g : Game) (start : Parts) (input0 input1 input2 : Option (List ℕ)) (c1 c2 : Course) (port0 port1 port2 : PortFacts) (k : ℕ) (end : End) (h : HasSent g start input0 input1 c1 port0 port1 k) → StepsSo cause g (record { input = input1; position = c1.position; moves = h.moves; passed = h.passed }) input2 c2 port1 port2 (Some end) → (s : Sending) × IsSending cause g start input0 input2 port0 port2 s × (s.turns ≡ h.turns) × (s.end ≡ Some end) × (s.known ≡ c2.known)
 unfolding StepsSo
@@ -446,9 +449,6 @@ wrote_last s turns end known old mid new (Err fault) same is at p ok q = cut_at 
 
 -- ---- the loop of a run
 
-abbrev pub game_at : Stamp → ℕ → PortFacts → Game
-game_at stamp most port = record { stamp = stamp; addresses = port.addresses; most = most }
-
 -- so many moves are acknowledged and their lines are written; what the reader tells of its faults now, it told at the beginning
 pub record Runs (F0 F M0 M : Type 0) (g : Game) (start : Parts) (input0 input : Option (List ℕ)) (course : Course) (port0 port : PortFacts) (out0 out : Option (List ℕ)) (k : ℕ) : Type 0 where
   pub sent : HasSent g start input0 input course port0 port k
@@ -460,35 +460,35 @@ pub runs_none : (F M : Type 0) (g : Game) (start : Parts) (input out : Option (L
 runs_none F M g start input out course port is = let n = sent_none g start input out course port is in record { sent = n.0; fails = λ f. f; memory = λ m. m; written = n.1 }
 
 -- how a step goes on from there
-stepped : (F0 F M0 M : Type 0) (stamp : Stamp) (most : ℕ) (start : Parts) (input0 input1 input2 : Option (List ℕ)) (c1 c2 : Course) (port0 port1 port2 : PortFacts) (out0 out : Option (List ℕ)) (k : ℕ) (o : Option End)
-    → (h : Runs F0 F M0 M (game_at stamp most port0) start input0 input1 c1 port0 port1 out0 out k) → Steps (causes F M) stamp most k input1 input2 c1 c2 port1 port2 o
-    → StepsSo (causes F0 M0) (game_at stamp most port0) (record { input = input1; position = c1.position; moves = h.sent.moves; passed = h.sent.passed }) input2 c2 port1 port2 o
-stepped F0 F M0 M stamp most start input0 input1 input2 c1 c2 port0 port1 port2 out0 out k o h steps =
-    let g = game_at stamp most port0 in
+stepped : (F0 F M0 M : Type 0) (terms : Terms) (start : Parts) (input0 input1 input2 : Option (List ℕ)) (c1 c2 : Course) (port0 port1 port2 : PortFacts) (out0 out : Option (List ℕ)) (k : ℕ) (o : Option End)
+    → (h : Runs F0 F M0 M (game_at terms port0) start input0 input1 c1 port0 port1 out0 out k) → Steps (causes F M) terms k input1 input2 c1 c2 port1 port2 o
+    → StepsSo (causes F0 M0) (game_at terms port0) (record { input = input1; position = c1.position; moves = h.sent.moves; passed = h.sent.passed }) input2 c2 port1 port2 o
+stepped F0 F M0 M terms start input0 input1 input2 c1 c2 port0 port1 port2 out0 out k o h steps =
+    let g = game_at terms port0 in
     let at : At = record { input = input1; position = c1.position; moves = h.sent.moves; passed = h.sent.passed } in
     still_steps (causes F M) (causes F0 M0) g at input2 c2 port1 port2 o (still_causes F F0 M M0 h.fails h.memory)
     (same_game (causes F M) g port1.addresses at input2 c2 port1 port2 o h.sent.at_port.addresses (steps h.sent.passed h.sent.moves h.sent.knows h.sent.count h.sent.last))
 
-pub runs_more : (F0 F1 F2 M0 M1 M2 : Type 0) (stamp : Stamp) (most : ℕ) (start : Parts) (input0 input1 input2 : Option (List ℕ)) (c1 c2 : Course) (port0 port1 port2 : PortFacts) (out0 out1 out2 : Option (List ℕ)) (k : ℕ)
-    → Runs F0 F1 M0 M1 (game_at stamp most port0) start input0 input1 c1 port0 port1 out0 out1 k → Steps (causes F1 M1) stamp most k input1 input2 c1 c2 port1 port2 None → (F2 → F1) → (M2 → M1) → Appends out1 out2 (ended (acked_words (k + 1)))
-    → Runs F0 F2 M0 M2 (game_at stamp most port0) start input0 input2 c2 port0 port2 out0 out2 (k + 1)
-runs_more F0 F1 F2 M0 M1 M2 stamp most start input0 input1 input2 c1 c2 port0 port1 port2 out0 out1 out2 k h steps same room put =
-    let n = sent_more (causes F0 M0) (game_at stamp most port0) start input0 input1 input2 c1 c2 port0 port1 port2 k h.sent (stepped F0 F1 M0 M1 stamp most start input0 input1 input2 c1 c2 port0 port1 port2 out0 out1 k None h steps) in
+pub runs_more : (F0 F1 F2 M0 M1 M2 : Type 0) (terms : Terms) (start : Parts) (input0 input1 input2 : Option (List ℕ)) (c1 c2 : Course) (port0 port1 port2 : PortFacts) (out0 out1 out2 : Option (List ℕ)) (k : ℕ)
+    → Runs F0 F1 M0 M1 (game_at terms port0) start input0 input1 c1 port0 port1 out0 out1 k → Steps (causes F1 M1) terms k input1 input2 c1 c2 port1 port2 None → (F2 → F1) → (M2 → M1) → Appends out1 out2 (ended (acked_words (k + 1)))
+    → Runs F0 F2 M0 M2 (game_at terms port0) start input0 input2 c2 port0 port2 out0 out2 (k + 1)
+runs_more F0 F1 F2 M0 M1 M2 terms start input0 input1 input2 c1 c2 port0 port1 port2 out0 out1 out2 k h steps same room put =
+    let n = sent_more (causes F0 M0) (game_at terms port0) start input0 input1 input2 c1 c2 port0 port1 port2 k h.sent (stepped F0 F1 M0 M1 terms start input0 input1 input2 c1 c2 port0 port1 port2 out0 out1 k None h steps) in
     record { sent = n.0; fails = λ f. h.fails (same f); memory = λ m. h.memory (room m); written = written_more out0 out1 out2 (map line_of h.sent.turns) (map line_of n.0.turns) (acked_words (k + 1)) n.1 h.written put }
 
 -- the line of a move couldn't be written
-pub runs_cut : (F0 F M0 M : Type 0) (stamp : Stamp) (most : ℕ) (start : Parts) (input0 input1 input2 : Option (List ℕ)) (c1 c2 : Course) (port0 port1 port2 : PortFacts) (out0 out1 out2 : Option (List ℕ)) (k : ℕ) (fault : WriteFault)
-    → Runs F0 F M0 M (game_at stamp most port0) start input0 input1 c1 port0 port1 out0 out1 k → Steps (causes F M) stamp most k input1 input2 c1 c2 port1 port2 None → WritesFront {T = Unit {0}} out1 out2 (ended (acked_words (k + 1))) (Err fault)
-    → (s : Sending) × IsSending (causes F0 M0) (game_at stamp most port0) start input0 input2 port0 port2 s × WritesLines s out0 out2 (Err fault)
-runs_cut F0 F M0 M stamp most start input0 input1 input2 c1 c2 port0 port1 port2 out0 out1 out2 k fault h steps put =
-    let n = sent_more (causes F0 M0) (game_at stamp most port0) start input0 input1 input2 c1 c2 port0 port1 port2 k h.sent (stepped F0 F M0 M stamp most start input0 input1 input2 c1 c2 port0 port1 port2 out0 out1 k None h steps) in
-    let s = run_cut (causes F0 M0) (game_at stamp most port0) start input0 input2 c2 port0 port2 (k + 1) n.0 in
+pub runs_cut : (F0 F M0 M : Type 0) (terms : Terms) (start : Parts) (input0 input1 input2 : Option (List ℕ)) (c1 c2 : Course) (port0 port1 port2 : PortFacts) (out0 out1 out2 : Option (List ℕ)) (k : ℕ) (fault : WriteFault)
+    → Runs F0 F M0 M (game_at terms port0) start input0 input1 c1 port0 port1 out0 out1 k → Steps (causes F M) terms k input1 input2 c1 c2 port1 port2 None → WritesFront {T = Unit {0}} out1 out2 (ended (acked_words (k + 1))) (Err fault)
+    → (s : Sending) × IsSending (causes F0 M0) (game_at terms port0) start input0 input2 port0 port2 s × WritesLines s out0 out2 (Err fault)
+runs_cut F0 F M0 M terms start input0 input1 input2 c1 c2 port0 port1 port2 out0 out1 out2 k fault h steps put =
+    let n = sent_more (causes F0 M0) (game_at terms port0) start input0 input1 input2 c1 c2 port0 port1 port2 k h.sent (stepped F0 F M0 M terms start input0 input1 input2 c1 c2 port0 port1 port2 out0 out1 k None h steps) in
+    let s = run_cut (causes F0 M0) (game_at terms port0) start input0 input2 c2 port0 port2 (k + 1) n.0 in
     (s.0, s.1, cut_at out0 out1 out2 (map line_of h.sent.turns) (lines_of s.0) (acked_words (k + 1)) fault (no_last s.0 n.0.turns (map line_of h.sent.turns ++ acked_words (k + 1) ∷ []) s.2 s.3 n.1) h.written put)
 
 -- the run ended, and its line was written or not
-pub runs_ended : (F0 F M0 M : Type 0) (stamp : Stamp) (most : ℕ) (start : Parts) (input0 input1 input2 : Option (List ℕ)) (c1 c2 : Course) (port0 port1 port2 : PortFacts) (out0 out1 out2 : Option (List ℕ)) (k : ℕ) (end : End) (r : Result Ended WriteFault)
-    → Runs F0 F M0 M (game_at stamp most port0) start input0 input1 c1 port0 port1 out0 out1 k → Steps (causes F M) stamp most k input1 input2 c1 c2 port1 port2 (Some end) → IfOk r (λ e. e ≡ ended_by end c2.known) → WritesFront out1 out2 (ended (end_words end)) r
-    → (s : Sending) × IsSending (causes F0 M0) (game_at stamp most port0) start input0 input2 port0 port2 s × WritesLines s out0 out2 r
-runs_ended F0 F M0 M stamp most start input0 input1 input2 c1 c2 port0 port1 port2 out0 out1 out2 k end r h steps ok put =
-    let s = run_ended (causes F0 M0) (game_at stamp most port0) start input0 input1 input2 c1 c2 port0 port1 port2 k end h.sent (stepped F0 F M0 M stamp most start input0 input1 input2 c1 c2 port0 port1 port2 out0 out1 k (Some end) h steps) in
+pub runs_ended : (F0 F M0 M : Type 0) (terms : Terms) (start : Parts) (input0 input1 input2 : Option (List ℕ)) (c1 c2 : Course) (port0 port1 port2 : PortFacts) (out0 out1 out2 : Option (List ℕ)) (k : ℕ) (end : End) (r : Result Ended WriteFault)
+    → Runs F0 F M0 M (game_at terms port0) start input0 input1 c1 port0 port1 out0 out1 k → Steps (causes F M) terms k input1 input2 c1 c2 port1 port2 (Some end) → IfOk r (λ e. e ≡ ended_by end c2.known) → WritesFront out1 out2 (ended (end_words end)) r
+    → (s : Sending) × IsSending (causes F0 M0) (game_at terms port0) start input0 input2 port0 port2 s × WritesLines s out0 out2 r
+runs_ended F0 F M0 M terms start input0 input1 input2 c1 c2 port0 port1 port2 out0 out1 out2 k end r h steps ok put =
+    let s = run_ended (causes F0 M0) (game_at terms port0) start input0 input1 input2 c1 c2 port0 port1 port2 k end h.sent (stepped F0 F M0 M terms start input0 input1 input2 c1 c2 port0 port1 port2 out0 out1 k (Some end) h steps) in
     (s.0, s.1, wrote_last s.0 h.sent.turns end c2.known out0 out1 out2 r s.2 s.3 s.4 h.written ok put)

@@ -13,23 +13,27 @@ use Rattle.move_msg.specs.TextLines.{text_of}
 use Rattle.system_io.specs.declared.output.WriteFault.{WriteFault}
 use Rattle.system_io.specs.declared.reading.ReadFault.{ReadFault}
 use Rattle.system_io.specs.declared.reading.ReadFault.TheVariants as fault
-use Rattle.system_io.specs.LineReaders.{ReadsLine}
+use Rattle.system_io.specs.LineReaders.{LineFacts, ReadsLine}
 use Rattle.system_io.specs.Ports.{Passing, Handed, Missed, PortFacts, Passed, to_each}
 use Rattle.source_core.specs.declared.report.Ruling.{Ruling}
 use Rattle.source_core.specs.declared.lines.End.{End}
 use Rattle.source_core.specs.declared.lines.End.TheVariants as at_end
 use Rattle.source_core.specs.Reports.{IsAcked, IsAgreed, IsRuled, IsClash, IsUnsettled, Knows}
 use Rattle.source_core.specs.Boards.{IsBelied, IsBelievedRuling}
-use Rattle.source_core.specs.Turns.{HasSpelling, HasWaited, IsReceived, move_message, tries_of}
+use Rattle.source_core.specs.Turns.{AllButLastWaited, EachWaitsSoLong, HasSpelling, HasWaited, IsReceived, WaitsSoLong, move_message, tries_of}
 use Rattle.source_core.specs.Lines.{IsCut, acked_words, end_words, ended_by}
 use Rattle.source_core.specs.declared.known.Known.{Known}
+use Rattle.source_core.specs.declared.turn.Terms.{Terms}
 use Rattle.source_core.specs.declared.lines.Ended.{Ended}
 
--- the stamp of a game, to how many addresses its moves go, and how often each is sent at most
+-- on which terms the moves of a game are sent, and to how many addresses
 pub record Game : Type 0 where
-  pub stamp : Stamp
+  pub terms : Terms
   pub addresses : ℕ
-  pub most : ℕ
+
+-- at a port
+abbrev pub game_at : Terms → PortFacts → Game
+game_at terms port = record { terms = terms; addresses = port.addresses }
 
 -- where a run stands: what is left of the input, the position, the moves that are acknowledged, and all that has passed
 pub record At : Type 0 where
@@ -47,11 +51,19 @@ pub record AckedMove : Type 0 where
   pub tries : List (List Passing)
   pub after : At
 
-abbrev pub sent_in : Game → List Moves → Moves → List (List Passing) → List Passing
-sent_in g moves m tries = tries_of g.addresses (message_text (move_message g.stamp (length moves) m)) tries
+-- the datagram of a move that follows these moves
+abbrev pub text_in : Game → List Moves → Moves → List ℕ
+text_in g moves m = message_text (move_message g.terms.stamp (length moves) m)
 
-abbrev pub AreTries : Game → List (List Passing) → Type 0
-AreTries g tries = (length tries ≤ g.most) × AllByRecursion (AllByRecursion IsReceived) tries
+abbrev pub sent_in : Game → List Moves → Moves → List (List Passing) → List Passing
+sent_in g moves m tries = tries_of g.addresses (text_in g moves m) tries
+
+-- tries of it, at most so many, each of which waited so long, where so much has passed before them
+pub record AreTries (g : Game) (moves : List Moves) (m : Moves) (before : List Passing) (tries : List (List Passing)) : Type 0 where
+  pub few : length tries ≤ g.terms.tries
+  pub received : AllByRecursion (AllByRecursion IsReceived) tries
+  pub again : AllButLastWaited tries
+  pub waited : EachWaitsSoLong g.terms (length moves) g.addresses (text_in g moves m) before tries
 
 -- the next line spells a legal move, which is sent as the move with its number until both have acknowledged it
 pub record IsAckedTurn (g : Game) (old : At) (t : AckedMove) : Type 0 where
@@ -59,11 +71,11 @@ pub record IsAckedTurn (g : Game) (old : At) (t : AckedMove) : Type 0 where
   pub spelled : SpellsMove t.line t.move
   pub legal : Legal old.position t.move t.after.position
   pub room : length old.moves < most_moves
-  pub spelling : HasSpelling g.stamp (length old.moves) t.move
-  pub tries : AreTries g t.tries
+  pub spelling : HasSpelling g.terms.stamp (length old.moves) t.move
+  pub tries : AreTries g old.moves t.move old.passed t.tries
   pub moves : t.after.moves ≡ old.moves ++ t.move ∷ []
   pub passed : t.after.passed ≡ old.passed ++ sent_in g old.moves t.move t.tries
-  pub acked : IsAcked g.stamp (length old.moves) t.after.passed
+  pub acked : IsAcked g.terms.stamp (length old.moves) t.after.passed
 
 -- each turn begins where the one before it left the run
 unfoldable pub InTurn : Game → At → List AckedMove → At → Type 0
@@ -82,8 +94,8 @@ pub record IsLastMove (g : Game) (at : At) (input : Option (List ℕ)) (sent : L
   pub spelled : SpellsMove line move
   pub legal : Legal at.position move after
   pub room : length at.moves < most_moves
-  pub spelling : HasSpelling g.stamp (length at.moves) move
-  pub are : AreTries g tries
+  pub spelling : HasSpelling g.terms.stamp (length at.moves) move
+  pub are : AreTries g at.moves move at.passed tries
   pub only : sent ≡ move ∷ []
   pub passed : more ≡ sent_in g at.moves move tries
 
@@ -159,18 +171,19 @@ again stamp addresses number None = []
 again stamp addresses number (Some m) = to_each addresses (message_text (move_message stamp number m))
 
 -- After the input's end the last acknowledged move is handed over once more: an arbiter answers it with its count and its verdict,
--- if it has one. Then what comes in time is received, and nothing more is sent.
+-- if it has one. Then what comes in time is received, awaited as in the first try of the next move, and nothing more is sent.
 pub record IsClosed (g : Game) (position : Parts) (moves : List Moves) (before more : List Passing) (end : End) : Type 0 where
   pub came : List Passing
-  pub spelling : IfSome (last_of moves) (HasSpelling g.stamp (length moves - 1))
-  pub passed : more ≡ again g.stamp g.addresses (length moves - 1) (last_of moves) ++ came
+  pub spelling : IfSome (last_of moves) (HasSpelling g.terms.stamp (length moves - 1))
+  pub passed : more ≡ again g.terms.stamp g.addresses (length moves - 1) (last_of moves) ++ came
   pub received : AllByRecursion IsReceived came
+  pub waits : WaitsSoLong g.terms 0 (length moves) (before ++ again g.terms.stamp g.addresses (length moves - 1) (last_of moves)) came
   pub waited : (count : ℕ) → end ≡ at_end.Open count → HasWaited came
-  pub stands : ClosesSo g.stamp (length moves) position (before ++ more) end
+  pub stands : ClosesSo g.terms.stamp (length moves) position (before ++ more) end
 
 -- it was sent as often as it may be, and each try has waited
 abbrev pub IsTriedOut : Game → List (List Passing) → Type 0
-IsTriedOut g tries = (length tries ≡ g.most) × AllByRecursion HasWaited tries
+IsTriedOut g tries = (length tries ≡ g.terms.tries) × AllByRecursion HasWaited tries
 
 -- with what a run ends, and what was sent and passed after the acknowledged moves
 pub data EndsWith (cause : ReadFault → Type 0) (g : Game) (at : At) (input : Option (List ℕ)) (sent : List Moves) (more : List Passing) (end : End) : Type 0 where
@@ -181,7 +194,7 @@ pub data EndsWith (cause : ReadFault → Type 0) (g : Game) (at : At) (input : O
   -- the input has ended
   Closed : sent ≡ [] → IsAtEnd at.input → IsClosed g at.position at.moves at.passed more end → EndsWith cause g at input sent more end
   -- one more move is sent; an arbiter counts as silent only when all tries are used up
-  Sent : (last : IsLastMove g at input sent more) → IsSentLast g.stamp (length at.moves) last.after (at.passed ++ more) end → (end ≡ at_end.Lost → IsTriedOut g last.tries) → EndsWith cause g at input sent more end
+  Sent : (last : IsLastMove g at input sent more) → IsSentLast g.terms.stamp (length at.moves) last.after (at.passed ++ more) end → (end ≡ at_end.Lost → IsTriedOut g last.tries) → EndsWith cause g at input sent more end
 
 abbrev pub EndsIfAny : (ReadFault → Type 0) → Game → At → Option (List ℕ) → List Moves → List Passing → Option End → Type 0
 EndsIfAny cause g at input sent more None = (sent ≡ []) × (more ≡ [])
@@ -215,9 +228,9 @@ pub record IsSending (cause : ReadFault → Type 0) (g : Game) (start : Parts) (
   pub last : EndsIfAny cause g s.at input' s.sent s.more s.end
   pub passed : Passed port port' (all_passed s)
   -- one number never has two moves: this is what an arbiter's guarantee asks of a source
-  pub source : OnlyHands g.stamp (all_moves s) (all_passed s)
+  pub source : OnlyHands g.terms.stamp (all_moves s) (all_passed s)
   -- what is told of the arbiters where one doesn't answer
-  pub knows : s.end ≡ Some at_end.Lost → Knows g.stamp (all_passed s) s.known
+  pub knows : s.end ≡ Some at_end.Lost → Knows g.terms.stamp (all_passed s) s.known
 
 abbrev pub line_of : AckedMove → List ℕ
 line_of t = acked_words (length t.after.moves)
@@ -234,3 +247,8 @@ lines_of s = map line_of s.turns ++ last_lines s.end
 abbrev pub WritesLines : Sending → Option (List ℕ) → Option (List ℕ) → Result Ended WriteFault → Type 0
 WritesLines s old new (Ok ended) = (end : End) × (s.end ≡ Some end) × (ended ≡ ended_by end s.known) × Appends old new (text_of (lines_of s))
 WritesLines s old new (Err fault) = IsCut (lines_of s) old new
+
+-- there is such a run at a reader and at a port, and its lines are written
+abbrev pub SendsLines : Terms → Parts → LineFacts → LineFacts → PortFacts → PortFacts → Option (List ℕ) → Option (List ℕ) → Result Ended WriteFault → Type 0
+SendsLines terms start reader reader' port port' old new r =
+    (s : Sending) × IsSending (causes reader.fails reader.takes_memory) (game_at terms port) start reader.left reader'.left port port' s × WritesLines s old new r

@@ -11,14 +11,13 @@ use Rattle.move_msg.specs.declared.message.Message.{Message}
 use Rattle.move_msg.specs.declared.message.Message.TheVariants.{Move}
 use Rattle.move_msg.specs.Messages.{SpellsMessage, message_text}
 use Rattle.source_core.specs.declared.known.Known.{Known}
-use Rattle.source_core.specs.declared.known.Standing.{Standing}
-use Rattle.source_core.specs.declared.known.Standing.TheVariants as standing
 use Rattle.source_core.specs.declared.turn.Next.{Next}
 use Rattle.source_core.specs.declared.turn.Next.TheVariants as next
+use Rattle.source_core.specs.declared.turn.Terms.{Terms}
 use Rattle.source_core.specs.declared.turn.Turn.{Turn}
 use Rattle.source_core.specs.declared.turn.Turn.TheVariants as at_turn
 use Rattle.system_io.specs.Ports.{Passing, Came, Quiet, Missed, Handed, PortFacts, Passed, to_each}
-use Rattle.source_core.specs.Reports.{Knows, StandsSo, IsAcked, IsClash, IsUnsettled}
+use Rattle.source_core.specs.Reports.{Knows, IsAcked, IsClash, IsUnsettled}
 use Rattle.source_core.specs.Boards.{IsBelied, IsBelievedRuling}
 
 -- the message by which the source sends the move with this number
@@ -32,7 +31,7 @@ HasSpelling stamp number m = SpellsMessage (message_text (move_message stamp num
 -- nothing is sent there
 abbrev pub IsReceived : Passing → Type 0
 IsReceived (Came bytes) = Unit {0}
-IsReceived Quiet = Unit {0}
+IsReceived (Quiet nanos) = Unit {0}
 IsReceived Missed = Unit {0}
 IsReceived (Handed to bytes) = ⊥
 
@@ -42,7 +41,11 @@ most_answers = 18_446_744_073_709_551_615
 
 -- a try has waited until nothing came in time, or has received as many datagrams as it may
 abbrev pub HasWaited : List Passing → Type 0
-HasWaited came = ((before : List Passing) × (came ≡ before ++ Quiet ∷ [])) ⊎ (length came ≡ most_answers)
+HasWaited came = ((before : List Passing) × (nanos : ℕ) × (came ≡ before ++ Quiet nanos ∷ [])) ⊎ (length came ≡ most_answers)
+
+-- so has each try but the last: the move isn't sent again before
+abbrev pub AllButLastWaited : List (List Passing) → Type 0
+AllButLastWaited tries = (earlier later : List (List Passing)) (came next : List Passing) → tries ≡ earlier ++ came ∷ next ∷ later → HasWaited came
 
 -- Each try of a move waits twice as long as the one before it, up to eight times as long as the first; tries are counted from 0.
 abbrev pub times_at : ℕ → ℕ
@@ -52,16 +55,16 @@ times_at index = 2 ^ min index 3
 abbrev pub try_nanos : Duration → ℕ → ℕ
 try_nanos wait index = min (as_nanos wait * times_at index) max_nanos
 
--- how many nanoseconds a datagram is awaited in a try, by how the move stands: as long as the try waits; where both have acknowledged
--- the move, two milliseconds for the verdicts that may follow
-abbrev pub wait_by : Duration → ℕ → Standing → ℕ
-wait_by wait index standing.Acked = 2_000_000
-wait_by wait index (standing.Ruled r) = try_nanos wait index
-wait_by wait index standing.Open = try_nanos wait index
+-- how many nanoseconds the next datagram is awaited in a try, by all that has passed
+pub data IsWait (terms : Terms) (index number : ℕ) (all : List Passing) (nanos : ℕ) : Type 0 where
+  -- as long as the try waits
+  ForAnswers : (IsAcked terms.stamp number all → ⊥) → nanos ≡ try_nanos terms.wait index → IsWait terms index number all nanos
+  -- two milliseconds for the verdicts that may follow: both have acknowledged the move, and neither has reported a verdict
+  ForVerdicts : IsAcked terms.stamp number all → nanos ≡ 2_000_000 → IsWait terms index number all nanos
 
--- so long the next datagram is awaited
-abbrev pub IsWait : Duration → ℕ → ℕ → Known → Duration → Type 0
-IsWait wait index number known result = (s : Standing) × StandsSo known number s × (as_nanos result ≡ wait_by wait index s)
+-- Of one try, before which so much has passed: whenever nothing came in time, a datagram was awaited so long.
+abbrev pub WaitsSoLong : Terms → ℕ → ℕ → List Passing → List Passing → Type 0
+WaitsSoLong terms index number before came = (first rest : List Passing) (nanos : ℕ) → came ≡ first ++ Quiet nanos ∷ rest → IsWait terms index number (before ++ first) nanos
 
 -- one try: the move is handed over for each address, and then this came
 abbrev pub one_try : ℕ → List ℕ → List Passing → List Passing
@@ -69,6 +72,11 @@ one_try addresses bytes came = to_each addresses bytes ++ came
 
 abbrev pub tries_of : ℕ → List ℕ → List (List Passing) → List Passing
 tries_of addresses bytes tries = flat_map (one_try addresses bytes) tries
+
+-- so in each of the tries of a move
+abbrev pub EachWaitsSoLong : Terms → ℕ → ℕ → List ℕ → List Passing → List (List Passing) → Type 0
+EachWaitsSoLong terms number addresses bytes before tries =
+    (earlier later : List (List Passing)) (came : List Passing) → tries ≡ earlier ++ came ∷ later → WaitsSoLong terms (length earlier) number ((before ++ tries_of addresses bytes earlier) ++ to_each addresses bytes) came
 
 -- what is known after something came, or what clashes in it
 abbrev pub ComesTo : Stamp → List Passing → Known → Next → Type 0
@@ -90,11 +98,13 @@ EndsSo stamp number plies position all known (at_turn.Belied r) = IsBelied stamp
 EndsSo stamp number plies position all known at_turn.Lost = IsUnsettled stamp number all × Knows stamp all known
 EndsSo stamp number plies position all known at_turn.PortLost = Contains all Missed
 
--- a turn: tries of the one move, at most so many, each of which waited where it was of no use
-pub record IsTurn (stamp : Stamp) (most number : ℕ) (m : Moves) (plies : ℕ) (position : Parts) (old new : PortFacts) (known known' : Known) (end : Turn) (tries : List (List Passing)) : Type 0 where
-  pub spelling : HasSpelling stamp number m
-  pub few : length tries ≤ most
+-- a turn: tries of the one move, at most so many, each of which waited so long
+pub record IsTurn (terms : Terms) (number : ℕ) (m : Moves) (plies : ℕ) (position : Parts) (old new : PortFacts) (known known' : Known) (end : Turn) (tries : List (List Passing)) : Type 0 where
+  pub spelling : HasSpelling terms.stamp number m
+  pub few : length tries ≤ terms.tries
   pub received : AllByRecursion (AllByRecursion IsReceived) tries
-  pub lost : end ≡ at_turn.Lost → (length tries ≡ most) × AllByRecursion HasWaited tries
-  pub passed : Passed old new (tries_of old.addresses (message_text (move_message stamp number m)) tries)
-  pub ends : (before : List Passing) → Knows stamp before known → EndsSo stamp number plies position (before ++ tries_of old.addresses (message_text (move_message stamp number m)) tries) known' end
+  pub again : AllButLastWaited tries
+  pub waited : (before : List Passing) → Knows terms.stamp before known → EachWaitsSoLong terms number old.addresses (message_text (move_message terms.stamp number m)) before tries
+  pub lost : end ≡ at_turn.Lost → (length tries ≡ terms.tries) × AllByRecursion HasWaited tries
+  pub passed : Passed old new (tries_of old.addresses (message_text (move_message terms.stamp number m)) tries)
+  pub ends : (before : List Passing) → Knows terms.stamp before known → EndsSo terms.stamp number plies position (before ++ tries_of old.addresses (message_text (move_message terms.stamp number m)) tries) known' end

@@ -7,15 +7,17 @@
 //!
 //! Inside: `sending` (a run), `turn` (one move), `board` (the source's own), `known`, `report`, `lines`, `laws`.
 //!
-//! Definitions, in reading order: `Reports`, `Boards` (`IsBelieved`), `Turns`, `Sendings` (`IsSending`, `OnlyHands`), `Lines`, `Laws`.
-//! How long a datagram is awaited, longer from try to try, is a clause of the private `wait_at` (`IsWait`): a port's traffic has no
-//! time. Its tests stand in `checks_io` (`source_tests`).
+//! Definitions, in reading order: `Reports`, `Boards` (`IsBelieved`), `Turns` (`IsWait`), `Sendings` (`IsSending`, `OnlyHands`), `Lines`,
+//! `Laws`. Its tests stand in `checks_io` (`source_tests`).
 //!
 //! - CLAIM: `send_game`, clause `sends`: a run sends the legal moves of its input, each with its number to each address, at most
 //!   as often as the terms say. It ends with the stated line, and its status is that of the line. Each datagram is the move of
 //!   its number from one list. A verdict with which it ends is believed: a mate or a stalemate at a ply that was sent stands on the
 //!   source's own board after the last move; one that doesn't is told as `disagree`. Where an arbiter doesn't answer, what is known
 //!   of both is returned.
+//! - CLAIM: `send_game`, clause `sends`; `take_turn`: whenever nothing came in time, the port was asked to wait as long as the terms say
+//!   for that try, longer from try to try; or two milliseconds, where both had acknowledged the move and neither had reported a
+//!   verdict (`IsWait`, `EachWaitsSoLong`). That so much time has passed is left to the port.
 //! - CLAIM: `send_game`, clause `gone`: all lines have gone out at the end.
 //! - CLAIM: `take_turn`: a turn sends one move until both arbiters have acknowledged it, both have reported a verdict, two
 //!   verdicts differ, one is belied by the board, the tries are used up, or the port is lost.

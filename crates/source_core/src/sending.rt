@@ -1,8 +1,8 @@
 //! A run of a source.
 
 ghost use Rattle.std.specs.Prelude.{◌≡◌, ◌≤◌, IfOk, IfErr, OnOk};
-ghost use Rattle.source_core.specs.Sendings.{IsRefusedLine, IsSending, Sending, WritesLines, causes};
-ghost use Rattle.source_core.specs.Inside.Steps.{Closes, EndsAt, IsPlayed, Steps, StepsOn, begun_at, end_by};
+ghost use Rattle.source_core.specs.Sendings.{IsRefusedLine, SendsLines};
+ghost use Rattle.source_core.specs.Inside.Steps.{Closes, EndsAt, IsPlayed, StepsAt, StepsOn, begun_at, end_by};
 ghost use Rattle.system_io.specs.Outputs.{WritesFront};
 ghost use Rattle.source_core.specs.Lines.{end_words, ended_by};
 ghost use Rattle.move_msg.specs.Numbers.{most_moves};
@@ -82,7 +82,7 @@ fn send_line<P: Port>(
     port: &mut P,
 ) -> Option<End>
     requires { number ≤ most_moves }
-    ensures { StepsOn terms.stamp terms.tries number line.now course.old course.new (P.facts port.old) (P.facts port.new) result }
+    ensures { StepsOn terms number line.now course.old course.new (P.facts port.old) (P.facts port.new) result }
 {
     match &move_of(line, &course.position, number) {
         Err(end) => Some(*end),
@@ -119,7 +119,7 @@ fn end_at(known: &Known, number: u32, position: &Position) -> End
 /// Sends the last acknowledged move once more, which an arbiter answers with its count and its verdict. Receives what
 /// still comes in time, and returns the end of the run.
 fn close<P: Port>(terms: Terms, number: u32, course: &mut Course, port: &mut P) -> End
-    ensures { Closes terms.stamp number course.old.position course.old.last course.old.known (P.facts port.old) (P.facts port.new) result }
+    ensures { Closes terms number course.old.position course.old.last course.old.known (P.facts port.old) (P.facts port.new) result }
 {
     send_again(terms.stamp, number.saturating_sub(1), &course.last, port);
     match receive_all(terms, 0, number, &mut course.known, port) {
@@ -139,7 +139,7 @@ fn step<L: LineReader, P: Port>(
     port: &mut P,
 ) -> Option<End>
     requires { number ≤ most_moves }
-    ensures steps { Steps (causes (L.facts reader.old).fails (L.facts reader.old).takes_memory) terms.stamp terms.tries number (L.facts reader.old).left (L.facts reader.new).left course.old course.new (P.facts port.old) (P.facts port.new) result }
+    ensures steps { StepsAt terms number (L.facts reader.old) (L.facts reader.new) course.old course.new (P.facts port.old) (P.facts port.new) result }
     ensures same { (L.facts reader.new).fails → (L.facts reader.old).fails }
     ensures room { (L.facts reader.new).takes_memory → (L.facts reader.old).takes_memory }
 {
@@ -189,7 +189,7 @@ pub fn send_game<L: LineReader, P: Port, W: Output>(
     out: &mut W,
 ) -> Result<Ended, WriteFault>
     // There is such a run, and its lines are written.
-    ensures sends { (s : Sending) × IsSending (causes (L.facts reader.old).fails (L.facts reader.old).takes_memory) (record { stamp = terms.stamp; addresses = (P.facts port.old).addresses; most = terms.tries }) start (L.facts reader.old).left (L.facts reader.new).left (P.facts port.old) (P.facts port.new) s × WritesLines s (W.contents out.old) (W.contents out.new) result }
+    ensures sends { SendsLines terms start (L.facts reader.old) (L.facts reader.new) (P.facts port.old) (P.facts port.new) (W.contents out.old) (W.contents out.new) result }
 
     // All of them have gone out.
     ensures gone { OnOk result (W.facts out.new).gone }

@@ -1,12 +1,13 @@
 //! Sending one move until both arbiters have acknowledged it.
 
-ghost use Rattle.std.specs.Prelude.{◌≡◌, ◌∷◌, [], List, IfSome};
+ghost use Rattle.std.specs.Prelude.{◌≡◌, ◌∷◌, [], ℕ, List, IfSome};
+ghost use Rattle.std.specs.Duration.{as_nanos};
 ghost use Rattle.std.specs.List.{AllByRecursion};
 ghost use Rattle.system_io.specs.Ports.{Passing, Came, Passed, to_each};
 ghost use Rattle.move_msg.specs.Messages.{SpellsMessage};
 ghost use Rattle.source_core.specs.Sendings.{again};
-ghost use Rattle.source_core.specs.Turns.{HasSpelling, IsReceived, IsTurn, IsWait, Learns, move_message, times_at};
-ghost use Rattle.source_core.specs.Inside.Steps.{EndsIf, HasEnded, HasTriedOnce, IsLast, is_ruled, loss_by};
+ghost use Rattle.source_core.specs.Turns.{HasSpelling, IsReceived, IsTurn, Learns, move_message, times_at};
+ghost use Rattle.source_core.specs.Inside.Steps.{EndsIf, HasEnded, HasTriedOnce, IsLast, IsWaitBy, is_ruled, loss_by};
 
 use crate::board::Board;
 use crate::known::{Clash, Known, Standing};
@@ -75,7 +76,7 @@ fn send<P: Port>(port: &mut P, bytes: &[u8])
 /// Adds the report of a datagram, if it has one.
 fn take_in(stamp: Stamp, known: &mut Known, datagram: &[u8]) -> Next
     ensures learns { Learns stamp known.old known.new (Came datagram.now ∷ []) result }
-    ensures last { IsLast (Came datagram.now) result }
+    ensures last { (nanos : ℕ) → IsLast nanos (Came datagram.now) result }
 {
     let Some(report) = report_of(stamp, datagram) else {
         return Next::GoesOn;
@@ -87,20 +88,12 @@ fn take_in(stamp: Stamp, known: &mut Known, datagram: &[u8]) -> Next
 }
 
 /// Receives a datagram, if one comes in time, and adds its report.
-fn receive_one<P: Port>(
-    terms: Terms,
-    index: u32,
-    number: u32,
-    wait: Duration,
-    known: &mut Known,
-    port: &mut P,
-) -> Next
-    requires { IsWait terms.wait index number known.old wait }
-    ensures { (came : Passing) × IsReceived came × Passed (P.facts port.old) (P.facts port.new) (came ∷ []) × IsLast came result × Learns terms.stamp known.old known.new (came ∷ []) result }
+fn receive_one<P: Port>(stamp: Stamp, wait: Duration, known: &mut Known, port: &mut P) -> Next
+    ensures { (came : Passing) × IsReceived came × Passed (P.facts port.old) (P.facts port.new) (came ∷ []) × IsLast (as_nanos wait) came result × Learns stamp known.old known.new (came ∷ []) result }
 {
     let mut buffer = [0u8; 64];
     match port.receive_in_time(wait, &mut buffer) {
-        Ok(Some(length)) => take_in(terms.stamp, known, &buffer[..length]),
+        Ok(Some(length)) => take_in(stamp, known, &buffer[..length]),
         Ok(None) => Next::Waited,
         Err(_) => Next::PortLost,
     }
@@ -128,7 +121,7 @@ fn times_at(index: u32) -> u32
 /// How long the next datagram is awaited in a try: where both have acknowledged the move, two milliseconds for the verdicts that may
 /// follow.
 fn wait_at(terms: Terms, index: u32, number: u32, known: &Known) -> Duration
-    ensures { IsWait terms.wait index number known.now result }
+    ensures { IsWaitBy terms.wait index number known.now (as_nanos result) }
 {
     match known.standing(number) {
         Standing::Acked => Duration::from_millis(2),
@@ -144,14 +137,14 @@ pub(crate) fn receive_all<P: Port>(
     known: &mut Known,
     port: &mut P,
 ) -> Next
-    ensures { HasEnded terms.stamp known.old known.new (P.facts port.old) (P.facts port.new) result }
+    ensures { HasEnded terms index number known.old known.new (P.facts port.old) (P.facts port.new) result }
 {
     for _ in 0..MOST_ANSWERS {
         if is_ruled(known) {
             return Next::Waited;
         }
         let wait = wait_at(terms, index, number, known);
-        match receive_one(terms, index, number, wait, known, port) {
+        match receive_one(terms.stamp, wait, known, port) {
             Next::GoesOn => {}
             next => return next,
         }
@@ -193,7 +186,7 @@ fn try_once<P: Port>(
     port: &mut P,
     bytes: &[u8],
 ) -> Option<Turn>
-    ensures { HasTriedOnce terms.stamp index (P.facts port.old).addresses bytes.now known.old known.new (P.facts port.old) (P.facts port.new) result }
+    ensures { HasTriedOnce terms index number (P.facts port.old).addresses bytes.now known.old known.new (P.facts port.old) (P.facts port.new) result }
 {
     send(port, bytes);
     loss_of(receive_all(terms, index, number, known, port))
@@ -235,7 +228,7 @@ pub fn take_turn<P: Port>(
     known: &mut Known,
     port: &mut P,
 ) -> Turn
-    ensures { (tries : List (List Passing)) × IsTurn terms.stamp terms.tries number m board.entry.plies board.entry.position.now (P.facts port.old) (P.facts port.new) known.old known.new result tries }
+    ensures { (tries : List (List Passing)) × IsTurn terms number m board.entry.plies board.entry.position.now (P.facts port.old) (P.facts port.new) known.old known.new result tries }
 {
     let bytes = datagram_of(terms.stamp, number, m);
     for index in 0..terms.tries {

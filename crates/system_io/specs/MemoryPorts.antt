@@ -1,5 +1,6 @@
 -- The facts of a port in memory (this project's own).
 use Rattle.std.specs.Prelude.{ℕ, List, Option, Some, None, cond, map}
+use Rattle.std.specs.Duration.{as_nanos}
 use Rattle.system_io.specs.declared.memory_port.MemoryPort.{MemoryPort}
 use Rattle.system_io.specs.declared.memory_port.Passage.{Passage}
 use Rattle.system_io.specs.declared.memory_port.Passage.TheVariants as passage
@@ -8,7 +9,7 @@ use Rattle.system_io.specs.Ports.{PortFacts, Passing, Came, Quiet, Missed, Hande
 
 abbrev pub passing : Passage → Passing
 passing (passage.Came bytes) = Came bytes.items
-passing passage.Quiet = Quiet
+passing (passage.Quiet wait) = Quiet (as_nanos wait)
 passing passage.Missed = Missed
 passing (passage.Handed to bytes) = Handed to bytes.items
 

@@ -5,8 +5,8 @@ pub use Rattle.system_io.specs.Histories.{Passes}
 pub data Passing : Type 0 where
   -- a datagram came; these are its first 64 bytes
   Came : (bytes : List ℕ) → Passing
-  -- nothing came in time
-  Quiet : Passing
+  -- nothing came in time, of a wait of so many nanoseconds
+  Quiet : (nanos : ℕ) → Passing
   -- no datagram could be received
   Missed : Passing
   -- a datagram was given to the system for the address at this place, whether or not it went out

@@ -46,6 +46,10 @@ pub record HasBytes (o : Option Bytes) (bytes : List ℕ) : Type 0 where
   pub is : o ≡ Some v
   pub items : v.items ≡ bytes
 
+-- where one content may stand under the name and these bytes were written, from now on one of the two may
+abbrev pub MayTakeName : {C : Type 0} → Traced C → Traced C → Type 0
+MayTakeName old new = (was : Option (List ℕ)) (bytes : List ℕ) → AreOneOf was was old.stands old.earlier.items → HasBytes old.written bytes → AreOneOf was (Some bytes) new.stands new.earlier.items
+
 -- by the calls and their results these bytes have come so far; where the calls are recorded, the last of them brought them
 -- there
 abbrev pub SaysReached : {C : Type 0} → (C → CallFacts) → Traced C → Stage → List ℕ → Type 0

@@ -4,12 +4,13 @@
 //! Each is a trait (`Disk`, `Input` with `LineReader`, `Output`, `Port`, `KeptFile`, `Host`). Its `facts`, a record with named
 //! fields, are all that a proof sees of it. Beside each stand the system's own instance (`SystemDisk`, `SystemInput`,
 //! `BufferedOutput`, `UdpPort`, `SystemFile`, `SystemHost`) and one in memory for tests, which fails on request.
-//! `specs/Premises.antt` says what is trusted of the system. `SystemFile` is `Traced` over the system's calls (`FileCalls`): what
-//! a start finds follows from the calls that it made and their results. `DiskFile` is a file in memory, on a disk that loses
-//! power. Of the system's files what is no regular one is refused before it is opened (`opening`), and what is opened to be written is
+//! `specs/Premises.antt` says what is trusted of the system. `SystemFile` is `Traced` over the system's calls (`FileCalls`): what a
+//! start finds follows from the calls that it made and their results. `DiskFile` is a file in memory, on a disk that loses power.
+//! Of the system's files what is no regular one is refused before it is opened (`opening`), and what is opened to be written is
 //! made where nothing stands (`beside_file`). A `Port` sends each datagram to each of its addresses in turn, and a send that fails
-//! keeps none of the others back. `UdpPort` is over a `Socket`, whose calls an instance in memory records; among its addresses
-//! `sender` stands for whoever sent the last datagram.
+//! keeps none of the others back. Where nothing came in time, its traffic has the wait that was asked for (`Quiet`). `UdpPort` is
+//! over a `Socket`, whose calls an instance in memory records; among its addresses `sender` stands for whoever sent the last
+//! datagram.
 //!
 //! Definitions, in reading order: `Descriptors`, `Disks`, `Inputs`, `LineReaders`, `ShortLines`, `Outputs`, `Ports`, `KeptFiles`, `PowerLosses`,
 //! `FileCalls`, `Traces`, `Hosts`, `Premises`, `Sockets`, `Recipients`, `UdpPorts`, `Answers`. Its tests stand in `checks_io`.

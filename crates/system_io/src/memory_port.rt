@@ -15,8 +15,8 @@ use std::time::Duration;
 pub enum Passage {
     /// A datagram came, with these first 64 bytes.
     Came(Vec<u8>),
-    /// Nothing came in time.
-    Quiet,
+    /// Nothing came in this time.
+    Quiet(Duration),
     /// No datagram could be received.
     Missed,
     /// A datagram was sent to the address at this place.
@@ -210,7 +210,7 @@ impl<'a> Port for MemoryPort<'a> {
 
     fn receive_in_time(
         &mut self,
-        _wait: Duration,
+        wait: Duration,
         buffer: &mut [u8; 64],
     ) -> Result<Option<usize>, PortFault> {
         match self.next() {
@@ -219,7 +219,7 @@ impl<'a> Port for MemoryPort<'a> {
                 Err(fault) => Err(fault),
             },
             Turn::Quiet => {
-                self.keep(Passage::Quiet);
+                self.keep(Passage::Quiet(wait));
                 Ok(None)
             }
             Turn::Fails => Err(self.miss()),

@@ -1,6 +1,7 @@
 //! Ports, which receive and send datagrams.
 
 ghost use Rattle.std.specs.Prelude.{◌≡◌, ◌≤◌, [], ◌∷◌, None, Ok, take, IfOk, IfSome, OnErr};
+ghost use Rattle.std.specs.Duration.{as_nanos};
 ghost use Rattle.system_io.specs.Failures.{Risen};
 ghost use Rattle.system_io.specs.Ports.{PortFacts, Came, Quiet, Missed, Passed, to_each};
 
@@ -32,7 +33,8 @@ pub trait Port {
         ensures missed { OnErr result (Passed (facts self.old) (facts self.new) (Missed ∷ [])) }
         ensures cause { OnErr result (Risen (facts self.old).faults (facts self.new).faults) };
 
-    /// As `receive`, but waits at most `wait`, which is above 0. None where nothing came in time.
+    /// As `receive`, but waits at most `wait`, which is above 0. None where nothing came in time; the traffic then has `wait`, in
+    /// nanoseconds. That so much time has passed by the system's clock is no clause.
     ///
     /// At a port of the system receives that follow one another with the same `wait`, with nothing sent between them and none of them
     /// without a datagram, wait so long together: the wait ends also where datagrams go on coming.
@@ -43,7 +45,7 @@ pub trait Port {
     ) -> Result<Option<usize>, PortFault>
         ensures length { IfOk result (λ got. IfSome got (λ n. n ≤ 64)) }
         ensures came { IfOk result (λ got. IfSome got (λ n. Passed (facts self.old) (facts self.new) (Came (take n buffer.new) ∷ []))) }
-        ensures quiet { result ≡ Ok None → Passed (facts self.old) (facts self.new) (Quiet ∷ []) }
+        ensures quiet { result ≡ Ok None → Passed (facts self.old) (facts self.new) (Quiet (as_nanos wait) ∷ []) }
         ensures missed { OnErr result (Passed (facts self.old) (facts self.new) (Missed ∷ [])) }
         ensures cause { OnErr result (Risen (facts self.old).faults (facts self.new).faults) };
 

@@ -9,7 +9,7 @@ ghost use Rattle.system_io.specs.Histories.{Passes};
 ghost use Rattle.system_io.specs.KeptFiles.{KeptFacts, IsOneOfFound, bytes_of};
 ghost use Rattle.system_io.specs.Premises.{IsAsTold};
 ghost use Rattle.system_io.specs.Reading.{fault_of};
-ghost use Rattle.system_io.specs.Traces.{AreOneOf, HasBytes, IsFresh, calls_in, told_of};
+ghost use Rattle.system_io.specs.Traces.{HasBytes, IsFresh, MayTakeName, calls_in, told_of};
 ghost use Rattle.system_io.specs.declared.reading.ReadFault.{ReadFault};
 
 use crate::kept_file::{KeptFile, MOST_KEPT_BYTES, copied};
@@ -132,7 +132,7 @@ impl<C: FileCalls + Drop> Traced<C> {
         ensures calls { self.new.calls ≡ self.old.calls }
         ensures known { self.new.is_known ≡ self.old.is_known }
         ensures count { Counts result self.old.failures self.new.failures }
-        ensures either { (old : Option (List ℕ)) (bytes : List ℕ) → AreOneOf old old self.old.stands self.old.earlier.items → HasBytes self.old.written bytes → AreOneOf old (Some bytes) self.new.stands self.new.earlier.items }
+        ensures either { MayTakeName self.old self.new }
     {
         match self.written.take() {
             Some(bytes) => match self.earlier.push(self.stands.take()) {

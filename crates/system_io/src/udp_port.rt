@@ -269,6 +269,7 @@ impl<'a, C: Clock, S: Socket + Drop, W: Write + Drop> UdpPort<'a, C, S, W> {
 
 impl<'a, C: Clock, S: Socket + Drop, W: Write + Drop> Port for UdpPort<'a, C, S, W> {
     ghost use Rattle.std.specs.Prelude.{◌≡◌, ◌≤◌, [], ◌∷◌, None, Ok, take, IfOk, IfSome, OnErr};
+    ghost use Rattle.std.specs.Duration.{as_nanos};
     ghost use Rattle.system_io.specs.Failures.{Risen};
     ghost use Rattle.system_io.specs.Ports.{Came, Quiet, Missed, Passed, to_each};
     ghost use Rattle.system_io.specs.UdpPorts.{Hears, HearsNothing, Sends, port_facts, udp_facts};
@@ -301,7 +302,7 @@ impl<'a, C: Clock, S: Socket + Drop, W: Write + Drop> Port for UdpPort<'a, C, S,
     ) -> Result<Option<usize>, PortFault>
         ensures length { IfOk result (λ got. IfSome got (λ n. n ≤ 64)) }
         ensures came { IfOk result (λ got. IfSome got (λ n. Passed (port_facts self.old) (port_facts self.new) (Came (take n buffer.new) ∷ []))) }
-        ensures quiet { result ≡ Ok None → Passed (port_facts self.old) (port_facts self.new) (Quiet ∷ []) }
+        ensures quiet { result ≡ Ok None → Passed (port_facts self.old) (port_facts self.new) (Quiet (as_nanos wait) ∷ []) }
         ensures missed { OnErr result (Passed (port_facts self.old) (port_facts self.new) (Missed ∷ [])) }
         ensures cause { OnErr result (Risen (port_facts self.old).faults (port_facts self.new).faults) }
         ensures hears { IfOk result (HearsOrNothing (udp_facts S.calls self.old) (udp_facts S.calls self.new) buffer.new) }

@@ -2,9 +2,12 @@
 use Rattle.std.specs.Prelude.{◌≡◌, ◌++◌, ◌⊎◌, ◌&&◌, ◌<◌, ◌-◌, ℕ, Bool, true, false, List, length, Option, Some, None, IfSome, is_some}
 use Rattle.move_msg.specs.declared.stamp.Stamp.{Stamp}
 use Rattle.source_core.specs.declared.known.Known.{Known}
+use Rattle.source_core.specs.declared.known.Standing.{Standing}
+use Rattle.source_core.specs.declared.known.Standing.TheVariants as standing
 use Rattle.source_core.specs.declared.sending.Course.{Course}
 use Rattle.source_core.specs.declared.turn.Next.{Next}
 use Rattle.source_core.specs.declared.turn.Next.TheVariants as next
+use Rattle.source_core.specs.declared.turn.Terms.{Terms}
 use Rattle.source_core.specs.declared.turn.Turn.{Turn}
 use Rattle.source_core.specs.declared.turn.Turn.TheVariants as at_turn
 use Rattle.board_core.specs.declared.moves.Move.{Move as Moves}
@@ -15,19 +18,30 @@ use Rattle.move_msg.specs.Numbers.{most_moves}
 use Rattle.source_core.specs.declared.lines.End.{End}
 use Rattle.source_core.specs.declared.lines.End.TheVariants as at_end
 use Rattle.system_io.specs.declared.reading.ReadFault.{ReadFault}
-use Rattle.system_io.specs.Ports.{Passing, Came, Quiet, Missed, PortFacts, Passed}
-use Rattle.system_io.specs.LineReaders.{ReadsLine}
-use Rattle.source_core.specs.Sendings.{Game, At, AckedMove, IsAckedTurn, ClosesSo, EndsWith, again, last_of, sent_in}
-use Rattle.source_core.specs.Reports.{Knows, IsUnsettled}
-use Rattle.source_core.specs.Turns.{EndsSo, HasSpelling, HasWaited, IsReceived, Learns, one_try}
+use Rattle.system_io.specs.Ports.{Passing, Came, Quiet, Missed, PortFacts, Passed, to_each}
+use Rattle.system_io.specs.LineReaders.{LineFacts, ReadsLine}
+use Rattle.source_core.specs.Sendings.{Game, At, AckedMove, IsAckedTurn, ClosesSo, EndsWith, again, causes, game_at, last_of, sent_in}
+use Rattle.source_core.specs.Reports.{Knows, IsUnsettled, StandsSo}
+use Rattle.source_core.specs.Turns.{EndsSo, HasSpelling, HasWaited, IsReceived, Learns, WaitsSoLong, one_try, try_nanos}
 use Rattle.std.specs.List.{AllByRecursion}
+use Rattle.std.specs.declared.time.Duration.{Duration}
 
--- what came last
-abbrev pub IsLast : Passing → Next → Type 0
-IsLast came next.GoesOn = (bytes : List ℕ) × (came ≡ Came bytes)
-IsLast came next.Waited = came ≡ Quiet
-IsLast came (next.Clashed c) = (bytes : List ℕ) × (came ≡ Came bytes)
-IsLast came next.PortLost = came ≡ Missed
+-- how many nanoseconds a datagram is awaited in a try, by how the move stands
+abbrev pub wait_by : Duration → ℕ → Standing → ℕ
+wait_by wait index standing.Acked = 2_000_000
+wait_by wait index (standing.Ruled r) = try_nanos wait index
+wait_by wait index standing.Open = try_nanos wait index
+
+-- by what is known
+abbrev pub IsWaitBy : Duration → ℕ → ℕ → Known → ℕ → Type 0
+IsWaitBy wait index number known nanos = (s : Standing) × StandsSo known number s × (nanos ≡ wait_by wait index s)
+
+-- what came last, which was awaited so many nanoseconds
+abbrev pub IsLast : ℕ → Passing → Next → Type 0
+IsLast nanos came next.GoesOn = (bytes : List ℕ) × (came ≡ Came bytes)
+IsLast nanos came next.Waited = came ≡ Quiet nanos
+IsLast nanos came (next.Clashed c) = (bytes : List ℕ) × (came ≡ Came bytes)
+IsLast nanos came next.PortLost = came ≡ Missed
 
 -- both have reported a verdict
 abbrev pub is_ruled : Known → Bool
@@ -40,13 +54,14 @@ Waits came known next.Waited = HasWaited came ⊎ (is_ruled known ≡ true)
 Waits came known (next.Clashed c) = Unit {0}
 Waits came known next.PortLost = Unit {0}
 
--- a try has come to its end
-pub record HasEnded (stamp : Stamp) (old new : Known) (port port' : PortFacts) (end : Next) : Type 0 where
+-- the try with this number has come to its end
+pub record HasEnded (terms : Terms) (index number : ℕ) (old new : Known) (port port' : PortFacts) (end : Next) : Type 0 where
   pub came : List Passing
   pub received : AllByRecursion IsReceived came
   pub passed : Passed port port' came
   pub waits : Waits came new end
-  pub learns : Learns stamp old new came end
+  pub waited : (before : List Passing) → Knows terms.stamp before old → WaitsSoLong terms index number before came
+  pub learns : Learns terms.stamp old new came end
 
 -- how what came ends a turn
 abbrev pub loss_by : Next → Option Turn
@@ -64,12 +79,13 @@ TryLearns stamp all known None = Knows stamp all known
 TryLearns stamp all known (Some end) = (number plies : ℕ) (position : Parts) → EndsSo stamp number plies position all known end
 
 -- the try with this number: it has waited, unless both have reported a verdict, or it ends the turn, whichever move it was
-pub record HasTriedOnce (stamp : Stamp) (index addresses : ℕ) (bytes : List ℕ) (old new : Known) (port port' : PortFacts) (end : Option Turn) : Type 0 where
+pub record HasTriedOnce (terms : Terms) (index number addresses : ℕ) (bytes : List ℕ) (old new : Known) (port port' : PortFacts) (end : Option Turn) : Type 0 where
   pub came : List Passing
   pub received : AllByRecursion IsReceived came
   pub passed : Passed port port' (one_try addresses bytes came)
   pub waits : TryWaits came new end
-  pub learns : (before : List Passing) → Knows stamp before old → TryLearns stamp (before ++ one_try addresses bytes came) new end
+  pub waited : (before : List Passing) → Knows terms.stamp before old → WaitsSoLong terms index number (before ++ to_each addresses bytes) came
+  pub learns : (before : List Passing) → Knows terms.stamp before old → TryLearns terms.stamp (before ++ one_try addresses bytes came) new end
 
 -- how a move stands, by all that has passed and by the board: the end of its turn other than a loss, or none where it is unsettled
 abbrev pub EndsIf : ℕ → ℕ → Parts → Known → Option Turn → Type 0
@@ -96,35 +112,40 @@ abbrev pub EndsAt : ℕ → Parts → Known → End → Type 0
 EndsAt number position known end = ((count : ℕ) → end ≡ at_end.Open count → is_ruled known ≡ false) × ((stamp : Stamp) (all : List Passing) → Knows stamp all known → ClosesSo stamp number position all end)
 
 -- after the input's end the last move is handed over once more, and what still comes in time is received
-pub record Closes (stamp : Stamp) (number : ℕ) (position : Parts) (last : Option Moves) (known : Known) (port port' : PortFacts) (end : End) : Type 0 where
+pub record Closes (terms : Terms) (number : ℕ) (position : Parts) (last : Option Moves) (known : Known) (port port' : PortFacts) (end : End) : Type 0 where
   pub came : List Passing
-  pub spelling : IfSome last (HasSpelling stamp (number - 1))
+  pub spelling : IfSome last (HasSpelling terms.stamp (number - 1))
   pub received : AllByRecursion IsReceived came
+  pub waits : (before : List Passing) → Knows terms.stamp before known → WaitsSoLong terms 0 number (before ++ again terms.stamp port.addresses (number - 1) last) came
   pub waited : (count : ℕ) → end ≡ at_end.Open count → HasWaited came
-  pub passed : Passed port port' (again stamp port.addresses (number - 1) last ++ came)
-  pub stands : (before : List Passing) → Knows stamp before known → ClosesSo stamp number position (before ++ (again stamp port.addresses (number - 1) last ++ came)) end
+  pub passed : Passed port port' (again terms.stamp port.addresses (number - 1) last ++ came)
+  pub stands : (before : List Passing) → Knows terms.stamp before known → ClosesSo terms.stamp number position (before ++ (again terms.stamp port.addresses (number - 1) last ++ came)) end
 
 -- one more turn: a move was acknowledged, or the run ends
 unfoldable pub StepsSo : (ReadFault → Type 0) → Game → At → Option (List ℕ) → Course → PortFacts → PortFacts → Option End → Type 0
 StepsSo cause g at input course port port' None =
-    (t : AckedMove) × IsAckedTurn g at t × (t.after.input ≡ input) × (t.after.position ≡ course.position) × (Some t.move ≡ course.last) × Passed port port' (sent_in g at.moves t.move t.tries) × Knows g.stamp t.after.passed course.known
+    (t : AckedMove) × IsAckedTurn g at t × (t.after.input ≡ input) × (t.after.position ≡ course.position) × (Some t.move ≡ course.last) × Passed port port' (sent_in g at.moves t.move t.tries) × Knows g.terms.stamp t.after.passed course.known
 StepsSo cause g at input course port port' (Some end) =
-    (sent : List Moves) × (more : List Passing) × EndsWith cause g at input sent more end × Passed port port' more × (end ≡ at_end.Lost → Knows g.stamp (at.passed ++ more) course.known)
+    (sent : List Moves) × (more : List Passing) × EndsWith cause g at input sent more end × Passed port port' more × (end ≡ at_end.Lost → Knows g.terms.stamp (at.passed ++ more) course.known)
 
 -- whatever has passed before, by which so much is known, and whichever moves are acknowledged
-abbrev pub Steps : (ReadFault → Type 0) → Stamp → ℕ → ℕ → Option (List ℕ) → Option (List ℕ) → Course → Course → PortFacts → PortFacts → Option End → Type 0
-Steps cause stamp most number input input' course course' port port' end =
-    (before : List Passing) (moves : List Moves) → Knows stamp before course.known → number ≡ length moves → course.last ≡ last_of moves →
-    StepsSo cause (record { stamp = stamp; addresses = port.addresses; most = most }) (record { input = input; position = course.position; moves = moves; passed = before }) input' course' port port' end
+abbrev pub Steps : (ReadFault → Type 0) → Terms → ℕ → Option (List ℕ) → Option (List ℕ) → Course → Course → PortFacts → PortFacts → Option End → Type 0
+Steps cause terms number input input' course course' port port' end =
+    (before : List Passing) (moves : List Moves) → Knows terms.stamp before course.known → number ≡ length moves → course.last ≡ last_of moves →
+    StepsSo cause (game_at terms port) (record { input = input; position = course.position; moves = moves; passed = before }) input' course' port port' end
+
+-- so at a reader
+abbrev pub StepsAt : Terms → ℕ → LineFacts → LineFacts → Course → Course → PortFacts → PortFacts → Option End → Type 0
+StepsAt terms number reader reader' course course' port port' end = Steps (causes reader.fails reader.takes_memory) terms number reader.left reader'.left course course' port port' end
 
 -- nothing is the cause of a failed read
 abbrev pub no_cause : ReadFault → Type 0
 no_cause fault = ⊥
 
 -- the same after a line was read, whatever it was read from
-abbrev pub StepsOn : Stamp → ℕ → ℕ → List ℕ → Course → Course → PortFacts → PortFacts → Option End → Type 0
-StepsOn stamp most number line course course' port port' end =
-    (input input' : Option (List ℕ)) → ReadsLine input input' line → Steps no_cause stamp most number input input' course course' port port' end
+abbrev pub StepsOn : Terms → ℕ → List ℕ → Course → Course → PortFacts → PortFacts → Option End → Type 0
+StepsOn terms number line course course' port port' end =
+    (input input' : Option (List ℕ)) → ReadsLine input input' line → Steps no_cause terms number input input' course course' port port' end
 
 -- a game of which nothing is sent yet
 abbrev pub begun_at : Parts → Course
