@@ -1,5 +1,5 @@
 -- The games that two files hold (this project's own).
-use Rattle.std.specs.Prelude.{◌⊎◌, List, Result, Ok, Err}
+use Rattle.std.specs.Prelude.{List, Result, Ok, Err}
 use Rattle.sqlite_disk.specs.declared.Disk.{Ghosts}
 use Rattle.sqlite_disk.specs.declared.Files.{Files}
 use Rattle.sqlite_wal.specs.Recovery.{Image}
@@ -13,7 +13,7 @@ use Rattle.sqlite.specs.Closing.{HoldsAlone}
 use Rattle.game_store.specs.declared.entry.Entry.{Entry}
 use Rattle.game_store.specs.declared.fault.StoreFault.{StoreFault}
 use Rattle.game_store.specs.Games.{Games, with_all}
-use Rattle.game_store.specs.Shelves.{AreSame, HoldsGames, KeepsGames}
+use Rattle.game_store.specs.Shelves.{AreSame, HoldsBatchOrNot, HoldsGames, KeepsGames}
 
 -- these are the games of what two files recover to, a database or nothing yet, and of each database that they hold
 pub record FindsGames (image : Image) (games : Games) : Type 0 where
@@ -31,7 +31,7 @@ pub record HoldsGamesAlone (image : Image) (games : Games) : Type 0 where
 -- a batch is there, or it was not acknowledged and the games are as they were
 abbrev pub FindsBatch : Games → List Entry → Result (Unit {0}) StoreFault → Trees → Type 0
 FindsBatch games entries (Ok done) db = HoldsGames db (with_all games entries)
-FindsBatch games entries (Err e) db = HoldsGames db games ⊎ HoldsGames db (with_all games entries)
+FindsBatch games entries (Err e) db = HoldsBatchOrNot games entries db
 
 module _ {D : Type 0} {g : Ghosts D} where
   -- whatever of the two files a stop or a loss of power leaves, they hold such a database

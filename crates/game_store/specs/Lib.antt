@@ -1,4 +1,5 @@
 pub mod Games
+pub mod Moments
 pub mod Rows
 pub mod Slots
 pub mod Batches

@@ -1,18 +1,18 @@
 -- What a store holds (this project's own).
-use Rattle.std.specs.Prelude.{◌≡◌, ◌<◌, ◌^◌, ◌⊎◌, ℕ, pos, false, List, [], length, All, None, Some, IsTrue, refl}
+use Rattle.std.specs.Prelude.{◌≡◌, ◌<◌, ◌^◌, ◌⊎◌, ℕ, pos, false, List, [], length, map, All, IsPermutation, None, Some, IsTrue, refl}
 use Rattle.sqlite.specs.declared.types.Value.TheVariants.{Int, Blob as Bytes}
 use Rattle.sqlite.specs.Order.{Row, column}
 use Rattle.sqlite_trees.specs.Tree.{Trees}
 use Rattle.sqlite.specs.Effect.{Database}
-use Rattle.sqlite.specs.State.{State, HasCleanDisk}
+use Rattle.sqlite.specs.State.{State, HasCleanDisk, IsUnchanged}
 use Rattle.sqlite.specs.Held.{Held, held_code, state}
 use Rattle.sqlite.specs.Store.{Ghosts}
 use Rattle.std.specs.Coded.{Coded, code_by, coded×, coded_ℕ, coded_list}
 use Rattle.game_store.specs.contracts.memory.Slot as slot
 use Rattle.sqlite_catalog.specs.Listing.{IsSound}
 use Rattle.game_store.specs.declared.entry.Entry.{Entry}
-use Rattle.game_store.specs.Games.{Games, game_of}
-use Rattle.game_store.specs.Rows.{AreRows, Numbers, game_schema, games_in, is_of, no_schema}
+use Rattle.game_store.specs.Games.{Games, game_of, with_all}
+use Rattle.game_store.specs.Rows.{AreRows, Numbers, game_schema, games_in, is_of, no_schema, shown}
 use Rattle.game_store.specs.Slots.{Slots, Takes, game_at, number_at}
 use Rattle.game_store.specs.Batches.{HasRows}
 
@@ -59,6 +59,14 @@ pub record HasRead (rows : List Row) (slots : Slots) : Type 0 where
   pub each : All (HasRow slots) rows
   pub only : (stamp : List ℕ) → All (λ (r : Row). is_of stamp (column r 1) ≡ false) rows → number_at slots stamp ≡ None
 
+-- all rows of the table of the games were read, and nothing changed
+abbrev pub ReadsRows : List Row → State → State → Type 0
+ReadsRows rows old new = IsPermutation (map shown (old.now.trees 0)) rows × IsUnchanged old new
+
+-- memory has the games of a sound database, and nothing changed
+abbrev pub ReadsGames : Slots → State → State → Type 0
+ReadsGames slots old new = IsUnchanged old new × (IsSound game_schema old.now.trees → Mirrors slots old.now)
+
 -- a table of games was made in a database that had none, with no row
 pub record MakesTable (old new : State) : Type 0 where
   pub was_open : IsTrue old.is_open
@@ -71,6 +79,14 @@ pub record MakesTable (old new : State) : Type 0 where
 -- each game that a database holds, or that it has none, holds of another too
 abbrev pub KeepsGames : Trees → Trees → Type 0
 KeepsGames old new = (games : Games) → HoldsGames old games → HoldsGames new games
+
+-- each game that is committed, where the database is open
+abbrev pub KeepsCommitted : State → Trees → Type 0
+KeepsCommitted old db = IsTrue old.is_open → KeepsGames old.committed.trees db
+
+-- these games, or all with the whole batch
+abbrev pub HoldsBatchOrNot : Games → List Entry → Trees → Type 0
+HoldsBatchOrNot games entries db = HoldsGames db games ⊎ HoldsGames db (with_all games entries)
 
 -- The database has the table of the games and is committed. It is as before, or it had nothing and has no row.
 pub record IsReady (old new : State) : Type 0 where

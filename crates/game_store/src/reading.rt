@@ -1,14 +1,15 @@
 //! What an opening reads.
 
-ghost use Rattle.std.specs.Prelude.{◌≡◌, ◌≢◌, [], false, length, map, IfOk, IsPermutation, IsTrue, OnOk};
+ghost use Rattle.std.specs.Prelude.{◌≡◌, ◌≢◌, [], false, length, IfOk, IsTrue, OnOk};
 ghost use Rattle.sqlite.specs.declared.types.Value.TheVariants.{Blob};
 ghost use Rattle.sqlite.specs.Order.{column};
-ghost use Rattle.sqlite.specs.State.{Executes, HasCleanDisk, IsUnchanged, Survives, CommitsBy};
+ghost use Rattle.sqlite.specs.State.{Executes, HasCleanDisk, Survives, CommitsBy};
 ghost use Rattle.sqlite.specs.Held.{state};
 ghost use Rattle.sqlite_catalog.specs.Listing.{IsSound};
-ghost use Rattle.game_store.specs.Rows.{create_text, game_schema, no_schema, shown};
+ghost use Rattle.game_store.specs.Moments.{WhereTrusted};
+ghost use Rattle.game_store.specs.Rows.{create_text, game_schema, no_schema};
 ghost use Rattle.game_store.specs.Slots.{game_at};
-ghost use Rattle.game_store.specs.Shelves.{HasRead, HoldsGames, IsReady, KeepsGames, MakesTable, Mirrors, TakesRow, Tells};
+ghost use Rattle.game_store.specs.Shelves.{HasRead, HoldsGames, IsReady, KeepsCommitted, MakesTable, Mirrors, ReadsGames, ReadsRows, TakesRow, Tells};
 
 use crate::entry::Entry;
 use crate::fault::{OUT_OF_MEMORY, StoreFault, UNCOMMITTED};
@@ -45,8 +46,7 @@ fn create<S: Alter>(conn: &mut Connection<S>) -> Result<(), StoreFault>
 
 /// All rows of the table.
 fn select<S: Alter>(conn: &mut Connection<S>) -> Result<Vec<Row>, Error>
-    ensures rows { HasCleanDisk (state S.Store conn.new) → (state S.Store conn.old).now.schema ≡ game_schema
-        → IfOk result (λ rows. IsPermutation (map shown ((state S.Store conn.old).now.trees 0)) rows.items × IsUnchanged (state S.Store conn.old) (state S.Store conn.new)) }
+    ensures rows { WhereTrusted (λ old new. old.now.schema ≡ game_schema → IfOk result (λ rows. ReadsRows rows.items old new)) (state S.Store conn.old) (state S.Store conn.new) }
     ensures outside { conn.old.in_transaction ≡ false → conn.new.in_transaction ≡ false }
     ensures survives { Survives (state S.Store conn.old) (state S.Store conn.new) (λ _. (state S.Store conn.old).now.schema ≢ game_schema) }
 {
@@ -109,8 +109,7 @@ fn load_all(memory: &mut Memory, rows: &[Row]) -> Result<(), StoreFault>
 
 /// Reads all games.
 fn read<S: Alter>(alloc: Global, conn: &mut Connection<S>) -> Result<Memory, StoreFault>
-    ensures mirrors { HasCleanDisk (state S.Store conn.new) → (state S.Store conn.old).now.schema ≡ game_schema
-        → IfOk result (λ memory. IsUnchanged (state S.Store conn.old) (state S.Store conn.new) × (IsSound game_schema (state S.Store conn.old).now.trees → Mirrors memory (state S.Store conn.old).now)) }
+    ensures mirrors { WhereTrusted (λ old new. old.now.schema ≡ game_schema → IfOk result (λ memory. ReadsGames memory old new)) (state S.Store conn.old) (state S.Store conn.new) }
     ensures outside { conn.old.in_transaction ≡ false → conn.new.in_transaction ≡ false }
     ensures survives { Survives (state S.Store conn.old) (state S.Store conn.new) (λ _. (state S.Store conn.old).now.schema ≢ game_schema) }
 {
@@ -128,7 +127,7 @@ fn make_table<S: Alter>(conn: &mut Connection<S>) -> Result<(), StoreFault>
     ensures outside { OnOk result (conn.new.in_transaction ≡ false) }
     ensures ready { HasCleanDisk (state S.Store conn.new) → IsTrue (state S.Store conn.new).is_open → OnOk result (IsReady (state S.Store conn.old) (state S.Store conn.new)) }
     ensures schema { HasCleanDisk (state S.Store conn.new) → OnOk result ((state S.Store conn.new).now.schema ≡ game_schema) }
-    ensures survives { Survives (state S.Store conn.old) (state S.Store conn.new) (λ db. IsTrue (state S.Store conn.old).is_open → KeepsGames (state S.Store conn.old).committed.trees db) }
+    ensures survives { Survives (state S.Store conn.old) (state S.Store conn.new) (KeepsCommitted (state S.Store conn.old)) }
 {
     if !conn.is_autocommit() {
         return Err(UNCOMMITTED);
@@ -149,7 +148,7 @@ pub(crate) fn prepare<S: Alter>(
     ensures mirrors { HasCleanDisk (state S.Store conn.new) → IfOk result (λ memory. IsTrue (state S.Store conn.new).is_open × Mirrors memory (state S.Store conn.new).committed) }
     ensures found { HasCleanDisk (state S.Store conn.new) → IfOk result (λ memory. HoldsGames (state S.Store conn.old).committed.trees (game_at memory)) }
     ensures lasts { IsTrue (state S.Store conn.new).is_open → (db : _) → (state S.Store conn.new).may_leave db → db ≡ (state S.Store conn.new).committed.trees }
-    ensures survives { Survives (state S.Store conn.old) (state S.Store conn.new) (λ db. IsTrue (state S.Store conn.old).is_open → KeepsGames (state S.Store conn.old).committed.trees db) }
+    ensures survives { Survives (state S.Store conn.old) (state S.Store conn.new) (KeepsCommitted (state S.Store conn.old)) }
 {
     make_table(conn)?;
     read(alloc, conn)

@@ -1,11 +1,11 @@
 //! The store of a folder of games.
 
-ghost use Rattle.std.specs.Prelude.{◌≡◌, ◌⊎◌, IfOk, IfErr, IsTrue, OnOk, OnErr, map, option_map};
+ghost use Rattle.std.specs.Prelude.{◌≡◌, IfOk, IfErr, OnOk, OnErr, map, option_map};
 ghost use Rattle.sqlite.specs.State.{HasCleanDisk, Survives};
 ghost use Rattle.sqlite.specs.Held.{state};
 ghost use Rattle.game_store.specs.Games.{with_all};
 ghost use Rattle.game_store.specs.Listing.{ListsGames, as_listed};
-ghost use Rattle.game_store.specs.Shelves.{AreSame, HoldsGames, IsOpen, IsTrusted, KeepsGames, Leaves, committed, database, remembered};
+ghost use Rattle.game_store.specs.Shelves.{AreSame, HoldsBatchOrNot, HoldsGames, IsOpen, IsTrusted, KeepsCommitted, Leaves, committed, database, remembered};
 
 use crate::entry::Entry;
 use crate::fault::StoreFault;
@@ -54,8 +54,8 @@ impl<S: Alter> Store<S> {
         ensures lasts { IfOk result (λ store. IsTrusted S.Store store → Leaves S.Store store (λ db. HoldsGames db (committed S.Store store))) }
 
         // A stop or a loss of power within the call leaves what it could leave before, or these games.
-        ensures crash { IfOk result (λ store. Survives (state S.Store conn) (database S.Store store) (λ db. IsTrue (state S.Store conn).is_open → KeepsGames (state S.Store conn).committed.trees db)) }
-        ensures refused { IfErr result (λ e. Survives (state S.Store conn) (state S.Store e.1) (λ db. IsTrue (state S.Store conn).is_open → KeepsGames (state S.Store conn).committed.trees db)) }
+        ensures crash { IfOk result (λ store. Survives (state S.Store conn) (database S.Store store) (KeepsCommitted (state S.Store conn))) }
+        ensures refused { IfErr result (λ e. Survives (state S.Store conn) (state S.Store e.1) (KeepsCommitted (state S.Store conn))) }
     {
         match prepare(alloc, &mut conn) {
             Ok(memory) => Ok(Store { conn, memory }),
@@ -100,7 +100,7 @@ impl<S: Alter> Store<S> {
 
         // A stop or a loss of power within the call, also one after which the store is shut, leaves the games as they were, or all
         // with the whole batch. From then on it leaves what is committed.
-        ensures stops { IsTrusted S.Store self.new → IsOpen S.Store self.old → Leaves S.Store self.new (λ db. HoldsGames db (committed S.Store self.old) ⊎ HoldsGames db (with_all (committed S.Store self.old) entries.items)) }
+        ensures stops { IsTrusted S.Store self.new → IsOpen S.Store self.old → Leaves S.Store self.new (HoldsBatchOrNot (committed S.Store self.old) entries.items) }
         ensures crash { Survives (database S.Store self.old) (database S.Store self.new) (λ db. IsOpen S.Store self.old → HoldsGames db (with_all (committed S.Store self.old) entries.items)) }
         ensures lasts { IsTrusted S.Store self.new → IsOpen S.Store self.new → Leaves S.Store self.new (λ db. HoldsGames db (committed S.Store self.new)) }
     {

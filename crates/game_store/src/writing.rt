@@ -3,9 +3,10 @@
 ghost use Rattle.std.specs.Prelude.{◌≡◌, ◌<◌, ◌^◌, false, length, IsTrue, OnOk, OnErr};
 ghost use Rattle.sqlite.specs.State.{ExecutesInside, HasCleanDisk, KeepsCommit, Survives};
 ghost use Rattle.sqlite.specs.Held.{state};
+ghost use Rattle.game_store.specs.Moments.{InTransaction, WhereTrusted};
 ghost use Rattle.game_store.specs.Rows.{game_schema, given, put_text};
 ghost use Rattle.game_store.specs.Slots.{HaveNumbers, number_at};
-ghost use Rattle.game_store.specs.Batches.{Becomes, HasRows, PutsRow};
+ghost use Rattle.game_store.specs.Batches.{AreOfBatch, PutsBatch, PutsRow};
 
 use crate::entry::Entry;
 use crate::memory::Memory;
@@ -19,8 +20,7 @@ fn run_put<S: Alter>(
 ) -> Result<usize, Error>
     ensures fits { (number < 2 ^ 32) × (entry.now.count < 2 ^ 32) × (length entry.now.stamp ≡ 16) }
     ensures same_reference { tx.new.conn.ghost_name ≡ tx.old.conn.ghost_name }
-    ensures runs { HasCleanDisk (state S.Store tx.new.conn.now) → IsTrue (state S.Store tx.old.conn.now).in_transaction
-        → ExecutesInside 0 put_text (given number entry.now) (state S.Store tx.old.conn.now) (state S.Store tx.new.conn.now) result }
+    ensures runs { InTransaction (λ old new. ExecutesInside 0 put_text (given number entry.now) old new result) (state S.Store tx.old.conn.now) (state S.Store tx.new.conn.now) }
     ensures survives { Survives (state S.Store tx.old.conn.now) (state S.Store tx.new.conn.now) (λ _. ⊥) }
 {
     let stamp: &[u8] = &entry.stamp;
@@ -38,10 +38,9 @@ fn put_one<S: Alter>(
 ) -> Result<usize, Error>
     ensures fits { (number < 2 ^ 32) × (entry.now.count < 2 ^ 32) × (length entry.now.stamp ≡ 16) }
     ensures same_reference { tx.new.conn.ghost_name ≡ tx.old.conn.ghost_name }
-    ensures puts { HasCleanDisk (state S.Store tx.new.conn.now) → IsTrue (state S.Store tx.old.conn.now).in_transaction → (state S.Store tx.old.conn.now).now.schema ≡ game_schema
-        → OnOk result (PutsRow number entry.now (state S.Store tx.old.conn.now) (state S.Store tx.new.conn.now)) }
-    ensures goes_on { HasCleanDisk (state S.Store tx.new.conn.now) → IsTrue (state S.Store tx.old.conn.now).in_transaction → OnOk result (IsTrue (state S.Store tx.new.conn.now).in_transaction) }
-    ensures kept { HasCleanDisk (state S.Store tx.new.conn.now) → IsTrue (state S.Store tx.old.conn.now).in_transaction → KeepsCommit (state S.Store tx.old.conn.now) (state S.Store tx.new.conn.now) }
+    ensures puts { InTransaction (λ old new. old.now.schema ≡ game_schema → OnOk result (PutsRow number entry.now old new)) (state S.Store tx.old.conn.now) (state S.Store tx.new.conn.now) }
+    ensures goes_on { InTransaction (λ old new. OnOk result (IsTrue new.in_transaction)) (state S.Store tx.old.conn.now) (state S.Store tx.new.conn.now) }
+    ensures kept { InTransaction KeepsCommit (state S.Store tx.old.conn.now) (state S.Store tx.new.conn.now) }
     ensures survives { Survives (state S.Store tx.old.conn.now) (state S.Store tx.new.conn.now) (λ _. ⊥) }
 {
     run_put(tx, number, entry)
@@ -55,10 +54,8 @@ fn put_each<S: Alter>(
 ) -> Result<(), Error>
     requires { HaveNumbers memory.now entries.now }
     ensures same_reference { tx.new.conn.ghost_name ≡ tx.old.conn.ghost_name }
-    ensures becomes { HasCleanDisk (state S.Store tx.new.conn.now) → IsTrue (state S.Store tx.old.conn.now).in_transaction → HasRows (number_at memory.now) (state S.Store tx.old.conn.now).now
-        → OnOk result (Becomes (number_at memory.now) entries.now (state S.Store tx.old.conn.now).now (state S.Store tx.new.conn.now).now) }
-    ensures kept { HasCleanDisk (state S.Store tx.new.conn.now) → IsTrue (state S.Store tx.old.conn.now).in_transaction
-        → KeepsCommit (state S.Store tx.old.conn.now) (state S.Store tx.new.conn.now) }
+    ensures becomes { InTransaction (λ old new. PutsBatch (number_at memory.now) entries.now result old.now new.now) (state S.Store tx.old.conn.now) (state S.Store tx.new.conn.now) }
+    ensures kept { InTransaction KeepsCommit (state S.Store tx.old.conn.now) (state S.Store tx.new.conn.now) }
     ensures survives { Survives (state S.Store tx.old.conn.now) (state S.Store tx.new.conn.now) (λ _. ⊥) }
 {
     for entry in entries {
@@ -80,8 +77,7 @@ pub(crate) fn put<S: Alter>(
     requires numbered { HaveNumbers memory.now entries.now }
 
     // At `Ok` the batch is committed,
-    ensures all { HasCleanDisk (state S.Store conn.new) → HasRows (number_at memory.now) (state S.Store conn.old).now
-        → OnOk result (Becomes (number_at memory.now) entries.now (state S.Store conn.old).now (state S.Store conn.new).committed) }
+    ensures all { WhereTrusted (λ old new. PutsBatch (number_at memory.now) entries.now result old.now new.committed) (state S.Store conn.old) (state S.Store conn.new) }
     ensures open { HasCleanDisk (state S.Store conn.new) → OnOk result (IsTrue (state S.Store conn.new).is_open) }
     ensures was_open { HasCleanDisk (state S.Store conn.new) → IsTrue (state S.Store conn.new).is_open → IsTrue (state S.Store conn.old).is_open }
     // after an error that leaves the database open, nothing is,
@@ -89,8 +85,7 @@ pub(crate) fn put<S: Alter>(
         → OnErr result ((state S.Store conn.new).committed ≡ (state S.Store conn.old).committed) }
     ensures outside { conn.new.in_transaction ≡ false }
     // and a loss of power within the call leaves what it could leave before, or the whole batch. From then on it leaves what is committed.
-    ensures crash { Survives (state S.Store conn.old) (state S.Store conn.new) (λ trees. HasRows (number_at memory.now) (state S.Store conn.old).now
-        → (db : _) × Becomes (number_at memory.now) entries.now (state S.Store conn.old).now db × (trees ≡ db.trees)) }
+    ensures crash { Survives (state S.Store conn.old) (state S.Store conn.new) (AreOfBatch (number_at memory.now) entries.now (state S.Store conn.old).now) }
     ensures lasts { IsTrue (state S.Store conn.new).is_open → (db : _) → (state S.Store conn.new).may_leave db → db ≡ (state S.Store conn.new).committed.trees }
 {
     let mut tx = conn.transaction();
