@@ -1,5 +1,5 @@
 -- Games that are one, and games that are audited.
-use Rattle.std.proofs.Common.{◌≡◌, ◌≢◌, ◌≤◌, ◌∙◌, ℕ, Bool, true, false, List, Option, Some, None, refl, sym, ap, subst, IfSome, IsTrue, ◌↔◌}
+use Rattle.std.proofs.Common.{◌≡◌, ◌≤◌, ◌∙◌, ℕ, Bool, true, false, List, Option, Some, None, sym, ap, subst, IfSome, IsTrue, ◌↔◌}
 use Rattle.board_core.specs.Delays.{most_delay}
 use Rattle.board_core.specs.declared.parts.Parts.{Parts}
 use Rattle.fen_text.specs.Fen.{SpellsPosition}
@@ -10,27 +10,20 @@ use Rattle.move_msg.specs.Stamps.{IsGameName, stamp_of}
 use Rattle.arbiter_server.specs.declared.game_file.Game.{Game}
 use Rattle.arbiter_server.specs.GameFiles.{Told}
 use Rattle.arbiter_server.specs.Games.{IsGameOf}
-use Rattle.std.specs.Io.KnownBytes.{Appends}
 use Rattle.board_core.specs.declared.verdict.Verdict.{Verdict}
 use Rattle.judge_core.specs.Tables.{Tables}
 use Rattle.move_msg.specs.Records.{SpellsRecord}
-use Rattle.move_msg.specs.TextLines.{ended}
-use Rattle.line_teller.specs.ToldLines.{cut_words}
 use Rattle.record_audit.specs.declared.auditing.Finding.{Finding}
 use Rattle.record_audit.specs.declared.auditing.Finding.TheVariants as found
 use Rattle.record_audit.specs.Findings.{IsFound, IsOfRecord, is_whole, rules_with}
-use Rattle.system_io.specs.declared.reading.ReadFault.{ReadFault}
 use Rattle.system_io.specs.declared.reading.ReadFault.TheVariants as read
 use Rattle.system_io.specs.Disks.{DiskFacts}
-use Rattle.game_status.specs.Tellings.{GameTold, NoRoomToList, TellsFolders, Unlisted}
-use Rattle.game_status.specs.declared.comparing.Compared.{Compared}
-use Rattle.game_status.specs.declared.entry.EntryFault.{EntryFault}
 use Rattle.game_status.specs.declared.side.Side.{Side}
 use Rattle.game_status.specs.declared.status_lines.Look.{Look}
 use Rattle.game_status.specs.declared.status_lines.Look.TheVariants as look
 use Rattle.game_status.specs.Entries.{game_told}
 use Rattle.game_status.specs.GameAudits.{AreFewDelays, IsWhole}
-use Rattle.game_status.specs.Listings.{CannotList, Listing}
+use Rattle.game_status.specs.Listings.{Listing}
 use Rattle.game_status.specs.Sides.{IsRecorded}
 use Rattle.game_status.specs.Statuses.{HasBeside, InBoth, InNone, InOne, IsLook, IsLookAtBoth, IsLookBeside, IsSide, LacksBeside}
 

@@ -3,3 +3,4 @@ pub mod TellingLaws
 pub mod SideLaws
 pub mod StatusLaws
 pub mod GameLaws
+pub mod LineLaws

@@ -1,5 +1,5 @@
 -- What is told of how far games have come.
-use Rattle.std.proofs.Common.{◌≡◌, ℕ, Bool, false, List, Option, Some, None, refl, sym, subst}
+use Rattle.std.proofs.Common.{◌≡◌, ℕ, Bool, false, List, Option, Some, None, refl}
 use Rattle.std.specs.Prelude.{is_some, option_map, Result, Ok, Err, IfOk, OnErr}
 use Rattle.std.specs.Io.KnownBytes.{Appends}
 use Rattle.line_teller.specs.ToldLines.{HasFront, cut_words}
@@ -11,12 +11,9 @@ use Rattle.system_io.specs.declared.reading.ReadFault.TheVariants as read
 use Rattle.std.specs.Borrow.{Bor}
 use Rattle.std.specs.Option.{option_copied}
 use Rattle.game_status.specs.declared.listing.Folder.{Folder}
-use Rattle.game_status.specs.declared.telling.Mark.{Mark}
 use Rattle.game_status.specs.Listings.{AreListed, CannotList, Listing, listing_of}
-use Rattle.game_status.specs.Tellings.{AllListed, CutsListed, CutsNoRoom, CutsUnlisted, FoldersTo, GameTold, GamesTo, NoRoomToList, Unlisted}
-
-pub marked : (t : GameTold) (m : Mark) → m ≡ t.mark → ◌≡◌ {A = GameTold} (record { words = t.words; mark = m }) t
-marked t m e = subst (λ n. ◌≡◌ {A = GameTold} (record { words = t.words; mark = n }) t) (sym e) refl
+use Rattle.game_status.specs.declared.telling.GameTold.{GameTold}
+use Rattle.game_status.specs.Tellings.{AllListed, CutsListed, CutsNoRoom, CutsUnlisted, FoldersTo, GamesTo, NoRoomToList, Unlisted}
 
 pub same_other : (r : Option (Bor Folder)) → option_map (λ f. listing_of f.now) r ≡ option_map listing_of (option_copied r)
 same_other None = refl

@@ -1,5 +1,5 @@
 -- Games that are told one by one and counted.
-use Rattle.std.proofs.Common.{◌≡◌, ◌≤◌, ◌<◌, ◌+◌, ◌^◌, ◌++◌, ◌∙◌, ℕ, Bool, true, false, cond, List, [], ◌∷◌, length, take, get_or, refl, sym, ap, subst, Option, length-append, append_assoc, arith}
+use Rattle.std.proofs.Common.{◌≡◌, ◌≤◌, ◌<◌, ◌+◌, ◌^◌, ◌++◌, ◌∙◌, ℕ, Bool, true, false, cond, List, [], ◌∷◌, length, take, get_or, refl, sym, ap, subst, Option, length-append, arith}
 use Rattle.std.specs.Prelude.{filter, Result, Ok, Err, IfOk, IsErrOf, OnErr}
 use Rattle.system_io.specs.declared.output.WriteFault.{WriteFault}
 use Rattle.std.specs.List.{AllZip}
@@ -13,16 +13,9 @@ use Rattle.move_msg.proofs.LineLaws.{more_lines}
 use Rattle.game_status.specs.declared.telling.Mark.{Mark}
 use Rattle.game_status.specs.declared.telling.Sums.{Sums}
 use Rattle.line_teller.specs.ToldLines.{HasFront, refused_memory}
-use Rattle.game_status.specs.Tellings.{AtGame, AtRefusal, AtSums, CutsGame, CutsGames, GameTold, GamesTo, NoRoom, TellsNoMore, TellsAll, TellsGames, WritesGame, are_well, sums_words, count_marked, is_apart, is_fault, is_ruled, sums_of, words_told}
+use Rattle.game_status.specs.declared.telling.GameTold.{GameTold}
+use Rattle.game_status.specs.Tellings.{AtGame, AtRefusal, AtSums, CutsGame, CutsGames, GamesTo, NoRoom, TellsNoMore, TellsAll, TellsGames, WritesGame, are_well, sums_words, count_marked, is_apart, is_fault, is_ruled, sums_of, words_told}
 use Rattle.game_status.specs.Inside.Counting.{AddsMark, AreFew, CutsSome, TellsEach, TellsSome}
-
--- a line in two parts
-pub joined : (old mid new : Option (List ℕ)) (a b : List ℕ) → Appends old mid a → Appends mid new (ended b) → Appends old new (ended (a ++ b))
-joined old mid new a b p q = subst (Appends old new) (sym (append_assoc a b (10 ∷ []))) (Appends-trans old mid new a (ended b) p q)
-
--- the front of a line, and then two parts
-pub onto : (old mid new : Option (List ℕ)) (front a b : List ℕ) → Appends old mid front → Appends mid new (a ++ b) → Appends old new (front ++ a ++ b)
-onto old mid new front a b p q = subst (Appends old new) (sym (append_assoc front a b)) (Appends-trans old mid new front (a ++ b) p q)
 
 -- ---- counts
 

@@ -1,5 +1,5 @@
 -- Games of a folder, or of two, that are audited by one set of tables (this project's own).
-use Rattle.std.specs.Prelude.{◌≡◌, ◌≤◌, ◌++◌, ℕ, Bool, true, false, List, [], Option, Some, None, IfSome, Result, length, codes}
+use Rattle.std.specs.Prelude.{◌≡◌, ◌≤◌, ◌++◌, ℕ, Bool, false, List, [], Option, Some, None, IfSome, Result, length, codes}
 use Rattle.hex.specs.Hex.{encode_lower}
 use Rattle.board_core.specs.Delays.{most_delay}
 use Rattle.board_core.specs.declared.parts.Parts.{Parts}
@@ -27,7 +27,8 @@ use Rattle.game_status.specs.declared.telling.Mark.TheVariants as mark
 use Rattle.game_status.specs.Comparisons.{compared_words, mark_of}
 use Rattle.game_status.specs.Listings.{Listing}
 use Rattle.game_status.specs.Statuses.{IsLook, fault_line, other_fault_line}
-use Rattle.game_status.specs.Tellings.{FoldersTo, GameTold, TellsFolders}
+use Rattle.game_status.specs.declared.telling.GameTold.{GameTold}
+use Rattle.game_status.specs.Tellings.{FoldersTo, TellsFolders}
 
 -- ---- one record
 

@@ -1,3 +1,4 @@
 pub mod Counting
 pub mod Decoding
+pub mod Listing
 pub mod Parting

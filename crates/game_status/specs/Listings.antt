@@ -1,5 +1,6 @@
 -- The stamps whose files a folder lists (this project's own).
-use Rattle.std.specs.Prelude.{◌≡◌, ◌<◌, ◌⊎◌, ◌++◌, ℕ, List, [], Option, Some, None, length, slice_index, codes}
+use Rattle.std.specs.Prelude.{◌≡◌, ◌<◌, ◌⊎◌, ◌++◌, ℕ, List, [], Option, Some, None, length, option_map, slice_index, codes}
+use Rattle.std.specs.Borrow.{Bor}
 use Rattle.std.specs.List.{Contains}
 use Rattle.std.specs.List.Sorted.{IsStrictlySortedBy}
 use Rattle.std.specs.Cmp.Lexicographic.{slice_cmp}
@@ -43,6 +44,10 @@ pub record Listing : Type 0 where
 
 abbrev pub listing_of : Folder → Listing
 listing_of f = record { path = f.path.now; kept = f.kept.keys }
+
+-- a second folder, if one is named
+abbrev pub other_listing : Option (Bor Folder) → Option Listing
+other_listing other = option_map (λ f. listing_of f.now) other
 
 -- the folder at this path lists these names
 pub record IsListing (disk : DiskFacts) (path : List ℕ) (names : List (List ℕ)) (f : Listing) : Type 0 where

@@ -17,7 +17,8 @@ use Rattle.game_status.specs.Comparisons.{IsComparedAs, compared_words, mark_of,
 use Rattle.game_status.specs.Entries.{fault_words, game_told}
 use Rattle.game_status.specs.Listings.{Listing}
 use Rattle.game_status.specs.Sides.{HasSide, LacksSide}
-use Rattle.game_status.specs.Tellings.{FoldersTo, GameTold, TellsFolders}
+use Rattle.game_status.specs.declared.telling.GameTold.{GameTold}
+use Rattle.game_status.specs.Tellings.{FoldersTo, TellsFolders}
 
 -- ---- the lines
 
@@ -33,7 +34,7 @@ line_of_one stamp side = encode_lower stamp ++ codes " " ++ kept_words side.kept
 -- the stamp, what is kept in each folder, what comes of comparing it, and the name in the first folder
 abbrev pub line_of_two : List ℕ → Side → Side → Compared → List ℕ
 line_of_two stamp one other compared =
-    encode_lower stamp ++ codes " " ++ (kept_words one.kept ++ codes " " ++ kept_words other.kept ++ codes " " ++ compared_words compared ++ codes " ") ++ one.game.name.items
+    encode_lower stamp ++ codes " " ++ kept_words one.kept ++ codes " " ++ kept_words other.kept ++ codes " " ++ compared_words compared ++ codes " " ++ one.game.name.items
 
 abbrev pub fault_line : List ℕ → EntryFault → List ℕ
 fault_line stamp fault = encode_lower stamp ++ codes " " ++ fault_words fault

@@ -5,17 +5,13 @@ use Rattle.std.specs.List.{AllZip}
 use Rattle.std.specs.Io.KnownBytes.{Appends}
 use Rattle.move_msg.specs.TextLines.{ended, text_of}
 use Rattle.line_teller.specs.ToldLines.{CutsAfter, HasFront, refused_files, refused_memory}
+use Rattle.game_status.specs.declared.telling.GameTold.{GameTold}
 use Rattle.game_status.specs.declared.telling.Mark.{Mark}
 use Rattle.game_status.specs.declared.telling.Mark.TheVariants as mark
 use Rattle.game_status.specs.declared.telling.Sums.{Sums}
 use Rattle.game_status.specs.Listings.{AreListed, CannotList, Listing}
 use Rattle.system_io.specs.declared.output.WriteFault.{WriteFault}
 use Rattle.system_io.specs.Disks.{DiskFacts}
-
--- what is told of a game, and how it is counted
-pub record GameTold : Type 0 where
-  pub words : List ℕ
-  pub mark : Mark
 
 abbrev pub words_told : List GameTold → List (List ℕ)
 words_told = map (λ t. t.words)
@@ -27,10 +23,6 @@ WritesGame IsTold old new mark = (words : List ℕ) × IsTold (record { words = 
 -- of what is told of one game a front was written
 abbrev pub CutsGame : (GameTold → Type 0) → Option (List ℕ) → Option (List ℕ) → Type 0
 CutsGame IsTold old new = (told : GameTold) × IsTold told × HasFront old new (ended told.words)
-
--- the line of what is told was written, and how it is counted
-abbrev pub WritesTold : GameTold → Option (List ℕ) → Option (List ℕ) → Mark → Type 0
-WritesTold told old new mark = (mark ≡ told.mark) × Appends old new (ended told.words)
 
 -- whatever is told later could have been told before
 abbrev pub TellsNoMore : (List ℕ → GameTold → Type 0) → (List ℕ → GameTold → Type 0) → Type 0

@@ -1,23 +1,20 @@
 //! The lines of games that are audited.
 
-ghost use Rattle.std.specs.Prelude.{◌≡◌, ◌++◌, List, ℕ, IfOk, OnErr, OnOk, codes};
-ghost use Rattle.std.specs.Io.KnownBytes.{Appends};
+ghost use Rattle.std.specs.Prelude.{◌≡◌, ◌≤◌, ◌+◌, ◌++◌, codes, length};
 ghost use Rattle.hex.specs.Hex.{encode_lower};
-ghost use Rattle.line_teller.specs.ToldLines.{HasFront};
-ghost use Rattle.move_msg.specs.TextLines.{ended};
 ghost use Rattle.record_audit.specs.Findings.{finding_words};
 ghost use Rattle.game_status.specs.GameAudits.{audit_told, kept_finding, mark_of_look, pair_mark, pair_words, parted_words, sound_line, unsound_line};
-ghost use Rattle.game_status.specs.Tellings.{WritesTold};
 
 use crate::comparing::{Compared, mark_of};
 use crate::entry::EntryFault;
-use crate::status_lines::{Look, put, put_fault_line, put_other_fault_line, put_stamp};
-use crate::telling::Mark;
-use arrayvec::ArrayVec;
+use crate::status_lines::{
+    Look, add_compared, add_moves, add_refused_record, fault_line, other_fault_line, stamped,
+};
+use crate::telling::{GameTold, Mark};
+use arbiter_server::verdict_or_none;
+use line_teller::LineWords;
 use move_msg::Record;
 use record_audit::Finding;
-use std::io::Write;
-use system_io::{Output, WriteFault};
 
 /// What is wrong with a game whose files an audit can read.
 #[derive(Clone, Copy)]
@@ -39,143 +36,142 @@ pub enum AuditLook {
     Wrong(Unsound),
 }
 
-/// Writes what is found of a record that is whole, or that none is kept.
-fn put_found<W: Write>(out: &mut W, kept: &Option<Record>) -> Result<(), WriteFault>
-    ensures { OnOk result (Appends (W.contents out.old) (W.contents out.new) (kept_finding kept.now)) }
+/// Adds a finding.
+fn add_finding(line: &mut LineWords, finding: Finding)
+    requires { length line.old ≤ 180 }
+    ensures is { line.new ≡ line.old ++ finding_words finding }
+    ensures size { length line.new ≤ length line.old + 54 }
 {
-    let written = match kept {
-        None => out.write_all(b"- none"),
-        Some(record) => {
-            let whole = Finding::Whole(record.moves.as_slice().len(), record.verdict);
-            write!(out, "{whole}")
+    match finding {
+        Finding::Whole(count, verdict) => {
+            line.add("ok ");
+            add_moves(line, count, verdict);
         }
-    };
-    match written {
-        Ok(()) => Ok(()),
-        Err(_) => Err(WriteFault::Io),
+        Finding::BadRecord(fault) => add_refused_record(line, fault),
+        Finding::OtherStamp => line.add("refused stamp"),
+        Finding::BadMoves(place) => line.add_counted("refused moves ", place),
+        Finding::BadVerdict(verdict) => {
+            line.add("refused verdict ");
+            line.add(verdict_or_none(verdict));
+        }
     }
 }
 
-/// Writes what is found of a record of the second folder and what comes of comparing it, each behind a space.
-fn put_parted<W: Write>(
-    out: &mut W,
-    other: &Option<Record>,
-    compared: Compared,
-) -> Result<(), WriteFault>
-    ensures { OnOk result (Appends (W.contents out.old) (W.contents out.new) (parted_words other.now compared)) }
+/// Adds what is found of a record that is whole, or that none is kept.
+fn add_found(line: &mut LineWords, kept: &Option<Record>)
+    requires { length line.old ≤ 180 }
+    ensures is { line.new ≡ line.old ++ kept_finding kept.now }
+    ensures size { length line.new ≤ length line.old + 54 }
 {
-    put(out, b" ")?;
-    put_found(out, other)?;
-    match write!(out, " {compared}") {
-        Ok(()) => Ok(()),
-        Err(_) => Err(WriteFault::Io),
+    match kept {
+        None => line.add("- none"),
+        Some(record) => add_finding(
+            line,
+            Finding::Whole(record.moves.as_slice().len(), record.verdict),
+        ),
     }
 }
 
-/// Writes that the second folder keeps the same, where something is kept.
-fn put_agree<W: Write>(out: &mut W, other: &Option<Record>) -> Result<(), WriteFault>
-    ensures { OnOk result (Appends (W.contents out.old) (W.contents out.new) (pair_words other.now Compared.Agree)) }
+/// Adds what is found of a record of the second folder and what comes of comparing it, each behind a space.
+fn add_parted(line: &mut LineWords, other: &Option<Record>, compared: Compared)
+    requires { length line.old ≤ 100 }
+    ensures { line.new ≡ line.old ++ parted_words other.now compared }
+{
+    line.add(" ");
+    add_found(line, other);
+    line.add(" ");
+    add_compared(line, compared);
+}
+
+/// Adds that the second folder keeps the same, where something is kept.
+fn add_agree(line: &mut LineWords, other: &Option<Record>)
+    requires { length line.old ≤ 100 }
+    ensures { line.new ≡ line.old ++ pair_words other.now Compared.Agree }
 {
     match other {
-        None => Ok(()),
-        Some(_) => put(out, b" agree"),
+        None => {}
+        Some(_) => line.add(" agree"),
     }
 }
 
-/// Writes what the second folder keeps, by what comes of comparing it.
-fn put_pair<W: Write>(
-    out: &mut W,
-    other: &Option<Record>,
-    compared: Compared,
-) -> Result<(), WriteFault>
-    ensures { OnOk result (Appends (W.contents out.old) (W.contents out.new) (pair_words other.now compared)) }
+/// Adds what the second folder keeps, by what comes of comparing it.
+fn add_pair(line: &mut LineWords, other: &Option<Record>, compared: Compared)
+    requires { length line.old ≤ 100 }
+    ensures { line.new ≡ line.old ++ pair_words other.now compared }
 {
     match compared {
-        Compared::Agree => put_agree(out, other),
-        Compared::Behind(_) => put_parted(out, other, compared),
-        Compared::Unopened => put_parted(out, other, compared),
-        Compared::Differ(_) => put_parted(out, other, compared),
+        Compared::Agree => add_agree(line, other),
+        Compared::Behind(_) => add_parted(line, other, compared),
+        Compared::Unopened => add_parted(line, other, compared),
+        Compared::Differ(_) => add_parted(line, other, compared),
     }
 }
 
-/// Writes a finding, and ends the line.
-fn put_finding<W: Write>(out: &mut W, finding: Finding) -> Result<(), WriteFault>
-    ensures { OnOk result (Appends (W.contents out.old) (W.contents out.new) (ended (finding_words finding))) }
+/// What is found of the record of one folder.
+fn one_line(stamp: &[u8; 16], kept: &Option<Record>) -> LineWords
+    ensures is { result ≡ encode_lower stamp.now ++ codes " " ++ kept_finding kept.now }
+    ensures size { length result ≤ 87 }
 {
-    match writeln!(out, "{finding}") {
-        Ok(()) => Ok(()),
-        Err(_) => Err(WriteFault::Io),
-    }
+    let mut line = stamped(stamp);
+    add_found(&mut line, kept);
+    line
 }
 
-/// Writes what is found of the record of one folder, and ends the line.
-fn put_one<W: Write>(out: &mut W, stamp: &[u8; 16], kept: &Option<Record>) -> Result<(), WriteFault>
-    ensures { OnOk result (Appends (W.contents out.old) (W.contents out.new) (ended (encode_lower stamp.now ++ codes " " ++ kept_finding kept.now))) }
-{
-    put_stamp(out, stamp)?;
-    put_found(out, kept)?;
-    put(out, b"\n")
-}
-
-/// Writes what is found of the records of two folders and what comes of comparing them, and ends the line.
-fn put_both<W: Write>(
-    out: &mut W,
+/// What is found of the records of two folders and what comes of comparing them.
+fn both_line(
     stamp: &[u8; 16],
     kept: &Option<Record>,
     other: &Option<Record>,
     compared: Compared,
-) -> Result<(), WriteFault>
-    ensures { OnOk result (Appends (W.contents out.old) (W.contents out.new) (ended (encode_lower stamp.now ++ codes " " ++ kept_finding kept.now ++ pair_words other.now compared))) }
+) -> LineWords
+    ensures { result ≡ encode_lower stamp.now ++ codes " " ++ kept_finding kept.now ++ pair_words other.now compared }
 {
-    put_stamp(out, stamp)?;
-    put_found(out, kept)?;
-    put_pair(out, other, compared)?;
-    put(out, b"\n")
+    let mut line = one_line(stamp, kept);
+    add_pair(&mut line, other, compared);
+    line
 }
 
-/// Writes the line of a game whose records are whole, or whose files are at fault.
-fn put_sound<W: Write>(out: &mut W, stamp: &[u8; 16], look: &Look) -> Result<(), WriteFault>
-    ensures { OnOk result (Appends (W.contents out.old) (W.contents out.new) (ended (sound_line stamp.now look.now))) }
+/// The line of a game whose records are whole, or whose files are at fault.
+fn sound_line(stamp: &[u8; 16], look: &Look) -> LineWords
+    ensures { result ≡ sound_line stamp.now look.now }
 {
     match look {
-        Look::One(side) => put_one(out, stamp, &side.kept),
+        Look::One(side) => one_line(stamp, &side.kept),
         Look::Both(side, other, compared) => {
-            put_both(out, stamp, &side.kept, &other.kept, *compared)
+            both_line(stamp, &side.kept, &other.kept, *compared)
         }
-        Look::AtFault(fault) => put_fault_line(out, stamp, *fault),
-        Look::OtherAtFault(fault) => put_other_fault_line(out, stamp, *fault),
+        Look::AtFault(fault) => fault_line(stamp, *fault),
+        Look::OtherAtFault(fault) => other_fault_line(stamp, *fault),
     }
 }
 
-/// Writes the line of a record of the first folder that isn't whole.
-fn put_record<W: Write>(out: &mut W, stamp: &[u8; 16], finding: Finding) -> Result<(), WriteFault>
-    ensures { OnOk result (Appends (W.contents out.old) (W.contents out.new) (ended (encode_lower stamp.now ++ codes " " ++ finding_words finding))) }
+/// The line of a record of the first folder that isn't whole.
+fn record_line(stamp: &[u8; 16], finding: Finding) -> LineWords
+    ensures { result ≡ encode_lower stamp.now ++ codes " " ++ finding_words finding }
 {
-    put_stamp(out, stamp)?;
-    put_finding(out, finding)
+    let mut line = stamped(stamp);
+    add_finding(&mut line, finding);
+    line
 }
 
-/// Writes the line of a record of the second folder that isn't whole.
-fn put_other_record<W: Write>(
-    out: &mut W,
-    stamp: &[u8; 16],
-    finding: Finding,
-) -> Result<(), WriteFault>
-    ensures { OnOk result (Appends (W.contents out.old) (W.contents out.new) (ended (encode_lower stamp.now ++ codes " " ++ codes "other " ++ finding_words finding))) }
+/// The line of a record of the second folder that isn't whole.
+fn other_record_line(stamp: &[u8; 16], finding: Finding) -> LineWords
+    ensures { result ≡ encode_lower stamp.now ++ codes " " ++ codes "other " ++ finding_words finding }
 {
-    put_stamp(out, stamp)?;
-    put(out, b"other ")?;
-    put_finding(out, finding)
+    let mut line = stamped(stamp);
+    line.add("other ");
+    add_finding(&mut line, finding);
+    line
 }
 
-/// Writes the line of a game with which something is wrong.
-fn put_unsound<W: Write>(out: &mut W, stamp: &[u8; 16], unsound: Unsound) -> Result<(), WriteFault>
-    ensures { OnOk result (Appends (W.contents out.old) (W.contents out.new) (ended (unsound_line stamp.now unsound))) }
+/// The line of a game with which something is wrong.
+fn unsound_line(stamp: &[u8; 16], unsound: Unsound) -> LineWords
+    ensures { result ≡ unsound_line stamp.now unsound }
 {
     match unsound {
-        Unsound::OtherGame => put_fault_line(out, stamp, EntryFault::OtherGame),
-        Unsound::Record(finding) => put_record(out, stamp, finding),
-        Unsound::OtherRecord(finding) => put_other_record(out, stamp, finding),
+        Unsound::OtherGame => fault_line(stamp, EntryFault::OtherGame),
+        Unsound::Record(finding) => record_line(stamp, finding),
+        Unsound::OtherRecord(finding) => other_record_line(stamp, finding),
     }
 }
 
@@ -203,38 +199,12 @@ fn mark_of_look(look: &Look) -> Mark
     }
 }
 
-/// Writes the line of a game that is audited, and returns how it is counted.
-fn put_audit<W: Write>(out: &mut W, stamp: &[u8; 16], look: &AuditLook) -> Result<Mark, WriteFault>
-    ensures { IfOk result (WritesTold (audit_told stamp.now look.now) (W.contents out.old) (W.contents out.new)) }
+/// What is told of a game that is audited.
+pub(crate) fn audit_told(stamp: &[u8; 16], look: &AuditLook) -> GameTold
+    ensures { result ≡ audit_told stamp.now look.now }
 {
     match look {
-        AuditLook::Sound(look) => match put_sound(out, stamp, look) {
-            Ok(()) => Ok(mark_of_look(look)),
-            Err(fault) => Err(fault),
-        },
-        AuditLook::Wrong(unsound) => match put_unsound(out, stamp, *unsound) {
-            Ok(()) => Ok(Mark::AtFault),
-            Err(fault) => Err(fault),
-        },
-    }
-}
-
-/// Writes the line of a game that is audited at once, and returns how it is counted. Where the writer fails, a front of it is written. No line has
-/// more than 512 bytes.
-pub(crate) fn tell_look<W: Output>(
-    out: &mut W,
-    stamp: &[u8; 16],
-    look: &AuditLook,
-) -> Result<Mark, WriteFault>
-    ensures told { IfOk result (WritesTold (audit_told stamp.now look.now) (W.contents out.old) (W.contents out.new)) }
-    ensures front { OnErr result (HasFront (W.contents out.old) (W.contents out.new) (ended (audit_told stamp.now look.now).words)) }
-{
-    let mut line: ArrayVec<u8, 512> = ArrayVec::new();
-    match put_audit(&mut line, stamp, look) {
-        Ok(mark) => match out.put(line.as_slice()) {
-            Ok(()) => Ok(mark),
-            Err(fault) => Err(fault),
-        },
-        Err(fault) => Err(fault),
+        AuditLook::Sound(look) => GameTold::new(sound_line(stamp, look), mark_of_look(look)),
+        AuditLook::Wrong(unsound) => GameTold::new(unsound_line(stamp, *unsound), Mark::AtFault),
     }
 }

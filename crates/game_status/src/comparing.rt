@@ -7,7 +7,6 @@ ghost use Rattle.game_status.specs.Inside.Parting.{IsApart};
 use crate::telling::Mark;
 use move_msg::Record;
 use record_audit::compare_records;
-use std::fmt;
 
 /// What comes of comparing what two folders keep of a game.
 #[derive(Clone, Copy)]
@@ -20,22 +19,6 @@ pub enum Compared {
     Unopened,
     /// The first ply at which they part otherwise.
     Differ(usize),
-}
-
-impl fmt::Display for Compared {
-    ghost use Rattle.std.specs.Prelude.{Some};
-    ghost use Rattle.game_status.specs.Comparisons.{compared_words};
-
-    ghost output = { λ compared. Some (compared_words compared) };
-
-    fn fmt<W: fmt::Write>(&self, f: &mut fmt::Formatter<W>) -> fmt::Result {
-        match self {
-            Compared::Agree => f.write_str("agree"),
-            Compared::Behind(moves) => write!(f, "behind {moves}"),
-            Compared::Unopened => f.write_str("unopened"),
-            Compared::Differ(ply) => write!(f, "differ {ply}"),
-        }
-    }
 }
 
 /// What comes of two records that part at a ply, of which one has so many moves, and the other so many.

@@ -8,7 +8,6 @@ use crate::listing::Folder;
 use arbiter_server::{FindFault, Game, GameFileFault, find_game, kept_path};
 use move_msg::{RecordFault, Stamp};
 use std::alloc::{AllocError, Global};
-use std::fmt;
 use system_io::{Disk, MOST_KEPT_BYTES, ReadFault};
 
 /// What a folder has of a game.
@@ -35,24 +34,6 @@ pub enum EntryFault {
     OtherStamp,
     /// The game's file tells another game than that of its stamp, or than the first folder's file.
     OtherGame,
-}
-
-impl fmt::Display for EntryFault {
-    ghost use Rattle.std.specs.Prelude.{Some};
-    ghost use Rattle.game_status.specs.Entries.{fault_words};
-
-    ghost output = { λ fault. Some (fault_words fault) };
-
-    fn fmt<W: fmt::Write>(&self, f: &mut fmt::Formatter<W>) -> fmt::Result {
-        match self {
-            EntryFault::NoGame => f.write_str("refused NoGame"),
-            EntryFault::BadGame(fault) => write!(f, "refused line {}", fault.line()),
-            EntryFault::Keeper => f.write_str("refused keeper"),
-            EntryFault::BadRecord(fault) => write!(f, "refused record {}", fault.name()),
-            EntryFault::OtherStamp => f.write_str("refused stamp"),
-            EntryFault::OtherGame => f.write_str("refused OtherGame"),
-        }
-    }
 }
 
 /// The bytes of the record of a game, if the folder lists one.

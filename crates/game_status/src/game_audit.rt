@@ -4,18 +4,17 @@ ghost use Rattle.std.specs.Prelude.{◌≡◌, ◌≤◌, ◌↔◌, option_map,
 ghost use Rattle.board_core.specs.Delays.{most_delay};
 ghost use Rattle.arbiter_server.specs.Games.{IsGameOf};
 ghost use Rattle.game_status.specs.GameAudits.{AreFewDelays, IsAuditLook, IsAuditOf, IsSoundSide, IsSoundLook, IsUnsoundLook, IsUnsoundPair, IsUnsoundSide, IsUntrue, IsWhole, TellsAuditTo};
-ghost use Rattle.game_status.specs.Listings.{listing_of};
+ghost use Rattle.game_status.specs.Listings.{listing_of, other_listing};
 
-use crate::audit_lines::{AuditLook, Unsound, tell_look};
+use crate::audit_lines::{AuditLook, Unsound, audit_told};
 use crate::listing::list_folders;
 use crate::side::Side;
 use crate::status::StatusTeller;
 use crate::status_lines::Look;
-use crate::telling::{GameTeller, Mark, put_cut, tell_games};
+use crate::telling::{GameTeller, GameTold, put_cut, tell_games};
 use arbiter_server::Game;
 use board_core::Position;
 use judge_core::Set;
-use line_teller::TellFault;
 use move_msg::{Record, Stamp};
 use record_audit::{Finding, judge_moves};
 use std::alloc::{AllocError, Global};
@@ -166,7 +165,7 @@ fn audit_game<D: Disk>(
     tables: &mut AuditTables<'_>,
     stamp: Stamp,
 ) -> Result<AuditLook, AllocError>
-    ensures told { IfOk result (IsAuditLook (D.facts files.now.disk.now) (listing_of files.now.one.now) (option_map (λ f. listing_of f.now) files.now.other) tables.old.manifest.now tables.old.set.tables stamp.0) }
+    ensures told { IfOk result (IsAuditLook (D.facts files.now.disk.now) (listing_of files.now.one.now) (other_listing files.now.other) tables.old.manifest.now tables.old.set.tables stamp.0) }
     ensures same { tables.new ≡ tables.old }
 {
     let look = files.look(stamp)?;
@@ -174,20 +173,14 @@ fn audit_game<D: Disk>(
 }
 
 impl<'a, 't, D: Disk> GameTeller for AuditTeller<'a, 't, D> {
-    ghost use Rattle.std.specs.Prelude.{option_map};
-    ghost use Rattle.game_status.specs.Listings.{listing_of};
+    ghost use Rattle.game_status.specs.Listings.{listing_of, other_listing};
     ghost use Rattle.game_status.specs.GameAudits.{IsAudit};
 
-    ghost tells = { λ t. IsAudit t.tables.manifest.now t.tables.set.tables (D.facts t.files.disk.now) (listing_of t.files.one.now) (option_map (λ f. listing_of f.now) t.files.other) };
+    ghost tells = { λ t. IsAudit t.tables.manifest.now t.tables.set.tables (D.facts t.files.disk.now) (listing_of t.files.one.now) (other_listing t.files.other) };
 
-    fn tell<W: Output>(&mut self, stamp: &[u8; 16], out: &mut W) -> Result<Mark, TellFault> {
-        let Ok(look) = audit_game(&self.files, &mut self.tables, Stamp(*stamp)) else {
-            return Err(TellFault::OutOfMemory);
-        };
-        match tell_look(out, stamp, &look) {
-            Ok(mark) => Ok(mark),
-            Err(_) => Err(TellFault::Io),
-        }
+    fn tell(&mut self, stamp: &[u8; 16]) -> Result<GameTold, AllocError> {
+        let look = audit_game(&self.files, &mut self.tables, Stamp(*stamp))?;
+        Ok(audit_told(stamp, &look))
     }
 }
 

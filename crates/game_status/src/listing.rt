@@ -6,7 +6,8 @@ ghost use Rattle.std.specs.List.Sorted.{IsStrictlySortedBy};
 ghost use Rattle.std.specs.Ordering.{nat_cmp};
 ghost use Rattle.hex.specs.Hex.{encode_lower};
 ghost use Rattle.system_io.specs.Disks.{AtFolder};
-ghost use Rattle.game_status.specs.Listings.{AddsStamps, AreListed, CannotList, CannotListOther, IsListing, IsOther, IsStamp, file_name, game_ending, listing_of};
+ghost use Rattle.game_status.specs.Listings.{AddsStamps, AreListed, CannotList, CannotListOther, IsStamp, file_name, listing_of};
+ghost use Rattle.game_status.specs.Inside.Listing.{ListsFolder, ListsOther};
 
 use std::alloc::{AllocError, Global};
 use std::collections::BTreeSet;
@@ -97,7 +98,7 @@ fn list_folder<'a, D: Disk>(
     path: &'a str,
     games: &mut BTreeSet<[u8; 16]>,
 ) -> Result<Folder<'a>, ReadFault>
-    ensures ok { IfOk result (λ f. (names : List (List ℕ)) × IsListing (D.facts disk.now) path.now names (listing_of f) × AddsStamps names game_ending games.old.keys games.new.keys) }
+    ensures ok { IfOk result (λ f. ListsFolder (D.facts disk.now) path.now (listing_of f) games.old.keys games.new.keys) }
     ensures cause { IsErrOf result ReadFault.Unreadable → (D.facts disk.now).fails (AtFolder path.now) }
 {
     let names = match disk.names(alloc, path) {
@@ -121,7 +122,7 @@ fn list_other<'a, D: Disk>(
     path: Option<&'a str>,
     games: &mut BTreeSet<[u8; 16]>,
 ) -> Result<Option<Folder<'a>>, ReadFault>
-    ensures ok { IfOk result (λ f. (names : List (List ℕ)) × IsOther (D.facts disk.now) (option_map (λ s. s.now) path.entry) names (option_map listing_of f) × AddsStamps names game_ending games.old.keys games.new.keys) }
+    ensures ok { IfOk result (λ f. ListsOther (D.facts disk.now) (option_map (λ s. s.now) path.entry) (option_map listing_of f) games.old.keys games.new.keys) }
     ensures cause { IsErrOf result ReadFault.Unreadable → CannotListOther (D.facts disk.now) (option_map (λ s. s.now) path.entry) }
 {
     match path {

@@ -2,20 +2,19 @@
 
 ghost use Rattle.std.specs.Prelude.{◌≡◌, ◌↔◌, option_map, IfOk, IsTrue};
 ghost use Rattle.game_status.specs.Entries.{game_told};
-ghost use Rattle.game_status.specs.Listings.{listing_of};
+ghost use Rattle.game_status.specs.Listings.{listing_of, other_listing};
 ghost use Rattle.game_status.specs.Statuses.{IsLook, IsLookAtBoth, IsLookBeside, TellsStatusTo};
 
 use crate::comparing::compare_kept;
 use crate::entry::EntryFault;
 use crate::listing::{Folder, list_folders};
 use crate::side::{Side, read_side};
-use crate::status_lines::{Look, tell_look};
-use crate::telling::{GameTeller, Mark, put_cut, tell_games};
+use crate::status_lines::{Look, told_by};
+use crate::telling::{GameTeller, GameTold, put_cut, tell_games};
 use arbiter_server::Game;
 use board_core::Position;
 use fen_text::laws::one_position;
 use fen_text::write;
-use line_teller::TellFault;
 use move_msg::Stamp;
 use std::alloc::{AllocError, Global};
 use system_io::{Disk, Output, WriteFault};
@@ -87,7 +86,7 @@ impl<'a, D: Disk> StatusTeller<'a, D> {
 
     /// What is told of the game with a stamp. The error comes only where memory is refused.
     pub(crate) fn look(&self, stamp: Stamp) -> Result<Look, AllocError>
-        ensures { IfOk result (IsLook (D.facts self.now.disk.now) (listing_of self.now.one.now) (option_map (λ f. listing_of f.now) self.now.other) stamp.0) }
+        ensures { IfOk result (IsLook (D.facts self.now.disk.now) (listing_of self.now.one.now) (other_listing self.now.other) stamp.0) }
     {
         match read_side(self.alloc, self.disk, self.one, stamp)? {
             Ok(one) => match self.other {
@@ -100,20 +99,14 @@ impl<'a, D: Disk> StatusTeller<'a, D> {
 }
 
 impl<'a, D: Disk> GameTeller for StatusTeller<'a, D> {
-    ghost use Rattle.std.specs.Prelude.{option_map};
-    ghost use Rattle.game_status.specs.Listings.{listing_of};
+    ghost use Rattle.game_status.specs.Listings.{listing_of, other_listing};
     ghost use Rattle.game_status.specs.Statuses.{IsStatus};
 
-    ghost tells = { λ t. IsStatus (D.facts t.disk.now) (listing_of t.one.now) (option_map (λ f. listing_of f.now) t.other) };
+    ghost tells = { λ t. IsStatus (D.facts t.disk.now) (listing_of t.one.now) (other_listing t.other) };
 
-    fn tell<W: Output>(&mut self, stamp: &[u8; 16], out: &mut W) -> Result<Mark, TellFault> {
-        let Ok(look) = self.look(Stamp(*stamp)) else {
-            return Err(TellFault::OutOfMemory);
-        };
-        match tell_look(out, stamp, &look) {
-            Ok(mark) => Ok(mark),
-            Err(_) => Err(TellFault::Io),
-        }
+    fn tell(&mut self, stamp: &[u8; 16]) -> Result<GameTold, AllocError> {
+        let look = self.look(Stamp(*stamp))?;
+        Ok(told_by(stamp, &look))
     }
 }
 

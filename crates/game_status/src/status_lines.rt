@@ -1,24 +1,23 @@
 //! The lines of games whose records are told.
 
-ghost use Rattle.std.specs.Prelude.{◌≡◌, ◌++◌, List, ℕ, IfOk, OnErr, OnOk, codes};
-ghost use Rattle.std.specs.Io.KnownBytes.{Appends};
+ghost use Rattle.std.specs.Prelude.{◌≡◌, ◌≤◌, ◌+◌, ◌++◌, codes, length};
+ghost use Rattle.std.specs.Fmt.{decimal};
+ghost use Rattle.arbiter_server.specs.ServedLines.{verdict_or_none};
 ghost use Rattle.hex.specs.Hex.{encode_lower};
-ghost use Rattle.line_teller.specs.ToldLines.{HasFront};
-ghost use Rattle.move_msg.specs.TextLines.{ended};
+ghost use Rattle.move_msg.specs.Records.{record_fault_name};
+ghost use Rattle.record_audit.specs.Findings.{refused_record};
 ghost use Rattle.game_status.specs.Comparisons.{compared_words};
 ghost use Rattle.game_status.specs.Entries.{fault_words};
 ghost use Rattle.game_status.specs.Statuses.{fault_line, kept_words, line_of_one, line_of_two, other_fault_line, told_by};
-ghost use Rattle.game_status.specs.Tellings.{WritesTold};
 
 use crate::comparing::{Compared, mark_of, mark_of_two};
 use crate::entry::EntryFault;
 use crate::side::Side;
-use crate::telling::Mark;
+use crate::telling::{GameTold, Mark};
 use arbiter_server::verdict_or_none;
-use arrayvec::ArrayVec;
-use move_msg::Record;
-use std::io::Write;
-use system_io::{Output, WriteFault};
+use board_core::Verdict;
+use line_teller::LineWords;
+use move_msg::{Record, RecordFault};
 
 /// What is told of a game.
 #[derive(Drop)]
@@ -33,185 +32,160 @@ pub enum Look {
     OtherAtFault(EntryFault),
 }
 
-/// Writes bytes.
-pub(crate) fn put<W: Write>(out: &mut W, bytes: &[u8]) -> Result<(), WriteFault>
-    ensures { OnOk result (Appends (W.contents out.old) (W.contents out.new) bytes.now) }
+/// A stamp in lower-case hexadecimal digits, and a space.
+pub(crate) fn stamped(stamp: &[u8; 16]) -> LineWords
+    ensures is { result ≡ encode_lower stamp.now ++ codes " " }
+    ensures size { length result ≡ 33 }
 {
-    match out.write_all(bytes) {
-        Ok(()) => Ok(()),
-        Err(_) => Err(WriteFault::Io),
+    let mut line = LineWords::new();
+    line.add_stamp(stamp);
+    line.add(" ");
+    line
+}
+
+/// Adds how many moves there are and a verdict.
+pub(crate) fn add_moves(line: &mut LineWords, count: usize, verdict: Option<Verdict>)
+    requires { length line.old ≤ 200 }
+    ensures is { line.new ≡ line.old ++ decimal count ++ codes " " ++ verdict_or_none verdict }
+    ensures size { length line.new ≤ length line.old + 51 }
+{
+    line.add_number(count);
+    line.add(" ");
+    line.add(verdict_or_none(verdict));
+}
+
+/// Adds how many moves are kept and the verdict.
+fn add_kept(line: &mut LineWords, kept: &Option<Record>)
+    requires { length line.old ≤ 200 }
+    ensures is { line.new ≡ line.old ++ kept_words kept.now }
+    ensures size { length line.new ≤ length line.old + 51 }
+{
+    match kept {
+        None => line.add("- none"),
+        Some(record) => add_moves(line, record.moves.as_slice().len(), record.verdict),
     }
 }
 
-/// Writes a stamp in lower-case hexadecimal digits, and a space.
-pub(crate) fn put_stamp<W: Write>(out: &mut W, stamp: &[u8; 16]) -> Result<(), WriteFault>
-    ensures { OnOk result (Appends (W.contents out.old) (W.contents out.new) (encode_lower stamp.now ++ codes " ")) }
+/// Adds what comes of comparing two records.
+pub(crate) fn add_compared(line: &mut LineWords, compared: Compared)
+    requires { length line.old ≤ 200 }
+    ensures is { line.new ≡ line.old ++ compared_words compared }
+    ensures size { length line.new ≤ length line.old + 48 }
 {
-    let mut digits = [0; 32];
-    hex::encode_to_slice(stamp, &mut digits).unwrap();
-    put(out, &digits)?;
-    put(out, b" ")
-}
-
-/// Writes how many moves are kept and the verdict, and a space.
-fn put_kept<W: Write>(out: &mut W, kept: &Option<Record>) -> Result<(), WriteFault>
-    ensures { OnOk result (Appends (W.contents out.old) (W.contents out.new) (kept_words kept.now ++ codes " ")) }
-{
-    let written = match kept {
-        None => out.write_all(b"- none "),
-        Some(record) => {
-            let count = record.moves.as_slice().len();
-            let verdict = verdict_or_none(record.verdict);
-            write!(out, "{count} {verdict} ")
-        }
-    };
-    match written {
-        Ok(()) => Ok(()),
-        Err(_) => Err(WriteFault::Io),
+    match compared {
+        Compared::Agree => line.add("agree"),
+        Compared::Behind(moves) => line.add_counted("behind ", moves),
+        Compared::Unopened => line.add("unopened"),
+        Compared::Differ(ply) => line.add_counted("differ ", ply),
     }
 }
 
-/// Writes what comes of comparing two records, and a space.
-fn put_compared<W: Write>(out: &mut W, compared: Compared) -> Result<(), WriteFault>
-    ensures { OnOk result (Appends (W.contents out.old) (W.contents out.new) (compared_words compared ++ codes " ")) }
+/// The name of what is wrong with a record's bytes.
+fn record_fault(fault: RecordFault) -> &'static str
+    ensures is { result.now ≡ record_fault_name fault }
+    ensures short { length result.now ≤ 16 }
 {
-    match write!(out, "{compared} ") {
-        Ok(()) => Ok(()),
-        Err(_) => Err(WriteFault::Io),
+    fault.name()
+}
+
+/// Adds the refusal of bytes that are no record.
+pub(crate) fn add_refused_record(line: &mut LineWords, fault: RecordFault)
+    requires { length line.old ≤ 200 }
+    ensures is { line.new ≡ line.old ++ refused_record fault }
+    ensures size { length line.new ≤ length line.old + 31 }
+{
+    line.add("refused record ");
+    line.add(record_fault(fault));
+}
+
+/// Adds what is at fault.
+fn add_fault(line: &mut LineWords, fault: EntryFault)
+    requires { length line.old ≤ 200 }
+    ensures { line.new ≡ line.old ++ fault_words fault }
+{
+    match fault {
+        EntryFault::NoGame => line.add("refused NoGame"),
+        EntryFault::BadGame(fault) => line.add_counted("refused line ", fault.line()),
+        EntryFault::Keeper => line.add("refused keeper"),
+        EntryFault::BadRecord(fault) => add_refused_record(line, fault),
+        EntryFault::OtherStamp => line.add("refused stamp"),
+        EntryFault::OtherGame => line.add("refused OtherGame"),
     }
 }
 
-/// Writes the name of a game, and ends the line.
-fn put_name<W: Write>(out: &mut W, name: &[u8]) -> Result<(), WriteFault>
-    ensures { OnOk result (Appends (W.contents out.old) (W.contents out.new) (ended name.now)) }
+/// The line of a game of one folder.
+fn line_of_one(stamp: &[u8; 16], side: &Side) -> LineWords
+    ensures { result ≡ line_of_one stamp.now side.now }
 {
-    put(out, name)?;
-    put(out, b"\n")
+    let mut line = stamped(stamp);
+    add_kept(&mut line, &side.kept);
+    line.add(" ");
+    line.add_bytes(side.game.name.as_slice());
+    line
 }
 
-/// Writes what is at fault, and ends the line.
-fn put_fault<W: Write>(out: &mut W, fault: EntryFault) -> Result<(), WriteFault>
-    ensures { OnOk result (Appends (W.contents out.old) (W.contents out.new) (ended (fault_words fault))) }
+/// Adds how many moves are kept and the verdict, and a space.
+fn add_column(line: &mut LineWords, kept: &Option<Record>)
+    requires { length line.old ≤ 200 }
+    ensures is { line.new ≡ line.old ++ kept_words kept.now ++ codes " " }
+    ensures size { length line.new ≤ length line.old + 52 }
 {
-    match writeln!(out, "{fault}") {
-        Ok(()) => Ok(()),
-        Err(_) => Err(WriteFault::Io),
-    }
+    add_kept(line, kept);
+    line.add(" ");
 }
 
-/// Writes the line of a game of one folder.
-fn put_one<W: Write>(out: &mut W, stamp: &[u8; 16], side: &Side) -> Result<(), WriteFault>
-    ensures { OnOk result (Appends (W.contents out.old) (W.contents out.new) (ended (line_of_one stamp.now side.now))) }
+/// A line of a game of two folders, to its name.
+fn columns(stamp: &[u8; 16], one: &Side, other: &Side, compared: Compared) -> LineWords
+    ensures is { result ≡ encode_lower stamp.now ++ codes " " ++ kept_words one.now.kept ++ codes " " ++ kept_words other.now.kept ++ codes " " ++ compared_words compared }
+    ensures size { length result ≤ 185 }
 {
-    put_stamp(out, stamp)?;
-    put_kept(out, &side.kept)?;
-    put_name(out, side.game.name.as_slice())
+    let mut line = stamped(stamp);
+    add_column(&mut line, &one.kept);
+    add_column(&mut line, &other.kept);
+    add_compared(&mut line, compared);
+    line
 }
 
-/// Writes what two folders keep of a game, and what comes of comparing it, each before a space.
-fn put_both<W: Write>(
-    out: &mut W,
-    one: &Side,
-    other: &Side,
-    compared: Compared,
-) -> Result<(), WriteFault>
-    ensures { OnOk result (Appends (W.contents out.old) (W.contents out.new) (kept_words one.now.kept ++ codes " " ++ kept_words other.now.kept ++ codes " " ++ compared_words compared ++ codes " ")) }
+/// The line of a game of two folders.
+fn line_of_two(stamp: &[u8; 16], one: &Side, other: &Side, compared: Compared) -> LineWords
+    ensures { result ≡ line_of_two stamp.now one.now other.now compared }
 {
-    put_kept(out, &one.kept)?;
-    put_kept(out, &other.kept)?;
-    put_compared(out, compared)
+    let mut line = columns(stamp, one, other, compared);
+    line.add(" ");
+    line.add_bytes(one.game.name.as_slice());
+    line
 }
 
-/// Writes the line of a game of two folders.
-fn put_two<W: Write>(
-    out: &mut W,
-    stamp: &[u8; 16],
-    one: &Side,
-    other: &Side,
-    compared: Compared,
-) -> Result<(), WriteFault>
-    ensures { OnOk result (Appends (W.contents out.old) (W.contents out.new) (ended (line_of_two stamp.now one.now other.now compared))) }
+/// The line of a game of which something is at fault.
+pub(crate) fn fault_line(stamp: &[u8; 16], fault: EntryFault) -> LineWords
+    ensures { result ≡ fault_line stamp.now fault }
 {
-    put_stamp(out, stamp)?;
-    put_both(out, one, other, compared)?;
-    put_name(out, one.game.name.as_slice())
+    let mut line = stamped(stamp);
+    add_fault(&mut line, fault);
+    line
 }
 
-/// Writes the line of a game of which something is at fault.
-pub(crate) fn put_fault_line<W: Write>(
-    out: &mut W,
-    stamp: &[u8; 16],
-    fault: EntryFault,
-) -> Result<(), WriteFault>
-    ensures { OnOk result (Appends (W.contents out.old) (W.contents out.new) (ended (fault_line stamp.now fault))) }
+/// The line of a game of which something is at fault in the second folder alone.
+pub(crate) fn other_fault_line(stamp: &[u8; 16], fault: EntryFault) -> LineWords
+    ensures { result ≡ other_fault_line stamp.now fault }
 {
-    put_stamp(out, stamp)?;
-    put_fault(out, fault)
+    let mut line = stamped(stamp);
+    line.add("other ");
+    add_fault(&mut line, fault);
+    line
 }
 
-/// Writes the line of a game of which something is at fault in the second folder alone.
-pub(crate) fn put_other_fault_line<W: Write>(
-    out: &mut W,
-    stamp: &[u8; 16],
-    fault: EntryFault,
-) -> Result<(), WriteFault>
-    ensures { OnOk result (Appends (W.contents out.old) (W.contents out.new) (ended (other_fault_line stamp.now fault))) }
-{
-    put_stamp(out, stamp)?;
-    put(out, b"other ")?;
-    put_fault(out, fault)
-}
-
-/// How a game is counted of which this is told.
-fn mark_for(look: &Look) -> Mark
-    ensures { (stamp : List ℕ) → result ≡ (told_by stamp look.now).mark }
+/// What is told of a game of which this is found.
+pub(crate) fn told_by(stamp: &[u8; 16], look: &Look) -> GameTold
+    ensures { result ≡ told_by stamp.now look.now }
 {
     match look {
-        Look::One(side) => mark_of(&side.kept),
-        Look::Both(side, _, compared) => mark_of_two(&side.kept, *compared),
-        Look::AtFault(_) => Mark::AtFault,
-        Look::OtherAtFault(_) => Mark::AtFault,
-    }
-}
-
-/// Writes the line of a game.
-fn put_line<W: Write>(out: &mut W, stamp: &[u8; 16], look: &Look) -> Result<(), WriteFault>
-    ensures { OnOk result (Appends (W.contents out.old) (W.contents out.new) (ended (told_by stamp.now look.now).words)) }
-{
-    match look {
-        Look::One(side) => put_one(out, stamp, side),
-        Look::Both(side, other, compared) => put_two(out, stamp, side, other, *compared),
-        Look::AtFault(fault) => put_fault_line(out, stamp, *fault),
-        Look::OtherAtFault(fault) => put_other_fault_line(out, stamp, *fault),
-    }
-}
-
-/// Writes the line of a game, and returns how it is counted.
-fn put_look<W: Write>(out: &mut W, stamp: &[u8; 16], look: &Look) -> Result<Mark, WriteFault>
-    ensures { IfOk result (WritesTold (told_by stamp.now look.now) (W.contents out.old) (W.contents out.new)) }
-{
-    match put_line(out, stamp, look) {
-        Ok(()) => Ok(mark_for(look)),
-        Err(fault) => Err(fault),
-    }
-}
-
-/// Writes the line of a game at once, and returns how it is counted. Where the writer fails, a front of it is written. No line has more than
-/// 512 bytes.
-pub(crate) fn tell_look<W: Output>(
-    out: &mut W,
-    stamp: &[u8; 16],
-    look: &Look,
-) -> Result<Mark, WriteFault>
-    ensures told { IfOk result (WritesTold (told_by stamp.now look.now) (W.contents out.old) (W.contents out.new)) }
-    ensures front { OnErr result (HasFront (W.contents out.old) (W.contents out.new) (ended (told_by stamp.now look.now).words)) }
-{
-    let mut line: ArrayVec<u8, 512> = ArrayVec::new();
-    match put_look(&mut line, stamp, look) {
-        Ok(mark) => match out.put(line.as_slice()) {
-            Ok(()) => Ok(mark),
-            Err(fault) => Err(fault),
-        },
-        Err(fault) => Err(fault),
+        Look::One(side) => GameTold::new(line_of_one(stamp, side), mark_of(&side.kept)),
+        Look::Both(side, other, compared) => GameTold::new(
+            line_of_two(stamp, side, other, *compared),
+            mark_of_two(&side.kept, *compared),
+        ),
+        Look::AtFault(fault) => GameTold::new(fault_line(stamp, *fault), Mark::AtFault),
+        Look::OtherAtFault(fault) => GameTold::new(other_fault_line(stamp, *fault), Mark::AtFault),
     }
 }

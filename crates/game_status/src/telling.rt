@@ -1,17 +1,16 @@
 //! Games that are told one by one, a line each, and counted.
 
-ghost use Rattle.std.specs.Prelude.{◌≡◌, ◌++◌, false, List, [], ℕ, IfOk, OnErr, OnOk, IsErrOf};
-ghost use Rattle.std.specs.Fmt.{decimal};
+ghost use Rattle.std.specs.Prelude.{◌≡◌, ◌≤◌, ◌++◌, false, List, [], ℕ, IfOk, OnErr, IsErrOf, length};
 ghost use Rattle.std.specs.Io.KnownBytes.{Appends};
 ghost use Rattle.move_msg.specs.TextLines.{ended};
 ghost use Rattle.system_io.specs.Outputs.{WritesFront};
 ghost use Rattle.line_teller.specs.ToldLines.{HasFront, cut_words};
-ghost use Rattle.game_status.specs.Tellings.{CutsGame, GameTold, GamesTo, TellsNoMore, WritesGame, are_well, counts_words, differ_words, sums_of, sums_words};
+ghost use Rattle.game_status.specs.Tellings.{CutsGame, GamesTo, TellsNoMore, WritesGame, are_well, counts_words, differ_words, sums_of, sums_words};
+ghost use Rattle.game_status.specs.declared.telling.GameTold.{GameTold};
 ghost use Rattle.game_status.specs.Inside.Counting.{AddsMark, AreFew, CutsSome, TellsEach, TellsSome};
 
-use arrayvec::ArrayVec;
-use line_teller::TellFault;
-use std::io::Write;
+use line_teller::{LineWords, TellFault, tell_cut};
+use std::alloc::AllocError;
 use system_io::{Output, ReadFault, WriteFault};
 
 /// How a game is counted.
@@ -25,6 +24,24 @@ pub enum Mark {
     AtFault,
     /// Its two records differ.
     Differs,
+}
+
+/// What is told of a game, and how it is counted.
+#[derive(Drop)]
+pub struct GameTold {
+    /// The words of its line.
+    pub words: LineWords,
+    /// How it is counted.
+    pub mark: Mark,
+}
+
+impl GameTold {
+    /// These words, counted so.
+    pub(crate) fn new(words: LineWords, mark: Mark) -> GameTold
+        ensures { result ≡ record { words = words; mark = mark } }
+    {
+        GameTold { words, mark }
+    }
 }
 
 /// How many games were told, and how many of them are marked so.
@@ -92,13 +109,33 @@ pub trait GameTeller {
     /// It may tell this of the game with the stamp.
     ghost tells: { Self → List ℕ → GameTold → Type 0 };
 
-    /// Writes the line of the game with this stamp, and returns how the game is counted. What is told later could have been told
-    /// before. Nothing of the line is written where memory is refused. After `Io` a front of it is, and nothing else.
-    fn tell<W: Output>(&mut self, stamp: &[u8; 16], out: &mut W) -> Result<Mark, TellFault>
-        ensures told { IfOk result (WritesGame (tells self.old stamp.now) (W.contents out.old) (W.contents out.new)) }
-        ensures memory { IsErrOf result TellFault.OutOfMemory → W.contents out.new ≡ W.contents out.old }
-        ensures front { IsErrOf result TellFault.Io → CutsGame (tells self.old stamp.now) (W.contents out.old) (W.contents out.new) }
+    /// What is told of the game with this stamp. The error comes only where memory is refused. What is told later could have been told
+    /// before.
+    fn tell(&mut self, stamp: &[u8; 16]) -> Result<GameTold, AllocError>
+        ensures told { IfOk result (tells self.old stamp.now) }
         ensures same { TellsNoMore (tells self.old) (tells self.new) };
+}
+
+/// Writes the line of the game with this stamp, and returns how the game is counted. Nothing of the line is written where memory is
+/// refused. After `Io` a front of it is, and nothing else; it comes only where the writer refused a write.
+fn tell_game<T: GameTeller, W: Output>(
+    teller: &mut T,
+    stamp: &[u8; 16],
+    out: &mut W,
+) -> Result<Mark, TellFault>
+    ensures told { IfOk result (WritesGame (T.tells teller.old stamp.now) (W.contents out.old) (W.contents out.new)) }
+    ensures memory { IsErrOf result TellFault.OutOfMemory → W.contents out.new ≡ W.contents out.old }
+    ensures front { IsErrOf result TellFault.Io → CutsGame (T.tells teller.old stamp.now) (W.contents out.old) (W.contents out.new) }
+    ensures cause { IsErrOf result TellFault.Io → (W.facts out.old).refuses }
+    ensures same { TellsNoMore (T.tells teller.old) (T.tells teller.new) }
+{
+    let Ok(GameTold { words, mark }) = teller.tell(stamp) else {
+        return Err(TellFault::OutOfMemory);
+    };
+    match words.put(out) {
+        Ok(()) => Ok(mark),
+        Err(_) => Err(TellFault::Io),
+    }
 }
 
 /// Tells the games with these stamps in turn, and counts them.
@@ -113,7 +150,7 @@ fn tell_each<T: GameTeller, W: Output>(
 {
     let mut sums = Sums::none();
     for stamp in stamps {
-        match teller.tell(stamp, out) {
+        match tell_game(teller, stamp, out) {
             Ok(mark) => sums = sums.with(mark),
             Err(fault) => return Err(fault),
         }
@@ -121,67 +158,45 @@ fn tell_each<T: GameTeller, W: Output>(
     Ok(sums)
 }
 
-/// Writes a number, and words after it.
-fn put_number<W: Write>(out: &mut W, number: u64, words: &str) -> Result<(), WriteFault>
-    ensures { OnOk result (Appends (W.contents out.old) (W.contents out.new) (decimal number ++ words.now)) }
+/// The first three sums.
+fn counts_line(sums: &Sums) -> LineWords
+    ensures is { result ≡ counts_words sums.now }
+    ensures size { length result ≤ 160 }
 {
-    match write!(out, "{number}{words}") {
-        Ok(()) => Ok(()),
-        Err(_) => Err(WriteFault::Io),
+    let mut line = LineWords::new();
+    line.add_number(sums.games);
+    line.add_counted(" games, ", sums.ruled);
+    line.add_counted(" with a verdict, ", sums.faults);
+    line.add(" at fault");
+    line
+}
+
+/// Adds how many differ, where two records of each game are compared.
+fn add_differ(line: &mut LineWords, differ: u64, compares: bool)
+    requires { length line.old ≤ 160 }
+    ensures { line.new ≡ line.old ++ differ_words compares differ }
+{
+    if compares {
+        line.add_counted(", ", differ);
+        line.add(" differ");
     }
 }
 
-/// Writes the first three sums.
-fn put_counts<W: Write>(out: &mut W, sums: &Sums) -> Result<(), WriteFault>
-    ensures { OnOk result (Appends (W.contents out.old) (W.contents out.new) (counts_words sums.now)) }
+/// The line of the sums.
+fn sums_line(sums: &Sums, compares: bool) -> LineWords
+    ensures { result ≡ sums_words compares sums.now }
 {
-    put_number(out, sums.games, " games, ")?;
-    put_number(out, sums.ruled, " with a verdict, ")?;
-    put_number(out, sums.faults, " at fault")
+    let mut line = counts_line(sums);
+    add_differ(&mut line, sums.differ, compares);
+    line
 }
 
-/// Writes how many differ, where two records of each game are compared, and ends the line.
-fn put_differ<W: Write>(out: &mut W, differ: u64, compares: bool) -> Result<(), WriteFault>
-    ensures { OnOk result (Appends (W.contents out.old) (W.contents out.new) (ended (differ_words compares differ))) }
-{
-    let written = if compares {
-        writeln!(out, ", {differ} differ")
-    } else {
-        out.write_all(b"\n")
-    };
-    match written {
-        Ok(()) => Ok(()),
-        Err(_) => Err(WriteFault::Io),
-    }
-}
-
-/// Writes the line of the sums.
-fn put_sums<W: Write>(out: &mut W, sums: &Sums, compares: bool) -> Result<(), WriteFault>
-    ensures { OnOk result (Appends (W.contents out.old) (W.contents out.new) (ended (sums_words compares sums.now))) }
-{
-    put_counts(out, sums)?;
-    put_differ(out, sums.differ, compares)
-}
-
-/// Writes the line of the sums at once. Where the writer fails, a front of it is written. It has at most 128 bytes.
+/// Writes the line of the sums at once. The error is that of the writer, which refused a write; a front of it is written then.
 fn tell_sums<W: Output>(out: &mut W, sums: &Sums, compares: bool) -> Result<(), WriteFault>
-    ensures { WritesFront (W.contents out.old) (W.contents out.new) (ended (sums_words compares sums.now)) result }
+    ensures front { WritesFront (W.contents out.old) (W.contents out.new) (ended (sums_words compares sums.now)) result }
+    ensures cause { OnErr result (W.facts out.old).refuses }
 {
-    let mut line: ArrayVec<u8, 128> = ArrayVec::new();
-    match put_sums(&mut line, sums, compares) {
-        Ok(()) => out.put(line.as_slice()),
-        Err(fault) => Err(fault),
-    }
-}
-
-/// The line that says why no more is told, with its line feed.
-fn cut_line(fault: ReadFault) -> &'static str
-    ensures { result.now ≡ ended (cut_words fault) }
-{
-    match fault {
-        ReadFault::Unreadable => "refused files\n",
-        ReadFault::OutOfMemory => "refused memory\n",
-    }
+    sums_line(sums, compares).put(out)
 }
 
 /// Writes why no more is told, and returns that not all is. Where the writer fails, a front of that is written.
@@ -189,7 +204,7 @@ pub(crate) fn put_cut<W: Output>(out: &mut W, fault: ReadFault) -> Result<bool, 
     ensures cut { IfOk result (λ done. (done ≡ false) × Appends (W.contents out.old) (W.contents out.new) (ended (cut_words fault))) }
     ensures front { OnErr result (HasFront (W.contents out.old) (W.contents out.new) (ended (cut_words fault))) }
 {
-    match out.put(cut_line(fault).as_bytes()) {
+    match tell_cut(out, fault) {
         Ok(()) => Ok(false),
         Err(fault) => Err(fault),
     }

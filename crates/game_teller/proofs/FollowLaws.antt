@@ -17,7 +17,7 @@ use Rattle.judge_core.specs.Standings.{IsAt, Reached}
 use Rattle.judge_core.proofs.Plies.{goes_on}
 use Rattle.judge_core.proofs.WholeGames.{is_first_at_end, is_going_at_end}
 use Rattle.judge_core.specs.Tables.{Holding, Tables}
-use Rattle.line_teller.specs.ToldLines.{AreRead, AsksInTurn, AsksOne, CutsAfter, HasFront, TellsInTurn, refused_files, refused_memory}
+use Rattle.line_teller.specs.ToldLines.{AreRead, AsksInTurn, AsksOne, CutsAfter, HasFront, TellsInTurn, refused_files, refused_memory, stops_by}
 use Rattle.line_teller.proofs.TellLaws.{are_read_more}
 use Rattle.move_msg.specs.TextLines.{ended, text_of}
 use Rattle.move_msg.proofs.LineLaws.{more_lines}
@@ -26,6 +26,7 @@ use Rattle.system_io.specs.declared.reading.ReadFault.{ReadFault}
 use Rattle.system_io.specs.declared.reading.ReadFault.TheVariants as read
 use Rattle.system_io.specs.LineReaders.{LineFacts, ReadsLine}
 use Rattle.system_io.specs.Outputs.{OutputFacts}
+use Rattle.game_teller.specs.declared.following.Course.{Course}
 use Rattle.game_teller.specs.declared.lines.Stop.{Stop}
 use Rattle.game_teller.specs.declared.lines.Stop.TheVariants as stop
 use Rattle.game_teller.specs.Plies.{ply_words, stop_words}
@@ -220,21 +221,23 @@ module _ (rules : Rules) where
   -- at the line of the start
   pub start_cut : (Stops : ReadFault → Type 0) (s : Reached) (left old new : Option (List ℕ)) → IsAt rules [] s → (v : Option Verdict) × (v ≡ verdict_after rules []) × HasFront old new (ended (ply_words 0 v s.position)) → CutsGame rules Stops left old new
   unfolding start_told
-  start_cut Stops s left old new at (v, is, front) = AtPly left [] [] (ply_words 0 v s.position) (start_told rules s v left None None at is tt).has front
+  start_cut Stops s left old new at (v, is, front) =
+      let told = start_told rules s v left None None at is tt in
+      AtPly left [] [] (ply_words 0 v s.position) told.has told.before front
 
   unwritten : (count : ℕ) (left now old new : Option (List ℕ)) (s : Reached) → FollowedSoFar rules count left now old new s → FollowedSoFar rules count left now None None s
   unwritten count left now old new s h = record { moves = h.moves; told = h.told; has = h.has; at = h.at; going = h.going; written = tt; count_is = h.count_is }
 
   -- at what came of a line
-  pub next_cut : (Now Stops : ReadFault → Type 0) (tables : Tables) (delay : ℕ) → rules.tables ≡ tables → rules.delay ≡ delay → ((fault : ReadFault) → Now fault → Stops fault) → (count : ℕ) (left now next old mid new : Option (List ℕ)) (s t : Reached) → FollowedSoFar rules count left now old mid s → StepCuts Now tables delay count now next s t mid new → CutsGame rules Stops left old new
+  pub next_cut : (input : LineFacts) (Stops : ReadFault → Type 0) (course : Course) → rules.tables ≡ course.set.tables → rules.delay ≡ course.delay → ((fault : ReadFault) → stops_by input fault → Stops fault) → (count : ℕ) (left next old mid new : Option (List ℕ)) (t : Reached) → FollowedSoFar rules count left input.left old mid course.standing → StepCuts input next course count t mid new → CutsGame rules Stops left old new
   unfolding told_more unwritten
-  next_cut Now Stops tables delay by_tables by_delay back count left now next old mid new s t h (inl (line, read, inl (turned, (v, verdict, front)))) =
-      let more = told_more rules tables delay by_tables by_delay count left now next None None None s t v (unwritten count left now old mid s h) (line, read, turned, (verdict, tt)) in
-      AtPly next more.moves h.told (ply_words (count + 1) v t.position) more.has (after old mid new h.told (ply_words (count + 1) v t.position) h.written front)
-  next_cut Now Stops tables delay by_tables by_delay back count left now next old mid new s t h (inl (line, read, inr (why, bad, front))) =
-      AtStop now next h.moves h.told h.has h.going why (stops_at rules Stops count left now old s tables by_tables next mid h line why read bad) (after old mid new h.told (stop_words why) h.written front)
-  next_cut Now Stops tables delay by_tables by_delay back count left now next old mid new s t h (inr (fault, is, front)) =
-      AtStop now next h.moves h.told h.has h.going (stop_by fault) (stops_by_fault rules Stops count left now old s next mid h fault (back fault is)) (after old mid new h.told (stop_words (stop_by fault)) h.written front)
+  next_cut input Stops course by_tables by_delay back count left next old mid new t h (inl (line, read, inl (turned, (v, verdict, front)))) =
+      let more = told_more rules course.set.tables course.delay by_tables by_delay count left input.left next None None None course.standing t v (unwritten count left input.left old mid course.standing h) (line, read, turned, (verdict, tt)) in
+      AtPly next more.moves h.told (ply_words (count + 1) v t.position) more.has more.before (after old mid new h.told (ply_words (count + 1) v t.position) h.written front)
+  next_cut input Stops course by_tables by_delay back count left next old mid new t h (inl (line, read, inr (why, bad, front))) =
+      AtStop input.left next h.moves h.told h.has h.going why (stops_at rules Stops count left input.left old course.standing course.set.tables by_tables next mid h line why read bad) (after old mid new h.told (stop_words why) h.written front)
+  next_cut input Stops course by_tables by_delay back count left next old mid new t h (inr (fault, is, front)) =
+      AtStop input.left next h.moves h.told h.has h.going (stop_by fault) (stops_by_fault rules Stops count left input.left old course.standing next mid h fault (back fault is)) (after old mid new h.told (stop_words (stop_by fault)) h.written front)
 
   -- so many moves were read that no more are counted
   pub many_cut : (Stops : ReadFault → Type 0) (count : ℕ) (left now old mid new : Option (List ℕ)) (s : Reached) → FollowedSoFar rules count left now old mid s → 2 ^ 64 - 1 ≤ count → HasFront mid new (ended (stop_words stop.Unread)) → CutsGame rules Stops left old new
@@ -258,7 +261,7 @@ follows_so rules Now Stops left old new done back (Stopped now after moves told 
 follows_so rules Now Stops left old new done back (NotBegun lists wrote is) = NotBegun lists wrote is
 
 cuts_so : (rules : Rules) (Now Stops : ReadFault → Type 0) (left old new : Option (List ℕ)) → ((fault : ReadFault) → Now fault → Stops fault) → CutsGame rules Now left old new → CutsGame rules Stops left old new
-cuts_so rules Now Stops left old new back (AtPly now moves told last has cut) = AtPly now moves told last has cut
+cuts_so rules Now Stops left old new back (AtPly now moves told last has before cut) = AtPly now moves told last has before cut
 cuts_so rules Now Stops left old new back (AtStop now after moves told has out why at cut) = AtStop now after moves told has out why (stops_so rules Now Stops back now after moves why at) cut
 cuts_so rules Now Stops left old new back (AtBegin lists front) = AtBegin lists front
 

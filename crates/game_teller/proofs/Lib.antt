@@ -1,2 +1,3 @@
 pub mod FollowLaws
 pub mod AgreeLaws
+pub mod LineLaws

@@ -7,7 +7,8 @@ use Rattle.board_core.specs.declared.verdict.Verdict.{Verdict}
 use Rattle.fen_text.specs.Coordinates.{AreMoves, SpellsMove}
 use Rattle.judge_core.specs.Answers.{ListsMovesForVerdict}
 use Rattle.judge_core.specs.declared.game.GameOutcome.TheVariants as outcome
-use Rattle.judge_core.specs.Games.{IsOutcome, Rules, position_after_all, verdict_after}
+use Rattle.judge_core.specs.Games.{IsOutcome, IsUnruled, Rules, position_after_all, verdict_after}
+use Rattle.judge_core.specs.Tables.{Tables}
 use Rattle.line_teller.specs.ToldLines.{AreRead, CutsAfter, HasFront, TellsInTurn}
 use Rattle.move_msg.specs.TextLines.{ended, text_of}
 use Rattle.system_io.specs.declared.output.WriteFault.{WriteFault}
@@ -18,6 +19,10 @@ use Rattle.system_io.specs.Outputs.{OutputFacts}
 use Rattle.game_teller.specs.declared.lines.Stop.{Stop}
 use Rattle.game_teller.specs.declared.lines.Stop.TheVariants as stop
 use Rattle.game_teller.specs.Plies.{ply_words, stop_words}
+
+-- the rules of the game from this start by these tables
+abbrev pub rules_by : Parts → Tables → ℕ → Rules
+rules_by start tables delay = record { start = start; tables = tables; delay = delay }
 
 -- ---- plies
 
@@ -56,10 +61,11 @@ pub data Follows (rules : Rules) (Stops : ReadFault → Type 0) (left old new : 
   Stopped : (now after : Option (List ℕ)) (moves : List Moves) (told : List (List ℕ)) → HasFollowed rules left now moves told → IsOutcome rules moves outcome.Going → (why : Stop) → StopsAt rules Stops now after moves why → Appends old new (text_of (told ++ stop_words why ∷ [])) → done ≡ false → Follows rules Stops left old new done
   NotBegun : ListsMovesForVerdict rules.tables rules.start → Appends old new (ended (stop_words stop.OutOfMemory)) → done ≡ false → Follows rules Stops left old new done
 
--- What a writer that failed leaves: the lines of the plies so far, of the last of which a front; or these whole, and a front of the line that
--- says why no more is told; or a front of that line alone, where memory was refused for the start.
+-- What a writer that failed leaves: the lines of the plies so far, of the last of which a front, where no ply before it has a verdict; or
+-- these whole, where none has one, and a front of the line that says why no more is told; or a front of that line alone, where memory was
+-- refused for the start.
 pub data CutsGame (rules : Rules) (Stops : ReadFault → Type 0) (left old new : Option (List ℕ)) : Type 0 where
-  AtPly : (now : Option (List ℕ)) (moves : List Moves) (told : List (List ℕ)) (last : List ℕ) → HasFollowed rules left now moves (told ++ last ∷ []) → CutsAfter told last old new → CutsGame rules Stops left old new
+  AtPly : (now : Option (List ℕ)) (moves : List Moves) (told : List (List ℕ)) (last : List ℕ) → HasFollowed rules left now moves (told ++ last ∷ []) → IsUnruled rules moves (length moves) → CutsAfter told last old new → CutsGame rules Stops left old new
   AtStop : (now after : Option (List ℕ)) (moves : List Moves) (told : List (List ℕ)) → HasFollowed rules left now moves told → IsOutcome rules moves outcome.Going → (why : Stop) → StopsAt rules Stops now after moves why → CutsAfter told (stop_words why) old new → CutsGame rules Stops left old new
   AtBegin : ListsMovesForVerdict rules.tables rules.start → HasFront old new (ended (stop_words stop.OutOfMemory)) → CutsGame rules Stops left old new
 

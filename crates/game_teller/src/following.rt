@@ -9,7 +9,7 @@ ghost use Rattle.judge_core.specs.Games.{Rules};
 ghost use Rattle.line_teller.specs.ToldLines.{TellsInTurn, stops_by};
 ghost use Rattle.system_io.specs.declared.reading.ReadFault.{ReadFault};
 ghost use Rattle.game_teller.specs.Agreements.{AgreesIfKnown};
-ghost use Rattle.game_teller.specs.Followings.{FollowsInTurn, FollowsTo};
+ghost use Rattle.game_teller.specs.Followings.{FollowsInTurn, FollowsTo, rules_by};
 ghost use Rattle.game_teller.specs.Inside.Steps.{CutsPly, HasBegun, IsNoNext, LineCuts, LineSteps, PutsPly, StepCuts, Steps, Turns, stop_by};
 
 use crate::lines::{Stop, put_ply_now, put_stop};
@@ -22,7 +22,7 @@ use system_io::{LineReader, Output, ReadFault, WriteFault};
 
 /// A game that is followed.
 #[derive(Drop)]
-struct Course<'a> {
+pub(crate) struct Course<'a> {
     /// The allocator.
     alloc: Global,
     /// The tables.
@@ -146,8 +146,8 @@ impl<'a> Course<'a> {
         requires more { number < 2 ^ 64 - 1 }
         // No line is awaited before what was told has gone out.
         requires gone { (W.facts out.old).gone }
-        ensures steps { IfOk result (Steps (stops_by (L.facts reader.old)) self.old.set.tables self.old.delay number (L.facts reader.old).left (L.facts reader.new).left self.old.standing self.new.standing (W.contents out.old) (W.contents out.new)) }
-        ensures front { OnErr result (StepCuts (stops_by (L.facts reader.old)) self.old.set.tables self.old.delay number (L.facts reader.old).left (L.facts reader.new).left self.old.standing self.new.standing (W.contents out.old) (W.contents out.new)) }
+        ensures steps { IfOk result (Steps (L.facts reader.old) (L.facts reader.new).left self.old number self.new.standing (W.contents out.old) (W.contents out.new)) }
+        ensures front { OnErr result (StepCuts (L.facts reader.old) (L.facts reader.new).left self.old number self.new.standing (W.contents out.old) (W.contents out.new)) }
         ensures gone { IfOk result (λ step. (v : Option Verdict) → step ≡ Step.Told v → (W.facts out.new).gone) }
         ensures reader { (fault : ReadFault) → stops_by (L.facts reader.new) fault → stops_by (L.facts reader.old) fault }
         ensures set { self.new.set ≡ self.old.set }
@@ -203,7 +203,7 @@ fn follow_moves<L: LineReader, W: Output>(
     out: &mut W,
 ) -> Result<bool, WriteFault>
     requires { delay ≤ most_delay }
-    ensures follows { FollowsTo (record { start = start.now; tables = set.entry.tables; delay = delay }) (stops_by (L.facts reader.old)) (L.facts reader.old).left (W.contents out.old) (W.contents out.new) result }
+    ensures follows { FollowsTo (rules_by start.now set.entry.tables delay) (stops_by (L.facts reader.old)) (L.facts reader.old).left (W.contents out.old) (W.contents out.new) result }
     ensures turns { OnOk result (FollowsInTurn L.facts W.facts W.contents reader.old out.old out.new) }
 {
     let standing = match set.begin(alloc, start) {
@@ -245,11 +245,12 @@ pub fn follow_game<L: LineReader, W: Output>(
     out: &mut W,
 ) -> Result<bool, WriteFault>
     requires { delay ≤ most_delay }
-    // Each ply is told up to the first verdict. Where the writer fails, the lines before are written whole, and a front of the last.
-    ensures follows { FollowsTo (record { start = start.now; tables = set.entry.tables; delay = delay }) (stops_by (L.facts reader.old)) (L.facts reader.old).left (W.contents out.old) (W.contents out.new) result }
+    // Each ply is told up to the first verdict. Where the writer fails, the lines before are written whole, none of which tells a verdict,
+    // and a front of the last.
+    ensures follows { FollowsTo (rules_by start.now set.entry.tables delay) (stops_by (L.facts reader.old)) (L.facts reader.old).left (W.contents out.old) (W.contents out.new) result }
 
     // The last line is that of the outcome of the whole game.
-    ensures as_game { IfOk result (λ done. AgreesIfKnown (record { start = start.now; tables = set.entry.tables; delay = delay }) (L.facts reader.old).left (W.contents out.old) (W.contents out.new)) }
+    ensures as_game { IfOk result (λ done. AgreesIfKnown (rules_by start.now set.entry.tables delay) (L.facts reader.old).left (W.contents out.old) (W.contents out.new)) }
 
     // Each line has gone out before the next move is awaited.
     ensures turns { OnOk result (FollowsInTurn L.facts W.facts W.contents reader.old out.old out.new) }

@@ -1,17 +1,16 @@
 //! The lines of a game that is told ply by ply.
 
-ghost use Rattle.std.specs.Prelude.{◌≡◌, IfSome, OnOk};
-ghost use Rattle.std.specs.Io.KnownBytes.{Appends};
+ghost use Rattle.std.specs.Prelude.{◌≡◌, ◌≤◌, ◌++◌, OnErr, OnOk, length};
+ghost use Rattle.std.specs.Fmt.{decimal};
+ghost use Rattle.judge_core.specs.Words.{verdict_words};
 ghost use Rattle.move_msg.specs.TextLines.{ended};
 ghost use Rattle.game_teller.specs.Plies.{ply_words, stop_words};
 ghost use Rattle.system_io.specs.Outputs.{WritesFront};
 
-use arrayvec::ArrayVec;
 use board_core::{Position, Verdict};
 use fen_text::write;
 use judge_core::verdict_or_open;
-use std::fmt;
-use std::io::Write;
+use line_teller::LineWords;
 use system_io::{Output, WriteFault};
 
 /// Why no more is told.
@@ -27,83 +26,55 @@ pub enum Stop {
     OutOfMemory,
 }
 
-impl fmt::Display for Stop {
-    ghost use Rattle.std.specs.Prelude.{Some};
-    ghost use Rattle.game_teller.specs.Plies.{stop_words};
-
-    ghost output = { λ s. Some (stop_words s) };
-
-    fn fmt<W: fmt::Write>(&self, f: &mut fmt::Formatter<W>) -> fmt::Result {
-        match self {
-            Stop::NotAMove(place) => write!(f, "refused move {place}"),
-            Stop::Illegal(place) => write!(f, "illegal {place}"),
-            Stop::Unread => f.write_str("refused files"),
-            Stop::OutOfMemory => f.write_str("refused memory"),
-        }
-    }
-}
-
-/// Writes the line that says why no more is told.
-fn put_stop_line<W: Write>(out: &mut W, stop: Stop) -> Result<(), WriteFault>
-    ensures { OnOk result (Appends (W.contents out.old) (W.contents out.new) (ended (stop_words stop))) }
+/// Words and a number.
+fn numbered(words: &str, number: usize) -> LineWords
+    requires { length words.now ≤ 40 }
+    ensures { result ≡ words.now ++ decimal number }
 {
-    match writeln!(out, "{stop}") {
-        Ok(()) => Ok(()),
-        Err(_) => Err(WriteFault::Io),
-    }
+    let mut line = LineWords::new();
+    line.add_counted(words, number);
+    line
 }
 
-/// The text of that line; none where it has more than 64 bytes, which none has.
-fn stop_text(stop: Stop) -> Option<ArrayVec<u8, 64>>
-    ensures { IfSome result (λ t. t.items ≡ ended (stop_words stop)) }
+/// The line that says why no more is told.
+fn stop_line(stop: Stop) -> LineWords
+    ensures { result ≡ stop_words stop }
 {
-    let mut text = ArrayVec::new();
-    match put_stop_line(&mut text, stop) {
-        Ok(()) => Some(text),
-        Err(_) => None,
+    match stop {
+        Stop::NotAMove(place) => numbered("refused move ", place),
+        Stop::Illegal(place) => numbered("illegal ", place),
+        Stop::Unread => LineWords::of("refused files"),
+        Stop::OutOfMemory => LineWords::of("refused memory"),
     }
 }
 
-/// Writes why no more is told. Where the writer fails, a front of that is written.
+/// Writes why no more is told. The error is that of the writer, which refused a write; a front of that is written then.
 pub(crate) fn put_stop<W: Output>(out: &mut W, stop: Stop) -> Result<(), WriteFault>
-    ensures { WritesFront (W.contents out.old) (W.contents out.new) (ended (stop_words stop)) result }
+    ensures front { WritesFront (W.contents out.old) (W.contents out.new) (ended (stop_words stop)) result }
+    ensures cause { OnErr result (W.facts out.old).refuses }
 {
-    match stop_text(stop) {
-        Some(text) => out.put(text.as_slice()),
-        None => Err(WriteFault::Io),
-    }
+    stop_line(stop).put(out)
 }
 
-/// Writes a ply: its number, its verdict or `open`, and its position.
-fn put_ply<W: Write>(
-    out: &mut W,
-    number: usize,
-    verdict: Option<Verdict>,
-    position: &Position,
-) -> Result<(), WriteFault>
-    ensures { OnOk result (Appends (W.contents out.old) (W.contents out.new) (ended (ply_words number verdict position.now))) }
+/// The name of a verdict, or `open`.
+fn verdict_word(verdict: Option<Verdict>) -> &'static str
+    ensures is { result.now ≡ verdict_words verdict }
+    ensures short { length result.now ≤ 10 }
 {
-    let word = verdict_or_open(verdict);
-    let text = write(position);
-    match writeln!(out, "{number} {word} {}", text.as_str()) {
-        Ok(()) => Ok(()),
-        Err(_) => Err(WriteFault::Io),
-    }
+    verdict_or_open(verdict)
 }
 
-/// The text of a ply; none where it has more than 256 bytes, which none has.
-fn ply_text(
-    number: usize,
-    verdict: Option<Verdict>,
-    position: &Position,
-) -> Option<ArrayVec<u8, 256>>
-    ensures { IfSome result (λ t. t.items ≡ ended (ply_words number verdict position.now)) }
+/// The line of a ply: its number, its verdict or `open`, and its position.
+fn ply_line(number: usize, verdict: Option<Verdict>, position: &Position) -> LineWords
+    ensures { result ≡ ply_words number verdict position.now }
 {
-    let mut text = ArrayVec::new();
-    match put_ply(&mut text, number, verdict, position) {
-        Ok(()) => Some(text),
-        Err(_) => None,
-    }
+    let mut line = LineWords::new();
+    line.add_number(number);
+    line.add(" ");
+    line.add(verdict_word(verdict));
+    line.add(" ");
+    line.add(write(position).as_str());
+    line
 }
 
 /// Writes a ply, and flushes it. Where the writer fails, a front of its line is written.
@@ -116,10 +87,7 @@ pub(crate) fn put_ply_now<W: Output>(
     ensures front { WritesFront (W.contents out.old) (W.contents out.new) (ended (ply_words number verdict position.now)) result }
     ensures gone { OnOk result (W.facts out.new).gone }
 {
-    let Some(text) = ply_text(number, verdict, position) else {
-        return Err(WriteFault::Io);
-    };
-    match out.put(text.as_slice()) {
+    match ply_line(number, verdict, position).put(out) {
         Ok(()) => out.flush_all(),
         Err(fault) => Err(fault),
     }

@@ -89,8 +89,8 @@ told_cut Tells TakesMemory Now Fails count input now next old mid new done h bac
 told_cut Tells TakesMemory Now Fails count input now next old mid new done h back (inr (words, is, wrote)) = CutShort h.told now words h.has (cut_after Now Fails h.told words back is) (more_lines old mid new (words_told h.told) words h.written wrote) refl
 
 -- the line that says why no more is read was written
-pub step_cut : (Tells : List ℕ → LineTold → Type 0) (TakesMemory : List ℕ → Type 0) (Fails : ReadFault → Type 0) (input left old new : Option (List ℕ)) (s : Step) (words : List ℕ) → s ≡ step.Cut → IsCut Fails [] words → Appends old new (ended words) → StepTells Tells TakesMemory Fails input left old new s
-step_cut Tells TakesMemory Fails input left old new s words e is wrote = subst (StepTells Tells TakesMemory Fails input left old new) (sym e) (inr (words, is, wrote))
+pub step_cut : (Tells : List ℕ → LineTold → Type 0) (TakesMemory : List ℕ → Type 0) (input : LineFacts) (left old new : Option (List ℕ)) (s : Step) (words : List ℕ) → s ≡ step.Cut → IsCut (stops_by input) [] words → Appends old new (ended words) → StepTells Tells TakesMemory input left old new s
+step_cut Tells TakesMemory input left old new s words e is wrote = subst (StepTells Tells TakesMemory input left old new) (sym e) (inr (words, is, wrote))
 
 -- what a reader's fault says stops the input, and is told by its words
 pub cut_by : (input : LineFacts) (fault : ReadFault) → stops_by input fault → IsCut (stops_by input) [] (cut_words fault)
@@ -115,10 +115,10 @@ front_of_same old mid new text same h = subst (λ o. HasFront o new text) same h
 pub cuts_between : (Tells : List ℕ → LineTold → Type 0) (TakesMemory : List ℕ → Type 0) (Fails : ReadFault → Type 0) (count : ℕ) (input now old mid new : Option (List ℕ)) (done : Bool) → ToldSoFar Tells count input now old mid done → Keeps mid new → CutsRead Tells TakesMemory Fails input old new
 cuts_between Tells TakesMemory Fails count input now old mid new done h kept = Between h.told now h.has (Appends-kept old mid new _ h.written kept)
 
-pub cuts_next : (Tells Later : List ℕ → LineTold → Type 0) (TakesMemory : List ℕ → Type 0) (Now Fails : ReadFault → Type 0) (count : ℕ) (input now next old mid new : Option (List ℕ)) (done : Bool) → ToldSoFar Tells count input now old mid done → ((fault : ReadFault) → Now fault → Fails fault) → TellsNoMore Tells Later → StepCut Later TakesMemory Now now next mid new → CutsRead Tells TakesMemory Fails input old new
-cuts_next Tells Later TakesMemory Now Fails count input now next old mid new done h back same (inl (line, read, inl (last, tells, front))) = AtAnswer h.told now next line h.has read last (same line last tells) (front_later old mid new (text_of (words_told h.told)) (ended last.words) h.written front)
-cuts_next Tells Later TakesMemory Now Fails count input now next old mid new done h back same (inl (line, read, inr (takes, front))) = AtRefusal h.told now next line h.has read takes (front_later old mid new (text_of (words_told h.told)) (ended refused_memory) h.written front)
-cuts_next Tells Later TakesMemory Now Fails count input now next old mid new done h back same (inr (words, is, front)) = AtStop h.told now words h.has (cut_after Now Fails h.told words back is) (front_later old mid new (text_of (words_told h.told)) (ended words) h.written front)
+pub cuts_next : (Tells Later : List ℕ → LineTold → Type 0) (TakesMemory : List ℕ → Type 0) (Fails : ReadFault → Type 0) (count : ℕ) (input : Option (List ℕ)) (now : LineFacts) (next old mid new : Option (List ℕ)) (done : Bool) → ToldSoFar Tells count input now.left old mid done → ((fault : ReadFault) → stops_by now fault → Fails fault) → TellsNoMore Tells Later → StepCut Later TakesMemory now next mid new → CutsRead Tells TakesMemory Fails input old new
+cuts_next Tells Later TakesMemory Fails count input now next old mid new done h back same (inl (line, read, inl (last, tells, front))) = AtAnswer h.told now.left next line h.has read last (same line last tells) (front_later old mid new (text_of (words_told h.told)) (ended last.words) h.written front)
+cuts_next Tells Later TakesMemory Fails count input now next old mid new done h back same (inl (line, read, inr (takes, front))) = AtRefusal h.told now.left next line h.has read takes (front_later old mid new (text_of (words_told h.told)) (ended refused_memory) h.written front)
+cuts_next Tells Later TakesMemory Fails count input now next old mid new done h back same (inr (words, is, front)) = AtStop h.told now.left words h.has (cut_after (stops_by now) Fails h.told words back is) (front_later old mid new (text_of (words_told h.told)) (ended words) h.written front)
 
 pub cuts_most : (Tells : List ℕ → LineTold → Type 0) (TakesMemory : List ℕ → Type 0) (Fails : ReadFault → Type 0) (count : ℕ) (input now old mid new : Option (List ℕ)) (done : Bool) → ToldSoFar Tells count input now old mid done → 2 ^ 64 - 1 ≤ count → HasFront mid new (ended refused_files) → CutsRead Tells TakesMemory Fails input old new
 cuts_most Tells TakesMemory Fails count input now old mid new done h many front = AtStop h.told now refused_files h.has (inl (refl, inr (subst (λ n. 2 ^ 64 - 1 ≤ n) (sym h.count_is) many))) (front_later old mid new (text_of (words_told h.told)) (ended refused_files) h.written front)

@@ -129,22 +129,23 @@ LineTells IsTold TakesMemory old new (step.Told done) = WritesTold IsTold old ne
 LineTells IsTold TakesMemory old new step.Ended = ⊥
 LineTells IsTold TakesMemory old new step.Cut = TakesMemory × Appends old new (ended refused_memory)
 
--- what came of the next line
-abbrev pub StepTells : (List ℕ → LineTold → Type 0) → (List ℕ → Type 0) → (ReadFault → Type 0) → Option (List ℕ) → Option (List ℕ) → Option (List ℕ) → Option (List ℕ) → Step → Type 0
-StepTells Tells TakesMemory Fails input left old new (step.Told done) = (line : List ℕ) × ReadsLine input left line × WritesTold (Tells line) old new done
-StepTells Tells TakesMemory Fails input left old new step.Ended = IsAtEnd input × (new ≡ old)
-StepTells Tells TakesMemory Fails input left old new step.Cut =
-    ((line : List ℕ) × ReadsLine input left line × TakesMemory line × Appends old new (ended refused_memory))
-    ⊎ ((words : List ℕ) × IsCut Fails [] words × Appends old new (ended words))
+-- what came of the next line of an input
+abbrev pub StepTells : (List ℕ → LineTold → Type 0) → (List ℕ → Type 0) → LineFacts → Option (List ℕ) → Option (List ℕ) → Option (List ℕ) → Step → Type 0
+StepTells Tells TakesMemory input left old new (step.Told done) = (line : List ℕ) × ReadsLine input.left left line × WritesTold (Tells line) old new done
+StepTells Tells TakesMemory input left old new step.Ended = IsAtEnd input.left × (new ≡ old)
+StepTells Tells TakesMemory input left old new step.Cut =
+    ((line : List ℕ) × ReadsLine input.left left line × TakesMemory line × Appends old new (ended refused_memory))
+    ⊎ ((words : List ℕ) × IsCut (stops_by input) [] words × Appends old new (ended words))
 
 -- what a writer that failed leaves of a line that was read
 abbrev pub LineCut : (LineTold → Type 0) → Type 0 → Option (List ℕ) → Option (List ℕ) → Type 0
 LineCut IsTold TakesMemory old new = CutsTold IsTold old new ⊎ (TakesMemory × HasFront old new (ended refused_memory))
 
--- of the next line
-abbrev pub StepCut : (List ℕ → LineTold → Type 0) → (List ℕ → Type 0) → (ReadFault → Type 0) → Option (List ℕ) → Option (List ℕ) → Option (List ℕ) → Option (List ℕ) → Type 0
-StepCut Tells TakesMemory Fails input left old new =
-    ((line : List ℕ) × ReadsLine input left line × LineCut (Tells line) (TakesMemory line) old new) ⊎ ((words : List ℕ) × IsCut Fails [] words × HasFront old new (ended words))
+-- of the next line of an input
+abbrev pub StepCut : (List ℕ → LineTold → Type 0) → (List ℕ → Type 0) → LineFacts → Option (List ℕ) → Option (List ℕ) → Option (List ℕ) → Type 0
+StepCut Tells TakesMemory input left old new =
+    ((line : List ℕ) × ReadsLine input.left left line × LineCut (Tells line) (TakesMemory line) old new)
+    ⊎ ((words : List ℕ) × IsCut (stops_by input) [] words × HasFront old new (ended words))
 
 -- ---- the same over the whole text
 

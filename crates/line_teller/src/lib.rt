@@ -2,7 +2,8 @@
 //!
 //! `tell_lines` gives each line of a `LineReader` to a `Teller`, which writes the answer; what was written goes out before the
 //! next line is awaited. Where the next line has come already, nothing is flushed for it. With progress a line on the second
-//! writer says how many are done after every 10,000. It is one file, `told_lines`.
+//! writer says how many are done after every 10,000: file `told_lines`. `line_words` has the lines of the crates above, which are laid
+//! out without memory and written at once.
 //!
 //! Definitions: `ToldLines` (`TellsLines`, `WritesRead`, `WritesText`). Its cases stand in `lines.txt` and `many.txt` of `rows`;
 //! `tools/ask_probes` tries that each answer comes before the next line is written.
@@ -16,8 +17,12 @@
 //! - CLAIM: `tell_lines`, clause `turns`: before each line that came, a whole one had come already or all answers had gone out.
 //!   Of the last wait, at which the input ends or fails, this is no clause.
 //! - CLAIM: `tell_lines`, clause `quiet`: without progress nothing is written to the second writer.
+//! - CLAIM: `LineWords::put`, clauses `front`, `cause`: a line that is laid out is written with its line feed, or, only where the writer
+//!   refused a write, a front of it; laying it out never fails.
 #![tactic(auto)]
 
+mod line_words;
 mod told_lines;
 
-pub use told_lines::{TellFault, Teller, tell_lines};
+pub use line_words::LineWords;
+pub use told_lines::{TellFault, Teller, tell_cut, tell_lines};

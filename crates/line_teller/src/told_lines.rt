@@ -3,6 +3,7 @@
 ghost use Rattle.std.specs.Prelude.{◌≡◌, ◌≢◌, ◌%◌, List, ℕ, false, IfOk, OnErr, OnOk, IsErrOf};
 ghost use Rattle.std.specs.Io.KnownBytes.{Appends, Keeps};
 ghost use Rattle.move_msg.specs.TextLines.{ended};
+ghost use Rattle.system_io.specs.Outputs.{WritesFront};
 ghost use Rattle.system_io.specs.declared.reading.ReadFault.{ReadFault};
 ghost use Rattle.line_teller.specs.ToldLines.{CutsTold, HasFront, LineCut, LineTells, LineTold, MayWait, StepCut, StepTells, TellsInTurn, TellsNoMore, TellsRead, WritesIfKnown, WritesTold, cut_words, done_words, stops_by};
 
@@ -87,12 +88,21 @@ fn cut_line(fault: ReadFault) -> &'static str
     }
 }
 
+/// Writes the line that says why no more is told. The error is that of the writer, which refused a write; a front of the line is written
+/// then.
+pub fn tell_cut<W: Output>(out: &mut W, fault: ReadFault) -> Result<(), WriteFault>
+    ensures front { WritesFront (W.contents out.old) (W.contents out.new) (ended (cut_words fault)) result }
+    ensures cause { OnErr result (W.facts out.old).refuses }
+{
+    out.put(cut_line(fault).as_bytes())
+}
+
 /// Writes why no more lines are answered.
 fn put_cut<W: Output>(out: &mut W, fault: ReadFault) -> Result<Step, WriteFault>
     ensures cut { IfOk result (λ step. (step ≡ Step.Cut) × Appends (W.contents out.old) (W.contents out.new) (ended (cut_words fault))) }
     ensures front { OnErr result (HasFront (W.contents out.old) (W.contents out.new) (ended (cut_words fault))) }
 {
-    match out.put(cut_line(fault).as_bytes()) {
+    match tell_cut(out, fault) {
         Ok(()) => Ok(Step::Cut),
         Err(fault) => Err(fault),
     }
@@ -124,8 +134,8 @@ fn tell_next<T: Teller, L: LineReader, W: Output>(
 ) -> Result<Step, WriteFault>
     // No line is awaited before what was written has gone out.
     requires { MayWait (L.facts reader.old) (W.facts out.old) }
-    ensures told { IfOk result (StepTells (T.tells teller.old) T.takes_memory (stops_by (L.facts reader.old)) (L.facts reader.old).left (L.facts reader.new).left (W.contents out.old) (W.contents out.new)) }
-    ensures front { OnErr result (StepCut (T.tells teller.old) T.takes_memory (stops_by (L.facts reader.old)) (L.facts reader.old).left (L.facts reader.new).left (W.contents out.old) (W.contents out.new)) }
+    ensures told { IfOk result (StepTells (T.tells teller.old) T.takes_memory (L.facts reader.old) (L.facts reader.new).left (W.contents out.old) (W.contents out.new)) }
+    ensures front { OnErr result (StepCut (T.tells teller.old) T.takes_memory (L.facts reader.old) (L.facts reader.new).left (W.contents out.old) (W.contents out.new)) }
     ensures reader { (fault : ReadFault) → stops_by (L.facts reader.new) fault → stops_by (L.facts reader.old) fault }
     ensures same { TellsNoMore (T.tells teller.old) (T.tells teller.new) }
 {

@@ -6,7 +6,8 @@ use Rattle.line_teller.specs.ToldLines.{CutsAfter}
 use Rattle.move_msg.specs.TextLines.{text_of}
 use Rattle.game_status.specs.declared.telling.Mark.{Mark}
 use Rattle.game_status.specs.declared.telling.Sums.{Sums}
-use Rattle.game_status.specs.Tellings.{GameTold, is_apart, is_fault, is_ruled, sums_of, words_told}
+use Rattle.game_status.specs.declared.telling.GameTold.{GameTold}
+use Rattle.game_status.specs.Tellings.{is_apart, is_fault, is_ruled, sums_of, words_told}
 
 -- one more can be counted
 pub record AreFew (s : Sums) : Type 0 where

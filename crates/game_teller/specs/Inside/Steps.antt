@@ -10,13 +10,14 @@ use Rattle.judge_core.specs.Answers.{ListsMovesForVerdict}
 use Rattle.judge_core.specs.Games.{Rules, verdict_after}
 use Rattle.judge_core.specs.Standings.{IsAt, Reached}
 use Rattle.judge_core.specs.Tables.{Tables}
-use Rattle.line_teller.specs.ToldLines.{HasFront}
+use Rattle.line_teller.specs.ToldLines.{HasFront, stops_by}
 use Rattle.move_msg.specs.TextLines.{ended}
 use Rattle.system_io.specs.declared.reading.ReadFault.{ReadFault}
 use Rattle.system_io.specs.declared.reading.ReadFault.TheVariants as read
-use Rattle.system_io.specs.LineReaders.{ReadsLine}
+use Rattle.system_io.specs.LineReaders.{LineFacts, ReadsLine}
 use Rattle.game_teller.specs.declared.lines.Stop.{Stop}
 use Rattle.game_teller.specs.declared.lines.Stop.TheVariants as stop
+use Rattle.game_teller.specs.declared.following.Course.{Course}
 use Rattle.game_teller.specs.declared.following.Step.{Step}
 use Rattle.game_teller.specs.declared.following.Step.TheVariants as step
 use Rattle.game_teller.specs.Plies.{ply_words, stop_words}
@@ -68,13 +69,13 @@ abbrev pub stop_by : ReadFault → Stop
 stop_by read.Unreadable = stop.Unread
 stop_by read.OutOfMemory = stop.OutOfMemory
 
--- what came of the next line
-abbrev pub Steps : (ReadFault → Type 0) → Tables → ℕ → ℕ → Option (List ℕ) → Option (List ℕ) → Reached → Reached → Option (List ℕ) → Option (List ℕ) → Step → Type 0
-Steps Stops tables delay number left now old new out out' (step.Told verdict) = (line : List ℕ) × ReadsLine left now line × HasTurned tables old line new × PutsPly delay (number + 1) new out out' verdict
-Steps Stops tables delay number left now old new out out' step.Ended = IsAtEnd left × (out' ≡ out)
-Steps Stops tables delay number left now old new out out' step.Stopped =
-    ((line : List ℕ) × (why : Stop) × ReadsLine left now line × IsNoTurn tables old.position number line why × Appends out out' (ended (stop_words why)))
-    ⊎ ((fault : ReadFault) × Stops fault × Appends out out' (ended (stop_words (stop_by fault))))
+-- what came of the next line of an input, by the tables and the delay of the game that is followed
+abbrev pub Steps : LineFacts → Option (List ℕ) → Course → ℕ → Reached → Option (List ℕ) → Option (List ℕ) → Step → Type 0
+Steps input now old number new out out' (step.Told verdict) = (line : List ℕ) × ReadsLine input.left now line × HasTurned old.set.tables old.standing line new × PutsPly old.delay (number + 1) new out out' verdict
+Steps input now old number new out out' step.Ended = IsAtEnd input.left × (out' ≡ out)
+Steps input now old number new out out' step.Stopped =
+    ((line : List ℕ) × (why : Stop) × ReadsLine input.left now line × IsNoTurn old.set.tables old.standing.position number line why × Appends out out' (ended (stop_words why)))
+    ⊎ ((fault : ReadFault) × stops_by input fault × Appends out out' (ended (stop_words (stop_by fault))))
 
 -- of what came of a line that was read a front was written
 abbrev pub LineCuts : Tables → ℕ → ℕ → Reached → List ℕ → Reached → Option (List ℕ) → Option (List ℕ) → Type 0
@@ -82,9 +83,10 @@ LineCuts tables delay number old line new out out' =
     (HasTurned tables old line new × CutsPly delay (number + 1) new out out') ⊎ ((why : Stop) × IsNoTurn tables old.position number line why × HasFront out out' (ended (stop_words why)))
 
 -- of what came of the next line
-abbrev pub StepCuts : (ReadFault → Type 0) → Tables → ℕ → ℕ → Option (List ℕ) → Option (List ℕ) → Reached → Reached → Option (List ℕ) → Option (List ℕ) → Type 0
-StepCuts Stops tables delay number left now old new out out' =
-    ((line : List ℕ) × ReadsLine left now line × LineCuts tables delay number old line new out out') ⊎ ((fault : ReadFault) × Stops fault × HasFront out out' (ended (stop_words (stop_by fault))))
+abbrev pub StepCuts : LineFacts → Option (List ℕ) → Course → ℕ → Reached → Option (List ℕ) → Option (List ℕ) → Type 0
+StepCuts input now old number new out out' =
+    ((line : List ℕ) × ReadsLine input.left now line × LineCuts old.set.tables old.delay number old.standing line new out out')
+    ⊎ ((fault : ReadFault) × stops_by input fault × HasFront out out' (ended (stop_words (stop_by fault))))
 
 -- the start is told, which has no verdict
 abbrev pub HasBegun : Rules → Reached → Option (List ℕ) → Option (List ℕ) → Type 0

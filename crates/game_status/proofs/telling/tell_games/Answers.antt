@@ -3,10 +3,10 @@ use Rattle.game_status.proofs.TellingLaws.{cuts_game, cuts_short, cuts_sums, end
 use Rattle.game_status.proofs.telling.tell_games.Goals as goal
 
 pub returns-in-Ok-tell_sums : goal.returns-in-Ok-tell_sums
-returns-in-Ok-tell_sums g c = ends_all (g.T.GameTeller.tells c.args.teller.now) c.args.stamps.now c.args.compares _ _ _ c.in-Ok.sums c.are_well.result c.in-Ok.ensures.told c.in-Ok-tell_sums.ensures c.are_well.ensures
+returns-in-Ok-tell_sums g c = ends_all (g.T.GameTeller.tells c.args.teller.now) c.args.stamps.now c.args.compares _ _ _ c.in-Ok.sums c.are_well.result c.in-Ok.ensures.told c.in-Ok-tell_sums.ensures.front c.are_well.ensures
 
 pub returns-in-Err : goal.returns-in-Err
-returns-in-Err g c = cuts_sums (g.T.GameTeller.tells c.args.teller.now) c.args.stamps.now c.args.compares _ _ _ c.in-Ok.sums c.in-Ok.ensures.told c.in-Err.ensures
+returns-in-Err g c = cuts_sums (g.T.GameTeller.tells c.args.teller.now) c.args.stamps.now c.args.compares _ _ _ c.in-Ok.sums c.in-Ok.ensures.told c.in-Err.ensures.front
 
 pub returns-in-Err-OutOfMemory : goal.returns-in-Err-OutOfMemory
 returns-in-Err-OutOfMemory g c =

@@ -12,7 +12,7 @@ use Rattle.game_teller.proofs.following.follow_moves.Goals as goal
 
 pub returns-in-Err-clause-turns : goal.returns-in-Err-clause-turns
 returns-in-Err-clause-turns g c = elim c.match-put_stop.branch [
-  | in-Ok-put_stop w ↦ rw w.result-is (record { first = c.put_stop.new.out; words = stop_words OutOfMemory; wrote = w.in-Ok-put_stop.ensures; turns = asked_all g.L.LineReader.facts g.W.Output.facts g.W.Write.contents _ _ _ _ _ (AsksNone _ _ refl refl) refl })
+  | in-Ok-put_stop w ↦ rw w.result-is (record { first = c.put_stop.new.out; words = stop_words OutOfMemory; wrote = w.in-Ok-put_stop.ensures.front; turns = asked_all g.L.LineReader.facts g.W.Output.facts g.W.Write.contents _ _ _ _ _ (AsksNone _ _ refl refl) refl })
   | in-Err-put_stop w ↦ rw w.result-is tt
 ]
 

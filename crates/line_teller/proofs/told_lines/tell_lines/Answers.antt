@@ -61,7 +61,7 @@ returns-in_err-flush_before_wait-clause-written g c = cuts_read _ _ _ _ _ _ c.fr
 pub returns-in-Err-clause-written : goal.returns-in-Err-clause-written
 returns-in-Err-clause-written g c =
     let flushed = told_flushed _ _ _ _ _ _ _ _ c.loop-before.invariant.told c.flush_before_wait.ensures.kept in
-    cuts_next _ _ _ _ _ _ _ _ _ _ _ _ _ flushed c.loop-before.invariant.fails c.loop-before.invariant.same c.in-Err.ensures.front
+    cuts_next _ _ _ _ _ _ (g.L.LineReader.facts c.loop-before.reader) _ _ _ _ _ flushed c.loop-before.invariant.fails c.loop-before.invariant.same c.in-Err.ensures.front
 
 pub returns-clause-written : goal.returns-clause-written
 returns-clause-written g c = cuts_most _ _ _ _ _ _ _ _ _ _ c.loop-before.invariant.told (search rules) c.in-Err-put_cut.ensures.front

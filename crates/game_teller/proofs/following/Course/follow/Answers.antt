@@ -55,15 +55,15 @@ returns-in-Ok-Stopped-clause-turns g c =
     asked_cut g.L.LineReader.facts g.W.Output.facts g.W.Write.contents _ _ (stops_by (g.L.LineReader.facts c.loop-number.reader)) _ _ _ _ _ _ _ old.turns old.gone one
 
 pub returns-in-Ok-clause-follows : goal.returns-in-Ok-clause-follows
-returns-in-Ok-clause-follows g c = λ rules before by_tables by_delay has. too_many rules _ _ _ _ _ _ _ _ (c.loop-number.invariant.far rules before by_tables by_delay has) (search rules) c.in-Ok.ensures
+returns-in-Ok-clause-follows g c = λ rules before by_tables by_delay has. too_many rules _ _ _ _ _ _ _ _ (c.loop-number.invariant.far rules before by_tables by_delay has) (search rules) c.in-Ok.ensures.front
 
 pub returns-in-Ok-clause-turns : goal.returns-in-Ok-clause-turns
-returns-in-Ok-clause-turns g c = record { now = c.loop-number.reader; at = c.loop-number.out; asked = c.loop-number.invariant.turns; rest = inr (refused_files, inl refl, c.in-Ok.ensures) }
+returns-in-Ok-clause-turns g c = record { now = c.loop-number.reader; at = c.loop-number.out; asked = c.loop-number.invariant.turns; rest = inr (refused_files, inl refl, c.in-Ok.ensures.front) }
 
 pub returns-in-Err-clause-follows : goal.returns-in-Err-clause-follows
 returns-in-Err-clause-follows g c = λ rules before by_tables by_delay has.
     let old = c.loop-number.invariant in
-    next_cut rules (stops_by (g.L.LineReader.facts c.loop-number.reader)) _ _ _ (still_by _ _ _ by_tables old.set) (by_delay ∙ sym old.delay) old.fails _ _ _ _ _ _ _ _ _ (old.far rules before by_tables by_delay has) c.in-Err.ensures.front
+    next_cut rules (g.L.LineReader.facts c.loop-number.reader) _ c.loop-number.self (still_by _ _ _ by_tables old.set) (by_delay ∙ sym old.delay) old.fails _ _ _ _ _ _ _ (old.far rules before by_tables by_delay has) c.in-Err.ensures.front
 
 pub returns-clause-follows : goal.returns-clause-follows
-returns-clause-follows g c = λ rules before by_tables by_delay has. many_cut rules _ _ _ _ _ _ _ _ (c.loop-number.invariant.far rules before by_tables by_delay has) (search rules) c.in-Err-put_stop.ensures
+returns-clause-follows g c = λ rules before by_tables by_delay has. many_cut rules _ _ _ _ _ _ _ _ (c.loop-number.invariant.far rules before by_tables by_delay has) (search rules) c.in-Err-put_stop.ensures.front

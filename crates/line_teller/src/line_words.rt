@@ -1,0 +1,111 @@
+//! A line that is laid out before it is written at once.
+
+ghost use Rattle.std.specs.Prelude.{◌≡◌, ◌≤◌, ◌+◌, ◌++◌, [], OnErr, length};
+ghost use Rattle.hex.specs.Hex.{encode_lower};
+ghost use Rattle.move_msg.specs.TextLines.{ended};
+ghost use Rattle.system_io.specs.Outputs.{WritesFront};
+
+use arrayvec::ArrayVec;
+use itoa::{Buffer, Integer};
+use std::marker::Model;
+use system_io::{Output, WriteFault};
+
+/// The words of a line, at most 255 bytes, without its line feed; contracts see these bytes. They take no memory, and a caller shows
+/// that they fit, so laying out a line never fails.
+#[derive(Drop)]
+pub struct LineWords {
+    bytes: ArrayVec<u8, 256>,
+}
+
+impl Model for LineWords {
+    ghost use Rattle.std.specs.Prelude.{ℕ, List, ◌≤◌, length};
+
+    ghost Value = { List ℕ };
+
+    ghost view = { λ l. l.bytes.items };
+
+    ghost invariant = { λ l. length l.bytes.items ≤ 255 };
+}
+
+impl LineWords {
+    /// No words.
+    pub fn new() -> LineWords
+        ensures { result ≡ [] }
+    {
+        LineWords {
+            bytes: ArrayVec::new(),
+        }
+    }
+
+    /// These words.
+    pub fn of(words: &str) -> LineWords
+        requires { length words.now ≤ 255 }
+        ensures is { result ≡ words.now }
+        ensures size { length result ≡ length words.now }
+    {
+        let mut line = LineWords::new();
+        line.add(words);
+        line
+    }
+
+    /// Adds bytes.
+    pub fn add_bytes(&mut self, more: &[u8])
+        requires { length self.old + length more.now ≤ 255 }
+        ensures is { self.new ≡ self.old ++ more.now }
+        ensures size { length self.new ≡ length self.old + length more.now }
+    {
+        let _fits = self.bytes.try_extend_from_slice(more);
+    }
+
+    /// Adds words.
+    pub fn add(&mut self, more: &str)
+        requires { length self.old + length more.now ≤ 255 }
+        ensures is { self.new ≡ self.old ++ more.now }
+        ensures size { length self.new ≡ length self.old + length more.now }
+    {
+        self.add_bytes(more.as_bytes());
+    }
+
+    /// Adds a number in decimal digits, at most 40 bytes.
+    pub fn add_number<I: Integer>(&mut self, number: I)
+        requires { length self.old ≤ 215 }
+        ensures is { self.new ≡ self.old ++ I.text number }
+        ensures size { length self.new ≤ length self.old + 40 }
+    {
+        let mut digits = Buffer::new();
+        self.add(digits.format(number));
+    }
+
+    /// Adds a stamp in lower-case hexadecimal digits, 32 bytes.
+    pub fn add_stamp(&mut self, stamp: &[u8; 16])
+        requires { length self.old ≤ 223 }
+        ensures is { self.new ≡ self.old ++ encode_lower stamp.now }
+        ensures size { length self.new ≡ length self.old + 32 }
+    {
+        let mut digits = [0; 32];
+        hex::encode_to_slice(stamp, &mut digits).unwrap();
+        self.add_bytes(&digits);
+    }
+
+    /// Adds words and a number behind them.
+    pub fn add_counted<I: Integer>(&mut self, words: &str, number: I)
+        requires { length self.old + length words.now ≤ 215 }
+        ensures is { self.new ≡ self.old ++ words.now ++ I.text number }
+        ensures size { length self.new ≤ length self.old + length words.now + 40 }
+    {
+        self.add(words);
+        self.add_number(number);
+    }
+
+    /// Writes the line at once, with its line feed. The error is that of the writer, which refused a write; a front of the line is
+    /// written then.
+    pub fn put<W: Output>(self, out: &mut W) -> Result<(), WriteFault>
+        ensures front { WritesFront (W.contents out.old) (W.contents out.new) (ended self) result }
+        ensures cause { OnErr result (W.facts out.old).refuses }
+    {
+        let LineWords { bytes } = self;
+        let mut text = bytes;
+        text.push(b'\n');
+        out.put(text.as_slice())
+    }
+}
