@@ -17,10 +17,10 @@ use Rattle.arbiter_server.specs.declared.fault.Unopened.{Unopened}
 use Rattle.arbiter_server.specs.declared.fault.Unopened.TheVariants.{NotOpen}
 use Rattle.arbiter_server.specs.declared.seat.Seat.{Seat}
 use Rattle.arbiter_server.specs.Folders.{Gives, GivesLess, GivesOthers, Keepers}
-use Rattle.arbiter_server.specs.Acts.{Act, AreInRoom, Answers, Closes, IsAnsweredNext, Opens, Reply, Strange, Unread, answered, one_less, open_after, opens_by, opens_for, opens_game, stamp_by, stamp_for, unopened, unread}
-use Rattle.arbiter_server.specs.Games.{CommonView, GoesOn, IsNotOpen, IsStrange, LacksKeeper, Life, Fresh, Shut, Open, life_at}
+use Rattle.arbiter_server.specs.Acts.{Act, AreInRoom, Answers, Closes, IsAnsweredNext, LastDone, HasAnswered, HasOpened, MayAnswer, Opens, Otherwise, Reply, Strange, Unread, answered, one_less, opens_by, opens_for, opens_game, stamp_by, stamp_for, unopened, unread}
+use Rattle.arbiter_server.specs.Games.{CommonView, GoesOn, IsNotOpen, IsStrange, LacksKeeper, TellsGame, Life, Fresh, Shut, Open, life_at}
 use Rattle.arbiter_server.specs.Seats.{At, Evicts, Lives, Nothing, One, IsAnswered, IsAtRest, Stands, in_hand, moment_of}
-use Rattle.arbiter_server.specs.Turns.{ComesInHand, Effect, IsOpened, Leads, LeadsBy, LeadsFrom, LeadsFromBy, LeadsOne, LeadsOpenFrom, Replied, Took, WasOpen, all_effects, effects_with}
+use Rattle.arbiter_server.specs.Turns.{ComesInHand, Effect, IsOpened, Leads, LeadsBy, LeadsFrom, LeadsFromBy, LeadsOne, LeadsOpenFrom, Replied, Took, WasOpen, effects_with}
 use Rattle.arbiter_server.proofs.Turning.{closes, closes_one, each_join, itself, leads_join, leads_not, leads_one, less_stands, one_act, same_stamp}
 
 module _ {K : Type 0} where
@@ -57,31 +57,31 @@ module _ {K : Type 0} where
   ]) refl
 
 module _ {K : Type 0} (s : Keepers K) (t : CommonView) where
-  pub evicting : (before : Option (List ℕ)) (old new : Gives K) (at at' : At K) (k k' : ℕ) (stamp : List ℕ) (seat : Seat K) → at stamp ≡ None → Evicts s.follows t.at_once old at k new at' k' → LeadsFrom s t before (suc k) old (in_hand stamp (Some seat) at) new (in_hand stamp (Some seat) at') (suc k') []
-  evicting before old new at at' k k' stamp seat absent (Nothing less same still) =
-      subst (λ (m : ℕ). LeadsFrom s t before (suc k) old (in_hand stamp (Some seat) at) new (in_hand stamp (Some seat) at') (suc m) []) (sym still)
-      (leads_not s t before (suc k) old new _ _ less (λ other. ap (λ (o : Option (Seat K)). cond (bytes_eq stamp other) (Some seat) o) (same other)))
-  evicting before old new at at' k k' stamp seat absent (One gone least was after left others full one) =
+  pub evicting : (last : LastDone) (old new : Gives K) (at at' : At K) (k k' : ℕ) (stamp : List ℕ) (seat : Seat K) → at stamp ≡ None → Evicts s.follows t.at_once old at k new at' k' → LeadsFrom s t last (suc k) old (in_hand stamp (Some seat) at) new (in_hand stamp (Some seat) at') (suc k') []
+  evicting last old new at at' k k' stamp seat absent (Nothing less same still) =
+      subst (λ (m : ℕ). LeadsFrom s t last (suc k) old (in_hand stamp (Some seat) at) new (in_hand stamp (Some seat) at') (suc m) []) (sym still)
+      (leads_not s t last (suc k) old new _ _ less (λ other. ap (λ (o : Option (Seat K)). cond (bytes_eq stamp other) (Some seat) o) (same other)))
+  evicting last old new at at' k k' stamp seat absent (One gone least was after left others full one) =
       let apart = apart_from at stamp gone least absent was in
       let room : t.at_once < suc k = omega (arith, full) in
-      subst (λ (m : ℕ). LeadsFrom s t before (suc k) old (in_hand stamp (Some seat) at) new (in_hand stamp (Some seat) at') m []) one
-      (closes s t before (suc k) old new _ _ gone least (inl room) (cond-false (bytes_eq stamp gone) (Some seat) (at gone) apart ∙ was)
+      subst (λ (m : ℕ). LeadsFrom s t last (suc k) old (in_hand stamp (Some seat) at) new (in_hand stamp (Some seat) at') m []) one
+      (closes s t last (suc k) old new _ _ gone least (inl room) (cond-false (bytes_eq stamp gone) (Some seat) (at gone) apart ∙ was)
       (λ other. ap (λ (o : Option (Seat K)). cond (bytes_eq stamp other) (Some seat) o) (after other) ∙ swapped stamp gone seat at apart other) left others)
 
   -- a game in hand, which has just answered, is closed
-  pub hand_closes : (k : ℕ) (old new : Gives K) (at at' : At K) (stamp : List ℕ) (seat : Seat K) → at stamp ≡ None → ((other : List ℕ) → at' other ≡ at other) → ((next : K) → new stamp next → s.follows seat.keeper next) → GivesOthers stamp old new → LeadsFrom s t (Some stamp) (suc k) old (in_hand stamp (Some seat) at) new at' k []
+  pub hand_closes : (k : ℕ) (old new : Gives K) (at at' : At K) (stamp : List ℕ) (seat : Seat K) → at stamp ≡ None → ((other : List ℕ) → at' other ≡ at other) → ((next : K) → new stamp next → s.follows seat.keeper next) → GivesOthers stamp old new → LeadsFrom s t (HasAnswered stamp) (suc k) old (in_hand stamp (Some seat) at) new at' k []
   hand_closes k old new at at' stamp seat absent same left others =
-      closes s t (Some stamp) (suc k) old new (in_hand stamp (Some seat) at) at' stamp seat (inr refl) (holds_it stamp seat at) (λ other. same other ∙ out_of_hand stamp seat at absent other) left others
+      closes s t (HasAnswered stamp) (suc k) old new (in_hand stamp (Some seat) at) at' stamp seat (inr refl) (holds_it stamp seat at) (λ other. same other ∙ out_of_hand stamp seat at absent other) left others
 
   -- it stays open
-  pub hand_stays : (before : Option (List ℕ)) (k : ℕ) (old : Gives K) (at at' : At K) (stamp : List ℕ) (seat : Seat K) → ((other : List ℕ) → at' other ≡ cond (bytes_eq stamp other) (Some seat) (at other)) → LeadsFrom s t before k old (in_hand stamp (Some seat) at) old at' k []
-  hand_stays before k old at at' stamp seat put = leads_not s t before k old old (in_hand stamp (Some seat) at) at' (λ other keeper given. given) put
+  pub hand_stays : (last : LastDone) (k : ℕ) (old : Gives K) (at at' : At K) (stamp : List ℕ) (seat : Seat K) → ((other : List ℕ) → at' other ≡ cond (bytes_eq stamp other) (Some seat) (at other)) → LeadsFrom s t last k old (in_hand stamp (Some seat) at) old at' k []
+  hand_stays last k old at at' stamp seat put = leads_not s t last k old old (in_hand stamp (Some seat) at) at' (λ other keeper given. given) put
 
   -- room is made for it, and then it is closed
   pub no_room : (k m : ℕ) (old mid new : Gives K) (at at1 at' : At K) (stamp : List ℕ) (seat : Seat K) → at stamp ≡ None → Evicts s.follows t.at_once old at k mid at1 m → ((other : List ℕ) → at' other ≡ at1 other)
-      → ((next : K) → new stamp next → s.follows seat.keeper next) → GivesOthers stamp mid new → LeadsFrom s t (Some stamp) (suc k) old (in_hand stamp (Some seat) at) new at' m []
+      → ((next : K) → new stamp next → s.follows seat.keeper next) → GivesOthers stamp mid new → LeadsFrom s t (HasAnswered stamp) (suc k) old (in_hand stamp (Some seat) at) new at' m []
   no_room k m old mid new at at1 at' stamp seat absent (Nothing less same still) put left others =
-      subst (λ (j : ℕ). LeadsFrom s t (Some stamp) (suc k) old (in_hand stamp (Some seat) at) new at' j []) (sym still) (λ lives stand.
+      subst (λ (j : ℕ). LeadsFrom s t (HasAnswered stamp) (suc k) old (in_hand stamp (Some seat) at) new at' j []) (sym still) (λ lives stand.
       hand_closes k mid new at1 at' stamp seat (same stamp ∙ absent) put left others lives
       (λ other. less_stands s t (old other) (mid other) (in_hand stamp (Some seat) at1 other) (lives other) (less other)
       (subst (λ (o : Option (Seat K)). Stands s t (old other) o (lives other)) (sym (ap (λ (o : Option (Seat K)). cond (bytes_eq stamp other) (Some seat) o) (same other))) (stand other))))
@@ -104,9 +104,9 @@ module _ {K : Type 0} (s : Keepers K) (t : CommonView) where
 
   -- room is made for it, and then it stays open
   pub stays_open : (k m : ℕ) (old mid : Gives K) (at at1 at' : At K) (stamp : List ℕ) (seat : Seat K) → at stamp ≡ None → Evicts s.follows t.at_once old at k mid at1 m
-      → ((other : List ℕ) → at' other ≡ cond (bytes_eq stamp other) (Some seat) (at1 other)) → LeadsFrom s t (Some stamp) (suc k) old (in_hand stamp (Some seat) at) mid at' (suc m) []
+      → ((other : List ℕ) → at' other ≡ cond (bytes_eq stamp other) (Some seat) (at1 other)) → LeadsFrom s t (HasAnswered stamp) (suc k) old (in_hand stamp (Some seat) at) mid at' (suc m) []
   stays_open k m old mid at at1 at' stamp seat absent room put = λ lives stand.
-      leads_join s t (Some stamp) (suc k) (suc m) (suc m) mid mid (in_hand stamp (Some seat) at1) at' lives [] [] (evicting (Some stamp) old mid at at1 k m stamp seat absent room lives stand) (hand_stays None (suc m) mid at1 at' stamp seat put)
+      leads_join s t (HasAnswered stamp) (suc k) (suc m) (suc m) mid mid (in_hand stamp (Some seat) at1) at' lives [] [] (evicting (HasAnswered stamp) old mid at at1 k m stamp seat absent room lives stand) (hand_stays Otherwise (suc m) mid at1 at' stamp seat put)
 
   pub not_open : (gives : K → Type 0) (life : Life K) → Stands s t gives None life → IsNotOpen life
   not_open gives Fresh stand = tt
@@ -114,45 +114,45 @@ module _ {K : Type 0} (s : Keepers K) (t : CommonView) where
   not_open gives (Open at) stand = stand
 
   -- a message of a game that isn't open: it opens none, or there is no keeper
-  pub strange_to : (k : ℕ) (old new : Gives K) (at : At K) (stamp datagram : List ℕ) (tried : Bool) (why : Unopened) → stamp_for datagram ≡ Some stamp → at stamp ≡ None → IsStrange s t.manifest stamp (opens_for datagram) tried why → GivesLess old new → LeadsFrom s t None k old at new at k (effects_with (cond tried (stamp ∷ []) []) (unopened stamp datagram why))
-  strange_to k old new at stamp datagram tried why sorted absent strange less = λ lives stand.
-      subst (λ (es : List Effect). Leads s t None k lives new at k es) (sym (tried_with tried)) (goes lives stand)
+  pub strange_to : (k : ℕ) (old new : Gives K) (at : At K) (stamp datagram : List ℕ) (tried : Bool) (why : Unopened) → k ≤ t.at_once → stamp_for datagram ≡ Some stamp → at stamp ≡ None → IsStrange s t.manifest stamp (opens_for datagram) tried why → GivesLess old new → LeadsFrom s t Otherwise k old at new at k (effects_with (cond tried (stamp ∷ []) []) (unopened stamp datagram why))
+  strange_to k old new at stamp datagram tried why few sorted absent strange less = λ lives stand.
+      subst (λ (es : List Effect). Leads s t Otherwise k lives new at k es) (sym (tried_with tried)) (goes lives stand)
     where
       tried_with : (b : Bool) → effects_with (cond b (stamp ∷ []) []) (unopened stamp datagram why) ≡ cond b (Took stamp ∷ []) [] ++ Replied (unopened stamp datagram why) ∷ []
       tried_with true = refl
       tried_with false = refl
 
-      goes : LeadsFrom s t None k old at new at k (cond tried (Took stamp ∷ []) [] ++ Replied (unopened stamp datagram why) ∷ [])
+      goes : LeadsFrom s t Otherwise k old at new at k (cond tried (Took stamp ∷ []) [] ++ Replied (unopened stamp datagram why) ∷ [])
       goes = λ lives stand.
           let there : Stands s t (old stamp) None (lives stamp) = subst (λ (x : Option (Seat K)). Stands s t (old stamp) x (lives stamp)) absent (stand stamp) in
-          leads_one s t None k (Strange stamp datagram tried why) lives new at tt tt
+          leads_one s t Otherwise k (Strange stamp datagram tried why) lives new at tt few
           (one_act s t old new at at lives stamp (Strange stamp datagram tried why) (lives stamp) refl sorted (not_open (old stamp) (lives stamp) there, strange, refl)
           (less_stands s t (old stamp) (new stamp) (at stamp) (lives stamp) (less stamp) (stand stamp)) (λ other _. less other) (λ other _. refl) stand)
 
   -- there is no keeper for one that would open it
-  pub lacking_to : (k : ℕ) (old new : Gives K) (at : At K) (stamp datagram : List ℕ) (why : Unopened) → stamp_for datagram ≡ Some stamp → opens_for datagram ≡ true → at stamp ≡ None → LacksKeeper s t.manifest stamp why → GivesLess old new → LeadsFrom s t None k old at new at k (effects_with [] (unopened stamp datagram why))
-  lacking_to k old new at stamp datagram why sorted opens absent lacks less =
-      strange_to k old new at stamp datagram false why sorted absent (subst (λ (b : Bool). IsStrange s t.manifest stamp b false why) (sym opens) lacks) less
+  pub lacking_to : (k : ℕ) (old new : Gives K) (at : At K) (stamp datagram : List ℕ) (why : Unopened) → k ≤ t.at_once → stamp_for datagram ≡ Some stamp → opens_for datagram ≡ true → at stamp ≡ None → LacksKeeper s t.manifest stamp why → GivesLess old new → LeadsFrom s t Otherwise k old at new at k (effects_with [] (unopened stamp datagram why))
+  lacking_to k old new at stamp datagram why few sorted opens absent lacks less =
+      strange_to k old new at stamp datagram false why few sorted absent (subst (λ (b : Bool). IsStrange s t.manifest stamp b false why) (sym opens) lacks) less
 
   -- its file was opened, and there is none over that
-  pub withheld_to : (k : ℕ) (old new : Gives K) (at : At K) (stamp datagram : List ℕ) (why : Unopened) → stamp_for datagram ≡ Some stamp → opens_for datagram ≡ true → at stamp ≡ None → s.withholds stamp why → GivesLess old new → LeadsFrom s t None k old at new at k (effects_with (stamp ∷ []) (unopened stamp datagram why))
-  withheld_to k old new at stamp datagram why sorted opens absent withheld less =
-      strange_to k old new at stamp datagram true why sorted absent (subst (λ (b : Bool). IsStrange s t.manifest stamp b true why) (sym opens) withheld) less
+  pub withheld_to : (k : ℕ) (old new : Gives K) (at : At K) (stamp datagram : List ℕ) (why : Unopened) → k ≤ t.at_once → stamp_for datagram ≡ Some stamp → opens_for datagram ≡ true → at stamp ≡ None → s.withholds stamp why × TellsGame s t.manifest stamp → GivesLess old new → LeadsFrom s t Otherwise k old at new at k (effects_with (stamp ∷ []) (unopened stamp datagram why))
+  withheld_to k old new at stamp datagram why few sorted opens absent withheld less =
+      strange_to k old new at stamp datagram true why few sorted absent (subst (λ (b : Bool). IsStrange s t.manifest stamp b true why) (sym opens) withheld) less
 
   -- it opens none
-  pub idle_to : (k : ℕ) (gives : Gives K) (at : At K) (datagram : List ℕ) (message : Message) → heard_in datagram ≡ Ok message → opens_game message ≡ false → at (stamp_in message).0 ≡ None → LeadsFrom s t None k gives at gives at k (effects_with [] (unopened (stamp_in message).0 datagram NotOpen))
-  idle_to k gives at datagram message says opens absent =
-      strange_to k gives gives at (stamp_in message).0 datagram false NotOpen (ap stamp_by says) absent
+  pub idle_to : (k : ℕ) (gives : Gives K) (at : At K) (datagram : List ℕ) (message : Message) → k ≤ t.at_once → heard_in datagram ≡ Ok message → opens_game message ≡ false → at (stamp_in message).0 ≡ None → LeadsFrom s t Otherwise k gives at gives at k (effects_with [] (unopened (stamp_in message).0 datagram NotOpen))
+  idle_to k gives at datagram message few says opens absent =
+      strange_to k gives gives at (stamp_in message).0 datagram false NotOpen few (ap stamp_by says) absent
       (subst (λ (b : Bool). IsStrange s t.manifest (stamp_in message).0 b false NotOpen) (sym (ap opens_by says ∙ opens)) (refl, refl)) (λ other keeper given. given)
 
   -- bytes that are no message
-  pub unread_to : (k : ℕ) (gives : Gives K) (at : At K) (datagram : List ℕ) (fault : MessageFault) → heard_in datagram ≡ Err fault → LeadsFrom s t None k gives at gives at k (effects_with [] (unread datagram fault))
-  unread_to k gives at datagram fault is = λ lives stand. record {
+  pub unread_to : (k : ℕ) (gives : Gives K) (at : At K) (datagram : List ℕ) (fault : MessageFault) → k ≤ t.at_once → heard_in datagram ≡ Err fault → LeadsFrom s t Otherwise k gives at gives at k (effects_with [] (unread datagram fault))
+  unread_to k gives at datagram fault few is = λ lives stand. record {
     acts = Unread datagram fault ∷ [];
     new = lives;
     turns = record { each = λ stamp. refl; sorted = (is, tt) };
     opened = tt;
-    room = (tt, refl);
+    room = (few, refl);
     stand = stand;
     effects_are = refl;
   }
@@ -161,8 +161,8 @@ module _ {K : Type 0} (s : Keepers K) (t : CommonView) where
 
 module _ {K : Type 0} (s : Keepers K) (t : CommonView) where
   -- its answer, and what comes after it
-  answer_rest : (stamp : List ℕ) (e : Exchange K) (k k' : ℕ) (mid new : Gives K) (at at' : At K) (lives : Lives K) (ys : List Effect) → e.after.arbiter.is_down ≡ false → LeadsOne s t (Answers stamp e) lives mid at → LeadsFrom s t (Some stamp) k mid at new at' k' ys → LeadsBy s t stamp e.datagram k lives new at' k' (Replied (answered stamp e) ∷ ys)
-  answer_rest stamp e k k' mid new at at' lives ys runs one more =
+  answer_rest : (last : LastDone) (stamp : List ℕ) (e : Exchange K) (k k' : ℕ) (mid new : Gives K) (at at' : At K) (lives : Lives K) (ys : List Effect) → MayAnswer t.at_once k last stamp → e.after.arbiter.is_down ≡ false → LeadsOne s t (Answers stamp e) lives mid at → LeadsFrom s t (HasAnswered stamp) k mid at new at' k' ys → LeadsBy s t stamp e.datagram last k lives new at' k' (Replied (answered stamp e) ∷ ys)
+  answer_rest last stamp e k k' mid new at at' lives ys may runs one more =
       let two = more one.new one.stand in
       record {
         leads = record {
@@ -170,7 +170,7 @@ module _ {K : Type 0} (s : Keepers K) (t : CommonView) where
           new = two.new;
           turns = each_join s t lives one.new two.new (Answers stamp e ∷ []) two.acts one.turns two.turns;
           opened = two.opened;
-          room = (tt, subst (λ (m : ℕ). AreInRoom t.at_once m (Some stamp) two.acts k') (sym (cond-false e.after.arbiter.is_down (one_less k) k runs)) two.room);
+          room = (may, subst (λ (m : ℕ). AreInRoom t.at_once m (HasAnswered stamp) two.acts k') (sym (cond-false e.after.arbiter.is_down (one_less k) k runs)) two.room);
           stand = two.stand;
           effects_are = ap (λ (es : List Effect). Replied (answered stamp e) ∷ es) two.effects_are;
         };
@@ -181,9 +181,9 @@ module _ {K : Type 0} (s : Keepers K) (t : CommonView) where
       }
 
   -- its answer alone
-  answer_alone : (stamp : List ℕ) (e : Exchange K) (k : ℕ) (new : Gives K) (at' : At K) (lives : Lives K) → e.after.arbiter.is_down ≡ true → LeadsOne s t (Answers stamp e) lives new at' → LeadsBy s t stamp e.datagram (suc k) lives new at' k (Replied (answered stamp e) ∷ [])
-  answer_alone stamp e k new at' lives down one = record {
-    leads = record { acts = Answers stamp e ∷ []; new = one.new; turns = one.turns; opened = tt; room = (tt, sym (cond-true e.after.arbiter.is_down k (suc k) down)); stand = one.stand; effects_are = refl };
+  answer_alone : (last : LastDone) (stamp : List ℕ) (e : Exchange K) (k : ℕ) (new : Gives K) (at' : At K) (lives : Lives K) → MayAnswer t.at_once (suc k) last stamp → e.after.arbiter.is_down ≡ true → LeadsOne s t (Answers stamp e) lives new at' → LeadsBy s t stamp e.datagram last (suc k) lives new at' k (Replied (answered stamp e) ∷ [])
+  answer_alone last stamp e k new at' lives may down one = record {
+    leads = record { acts = Answers stamp e ∷ []; new = one.new; turns = one.turns; opened = tt; room = (may, sym (cond-true e.after.arbiter.is_down k (suc k) down)); stand = one.stand; effects_are = refl };
     exchange = e;
     rest = [];
     acts_are = refl;
@@ -191,7 +191,7 @@ module _ {K : Type 0} (s : Keepers K) (t : CommonView) where
   }
 
   -- a game is opened for a datagram, which its arbiter answers then
-  opens_then : (stamp datagram : List ℕ) (k k' : ℕ) (old mid new : Gives K) (at at1 at' : At K) (ys : List Effect) → opens_for datagram ≡ true → k ≤ t.at_once → LeadsOpenFrom s t stamp old at mid at1 → LeadsFromBy s t stamp datagram (suc k) mid at1 new at' k' ys → LeadsFrom s t None k old at new at' k' (Took stamp ∷ ys)
+  opens_then : (stamp datagram : List ℕ) (k k' : ℕ) (old mid new : Gives K) (at at1 at' : At K) (ys : List Effect) → opens_for datagram ≡ true → k ≤ t.at_once → LeadsOpenFrom s t stamp old at mid at1 → LeadsFromBy s t stamp datagram (HasOpened stamp) (suc k) mid at1 new at' k' ys → LeadsFrom s t Otherwise k old at new at' k' (Took stamp ∷ ys)
   opens_then stamp datagram k k' old mid new at at1 at' ys opens room first more = λ lives stand.
       let a = first lives stand in
       let b = more a.one.new a.one.stand in
@@ -207,14 +207,14 @@ module _ {K : Type 0} (s : Keepers K) (t : CommonView) where
       }
 
   -- a game comes into hand, and answers
-  pub comes_then : (message : Message) (datagram : List ℕ) (k m k' : ℕ) (old mid new : Gives K) (at at1 at' : At K) (more : List (List ℕ)) (r : Reply) → heard_in datagram ≡ Ok message → ComesInHand s t message old at k mid at1 m more → LeadsFromBy s t (stamp_in message).0 datagram (suc m) mid at1 new at' k' (effects_with [] r) → LeadsFrom s t None k old at new at' k' (effects_with more r)
-  comes_then message datagram k m k' old mid new at at1 at' more r says (WasOpen was none) answers =
-      subst (λ (ms : List (List ℕ)). LeadsFrom s t None k old at new at' k' (effects_with ms r)) (sym none)
-      (λ lives stand. leads_join s t None k (suc m) k' mid new at1 at' lives [] (effects_with [] r) (was lives stand) (λ l there. let b = answers l there in b.leads))
+  pub comes_then : (message : Message) (datagram : List ℕ) (k m k' : ℕ) (old mid new : Gives K) (at at1 at' : At K) (more : List (List ℕ)) (r : Reply) → heard_in datagram ≡ Ok message → ComesInHand s t message old at k mid at1 m more → ((last : LastDone) → MayAnswer t.at_once (suc m) last (stamp_in message).0 → LeadsFromBy s t (stamp_in message).0 datagram last (suc m) mid at1 new at' k' (effects_with [] r)) → LeadsFrom s t Otherwise k old at new at' k' (effects_with more r)
+  comes_then message datagram k m k' old mid new at at1 at' more r says (WasOpen few was none) answers =
+      subst (λ (ms : List (List ℕ)). LeadsFrom s t Otherwise k old at new at' k' (effects_with ms r)) (sym none)
+      (λ lives stand. leads_join s t Otherwise k (suc m) k' mid new at1 at' lives [] (effects_with [] r) (was lives stand) (λ l there. let b = answers Otherwise (inl few) l there in b.leads))
   comes_then message datagram k m k' old mid new at at1 at' more r says (IsOpened opens room first same one) answers =
-      subst (λ (ms : List (List ℕ)). LeadsFrom s t None k old at new at' k' (effects_with ms r)) (sym one)
+      subst (λ (ms : List (List ℕ)). LeadsFrom s t Otherwise k old at new at' k' (effects_with ms r)) (sym one)
       (opens_then (stamp_in message).0 datagram k k' old mid new at at1 at' (effects_with [] r) (ap opens_by says ∙ opens) room first
-      (subst (λ (n : ℕ). LeadsFromBy s t (stamp_in message).0 datagram (suc n) mid at1 new at' k' (effects_with [] r)) same answers))
+      (subst (λ (n : ℕ). LeadsFromBy s t (stamp_in message).0 datagram (HasOpened (stamp_in message).0) (suc n) mid at1 new at' k' (effects_with [] r)) same (answers (HasOpened (stamp_in message).0) (inr refl))))
 
 runs_on : {K : Type 0} (set : Holding) (seat : Seat K) → seat.state.is_down ≡ false → life_at (moment_of set seat) ≡ Open (moment_of set seat)
 runs_on set seat runs = cond-false seat.state.is_down (Shut seat.keeper) (Open (moment_of set seat)) runs
@@ -222,14 +222,14 @@ runs_on set seat runs = cond-false seat.state.is_down (Shut seat.keeper) (Open (
 is_shut : {K : Type 0} (set : Holding) (seat : Seat K) → seat.state.is_down ≡ true → life_at (moment_of set seat) ≡ Shut seat.keeper
 is_shut set seat down = cond-true seat.state.is_down (Shut seat.keeper) (Open (moment_of set seat)) down
 
-module _ {K : Type 0} (s : Keepers K) (t : CommonView) (k k' : ℕ) (old new : Gives K) (at at' : At K) (stamp : List ℕ) (before after : Seat K) (e : Exchange K) (sorted : stamp_for e.datagram ≡ Some stamp) (delivered : Delivers s.facts (moment_of t.set before) e) (is : e.after ≡ moment_of t.set after) where
+module _ {K : Type 0} (s : Keepers K) (t : CommonView) (last : LastDone) (k k' : ℕ) (old new : Gives K) (at at' : At K) (stamp : List ℕ) (before after : Seat K) (e : Exchange K) (may : MayAnswer t.at_once (suc k) last stamp) (sorted : stamp_for e.datagram ≡ Some stamp) (delivered : Delivers s.facts (moment_of t.set before) e) (is : e.after ≡ moment_of t.set after) where
   answers_on : (life l : Life K) → life ≡ Open (moment_of t.set before) → l ≡ life_at (moment_of t.set after) → GoesOn s t stamp life (Answers stamp e) l
   answers_on life l was now = subst (λ (x : Life K). GoesOn s t stamp x (Answers stamp e) l) (sym was) (delivered, now ∙ ap life_at (sym is))
 
   -- its keeper still keeps, and it stays in hand
   pub answers_to : IsAtRest s.facts t.set after → after.state.is_down ≡ false
-      → LeadsFrom s t (Some stamp) (suc k) old (in_hand stamp (Some after) at) new at' k' []
-      → LeadsFromBy s t stamp e.datagram (suc k) old (in_hand stamp (Some before) at) new at' k' (effects_with [] (answered stamp e))
+      → LeadsFrom s t (HasAnswered stamp) (suc k) old (in_hand stamp (Some after) at) new at' k' []
+      → LeadsFromBy s t stamp e.datagram last (suc k) old (in_hand stamp (Some before) at) new at' k' (effects_with [] (answered stamp e))
   answers_to rests runs more = λ lives stand.
       let there : Stands s t (old stamp) (Some before) (lives stamp) = subst (λ (x : Option (Seat K)). Stands s t (old stamp) x (lives stamp)) (holds_it stamp before at) (stand stamp) in
       let one : LeadsOne s t (Answers stamp e) lives old (in_hand stamp (Some after) at) =
@@ -238,14 +238,14 @@ module _ {K : Type 0} (s : Keepers K) (t : CommonView) (k k' : ℕ) (old new : G
       (subst (λ (x : Option (Seat K)). Stands s t (old stamp) x (Open (moment_of t.set after))) (sym (holds_it stamp after at)) (record { rests = rests; runs = runs }, refl))
       (λ other _ keeper given. given)
       (λ other e. cond-false (bytes_eq stamp other) (Some after) (at other) e ∙ sym (cond-false (bytes_eq stamp other) (Some before) (at other) e)) stand in
-      answer_rest s t stamp e (suc k) k' old new (in_hand stamp (Some after) at) at' lives [] (ap (λ (m : Moment K). m.arbiter.is_down) is ∙ runs) one more
+      answer_rest s t last stamp e (suc k) k' old new (in_hand stamp (Some after) at) at' lives [] may (ap (λ (m : Moment K). m.arbiter.is_down) is ∙ runs) one more
 
   -- its keeper failed, and it is closed
   pub fails_to : after.state.is_down ≡ true → at stamp ≡ None → ((other : List ℕ) → at' other ≡ at other) → ((next : K) → new stamp next → s.follows after.keeper next) → GivesOthers stamp old new
-      → LeadsFromBy s t stamp e.datagram (suc k) old (in_hand stamp (Some before) at) new at' k (effects_with [] (answered stamp e))
+      → LeadsFromBy s t stamp e.datagram last (suc k) old (in_hand stamp (Some before) at) new at' k (effects_with [] (answered stamp e))
   fails_to down absent same left others = λ lives stand.
       let there : Stands s t (old stamp) (Some before) (lives stamp) = subst (λ (x : Option (Seat K)). Stands s t (old stamp) x (lives stamp)) (holds_it stamp before at) (stand stamp) in
-      answer_alone s t stamp e k new at' lives (ap (λ (m : Moment K). m.arbiter.is_down) is ∙ down)
+      answer_alone s t last stamp e k new at' lives may (ap (λ (m : Moment K). m.arbiter.is_down) is ∙ down)
       (one_act s t old new (in_hand stamp (Some before) at) at' lives stamp (Answers stamp e) (Shut after.keeper) refl sorted
       (answers_on (lives stamp) (Shut after.keeper) there.1 (sym (is_shut t.set after down)))
       (subst (λ (x : Option (Seat K)). Stands s t (new stamp) x (Shut after.keeper)) (sym (same stamp ∙ absent)) left)
@@ -255,32 +255,32 @@ pub runs_not : (b : Bool) → b ≡ true → b ≡ false → ⊥
 runs_not b up down = let wrong : true ≡ false = sym up ∙ down in cc
 
 -- so a game in hand answers, whichever it is
-by_keeper : {K : Type 0} (s : Keepers K) (t : CommonView) (k k' : ℕ) (old new : Gives K) (at at' : At K) (stamp : List ℕ) (before after : Seat K) (e : Exchange K) (b : Bool) → after.state.is_down ≡ b → stamp_for e.datagram ≡ Some stamp → Delivers s.facts (moment_of t.set before) e → e.after ≡ moment_of t.set after
+by_keeper : {K : Type 0} (s : Keepers K) (t : CommonView) (last : LastDone) (k k' : ℕ) (old new : Gives K) (at at' : At K) (stamp : List ℕ) (before after : Seat K) (e : Exchange K) (b : Bool) → after.state.is_down ≡ b → MayAnswer t.at_once (suc k) last stamp → stamp_for e.datagram ≡ Some stamp → Delivers s.facts (moment_of t.set before) e → e.after ≡ moment_of t.set after
     → at stamp ≡ None → IsAtRest s.facts t.set after
-    → (after.state.is_down ≡ false → LeadsFrom s t (Some stamp) (suc k) old (in_hand stamp (Some after) at) new at' k' [])
+    → (after.state.is_down ≡ false → LeadsFrom s t (HasAnswered stamp) (suc k) old (in_hand stamp (Some after) at) new at' k' [])
     → (after.state.is_down ≡ true → ((next : K) → new stamp next → s.follows after.keeper next) × GivesOthers stamp old new × ((other : List ℕ) → at' other ≡ at other) × (k' ≡ k))
-    → LeadsFromBy s t stamp e.datagram (suc k) old (in_hand stamp (Some before) at) new at' k' (effects_with [] (answered stamp e))
-by_keeper s t k k' old new at at' stamp before after e true is sorted delivered later absent rests runs down =
+    → LeadsFromBy s t stamp e.datagram last (suc k) old (in_hand stamp (Some before) at) new at' k' (effects_with [] (answered stamp e))
+by_keeper s t last k k' old new at at' stamp before after e true is may sorted delivered later absent rests runs down =
     let d = down is in
-    subst (λ (m : ℕ). LeadsFromBy s t stamp e.datagram (suc k) old (in_hand stamp (Some before) at) new at' m (effects_with [] (answered stamp e))) (sym d.3)
-    (fails_to s t k k' old new at at' stamp before after e sorted delivered later is absent d.2 d.0 d.1)
-by_keeper s t k k' old new at at' stamp before after e false is sorted delivered later absent rests runs down =
-    answers_to s t k k' old new at at' stamp before after e sorted delivered later rests is (runs is)
+    subst (λ (m : ℕ). LeadsFromBy s t stamp e.datagram last (suc k) old (in_hand stamp (Some before) at) new at' m (effects_with [] (answered stamp e))) (sym d.3)
+    (fails_to s t last k k' old new at at' stamp before after e may sorted delivered later is absent d.2 d.0 d.1)
+by_keeper s t last k k' old new at at' stamp before after e false is may sorted delivered later absent rests runs down =
+    answers_to s t last k k' old new at at' stamp before after e may sorted delivered later rests is (runs is)
 
 -- to whichever datagram says its message
-pub answers_reply : {K : Type 0} (s : Keepers K) (t : CommonView) (k k' : ℕ) (old new : Gives K) (at at' : At K) (stamp : List ℕ) (message : Message) (before after : Seat K) (outputs : List Message) (line : List ℕ) → stamp ≡ (stamp_in message).0
+pub answers_reply : {K : Type 0} (s : Keepers K) (t : CommonView) (last : LastDone) (k k' : ℕ) (old new : Gives K) (at at' : At K) (stamp : List ℕ) (message : Message) (before after : Seat K) (outputs : List Message) (line : List ℕ) → MayAnswer t.at_once (suc k) last stamp → stamp ≡ (stamp_in message).0
     → at stamp ≡ None → IsAtRest s.facts t.set after → IsAnswered s.facts (moment_of t.set before) message (moment_of t.set after) outputs line
-    → (after.state.is_down ≡ false → LeadsFrom s t (Some stamp) (suc k) old (in_hand stamp (Some after) at) new at' k' [])
+    → (after.state.is_down ≡ false → LeadsFrom s t (HasAnswered stamp) (suc k) old (in_hand stamp (Some after) at) new at' k' [])
     → (after.state.is_down ≡ true → ((next : K) → new stamp next → s.follows after.keeper next) × GivesOthers stamp old new × ((other : List ℕ) → at' other ≡ at other) × (k' ≡ k))
     → (datagram : List ℕ) → heard_in datagram ≡ Ok message
-    → LeadsFromBy s t stamp datagram (suc k) old (in_hand stamp (Some before) at) new at' k' (effects_with [] (record { datagram = datagram; outputs = outputs; line = stamped stamp line }))
-answers_reply {K = K} s t k k' old new at at' stamp message before after outputs line own absent rests here runs down datagram says =
+    → LeadsFromBy s t stamp datagram last (suc k) old (in_hand stamp (Some before) at) new at' k' (effects_with [] (record { datagram = datagram; outputs = outputs; line = stamped stamp line }))
+answers_reply {K = K} s t last k k' old new at at' stamp message before after outputs line may own absent rests here runs down datagram says =
     let was : View = (moment_of t.set before).arbiter in
     let same : answer_at was datagram ≡ answer_to_any was message = ap (λ (h : Result Message MessageFault). answer_of was (in_game was.me.stamp h)) says in
     let sorted : stamp_for datagram ≡ Some stamp = ap stamp_by says ∙ ap Some (sym own) in
     let x : Exchange K = exchange datagram here.told (moment_of t.set after) in
     let delivered : Delivers s.facts (moment_of t.set before) x = subst (λ (a : Answer). Answered s.facts (moment_of t.set before) a here.told (moment_of t.set after)) (sym same) here.answers in
-    let leads : LeadsFromBy s t stamp datagram (suc k) old (in_hand stamp (Some before) at) new at' k' (effects_with [] (answered stamp x)) =
-    by_keeper s t k k' old new at at' stamp before after x after.state.is_down refl sorted delivered refl absent rests runs down in
-    subst (λ (o : List Message). LeadsFromBy s t stamp datagram (suc k) old (in_hand stamp (Some before) at) new at' k' (effects_with [] (record { datagram = datagram; outputs = o; line = stamped stamp line }))) (sym here.outputs_are)
-    (subst (λ (l : List ℕ). LeadsFromBy s t stamp datagram (suc k) old (in_hand stamp (Some before) at) new at' k' (effects_with [] (record { datagram = datagram; outputs = outputs_of here.told; line = stamped stamp l }))) (sym here.line_is) leads)
+    let leads : LeadsFromBy s t stamp datagram last (suc k) old (in_hand stamp (Some before) at) new at' k' (effects_with [] (answered stamp x)) =
+    by_keeper s t last k k' old new at at' stamp before after x after.state.is_down refl may sorted delivered refl absent rests runs down in
+    subst (λ (o : List Message). LeadsFromBy s t stamp datagram last (suc k) old (in_hand stamp (Some before) at) new at' k' (effects_with [] (record { datagram = datagram; outputs = o; line = stamped stamp line }))) (sym here.outputs_are)
+    (subst (λ (l : List ℕ). LeadsFromBy s t stamp datagram last (suc k) old (in_hand stamp (Some before) at) new at' k' (effects_with [] (record { datagram = datagram; outputs = outputs_of here.told; line = stamped stamp l }))) (sym here.line_is) leads)

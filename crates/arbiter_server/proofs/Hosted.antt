@@ -18,20 +18,20 @@ use Rattle.arbiter_server.proofs.PortLaws.{Passed-nil, Passed-on, Passed-trans, 
 use Rattle.arbiter_server.proofs.GoingLaws.{cut_later, go_join, none_out}
 use Rattle.arbiter_server.specs.declared.seat.Seat.{Seat}
 use Rattle.arbiter_server.specs.Folders.{FolderFacts, Gives, Keepers, keepers, keepers_at}
-use Rattle.arbiter_server.specs.Acts.{Act, Reply, all_replies, all_taken, passing_at}
+use Rattle.arbiter_server.specs.Acts.{Act, Otherwise, Reply, all_replies, passing_at}
 use Rattle.arbiter_server.specs.Games.{CommonView, Fresh, Life, Open, Shut}
 use Rattle.arbiter_server.specs.Room.{at_stamp}
 use Rattle.arbiter_server.specs.Seats.{At, Stands}
 use Rattle.arbiter_server.specs.Servers.{ServerView, Stays}
-use Rattle.arbiter_server.specs.Hosts.{Ends, Hosts, IsLeft, all_lines, all_passing, missed_if}
+use Rattle.arbiter_server.specs.Hosts.{Ends, EndsAtCut, Hosts, IsLeft, all_lines, all_passing, missed_if}
 use Rattle.arbiter_server.specs.Turns.{Effect, HasServed, Leads, LeadsFrom, Receives, ShutsFrom, TakesTurn, TurnsTo, all_effects, effects_of, effects_with, replies_in, taken_in}
 use Rattle.arbiter_server.proofs.Turning.{closings_open, closings_say, each_join, goes_still, leads_join, openings_join, replies_join, replies_with, taken_join, taken_with, their_replies, they_take}
 use Rattle.arbiter_server.proofs.Handing.{not_open}
 use Rattle.move_msg.specs.TextLines.{ended}
 use Rattle.arbiter_server.specs.declared.line_log.LineLog.{LineLog}
 use Rattle.arbiter_server.specs.declared.line_log.LogForm.{LogForm}
-use Rattle.arbiter_server.specs.LineLogs.{Remembers, TellsLine, form_of, logged, picked}
-use Rattle.arbiter_server.proofs.Logging.{logged_more, logged_none, no_texts, texts_after, texts_more}
+use Rattle.arbiter_server.specs.LineLogs.{Remembers, form_of, logged, picked}
+use Rattle.arbiter_server.proofs.Logging.{logged_more, only_one, logged_none, no_texts, texts_after, texts_more}
 
 -- a datagram came, and then what is answered was sent
 pub came_and_sent : (a b c : PortFacts) (r : Reply) → Passed a b (Came r.datagram ∷ []) → Passed b c (flat_map (handed b.addresses) r.outputs) → Passed a c (passing_at a.addresses r)
@@ -42,7 +42,7 @@ pub record HasHosted {K W : Type 0} (s : Keepers K) (t : CommonView) (w : Writer
   pub effects : List Effect
   pub replies : List Reply
   pub replies_are : replies_in effects ≡ replies
-  pub leads : Leads s t None 0 (λ stamp. Fresh) gives at k0 effects
+  pub leads : Leads s t Otherwise 0 (λ stamp. Fresh) gives at k0 effects
   pub makes : Passes made made' (map file (taken_in effects))
   pub passed : Passed port now (flat_map (passing_at port.addresses) replies)
   pub lines : GoOut w out (logged form (map (λ (r : Reply). r.line) replies)) out'
@@ -111,8 +111,12 @@ module _ {K W : Type 0} (s : Keepers K) (t : CommonView) (w : Writers W) (form :
   cuts_more : (lines : List (List ℕ)) (line : List ℕ) (first out out' : W) → GoOut w first (logged form lines) out → LastIsCut w out (picked form (texts_after [] lines) line) out' → LastIsCut w first (logged form (lines ++ line ∷ [])) out'
   cuts_more lines line first out out' had cut = subst (λ (ls : List (List ℕ)). LastIsCut w first ls out') (sym (logged_more form lines line)) (cut_later w first out out' _ (picked form (texts_after [] lines) line) had cut)
 
+  -- a line that is cut short is the last one that the log has
+  ends_at_cut : (lines : List (List ℕ)) (line : List ℕ) (out out' : W) (fault : WriteFault) → LastIsCut w out (picked form (texts_after [] lines) line) out' → EndsAtCut form (lines ++ line ∷ []) (Err fault)
+  ends_at_cut lines line out out' fault cut = (lines, line, cut.last, refl, logged_more form lines line ∙ ap (λ (ls : List (List ℕ)). logged form lines ++ ls) (only_one form (texts_after [] lines) line cut.whole cut.last cut.all))
+
   module _ (old new : Gives K) (at at' : At K) (k k' : ℕ) (file : List ℕ → Made) (made mid last : Option (List Made)) (port now later : PortFacts) (log log' : LineLog) (first out out' : W) (n : ℕ) (had : HasHosted s t w form log old at k file made mid port now first out n) (line : List ℕ) where
-    pub more_hosted : Receives (LeadsFrom s t None k old at new at' k') file mid last now later line false → IsTold w form (texts_after [] (map (λ (x : Reply). x.line) had.replies)) log' line out out' → HasHosted s t w form log' new at' k' file made last port later first out' (n + 1)
+    pub more_hosted : Receives (LeadsFrom s t Otherwise k old at new at' k') file mid last now later line false → IsTold w form (texts_after [] (map (λ (x : Reply). x.line) had.replies)) log' line out out' → HasHosted s t w form log' new at' k' file made last port later first out' (n + 1)
     more_hosted one told =
         let r = one.0 in
         let more : List (List ℕ) = one.1.0 in
@@ -123,7 +127,7 @@ module _ {K W : Type 0} (s : Keepers K) (t : CommonView) (w : Writers W) (form :
           effects = had.effects ++ effects_with more r;
           replies = had.replies ++ r ∷ [];
           replies_are = replies_more had.effects had.replies more r had.replies_are;
-          leads = leads_join s t None 0 k k' old new at at' (λ stamp. Fresh) had.effects (effects_with more r) had.leads one.1.2;
+          leads = leads_join s t Otherwise 0 k k' old new at at' (λ stamp. Fresh) had.effects (effects_with more r) had.leads one.1.2;
           makes = made_more file made mid last had.effects more r had.makes one.1.1;
           passed = passed_more port now later had.replies r had.passed one.3;
           lines = subst (λ (ls : List (List ℕ)). GoOut w first (logged form ls) out') (sym (lines_more had.replies r)) (logs_more mapped r.line first out out' had.lines is.went);
@@ -134,14 +138,13 @@ module _ {K W : Type 0} (s : Keepers K) (t : CommonView) (w : Writers W) (form :
 
   -- all of a run, by what was hosted
   served : (gives : Gives K) (at : At K) (k : ℕ) (file : List ℕ → Made) (made last : Option (List Made)) (port now later : PortFacts) (first out' : W) (n : ℕ) (effects : List Effect) (replies : List Reply) (lost : Bool) (ended : Result ℕ WriteFault)
-      → replies_in effects ≡ replies → Leads s t None 0 (λ stamp. Fresh) gives at k effects → Passes made last (map file (taken_in effects)) → Passed port now (flat_map (passing_at port.addresses) replies)
-      → Passed now later (missed_if lost) → (lost ≡ true → Risen now.faults later.faults) → Ends n replies lost ended → LinesEnd w first (logged form (all_lines replies lost)) out' ended
-      → HasServed s t w form n gives at file made last port later first out' ended
-  served gives at k file made last port now later first out' n effects replies lost ended are leads makes passed missed cause ends lines =
+      → replies_in effects ≡ replies → Leads s t Otherwise 0 (λ stamp. Fresh) gives at k effects → Passes made last (map file (taken_in effects)) → Passed port now (flat_map (passing_at port.addresses) replies)
+      → Passed now later (missed_if lost) → (lost ≡ true → Risen now.faults later.faults) → Ends n replies lost ended → LinesEnd w first (logged form (all_lines replies lost)) out' ended → EndsAtCut form (all_lines replies lost) ended
+      → HasServed s t w form n gives at k file made last port later first out' ended
+  served gives at k file made last port now later first out' n effects replies lost ended are leads makes passed missed cause ends lines last_is =
       let count = passed.count in
       record {
         effects = effects;
-        count = k;
         leads = leads;
         made = makes;
         lost = lost;
@@ -149,16 +152,17 @@ module _ {K W : Type 0} (s : Keepers K) (t : CommonView) (w : Writers W) (form :
         cause = λ is. Risen-later port.faults now.faults later.faults count (cause is);
         ends = subst (λ (rs : List Reply). Ends n rs lost ended) (sym are) ends;
         lines = subst (λ (rs : List Reply). LinesEnd w first (logged form (all_lines rs lost)) out' ended) (sym are) lines;
+        last = subst (λ (rs : List Reply). EndsAtCut form (all_lines rs lost) ended) (sym are) last_is;
       }
 
   never_lost : (a b : ℕ) → false ≡ true → Risen a b
   never_lost a b e = absurd (let wrong : false ≡ true = e in cc)
 
   -- all came
-  pub served_all : (log : LineLog) (gives : Gives K) (at : At K) (k : ℕ) (file : List ℕ → Made) (made last : Option (List Made)) (port now : PortFacts) (first out : W) (n : ℕ) → HasHosted s t w form log gives at k file made last port now first out n → HasServed s t w form n gives at file made last port now first out (Ok 0)
+  pub served_all : (log : LineLog) (gives : Gives K) (at : At K) (k : ℕ) (file : List ℕ → Made) (made last : Option (List Made)) (port now : PortFacts) (first out : W) (n : ℕ) → HasHosted s t w form log gives at k file made last port now first out n → HasServed s t w form n gives at k file made last port now first out (Ok 0)
   served_all log gives at k file made last port now first out n had =
       served gives at k file made last port now now first out n had.effects had.replies false (Ok 0) had.replies_are had.leads had.makes had.passed (Passed-nil now) (never_lost now.faults now.faults) (had.came, refl)
-      (subst (λ (ls : List (List ℕ)). GoOut w first (logged form ls) out) (sym (append-nil (map (λ (r : Reply). r.line) had.replies))) had.lines)
+      (subst (λ (ls : List (List ℕ)). GoOut w first (logged form ls) out) (sym (append-nil (map (λ (r : Reply). r.line) had.replies))) had.lines) tt
 
   module _ (old new : Gives K) (at at' : At K) (k0 k1 : ℕ) (file : List ℕ → Made) (made mid last : Option (List Made)) (port now later : PortFacts) (log : LineLog) (first out out' : W) (k n : ℕ) (had : HasHosted s t w form log old at k0 file made mid port now first out k) (few : k < n) (line : List ℕ) where
     -- what is known of lines by now
@@ -167,47 +171,50 @@ module _ {K W : Type 0} (s : Keepers K) (t : CommonView) (w : Writers W) (form :
 
     -- it goes on from one moment of the folder and the games to the next
     abbrev Next : List Effect → Type 0
-    Next = LeadsFrom s t None k0 old at new at' k1
+    Next = LeadsFrom s t Otherwise k0 old at new at' k1
 
     -- the port is lost
-    served_until : Receives Next file mid last now later line true → GoOut w out (picked form (texts_after [] so_far) line) out' → HasServed s t w form n new at' file made last port later first out' (Ok 1)
+    served_until : Receives Next file mid last now later line true → GoOut w out (picked form (texts_after [] so_far) line) out' → HasServed s t w form n new at' k1 file made last port later first out' (Ok 1)
     served_until one went =
         let came = had.came in
-        served new at' k1 file made last port now later first out' n had.effects had.replies true (Ok 1) had.replies_are (goes_still s t None 0 k0 k1 old new at at' (λ stamp. Fresh) had.effects had.leads one.0.0) (made_still file made mid last had.effects had.makes one.0.1)
+        served new at' k1 file made last port now later first out' n had.effects had.replies true (Ok 1) had.replies_are (goes_still s t Otherwise 0 k0 k1 old new at at' (λ stamp. Fresh) had.effects had.leads one.0.0) (made_still file made mid last had.effects had.makes one.0.1)
         had.passed one.2 (λ _. one.3) (omega (arith, few, came), refl)
-        (logs_more so_far refused_port first out out' had.lines (subst (λ (l : List ℕ). GoOut w out (picked form (texts_after [] so_far) l) out') one.1 went))
+        (logs_more so_far refused_port first out out' had.lines (subst (λ (l : List ℕ). GoOut w out (picked form (texts_after [] so_far) l) out') one.1 went)) tt
 
     -- the line of a port that is lost is cut short
-    cut_at_loss : (fault : WriteFault) → Receives Next file mid last now later line true → LastIsCut w out (picked form (texts_after [] so_far) line) out' → HasServed s t w form n new at' file made last port later first out' (Err fault)
+    cut_at_loss : (fault : WriteFault) → Receives Next file mid last now later line true → LastIsCut w out (picked form (texts_after [] so_far) line) out' → HasServed s t w form n new at' k1 file made last port later first out' (Err fault)
     cut_at_loss fault one cut =
         let came = had.came in
+        let at_loss : LastIsCut w out (picked form (texts_after [] so_far) refused_port) out' = subst (λ (l : List ℕ). LastIsCut w out (picked form (texts_after [] so_far) l) out') one.1 cut in
         let size : length (map (λ (r : Reply). r.line) had.replies) ≡ length had.replies = length-map had.replies (λ (r : Reply). r.line) in
         let all : length (map (λ (r : Reply). r.line) had.replies ++ refused_port ∷ []) ≡ length (map (λ (r : Reply). r.line) had.replies) + 1 = length-append (map (λ (r : Reply). r.line) had.replies) (refused_port ∷ []) in
-        served new at' k1 file made last port now later first out' n had.effects had.replies true (Err fault) had.replies_are (goes_still s t None 0 k0 k1 old new at at' (λ stamp. Fresh) had.effects had.leads one.0.0) (made_still file made mid last had.effects had.makes one.0.1)
+        served new at' k1 file made last port now later first out' n had.effects had.replies true (Err fault) had.replies_are (goes_still s t Otherwise 0 k0 k1 old new at at' (λ stamp. Fresh) had.effects had.leads one.0.0) (made_still file made mid last had.effects had.makes one.0.1)
         had.passed one.2 (λ _. one.3) (omega (arith, few, came, size, all))
-        (cuts_more so_far refused_port first out out' had.lines (subst (λ (l : List ℕ). LastIsCut w out (picked form (texts_after [] so_far) l) out') one.1 cut))
+        (cuts_more so_far refused_port first out out' had.lines at_loss) (ends_at_cut so_far refused_port out out' fault at_loss)
 
     -- the line of a datagram is cut short
-    cut_at_reply : (fault : WriteFault) → Receives Next file mid last now later line false → LastIsCut w out (picked form (texts_after [] so_far) line) out' → HasServed s t w form n new at' file made last port later first out' (Err fault)
+    cut_at_reply : (fault : WriteFault) → Receives Next file mid last now later line false → LastIsCut w out (picked form (texts_after [] so_far) line) out' → HasServed s t w form n new at' k1 file made last port later first out' (Err fault)
     cut_at_reply fault one cut =
         let r = one.0 in
         let more : List (List ℕ) = one.1.0 in
         let came = had.came in
         let all : List Reply = had.replies ++ r ∷ [] in
+        let at_reply : LastIsCut w out (picked form (texts_after [] so_far) r.line) out' = subst (λ (l : List ℕ). LastIsCut w out (picked form (texts_after [] so_far) l) out') one.2 cut in
         let lines : LastIsCut w first (logged form (map (λ (x : Reply). x.line) all)) out' =
         subst (λ (ls : List (List ℕ)). LastIsCut w first (logged form ls) out') (sym (lines_more had.replies r))
-        (cuts_more so_far r.line first out out' had.lines (subst (λ (l : List ℕ). LastIsCut w out (picked form (texts_after [] so_far) l) out') one.2 cut)) in
+        (cuts_more so_far r.line first out out' had.lines at_reply) in
         let size : length (map (λ (x : Reply). x.line) all) ≡ length all = length-map all (λ (x : Reply). x.line) in
         let one_more : length all ≡ length had.replies + 1 = length-append had.replies (r ∷ []) in
         let ends : length (map (λ (x : Reply). x.line) all) ≤ n = omega (arith, few, came, size, one_more) in
         let none : map (λ (x : Reply). x.line) all ++ [] ≡ map (λ (x : Reply). x.line) all = append-nil (map (λ (x : Reply). x.line) all) in
         served new at' k1 file made last port later later first out' n (had.effects ++ effects_with more r) all false (Err fault) (replies_more had.effects had.replies more r had.replies_are)
-        (leads_join s t None 0 k0 k1 old new at at' (λ stamp. Fresh) had.effects (effects_with more r) had.leads one.1.2) (made_more file made mid last had.effects more r had.makes one.1.1)
+        (leads_join s t Otherwise 0 k0 k1 old new at at' (λ stamp. Fresh) had.effects (effects_with more r) had.leads one.1.2) (made_more file made mid last had.effects more r had.makes one.1.1)
         (passed_more port now later had.replies r had.passed one.3) (Passed-nil later) (never_lost later.faults later.faults)
         (subst (λ (ls : List (List ℕ)). length ls ≤ n) (sym none) ends)
         (subst (λ (ls : List (List ℕ)). LastIsCut w first (logged form ls) out') (sym none) lines)
+        (subst (λ (ls : List (List ℕ)). EndsAtCut form ls (Err fault)) (sym (none ∙ lines_more had.replies r)) (ends_at_cut so_far r.line out out' fault at_reply))
 
-    served_cut : (fault : WriteFault) (lost : Bool) → Receives Next file mid last now later line lost → LastIsCut w out (picked form (texts_after [] so_far) line) out' → HasServed s t w form n new at' file made last port later first out' (Err fault)
+    served_cut : (fault : WriteFault) (lost : Bool) → Receives Next file mid last now later line lost → LastIsCut w out (picked form (texts_after [] so_far) line) out' → HasServed s t w form n new at' k1 file made last port later first out' (Err fault)
     served_cut fault true one cut = cut_at_loss fault one cut
     served_cut fault false one cut = cut_at_reply fault one cut
 
@@ -218,7 +225,7 @@ module _ {K W : Type 0} (s : Keepers K) (t : CommonView) (w : Writers W) (form :
 
   -- it goes on from one moment of the folder and the games to the next
   abbrev Onward : List Effect → Type 0
-  Onward = LeadsFrom s t None k0 old at new at' k1
+  Onward = LeadsFrom s t Otherwise k0 old at new at' k1
 
   -- the turn is taken after it
   abbrev pub Taken : Result Bool WriteFault → Type 0
@@ -235,7 +242,7 @@ module _ {K W : Type 0} (s : Keepers K) (t : CommonView) (w : Writers W) (form :
       more_hosted s t w form old new at at' k0 k1 file made mid last port now later log log' first out out' k had x.line received one
 
   -- one at which the port is lost
-  pub ends_by_loss : (n : ℕ) → k < n → (told : Result Bool WriteFault) (lost : Bool) → Taken told → told ≡ Ok lost → lost ≡ true → HasServed s t w form n new at' file made last port later first out' (Ok 1)
+  pub ends_by_loss : (n : ℕ) → k < n → (told : Result Bool WriteFault) (lost : Bool) → Taken told → told ≡ Ok lost → lost ≡ true → HasServed s t w form n new at' k1 file made last port later first out' (Ok 1)
   ends_by_loss n few told lost taken is off =
       let x : TakesTurn Onward file w told_before log log' mid last now later out out' told = taken told_before had.remembered in
       let lines : GoOut w out (picked (form_of log) told_before x.line) out' = subst (λ (r : Result Bool WriteFault). LinesEnd w out (picked (form_of log) told_before x.line) out' r) is x.tells.lines in
@@ -244,7 +251,7 @@ module _ {K W : Type 0} (s : Keepers K) (t : CommonView) (w : Writers W) (form :
       served_until s t w form old new at at' k0 k1 file made mid last port now later log first out out' k n had few x.line received (subst (λ (f : LogForm). GoOut w out (picked f told_before x.line) out') had.same lines)
 
   -- one whose line is cut short
-  pub ends_by_cut : (n : ℕ) → k < n → (told : Result Bool WriteFault) (fault : WriteFault) → Taken told → told ≡ Err fault → HasServed s t w form n new at' file made last port later first out' (Err fault)
+  pub ends_by_cut : (n : ℕ) → k < n → (told : Result Bool WriteFault) (fault : WriteFault) → Taken told → told ≡ Err fault → HasServed s t w form n new at' k1 file made last port later first out' (Err fault)
   ends_by_cut n few told fault taken is =
       let x : TakesTurn Onward file w told_before log log' mid last now later out out' told = taken told_before had.remembered in
       let lines : LastIsCut w out (picked (form_of log) told_before x.line) out' = subst (λ (r : Result Bool WriteFault). LinesEnd w out (picked (form_of log) told_before x.line) out' r) is x.tells.lines in
@@ -256,10 +263,10 @@ left_so s t gives (Shut left) h = h
 left_so s t gives (Open at) h = h
 
 -- the games that are open are closed
-pub hosts_closed : {K W : Type 0} (s : Keepers K) (t : CommonView) (w : Writers W) (form : LogForm) (n : ℕ) (gives gives' : Gives K) (at at' : At K) (file : List ℕ → Made) (made last : Option (List Made)) (port port' : PortFacts) (out out' : W) (ended : Result ℕ WriteFault)
-    → HasServed s t w form n gives at file made last port port' out out' ended → ShutsFrom s t gives at gives' at' → ((stamp : List ℕ) → at' stamp ≡ None)
+pub hosts_closed : {K W : Type 0} (s : Keepers K) (t : CommonView) (w : Writers W) (form : LogForm) (n : ℕ) (gives gives' : Gives K) (at at' : At K) (count : ℕ) (file : List ℕ → Made) (made last : Option (List Made)) (port port' : PortFacts) (out out' : W) (ended : Result ℕ WriteFault)
+    → HasServed s t w form n gives at count file made last port port' out out' ended → count ≤ t.at_once → ShutsFrom s t gives at gives' at' → ((stamp : List ℕ) → at' stamp ≡ None)
     → (taken : List (List ℕ)) × Passes made last (map file taken) × Hosts s t w form n taken gives' port port' out out' ended
-hosts_closed {K = K} s t w form n gives gives' at at' file made last port port' out out' ended had closing none =
+hosts_closed {K = K} s t w form n gives gives' at at' count file made last port port' out out' ended had few closing none =
     let ending = closing had.leads.new had.leads.stand in
     let acts : List (Act K) = had.leads.acts ++ ending.acts in
     let shut : (stamp : List ℕ) → Stands s t (gives' stamp) None (ending.new stamp) = λ stamp. subst (λ (o : Option (Seat K)). Stands s t (gives' stamp) o (ending.new stamp)) (none stamp) (ending.stand stamp) in
@@ -279,7 +286,7 @@ hosts_closed {K = K} s t w form n gives gives' at at' file made last port port' 
           opened = openings_join had.leads.acts ending.acts had.leads.opened (closings_open ending.acts ending.closing);
           closed = λ stamp. not_open s t (gives' stamp) (ending.new stamp) (shut stamp);
         };
-        few = record { first = had.leads.acts; last = ending.acts; is = refl; count = had.count; room = had.leads.room; closing = ending.closing };
+        few = record { first = had.leads.acts; last = ending.acts; is = refl; count = count; room = had.leads.room; few = few; closing = ending.closing };
         takes = sym (ap taken_in (sym effects) ∙ they_take acts);
         left = λ stamp. left_so s t (gives' stamp) (ending.new stamp) (shut stamp);
         lost = had.lost;
@@ -287,6 +294,7 @@ hosts_closed {K = K} s t w form n gives gives' at at' file made last port port' 
         cause = had.cause;
         ends = subst (λ (rs : List Reply). Ends n rs had.lost ended) replies had.ends;
         lines = subst (λ (rs : List Reply). LinesEnd w out (logged form (all_lines rs had.lost)) out' ended) replies had.lines;
+        last = subst (λ (rs : List Reply). EndsAtCut form (all_lines rs had.lost) ended) replies had.last;
       },
     )
 
@@ -294,7 +302,7 @@ hosts_closed {K = K} s t w form n gives gives' at at' file made last port port' 
 pub turn_from : {G K W : Type 0} (facts : KeeperFacts K) (folder : FolderFacts G K) (w : Writers W) (start now later : ServerView G K) → Stays folder start now → (log log' : LineLog) (had has : Option (List Made)) (port port' : PortFacts) (out out' : W) (told : Result Bool WriteFault)
     → ((before : List (List ℕ)) → Remembers log before → TakesTurn (TurnsTo facts folder now later) (folder.taken (folder.place now.games)) w before log log' had has port port' out out' told)
     → (before : List (List ℕ)) → Remembers log before
-    → TakesTurn (LeadsFrom (keepers facts folder start.games) start.common None (length now.seats) (folder.gives now.games) (at_stamp now.seats) (folder.gives later.games) (at_stamp later.seats) (length later.seats)) (folder.taken (folder.place start.games)) w before log log' had has port port' out out' told
+    → TakesTurn (LeadsFrom (keepers facts folder start.games) start.common Otherwise (length now.seats) (folder.gives now.games) (at_stamp now.seats) (folder.gives later.games) (at_stamp later.seats) (length later.seats)) (folder.taken (folder.place start.games)) w before log log' had has port port' out out' told
 turn_from facts folder w start now later stays log log' had has port port' out out' told taken before remembers =
-    subst (λ (p : folder.Place). TakesTurn (LeadsFrom (keepers_at facts folder p) start.common None (length now.seats) (folder.gives now.games) (at_stamp now.seats) (folder.gives later.games) (at_stamp later.seats) (length later.seats)) (folder.taken p) w before log log' had has port port' out out' told) stays.place
-    (subst (λ (t : CommonView). TakesTurn (LeadsFrom (keepers facts folder now.games) t None (length now.seats) (folder.gives now.games) (at_stamp now.seats) (folder.gives later.games) (at_stamp later.seats) (length later.seats)) (folder.taken (folder.place now.games)) w before log log' had has port port' out out' told) stays.common (taken before remembers))
+    subst (λ (p : folder.Place). TakesTurn (LeadsFrom (keepers_at facts folder p) start.common Otherwise (length now.seats) (folder.gives now.games) (at_stamp now.seats) (folder.gives later.games) (at_stamp later.seats) (length later.seats)) (folder.taken p) w before log log' had has port port' out out' told) stays.place
+    (subst (λ (t : CommonView). TakesTurn (LeadsFrom (keepers facts folder now.games) t Otherwise (length now.seats) (folder.gives now.games) (at_stamp now.seats) (folder.gives later.games) (at_stamp later.seats) (length later.seats)) (folder.taken (folder.place now.games)) w before log log' had has port port' out out' told) stays.common (taken before remembers))

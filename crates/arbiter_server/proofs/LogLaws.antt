@@ -1,17 +1,17 @@
 -- A log of changes leaves out no line of a game that doesn't stand in it already.
-use Rattle.std.proofs.Common.{◌≡◌, ◌≢◌, ◌∙◌, ◌+◌, ◌<◌, ◌≤◌, ℕ, Bool, true, false, List, [], ◌∷◌, ◌++◌, length, take, drop, Option, Some, None, cond, arith, inl, inr, refl, sym, ap, subst, ⊎_elim, append-nil, append_assoc, length-append}
-use Rattle.std.specs.Prelude.{◌⊎◌, ◌&&◌, ◌==◌, is_none, codes, ltb}
+use Rattle.std.proofs.Common.{◌≡◌, ℕ, Bool, true, false, List, [], ◌∷◌, ◌++◌, length, Option, None, cond, arith, inl, inr, refl, sym, ap, subst, ⊎_elim, append_assoc, length-append}
+use Rattle.std.specs.Prelude.{◌⊎◌, ◌==◌, is_none}
 use Rattle.std.specs.List.{Contains}
 use Rattle.std.specs.Str.{bytes_eq}
 use Rattle.std.proofs.lemmas.Bool.{and_parts}
 use Rattle.std.proofs.lemmas.List.{same_from_push}
-use Rattle.std.proofs.lemmas.List.Elements.{Contains-append_cases, Contains-append_left, Contains-append_right, Contains-push}
+use Rattle.std.proofs.lemmas.List.Elements.{Contains-append_left, Contains-append_right, Contains-push}
 use Rattle.std.proofs.lemmas.Slice.Eq.{bytes_eq-Decides}
 use Rattle.arbiter_core.proofs.Reach.{none_from}
 use Rattle.board_core.proofs.ComputedLists.{Contains-first}
 use Rattle.move_msg.specs.TextLines.{ended}
 use Rattle.arbiter_server.specs.declared.line_log.LogForm.TheVariants as form
-use Rattle.arbiter_server.specs.LineLogs.{changes_after, is_at, kind_of, last_at, logged, picked, picked_by, place_of}
+use Rattle.arbiter_server.specs.LineLogs.{changes_after, is_at, kind_of, last_at, picked, picked_by, place_of}
 use Rattle.arbiter_server.specs.ServedLines.{heard_words}
 use Rattle.arbiter_server.specs.Told.{stamped}
 use Rattle.arbiter_server.proofs.LogKinds.{kind_behind}

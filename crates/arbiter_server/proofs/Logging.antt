@@ -1,9 +1,9 @@
 -- A log after one more line.
-use Rattle.std.proofs.Common.{◌≡◌, ◌∙◌, ℕ, List, [], ◌∷◌, ◌++◌, refl, sym, ap, append-nil, append_assoc}
+use Rattle.std.proofs.Common.{◌≡◌, ◌∙◌, ℕ, Bool, true, false, cond, Option, Some, None, List, [], ◌∷◌, ◌++◌, refl, sym, ap, append-nil, append_assoc}
 use Rattle.move_msg.specs.TextLines.{ended}
 use Rattle.arbiter_server.specs.declared.line_log.LogForm.{LogForm}
 use Rattle.arbiter_server.specs.declared.line_log.LogForm.TheVariants as form
-use Rattle.arbiter_server.specs.LineLogs.{changes_after, logged, picked}
+use Rattle.arbiter_server.specs.LineLogs.{changes_after, kind_of, logged, picked, picked_by}
 
 -- the texts of lines behind these, the latest first
 unfoldable pub texts_after : List (List ℕ) → List (List ℕ) → List (List ℕ)
@@ -36,3 +36,29 @@ unfolding changes_after
 logged_none form.All = refl
 logged_none form.Nothing = refl
 logged_none form.Changes = refl
+
+-- of one line at most one is picked
+no_more : (x y : List ℕ) (xs : List (List ℕ)) → x ∷ [] ≡ xs ++ y ∷ [] → x ∷ [] ≡ y ∷ []
+no_more x y [] h = h
+no_more x y (z ∷ []) h = cc
+no_more x y (z ∷ w ∷ xs) h = cc
+
+one_at_most : (b : Bool) (x y : List ℕ) (xs : List (List ℕ)) → cond b (x ∷ []) [] ≡ xs ++ y ∷ [] → cond b (x ∷ []) [] ≡ y ∷ []
+one_at_most true x y xs h = no_more x y xs h
+one_at_most false x y [] h = cc
+one_at_most false x y (z ∷ xs) h = cc
+
+none_or_one : (b : Bool) (x y : List ℕ) (xs : List (List ℕ)) → cond b [] (x ∷ []) ≡ xs ++ y ∷ [] → cond b [] (x ∷ []) ≡ y ∷ []
+none_or_one false x y xs h = no_more x y xs h
+none_or_one true x y [] h = cc
+none_or_one true x y (z ∷ xs) h = cc
+
+by_kind : (before : List (List ℕ)) (line last : List ℕ) (kind : Option ℕ) (whole : List (List ℕ)) → picked_by before line kind ≡ whole ++ last ∷ [] → picked_by before line kind ≡ last ∷ []
+by_kind before line last None whole h = none_or_one _ line last whole h
+by_kind before line last (Some kind) whole h = one_at_most _ _ last whole h
+
+pub only_one : (f : LogForm) (before : List (List ℕ)) (line : List ℕ) (whole : List (List ℕ)) (last : List ℕ) → picked f before line ≡ whole ++ last ∷ [] → picked f before line ≡ last ∷ []
+only_one form.All before line whole last h = no_more line last whole h
+only_one form.Nothing before line [] last h = cc
+only_one form.Nothing before line (x ∷ whole) last h = cc
+only_one form.Changes before line whole last h = by_kind before line last (kind_of (ended line)) whole h

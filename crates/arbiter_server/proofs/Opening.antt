@@ -1,5 +1,5 @@
 -- A game is opened over its keeper, or refused.
-use Rattle.std.proofs.Common.{◌≡◌, ℕ, true, false, List, [], ◌∷◌, Option, Some, None, refl, sym, ap, subst, ◌∙◌}
+use Rattle.std.proofs.Common.{◌≡◌, ◌≤◌, ℕ, true, false, List, [], ◌∷◌, Option, Some, None, refl, sym, ap, subst, ◌∙◌}
 use Rattle.std.specs.Prelude.{Ok, Err, IfErr, IsErr}
 use Rattle.std.specs.Str.{bytes_eq}
 use Rattle.std.proofs.lemmas.Bool.{cond-true, cond-false}
@@ -15,9 +15,9 @@ use Rattle.arbiter_core.specs.Setups.{IsGood, SetupView}
 use Rattle.arbiter_server.specs.declared.games.Found.{Found}
 use Rattle.arbiter_server.specs.declared.seat.Seat.{Seat}
 use Rattle.arbiter_server.specs.Folders.{FolderFacts, Gives, GivesLess, GivesOthers, Keepers, keepers}
-use Rattle.arbiter_server.specs.Acts.{Act, Opening, Opens, Refuses, game_of, IsSorted, opens_for, stamp_for, unopened}
+use Rattle.arbiter_server.specs.Acts.{Act, Opening, Opens, Otherwise, Refuses, game_of, IsSorted, opens_for, stamp_for, unopened}
 use Rattle.arbiter_server.specs.Told.{unopened_by}
-use Rattle.arbiter_server.specs.Games.{CommonView, GoesOn, IsGameOf, IsOver, IsSetupOf, IsToldAs, Life, Fresh, Shut, Open, OpensTo, life_after, setup_of}
+use Rattle.arbiter_server.specs.Games.{CommonView, GoesOn, IsGameOf, IsOver, IsSetupOf, IsToldAs, Life, Fresh, Shut, Open, OpensTo, TellsGame, life_after, setup_of}
 use Rattle.arbiter_server.specs.Seats.{At, AreLives, IsSeated, Lives, Stands, in_hand}
 use Rattle.arbiter_server.specs.Turns.{IsFoundAs, LeadsFrom, LeadsOne, LeadsOpenFrom, effects_with}
 use Rattle.arbiter_server.proofs.Turning.{itself, leads_one, one_act}
@@ -37,6 +37,17 @@ its_told s t stamp game setup e told = record { game = game; told = told; name =
 
 pub found_as : {G K : Type 0} (facts : KeeperFacts K) (folder : FolderFacts G K) (t : CommonView) (games : G) (stamp : List ℕ) (game : Found) (setup : SetupView) → setup ≡ setup_of t game.name.items game.start game.delay → IsGameOf t.manifest stamp game.name.items game.start game.delay → folder.tells (folder.place games) stamp game → IsFoundAs facts folder t games stamp setup
 found_as facts folder t games stamp game setup e is told = record { game = its_setup t stamp game.name.items game.start game.delay setup e is; told = its_told (keepers facts folder games) t stamp game setup e told }
+
+-- so the folder tells a game that has this stamp
+pub told_game : {K : Type 0} (s : Keepers K) (t : CommonView) (stamp : List ℕ) (setup : SetupView) → IsToldAs s stamp setup → IsSetupOf t stamp setup → TellsGame s t.manifest stamp
+told_game s t stamp setup told_as game = record {
+  game = told_as.game;
+  told = told_as.told;
+  is =
+      subst (λ (d : ℕ). IsGameOf t.manifest stamp told_as.game.name.items told_as.game.start d) told_as.delay
+      (subst (λ (p : Parts). IsGameOf t.manifest stamp told_as.game.name.items p setup.delay) told_as.start
+      (subst (λ (name : List ℕ). IsGameOf t.manifest stamp name setup.start setup.delay) told_as.name game.game));
+}
 
 set_in : (t : CommonView) (stamp : List ℕ) (setup : SetupView) → IsSetupOf t stamp setup → setup.set ≡ t.set
 set_in t stamp setup game = ap (λ (x : SetupView). x.set) game.common
@@ -81,9 +92,9 @@ module _ {K : Type 0} (s : Keepers K) (t : CommonView) (old mid : Gives K) (stam
       record { over = record { setup = setup; before = before; now = now }; arbiter = awake r t.set; one = one }
 
   pub refused_over : (new : Gives K) (fault : OpenFault) → IsOpening s.facts setup before now (Err fault)
-      → ((next : K) → new stamp next → s.follows now next) → GivesOthers stamp mid new → (at : At K) (k : ℕ) (datagram : List ℕ) → at stamp ≡ None → stamp_for datagram ≡ Some stamp → opens_for datagram ≡ true → LeadsFrom s t None k old at new at k (effects_with (stamp ∷ []) (unopened stamp datagram (unopened_by fault)))
-  refused_over new fault opening left others at k datagram absent sorted opens = λ lives stand.
-      leads_one s t None k (Refuses stamp datagram (record { setup = setup; before = before; now = now }) fault) lives new at (opens, tt) tt
+      → ((next : K) → new stamp next → s.follows now next) → GivesOthers stamp mid new → (at : At K) (k : ℕ) (datagram : List ℕ) → k ≤ t.at_once → at stamp ≡ None → stamp_for datagram ≡ Some stamp → opens_for datagram ≡ true → LeadsFrom s t Otherwise k old at new at k (effects_with (stamp ∷ []) (unopened stamp datagram (unopened_by fault)))
+  refused_over new fault opening left others at k datagram few absent sorted opens = λ lives stand.
+      leads_one s t Otherwise k (Refuses stamp datagram (record { setup = setup; before = before; now = now }) fault) lives new at (opens, tt) few
       (opens_to s t old new at at stamp (record { setup = setup; before = before; now = now }) (Err fault) (Refuses stamp datagram (record { setup = setup; before = before; now = now }) fault) absent is given told_as game opening
       refl sorted (λ old new h. h)
       (subst (λ (x : Option (Seat K)). Stands s t (new stamp) x (Shut now)) (sym absent) left)

@@ -7,10 +7,11 @@ use Rattle.judge_core.specs.Tables.{Holding}
 use Rattle.arbiter_core.specs.Keeping.{KeeperFacts}
 use Rattle.arbiter_server.specs.declared.seat.Seat.{Seat}
 use Rattle.arbiter_server.specs.Folders.{FolderFacts, Gives, Keepers, keepers, keepers_at}
+use Rattle.arbiter_server.specs.Acts.{LastDone, HasAnswered, Otherwise}
 use Rattle.arbiter_server.specs.Games.{CommonView, Life, Fresh, Open}
 use Rattle.arbiter_server.specs.Seats.{At, AreSeated, IsAtRest, IsSeated, Stands, in_hand, moment_of}
 use Rattle.arbiter_server.specs.Turns.{Effect, LeadsFrom, LeadsFromBy, LeadsOpenFrom, ShutsFrom}
-use Rattle.arbiter_server.proofs.Turning.{itself, leads_join, same_stamp}
+use Rattle.arbiter_server.proofs.Turning.{itself, same_stamp}
 
 -- what is so of a result, and of any that is good
 pub both : {A E : Type 0} (r : Result A E) (P Q : A → Type 0) (M : Type 0) → ((x : A) → P x → M → Q x) → IfOk r P → OnOk r M → IfOk r Q
@@ -64,7 +65,7 @@ module _ {K : Type 0} (facts : KeeperFacts K) (set : Holding) where
 
 module _ {K : Type 0} (s : Keepers K) (t : CommonView) where
   -- from games that are open in the same way
-  pub from_same : (k k' : ℕ) (old new : Gives K) (at at1 at' : At K) (effects : List Effect) → ((other : List ℕ) → at1 other ≡ at other) → LeadsFrom s t None k old at1 new at' k' effects → LeadsFrom s t None k old at new at' k' effects
+  pub from_same : (k k' : ℕ) (old new : Gives K) (at at1 at' : At K) (effects : List Effect) → ((other : List ℕ) → at1 other ≡ at other) → LeadsFrom s t Otherwise k old at1 new at' k' effects → LeadsFrom s t Otherwise k old at new at' k' effects
   from_same k k' old new at at1 at' effects same h = λ lives stand.
       h lives (λ stamp. subst (λ (x : Option (Seat K)). Stands s t (old stamp) x (lives stamp)) (sym (same stamp)) (stand stamp))
 
@@ -86,21 +87,21 @@ module _ {K : Type 0} (s : Keepers K) (t : CommonView) where
   seat_of gives None life stands = tt
   seat_of gives (Some seat) life stands = stands.0
 
-  seated_after : (before : Option (List ℕ)) (k k' : ℕ) (gives gives' : Gives K) (at at' : At K) (effects : List Effect) → LeadsFrom s t before k gives at gives' at' k' effects → AreSeated s.facts t.set at → AreSeated s.facts t.set at'
-  seated_after before k k' gives gives' at at' effects leads are = λ stamp.
+  seated_after : (last : LastDone) (k k' : ℕ) (gives gives' : Gives K) (at at' : At K) (effects : List Effect) → LeadsFrom s t last k gives at gives' at' k' effects → AreSeated s.facts t.set at → AreSeated s.facts t.set at'
+  seated_after last k k' gives gives' at at' effects leads are = λ stamp.
       let there = leads (λ other. life_of (at other)) (λ other. stands_so (gives other) (at other) (are other)) in
       seat_of (gives' stamp) (at' stamp) (there.new stamp) (there.stand stamp)
 
   -- so do those that are left where one is settled
   settled_by : (down : Bool) (k k' : ℕ) (gives gives' : Gives K) (at at' : At K) (stamp : List ℕ) (seat : Seat K) → seat.state.is_down ≡ down → AreSeated s.facts t.set at → IsAtRest s.facts t.set seat
-      → (seat.state.is_down ≡ false → LeadsFrom s t (Some stamp) (suc k) gives (in_hand stamp (Some seat) at) gives' at' k' []) → (seat.state.is_down ≡ true → (other : List ℕ) → at' other ≡ at other) → AreSeated s.facts t.set at'
+      → (seat.state.is_down ≡ false → LeadsFrom s t (HasAnswered stamp) (suc k) gives (in_hand stamp (Some seat) at) gives' at' k' []) → (seat.state.is_down ≡ true → (other : List ℕ) → at' other ≡ at other) → AreSeated s.facts t.set at'
   settled_by true k k' gives gives' at at' stamp seat is are rests runs down = same_seated s.facts t.set at at' (down is) are
   settled_by false k k' gives gives' at at' stamp seat is are rests runs down =
-      seated_after (Some stamp) (suc k) k' gives gives' (in_hand stamp (Some seat) at) at' [] (runs is)
+      seated_after (HasAnswered stamp) (suc k) k' gives gives' (in_hand stamp (Some seat) at) at' [] (runs is)
       (seated_with s.facts t.set at (in_hand stamp (Some seat) at) stamp seat (record { rests = rests; runs = is }) (λ other. refl) are)
 
   pub settled : (k k' : ℕ) (gives gives' : Gives K) (at at' : At K) (stamp : List ℕ) (seat : Seat K) → AreSeated s.facts t.set at → IsAtRest s.facts t.set seat
-      → (seat.state.is_down ≡ false → LeadsFrom s t (Some stamp) (suc k) gives (in_hand stamp (Some seat) at) gives' at' k' []) → (seat.state.is_down ≡ true → (other : List ℕ) → at' other ≡ at other) → AreSeated s.facts t.set at'
+      → (seat.state.is_down ≡ false → LeadsFrom s t (HasAnswered stamp) (suc k) gives (in_hand stamp (Some seat) at) gives' at' k' []) → (seat.state.is_down ≡ true → (other : List ℕ) → at' other ≡ at other) → AreSeated s.facts t.set at'
   settled k k' gives gives' at at' stamp seat are rests runs down = settled_by seat.state.is_down k k' gives gives' at at' stamp seat refl are rests runs down
 
 -- a folder that is where it was at the start has the keepers that it had then
@@ -109,7 +110,7 @@ pub from_place : {G K : Type 0} (facts : KeeperFacts K) (folder : FolderFacts G 
 from_place facts folder start now same t old new at at' shuts =
     subst (λ (p : folder.Place). ShutsFrom (keepers_at facts folder p) t old at new at') same shuts
 
-pub from_place_by : {G K : Type 0} (facts : KeeperFacts K) (folder : FolderFacts G K) (start now : G) → folder.place now ≡ folder.place start → (t : CommonView) (stamp datagram : List ℕ) (k k' : ℕ) (old new : Gives K) (at at' : At K) (effects : List Effect)
-    → LeadsFromBy (keepers facts folder now) t stamp datagram k old at new at' k' effects → LeadsFromBy (keepers facts folder start) t stamp datagram k old at new at' k' effects
-from_place_by facts folder start now same t stamp datagram k k' old new at at' effects leads =
-    subst (λ (p : folder.Place). LeadsFromBy (keepers_at facts folder p) t stamp datagram k old at new at' k' effects) same leads
+pub from_place_by : {G K : Type 0} (facts : KeeperFacts K) (folder : FolderFacts G K) (start now : G) → folder.place now ≡ folder.place start → (t : CommonView) (stamp datagram : List ℕ) (last : LastDone) (k k' : ℕ) (old new : Gives K) (at at' : At K) (effects : List Effect)
+    → LeadsFromBy (keepers facts folder now) t stamp datagram last k old at new at' k' effects → LeadsFromBy (keepers facts folder start) t stamp datagram last k old at new at' k' effects
+from_place_by facts folder start now same t stamp datagram last k k' old new at at' effects leads =
+    subst (λ (p : folder.Place). LeadsFromBy (keepers_at facts folder p) t stamp datagram last k old at new at' k' effects) same leads

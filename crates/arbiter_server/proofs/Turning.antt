@@ -1,5 +1,5 @@
 -- One act after another.
-use Rattle.std.proofs.Common.{◌≡◌, ℕ, Bool, true, false, cond, List, [], ◌∷◌, ◌++◌, map, Option, Some, None, refl, sym, ap, subst, ◌∙◌, append-nil, inl, inr}
+use Rattle.std.proofs.Common.{◌≡◌, ℕ, true, false, cond, List, [], ◌∷◌, ◌++◌, Option, Some, None, refl, sym, ap, subst, ◌∙◌, append-nil, inl, inr}
 use Rattle.std.specs.List.{AllByRecursion}
 use Rattle.std.specs.Str.{bytes_eq}
 use Rattle.std.proofs.lemmas.Bool.{cond-true, cond-false}
@@ -8,10 +8,10 @@ use Rattle.std.proofs.lemmas.List.Elements.{filter-append}
 use Rattle.std.proofs.lemmas.Slice.Eq.{bytes_eq-Decides}
 use Rattle.arbiter_server.specs.declared.seat.Seat.{Seat}
 use Rattle.arbiter_server.specs.Folders.{Gives, GivesLess, GivesOthers, Keepers}
-use Rattle.arbiter_server.specs.Acts.{Act, AreInRoom, AreOpenings, IsAnsweredNext, IsClosing, IsInRoom, IsSorted, Reply, Unread, Strange, Refuses, Opens, Answers, Closes, acts_of, all_replies, all_taken, answerer, game_of, is_stamp, one_less, open_after, replies_of, taken_by}
+use Rattle.arbiter_server.specs.Acts.{Act, AreInRoom, AreOpenings, IsAnsweredNext, IsClosing, IsInRoom, IsSorted, Reply, Unread, Strange, Refuses, Opens, Answers, Closes, acts_of, all_replies, all_taken, LastDone, MayAnswer, Otherwise, done_after, game_of, is_stamp, one_less, open_after, replies_of, taken_by}
 use Rattle.arbiter_server.specs.Games.{CommonView, Goes, GoesOn, Life, Fresh, Shut, Open}
 use Rattle.arbiter_server.specs.Seats.{At, AreLives, Lives, Stands}
-use Rattle.arbiter_server.specs.Turns.{Each, Effect, Leads, LeadsFrom, LeadsOne, Shuts, ShutsFrom, all_effects, effects_of, effects_with, replies_in, reply_in, take_in, taken_in}
+use Rattle.arbiter_server.specs.Turns.{Each, Effect, Leads, LeadsFrom, LeadsOne, ShutsFrom, all_effects, effects_of, effects_with, replies_in, reply_in, take_in, taken_in}
 
 pub same_stamp : (a b : List ℕ) → bytes_eq a b ≡ true → a ≡ b
 same_stamp a b e = (bytes_eq-Decides a b).0 e
@@ -86,24 +86,28 @@ module _ {K : Type 0} where
 
 -- ---- how many are open
 
+-- what holds where nothing was done last holds after anything
+answer_after_any : (n k : ℕ) (last : LastDone) (stamp : List ℕ) → MayAnswer n k Otherwise stamp → MayAnswer n k last stamp
+answer_after_any n k last stamp (inl h) = inl h
+answer_after_any n k last stamp (inr h) = cc
+
 module _ {K : Type 0} (n : ℕ) where
-  -- what holds where no answer came before holds after any
-  close_after_any : (k : ℕ) (before : Option (List ℕ)) (stamp : List ℕ) (left : K) → IsInRoom n k None (Closes stamp left) → IsInRoom n k before (Closes stamp left)
-  close_after_any k before stamp left (inl h) = inl h
-  close_after_any k before stamp left (inr h) = cc
+  close_after_any : (k : ℕ) (last : LastDone) (stamp : List ℕ) (left : K) → IsInRoom n k Otherwise (Closes stamp left) → IsInRoom n k last (Closes stamp left)
+  close_after_any k last stamp left (inl h) = inl h
+  close_after_any k last stamp left (inr h) = cc
 
-  after_any : (k k' : ℕ) (before : Option (List ℕ)) (acts : List (Act K)) → AreInRoom n k None acts k' → AreInRoom n k before acts k'
-  after_any k k' before [] h = h
-  after_any k k' before (Unread datagram fault ∷ acts) h = h
-  after_any k k' before (Strange stamp datagram tried why ∷ acts) h = h
-  after_any k k' before (Refuses stamp datagram over fault ∷ acts) h = h
-  after_any k k' before (Opens stamp over arbiter ∷ acts) h = h
-  after_any k k' before (Answers stamp exchange ∷ acts) h = h
-  after_any k k' before (Closes stamp left ∷ acts) h = (close_after_any k before stamp left h.0, after_any (one_less k) k' before acts h.1)
+  after_any : (k k' : ℕ) (last : LastDone) (acts : List (Act K)) → AreInRoom n k Otherwise acts k' → AreInRoom n k last acts k'
+  after_any k k' last [] h = h
+  after_any k k' last (Unread datagram fault ∷ acts) h = h
+  after_any k k' last (Strange stamp datagram tried why ∷ acts) h = h
+  after_any k k' last (Refuses stamp datagram over fault ∷ acts) h = h
+  after_any k k' last (Opens stamp over arbiter ∷ acts) h = h
+  after_any k k' last (Answers stamp exchange ∷ acts) h = (answer_after_any n k last stamp h.0, h.1)
+  after_any k k' last (Closes stamp left ∷ acts) h = (close_after_any k last stamp left h.0, after_any (one_less k) k' last acts h.1)
 
-  pub room_join : (k mid k' : ℕ) (before : Option (List ℕ)) (xs ys : List (Act K)) → AreInRoom n k before xs mid → AreInRoom n mid None ys k' → AreInRoom n k before (xs ++ ys) k'
-  room_join k mid k' before [] ys p q = after_any k k' before ys (subst (λ (m : ℕ). AreInRoom n m None ys k') p q)
-  room_join k mid k' before (x ∷ xs) ys p q = (p.0, room_join (open_after k x) mid k' (answerer before x) xs ys p.1 q)
+  pub room_join : (k mid k' : ℕ) (last : LastDone) (xs ys : List (Act K)) → AreInRoom n k last xs mid → AreInRoom n mid Otherwise ys k' → AreInRoom n k last (xs ++ ys) k'
+  room_join k mid k' last [] ys p q = after_any k k' last ys (subst (λ (m : ℕ). AreInRoom n m Otherwise ys k') p q)
+  room_join k mid k' last (x ∷ xs) ys p q = (p.0, room_join (open_after k x) mid k' (done_after last x) xs ys p.1 q)
 
 -- ---- closings
 
@@ -152,8 +156,8 @@ module _ {K : Type 0} (s : Keepers K) (t : CommonView) where
   less_stands old new (Some seat) life less h = h
 
   -- each game that is open stays open, no other is opened, and the folder gives no more than before
-  pub leads_not : (before : Option (List ℕ)) (k : ℕ) (old new : Gives K) (at at' : At K) → GivesLess old new → ((other : List ℕ) → at' other ≡ at other) → LeadsFrom s t before k old at new at' k []
-  leads_not before k old new at at' less same = λ lives stand. record {
+  pub leads_not : (last : LastDone) (k : ℕ) (old new : Gives K) (at at' : At K) → GivesLess old new → ((other : List ℕ) → at' other ≡ at other) → LeadsFrom s t last k old at new at' k []
+  leads_not last k old new at at' less same = λ lives stand. record {
     acts = [];
     new = lives;
     turns = record { each = λ stamp. refl; sorted = tt };
@@ -178,8 +182,8 @@ module _ {K : Type 0} (s : Keepers K) (t : CommonView) where
   }
 
   -- which is no opening, and nothing comes after it
-  pub leads_one : (before : Option (List ℕ)) (k : ℕ) (act : Act K) (lives : Lives K) (new : Gives K) (at' : At K) → AreOpenings (act ∷ []) → IsInRoom t.at_once k before act → LeadsOne s t act lives new at' → Leads s t before k lives new at' (open_after k act) (effects_of act)
-  leads_one before k act lives new at' opened room one = record {
+  pub leads_one : (last : LastDone) (k : ℕ) (act : Act K) (lives : Lives K) (new : Gives K) (at' : At K) → AreOpenings (act ∷ []) → IsInRoom t.at_once k last act → LeadsOne s t act lives new at' → Leads s t last k lives new at' (open_after k act) (effects_of act)
+  leads_one last k act lives new at' opened room one = record {
     acts = act ∷ [];
     new = one.new;
     turns = one.turns;
@@ -196,22 +200,22 @@ module _ {K : Type 0} (s : Keepers K) (t : CommonView) where
     sorted = sorted_join xs ys one.sorted two.sorted;
   }
 
-  pub leads_join : (before : Option (List ℕ)) (k m k' : ℕ) (mid new : Gives K) (at at' : At K) (lives : Lives K) (xs ys : List Effect) → Leads s t before k lives mid at m xs → LeadsFrom s t None m mid at new at' k' ys → Leads s t before k lives new at' k' (xs ++ ys)
-  leads_join before k m k' mid new at at' lives xs ys one more =
+  pub leads_join : (last : LastDone) (k m k' : ℕ) (mid new : Gives K) (at at' : At K) (lives : Lives K) (xs ys : List Effect) → Leads s t last k lives mid at m xs → LeadsFrom s t Otherwise m mid at new at' k' ys → Leads s t last k lives new at' k' (xs ++ ys)
+  leads_join last k m k' mid new at at' lives xs ys one more =
       let two = more one.new one.stand in
       record {
         acts = one.acts ++ two.acts;
         new = two.new;
         turns = each_join lives one.new two.new one.acts two.acts one.turns two.turns;
         opened = openings_join one.acts two.acts one.opened two.opened;
-        room = room_join t.at_once k m k' before one.acts two.acts one.room two.room;
+        room = room_join t.at_once k m k' last one.acts two.acts one.room two.room;
         stand = two.stand;
         effects_are = flat_map-append effects_of one.acts two.acts ∙ ap (λ (es : List Effect). es ++ all_effects two.acts) one.effects_are ∙ ap (λ (es : List Effect). xs ++ es) two.effects_are;
       }
 
   -- with no effect more
-  pub goes_still : (before : Option (List ℕ)) (k m k' : ℕ) (mid new : Gives K) (at at' : At K) (lives : Lives K) (effects : List Effect) → Leads s t before k lives mid at m effects → LeadsFrom s t None m mid at new at' k' [] → Leads s t before k lives new at' k' effects
-  goes_still before k m k' mid new at at' lives effects one more = subst (λ (es : List Effect). Leads s t before k lives new at' k' es) (append-nil effects) (leads_join before k m k' mid new at at' lives effects [] one more)
+  pub goes_still : (last : LastDone) (k m k' : ℕ) (mid new : Gives K) (at at' : At K) (lives : Lives K) (effects : List Effect) → Leads s t last k lives mid at m effects → LeadsFrom s t Otherwise m mid at new at' k' [] → Leads s t last k lives new at' k' effects
+  goes_still last k m k' mid new at at' lives effects one more = subst (λ (es : List Effect). Leads s t last k lives new at' k' es) (append-nil effects) (leads_join last k m k' mid new at at' lives effects [] one more)
 
   -- a game that is open is closed
   pub closes_one : (old new : Gives K) (at at' : At K) (stamp : List ℕ) (seat : Seat K)
@@ -226,11 +230,11 @@ module _ {K : Type 0} (s : Keepers K) (t : CommonView) where
       others (λ other e. gone other ∙ cond-false (bytes_eq stamp other) None (at other) e) stand
 
   -- so it is where that makes room, or comes right after its own answer
-  pub closes : (before : Option (List ℕ)) (k : ℕ) (old new : Gives K) (at at' : At K) (stamp : List ℕ) (seat : Seat K) → IsInRoom t.at_once k before (Closes stamp seat.keeper)
+  pub closes : (last : LastDone) (k : ℕ) (old new : Gives K) (at at' : At K) (stamp : List ℕ) (seat : Seat K) → IsInRoom t.at_once k last (Closes stamp seat.keeper)
       → at stamp ≡ Some seat → ((other : List ℕ) → at' other ≡ cond (bytes_eq stamp other) None (at other))
-      → ((next : K) → new stamp next → s.follows seat.keeper next) → GivesOthers stamp old new → LeadsFrom s t before k old at new at' (one_less k) []
-  closes before k old new at at' stamp seat room was gone left others = λ lives stand.
-      leads_one before k (Closes stamp seat.keeper) lives new at' tt room (closes_one old new at at' stamp seat was gone left others lives stand)
+      → ((next : K) → new stamp next → s.follows seat.keeper next) → GivesOthers stamp old new → LeadsFrom s t last k old at new at' (one_less k) []
+  closes last k old new at at' stamp seat room was gone left others = λ lives stand.
+      leads_one last k (Closes stamp seat.keeper) lives new at' tt room (closes_one old new at at' stamp seat was gone left others lives stand)
 
   -- and at the end of a run
   pub shuts : (old new : Gives K) (at at' : At K) (stamp : List ℕ) (seat : Seat K)

@@ -174,29 +174,41 @@ open_after k (Opens stamp over arbiter) = suc k
 open_after k (Answers stamp exchange) = cond exchange.after.arbiter.is_down (one_less k) k
 open_after k (Closes stamp left) = one_less k
 
--- the game since whose answer nothing was done but closing games
-abbrev pub answerer : {K : Type 0} → Option (List ℕ) → Act K → Option (List ℕ)
-answerer before (Unread datagram fault) = None
-answerer before (Strange stamp datagram tried why) = None
-answerer before (Refuses stamp datagram over fault) = None
-answerer before (Opens stamp over arbiter) = None
-answerer before (Answers stamp exchange) = Some stamp
-answerer before (Closes stamp left) = before
+-- what was done last, but for closing games
+pub data LastDone : Type 0 where
+  -- this game was opened
+  HasOpened : (stamp : List ℕ) → LastDone
+  -- the arbiter of this game answered
+  HasAnswered : (stamp : List ℕ) → LastDone
+  -- neither
+  Otherwise : LastDone
 
--- Where n games are to be open: one is opened where no more than these are, so that there may be one more. One is closed where more than
--- n are open, or where nothing but closing was done since its own answer.
-abbrev pub IsInRoom : {K : Type 0} → ℕ → ℕ → Option (List ℕ) → Act K → Type 0
-IsInRoom n k before (Unread datagram fault) = Unit {0}
-IsInRoom n k before (Strange stamp datagram tried why) = Unit {0}
-IsInRoom n k before (Refuses stamp datagram over fault) = Unit {0}
-IsInRoom n k before (Opens stamp over arbiter) = k ≤ n
-IsInRoom n k before (Answers stamp exchange) = Unit {0}
-IsInRoom n k before (Closes stamp left) = (n < k) ⊎ (before ≡ Some stamp)
+abbrev pub done_after : {K : Type 0} → LastDone → Act K → LastDone
+done_after last (Unread datagram fault) = Otherwise
+done_after last (Strange stamp datagram tried why) = Otherwise
+done_after last (Refuses stamp datagram over fault) = Otherwise
+done_after last (Opens stamp over arbiter) = HasOpened stamp
+done_after last (Answers stamp exchange) = HasAnswered stamp
+done_after last (Closes stamp left) = last
+
+-- the arbiter of this game may answer where no more than n are open, or where it was opened just now
+abbrev pub MayAnswer : ℕ → ℕ → LastDone → List ℕ → Type 0
+MayAnswer n k last stamp = (k ≤ n) ⊎ (last ≡ HasOpened stamp)
+
+-- At most n games are open, but from an opening to what closes one behind its answer: then one more may be. A game is closed where
+-- more than n are open, or where nothing but closing was done since its own answer.
+abbrev pub IsInRoom : {K : Type 0} → ℕ → ℕ → LastDone → Act K → Type 0
+IsInRoom n k last (Unread datagram fault) = k ≤ n
+IsInRoom n k last (Strange stamp datagram tried why) = k ≤ n
+IsInRoom n k last (Refuses stamp datagram over fault) = k ≤ n
+IsInRoom n k last (Opens stamp over arbiter) = k ≤ n
+IsInRoom n k last (Answers stamp exchange) = MayAnswer n k last stamp
+IsInRoom n k last (Closes stamp left) = (n < k) ⊎ (last ≡ HasAnswered stamp)
 
 -- so it is of each act, from where so many are open to where so many are
-abbrev pub AreInRoom : {K : Type 0} → ℕ → ℕ → Option (List ℕ) → List (Act K) → ℕ → Type 0
-AreInRoom n k before [] k' = k' ≡ k
-AreInRoom n k before (act ∷ acts) k' = IsInRoom n k before act × AreInRoom n (open_after k act) (answerer before act) acts k'
+abbrev pub AreInRoom : {K : Type 0} → ℕ → ℕ → LastDone → List (Act K) → ℕ → Type 0
+AreInRoom n k last [] k' = k' ≡ k
+AreInRoom n k last (act ∷ acts) k' = IsInRoom n k last act × AreInRoom n (open_after k act) (done_after last act) acts k'
 
 -- a game is closed
 abbrev pub IsClosing : {K : Type 0} → Act K → Type 0

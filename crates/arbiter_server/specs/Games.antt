@@ -45,12 +45,18 @@ pub data LacksKeeper {K : Type 0} (s : Keepers K) (manifest stamp : List ℕ) (w
   IsRefused : s.refuses stamp why → LacksKeeper s manifest stamp why
   IsAnother : (game : Found) → s.tells stamp game → (IsGameOf manifest stamp game.name.items game.start game.delay → ⊥) → why ≡ OtherGame → LacksKeeper s manifest stamp why
 
+-- the folder tells a game that has this stamp
+pub record TellsGame {K : Type 0} (s : Keepers K) (manifest stamp : List ℕ) : Type 0 where
+  pub game : Found
+  pub told : s.tells stamp game
+  pub is : IsGameOf manifest stamp game.name.items game.start game.delay
+
 -- why a message of a game that isn't open gets no arbiter: it opens none; or it would, and there is no keeper of the game, or, where its
--- file was opened, none over that
+-- file was opened, which the folder tells, none over that
 abbrev pub IsStrange : {K : Type 0} → Keepers K → List ℕ → List ℕ → Bool → Bool → Unopened → Type 0
 IsStrange s manifest stamp false tried why = (why ≡ NotOpen) × (tried ≡ false)
 IsStrange s manifest stamp true false why = LacksKeeper s manifest stamp why
-IsStrange s manifest stamp true true why = s.withholds stamp why
+IsStrange s manifest stamp true true why = s.withholds stamp why × TellsGame s manifest stamp
 
 -- where the arbiter of a game is
 pub data Life (K : Type 0) : Type 0 where

@@ -1,5 +1,5 @@
 -- What a host leaves (this project's own).
-use Rattle.std.specs.Prelude.{◌≡◌, ◌<◌, ◌≤◌, ◌++◌, ℕ, Bool, true, false, List, [], ◌∷◌, length, map, None, Result, Ok, Err}
+use Rattle.std.specs.Prelude.{◌≡◌, ◌<◌, ◌≤◌, ◌++◌, ℕ, Bool, true, false, List, [], ◌∷◌, length, map, Result, Ok, Err}
 use Rattle.std.specs.List.{AllByRecursion, flat_map}
 use Rattle.system_io.specs.Failures.{Risen}
 use Rattle.system_io.specs.Ports.{Passing, Missed, Passed, PortFacts}
@@ -9,7 +9,7 @@ use Rattle.arbiter_server.specs.LineLogs.{logged}
 use Rattle.arbiter_server.specs.declared.line_log.LogForm.{LogForm}
 use Rattle.arbiter_server.specs.ServedLines.{refused_port}
 use Rattle.arbiter_server.specs.Folders.{Gives, Keepers}
-use Rattle.arbiter_server.specs.Acts.{Act, AreInRoom, AreOpenings, IsClosing, IsSorted, Reply, acts_of, all_replies, all_taken, passing_at}
+use Rattle.arbiter_server.specs.Acts.{Act, AreInRoom, AreOpenings, IsClosing, IsSorted, Otherwise, Reply, acts_of, all_replies, all_taken, passing_at}
 use Rattle.arbiter_server.specs.Games.{CommonView, Fresh, Goes, IsNotOpen, Life, Open, Shut}
 
 -- each game's own acts lead from where it was never opened to where it is now, by the steps of an arbiter alone; each act is of the
@@ -45,19 +45,26 @@ Ends n replies false (Ok status) = (length replies ≡ n) × (status ≡ 0)
 Ends n replies true (Ok status) = (length replies < n) × (status ≡ 1)
 Ends n replies lost (Err fault) = length (all_lines replies lost) ≤ n
 
+-- where the writer failed, the line that it failed at is the last one, and none that the log leaves out: nothing was done after it
+abbrev pub EndsAtCut : LogForm → List (List ℕ) → Result ℕ WriteFault → Type 0
+EndsAtCut form lines (Ok status) = Unit {0}
+EndsAtCut form lines (Err fault) = (before : List (List ℕ)) × (line : List ℕ) × (last : List ℕ) × (lines ≡ before ++ line ∷ []) × (logged form lines ≡ logged form before ++ last ∷ [])
+
 -- of a game that was closed a folder gives from now on a keeper over what was left
 abbrev pub IsLeft : {K : Type 0} → Keepers K → (K → Type 0) → Life K → Type 0
 IsLeft s gives Fresh = Unit {0}
 IsLeft {K = K} s gives (Shut left) = (next : K) → gives next → s.follows left next
 IsLeft s gives (Open at) = ⊥
 
--- a game is opened where no more than so many are open; one is closed where more are, after its own answer, or at the end
+-- no more games than so many are open, but for one between its opening and what closes one behind its answer; one is closed where
+-- more are, after its own answer, or at the end
 pub record AreFew {K : Type 0} (n : ℕ) (acts : List (Act K)) : Type 0 where
   pub first : List (Act K)
   pub last : List (Act K)
   pub is : acts ≡ first ++ last
   pub count : ℕ
-  pub room : AreInRoom n 0 None first count
+  pub room : AreInRoom n 0 Otherwise first count
+  pub few : count ≤ n
   pub closing : AllByRecursion IsClosing last
 
 -- A host's run for n datagrams: some acts, by which each game goes its own way. All that passes at the port are the datagrams and
@@ -74,3 +81,4 @@ pub record Hosts {K W : Type 0} (s : Keepers K) (t : CommonView) (w : Writers W)
   pub cause : lost ≡ true → Risen port.faults port'.faults
   pub ends : Ends n (all_replies acts) lost ended
   pub lines : LinesEnd w out (logged form (all_lines (all_replies acts) lost)) out' ended
+  pub last : EndsAtCut form (all_lines (all_replies acts) lost) ended

@@ -1,11 +1,10 @@
 -- Which lines of a server are written (this project's own). A text is that of a line, with its line feed.
-use Rattle.std.specs.Prelude.{◌≡◌, ◌+◌, ◌-◌, ◌*◌, ◌%◌, ◌^◌, ◌<◌, ◌++◌, ◌&&◌, ◌==◌, ltb, ℕ, Bool, true, false, cond, min, List, [], ◌∷◌, Option, Some, None, is_none, codes, drop, length, get_or, Result}
+use Rattle.std.specs.Prelude.{◌≡◌, ◌+◌, ◌-◌, ◌*◌, ◌%◌, ◌^◌, ◌<◌, ◌++◌, ◌&&◌, ◌==◌, ltb, ℕ, Bool, false, cond, min, List, [], ◌∷◌, Option, Some, None, is_none, codes, drop, length, get_or, Result}
 use Rattle.std.specs.Fmt.{decimal}
 use Rattle.std.specs.Str.{bytes_eq}
 use Rattle.std.specs.Int.{is_power_of_two}
 use Rattle.move_msg.specs.TextLines.{ended}
 use Rattle.system_io.specs.declared.output.WriteFault.{WriteFault}
-use Rattle.arbiter_server.specs.declared.last_lines.LastLines.{LastLines}
 use Rattle.arbiter_server.specs.declared.line_log.LineLog.{LineLog}
 use Rattle.arbiter_server.specs.declared.line_log.LineLog.TheVariants as log
 use Rattle.arbiter_server.specs.declared.line_log.LogForm.{LogForm}

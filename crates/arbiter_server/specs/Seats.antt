@@ -40,10 +40,11 @@ At K = List ℕ → Option (Seat K)
 abbrev pub AreSeated : {K : Type 0} → KeeperFacts K → Holding → At K → Type 0
 AreSeated facts set at = (stamp : List ℕ) → IfSome (at stamp) (IsSeated facts set)
 
--- so they can, and there is room for as many as there are to be at once
-pub record HasRoomFor {K : Type 0} (facts : KeeperFacts K) (set : Holding) (at : At K) (cap most : ℕ) : Type 0 where
+-- so they can, there is room for as many as there are to be at once, and there are no more
+pub record HasRoomFor {K : Type 0} (facts : KeeperFacts K) (set : Holding) (at : At K) (k cap most : ℕ) : Type 0 where
   pub seated : AreSeated facts set at
   pub room : cap ≡ most
+  pub few : k ≤ most
 
 -- where the arbiters of all games are
 abbrev pub Lives : Type 0 → Type 0

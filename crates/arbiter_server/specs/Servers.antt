@@ -5,8 +5,10 @@ use Rattle.system_io.specs.Hosts.{Made}
 use Rattle.system_io.specs.Ports.{PortFacts}
 use Rattle.system_io.specs.declared.output.WriteFault.{WriteFault}
 use Rattle.arbiter_core.specs.Keeping.{KeeperFacts}
-use Rattle.arbiter_server.specs.GoingOut.{Writers}
-use Rattle.arbiter_server.specs.declared.line_log.LogForm.{LogForm}
+use Rattle.system_io.specs.Outputs.{OutputFacts}
+use Rattle.arbiter_server.specs.GoingOut.{Writers, writers}
+use Rattle.arbiter_server.specs.LineLogs.{form_of}
+use Rattle.arbiter_server.specs.declared.line_log.LineLog.{LineLog}
 use Rattle.arbiter_server.specs.Folders.{FolderFacts, keepers}
 use Rattle.arbiter_server.specs.Games.{CommonView}
 use Rattle.arbiter_server.specs.Hosts.{Hosts}
@@ -35,7 +37,30 @@ pub record Stays {G K : Type 0} (folder : FolderFacts G K) (old new : ServerView
   pub common : new.common ≡ old.common
   pub place : folder.place new.games ≡ folder.place old.games
 
--- a run of it for n datagrams
-abbrev pub ServerHosts : {G K W : Type 0} → KeeperFacts K → FolderFacts G K → Writers W → LogForm → ℕ → ServerView G K → ServerView G K → Option (List Made) → Option (List Made) → PortFacts → PortFacts → W → W → Result ℕ WriteFault → Type 0
-ServerHosts facts folder w form n old new had has port port' out out' ended =
-    (taken : List (List ℕ)) × Passes had has (map (folder.taken (folder.place old.games)) taken) × Hosts (keepers facts folder old.games) old.common w form n taken (folder.gives new.games) port port' out out' ended
+-- what is known of a folder's keepers, of the folder, of what a host has made, of a port and of a writer
+pub record Knowing (G K H P W : Type 0) : Type 1 where
+  pub keeper : KeeperFacts K
+  pub folder : FolderFacts G K
+  pub made : H → Option (List Made)
+  pub port : P → PortFacts
+  pub writer : Writers W
+
+abbrev pub knowing : {G K H P W : Type 0} → KeeperFacts K → FolderFacts G K → (H → Option (List Made)) → (P → PortFacts) → (W → Option (List ℕ)) → (W → OutputFacts) → Knowing G K H P W
+knowing keeper folder made port written output = record { keeper = keeper; folder = folder; made = made; port = port; writer = writers written output }
+
+-- a server at one moment, with what is lent to it: the host's history, the port, the log and the writer
+pub record AtHand (G K H P W : Type 0) : Type 0 where
+  pub server : ServerView G K
+  pub history : H
+  pub port : P
+  pub log : LineLog
+  pub out : W
+
+abbrev pub at_hand : {G K H P W : Type 0} → ServerView G K → H → P → LineLog → W → AtHand G K H P W
+at_hand server history port log out = record { server = server; history = history; port = port; log = log; out = out }
+
+-- a run of it for n datagrams: keepers are taken of some games, and nothing else is made
+abbrev pub ServerHosts : {G K H P W : Type 0} → Knowing G K H P W → ℕ → AtHand G K H P W → AtHand G K H P W → Result ℕ WriteFault → Type 0
+ServerHosts f n old new ended =
+    (taken : List (List ℕ)) × Passes (f.made old.history) (f.made new.history) (map (f.folder.taken (f.folder.place old.server.games)) taken)
+    × Hosts (keepers f.keeper f.folder old.server.games) old.server.common f.writer (form_of old.log) n taken (f.folder.gives new.server.games) (f.port old.port) (f.port new.port) old.out new.out ended

@@ -15,7 +15,7 @@ use Rattle.system_io.specs.Hosts.{Made}
 use Rattle.system_io.specs.Ports.{Missed, Passed, PortFacts}
 use Rattle.system_io.specs.declared.output.WriteFault.{WriteFault}
 use Rattle.arbiter_server.specs.GoingOut.{LinesEnd, Writers}
-use Rattle.arbiter_server.specs.LineLogs.{TellsLine, logged}
+use Rattle.arbiter_server.specs.LineLogs.{Remembers, TellsLine, form_of, logged}
 use Rattle.arbiter_server.specs.declared.line_log.LineLog.{LineLog}
 use Rattle.arbiter_server.specs.declared.line_log.LogForm.{LogForm}
 use Rattle.arbiter_server.specs.ServedLines.{refused_port}
@@ -24,12 +24,12 @@ use Rattle.arbiter_server.specs.declared.seat.Seat.{Seat}
 use Rattle.arbiter_server.specs.Folders.{FolderFacts, Gives, GivesOthers, Keepers, keepers}
 use Rattle.arbiter_server.specs.declared.turn.Answered.{Answered}
 use Rattle.arbiter_server.specs.Told.{line_words, unopened_by}
-use Rattle.arbiter_server.specs.Acts.{Act, Answers, AreInRoom, AreOpenings, Closes as ClosesGame, IsClosing, IsSorted, Opening, Opens, Refuses as RefusesGame, Reply, Strange, Unread, acts_of, answered, opens_for, opens_game, passing_at, stamp_for, unopened, unread}
+use Rattle.arbiter_server.specs.Acts.{Act, Answers, AreInRoom, AreOpenings, Closes as ClosesGame, IsClosing, IsSorted, LastDone, HasAnswered, MayAnswer, Opening, Opens, Otherwise, Refuses as RefusesGame, Reply, Strange, Unread, acts_of, answered, opens_for, opens_game, passing_at, stamp_for, unopened, unread}
 use Rattle.arbiter_server.specs.Games.{CommonView, Fresh, Goes, IsSetupOf, IsToldAs}
-use Rattle.arbiter_server.specs.Hosts.{Ends, all_lines, all_passing}
+use Rattle.arbiter_server.specs.Hosts.{Ends, EndsAtCut, all_lines, all_passing}
 use Rattle.arbiter_server.specs.Room.{at_stamp}
-use Rattle.arbiter_server.specs.Seats.{At, AreLives, IsSeated, Lives, in_hand}
-use Rattle.arbiter_server.specs.Servers.{ServerView}
+use Rattle.arbiter_server.specs.Seats.{At, AreLives, Evicts, IsSeated, Lives, in_hand}
+use Rattle.arbiter_server.specs.Servers.{AtHand, Knowing, ServerView}
 
 -- ---- what comes of acts
 
@@ -82,20 +82,20 @@ pub record Each {K : Type 0} (s : Keepers K) (t : CommonView) (old new : Lives K
   pub each : (stamp : List ℕ) → Goes s t stamp (old stamp) (acts_of stamp acts) (new stamp)
   pub sorted : AllByRecursion IsSorted acts
 
--- where the last act was an answer of this game, if of any, some acts lead from these lives to where the games are now, and from so many
+-- where this was done last, some acts lead from these lives to where the games are now, and from so many
 -- that are open to so many, with these effects
-pub record Leads {K : Type 0} (s : Keepers K) (t : CommonView) (before : Option (List ℕ)) (k : ℕ) (old : Lives K) (gives : Gives K) (at : At K) (k' : ℕ) (effects : List Effect) : Type 0 where
+pub record Leads {K : Type 0} (s : Keepers K) (t : CommonView) (last : LastDone) (k : ℕ) (old : Lives K) (gives : Gives K) (at : At K) (k' : ℕ) (effects : List Effect) : Type 0 where
   pub acts : List (Act K)
   pub new : Lives K
   pub turns : Each s t old new acts
   pub opened : AreOpenings acts
-  pub room : AreInRoom t.at_once k before acts k'
+  pub room : AreInRoom t.at_once k last acts k'
   pub stand : AreLives s t gives at new
   pub effects_are : all_effects acts ≡ effects
 
 -- so they do, and the first is the answer of this game's arbiter to this datagram
-pub record LeadsBy {K : Type 0} (s : Keepers K) (t : CommonView) (stamp datagram : List ℕ) (k : ℕ) (old : Lives K) (gives : Gives K) (at : At K) (k' : ℕ) (effects : List Effect) : Type 0 where
-  pub leads : Leads s t None k old gives at k' effects
+pub record LeadsBy {K : Type 0} (s : Keepers K) (t : CommonView) (stamp datagram : List ℕ) (last : LastDone) (k : ℕ) (old : Lives K) (gives : Gives K) (at : At K) (k' : ℕ) (effects : List Effect) : Type 0 where
+  pub leads : Leads s t last k old gives at k' effects
   pub exchange : Exchange K
   pub rest : List (Act K)
   pub acts_are : leads.acts ≡ Answers stamp exchange ∷ rest
@@ -122,11 +122,11 @@ pub record Shuts {K : Type 0} (s : Keepers K) (t : CommonView) (old : Lives K) (
   pub stand : AreLives s t gives at new
 
 -- so they do for all lives for which the games stood before
-abbrev pub LeadsFrom : {K : Type 0} → Keepers K → CommonView → Option (List ℕ) → ℕ → Gives K → At K → Gives K → At K → ℕ → List Effect → Type 0
-LeadsFrom {K = K} s t before k gives at gives' at' k' effects = (lives : Lives K) → AreLives s t gives at lives → Leads s t before k lives gives' at' k' effects
+abbrev pub LeadsFrom : {K : Type 0} → Keepers K → CommonView → LastDone → ℕ → Gives K → At K → Gives K → At K → ℕ → List Effect → Type 0
+LeadsFrom {K = K} s t last k gives at gives' at' k' effects = (lives : Lives K) → AreLives s t gives at lives → Leads s t last k lives gives' at' k' effects
 
-abbrev pub LeadsFromBy : {K : Type 0} → Keepers K → CommonView → List ℕ → List ℕ → ℕ → Gives K → At K → Gives K → At K → ℕ → List Effect → Type 0
-LeadsFromBy {K = K} s t stamp datagram k gives at gives' at' k' effects = (lives : Lives K) → AreLives s t gives at lives → LeadsBy s t stamp datagram k lives gives' at' k' effects
+abbrev pub LeadsFromBy : {K : Type 0} → Keepers K → CommonView → List ℕ → List ℕ → LastDone → ℕ → Gives K → At K → Gives K → At K → ℕ → List Effect → Type 0
+LeadsFromBy {K = K} s t stamp datagram last k gives at gives' at' k' effects = (lives : Lives K) → AreLives s t gives at lives → LeadsBy s t stamp datagram last k lives gives' at' k' effects
 
 abbrev pub LeadsOpenFrom : {K : Type 0} → Keepers K → CommonView → List ℕ → Gives K → At K → Gives K → At K → Type 0
 LeadsOpenFrom {K = K} s t stamp gives at gives' at' = (lives : Lives K) → AreLives s t gives at lives → LeadsOpen s t stamp lives gives' at'
@@ -136,17 +136,21 @@ ShutsFrom {K = K} s t gives at gives' at' = (lives : Lives K) → AreLives s t g
 
 -- from a folder to a later one, by the keepers of where it was first
 abbrev pub Turns : {G K : Type 0} → KeeperFacts K → FolderFacts G K → CommonView → G → At K → ℕ → G → At K → ℕ → List Effect → Type 0
-Turns facts folder t games at k games' at' k' effects = LeadsFrom (keepers facts folder games) t None k (folder.gives games) at (folder.gives games') at' k' effects
+Turns facts folder t games at k games' at' k' effects = LeadsFrom (keepers facts folder games) t Otherwise k (folder.gives games) at (folder.gives games') at' k' effects
 
 -- closings do, whatever the games have in common
 abbrev pub ShutsAnyhow : {G K : Type 0} → KeeperFacts K → FolderFacts G K → G → At K → G → At K → Type 0
 ShutsAnyhow facts folder games at games' at' = (t : CommonView) → ShutsFrom (keepers facts folder games) t (folder.gives games) at (folder.gives games') at'
 
--- where this game is in hand, and has just answered, with no effect, whatever the games have in common but how many are open at once;
--- the numbers are of those that are not in hand
-abbrev pub TurnsInHand : {G K : Type 0} → KeeperFacts K → FolderFacts G K → ℕ → G → At K → ℕ → List ℕ → Seat K → G → At K → ℕ → Type 0
-TurnsInHand facts folder most games at k stamp seat games' at' k' =
-    (t : CommonView) → t.at_once ≡ most → LeadsFrom (keepers facts folder games) t (Some stamp) (suc k) (folder.gives games) (in_hand stamp (Some seat) at) (folder.gives games') at' k' []
+-- where this game is in hand beside others, and has just answered, with no effect, whatever the games have in common but how many are
+-- open at once
+abbrev pub TurnsInHand : {G K : Type 0} → KeeperFacts K → FolderFacts G K → ℕ → G → List (List ℕ × Seat K) → List ℕ → Seat K → G → List (List ℕ × Seat K) → Type 0
+TurnsInHand facts folder most games seats stamp seat games' seats' =
+    (t : CommonView) → t.at_once ≡ most → LeadsFrom (keepers facts folder games) t (HasAnswered stamp) (suc (length seats)) (folder.gives games) (in_hand stamp (Some seat) (at_stamp seats)) (folder.gives games') (at_stamp seats') (length seats') []
+
+-- from some games that are open to others, of which one may have been closed to make room
+abbrev pub MakesRoom : {G K : Type 0} → FolderFacts G K → ℕ → G → List (List ℕ × Seat K) → G → List (List ℕ × Seat K) → Type 0
+MakesRoom folder most games seats games' seats' = Evicts folder.follows most (folder.gives games) (at_stamp seats) (length seats) (folder.gives games') (at_stamp seats') (length seats')
 
 -- what was lent comes back: the tables as they were, and the folder where it was
 pub record ComesBack {G K : Type 0} (folder : FolderFacts G K) (tables : Holding) (games : G) (tables' : Holding) (games' : G) : Type 0 where
@@ -166,7 +170,7 @@ pub record IsFoundAs {G K : Type 0} (facts : KeeperFacts K) (folder : FolderFact
 -- or it isn't, and its datagram is refused so, for which this is made
 abbrev pub RefusesSeat : {G K : Type 0} → KeeperFacts K → FolderFacts G K → CommonView → G → G → List ℕ → Unopened → List (List ℕ) → Type 0
 RefusesSeat {K = K} facts folder t games games' stamp why more =
-    (at : At K) (k : ℕ) (datagram : List ℕ) → at stamp ≡ None → stamp_for datagram ≡ Some stamp → opens_for datagram ≡ true → Turns facts folder t games at k games' at k (effects_with more (unopened stamp datagram why))
+    (at : At K) (k : ℕ) (datagram : List ℕ) → k ≤ t.at_once → at stamp ≡ None → stamp_for datagram ≡ Some stamp → opens_for datagram ≡ true → Turns facts folder t games at k games' at k (effects_with more (unopened stamp datagram why))
 
 -- so it is of each setup that is found so
 abbrev pub OpensFound : {G K : Type 0} → KeeperFacts K → FolderFacts G K → G → G → List ℕ → SetupView → Seat K → Type 0
@@ -174,6 +178,21 @@ OpensFound facts folder games games' stamp setup seat = (t : CommonView) → IsF
 
 abbrev pub RefusesFound : {G K : Type 0} → KeeperFacts K → FolderFacts G K → G → G → List ℕ → SetupView → Unopened → List (List ℕ) → Type 0
 RefusesFound facts folder games games' stamp setup why more = (t : CommonView) → IsFoundAs facts folder t games stamp setup → RefusesSeat facts folder t games games' stamp why more
+
+-- a folder of games at one moment, and the host's history that is lent with it
+pub record Lent (G H : Type 0) : Type 0 where
+  pub games : G
+  pub history : H
+
+abbrev pub lent : {G H : Type 0} → G → H → Lent G H
+lent games history = record { games = games; history = history }
+
+-- the opening of a game is refused, and of keepers the one is taken that may be
+abbrev pub TriesFound : {G H K : Type 0} → KeeperFacts K → FolderFacts G K → (H → Option (List Made)) → Lent G H → Lent G H → List ℕ → SetupView → Unopened → Type 0
+TriesFound facts folder made old new stamp setup why = MakesAnd folder made old.games old.history new.history (RefusesFound facts folder old.games new.games stamp setup why)
+
+abbrev pub TriesSeat : {G H K : Type 0} → KeeperFacts K → FolderFacts G K → (H → Option (List Made)) → CommonView → Lent G H → Lent G H → List ℕ → Unopened → Type 0
+TriesSeat facts folder made t old new stamp why = MakesAnd folder made old.games old.history new.history (RefusesSeat facts folder t old.games new.games stamp why)
 
 -- the keeper of a game is given back: what the folder gives next of it is over what this one left, and of the others no more
 pub record Closes {G K : Type 0} (folder : FolderFacts G K) (games games' : G) (stamp : List ℕ) (left : K) : Type 0 where
@@ -198,11 +217,14 @@ pub record OpensFor {G K : Type 0} (facts : KeeperFacts K) (folder : FolderFacts
 -- or it isn't, and the message is refused so by whichever datagram it comes
 abbrev pub RefusesFor : {G K : Type 0} → KeeperFacts K → FolderFacts G K → CommonView → G → G → Message → Unopened → List (List ℕ) → Type 0
 RefusesFor {K = K} facts folder t games games' message why more =
-    (at : At K) (k : ℕ) (datagram : List ℕ) → at (stamp_in message).0 ≡ None → heard_in datagram ≡ Ok message → Turns facts folder t games at k games' at k (effects_with more (unopened (stamp_in message).0 datagram why))
+    (at : At K) (k : ℕ) (datagram : List ℕ) → k ≤ t.at_once → at (stamp_in message).0 ≡ None → heard_in datagram ≡ Ok message → Turns facts folder t games at k games' at k (effects_with more (unopened (stamp_in message).0 datagram why))
+
+abbrev pub TriesFor : {G H K : Type 0} → KeeperFacts K → FolderFacts G K → (H → Option (List Made)) → CommonView → Lent G H → Lent G H → Message → Unopened → Type 0
+TriesFor facts folder made t old new message why = MakesAnd folder made old.games old.history new.history (RefusesFor facts folder t old.games new.games message why)
 
 -- how a game comes into hand, beside which so many are open: it was open; or it is opened for a message, where there is room
 pub data ComesInHand {K : Type 0} (s : Keepers K) (t : CommonView) (message : Message) (gives : Gives K) (at : At K) (k : ℕ) (gives' : Gives K) (at' : At K) (k' : ℕ) (more : List (List ℕ)) : Type 0 where
-  WasOpen : LeadsFrom s t None k gives at gives' at' (suc k') [] → more ≡ [] → ComesInHand s t message gives at k gives' at' k' more
+  WasOpen : suc k' ≤ t.at_once → LeadsFrom s t Otherwise k gives at gives' at' (suc k') [] → more ≡ [] → ComesInHand s t message gives at k gives' at' k' more
   IsOpened : opens_game message ≡ true → k ≤ t.at_once → LeadsOpenFrom s t (stamp_in message).0 gives at gives' at' → k' ≡ k → more ≡ (stamp_in message).0 ∷ [] → ComesInHand s t message gives at k gives' at' k' more
 
 -- the game of a message is in hand after it
@@ -226,7 +248,7 @@ AnswersMessage facts folder old message new r more = (datagram : List ℕ) → h
 -- so it is by a game that is in hand
 abbrev pub AnswersInHand : {G K : Type 0} → KeeperFacts K → FolderFacts G K → ServerView G K → Seat K → Message → ServerView G K → Answered → Type 0
 AnswersInHand facts folder old seat message new r =
-    (datagram : List ℕ) → heard_in datagram ≡ Ok message → LeadsFromBy (keepers facts folder old.games) old.common (stamp_in message).0 datagram (suc (length old.seats)) (folder.gives old.games) (in_hand (stamp_in message).0 (Some seat) (at_stamp old.seats)) (folder.gives new.games) (at_stamp new.seats) (length new.seats) (effects_with [] (reply_of datagram r))
+    (datagram : List ℕ) (last : LastDone) → heard_in datagram ≡ Ok message → MayAnswer old.common.at_once (suc (length old.seats)) last (stamp_in message).0 → LeadsFromBy (keepers facts folder old.games) old.common (stamp_in message).0 datagram last (suc (length old.seats)) (folder.gives old.games) (in_hand (stamp_in message).0 (Some seat) (at_stamp old.seats)) (folder.gives new.games) (at_stamp new.seats) (length new.seats) (effects_with [] (reply_of datagram r))
 
 -- with these effects something goes on
 abbrev pub Going : Type 1
@@ -237,6 +259,10 @@ abbrev pub Receives : Going → (List ℕ → Made) → Option (List Made) → O
 Receives turns file had has port port' line false = (r : Reply) × TakesAnd file had has (λ more. turns (effects_with more r)) × (line ≡ r.line) × Passed port port' (passing_at port.addresses r)
 Receives turns file had has port port' line true = (turns [] × Passes had has []) × (line ≡ refused_port) × Passed port port' (Missed ∷ []) × Risen port.faults port'.faults
 
+-- so it is of a server and a history
+abbrev pub ServerReceives : {G H K : Type 0} → KeeperFacts K → FolderFacts G K → (H → Option (List Made)) → ServerView G K → ServerView G K → H → H → PortFacts → PortFacts → List ℕ → Bool → Type 0
+ServerReceives facts folder made old new history history' port port' line lost = Receives (TurnsTo facts folder old new) (folder.taken (folder.place old.games)) (made history) (made history') port port' line lost
+
 -- so it was, and the line was told by the log: what was picked of it has gone out or was cut short
 pub record TakesTurn {W : Type 0} (turns : Going) (file : List ℕ → Made) (w : Writers W) (before : List (List ℕ)) (log log' : LineLog) (had has : Option (List Made)) (port port' : PortFacts) (out out' : W) (told : Result Bool WriteFault) : Type 0 where
   pub line : List ℕ
@@ -245,18 +271,26 @@ pub record TakesTurn {W : Type 0} (turns : Going) (file : List ℕ → Made) (w 
   pub tells : TellsLine w before log log' line out out' told
   pub is : IfOk told (λ x. x ≡ lost)
 
--- a run for n datagrams, before the games that are open then are closed
-pub record HasServed {K W : Type 0} (s : Keepers K) (t : CommonView) (w : Writers W) (form : LogForm) (n : ℕ) (gives : Gives K) (at : At K) (file : List ℕ → Made) (had has : Option (List Made)) (port port' : PortFacts) (out out' : W) (ended : Result ℕ WriteFault) : Type 0 where
+-- a run for n datagrams, before the games that are open then, so many, are closed
+pub record HasServed {K W : Type 0} (s : Keepers K) (t : CommonView) (w : Writers W) (form : LogForm) (n : ℕ) (gives : Gives K) (at : At K) (count : ℕ) (file : List ℕ → Made) (had has : Option (List Made)) (port port' : PortFacts) (out out' : W) (ended : Result ℕ WriteFault) : Type 0 where
   pub effects : List Effect
-  pub count : ℕ
-  pub leads : Leads s t None 0 (λ stamp. Fresh) gives at count effects
+  pub leads : Leads s t Otherwise 0 (λ stamp. Fresh) gives at count effects
   pub made : Passes had has (map file (taken_in effects))
   pub lost : Bool
   pub passed : Passed port port' (all_passing port.addresses (replies_in effects) lost)
   pub cause : lost ≡ true → Risen port.faults port'.faults
   pub ends : Ends n (replies_in effects) lost ended
   pub lines : LinesEnd w out (logged form (all_lines (replies_in effects) lost)) out' ended
+  pub last : EndsAtCut form (all_lines (replies_in effects) lost) ended
 
--- such a run of a server
-abbrev pub ServesOn : {G K W : Type 0} → KeeperFacts K → FolderFacts G K → Writers W → LogForm → ℕ → ServerView G K → ServerView G K → Option (List Made) → Option (List Made) → PortFacts → PortFacts → W → W → Result ℕ WriteFault → Type 0
-ServesOn facts folder w form n old new had has port port' out out' ended = HasServed (keepers facts folder old.games) old.common w form n (folder.gives new.games) (at_stamp new.seats) (folder.taken (folder.place old.games)) had has port port' out out' ended
+-- such a turn of a server, whatever was told before it
+abbrev pub ServerTurns : {G K H P W : Type 0} → Knowing G K H P W → AtHand G K H P W → AtHand G K H P W → Result Bool WriteFault → Type 0
+ServerTurns f old new told =
+    (before : List (List ℕ)) → Remembers old.log before
+    → TakesTurn (TurnsTo f.keeper f.folder old.server new.server) (f.folder.taken (f.folder.place old.server.games)) f.writer before old.log new.log (f.made old.history) (f.made new.history) (f.port old.port) (f.port new.port) old.out new.out told
+
+-- and such a run
+abbrev pub ServesOn : {G K H P W : Type 0} → Knowing G K H P W → ℕ → AtHand G K H P W → AtHand G K H P W → Result ℕ WriteFault → Type 0
+ServesOn f n old new ended =
+    HasServed (keepers f.keeper f.folder old.server.games) old.server.common f.writer (form_of old.log) n (f.folder.gives new.server.games) (at_stamp new.server.seats) (length new.server.seats)
+    (f.folder.taken (f.folder.place old.server.games)) (f.made old.history) (f.made new.history) (f.port old.port) (f.port new.port) old.out new.out ended

@@ -36,9 +36,10 @@
 //!   another stamp, or `ArbiterState::open` refuses. A game is opened for a move or a request, which it answers next. The acts end
 //!   with no game open, the folder is where it was, and the status is 0 only where all datagrams came. The traffic is that of the
 //!   answers. Their lines are told; those that a log of its form has are written, and each is out before the next. A keeper is taken
-//!   only where its game is opened or was to be: the history has the files of these, in order, and nothing else. A game is opened only
-//!   where no more than `at_once` are open, so that there may be one more (that it doesn't stay so is no clause). One whose keeper works
-//!   is closed only where more are open, right after its own answer (why is no clause), or at the end.
+//!   only where its game is opened or was to be: the history has the files of these, in order, and nothing else. No more games
+//!   than `at_once` are open, but for one more from an opening to what is closed behind its answer. One whose keeper works is closed only
+//!   where more are open, right after its own answer (why is no clause), or at the end. Where the writer failed, nothing was done after
+//!   the datagram whose line it failed at.
 //! - CLAIM: `LineLog::new`; `laws::changes_hide_nothing`: a log begins with nothing remembered (the error of `new` has no cause). Of
 //!   changes it has each line that was told of a game that is open, so that each count and verdict stands in it.
 //! - CLAIM: `laws::own_replies`; `laws::records_go_on`; `laws::openings_are_few`: a game's replies are those to the datagrams that

@@ -12,7 +12,6 @@ pub(crate) fn take_out<S: Drop>(seats: &mut LruCache<[u8; 16], S>, stamp: &[u8; 
     ensures after { (other : List ℕ) → at_stamp seats.new.entries other ≡ cond (bytes_eq stamp.now other) None (at_stamp seats.old.entries other) }
     ensures one { IfSome result (λ _. length seats.old.entries ≡ suc (length seats.new.entries)) }
     ensures none { IfNone result (length seats.new.entries ≡ length seats.old.entries) }
-    ensures few { length seats.old.entries ≤ seats.old.cap }
     ensures cap { seats.new.cap ≡ seats.old.cap }
 {
     // Called for its contract: it brings the map's invariant into the proof.

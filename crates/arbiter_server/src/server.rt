@@ -4,15 +4,14 @@ ghost use Rattle.std.specs.Prelude.{◌≡◌, ◌∷◌, [], ℕ, List, None, I
 ghost use Rattle.move_msg.specs.Messages.{stamp_in};
 ghost use Rattle.system_io.specs.Histories.{Passes};
 ghost use Rattle.arbiter_core.specs.Setups.{terms_with};
-ghost use Rattle.arbiter_server.specs.GoingOut.{writers};
 ghost use Rattle.arbiter_server.specs.Told.{line_words};
-ghost use Rattle.arbiter_server.specs.LineLogs.{Remembers, form_of};
+ghost use Rattle.arbiter_server.specs.LineLogs.{Remembers};
 ghost use Rattle.arbiter_server.specs.Games.{common_with};
 ghost use Rattle.arbiter_server.specs.Room.{at_stamp};
 ghost use Rattle.arbiter_server.specs.Seats.{IsSeated};
-ghost use Rattle.arbiter_server.specs.Servers.{IsIdle, IsNew, ServerHosts, Stays};
-ghost use Rattle.arbiter_server.specs.Turns.{ComesBack, OpensFor, OpensFound, OpensSeat, RefusesFor, RefusesFound, RefusesSeat};
-ghost use Rattle.arbiter_server.specs.Turns.{AnswersInHand, AnswersMessage, MakesAnd, Receives, Refuses, RepliesSo, ServesOn, TakesSeat, TakesTurn, TurnsTo, reply_of};
+ghost use Rattle.arbiter_server.specs.Servers.{IsIdle, IsNew, ServerHosts, Stays, at_hand, knowing};
+ghost use Rattle.arbiter_server.specs.Turns.{ComesBack, OpensFor, OpensFound, OpensSeat, TriesFor, TriesFound, TriesSeat, lent};
+ghost use Rattle.arbiter_server.specs.Turns.{AnswersInHand, AnswersMessage, MakesAnd, Refuses, RepliesSo, ServerReceives, ServerTurns, ServesOn, TakesSeat, reply_of};
 
 use crate::config::ServerConfig;
 use crate::fault::Unopened;
@@ -44,7 +43,7 @@ fn open_by<'a, G: Games>(
     ensures lent { ComesBack G.facts tables.old games.old tables.new games.new }
     ensures made { OnOk result (Passes (G.made history.old) (G.made history.new) (G.facts.taken (G.facts.place games.old) stamp.now ∷ [])) }
     ensures opened { IfOk result (OpensFound G.Keeper.facts G.facts games.old games.new stamp.now (terms_with terms.entry tables.old)) }
-    ensures unopened { IfErr result (λ why. MakesAnd G.facts G.made games.old history.old history.new (RefusesFound G.Keeper.facts G.facts games.old games.new stamp.now (terms_with terms.entry tables.old) why)) }
+    ensures unopened { IfErr result (TriesFound G.Keeper.facts G.facts G.made (lent games.old history.old) (lent games.new history.new) stamp.now (terms_with terms.entry tables.old)) }
 {
     let mut keeper = match games.take(alloc, history, stamp) {
         Ok(keeper) => keeper,
@@ -71,7 +70,7 @@ fn open_told<'a, G: Games>(
     ensures lent { ComesBack G.facts tables.old games.old tables.new games.new }
     ensures made { OnOk result (Passes (G.made history.old) (G.made history.new) (G.facts.taken (G.facts.place games.old) stamp.now ∷ [])) }
     ensures opened { IfOk result (OpensSeat G.Keeper.facts G.facts (common_with config.now tables.old) games.old games.new stamp.now) }
-    ensures unopened { IfErr result (λ why. MakesAnd G.facts G.made games.old history.old history.new (RefusesSeat G.Keeper.facts G.facts (common_with config.now tables.old) games.old games.new stamp.now why)) }
+    ensures unopened { IfErr result (TriesSeat G.Keeper.facts G.facts G.made (common_with config.now tables.old) (lent games.old history.old) (lent games.new history.new) stamp.now) }
 {
     match found(alloc, config.manifest, games, stamp) {
         Ok(game) => open_by(alloc, games, tables, history, config.terms(game), stamp),
@@ -91,7 +90,7 @@ fn open_for<'a, G: Games>(
     ensures lent { ComesBack G.facts tables.old games.old tables.new games.new }
     ensures made { OnOk result (Passes (G.made history.old) (G.made history.new) (G.facts.taken (G.facts.place games.old) (stamp_in message.now).0 ∷ [])) }
     ensures opened { IfOk result (OpensFor G.Keeper.facts G.facts (common_with config.now tables.old) games.old games.new message.now) }
-    ensures unopened { IfErr result (λ why. MakesAnd G.facts G.made games.old history.old history.new (RefusesFor G.Keeper.facts G.facts (common_with config.now tables.old) games.old games.new message.now why)) }
+    ensures unopened { IfErr result (TriesFor G.Keeper.facts G.facts G.made (common_with config.now tables.old) (lent games.old history.old) (lent games.new history.new) message.now) }
 {
     if !opens_game(message) {
         return Err(Unopened::NotOpen);
@@ -112,6 +111,7 @@ pub struct Server<'a, G: Games + Drop> {
 
 impl<'a, G: Games + Drop> Model for Server<'a, G> {
     ghost use Rattle.std.specs.NonZero.{non_zero_usize_get};
+    ghost use Rattle.std.specs.Prelude.{length};
     ghost use Rattle.arbiter_server.specs.Games.{common_with};
     ghost use Rattle.arbiter_server.specs.Room.{at_stamp};
     ghost use Rattle.arbiter_server.specs.Seats.{HasRoomFor};
@@ -121,7 +121,7 @@ impl<'a, G: Games + Drop> Model for Server<'a, G> {
 
     ghost view = { λ s. record { common = common_with s.config s.tables; games = s.games; seats = s.seats.entries } };
 
-    ghost invariant = { λ s. HasRoomFor G.Keeper.facts s.tables (at_stamp s.seats.entries) s.seats.cap (non_zero_usize_get s.config.at_once) };
+    ghost invariant = { λ s. HasRoomFor G.Keeper.facts s.tables (at_stamp s.seats.entries) (length s.seats.entries) s.seats.cap (non_zero_usize_get s.config.at_once) };
 }
 
 impl<'a, G: Games + Drop> Server<'a, G> {
@@ -213,7 +213,7 @@ impl<'a, G: Games + Drop> Server<'a, G> {
     /// Receives a datagram and answers it; tells the line for it, and whether the port is lost.
     fn receive<P: Port>(&mut self, history: &mut G::History, port: &mut P) -> (Line, bool)
         ensures stays { Stays G.facts self.old self.new }
-        ensures received { Receives (TurnsTo G.Keeper.facts G.facts self.old self.new) (G.facts.taken (G.facts.place self.old.games)) (G.made history.old) (G.made history.new) (P.facts port.old) (P.facts port.new) (line_words result.0) result.1 }
+        ensures received { ServerReceives G.Keeper.facts G.facts G.made self.old self.new history.old history.new (P.facts port.old) (P.facts port.new) (line_words result.0) result.1 }
     {
         let mut buffer = [0u8; 64];
         match port.receive(&mut buffer) {
@@ -235,7 +235,7 @@ impl<'a, G: Games + Drop> Server<'a, G> {
         out: &mut W,
     ) -> Result<bool, WriteFault>
         ensures stays { Stays G.facts self.old self.new }
-        ensures taken { (before : List (List ℕ)) → Remembers log.old before → TakesTurn (TurnsTo G.Keeper.facts G.facts self.old self.new) (G.facts.taken (G.facts.place self.old.games)) (writers W.Write.contents W.facts) before log.old log.new (G.made history.old) (G.made history.new) (P.facts port.old) (P.facts port.new) out.old out.new result }
+        ensures taken { ServerTurns (knowing G.Keeper.facts G.facts G.made P.facts W.contents W.facts) (at_hand self.old history.old port.old log.old out.old) (at_hand self.new history.new port.new log.new out.new) result }
     {
         let (line, lost) = self.receive(history, port);
         match log.tell(out, line) {
@@ -256,7 +256,7 @@ impl<'a, G: Games + Drop> Server<'a, G> {
         requires idle { IsIdle self.old }
         requires none { Remembers log.old [] }
         ensures stays { Stays G.facts self.old self.new }
-        ensures served { ServesOn G.Keeper.facts G.facts (writers W.Write.contents W.facts) (form_of log.old) n self.old self.new (G.made history.old) (G.made history.new) (P.facts port.old) (P.facts port.new) out.old out.new result }
+        ensures served { ServesOn (knowing G.Keeper.facts G.facts G.made P.facts W.contents W.facts) n (at_hand self.old history.old port.old log.old out.old) (at_hand self.new history.new port.new log.new out.new) result }
     {
         for _ in 0..n {
             match self.turn(history, port, log, out) {
@@ -281,10 +281,11 @@ impl<'a, G: Games + Drop> Server<'a, G> {
     /// closed, and opened again over its file when its next move or request comes. Where no datagram can be received the line is
     /// `refused port`, and the status 1.
     ///
-    /// The history is lent to take keepers, and nothing else is made: where a game is opened, or is to be, its keeper is taken once. One is
-    /// opened where no more are open than `at_once` of the configuration says, and then one is closed where they are more.
+    /// The history is lent to take keepers, and nothing else is made: where a game is opened, or is to be, its keeper is taken once. No
+    /// more games are open than `at_once` of the configuration says, but that one more is opened before one is closed for it.
     ///
-    /// The error comes only where the writer failed: each line before has gone out whole, of the last one a front may be written.
+    /// The error comes only where the writer failed: each line before has gone out whole, of the last one a front may be written, and
+    /// nothing was received after its datagram.
     pub fn serve<P: Port, W: Output>(
         &mut self,
         history: &mut G::History,
@@ -295,7 +296,7 @@ impl<'a, G: Games + Drop> Server<'a, G> {
     ) -> Result<u8, WriteFault>
         requires idle { IsIdle self.old }
         requires none { Remembers log.old [] }
-        ensures hosts { ServerHosts G.Keeper.facts G.facts (writers W.Write.contents W.facts) (form_of log.old) n self.old self.new (G.made history.old) (G.made history.new) (P.facts port.old) (P.facts port.new) out.old out.new result }
+        ensures hosts { ServerHosts (knowing G.Keeper.facts G.facts G.made P.facts W.contents W.facts) n (at_hand self.old history.old port.old log.old out.old) (at_hand self.new history.new port.new log.new out.new) result }
         ensures stays { Stays G.facts self.old self.new }
         ensures idle { IsIdle self.new }
     {

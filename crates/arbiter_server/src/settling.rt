@@ -1,10 +1,9 @@
 //! How a game is closed, and how it stays open.
 
-ghost use Rattle.std.specs.Prelude.{◌≡◌, ◌<◌, ℕ, List, None, Some, length, false, true};
+ghost use Rattle.std.specs.Prelude.{◌≡◌, ◌<◌, ◌≤◌, ℕ, List, None, Some, length, false, true};
 ghost use Rattle.arbiter_server.specs.Folders.{GivesOthers};
 ghost use Rattle.arbiter_server.specs.Room.{at_stamp};
-ghost use Rattle.arbiter_server.specs.Seats.{Evicts};
-ghost use Rattle.arbiter_server.specs.Turns.{Closes, ShutsAnyhow, TurnsInHand};
+ghost use Rattle.arbiter_server.specs.Turns.{Closes, MakesRoom, ShutsAnyhow, TurnsInHand};
 
 use crate::games::Games;
 use crate::room::{least_used, put_in, take_last};
@@ -22,7 +21,7 @@ pub(crate) fn close<'a, G: Games>(games: &mut G, stamp: &[u8; 16], seat: Seat<'a
 
 /// Closes the game that was used least recently, where there is no room for one more.
 fn make_room<'a, G: Games>(games: &mut G, seats: &mut LruCache<[u8; 16], Seat<'a, G::Keeper>>)
-    ensures closes { Evicts G.facts.follows seats.old.cap (G.facts.gives games.old) (at_stamp seats.old.entries) (length seats.old.entries) (G.facts.gives games.new) (at_stamp seats.new.entries) (length seats.new.entries) }
+    ensures closes { MakesRoom G.facts seats.old.cap games.old seats.old.entries games.new seats.new.entries }
     ensures room { length seats.new.entries < seats.new.cap }
     ensures cap { seats.new.cap ≡ seats.old.cap }
     ensures place { G.facts.place games.new ≡ G.facts.place games.old }
@@ -61,10 +60,11 @@ pub(crate) fn settle<'a, G: Games>(
     seat: Seat<'a, G::Keeper>,
 )
     requires { at_stamp seats.old.entries stamp.now ≡ None }
-    ensures runs { seat.entry.state.is_down ≡ false → TurnsInHand G.Keeper.facts G.facts seats.old.cap games.old (at_stamp seats.old.entries) (length seats.old.entries) stamp.now seat.entry games.new (at_stamp seats.new.entries) (length seats.new.entries) }
+    ensures runs { seat.entry.state.is_down ≡ false → TurnsInHand G.Keeper.facts G.facts seats.old.cap games.old seats.old.entries stamp.now seat.entry games.new seats.new.entries }
     ensures down { seat.entry.state.is_down ≡ true → Closes G.facts games.old games.new stamp.now seat.entry.keeper × (seats.new ≡ seats.old) }
     ensures place { G.facts.place games.new ≡ G.facts.place games.old }
     ensures cap { seats.new.cap ≡ seats.old.cap }
+    ensures few { length seats.old.entries ≤ seats.old.cap → length seats.new.entries ≤ seats.new.cap }
 {
     if seat.state.is_down() {
         close(games, stamp, seat);

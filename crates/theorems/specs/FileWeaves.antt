@@ -9,6 +9,8 @@ use Rattle.move_msg.specs.declared.who.Who.TheVariants.{A, B}
 use Rattle.move_msg.specs.declared.who.Sender.TheVariants.{Source}
 use Rattle.move_msg.specs.declared.message.Message.{Message}
 use Rattle.move_msg.specs.Records.{WritesRecord}
+use Rattle.system_io.specs.Disks.{DiskFacts}
+use Rattle.system_io.specs.Hosts.{HostFacts}
 use Rattle.system_io.specs.KeptFiles.{KeptFacts, IsCutOff, IsOneOfFound}
 use Rattle.arbiter_core.specs.Answering.{sent_by}
 use Rattle.arbiter_core.specs.Delivers.{Delivers, Exchange, Moment, moment}
@@ -17,6 +19,7 @@ use Rattle.arbiter_core.specs.Setups.{SetupView, rules_at}
 use Rattle.arbiter_core.specs.Views.{spelled_as}
 use Rattle.arbiter_server.specs.declared.file_keeper.FileKeeper.{FileKeeper}
 use Rattle.arbiter_server.specs.Acts.{Act, Unread, Strange, Refuses, Opens, Answers, Closes, Opening, game_of, is_stamp}
+use Rattle.arbiter_server.specs.DiskGames.{disk_keepers}
 use Rattle.arbiter_server.specs.Folders.{Keepers}
 use Rattle.arbiter_server.specs.Lives.{IsCutAtPut}
 use Rattle.arbiter_server.specs.StoredBytes.{StartsOver, file_of, keeper_over, stored}
@@ -141,3 +144,9 @@ FilesAreWoven {F} {E} facts others a b =
     → GoBoth facts others game (first_both game first its_first) steps end
     → IsFoundIn facts end.a found → IsFoundIn others end.b its_found
     → (net : Net) × AreWoven a b game steps net × (net.a.kept ≡ found) × (net.b.kept ≡ its_found) × (net.log ≡ end.log)
+
+-- so it is over two hosts of a type each, with the files of theirs, whatever their disks hold and whichever folders of games they have
+abbrev pub HostFilesAreWoven : {D H P F E I Q G : Type 0} → (D → DiskFacts) → (H → HostFacts P F) → (F → KeptFacts) → (E → DiskFacts) → (I → HostFacts Q G) → (G → KeptFacts) → Type 0
+HostFilesAreWoven {D} {H} {E = E} {I = I} disks hosts files its_disks its_hosts its_files =
+    (disk : D) (host : H) (folder : List ℕ) (its_disk : E) (its_host : I) (its_folder : List ℕ)
+    → FilesAreWoven files its_files (disk_keepers (disks disk) (hosts host) files folder) (disk_keepers (its_disks its_disk) (its_hosts its_host) its_files its_folder)

@@ -2,7 +2,7 @@
 
 ghost use Rattle.std.specs.Prelude.{List, ℕ};
 ghost use Rattle.arbiter_server.specs.DiskGames.{disk_keepers};
-ghost use Rattle.theorems.specs.FileWeaves.{FilesAreWoven};
+ghost use Rattle.theorems.specs.FileWeaves.{HostFilesAreWoven};
 ghost use Rattle.theorems.specs.HostFiles.{HostKeepsWhatItTold};
 
 use arbiter_core::laws::puts_grow;
@@ -33,7 +33,7 @@ pub fn hosts_over_files<D: Disk, H: Host, E: Disk, I: Host>(
     _its_disk: &E,
     _its_host: &I,
 )
-    ensures { (disk : D) (host : H) (folder : List ℕ) (its_disk : E) (its_host : I) (its_folder : List ℕ) → FilesAreWoven H.File.facts I.File.facts (disk_keepers (D.facts disk) (H.facts host) H.File.facts folder) (disk_keepers (E.facts its_disk) (I.facts its_host) I.File.facts its_folder) }
+    ensures { HostFilesAreWoven D.facts H.facts H.File.facts E.facts I.facts I.File.facts }
 {
     puts_grow();
 }

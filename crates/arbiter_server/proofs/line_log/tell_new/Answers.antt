@@ -1,4 +1,4 @@
-use Rattle.std.proofs.Common.{◌≡◌, ◌∙◌, ℕ, List, None, Option, subst, sym}
+use Rattle.std.proofs.Common.{◌≡◌, ◌∙◌, ℕ, List, None, subst, sym}
 use Rattle.arbiter_server.specs.GoingOut.{writers}
 use Rattle.arbiter_server.specs.LineLogs.{kind_of}
 use Rattle.arbiter_server.specs.Told.{line_words}

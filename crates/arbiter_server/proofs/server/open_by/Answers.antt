@@ -5,7 +5,7 @@ use Rattle.arbiter_core.specs.Resting.{awake}
 use Rattle.arbiter_server.specs.Folders.{keepers}
 use Rattle.arbiter_core.specs.Setups.{SetupView, terms_with}
 use Rattle.arbiter_server.specs.Games.{IsRefused}
-use Rattle.arbiter_server.proofs.Opening.{is_opening, opened_over, refused_over, seated_over}
+use Rattle.arbiter_server.proofs.Opening.{told_game, is_opening, opened_over, refused_over, seated_over}
 use Rattle.arbiter_server.proofs.Handing.{lacking_to, withheld_to}
 use Rattle.arbiter_server.proofs.server.open_by.Goals as goal
 
@@ -15,14 +15,14 @@ returns-in-Err-clause-unopened g c =
       | inl none ↦ (
         [],
         none,
-        λ t found at k datagram absent sorted opens.
-            lacking_to (keepers g.G.Keeper.Keeper.facts g.G.Games.facts c.args.games.now) t k (g.G.Games.facts.gives c.args.games.now) (g.G.Games.facts.gives c.take.new.self) at c.args.stamp.now datagram c.in-Err.why sorted opens absent (IsRefused (inr c.in-Err.ensures.refused)) c.take.ensures.same,
+        λ t found at k datagram few absent sorted opens.
+            lacking_to (keepers g.G.Keeper.Keeper.facts g.G.Games.facts c.args.games.now) t k (g.G.Games.facts.gives c.args.games.now) (g.G.Games.facts.gives c.take.new.self) at c.args.stamp.now datagram c.in-Err.why few sorted opens absent (IsRefused (inr c.in-Err.ensures.refused)) c.take.ensures.same,
       )
       | inr one ↦ (
         c.args.stamp.now ∷ [],
         one,
-        λ t found at k datagram absent sorted opens.
-            withheld_to (keepers g.G.Keeper.Keeper.facts g.G.Games.facts c.args.games.now) t k (g.G.Games.facts.gives c.args.games.now) (g.G.Games.facts.gives c.take.new.self) at c.args.stamp.now datagram c.in-Err.why sorted opens absent c.in-Err.ensures.refused c.take.ensures.same,
+        λ t found at k datagram few absent sorted opens.
+            withheld_to (keepers g.G.Keeper.Keeper.facts g.G.Games.facts c.args.games.now) t k (g.G.Games.facts.gives c.args.games.now) (g.G.Games.facts.gives c.take.new.self) at c.args.stamp.now datagram c.in-Err.why few sorted opens absent (c.in-Err.ensures.refused, told_game (keepers g.G.Keeper.Keeper.facts g.G.Games.facts c.args.games.now) t c.args.stamp.now _ found.told found.game) c.take.ensures.same,
       )
     ]
 
@@ -43,10 +43,10 @@ pub returns-clause-unopened : goal.returns-clause-unopened
 returns-clause-unopened g c = (
   c.args.stamp.now ∷ [],
   c.in-Ok.ensures.made,
-  λ t found at k datagram absent sorted opens.
+  λ t found at k datagram few absent sorted opens.
       let setup : SetupView = terms_with c.args.terms c.args.tables.now in
       let opening = is_opening g.G.Keeper.Keeper.facts setup c.in-Ok.keeper c.open.new.keeper (Err c.in-Err-open.refused.fault) c.in-Err-open.ensures.good c.in-Err-open.ensures.bad in
       rw c.by.ensures
       (refused_over (keepers g.G.Keeper.Keeper.facts g.G.Games.facts c.args.games.now) t (g.G.Games.facts.gives c.args.games.now) (g.G.Games.facts.gives c.take.new.self) c.args.stamp.now setup c.in-Ok.keeper c.open.new.keeper c.in-Ok.ensures.of c.in-Ok.ensures.given c.take.ensures.same found.told found.game
-      (g.G.Games.facts.gives c.give_back.new.self) c.in-Err-open.refused.fault opening c.give_back.ensures.left c.give_back.ensures.others at k datagram absent sorted opens),
+      (g.G.Games.facts.gives c.give_back.new.self) c.in-Err-open.refused.fault opening c.give_back.ensures.left c.give_back.ensures.others at k datagram few absent sorted opens),
 )

@@ -14,8 +14,8 @@ pub returns-then-not-opens_game-clause-unopened : goal.returns-then-not-opens_ga
 returns-then-not-opens_game-clause-unopened g c = (
   [],
   Passes-nil _,
-  λ at k datagram absent says.
-      idle_to (keepers g.G.Keeper.Keeper.facts g.G.Games.facts c.args.games.now) (common_with c.args.config.now c.args.tables.now) k _ at datagram c.args.message.now says (sym c.if-not-opens_game.ensures) absent,
+  λ at k datagram few absent says.
+      idle_to (keepers g.G.Keeper.Keeper.facts g.G.Games.facts c.args.games.now) (common_with c.args.config.now c.args.tables.now) k _ at datagram c.args.message.now few says (sym c.if-not-opens_game.ensures) absent,
 )
 
 pub returns-clause-opened : goal.returns-clause-opened
@@ -26,7 +26,7 @@ returns-clause-opened g c =
 pub returns-clause-unopened : goal.returns-clause-unopened
 returns-clause-unopened g c =
     let unopened = rw c.stamp.ensures at c.open_told.ensures.unopened in
-    IfErr-weaker c.open_told.result _ _ (λ why h. (h.0, h.1, λ at k datagram absent says. h.2 at k datagram absent (ap stamp_by says) (ap opens_by says ∙ sym c.opens_game.ensures ∙ c.if-not-opens_game.false))) unopened
+    IfErr-weaker c.open_told.result _ _ (λ why h. (h.0, h.1, λ at k datagram few absent says. h.2 at k datagram few absent (ap stamp_by says) (ap opens_by says ∙ sym c.opens_game.ensures ∙ c.if-not-opens_game.false))) unopened
 
 pub returns-clause-made : goal.returns-clause-made
 returns-clause-made g c = rw c.stamp.ensures at c.open_told.ensures.made

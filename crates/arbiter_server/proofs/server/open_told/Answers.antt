@@ -24,6 +24,6 @@ pub returns-in-Err-clause-unopened : goal.returns-in-Err-clause-unopened
 returns-in-Err-clause-unopened g c = (
   [],
   Passes-nil _,
-  λ at k datagram absent sorted opens.
-      lacking_to (keepers g.G.Keeper.Keeper.facts g.G.Games.facts c.args.games.now) (common_with c.args.config.now c.args.tables.now) k _ _ at c.args.stamp.now datagram c.in-Err.why sorted opens absent c.in-Err.ensures.err (λ other keeper given. given),
+  λ at k datagram few absent sorted opens.
+      lacking_to (keepers g.G.Keeper.Keeper.facts g.G.Games.facts c.args.games.now) (common_with c.args.config.now c.args.tables.now) k _ _ at c.args.stamp.now datagram c.in-Err.why few sorted opens absent c.in-Err.ensures.err (λ other keeper given. given),
 )

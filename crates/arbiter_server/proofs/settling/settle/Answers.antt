@@ -1,6 +1,7 @@
-use Rattle.std.proofs.Common.{ℕ, suc, List, [], Some, length, ap, refl, subst, sym, ◌∙◌}
+use Rattle.std.proofs.Common.{◌≤◌, arith, ℕ, suc, List, [], Some, length, ap, refl, subst, sym, ◌∙◌}
 use Rattle.lru.specs.LruCache.{LruCache}
 use Rattle.arbiter_server.specs.declared.seat.Seat.{Seat}
+use Rattle.arbiter_server.specs.Acts.{HasAnswered}
 use Rattle.arbiter_server.specs.Folders.{keepers}
 use Rattle.arbiter_server.specs.Room.{at_stamp}
 use Rattle.arbiter_server.specs.Seats.{Evicts, in_hand}
@@ -24,7 +25,7 @@ returns-in-Ok-clause-runs g c = λ runs t most.
     let gives' = g.G.Games.facts.gives c.make_room.new.games in
     let at = at_stamp c.args.seats.now.entries in
     let at' = at_stamp c.put_in.new.seats.entries in
-    subst (λ (k : ℕ). LeadsFrom s t (Some c.args.stamp.now) (suc (length c.args.seats.now.entries)) gives (in_hand c.args.stamp.now (Some c.args.seat) at) gives' at' k []) (sym c.in-Ok.ensures.one)
+    subst (λ (k : ℕ). LeadsFrom s t (HasAnswered c.args.stamp.now) (suc (length c.args.seats.now.entries)) gives (in_hand c.args.stamp.now (Some c.args.seat) at) gives' at' k []) (sym c.in-Ok.ensures.one)
     (stays_open s t (length c.args.seats.now.entries) (length c.make_room.new.seats.entries) gives gives' at (at_stamp c.make_room.new.seats.entries) at' c.args.stamp.now c.args.seat c.requires
     (subst (λ (n : ℕ). Evicts g.G.Games.facts.follows n gives at (length c.args.seats.now.entries) gives' (at_stamp c.make_room.new.seats.entries) (length c.make_room.new.seats.entries)) (sym most) c.make_room.ensures.closes) c.in-Ok.ensures.ok)
 
@@ -43,9 +44,18 @@ returns-in-Err-clause-runs g c = λ runs t most.
     let back = c.in-Err.ensures.err in
     let closed = subst (λ (seat : Seat g.row.G-Keeper.Denot). Closes g.G.Games.facts c.make_room.new.games c.close-in-Err.new.games c.args.stamp.now seat.keeper) back.0 c.close-in-Err.ensures.closes in
     let room = subst (λ (n : ℕ). Evicts g.G.Games.facts.follows n gives at (length c.args.seats.now.entries) mid at1 (length c.make_room.new.seats.entries)) (sym most) c.make_room.ensures.closes in
-    subst (λ (k : ℕ). LeadsFrom s t (Some c.args.stamp.now) (suc (length c.args.seats.now.entries)) gives (in_hand c.args.stamp.now (Some c.args.seat) at) gives' at' k []) (ap (λ (l : LruCache (List ℕ) (Seat g.row.G-Keeper.Denot)). length l.entries) (sym back.1))
+    subst (λ (k : ℕ). LeadsFrom s t (HasAnswered c.args.stamp.now) (suc (length c.args.seats.now.entries)) gives (in_hand c.args.stamp.now (Some c.args.seat) at) gives' at' k []) (ap (λ (l : LruCache (List ℕ) (Seat g.row.G-Keeper.Denot)). length l.entries) (sym back.1))
     (no_room s t (length c.args.seats.now.entries) (length c.make_room.new.seats.entries) gives mid gives' at at1 at' c.args.stamp.now c.args.seat c.requires room
     (λ other. ap (λ (l : LruCache (List ℕ) (Seat g.row.G-Keeper.Denot)). at_stamp l.entries other) back.1) closed.next closed.others)
 
 pub returns-in-Err-clause-down : goal.returns-in-Err-clause-down
 returns-in-Err-clause-down g c = λ down. absurd (runs_not _ down (sym c.is_down.ensures ∙ c.if-is_down.false))
+
+pub returns-then-is_down-clause-few : goal.returns-then-is_down-clause-few
+returns-then-is_down-clause-few g c = λ few. few
+
+pub returns-in-Ok-clause-few : goal.returns-in-Ok-clause-few
+returns-in-Ok-clause-few g c = λ few. let one = c.in-Ok.ensures.one in let cap = c.in-Ok.ensures.cap in let room = c.make_room.ensures.room in omega (arith, one, cap, room)
+
+pub returns-in-Err-clause-few : goal.returns-in-Err-clause-few
+returns-in-Err-clause-few g c = λ few. let room = c.make_room.ensures.room in subst (λ (l : LruCache (List ℕ) (Seat g.row.G-Keeper.Denot)). length l.entries ≤ l.cap) (sym c.in-Err.ensures.err.1) (omega (arith, room))

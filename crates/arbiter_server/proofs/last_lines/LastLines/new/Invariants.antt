@@ -1,4 +1,4 @@
-use Rattle.std.proofs.Common.{◌≡◌, ℕ, List, []}
+use Rattle.std.proofs.Common.{◌≡◌, []}
 use Rattle.std.specs.Prelude.{map, replicate}
 use Rattle.arbiter_server.proofs.last_lines.LastLines.new.Given as goal
 

@@ -1,4 +1,4 @@
-use Rattle.std.proofs.Common.{List, ℕ, subst}
+use Rattle.std.proofs.Common.{subst}
 use Rattle.arbiter_server.specs.GoingOut.{writers}
 use Rattle.arbiter_server.specs.LineLogs.{Remembers, RemembersAll}
 use Rattle.arbiter_server.specs.declared.line_log.LineLog.{LineLog}

@@ -25,10 +25,11 @@ returns-in-Ok-clause-answers g c = (
   c.in-Ok.ensures.opened.1,
   λ datagram says.
       let t = c.args.self.now.common in
-      let answered = c.answer_at.ensures.answers datagram says in
+      comes_then (keepers g.G.Keeper.Keeper.facts g.G.Games.facts c.args.self.now.games) t c.args.message.now datagram _ _ _ _ _ _ (at_stamp c.args.self.now.seats) _ (at_stamp c.answer_at.new.self.seats) c.in-Ok.ensures.opened.0 (reply_of datagram c.answer_at.result) says c.in-Ok.ensures.opened.2.comes
+      (λ last may.
+      let answered = c.answer_at.ensures.answers datagram last says (rw (sym c.seat_for.ensures.stays.common) at may) in
       let so = rw c.seat_for.ensures.stays.common at answered in
-      let one = from_place_by g.G.Keeper.Keeper.facts g.G.Games.facts c.args.self.now.games c.seat_for.new.self.games c.seat_for.ensures.stays.place t (stamp_in c.args.message.now).0 datagram _ _ _ _ _ _ _ so in
-      comes_then (keepers g.G.Keeper.Keeper.facts g.G.Games.facts c.args.self.now.games) t c.args.message.now datagram _ _ _ _ _ _ (at_stamp c.args.self.now.seats) _ (at_stamp c.answer_at.new.self.seats) c.in-Ok.ensures.opened.0 (reply_of datagram c.answer_at.result) says c.in-Ok.ensures.opened.2.comes one,
+      from_place_by g.G.Keeper.Keeper.facts g.G.Games.facts c.args.self.now.games c.seat_for.new.self.games c.seat_for.ensures.stays.place t (stamp_in c.args.message.now).0 datagram last _ _ _ _ _ _ _ so),
 )
 
 pub returns-in-Err-clause-answers : goal.returns-in-Err-clause-answers

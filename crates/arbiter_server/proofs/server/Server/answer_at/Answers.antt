@@ -1,4 +1,4 @@
-use Rattle.std.proofs.Common.{ℕ, List, length, ap, subst, sym, ◌∙◌}
+use Rattle.std.proofs.Common.{arith, ℕ, List, length, ap, subst, sym, ◌∙◌}
 use Rattle.lru.specs.LruCache.{LruCache}
 use Rattle.judge_core.specs.Tables.{Holding}
 use Rattle.move_msg.specs.declared.stamp.Stamp.{Stamp}
@@ -26,6 +26,10 @@ invariant_of-self g c = record {
       (λ runs. c.settle.ensures.runs runs (common_with c.self.inside.config c.self.inside.tables) (sym c.self.invariant.room))
       (λ down other. ap (λ (l : LruCache (List ℕ) (Seat g.row.G-Keeper.Denot)). at_stamp l.entries other) (c.settle.ensures.down down).1));
   room = c.settle.ensures.cap ∙ c.self.invariant.room;
+  few =
+      let cap = c.settle.ensures.cap in let room = c.self.invariant.room in let was = c.self.invariant.few in
+      let few = c.settle.ensures.few (omega (arith, room, was)) in
+      omega (arith, cap, room, few);
 }
 
 pub returns-clause-stays : goal.returns-clause-stays
@@ -36,7 +40,8 @@ returns-clause-answers g c =
     let t = common_with c.self.inside.config c.self.inside.tables in
     let absent = rw (sym c.self.view_is, sym c.stamp.ensures) at c.requires.absent in
     rw (sym c.self.view_is, sym c.stamp.ensures)
-    (answers_reply (keepers g.G.Keeper.Keeper.facts g.G.Games.facts c.self.inside.games) t _ _ (g.G.Games.facts.gives c.self.inside.games) (g.G.Games.facts.gives c.settle.new.games) (at_stamp c.self.inside.seats.entries) (at_stamp c.settle.new.seats.entries) c.stamp.result.0 c.args.message.now c.args.seat c.deliver-answer.new.self
-    c.deliver-answer.result.outputs.items (heard_line c.deliver-answer.result.heard) (ap (λ (x : Stamp). x.0) c.stamp.ensures) absent c.deliver-answer.ensures.rests c.deliver-answer.ensures.answered
+    (λ datagram last says may.
+    answers_reply (keepers g.G.Keeper.Keeper.facts g.G.Games.facts c.self.inside.games) t last _ _ (g.G.Games.facts.gives c.self.inside.games) (g.G.Games.facts.gives c.settle.new.games) (at_stamp c.self.inside.seats.entries) (at_stamp c.settle.new.seats.entries) c.stamp.result.0 c.args.message.now c.args.seat c.deliver-answer.new.self
+    c.deliver-answer.result.outputs.items (heard_line c.deliver-answer.result.heard) may (ap (λ (x : Stamp). x.0) c.stamp.ensures) absent c.deliver-answer.ensures.rests c.deliver-answer.ensures.answered
     (λ runs. c.settle.ensures.runs runs t (sym c.self.invariant.room))
-    (λ down. let closed = c.settle.ensures.down down in (closed.0.next, closed.0.others, λ other. ap (λ (l : LruCache (List ℕ) (Seat g.row.G-Keeper.Denot)). at_stamp l.entries other) closed.1, ap (λ (l : LruCache (List ℕ) (Seat g.row.G-Keeper.Denot)). length l.entries) closed.1)))
+    (λ down. let closed = c.settle.ensures.down down in (closed.0.next, closed.0.others, λ other. ap (λ (l : LruCache (List ℕ) (Seat g.row.G-Keeper.Denot)). at_stamp l.entries other) closed.1, ap (λ (l : LruCache (List ℕ) (Seat g.row.G-Keeper.Denot)). length l.entries) closed.1)) datagram says)

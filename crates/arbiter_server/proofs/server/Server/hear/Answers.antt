@@ -1,6 +1,7 @@
-use Rattle.std.proofs.Common.{[], length, sym}
+use Rattle.std.proofs.Common.{[], ◌≤◌, length, subst, sym}
 use Rattle.arbiter_server.specs.Folders.{keepers}
 use Rattle.arbiter_server.specs.Room.{at_stamp}
+use Rattle.arbiter_server.specs.Servers.{ServerView}
 use Rattle.arbiter_server.proofs.Handing.{unread_to}
 use Rattle.arbiter_server.proofs.WholeRuns.{as_before}
 use Rattle.system_io.proofs.HistoryLaws.{Passes-nil}
@@ -17,5 +18,5 @@ returns-in-Err-clause-turns g c = (
   [],
   Passes-nil _,
   rw (c.told_alone.ensures.outputs, c.told_alone.ensures.line)
-      (unread_to (keepers g.G.Keeper.Keeper.facts g.G.Games.facts c.args.self.now.games) c.args.self.now.common (length c.args.self.now.seats) _ (at_stamp c.args.self.now.seats) c.args.bytes.now c.in-Err.fault (sym c.in-Err.ensures.computed)),
+      (unread_to (keepers g.G.Keeper.Keeper.facts g.G.Games.facts c.args.self.now.games) c.args.self.now.common (length c.args.self.now.seats) _ (at_stamp c.args.self.now.seats) c.args.bytes.now c.in-Err.fault (subst (λ (v : ServerView g.row.G.Denot g.row.G-Keeper.Denot). length v.seats ≤ v.common.at_once) c.self.view_is c.self.invariant.few) (sym c.in-Err.ensures.computed)),
 )

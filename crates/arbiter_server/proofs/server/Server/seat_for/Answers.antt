@@ -1,8 +1,8 @@
-use Rattle.std.proofs.Common.{ℕ, suc, ◌≤◌, [], ◌∷◌, None, Some, length, ap, refl, subst, sym, ◌∙◌}
-use Rattle.std.proofs.lemmas.Result.{IfOk-weaker, IfErr-weaker}
+use Rattle.std.proofs.Common.{arith, ℕ, ◌≤◌, [], ◌∷◌, Some, length, ap, refl, subst, sym, ◌∙◌}
+use Rattle.std.proofs.lemmas.Result.{IfErr-weaker}
 use Rattle.judge_core.specs.Tables.{Holding}
 use Rattle.move_msg.specs.Messages.{stamp_in}
-use Rattle.arbiter_server.specs.Acts.{unopened}
+use Rattle.arbiter_server.specs.Acts.{Otherwise, unopened}
 use Rattle.arbiter_server.specs.Folders.{keepers}
 use Rattle.arbiter_server.specs.Games.{common_with}
 use Rattle.arbiter_server.specs.Room.{at_stamp}
@@ -17,6 +17,7 @@ pub invariant_of-self : goal.invariant_of-self
 invariant_of-self g c = record {
   seated = without g.G.Keeper.Keeper.facts c.self.inside.tables (at_stamp c.self.inside.seats.entries) (at_stamp c.take_out.new.seats.entries) c.stamp.result.0 c.take_out.ensures.after c.self.invariant.seated;
   room = c.take_out.ensures.cap ∙ c.self.invariant.room;
+  few = let one = c.in-Some.ensures.one in let few = c.self.invariant.few in omega (arith, one, few);
 }
 
 pub invariant_of-self-in-None : goal.invariant_of-self-in-None
@@ -25,6 +26,7 @@ invariant_of-self-in-None g c = record {
       subst (λ (set : Holding). AreSeated g.G.Keeper.Keeper.facts set (at_stamp c.take_out.new.seats.entries)) (sym c.open_for.ensures.lent.same)
       (without g.G.Keeper.Keeper.facts c.self.inside.tables (at_stamp c.self.inside.seats.entries) (at_stamp c.take_out.new.seats.entries) c.stamp.result.0 c.take_out.ensures.after c.self.invariant.seated);
   room = c.take_out.ensures.cap ∙ c.self.invariant.room;
+  few = let same = c.in-None.ensures.none in let few = c.self.invariant.few in omega (arith, same, few);
 }
 
 pub returns-in-Some-clause-stays : goal.returns-in-Some-clause-stays
@@ -47,8 +49,8 @@ returns-in-Some-clause-opened g c =
         absent = taken_absent stamp at at' after;
         seated = seated_at g.G.Keeper.Keeper.facts c.self.inside.tables at stamp c.in-Some.seat c.self.invariant.seated was;
         comes =
-            WasOpen (subst (λ (k : ℕ). LeadsFrom s t None (length c.self.inside.seats.entries) gives at gives (in_hand stamp (Some c.in-Some.seat) at') k []) c.in-Some.ensures.one
-            (leads_not s t None (length c.self.inside.seats.entries) _ _ at _ (λ other keeper given. given) (taken_is stamp c.in-Some.seat at at' was after))) refl;
+            WasOpen (subst (λ (k : ℕ). k ≤ t.at_once) c.in-Some.ensures.one c.self.invariant.few) (subst (λ (k : ℕ). LeadsFrom s t Otherwise (length c.self.inside.seats.entries) gives at gives (in_hand stamp (Some c.in-Some.seat) at') k []) c.in-Some.ensures.one
+            (leads_not s t Otherwise (length c.self.inside.seats.entries) _ _ at _ (λ other keeper given. given) (taken_is stamp c.in-Some.seat at at' was after))) refl;
       },
     )
 
@@ -60,7 +62,7 @@ returns-in-None-clause-opened g c =
     let t = common_with c.self.inside.config c.self.inside.tables in
     let s = keepers g.G.Keeper.Keeper.facts g.G.Games.facts c.self.inside.games in
     let absent = rw c.stamp.ensures at (taken_absent c.stamp.result.0 (at_stamp c.self.inside.seats.entries) (at_stamp c.take_out.new.seats.entries) c.take_out.ensures.after) in
-    let few : length c.self.inside.seats.entries ≤ t.at_once = subst (λ (n : ℕ). length c.self.inside.seats.entries ≤ n) c.self.invariant.room c.take_out.ensures.few in
+    let few : length c.self.inside.seats.entries ≤ t.at_once = c.self.invariant.few in
     rw (sym c.self.view_is)
     (both c.open_for.result _ _ _ (λ seat h passes. (
       (stamp_in c.args.message.now).0 ∷ [],
@@ -91,6 +93,6 @@ returns-in-None-clause-unopened g c =
       h.1,
       λ datagram says.
           let effects = effects_with h.0 (unopened (stamp_in c.args.message.now).0 datagram why) in
-          subst (λ (m : ℕ). LeadsFrom s t None k gives at gives' at' m effects) (sym c.in-None.ensures.none)
-          (from_same s t k k gives gives' at at' at' effects (not_taken c.stamp.result.0 at at' (sym c.in-None.ensures.value) c.take_out.ensures.after) (h.2 at' k datagram absent says)),
+          subst (λ (m : ℕ). LeadsFrom s t Otherwise k gives at gives' at' m effects) (sym c.in-None.ensures.none)
+          (from_same s t k k gives gives' at at' at' effects (not_taken c.stamp.result.0 at at' (sym c.in-None.ensures.value) c.take_out.ensures.after) (h.2 at' k datagram c.self.invariant.few absent says)),
     )) c.open_for.ensures.unopened)
