@@ -110,7 +110,7 @@ module _ {P F W : Type 0} (host : Hosted P F) (w : Writers W) (r : Result ℕ Wr
   all_done given had has out out' (BadStart made fault first told) = BadStart made fault first told
   all_done given had has out out' (BadTables made text words refused told) = BadTables made text words refused told
   all_done given had has out out' (NoRoom made text told) = NoRoom made text told
-  all_done given had has out out' (Opened start spells legal set tables manifest is h) = Opened start spells legal set tables manifest is (bound_done (setup_for l start set manifest) had has out out' h)
+  all_done given had has out out' (Opened start spells legal set tables cache manifest is h) = Opened start spells legal set tables cache manifest is (bound_done (setup_for l start set manifest) had has out out' h)
 
 pub listened : {P F W : Type 0} (host : Hosted P F) (w : Writers W) (had has : Option (List Made)) (out out' : W) (l : Listen) (given : Given) (r : Result ℕ WriteFault) → Listens host (seen_by host.file w r) l given had has out out' r → Listens host (seen_as host.file r) l given had has (w.written out) (w.written out') r
 listened host w had has out out' l given r h = all_done host w r l given had has out out' h

@@ -11,14 +11,17 @@ use Rattle.move_msg.specs.declared.stamp.Stamp.{Stamp}
 use Rattle.system_io.specs.Disks.{DiskFacts}
 use Rattle.system_io.specs.Inputs.{InputFacts}
 use Rattle.system_io.specs.Failures.{Risen}
+use Rattle.system_io.specs.Histories.{Passes}
+use Rattle.system_io.specs.Hosts.{Made}
+use Rattle.system_io.proofs.HistoryLaws.{Passes-nil, Passes-trans}
 use Rattle.system_io.specs.KeptFiles.{IsOneOfFound, KeptFacts}
 use Rattle.system_io.specs.declared.reading.ReadFault.{ReadFault}
 use Rattle.line_teller.specs.ToldLines.{HasFront, LineTold, WritesTold, all_told, refused_memory, words_told}
 use Rattle.adjudicate_core.specs.declared.entering.KeepFault.{KeepFault}
 use Rattle.adjudicate_core.specs.declared.entering.KeepFault.TheVariants as keep
 use Rattle.adjudicate_core.specs.declared.entries.EntryFault.{EntryFault}
-use Rattle.adjudicate_core.specs.Enters.{ComesOf, CutsGames, CutsLine, EntersFirst, EntersLine, EntersLines, Failed, HasList, HasText, HasTextAt, LacksGame, LacksText, LacksTextAt, Left, OfFile, OfInput, OverFile, Place, Put, PutsAll, told_of}
-use Rattle.adjudicate_core.specs.Inside.Entering.{HasOver, LacksOver, Replaced, Same}
+use Rattle.adjudicate_core.specs.Enters.{AreMadeForTold, ComesOf, CutsGames, CutsLine, EntersFirst, EntersLine, EntersLines, Failed, HasList, HasText, HasTextAt, LacksGame, LacksText, LacksTextAt, Left, MakesForTold, OfFile, OfInput, OverFile, Place, Put, PutsAll, told_of}
+use Rattle.adjudicate_core.specs.Inside.Entering.{HasOver, LacksOver, MakesForLine, Replaced, Same}
 use Rattle.adjudicate_core.specs.Listens.{Hosted}
 use Rattle.adjudicate_core.specs.Reply.{status_if}
 
@@ -69,16 +72,19 @@ line_told p number line r old new done comes wrote is =
     the_line words d = record { words = words; done = d }
 
 -- so many lines of a list are entered and told, and whatever comes of the rest comes of all of them then
-pub record EnteredSoFar {P F : Type 0} (p : Place P F) (all rest : List ℕ) (before : ℕ) (old now : Option (List ℕ)) (done : Bool) : Type 0 where
+pub record EnteredSoFar {P F : Type 0} (p : Place P F) (all rest : List ℕ) (before : ℕ) (had has : Option (List Made)) (old now : Option (List ℕ)) (done : Bool) : Type 0 where
   pub told : List LineTold
+  pub more : List Made
+  pub passes : Passes had has more
+  pub makes : (later : List LineTold) (made : List Made) → AreMadeForTold p (lines_in rest) later made → AreMadeForTold p (lines_in all) (told ++ later) (more ++ made)
   pub first : (later : List LineTold) → EntersFirst p (before + 1) (lines_in rest) later → EntersFirst p 1 (lines_in all) (told ++ later)
   pub goes : (later : List LineTold) → EntersLines p (before + 1) (lines_in rest) later → EntersLines p 1 (lines_in all) (told ++ later)
   pub written : Appends old now (text_of (words_told told))
   pub is : (later : List LineTold) → all_told (told ++ later) ≡ (done && all_told later)
   pub room : before + length rest ≤ length all
 
-pub entered_none : {P F : Type 0} (p : Place P F) (all : List ℕ) (out : Option (List ℕ)) → EnteredSoFar p all all 0 out out true
-entered_none p all out = record { told = []; first = λ later h. h; goes = λ later h. h; written = Appends-nil out; is = λ later. refl; room = omega arith }
+pub entered_none : {P F : Type 0} (p : Place P F) (all : List ℕ) (had : Option (List Made)) (out : Option (List ℕ)) → EnteredSoFar p all all 0 had had out out true
+entered_none p all had out = record { told = []; more = []; passes = Passes-nil had; makes = λ later made h. h; first = λ later h. h; goes = λ later h. h; written = Appends-nil out; is = λ later. refl; room = omega arith }
 
 written_more : (old mid new : Option (List ℕ)) (told : List LineTold) (one : LineTold) → Appends old mid (text_of (words_told told)) → Appends mid new (ended one.words) → Appends old new (text_of (words_told (told ++ one ∷ [])))
 written_more old mid new told one h wrote =
@@ -97,12 +103,15 @@ and_false true = refl
 and_false false = refl
 
 -- one line more
-pub entered_more : {P F : Type 0} (p : Place P F) (all rest tail line : List ℕ) (before : ℕ) (old mid new : Option (List ℕ)) (done is_entered both : Bool) → EnteredSoFar p all rest before old mid done → lines_in rest ≡ line ∷ lines_in tail → length tail < length rest → WritesTold (EntersLine p (before + 1) line) mid new is_entered → both ≡ (done && is_entered) → EnteredSoFar p all tail (before + 1) old new both
-entered_more p all rest tail line before old mid new done is_entered both h cut short (words, enters, wrote) e =
+pub entered_more : {P F : Type 0} (p : Place P F) (all rest tail line : List ℕ) (before : ℕ) (had now has : Option (List Made)) (old mid new : Option (List ℕ)) (done is_entered both : Bool) → EnteredSoFar p all rest before had now old mid done → lines_in rest ≡ line ∷ lines_in tail → length tail < length rest → MakesForLine p line now has → WritesTold (EntersLine p (before + 1) line) mid new is_entered → both ≡ (done && is_entered) → EnteredSoFar p all tail (before + 1) had has old new both
+entered_more p all rest tail line before had now has old mid new done is_entered both h cut short (of_line, passes, is_made) (words, enters, wrote) e =
     let one : LineTold = record { words = words; done = is_entered } in
     let again : (later : List LineTold) → (h.told ++ one ∷ []) ++ later ≡ h.told ++ one ∷ later = λ later. append_assoc h.told (one ∷ []) later in
     record {
       told = h.told ++ one ∷ [];
+      more = h.more ++ of_line;
+      passes = Passes-trans had now has h.more of_line h.passes passes;
+      makes = λ later made k. subst (λ (t : List LineTold). AreMadeForTold p (lines_in all) t ((h.more ++ of_line) ++ made)) (sym (again later)) (subst (AreMadeForTold p (lines_in all) (h.told ++ one ∷ later)) (sym (append_assoc h.more of_line made)) (h.makes (one ∷ later) (of_line ++ made) (subst (λ (ls : List (List ℕ)). AreMadeForTold p ls (one ∷ later) (of_line ++ made)) (sym cut) (of_line, made, is_made, refl, k))));
       first = λ later k. subst (EntersFirst p 1 (lines_in all)) (sym (again later)) (h.first (one ∷ later) (subst (λ (ls : List (List ℕ)). EntersFirst p (before + 1) ls (one ∷ later)) (sym cut) (inl (enters, k))));
       goes = λ later k. subst (EntersLines p 1 (lines_in all)) (sym (again later)) (h.goes (one ∷ later) (subst (λ (ls : List (List ℕ)). EntersLines p (before + 1) ls (one ∷ later)) (sym cut) (inl (enters, k))));
       written = written_more old mid new h.told one h.written wrote;
@@ -110,31 +119,39 @@ entered_more p all rest tail line before old mid new done is_entered both h cut 
       room = let r = h.room in omega arith;
     }
 
+-- the line that is told last
+made_last : {P F : Type 0} (p : Place P F) (all rest tail line : List ℕ) (before : ℕ) (had now has : Option (List Made)) (old mid : Option (List ℕ)) (done : Bool) (h : EnteredSoFar p all rest before had now old mid done) (t : LineTold) → lines_in rest ≡ line ∷ lines_in tail → MakesForLine p line now has → MakesForTold p (lines_in all) (h.told ++ t ∷ []) had has
+made_last p all rest tail line before had now has old mid done h t cut (of_line, passes, is_made) =
+    (h.more ++ of_line, Passes-trans had now has h.more of_line h.passes passes, h.makes (t ∷ []) of_line (subst (λ (ls : List (List ℕ)). AreMadeForTold p ls (t ∷ []) of_line) (sym cut) (of_line, [], is_made, sym (append-nil of_line), refl)))
+
 -- no line is left
-pub entered_all : {P F : Type 0} (p : Place P F) (all rest : List ℕ) (before status : ℕ) (old new : Option (List ℕ)) (done : Bool) → EnteredSoFar p all rest before old new done → lines_in rest ≡ [] → status ≡ status_if done → PutsAll p (lines_in all) old new status
-entered_all p all rest before status old new done h none e =
+pub entered_all : {P F : Type 0} (p : Place P F) (all rest : List ℕ) (before status : ℕ) (had has : Option (List Made)) (old new : Option (List ℕ)) (done : Bool) → EnteredSoFar p all rest before had has old new done → lines_in rest ≡ [] → status ≡ status_if done → PutsAll p (lines_in all) had has old new status
+entered_all p all rest before status had has old new done h none e =
     record {
       told = h.told;
+      makes = (h.more, h.passes, subst (λ (t : List LineTold). AreMadeForTold p (lines_in all) t h.more) (append-nil h.told) (subst (AreMadeForTold p (lines_in all) (h.told ++ [])) (append-nil h.more) (h.makes [] [] refl)));
       enters = subst (EntersLines p 1 (lines_in all)) (append-nil h.told) (h.goes [] (subst (λ (ls : List (List ℕ)). EntersLines p (before + 1) ls []) (sym none) refl));
       written = h.written;
       is = e ∙ ap status_if (sym (ap all_told (sym (append-nil h.told)) ∙ h.is [] ∙ and_true done));
     }
 
 -- memory was refused for the game of a line
-pub entered_cut : {P F : Type 0} (p : Place P F) (all rest tail line : List ℕ) (before : ℕ) (old mid new : Option (List ℕ)) (done : Bool) → EnteredSoFar p all rest before old mid done → lines_in rest ≡ line ∷ lines_in tail → LacksGame p line keep.OutOfMemory → Appends mid new (ended refused_memory) → PutsAll p (lines_in all) old new 1
-entered_cut p all rest tail line before old mid new done h cut lacks wrote =
+pub entered_cut : {P F : Type 0} (p : Place P F) (all rest tail line : List ℕ) (before : ℕ) (had now has : Option (List Made)) (old mid new : Option (List ℕ)) (done : Bool) → EnteredSoFar p all rest before had now old mid done → lines_in rest ≡ line ∷ lines_in tail → MakesForLine p line now has → LacksGame p line keep.OutOfMemory → Appends mid new (ended refused_memory) → PutsAll p (lines_in all) had has old new 1
+entered_cut p all rest tail line before had now has old mid new done h cut made lacks wrote =
     let one : LineTold = record { words = refused_memory; done = false } in
     record {
       told = h.told ++ one ∷ [];
+      makes = made_last p all rest tail line before had now has old mid done h one cut made;
       enters = h.goes (one ∷ []) (subst (λ (ls : List (List ℕ)). EntersLines p (before + 1) ls (one ∷ [])) (sym cut) (inr ((lacks, refl), refl)));
       written = written_more old mid new h.told one h.written wrote;
       is = ap status_if (sym (h.is (one ∷ []) ∙ and_false done));
     }
 
 -- the writer failed at a line
-pub entered_front : {P F : Type 0} (p : Place P F) (all rest tail line : List ℕ) (before : ℕ) (old mid new : Option (List ℕ)) (done : Bool) → EnteredSoFar p all rest before old mid done → lines_in rest ≡ line ∷ lines_in tail → (t : LineTold) × (EntersLine p (before + 1) line t ⊎ CutsLine p line t) × HasFront mid new (ended t.words) → CutsGames p (lines_in all) old new
-entered_front p all rest tail line before old mid new done h cut (t, comes, (n, front)) = record {
+pub entered_front : {P F : Type 0} (p : Place P F) (all rest tail line : List ℕ) (before : ℕ) (had now has : Option (List Made)) (old mid new : Option (List ℕ)) (done : Bool) → EnteredSoFar p all rest before had now old mid done → lines_in rest ≡ line ∷ lines_in tail → MakesForLine p line now has → (t : LineTold) × (EntersLine p (before + 1) line t ⊎ CutsLine p line t) × HasFront mid new (ended t.words) → CutsGames p (lines_in all) had has old new
+entered_front p all rest tail line before had now has old mid new done h cut made (t, comes, (n, front)) = record {
   told = h.told ++ t ∷ [];
+  makes = made_last p all rest tail line before had now has old mid done h t cut made;
   enters = h.first (t ∷ []) (subst (λ (ls : List (List ℕ)). EntersFirst p (before + 1) ls (t ∷ [])) (sym cut) (one comes));
   written = record {
     earlier = words_told h.told;

@@ -38,6 +38,7 @@ module _ {P F K W : Type 0} (folders : List ℕ → Keepers K) (host : Hosted P 
     cause = run.cause;
     ends = run.ends;
     written = lines_to w out out' (logged form (all_lines (all_replies run.acts) run.lost)) r run.lines;
+    last = run.last;
   }
 
   now_done : (t : CommonView) (had has : Option (List Made)) (port port' : PortFacts) (out out' : W) → HostsNow (seen_by folders w) h t had has port port' out out' r → HostsNow (seen_as folders) h t had has port port' (w.written out) (w.written out') r
@@ -66,7 +67,7 @@ module _ {P F K W : Type 0} (folders : List ℕ → Keepers K) (host : Hosted P 
   all_done disk given had has out out' (BadTables made words refused told) = BadTables made words refused told
   all_done disk given had has out out' (NoFolder made set tables fails told) = NoFolder made set tables fails told
   all_done disk given had has out out' (NoRoom made told) = NoRoom made told
-  all_done disk given had has out out' (Hosting set tables names lists manifest is run) = Hosting set tables names lists manifest is (lock_done (common_for h set manifest) had has out out' run)
+  all_done disk given had has out out' (Hosting set tables cache names lists manifest is run) = Hosting set tables cache names lists manifest is (lock_done (common_for h set manifest) had has out out' run)
 
 pub hosted_games : {P F K W : Type 0} (disk : DiskFacts) (folders : List ℕ → Keepers K) (host : Hosted P F) (w : Writers W) (had has : Option (List Made)) (out out' : W) (h : HostGames) (given : Given) (r : Result ℕ WriteFault) → HostsGames disk host (seen_by folders w) h given had has out out' r → HostsGames disk host (seen_as folders) h given had has (w.written out) (w.written out') r
 hosted_games disk folders host w had has out out' h given r run = all_done folders host w r h disk given had has out out' run

@@ -10,7 +10,8 @@ use Rattle.sealed_port.specs.KeyedHosts.{KeyedView, keyed_facts}
 use Rattle.sealed_port.specs.Sealing.{sealed_facts}
 use Rattle.sealed_port.specs.declared.seal_port.Keys.{Keys}
 use Rattle.adjudicate_core.specs.Listens.{hosted}
-use Rattle.adjudicate_core.specs.Running.{AnswersTask, outside, sealed_by}
+use Rattle.adjudicate_core.specs.Outsides.{outside}
+use Rattle.adjudicate_core.specs.Running.{AnswersTask, sealed_by}
 use Rattle.adjudicate_core.specs.declared.commands.Task.{Task}
 
 -- what a task is answered over a keyed host, it is answered over the host by its keys

@@ -1,5 +1,5 @@
 -- What a task makes, from what it comes to.
-use Rattle.std.proofs.Common.{◌≡◌, ◌++◌, ℕ, List, [], ◌∷◌, map, Option, refl, ap, inl, inr, subst, sym, append_assoc, append-nil}
+use Rattle.std.proofs.Common.{◌≡◌, ◌++◌, ℕ, List, [], ◌∷◌, map, Option, refl, ap, inl, inr, subst, sym}
 use Rattle.std.specs.Prelude.{Result, Ok, Err, ◌⊎◌}
 use Rattle.std.specs.List.{AllByRecursion}
 use Rattle.system_io.specs.Disks.{DiskFacts}
@@ -21,8 +21,10 @@ use Rattle.source_core.specs.declared.lines.Ended.{Ended}
 use Rattle.task_files.specs.Given.{Given}
 use Rattle.adjudicate_core.specs.Hostings as hosting
 use Rattle.adjudicate_core.specs.Entries.{SpellsEntry}
-use Rattle.adjudicate_core.specs.Enters.{AreMadeForLines, BadStart, Entered, Enters, EntersAs, EntersList, IsMadeForLine, Kept, Listed, MakesForLines, NoList, NoManifest, NoRoom, NoRoomForList, NoRoomForManifest, OfList, Place, PutsGame, Unkept, Unstamped, file_of_game, game_of, place}
+use Rattle.adjudicate_core.specs.Enters.{AreMadeForTold, BadStart, Entered, Enters, EntersAs, EntersList, IsMadeForLine, Kept, Listed, MakesForTold, NoList, NoManifest, NoRoom, NoRoomForList, NoRoomForManifest, OfList, Place, PutsGame, PutsGames, Unkept, Unstamped, file_of_game, game_of, place}
 use Rattle.adjudicate_core.specs.Inside.Entering.{MakesForLine}
+use Rattle.adjudicate_core.specs.Outsides.{Outside}
+use Rattle.line_teller.specs.ToldLines.{LineTold}
 use Rattle.adjudicate_core.specs.Addresses.{addresses_of}
 use Rattle.adjudicate_core.specs.Listens as listening
 use Rattle.adjudicate_core.specs.Locks.{kept_lock}
@@ -114,14 +116,14 @@ pub listen_makes : {P F T : Type 0} (host : listening.Hosted P F) (seen : listen
 listen_makes host seen l given had has old new r (listening.BadStart made fault first told) = within_none _ had has made
 listen_makes host seen l given had has old new r (listening.BadTables made text words refused told) = within_none _ had has made
 listen_makes host seen l given had has old new r (listening.NoRoom made text told) = within_none _ had has made
-listen_makes host seen l given had has old new r (listening.Opened start spells legal set tables manifest is h) = bound_makes host l (listening.setup_for l start set manifest) has r seen had old new h
+listen_makes host seen l given had has old new r (listening.Opened start spells legal set tables cache manifest is h) = bound_makes host l (listening.setup_for l start set manifest) has r seen had old new h
 
 -- ---- `send`
 
 bound_sends : {P F : Type 0} (host : listening.Hosted P F) (source : InputFacts) (t : Send) (stamp : Stamp) (start : Parts) (had has : Option (List Made)) (old new : Option (List ℕ)) (r : Result Ended WriteFault) → sending.BindsAndSends host source t stamp start had has old new r → Within (of_send t) had has
 bound_sends host source t stamp start had has old new r (sending.Unbound made why told) = within_none _ had has made
 bound_sends host source t stamp start had has old new r (sending.NoRoomToBind made why told) = within_none _ had has made
-bound_sends host source t stamp start had has old new r (sending.Bound made port port' bound each h) = within_last [] _ had has made
+bound_sends host source t stamp start had has old new r (sending.Bound made port port' bound each terms on h) = within_last [] _ had has made
 
 pub send_makes : {P F : Type 0} (disk : DiskFacts) (source : InputFacts) (host : listening.Hosted P F) (t : Send) (had has : Option (List Made)) (old new : Option (List ℕ)) (r : Result Ended WriteFault) → sending.Sends disk source host t had has old new r → MakesFor (task.Send t) had has
 send_makes disk source host t had has old new r (sending.NoGame made words lacks told) = within_none _ had has made
@@ -184,7 +186,7 @@ pub host_makes : {P F T : Type 0} (disk : DiskFacts) (host : listening.Hosted P 
 host_makes disk host seen h given had has old new r (hosting.BadTables made words refused told) = hosts_none h _ had has made
 host_makes disk host seen h given had has old new r (hosting.NoFolder made set tables fails told) = hosts_none h _ had has made
 host_makes disk host seen h given had has old new r (hosting.NoRoom made told) = hosts_none h _ had has made
-host_makes disk host seen h given had has old new r (hosting.Hosting set tables names lists manifest is run) = lock_hosts host seen h has r (hosting.common_for h set manifest) had old new run
+host_makes disk host seen h given had has old new r (hosting.Hosting set tables cache names lists manifest is run) = lock_hosts host seen h has r (hosting.common_for h set manifest) had old new run
 
 -- ---- `enter`
 
@@ -196,36 +198,21 @@ module _ {P F : Type 0} (p : Place P F) where
   line_once line g had has spells (inl none) = ([], none, inl refl)
   line_once line g had has spells (inr one) = (file_of_game p g ∷ [], one, inr (g, spells, refl))
 
-  none_left : (lines : List (List ℕ)) → AreMadeForLines p lines []
-  none_left [] = refl
-  none_left (line ∷ lines) = ([], [], inl refl, refl, none_left lines)
-
-  -- the lines so far, and then any others
-  pub record MadeSoFar (all rest : List ℕ) (had has : Option (List Made)) : Type 0 where
-    pub more : List Made
-    pub passes : Passes had has more
-    pub goes : (later : List Made) → AreMadeForLines p (lines_in rest) later → AreMadeForLines p (lines_in all) (more ++ later)
-
-  pub made_none : (all : List ℕ) (had : Option (List Made)) → MadeSoFar all all had had
-  made_none all had = record { more = []; passes = Passes-nil had; goes = λ later h. h }
-
-  pub made_more : (all rest tail line : List ℕ) (had mid has : Option (List Made)) → MadeSoFar all rest had mid → lines_in rest ≡ line ∷ lines_in tail → MakesForLine p line mid has → MadeSoFar all tail had has
-  made_more all rest tail line had mid has before cut (one, passes, is) = record {
-    more = before.more ++ one;
-    passes = Passes-trans had mid has before.more one before.passes passes;
-    goes = λ later h. subst (AreMadeForLines p (lines_in all)) (sym (append_assoc before.more one later)) (before.goes (one ++ later) (subst (λ (ls : List (List ℕ)). AreMadeForLines p ls (one ++ later)) (sym cut) (one, later, is, refl, h)));
-  }
-
-  pub made_all : (all rest : List ℕ) (had has : Option (List Made)) → MadeSoFar all rest had has → MakesForLines p (lines_in all) had has
-  made_all all rest had has before = (before.more ++ [], subst (Passes had has) (sym (append-nil before.more)) before.passes, before.goes [] (none_left (lines_in rest)))
-
-  games_of_lines : (lines : List (List ℕ)) (more : List Made) → AreMadeForLines p lines more → AllByRecursion (IsGameIn p.games) more
-  games_of_lines [] more none = subst (AllByRecursion (IsGameIn p.games)) (sym none) tt
-  games_of_lines (line ∷ lines) more (first, rest, is, all, others) = subst (AllByRecursion (IsGameIn p.games)) (sym all) (game_of_line first rest is (games_of_lines lines rest others))
+  games_of_told : (lines : List (List ℕ)) (told : List LineTold) (more : List Made) → AreMadeForTold p lines told more → AllByRecursion (IsGameIn p.games) more
+  games_of_told lines [] more none = subst (AllByRecursion (IsGameIn p.games)) (sym none) tt
+  games_of_told [] (t ∷ told) more none = absurd none
+  games_of_told (line ∷ lines) (t ∷ told) more (first, rest, is, all, others) = subst (AllByRecursion (IsGameIn p.games)) (sym all) (game_of_line first rest is (games_of_told lines told rest others))
     where
       game_of_line : (first rest : List Made) → IsMadeForLine p line first → AllByRecursion (IsGameIn p.games) rest → AllByRecursion (IsGameIn p.games) (first ++ rest)
       game_of_line first rest (inl none) others = subst (λ (l : List Made). AllByRecursion (IsGameIn p.games) (l ++ rest)) (sym none) others
       game_of_line first rest (inr (g, spells, one)) others = subst (λ (l : List Made). AllByRecursion (IsGameIn p.games) (l ++ rest)) (sym one) ((stamp_for g p.manifest, refl), others)
+
+  told_makes : (lines : List (List ℕ)) (told : List LineTold) (had has : Option (List Made)) → MakesForTold p lines told had has → (more : List Made) × Passes had has more × AllByRecursion (IsGameIn p.games) more
+  told_makes lines told had has (more, passes, are) = (more, passes, games_of_told lines told more are)
+
+  puts_makes : (lines : List (List ℕ)) (had has : Option (List Made)) (old new : Option (List ℕ)) (r : Result ℕ WriteFault) → PutsGames p lines had has old new r → (more : List Made) × Passes had has more × AllByRecursion (IsGameIn p.games) more
+  puts_makes lines had has old new (Ok status) h = told_makes lines h.told had has h.makes
+  puts_makes lines had has old new (Err fault) h = told_makes lines h.told had has h.makes
 
   put_makes : (t : OneGame) (g : Told) (had has : Option (List Made)) (old new : Option (List ℕ)) (r : Result ℕ WriteFault) → PutsGame p g had has old new r → (more : List Made) × Passes had has more × IsOfEntries p.games (One t) more
   put_makes t g had has old new r (Kept made stamp is told) = one_of t g had has made
@@ -239,22 +226,22 @@ module _ {P F : Type 0} (p : Place P F) where
       one_of t g had has (inl none) = ([], none, inl refl)
       one_of t g had has (inr one) = (file_of_game p g ∷ [], one, inr (file_of_game p g, (stamp_for g p.manifest, refl), refl))
 
-module _ {P F : Type 0} (disk : DiskFacts) (source : InputFacts) (host : listening.Hosted P F) (t : Enter) (had has : Option (List Made)) (old new : Option (List ℕ)) (r : Result ℕ WriteFault) where
-  list_makes : (text : List ℕ) → EntersList disk host t text had has old new r → (more : List Made) × Passes had has more × AllByRecursion (IsGameIn t.games.now) more
+module _ {P F : Type 0} (out : Outside P F) (t : Enter) (old new : Option (List ℕ)) (r : Result ℕ WriteFault) where
+  list_makes : (text : List ℕ) → EntersList out t text old new r → (more : List Made) × Passes out.had out.has more × AllByRecursion (IsGameIn t.games.now) more
   list_makes text (Unstamped made words lacks told) = ([], made, tt)
   list_makes text (NoRoomForManifest made told) = ([], made, tt)
-  list_makes text (Listed manifest is (more, passes, are) puts) = (more, passes, games_of_lines (place host t.games.now manifest) (lines_in text) more are)
+  list_makes text (Listed manifest is puts) = puts_makes (place out.host t.games.now manifest) (lines_in text) out.had out.has old new r puts
 
-  as_makes : (e : Entries) → EntersAs disk source host t e had has old new r → (more : List Made) × Passes had has more × IsOfEntries t.games.now e more
+  as_makes : (e : Entries) → EntersAs out t e old new r → (more : List Made) × Passes out.had out.has more × IsOfEntries t.games.now e more
   as_makes (One g) (BadStart made fault first told) = ([], made, inl refl)
   as_makes (One g) (NoManifest made text words lacks told) = ([], made, inl refl)
   as_makes (One g) (NoRoom made text told) = ([], made, inl refl)
-  as_makes (One g) (Entered start spells legal manifest is puts) = put_makes (place host t.games.now manifest) g (game_of g start) had has old new r puts
+  as_makes (One g) (Entered start spells legal manifest is puts) = put_makes (place out.host t.games.now manifest) g (game_of g start) out.had out.has old new r puts
   as_makes (From path) (NoList made lacks told) = ([], made, tt)
   as_makes (From path) (NoRoomForList made told) = ([], made, tt)
   as_makes (From path) (OfList text is h) = list_makes text h
 
-  pub enter_makes : Enters disk source host t had has old new r → MakesFor (task.Enter t) had has
+  pub enter_makes : Enters out t old new r → MakesFor (task.Enter t) out.had out.has
   enter_makes h = as_makes t.entries h
 
 -- ---- words

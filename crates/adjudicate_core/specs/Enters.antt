@@ -33,6 +33,7 @@ use Rattle.adjudicate_core.specs.Entries.{IsFirstEntryFault, SpellsEntry}
 use Rattle.adjudicate_core.specs.Lines.{refused_entry, refused_fen}
 use Rattle.adjudicate_core.specs.Listens.{Hosted}
 use Rattle.adjudicate_core.specs.Manifests.{IsManifestOf, LacksManifest}
+use Rattle.adjudicate_core.specs.Outsides.{Outside}
 use Rattle.adjudicate_core.specs.Reply.{IsText, status_if}
 use Rattle.adjudicate_core.specs.Telling.{TellsOne, TellsText}
 use Rattle.source_core.specs.Lines.{IsCut}
@@ -110,11 +111,11 @@ pub data PutsGame {P F : Type 0} (p : Place P F) (g : Told) (had has : Option (L
 
 -- entering: the text of the start is no position; or else there is no manifest; or else the text of the game is kept in the folder
 -- under the stamp of the game by that manifest
-pub data EntersOne {P F : Type 0} (disk : DiskFacts) (host : Hosted P F) (t : Enter) (g : OneGame) (had has : Option (List Made)) (old new : Option (List ℕ)) (r : Result ℕ WriteFault) : Type 0 where
-  BadStart : Passes had has [] → (fault : FenFault) → IsFirstFenFault g.start.now fault → TellsOne (refused_fen fault) old new r → EntersOne disk host t g had has old new r
-  NoManifest : Passes had has [] → IsText g.start.now → (words : List ℕ) → LacksManifest disk (option_map (λ s. s.now) t.manifest) t.tables.now words → TellsOne words old new r → EntersOne disk host t g had has old new r
-  NoRoom : Passes had has [] → IsText g.start.now → TellsOne refused_memory old new r → EntersOne disk host t g had has old new r
-  Entered : (start : Parts) → SpellsPosition g.start.now start → IsPosition start → (manifest : List ℕ) → IsManifestOf disk (option_map (λ s. s.now) t.manifest) t.tables.now manifest → PutsGame (place host t.games.now manifest) (game_of g start) had has old new r → EntersOne disk host t g had has old new r
+pub data EntersOne {P F : Type 0} (out : Outside P F) (t : Enter) (g : OneGame) (old new : Option (List ℕ)) (r : Result ℕ WriteFault) : Type 0 where
+  BadStart : Passes out.had out.has [] → (fault : FenFault) → IsFirstFenFault g.start.now fault → TellsOne (refused_fen fault) old new r → EntersOne out t g old new r
+  NoManifest : Passes out.had out.has [] → IsText g.start.now → (words : List ℕ) → LacksManifest out.disk (option_map (λ s. s.now) t.manifest) t.tables.now words → TellsOne words old new r → EntersOne out t g old new r
+  NoRoom : Passes out.had out.has [] → IsText g.start.now → TellsOne refused_memory old new r → EntersOne out t g old new r
+  Entered : (start : Parts) → SpellsPosition g.start.now start → IsPosition start → (manifest : List ℕ) → IsManifestOf out.disk (option_map (λ s. s.now) t.manifest) t.tables.now manifest → PutsGame (place out.host t.games.now manifest) (game_of g start) out.had out.has old new r → EntersOne out t g old new r
 
 -- ---- the games of a list
 
@@ -153,40 +154,45 @@ EntersFirst p number [] (t ∷ told) = ⊥
 EntersFirst p number (line ∷ lines) (t ∷ told) =
     (EntersLine p number line t × EntersFirst p (number + 1) lines told) ⊎ (CutsLine p line t × (told ≡ []))
 
--- what came of each line was written, and the status is 0 only where all games are entered
-pub record PutsAll {P F : Type 0} (p : Place P F) (lines : List (List ℕ)) (old new : Option (List ℕ)) (status : ℕ) : Type 0 where
-  pub told : List LineTold
-  pub enters : EntersLines p 1 lines told
-  pub written : Appends old new (text_of (words_told told))
-  pub is : status ≡ status_if (all_told told)
-
--- the writer failed at one of the lines: what came of those before it was written, and of it a front
-pub record CutsGames {P F : Type 0} (p : Place P F) (lines : List (List ℕ)) (old new : Option (List ℕ)) : Type 0 where
-  pub told : List LineTold
-  pub enters : EntersFirst p 1 lines told
-  pub written : IsCut (words_told told) old new
-
-abbrev pub PutsGames : {P F : Type 0} → Place P F → List (List ℕ) → Option (List ℕ) → Option (List ℕ) → Result ℕ WriteFault → Type 0
-PutsGames p lines old new (Ok status) = PutsAll p lines old new status
-PutsGames p lines old new (Err fault) = CutsGames p lines old new
-
 -- at the host the file of the game of a line is opened, or nothing; nothing for a line that spells none
 abbrev pub IsMadeForLine : {P F : Type 0} → Place P F → List ℕ → List Made → Type 0
 IsMadeForLine p line more = (more ≡ []) ⊎ ((g : Told) × SpellsEntry line g × (more ≡ file_of_game p g ∷ []))
 
--- so for each line in turn
-abbrev pub AreMadeForLines : {P F : Type 0} → Place P F → List (List ℕ) → List Made → Type 0
-AreMadeForLines p [] more = more ≡ []
-AreMadeForLines p (line ∷ lines) more = (first : List Made) × (rest : List Made) × IsMadeForLine p line first × (more ≡ first ++ rest) × AreMadeForLines p lines rest
+-- so for each line of which something is told, in turn, and nothing for a later one
+abbrev pub AreMadeForTold : {P F : Type 0} → Place P F → List (List ℕ) → List LineTold → List Made → Type 0
+AreMadeForTold p lines [] more = more ≡ []
+AreMadeForTold p [] (t ∷ told) more = ⊥
+AreMadeForTold p (line ∷ lines) (t ∷ told) more = (first : List Made) × (rest : List Made) × IsMadeForLine p line first × (more ≡ first ++ rest) × AreMadeForTold p lines told rest
 
-abbrev pub MakesForLines : {P F : Type 0} → Place P F → List (List ℕ) → Option (List Made) → Option (List Made) → Type 0
-MakesForLines p lines had has = (more : List Made) × Passes had has more × AreMadeForLines p lines more
+abbrev pub MakesForTold : {P F : Type 0} → Place P F → List (List ℕ) → List LineTold → Option (List Made) → Option (List Made) → Type 0
+MakesForTold p lines told had has = (more : List Made) × Passes had has more × AreMadeForTold p lines told more
+
+-- what came of each line was written, and the status is 0 only where all games are entered; after a line for whose game memory was
+-- refused no game is entered
+pub record PutsAll {P F : Type 0} (p : Place P F) (lines : List (List ℕ)) (had has : Option (List Made)) (old new : Option (List ℕ)) (status : ℕ) : Type 0 where
+  pub told : List LineTold
+  pub enters : EntersLines p 1 lines told
+  pub makes : MakesForTold p lines told had has
+  pub written : Appends old new (text_of (words_told told))
+  pub is : status ≡ status_if (all_told told)
+
+-- the writer failed at one of the lines: what came of those before it was written, and of it a front; and no game of a later line is
+-- entered
+pub record CutsGames {P F : Type 0} (p : Place P F) (lines : List (List ℕ)) (had has : Option (List Made)) (old new : Option (List ℕ)) : Type 0 where
+  pub told : List LineTold
+  pub enters : EntersFirst p 1 lines told
+  pub makes : MakesForTold p lines told had has
+  pub written : IsCut (words_told told) old new
+
+abbrev pub PutsGames : {P F : Type 0} → Place P F → List (List ℕ) → Option (List Made) → Option (List Made) → Option (List ℕ) → Option (List ℕ) → Result ℕ WriteFault → Type 0
+PutsGames p lines had has old new (Ok status) = PutsAll p lines had has old new status
+PutsGames p lines had has old new (Err fault) = CutsGames p lines had has old new
 
 -- there is no manifest, for which memory may be refused too; or the games of the lines of the text are entered by it
-pub data EntersList {P F : Type 0} (disk : DiskFacts) (host : Hosted P F) (t : Enter) (text : List ℕ) (had has : Option (List Made)) (old new : Option (List ℕ)) (r : Result ℕ WriteFault) : Type 0 where
-  Unstamped : Passes had has [] → (words : List ℕ) → LacksManifest disk (option_map (λ s. s.now) t.manifest) t.tables.now words → TellsOne words old new r → EntersList disk host t text had has old new r
-  NoRoomForManifest : Passes had has [] → TellsOne refused_memory old new r → EntersList disk host t text had has old new r
-  Listed : (manifest : List ℕ) → IsManifestOf disk (option_map (λ s. s.now) t.manifest) t.tables.now manifest → MakesForLines (place host t.games.now manifest) (lines_in text) had has → PutsGames (place host t.games.now manifest) (lines_in text) old new r → EntersList disk host t text had has old new r
+pub data EntersList {P F : Type 0} (out : Outside P F) (t : Enter) (text : List ℕ) (old new : Option (List ℕ)) (r : Result ℕ WriteFault) : Type 0 where
+  Unstamped : Passes out.had out.has [] → (words : List ℕ) → LacksManifest out.disk (option_map (λ s. s.now) t.manifest) t.tables.now words → TellsOne words old new r → EntersList out t text old new r
+  NoRoomForManifest : Passes out.had out.has [] → TellsOne refused_memory old new r → EntersList out t text old new r
+  Listed : (manifest : List ℕ) → IsManifestOf out.disk (option_map (λ s. s.now) t.manifest) t.tables.now manifest → PutsGames (place out.host t.games.now manifest) (lines_in text) out.had out.has old new r → EntersList out t text old new r
 
 -- the list is what the input gives where the path is `-`, and else what the file has
 pub data HasList (disk : DiskFacts) (source : InputFacts) (path text : List ℕ) : Type 0 where
@@ -198,17 +204,17 @@ pub data LacksList (disk : DiskFacts) (source : InputFacts) (path : List ℕ) : 
   NoInput : path ≡ codes "-" → source.fails → LacksList disk source path
   NoFile : path ≢ codes "-" → disk.fails (AtFile path) → LacksList disk source path
 
-pub data EntersFrom {P F : Type 0} (disk : DiskFacts) (source : InputFacts) (host : Hosted P F) (t : Enter) (path : List ℕ) (had has : Option (List Made)) (old new : Option (List ℕ)) (r : Result ℕ WriteFault) : Type 0 where
-  NoList : Passes had has [] → LacksList disk source path → TellsOne refused_files old new r → EntersFrom disk source host t path had has old new r
-  NoRoomForList : Passes had has [] → TellsOne refused_memory old new r → EntersFrom disk source host t path had has old new r
-  OfList : (text : List ℕ) → HasList disk source path text → EntersList disk host t text had has old new r → EntersFrom disk source host t path had has old new r
+pub data EntersFrom {P F : Type 0} (out : Outside P F) (t : Enter) (path : List ℕ) (old new : Option (List ℕ)) (r : Result ℕ WriteFault) : Type 0 where
+  NoList : Passes out.had out.has [] → LacksList out.disk out.source path → TellsOne refused_files old new r → EntersFrom out t path old new r
+  NoRoomForList : Passes out.had out.has [] → TellsOne refused_memory old new r → EntersFrom out t path old new r
+  OfList : (text : List ℕ) → HasList out.disk out.source path text → EntersList out t text old new r → EntersFrom out t path old new r
 
 -- ---- one or the other
 
-abbrev pub EntersAs : {P F : Type 0} → DiskFacts → InputFacts → Hosted P F → Enter → Entries → Option (List Made) → Option (List Made) → Option (List ℕ) → Option (List ℕ) → Result ℕ WriteFault → Type 0
-EntersAs disk source host t (One g) had has old new r = EntersOne disk host t g had has old new r
-EntersAs disk source host t (From path) had has old new r = EntersFrom disk source host t path.now had has old new r
+abbrev pub EntersAs : {P F : Type 0} → Outside P F → Enter → Entries → Option (List ℕ) → Option (List ℕ) → Result ℕ WriteFault → Type 0
+EntersAs out t (One g) old new r = EntersOne out t g old new r
+EntersAs out t (From path) old new r = EntersFrom out t path.now old new r
 
 -- what the host has made before and after it is in its history: files of the games that are entered
-abbrev pub Enters : {P F : Type 0} → DiskFacts → InputFacts → Hosted P F → Enter → Option (List Made) → Option (List Made) → Option (List ℕ) → Option (List ℕ) → Result ℕ WriteFault → Type 0
-Enters disk source host t had has old new r = EntersAs disk source host t t.entries had has old new r
+abbrev pub Enters : {P F : Type 0} → Outside P F → Enter → Option (List ℕ) → Option (List ℕ) → Result ℕ WriteFault → Type 0
+Enters out t old new r = EntersAs out t t.entries old new r

@@ -28,7 +28,7 @@ use Rattle.arbiter_server.specs.GameFolders.{kept_path}
 use Rattle.arbiter_server.specs.LineLogs.{logged}
 use Rattle.arbiter_server.specs.declared.line_log.LogForm.{LogForm}
 use Rattle.arbiter_server.specs.declared.line_log.LogForm.TheVariants.{Nothing}
-use Rattle.arbiter_server.specs.Hosts.{AreFew, Ends, Hosts, IsHosted, all_lines, all_passing}
+use Rattle.arbiter_server.specs.Hosts.{AreFew, Ends, EndsAtCut, Hosts, IsHosted, all_lines, all_passing}
 use Rattle.adjudicate_core.specs.Addresses.{addresses_of}
 use Rattle.adjudicate_core.specs.declared.commands.host.HostGames.{HostGames}
 use Rattle.adjudicate_core.specs.declared.hosting.HostPlan.{HostPlan}
@@ -59,6 +59,7 @@ pub record HostsAndWrites {K : Type 0} (s : Keepers K) (t : CommonView) (form : 
   pub cause : lost ≡ true → Risen port.faults port'.faults
   pub ends : Ends n (all_replies acts) lost r
   pub written : WritesTo (logged form (all_lines (all_replies acts) lost)) old new r
+  pub last : EndsAtCut form (all_lines (all_replies acts) lost) r
 
 -- a run from moments of a type: what is written by then; that this line, and nothing else, went out between two of them; that it was
 -- cut short; and that the games of the folder at a path are hosted between them
@@ -110,13 +111,14 @@ pub data LocksAndHosts {P F T : Type 0} (host : Hosted P F) (seen : Seen T) (h :
   NoRoomToLock : Passes had has [] → TellsOne refused_memory (seen.written old) (seen.written new) r → LocksAndHosts host seen h t had has old new r
   Locked : (between : Option (List Made)) → Passes had between (LockAt (games_lock h.games.now) ∷ []) → host.host.gives_lock (games_lock h.games.now) → BindsAndHosts host seen h t between has old new r → LocksAndHosts host seen h t had has old new r
 
--- hosting: a table is refused; or else the folder of games can't be listed; or else what follows, with the manifest of the tables' files.
+-- hosting: a table is refused; or else the folder of games can't be listed; or else what follows, with the manifest of the tables' files
+-- and a set of them that may keep as many decoded blocks as the words say.
 -- What the host has made before and after it is in its history: the lock, the port, and then the files of records.
 pub data HostsGames {P F T : Type 0} (disk : DiskFacts) (host : Hosted P F) (seen : Seen T) (h : HostGames) (given : Given) (had has : Option (List Made)) (old new : T) (r : Result ℕ WriteFault) : Type 0 where
   BadTables : Passes had has [] → (words : List ℕ) → gathered given ≡ Err words → TellsOne words (seen.written old) (seen.written new) r → HostsGames disk host seen h given had has old new r
   NoFolder : Passes had has [] → (set : Holding) → Ok set.tables ≡ gathered given → disk.fails (AtFolder h.games.now) → TellsOne refused_files (seen.written old) (seen.written new) r → HostsGames disk host seen h given had has old new r
   NoRoom : Passes had has [] → TellsOne refused_memory (seen.written old) (seen.written new) r → HostsGames disk host seen h given had has old new r
-  Hosting : (set : Holding) → Ok set.tables ≡ gathered given → (names : List (List ℕ)) → disk.lists h.games.now names → (manifest : List ℕ) → SpellsManifest manifest (entries_of given.files) → LocksAndHosts host seen h (common_for h set manifest) had has old new r → HostsGames disk host seen h given had has old new r
+  Hosting : (set : Holding) → Ok set.tables ≡ gathered given → set.cache ≡ h.cache → (names : List (List ℕ)) → disk.lists h.games.now names → (manifest : List ℕ) → SpellsManifest manifest (entries_of given.files) → LocksAndHosts host seen h (common_for h set manifest) had has old new r → HostsGames disk host seen h given had has old new r
 
 -- ---- with the writer
 

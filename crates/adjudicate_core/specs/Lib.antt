@@ -14,6 +14,7 @@ pub mod Schedules
 pub mod Reply
 pub mod Telling
 pub mod Keys
+pub mod Outsides
 pub mod Running
 pub mod Addresses
 pub mod Locks

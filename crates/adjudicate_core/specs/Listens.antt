@@ -14,7 +14,7 @@ use Rattle.move_msg.specs.TextLines.{ended}
 use Rattle.arbiter_core.specs.declared.fault.OpenFault.{OpenFault}
 use Rattle.arbiter_core.specs.declared.fault.OpenFault.TheVariants.{BadSetup, KeeperFailed, BadRecord, OtherStamp, OutOfMemory}
 use Rattle.arbiter_core.specs.Opens.{IsOpening}
-use Rattle.arbiter_server.specs.GoingOut.{GoOut, LastIsCut, Writers}
+use Rattle.arbiter_server.specs.GoingOut.{GoOut, LastIsCut, Writers, writers}
 use Rattle.arbiter_server.specs.OverFiles.{ServesAndWrites, ServesOpened}
 use Rattle.arbiter_core.specs.Setups.{SetupView}
 use Rattle.arbiter_server.specs.declared.file_keeper.FileKeeper.{FileKeeper}
@@ -24,6 +24,7 @@ use Rattle.adjudicate_core.specs.declared.refusals.Refusal.TheVariants.{Memory, 
 use Rattle.adjudicate_core.specs.declared.commands.listen.Listen.{Listen}
 use Rattle.task_files.specs.Given.{Given}
 use Rattle.system_io.specs.KeptFiles.{KeptFacts}
+use Rattle.system_io.specs.Outputs.{OutputFacts}
 use Rattle.system_io.specs.declared.reading.ReadFault.TheVariants as read
 use Rattle.system_io.specs.declared.host.BindFault.TheVariants as bind
 use Rattle.system_io.specs.declared.host.LockFault.TheVariants as lock
@@ -35,6 +36,7 @@ use Rattle.line_teller.specs.ToldLines.{HasFront, refused_memory}
 use Rattle.adjudicate_core.specs.Lines.{ready_words, refused_fen, refused_in_use}
 use Rattle.adjudicate_core.specs.Locks.{kept_lock}
 use Rattle.adjudicate_core.specs.Looks.{gathered}
+use Rattle.adjudicate_core.specs.Numbers.{IsCache}
 use Rattle.system_io.specs.Ports.{Passed, PortFacts}
 use Rattle.arbiter_server.specs.Serving.{Scene, lines_of, scene}
 use Rattle.adjudicate_core.specs.Reply.{IsText}
@@ -151,12 +153,12 @@ pub data BindsAndServes {P F T : Type 0} (host : Hosted P F) (seen : Seen F T) (
   Bound : (between : Option (List Made)) → Passes had between (PortAt l.bind.now (addresses_of l.to.now) ∷ []) → (port port' : P) → host.host.binds l.bind.now (addresses_of l.to.now) port → (host.port port).addresses ≡ length (addresses_of l.to.now) → StartsAt host seen l setup between has port (host.port port') old new r → BindsAndServes host seen l setup had has old new r
 
 -- listening: the text of the start is no position; or else a table is refused; or else what follows, with the manifest of the
--- tables' files. What the host has made before and after it is in its history: the port, the lock and the file, in this order.
+-- tables' files, and a set of them with the usual cache. What the host has made before and after it is in its history: the port, the lock and the file, in this order.
 pub data Listens {P F T : Type 0} (host : Hosted P F) (seen : Seen F T) (l : Listen) (given : Given) (had has : Option (List Made)) (old new : T) (r : Result ℕ WriteFault) : Type 0 where
   BadStart : Passes had has [] → (fault : FenFault) → IsFirstFenFault l.start.now fault → TellsOne (refused_fen fault) (seen.written old) (seen.written new) r → Listens host seen l given had has old new r
   BadTables : Passes had has [] → IsText l.start.now → (words : List ℕ) → gathered given ≡ Err words → TellsOne words (seen.written old) (seen.written new) r → Listens host seen l given had has old new r
   NoRoom : Passes had has [] → IsText l.start.now → TellsOne refused_memory (seen.written old) (seen.written new) r → Listens host seen l given had has old new r
-  Opened : (start : Parts) → SpellsPosition l.start.now start → IsPosition start → (set : Holding) → Ok set.tables ≡ gathered given → (manifest : List ℕ) → SpellsManifest manifest (entries_of given.files) → BindsAndServes host seen l (setup_for l start set manifest) had has old new r → Listens host seen l given had has old new r
+  Opened : (start : Parts) → SpellsPosition l.start.now start → IsPosition start → (set : Holding) → Ok set.tables ≡ gathered given → IsCache None set.cache → (manifest : List ℕ) → SpellsManifest manifest (entries_of given.files) → BindsAndServes host seen l (setup_for l start set manifest) had has old new r → Listens host seen l given had has old new r
 
 -- ---- with the writer
 
@@ -176,17 +178,17 @@ pub record Way (P F W : Type 0) : Type 1 where
   pub setup : SetupView
 
 -- from one history of the host to a later one
-abbrev pub LockedAndWrites : {P F W : Type 0} → Way P F W → Option (List Made) → Option (List Made) → PortFacts → PortFacts → W → W → Result ℕ WriteFault → Type 0
-LockedAndWrites w had has port port' out out' r = ServesLocked w.host (writing_to w.host.file w.writer out out' r) w.words w.setup had has port port' (w.writer.written out) (w.writer.written out') r
+abbrev pub LockedAndWrites : {P F W : Type 0} → Way P F W → Option (List Made) → Option (List Made) → P → P → W → W → Result ℕ WriteFault → Type 0
+LockedAndWrites w had has port port' out out' r = ServesLocked w.host (writing_to w.host.file w.writer out out' r) w.words w.setup had has (w.host.port port) (w.host.port port') (w.writer.written out) (w.writer.written out') r
 
-abbrev pub WritesAt : {P F W : Type 0} → Way P F W → Option (List Made) → Option (List Made) → PortFacts → PortFacts → W → W → Result ℕ WriteFault → Type 0
-WritesAt w had has port port' out out' r = ServesAt w.host (writing_to w.host.file w.writer out out' r) w.words w.setup had has port port' (w.writer.written out) (w.writer.written out') r
+abbrev pub WritesAt : {P F W : Type 0} → Way P F W → Option (List Made) → Option (List Made) → P → P → W → W → Result ℕ WriteFault → Type 0
+WritesAt w had has port port' out out' r = ServesAt w.host (writing_to w.host.file w.writer out out' r) w.words w.setup had has (w.host.port port) (w.host.port port') (w.writer.written out) (w.writer.written out') r
 
-abbrev pub StartsAndWrites : {P F W : Type 0} → Way P F W → Option (List Made) → Option (List Made) → P → PortFacts → W → W → Result ℕ WriteFault → Type 0
-StartsAndWrites w had has port port' out out' r = StartsAt w.host (seen_by w.host.file w.writer r) w.words w.setup had has port port' out out' r
+abbrev pub StartsAndWrites : {P F W : Type 0} → Way P F W → Option (List Made) → Option (List Made) → P → P → W → W → Result ℕ WriteFault → Type 0
+StartsAndWrites w had has port port' out out' r = StartsAt w.host (seen_by w.host.file w.writer r) w.words w.setup had has port (w.host.port port') out out' r
 
 abbrev pub BindsAndWrites : {P F W : Type 0} → Way P F W → Option (List Made) → Option (List Made) → W → W → Result ℕ WriteFault → Type 0
 BindsAndWrites w had has out out' r = BindsAndServes w.host (seen_by w.host.file w.writer r) w.words w.setup had has out out' r
 
-abbrev pub ListensAndWrites : {P F W : Type 0} → Hosted P F → Writers W → Listen → Given → Option (List Made) → Option (List Made) → W → W → Result ℕ WriteFault → Type 0
-ListensAndWrites host w l given had has out out' r = Listens host (seen_by host.file w r) l given had has out out' r
+abbrev pub ListensAndWrites : {P F W : Type 0} → Hosted P F → (W → Option (List ℕ)) → (W → OutputFacts) → Listen → Given → Option (List Made) → Option (List Made) → W → W → Result ℕ WriteFault → Type 0
+ListensAndWrites host written output l given had has out out' r = Listens host (seen_by host.file (writers written output) r) l given had has out out' r

@@ -16,8 +16,10 @@ use Rattle.task_files.specs.Given.{Given}
 use Rattle.line_teller.specs.ToldLines.{refused_files, refused_memory}
 use Rattle.system_io.specs.Hosts.{HostFacts, Made}
 use Rattle.system_io.specs.KeptFiles.{KeptFacts}
+use Rattle.system_io.specs.Outputs.{OutputFacts}
 use Rattle.system_io.specs.Ports.{PortFacts}
-use Rattle.adjudicate_core.specs.Listens.{Hosted, Listens, hosted, seen_as}
+use Rattle.adjudicate_core.specs.Listens.{Listens, hosted, seen_as}
+use Rattle.adjudicate_core.specs.Outsides.{Outside, outside, outside_of}
 use Rattle.adjudicate_core.specs.Sends.{Sends}
 use Rattle.source_core.specs.declared.lines.Ended.{Ended}
 use Rattle.source_core.specs.Lines.{ended_status}
@@ -50,22 +52,7 @@ use Rattle.sealed_port.specs.declared.seal_port.Keys.{Keys}
 use Rattle.adjudicate_core.specs.Reply.{AnswersOnce, AnswersRead, IsText}
 use Rattle.adjudicate_core.specs.Telling.{TellsOne}
 use Rattle.adjudicate_core.specs.Tasks.{IsTask, IsMisuse, NamesNone, key_in, named_in}
-
--- what is outside of the program: its disk, its input, the host of its ports and files, and what that had made before a run and has made
--- after it
-pub record Outside (P F : Type 0) : Type 1 where
-  pub disk : DiskFacts
-  pub source : InputFacts
-  pub host : Hosted P F
-  pub had : Option (List Made)
-  pub has : Option (List Made)
-
-abbrev pub outside : {P F : Type 0} → DiskFacts → InputFacts → Hosted P F → Option (List Made) → Option (List Made) → Outside P F
-outside disk source host had has = record { disk = disk; source = source; host = host; had = had; has = has }
-
--- so it is of this system
-abbrev pub outside_of : {D I H M P F : Type 0} → (D → DiskFacts) → (I → InputFacts) → (H → HostFacts P F) → (M → Option (List Made)) → (P → PortFacts) → (F → KeptFacts) → System D I H → M → M → Outside P F
-outside_of disk source host made port file s history history' = outside (disk s.disk.now) (source s.input.now) (hosted (host s.host.now) port file) (made history) (made history')
+use Rattle.adjudicate_core.specs.Uses.{TellsMisuse}
 
 -- words as the bytes of their texts
 abbrev pub texts : List (Bor (List ℕ)) → List (List ℕ)
@@ -94,7 +81,7 @@ AnswersFrom out (task.Audit t) given old new r = AnswersOnce (audits.IsReply t g
 AnswersFrom out (task.AuditGames t) given old new r = game_audits.Puts out.disk t given old new r
 AnswersFrom out (task.Version t) given old new r = versions.Answers old new r
 AnswersFrom out (task.Send t) given old new r = (e : Result Ended WriteFault) × (r ≡ status_ended e) × Sends out.disk out.source out.host t out.had out.has old new e
-AnswersFrom out (task.Enter t) given old new r = Enters out.disk out.source out.host t out.had out.has old new r
+AnswersFrom out (task.Enter t) given old new r = Enters out t old new r
 AnswersFrom out (task.Host t) given old new r = HostsGames out.disk out.host (seen_hosting (disk_keepers out.disk out.host.host out.host.file)) t given out.had out.has old new r
 AnswersFrom out (task.Root t) given old new r = roots.Puts t.json (ask_of t.determined) out.source t.fen given old new r
 AnswersFrom out (task.Follow t) given old new r = follows.Puts out.source t given old new r
@@ -137,3 +124,16 @@ pub data Called {P F : Type 0} (out : Outside P F) (IsTold : Misuse → Type 0) 
   OnWords : (words : List (List ℕ)) → called ≡ Ok words → Performs out IsTold (drop 1 words) old new r → Called out IsTold called old new r
   OnNoText : (word : Vec ℕ Global) (bytes : Bor (List ℕ)) → called ≡ Err (NoText word) → bytes.now ≡ word.items → IsTold (misuse.NoText bytes) → new ≡ old → r ≡ Ok 2 → Called out IsTold called old new r
   NoRoomForWords : TellsOne refused_memory old new r → Called out IsTold called old new r
+
+-- ---- as a call sees it
+
+-- By how disks, inputs, hosts, their histories, their ports and their files are seen, what is written at an output, and what is known of
+-- an output for errors and is written there: what the program makes of its words at a system, from each of these moments to a later one.
+abbrev pub Runs : {D I H M P F W E : Type 0} → (D → DiskFacts) → (I → InputFacts) → (H → HostFacts P F) → (M → Option (List Made)) → (P → PortFacts) → (F → KeptFacts) → (W → Option (List ℕ)) → (E → OutputFacts) → (E → Option (List ℕ)) → List (Bor (List ℕ)) → System D I H → M → M → W → W → E → E → Result ℕ WriteFault → Type 0
+Runs disk input host made port file written facts told words s history history' out out' errors errors' r =
+    Performs (outside_of disk input host made port file s history history') (TellsMisuse facts told errors errors') (texts words) (written out) (written out') r
+
+-- so it is for all words that it was called with
+abbrev pub Calls : {D I H M P F W E : Type 0} → (D → DiskFacts) → (I → InputFacts) → (H → HostFacts P F) → (M → Option (List Made)) → (P → PortFacts) → (F → KeptFacts) → (W → Option (List ℕ)) → (E → OutputFacts) → (E → Option (List ℕ)) → Result (Vec (String Global) Global) WordsFault → System D I H → M → M → W → W → E → E → Result ℕ WriteFault → Type 0
+Calls disk input host made port file written facts told called s history history' out out' errors errors' r =
+    Called (outside_of disk input host made port file s history history') (TellsMisuse facts told errors errors') (called_by called) (written out) (written out') r

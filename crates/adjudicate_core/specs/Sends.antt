@@ -1,5 +1,6 @@
 -- The behaviour of `send` by its words and by what it reads (this project's own).
-use Rattle.std.specs.Prelude.{◌≡◌, ◌⊎◌, ℕ, List, [], ◌∷◌, Option, Result, Ok, Err, IfSome, length, option_map}
+use Rattle.std.specs.Prelude.{◌≡◌, ◌⊎◌, ◌*◌, ℕ, List, [], ◌∷◌, Option, Result, Ok, Err, IfSome, length, option_map}
+use Rattle.std.specs.Duration.{as_nanos}
 use Rattle.std.specs.Io.KnownBytes.{Appends}
 use Rattle.board_core.specs.declared.parts.Parts.{Parts}
 use Rattle.board_core.specs.Position.{IsPosition}
@@ -18,7 +19,8 @@ use Rattle.system_io.specs.Inputs.{InputFacts}
 use Rattle.system_io.specs.Ports.{Passed, PortFacts}
 use Rattle.source_core.specs.declared.lines.Ended.{Ended}
 use Rattle.source_core.specs.declared.lines.Ended.TheVariants as run
-use Rattle.source_core.specs.Sendings.{IsSending, Sending, WritesLines, causes}
+use Rattle.source_core.specs.declared.turn.Terms.{Terms}
+use Rattle.source_core.specs.Sendings.{IsSending, Sending, WritesLines, causes, game_at}
 use Rattle.arbiter_server.specs.declared.game_lines.GameFileFault.{GameFileFault}
 use Rattle.arbiter_server.specs.GameFiles.{IsFirstGameFault, SpellsGame, Told, line_number}
 use Rattle.arbiter_server.specs.GameFolders.{most_game_bytes}
@@ -83,16 +85,23 @@ LacksSent disk t (sent.InFile f) words = LacksFile disk f words
 
 -- ---- all of it
 
+-- the terms on which the moves of a game with this stamp are sent: the words tell how often, and how many milliseconds the first try
+-- of a move waits
+pub record IsOnTerms (t : Send) (stamp : Stamp) (terms : Terms) : Type 0 where
+  pub is : terms.stamp ≡ stamp
+  pub tries : terms.tries ≡ t.tries
+  pub wait : as_nanos terms.wait ≡ t.wait * 1_000_000
+
 -- over the port the moves of the input are sent; or memory for reading it was refused
-pub data SendsOver (source : InputFacts) (stamp : Stamp) (most : ℕ) (start : Parts) (port port' : PortFacts) (old new : Option (List ℕ)) (r : Result Ended WriteFault) : Type 0 where
-  Over : (left left' : Option (List ℕ)) → IfSome left source.gives → (s : Sending) → IsSending (causes source.fails source.takes_memory) (record { stamp = stamp; addresses = port.addresses; most = most }) start left left' port port' s → WritesLines s old new r → SendsOver source stamp most start port port' old new r
-  NoRoomForLines : source.takes_memory → Passed port port' [] → EndsOnce refused_memory old new r → SendsOver source stamp most start port port' old new r
+pub data SendsOver (source : InputFacts) (terms : Terms) (start : Parts) (port port' : PortFacts) (old new : Option (List ℕ)) (r : Result Ended WriteFault) : Type 0 where
+  Over : (left left' : Option (List ℕ)) → IfSome left source.gives → (s : Sending) → IsSending (causes source.fails source.takes_memory) (game_at terms port) start left left' port port' s → WritesLines s old new r → SendsOver source terms start port port' old new r
+  NoRoomForLines : source.takes_memory → Passed port port' [] → EndsOnce refused_memory old new r → SendsOver source terms start port port' old new r
 
 -- the port can't be bound; or it is, and sends to each of the addresses
 pub data BindsAndSends {P F : Type 0} (host : Hosted P F) (source : InputFacts) (t : Send) (stamp : Stamp) (start : Parts) (had has : Option (List Made)) (old new : Option (List ℕ)) (r : Result Ended WriteFault) : Type 0 where
   Unbound : Passes had has [] → host.host.refuses t.bind.now bind.Unbound → EndsOnce refused_port old new r → BindsAndSends host source t stamp start had has old new r
   NoRoomToBind : Passes had has [] → LacksRoomToBind host.host t.bind.now t.to.now → EndsOnce refused_memory old new r → BindsAndSends host source t stamp start had has old new r
-  Bound : Passes had has (PortAt t.bind.now (addresses_of t.to.now) ∷ []) → (port port' : P) → host.host.binds t.bind.now (addresses_of t.to.now) port → (host.port port).addresses ≡ length (addresses_of t.to.now) → SendsOver source stamp t.tries start (host.port port) (host.port port') old new r → BindsAndSends host source t stamp start had has old new r
+  Bound : Passes had has (PortAt t.bind.now (addresses_of t.to.now) ∷ []) → (port port' : P) → host.host.binds t.bind.now (addresses_of t.to.now) port → (host.port port).addresses ≡ length (addresses_of t.to.now) → (terms : Terms) → IsOnTerms t stamp terms → SendsOver source terms start (host.port port) (host.port port') old new r → BindsAndSends host source t stamp start had has old new r
 
 -- sending: there is no game, which is told; or what follows, with its stamp. What the host has made before and after it is in its
 -- history: the port.

@@ -1,13 +1,12 @@
 //! Games that are entered in a folder.
 
-ghost use Rattle.std.specs.Prelude.{◌≡◌, ◌↔◌, Some, IsTrue, IfOk, IfErr, IfSome, IsErrOf, OnErr, OnOk, codes};
-ghost use Rattle.std.specs.Io.KnownBytes.{Appends};
-ghost use Rattle.hex.specs.Hex.{encode_lower};
+ghost use Rattle.std.specs.Prelude.{◌≡◌, ◌↔◌, Some, IsTrue, IfOk, IfErr, IsErrOf, OnErr, OnOk, codes};
 ghost use Rattle.move_msg.specs.TextLines.{ended, lines_in};
 ghost use Rattle.arbiter_server.specs.GameFiles.{told};
 ghost use Rattle.adjudicate_core.specs.Enters.{ComesOf, Enters, EntersList, EntersOne, HasList, HasText, HasTextAt, IsEntered, IsUnentered};
-ghost use Rattle.adjudicate_core.specs.Enters.{LacksGame, LacksList, LacksText, LacksTextAt, MakesForLines, PutsGame, PutsGames, TellsStamp, file_of_game, game_of, told_of};
+ghost use Rattle.adjudicate_core.specs.Enters.{LacksGame, LacksList, LacksText, LacksTextAt, PutsGame, PutsGames, TellsStamp, file_of_game, game_of, told_of};
 ghost use Rattle.adjudicate_core.specs.Inside.Entering.{EntersNext, HasOver, LacksOver, MakesForLine, place_of};
+ghost use Rattle.adjudicate_core.specs.Outsides.{outside_of};
 ghost use Rattle.arbiter_server.specs.Folders.{MakesOnce};
 ghost use Rattle.system_io.specs.Hosts.{FileAt};
 ghost use Rattle.system_io.specs.Outputs.{WritesFront};
@@ -24,12 +23,10 @@ use crate::numbers::Delay;
 use crate::refusals::Refusal;
 use crate::system::System;
 use arbiter_server::{game_path, write_game};
-use arrayvec::ArrayVec;
 use board_core::Position;
 use fen_text::read;
 use move_msg::Stamp;
 use std::alloc::{AllocError, Global};
-use std::io::Write;
 use system_io::{Disk, Host, Input, KeptFile, Output, ReadFault, WriteFault, begin, replace};
 
 /// Why the text of a game isn't in its file.
@@ -153,30 +150,13 @@ fn enter_game<H: Host>(
     }
 }
 
-/// Writes a stamp in hexadecimal digits, in a line of its own.
-fn put_digits<W: Write>(out: &mut W, stamp: Stamp) -> Result<(), WriteFault>
-    ensures { OnOk result (Appends (W.contents out.old) (W.contents out.new) (ended (encode_lower stamp.0))) }
+/// Writes a line. Where the writer fails, a front of it is written.
+fn put_digits<W: Output>(out: &mut W, digits: &[u8]) -> Result<(), WriteFault>
+    ensures { WritesFront (W.contents out.old) (W.contents out.new) (ended digits.now) result }
 {
-    let mut digits = [0; 32];
-    hex::encode_to_slice(&stamp.0, &mut digits).unwrap();
-    match out.write_all(&digits) {
-        Ok(()) => {}
-        Err(_) => return Err(WriteFault::Io),
-    }
-    match out.write_all(b"\n") {
-        Ok(()) => Ok(()),
-        Err(_) => Err(WriteFault::Io),
-    }
-}
-
-/// The text of that line; none where it has more than 64 bytes, which none has.
-fn stamp_line(stamp: Stamp) -> Option<ArrayVec<u8, 64>>
-    ensures { IfSome result (λ line. line.items ≡ ended (encode_lower stamp.0)) }
-{
-    let mut line = ArrayVec::new();
-    match put_digits(&mut line, stamp) {
-        Ok(()) => Some(line),
-        Err(_) => None,
+    match out.put(digits) {
+        Ok(()) => out.put(b"\n"),
+        Err(fault) => Err(fault),
     }
 }
 
@@ -185,10 +165,9 @@ fn stamp_line(stamp: Stamp) -> Option<ArrayVec<u8, 64>>
 fn put_stamp<W: Output>(out: &mut W, stamp: Stamp) -> Result<u8, WriteFault>
     ensures { TellsStamp stamp.0 (W.contents out.old) (W.contents out.new) result }
 {
-    let Some(line) = stamp_line(stamp) else {
-        return Err(WriteFault::Io);
-    };
-    match out.put(line.as_slice()) {
+    let mut digits = [0; 32];
+    hex::encode_to_slice(&stamp.0, &mut digits).unwrap();
+    match put_digits(out, &digits) {
         Ok(()) => Ok(0),
         Err(fault) => Err(fault),
     }
@@ -212,7 +191,7 @@ fn put_game<H: Host, W: Output>(
 }
 
 /// Enters the game of the words, and tells the status.
-fn enter_one<D: Disk, I, H: Host, W: Output>(
+fn enter_one<D: Disk, I: Input, H: Host, W: Output>(
     alloc: Global,
     task: &Enter<'_>,
     game: &OneGame<'_>,
@@ -220,7 +199,7 @@ fn enter_one<D: Disk, I, H: Host, W: Output>(
     history: &mut H::History,
     out: &mut W,
 ) -> Result<u8, WriteFault>
-    ensures { EntersOne (D.facts system.now.disk.now) (hosted (H.facts system.now.host.now) H.Port.facts H.File.facts) task.now game.now (H.made history.old) (H.made history.new) (W.contents out.old) (W.contents out.new) result }
+    ensures { EntersOne (outside_of D.facts I.facts H.facts H.made H.Port.facts H.File.facts system.now history.old history.new) task.now game.now (W.contents out.old) (W.contents out.new) result }
 {
     let start = match read(game.start.as_bytes()) {
         Ok(start) => start,
@@ -317,7 +296,8 @@ fn enter_next<H: Host, W: Output>(
     }
 }
 
-/// Enters the games of the lines of a list in turn, and tells what came of each in a line, and the status, 0 where all are entered.
+/// Enters the games of the lines of a list in turn, and tells what came of each in a line, and the status, 0 where all are entered. After
+/// a line that can't be told no game is entered.
 fn enter_lines<H: Host, W: Output>(
     alloc: Global,
     place: &GamePlace<'_, H>,
@@ -325,8 +305,7 @@ fn enter_lines<H: Host, W: Output>(
     list: &[u8],
     out: &mut W,
 ) -> Result<u8, WriteFault>
-    ensures puts { PutsGames (place_of H.facts H.Port.facts H.File.facts place.now) (lines_in list.now) (W.contents out.old) (W.contents out.new) result }
-    ensures made { MakesForLines (place_of H.facts H.Port.facts H.File.facts place.now) (lines_in list.now) (H.made history.old) (H.made history.new) }
+    ensures { PutsGames (place_of H.facts H.Port.facts H.File.facts place.now) (lines_in list.now) (H.made history.old) (H.made history.new) (W.contents out.old) (W.contents out.new) result }
 {
     let mut rest = list;
     let mut before: usize = 0;
@@ -368,7 +347,7 @@ fn list_at<D: Disk, I: Input>(
 }
 
 /// Enters the games of a list by the manifest that the words name, and tells the status.
-fn enter_list<D: Disk, I, H: Host, W: Output>(
+fn enter_list<D: Disk, I: Input, H: Host, W: Output>(
     alloc: Global,
     task: &Enter<'_>,
     list: &[u8],
@@ -376,7 +355,7 @@ fn enter_list<D: Disk, I, H: Host, W: Output>(
     history: &mut H::History,
     out: &mut W,
 ) -> Result<u8, WriteFault>
-    ensures { EntersList (D.facts system.now.disk.now) (hosted (H.facts system.now.host.now) H.Port.facts H.File.facts) task.now list.now (H.made history.old) (H.made history.new) (W.contents out.old) (W.contents out.new) result }
+    ensures { EntersList (outside_of D.facts I.facts H.facts H.made H.Port.facts H.File.facts system.now history.old history.new) task.now list.now (W.contents out.old) (W.contents out.new) result }
 {
     match manifest_for(alloc, system.disk, task.manifest, task.tables) {
         Ok(manifest) => {
@@ -402,7 +381,8 @@ fn enter_list<D: Disk, I, H: Host, W: Output>(
 /// Of a list a line is told for each of its lines: the stamp, or `refused line N` and why, and the next line follows. The status is 0
 /// only where all games are entered. A list that can't be read is told first, as `refused files`, then the manifest or the folder of
 /// the tables. Where memory is refused the last line is `refused memory`. At the host the files of
-/// games are opened, of each line at most one, and nothing else is. The error comes only where the writer failed.
+/// games are opened, of each line at most one, and nothing else is. The error comes only where the writer failed, and no game of a line
+/// after the one that it failed at is entered.
 pub fn enter<D: Disk, I: Input, H: Host, W: Output>(
     alloc: Global,
     task: &Enter<'_>,
@@ -410,7 +390,7 @@ pub fn enter<D: Disk, I: Input, H: Host, W: Output>(
     history: &mut H::History,
     out: &mut W,
 ) -> Result<u8, WriteFault>
-    ensures { Enters (D.facts system.now.disk.now) (I.facts system.now.input.now) (hosted (H.facts system.now.host.now) H.Port.facts H.File.facts) task.now (H.made history.old) (H.made history.new) (W.contents out.old) (W.contents out.new) result }
+    ensures { Enters (outside_of D.facts I.facts H.facts H.made H.Port.facts H.File.facts system.now history.old history.new) task.now (W.contents out.old) (W.contents out.new) result }
 {
     match &task.entries {
         Entries::One(game) => enter_one(alloc, task, game, system, history, out),

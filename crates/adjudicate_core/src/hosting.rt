@@ -2,8 +2,9 @@
 
 ghost use Rattle.std.specs.Prelude.{◌≡◌, IfErr, IfOk, List, ℕ};
 ghost use Rattle.arbiter_server.specs.LineLogs.{IsLogOf};
-ghost use Rattle.adjudicate_core.specs.Hostings.{BindsAndWrites, HostsAndTells, LocksAndWrites, WritesAt, WritesNow, around, way};
-ghost use Rattle.adjudicate_core.specs.Inside.HostingParts.{IsUnlisted};
+ghost use Rattle.adjudicate_core.specs.Hostings.{BindsAndWrites, HostsAndTells, LocksAndWrites, WritesAt, way};
+ghost use Rattle.adjudicate_core.specs.Inside.HostingParts.{IsUnlisted, WritesOver};
+ghost use Rattle.adjudicate_core.specs.Outsides.{around_of};
 
 use crate::binding::bind;
 use crate::commands::HostGames;
@@ -45,7 +46,7 @@ fn serve_logged<D: Disk, H: Host, W: Output>(
     out: &mut W,
 ) -> Result<u8, WriteFault>
     requires { IsLogOf plan.task.now.log log.old }
-    ensures { WritesNow (way D.facts H.facts H.Port.facts H.File.facts W.contents W.facts plan.entry) (H.made history.old) (H.made history.new) (H.Port.facts port.old) (H.Port.facts port.new) out.old out.new result }
+    ensures { WritesOver (way D.facts H.facts H.Port.facts H.File.facts W.contents W.facts plan.entry) (H.made history.old) (H.made history.new) port.old port.new out.old out.new result }
 {
     let HostPlan {
         task,
@@ -84,7 +85,7 @@ fn serve_at<D: Disk, H: Host, W: Output>(
     port: &mut H::Port,
     out: &mut W,
 ) -> Result<u8, WriteFault>
-    ensures { WritesNow (way D.facts H.facts H.Port.facts H.File.facts W.contents W.facts plan.entry) (H.made history.old) (H.made history.new) (H.Port.facts port.old) (H.Port.facts port.new) out.old out.new result }
+    ensures { WritesOver (way D.facts H.facts H.Port.facts H.File.facts W.contents W.facts plan.entry) (H.made history.old) (H.made history.new) port.old port.new out.old out.new result }
 {
     match LineLog::new(alloc, plan.task.log) {
         Ok(mut log) => serve_logged(alloc, plan, history, port, &mut log, out),
@@ -182,7 +183,7 @@ pub fn host_games<'a, D: Disk, I, H: Host, W: Output>(
     history: &mut H::History,
     out: &mut W,
 ) -> Result<u8, WriteFault>
-    ensures { HostsAndTells (around (D.facts system.now.disk.now) (H.facts system.now.host.now) H.Port.facts H.File.facts W.contents W.facts) task.now sources.now (H.made history.old) (H.made history.new) out.old out.new result }
+    ensures { HostsAndTells (around_of D.facts H.facts H.Port.facts H.File.facts W.contents W.facts system.now) task.now sources.now (H.made history.old) (H.made history.new) out.old out.new result }
 {
     let tables = match gather(alloc, sources, task.cache) {
         Ok(Ok(tables)) => tables,

@@ -1,17 +1,18 @@
 //! Answers as JSON: one object a line.
 
-ghost use Rattle.std.specs.Prelude.{◌≡◌, IfOk, IfSome, IsErrOf, OnOk};
+ghost use Rattle.std.specs.Prelude.{◌≡◌, IfOk, IsErrOf, OnOk};
 ghost use Rattle.std.specs.Io.KnownBytes.{Appends};
 ghost use Rattle.adjudicate_core.specs.Inside.Asked.{HasText, reply_of};
 ghost use Rattle.adjudicate_core.specs.JsonAnswers.{json_reply};
-ghost use Rattle.json_lines.specs.Objects.{json_text, line_json};
+ghost use Rattle.fen_text.specs.declared.fault.FenFault.TheVariants as fen;
+ghost use Rattle.json_lines.specs.Objects.{fault_json, json_text, line_json};
 ghost use Rattle.json_lines.specs.declared.told.JsonLine.TheVariants as line;
 ghost use Rattle.line_teller.specs.ToldLines.{HasFront};
 ghost use Rattle.move_msg.specs.TextLines.{ended};
 ghost use Rattle.system_io.specs.Outputs.{WritesFront};
 
 use crate::answers::Answer;
-use arrayvec::ArrayVec;
+use board_core::PositionFault;
 use fen_text::FenFault;
 use json_lines::{Ask, JsonLine, put_json_line};
 use judge_core::Set;
@@ -52,15 +53,35 @@ pub(crate) fn answer_as_json(alloc: Global, line: &JsonLine) -> Result<Answer, A
     }
 }
 
-/// The text of the object that says why a text is no position, with its line feed; none where it has more than 256 bytes, which none
-/// has.
-fn fault_text(fault: FenFault) -> Option<ArrayVec<u8, 256>>
-    ensures { IfSome result (λ text. text.items ≡ ended (json_text (line_json (line.Fault fault)))) }
+/// The object that says why a text is no position whose fields are in order, with its line feed.
+#[tactic(auto, unfolding(json::specs::Print::escape_byte, json::specs::Print::print_from))]
+fn position_fault_line(fault: PositionFault) -> &'static str
+    ensures { result.now ≡ ended (json_text (fault_json (fen.BadPosition fault))) }
 {
-    let mut text = ArrayVec::new();
-    match put_json(&mut text, &JsonLine::Fault(fault)) {
-        Ok(()) => Some(text),
-        Err(_) => None,
+    match fault {
+        PositionFault::BadKings => "{\"error\":\"FEN BadPosition BadKings\"}\n",
+        PositionFault::TooManyMen => "{\"error\":\"FEN BadPosition TooManyMen\"}\n",
+        PositionFault::PawnOnEdge => "{\"error\":\"FEN BadPosition PawnOnEdge\"}\n",
+        PositionFault::BadCastling => "{\"error\":\"FEN BadPosition BadCastling\"}\n",
+        PositionFault::BadEnPassant => "{\"error\":\"FEN BadPosition BadEnPassant\"}\n",
+        PositionFault::OpponentInCheck => "{\"error\":\"FEN BadPosition OpponentInCheck\"}\n",
+        PositionFault::BadCounter => "{\"error\":\"FEN BadPosition BadCounter\"}\n",
+    }
+}
+
+/// The object that says why a text is no position, with its line feed.
+#[tactic(auto, unfolding(json::specs::Print::escape_byte, json::specs::Print::print_from))]
+fn fault_line(fault: FenFault) -> &'static str
+    ensures { result.now ≡ ended (json_text (fault_json fault)) }
+{
+    match fault {
+        FenFault::FieldCount => "{\"error\":\"FEN FieldCount\"}\n",
+        FenFault::BadPlacement => "{\"error\":\"FEN BadPlacement\"}\n",
+        FenFault::BadSide => "{\"error\":\"FEN BadSide\"}\n",
+        FenFault::BadCastlingText => "{\"error\":\"FEN BadCastlingText\"}\n",
+        FenFault::BadSquare => "{\"error\":\"FEN BadSquare\"}\n",
+        FenFault::BadNumber => "{\"error\":\"FEN BadNumber\"}\n",
+        FenFault::BadPosition(fault) => position_fault_line(fault),
     }
 }
 
@@ -68,10 +89,7 @@ fn fault_text(fault: FenFault) -> Option<ArrayVec<u8, 256>>
 pub(crate) fn put_json_fault<W: Output>(out: &mut W, fault: FenFault) -> Result<(), WriteFault>
     ensures { WritesFront (W.contents out.old) (W.contents out.new) (ended (json_text (line_json (line.Fault fault)))) result }
 {
-    match fault_text(fault) {
-        Some(text) => out.put(text.as_slice()),
-        None => Err(WriteFault::Io),
-    }
+    out.put(fault_line(fault).as_bytes())
 }
 
 /// Writes an object and a line feed, for which memory is taken but where a text is no position.

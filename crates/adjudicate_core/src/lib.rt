@@ -35,11 +35,13 @@
 //!   nothing passes at the port before an arbiter is opened; with `--ready` the line `ready ADDR` is written first. That each
 //!   line has gone out before the next is in the contract of the private `listen` alone.
 //! - CLAIM: `run`, clause `runs`: `host` refuses its tables, its folder of games where it can't be listed, and its address in this
-//!   order; then the line `ready ADDR` is written, and the games of its folder are hosted by acts as `Server::serve` has them. That
-//!   each line has gone out before the next is in the contract of the private `host_games` alone.
+//!   order; then the line `ready ADDR` is written, and the games of its folder are hosted by acts as `Server::serve` has them, by a set
+//!   of the tables whose cache is of `--cache` blocks. That each line has gone out before the next is in the contract of the private
+//!   `host_games` alone.
 //! - CLAIM: `run`, clause `runs`: `enter` refuses its start, its manifest and its file in this order; else the game's text is in
 //!   the file of its stamp, and each later start finds it. After a failed write a start finds what was there or the text. With
-//!   `--from` it does so for the lines of a list in turn, each told by its stamp or by its number and its first fault, and goes on.
+//!   `--from` it does so for the lines of a list in turn, each told by its stamp or by its number and its first fault, and goes on. After
+//!   a line that can't be written, or for which memory is refused, no game is entered.
 //! - CLAIM: `run_program`: with `--key` the ports of `listen`, `host` and `send` are sealed by the keys of the file, and all else
 //!   is as without it. What is refused of the file is told before all else, the first of: it can't be read as a regular file of at
 //!   most 130 bytes (`Disk::read_with_mode` of system_io); its group or others have some right; its first malformed line.

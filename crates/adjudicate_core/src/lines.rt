@@ -226,7 +226,8 @@ impl fmt::Display for Line {
     }
 }
 
-/// The text of a line with its line feed; none where it has more than 256 bytes, which no line has.
+/// The text of a line with its line feed; none where it has more than 256 bytes, which no line has, or where a `Display` fails, of which
+/// the contracts of `fmt` say nothing.
 fn text_of(line: &Line) -> Option<ArrayString<256>>
     ensures { IfSome result (λ t. t.bytes ≡ ended (words_of line.now)) }
 {

@@ -8,7 +8,7 @@ ghost use Rattle.move_msg.specs.Manifests.{SpellsManifest};
 ghost use Rattle.move_msg.specs.TextLines.{ended};
 ghost use Rattle.arbiter_core.specs.Setups.{setup_view};
 ghost use Rattle.adjudicate_core.specs.Listens.{BindsAndWrites, KeepsAndWrites, LacksAddress, ListensAndWrites, LockedAndWrites, OpensAndWrites, StartsAndWrites, TellsAddress, TellsUnopened, WritesAt, hosted};
-ghost use Rattle.adjudicate_core.specs.Inside.ListeningParts.{way};
+ghost use Rattle.adjudicate_core.specs.Inside.ListeningParts.{ListensBy, way};
 ghost use Rattle.adjudicate_core.specs.Lines.{ready_words};
 ghost use Rattle.arbiter_server.specs.GoingOut.{writers};
 ghost use Rattle.arbiter_server.specs.StoredBytes.{IsInFile};
@@ -105,7 +105,7 @@ fn serve_over<H: Host, W: Output>(
     port: &mut H::Port,
     out: &mut W,
 ) -> Result<u8, WriteFault>
-    ensures { LockedAndWrites (way H.facts H.Port.facts H.File.facts W.contents W.facts at.entry setup.entry) (H.made history.old) (H.made history.new) (H.Port.facts port.old) (H.Port.facts port.new) out.old out.new result }
+    ensures { LockedAndWrites (way H.facts H.Port.facts H.File.facts W.contents W.facts at.entry setup.entry) (H.made history.old) (H.made history.new) port.old port.new out.old out.new result }
 {
     match at.host.file(alloc, history, at.listening.kept) {
         Ok(file) => keep_and_serve(alloc, at.listening, setup, file, port, out),
@@ -123,7 +123,7 @@ fn serve_at<H: Host, W: Output>(
     port: &mut H::Port,
     out: &mut W,
 ) -> Result<u8, WriteFault>
-    ensures { WritesAt (way H.facts H.Port.facts H.File.facts W.contents W.facts at.entry setup.entry) (H.made history.old) (H.made history.new) (H.Port.facts port.old) (H.Port.facts port.new) out.old out.new result }
+    ensures { WritesAt (way H.facts H.Port.facts H.File.facts W.contents W.facts at.entry setup.entry) (H.made history.old) (H.made history.new) port.old port.new out.old out.new result }
 {
     match lock(alloc, at.host, history, at.listening.kept, BESIDE_KEPT) {
         Ok(_lock) => serve_over(alloc, at, setup, history, port, out),
@@ -167,7 +167,7 @@ fn start_at<H: Host, W: Output>(
     port: &mut H::Port,
     out: &mut W,
 ) -> Result<u8, WriteFault>
-    ensures { StartsAndWrites (way H.facts H.Port.facts H.File.facts W.contents W.facts at.entry setup.entry) (H.made history.old) (H.made history.new) port.old (H.Port.facts port.new) out.old out.new result }
+    ensures { StartsAndWrites (way H.facts H.Port.facts H.File.facts W.contents W.facts at.entry setup.entry) (H.made history.old) (H.made history.new) port.old port.new out.old out.new result }
 {
     if !at.listening.ready {
         return serve_at(alloc, at, setup, history, port, out);
@@ -217,7 +217,7 @@ fn listen_from<H: Host, W: Output>(
 ) -> Result<u8, WriteFault>
     requires spelled { SpellsPosition at.listening.now.start.now start }
     requires position { IsPosition start }
-    ensures { ListensAndWrites (hosted (H.facts at.entry.host.now) H.Port.facts H.File.facts) (writers W.contents W.facts) at.entry.listening.now sources.now (H.made history.old) (H.made history.new) out.old out.new result }
+    ensures { ListensBy H.facts H.Port.facts H.File.facts W.contents W.facts at.entry sources.now (H.made history.old) (H.made history.new) out.old out.new result }
 {
     let set = match gather(alloc, sources, CacheSize::usual()) {
         Ok(Ok(set)) => set,
@@ -253,7 +253,7 @@ pub fn listen<'a, H: Host, W: Output>(
     history: &mut H::History,
     out: &mut W,
 ) -> Result<u8, WriteFault>
-    ensures { ListensAndWrites (hosted (H.facts host.now) H.Port.facts H.File.facts) (writers W.contents W.facts) listening.now sources.now (H.made history.old) (H.made history.new) out.old out.new result }
+    ensures { ListensAndWrites (hosted (H.facts host.now) H.Port.facts H.File.facts) W.contents W.facts listening.now sources.now (H.made history.old) (H.made history.new) out.old out.new result }
 {
     match read(listening.start.as_bytes()) {
         Ok(start) => listen_from(

@@ -4,12 +4,13 @@ ghost use Rattle.std.specs.Prelude.{◌≡◌, ◌≢◌, ◌⊎◌, drop, map, 
 ghost use Rattle.adjudicate_core.specs.declared.commands.Task.{Task};
 ghost use Rattle.line_teller.specs.ToldLines.{refused_memory};
 ghost use Rattle.adjudicate_core.specs.Makes.{Makes, MakesCalled, MakesFor};
-ghost use Rattle.adjudicate_core.specs.Running.{AnswersByKey, AnswersFrom, AnswersTask, Called, Performs, called_by, outside_of, texts};
+ghost use Rattle.adjudicate_core.specs.Outsides.{outside_of};
+ghost use Rattle.adjudicate_core.specs.Inside.Answering.{AnswersGiven};
+ghost use Rattle.adjudicate_core.specs.Running.{AnswersByKey, AnswersTask, Calls, Runs, called_by, texts};
 ghost use Rattle.adjudicate_core.specs.Silences.{IsLoud, TellsIfLost};
 ghost use Rattle.adjudicate_core.specs.Tasks.{IsTask, tells_progress};
 ghost use Rattle.move_msg.specs.TextLines.{ended};
 ghost use Rattle.std.specs.Io.KnownBytes.{Appends};
-ghost use Rattle.adjudicate_core.specs.Uses.{TellsMisuse};
 
 use crate::answers::{put_answered, put_read};
 use crate::commands::{Task, parse};
@@ -52,7 +53,7 @@ fn answer_given<D: Disk, I: Input, H: Host, W: Output, E: Output>(
     errors: &mut E,
 ) -> Result<u8, WriteFault>
     ensures quiet { tells_progress task.now ≡ false → TellsIfLost E.facts E.contents errors.old errors.new task.now result }
-    ensures answered { AnswersFrom (outside_of D.facts I.facts H.facts H.made H.Port.facts H.File.facts system.now history.old history.new) task.now sources.now (W.contents out.old) (W.contents out.new) result }
+    ensures answered { AnswersGiven D.facts I.facts H.facts H.made H.Port.facts H.File.facts W.contents task.now sources.now system.now history.old history.new out.old out.new result }
     ensures made { MakesFor task.now (H.made history.old) (H.made history.new) }
 {
     match task {
@@ -165,7 +166,7 @@ pub fn run<D: Disk, I: Input, H: Host, W: Output, E: Output>(
     errors: &mut E,
 ) -> Result<u8, WriteFault>
     ensures quiet { errors.new ≢ errors.old → (result ≡ Ok 2) ⊎ ((t : Task) × IsTask (texts words.now) t × IsLoud E.facts E.contents errors.old errors.new t result) }
-    ensures runs { Performs (outside_of D.facts I.facts H.facts H.made H.Port.facts H.File.facts system.now history.old history.new) (TellsMisuse E.facts E.contents errors.old errors.new) (texts words.now) (W.contents out.old) (W.contents out.new) result }
+    ensures runs { Runs D.facts I.facts H.facts H.made H.Port.facts H.File.facts W.contents E.facts E.contents words.now system.now history.old history.new out.old out.new errors.old errors.new result }
     ensures made { Makes (texts words.now) (H.made history.old) (H.made history.new) }
 {
     match parse(alloc, words) {
@@ -220,7 +221,7 @@ pub fn run_program<D: Disk, I: Input, H: Host, W: Output, E: Output>(
     out: &mut W,
     errors: &mut E,
 ) -> Result<u8, WriteFault>
-    ensures called { Called (outside_of D.facts I.facts H.facts H.made H.Port.facts H.File.facts system.now history.old history.new) (TellsMisuse E.facts E.contents errors.old errors.new) (called_by called.now) (W.contents out.old) (W.contents out.new) result }
+    ensures runs { Calls D.facts I.facts H.facts H.made H.Port.facts H.File.facts W.contents E.facts E.contents called.now system.now history.old history.new out.old out.new errors.old errors.new result }
     ensures made { MakesCalled (called_by called.now) (H.made history.old) (H.made history.new) }
 {
     match called {

@@ -1,6 +1,7 @@
 //! The source of a game: the moves of the input at a port.
 
-ghost use Rattle.std.specs.Prelude.{◌≡◌, IfErr, IfOk};
+ghost use Rattle.std.specs.Prelude.{◌≡◌, ◌*◌, IfErr, IfOk};
+ghost use Rattle.std.specs.Duration.{as_nanos};
 ghost use Rattle.board_core.specs.Position.{IsPosition};
 ghost use Rattle.fen_text.specs.Fen.{SpellsPosition};
 ghost use Rattle.adjudicate_core.specs.Lines.{refusal_words};
@@ -113,6 +114,7 @@ fn refuse<W: Output>(out: &mut W, refusal: Refusal) -> Result<Ended, WriteFault>
 fn terms_of(task: &Send<'_>, stamp: Stamp) -> Terms
     ensures stamp { result.stamp ≡ stamp }
     ensures tries { result.tries ≡ task.now.tries }
+    ensures wait { as_nanos result.wait ≡ task.now.wait * 1_000_000 }
 {
     Terms {
         stamp,
@@ -130,7 +132,7 @@ fn send_over<I: Input, P: Port, W: Output>(
     port: &mut P,
     out: &mut W,
 ) -> Result<Ended, WriteFault>
-    ensures { SendsOver (I.facts input.now) terms.stamp terms.tries start (P.facts port.old) (P.facts port.new) (W.contents out.old) (W.contents out.new) result }
+    ensures { SendsOver (I.facts input.now) terms start (P.facts port.old) (P.facts port.new) (W.contents out.old) (W.contents out.new) result }
 {
     match input.lines(alloc) {
         Ok(mut lines) => send_game(alloc, terms, start, &mut lines, port, out),

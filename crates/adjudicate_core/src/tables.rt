@@ -90,7 +90,8 @@ fn add_found<'f>(
     name: &ArrayString<16>,
     found: Result<Table<'f>, FileFault>,
 ) -> Result<Result<(), Refusal>, AllocError>
-    ensures { IfOk result (λ added. filled added set.new.tables ≡ with_found set.old.tables name.now.bytes found.entry) }
+    ensures tables { IfOk result (λ added. filled added set.new.tables ≡ with_found set.old.tables name.now.bytes found.entry) }
+    ensures cache { IfOk result (λ _. set.new.cache ≡ set.old.cache) }
 {
     match found {
         Err(fault) => Ok(Err(Refusal::File(*name, fault))),
@@ -107,7 +108,8 @@ fn add_files<'f>(
     set: &mut Set<'f>,
     files: &'f [NamedFile],
 ) -> Result<Result<(), Refusal>, AllocError>
-    ensures { IfOk result (λ added. filled added set.new.tables ≡ tables_from set.old.tables (map look_at (map file_of files.now))) }
+    ensures tables { IfOk result (λ added. filled added set.new.tables ≡ tables_from set.old.tables (map look_at (map file_of files.now))) }
+    ensures cache { IfOk result (λ _. set.new.cache ≡ set.old.cache) }
 {
     for file in files {
         let found = open_file(alloc, file)?;
@@ -126,7 +128,8 @@ fn add_lines<'f>(
     files: &'f [NamedFile],
     lines: &[Entry],
 ) -> Result<Result<(), Refusal>, AllocError>
-    ensures { IfOk result (λ added. filled added set.new.tables ≡ tables_from set.old.tables (map (look_for (map file_of files.now)) (map entry_of lines.now))) }
+    ensures tables { IfOk result (λ added. filled added set.new.tables ≡ tables_from set.old.tables (map (look_for (map file_of files.now)) (map entry_of lines.now))) }
+    ensures cache { IfOk result (λ _. set.new.cache ≡ set.old.cache) }
 {
     for line in lines {
         let found = open_line(alloc, files, line)?;
@@ -138,13 +141,14 @@ fn add_lines<'f>(
     Ok(Ok(()))
 }
 
-/// The set of all files.
+/// The set of all files, which may keep so many decoded blocks.
 fn gather_files<'f>(
     alloc: Global,
     files: &'f [NamedFile],
     cache: CacheSize,
 ) -> Result<Result<Set<'f>, Refusal>, AllocError>
-    ensures { IfOk result (λ set. tables_in set ≡ gathered_by (map file_of files.now) None) }
+    ensures tables { IfOk result (λ set. tables_in set ≡ gathered_by (map file_of files.now) None) }
+    ensures cache { IfOk result (λ found. IfOk found (λ set. set.cache ≡ cache)) }
 {
     let mut set = Set::new(alloc, cache.blocks())?;
     match add_files(alloc, &mut set, files)? {
@@ -153,14 +157,15 @@ fn gather_files<'f>(
     }
 }
 
-/// The set of the files that the lines of a manifest name.
+/// The set of the files that the lines of a manifest name, which may keep so many decoded blocks.
 fn gather_lines<'f>(
     alloc: Global,
     files: &'f [NamedFile],
     lines: &[Entry],
     cache: CacheSize,
 ) -> Result<Result<Set<'f>, Refusal>, AllocError>
-    ensures { IfOk result (λ set. tables_in set ≡ gathered_by (map file_of files.now) (Some (Ok (map entry_of lines.now)))) }
+    ensures tables { IfOk result (λ set. tables_in set ≡ gathered_by (map file_of files.now) (Some (Ok (map entry_of lines.now)))) }
+    ensures cache { IfOk result (λ found. IfOk found (λ set. set.cache ≡ cache)) }
 {
     let mut set = Set::new(alloc, cache.blocks())?;
     match add_lines(alloc, &mut set, files, lines)? {
@@ -177,7 +182,8 @@ pub(crate) fn gather<'f>(
     sources: &'f Sources,
     cache: CacheSize,
 ) -> Result<Result<Set<'f>, Refusal>, AllocError>
-    ensures { IfOk result (λ set. tables_in set ≡ gathered sources.now) }
+    ensures tables { IfOk result (λ set. tables_in set ≡ gathered sources.now) }
+    ensures cache { IfOk result (λ found. IfOk found (λ set. set.cache ≡ cache)) }
 {
     match sources.manifest() {
         Manifest::Unnamed => gather_files(alloc, sources.files(), cache),

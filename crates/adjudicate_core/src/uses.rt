@@ -248,59 +248,46 @@ fn tell_refused<E: Output>(alloc: Global, errors: &mut E, error: &clap::Error, c
     }
 }
 
+/// Writes a name or a value between words in one line, and the usage of a command.
+fn tell_name<E: Output>(
+    alloc: Global,
+    errors: &mut E,
+    command: &str,
+    front: &str,
+    name: &str,
+    rest: &str,
+)
+    ensures { TellsLine E.facts E.contents errors.old errors.new (shown_line (front.now ++ name.now ++ rest.now)) }
+{
+    tell_line_of(alloc, errors, command, front, name.as_bytes(), rest);
+}
+
 /// Writes a fault of the values of a command.
 fn tell_fault<E: Output>(alloc: Global, errors: &mut E, fault: &ValueFault<'_>, command: &str)
     ensures { TellsLine E.facts E.contents errors.old errors.new (shown_line (fault_words fault.now)) }
 {
-    match fault {
-        ValueFault::NoOption(name) => tell_line_of(
-            alloc,
-            errors,
-            command,
-            "--",
-            name.as_bytes(),
-            " is missing",
-        ),
-        ValueFault::NoWord(name) => tell_line_of(
-            alloc,
-            errors,
-            command,
-            "",
-            name.as_bytes(),
-            " is missing",
-        ),
-        ValueFault::Unfit(wanted, text) => tell_line_of(
-            alloc,
-            errors,
-            command,
-            wanted.front(),
-            text.as_bytes(),
-            wanted.rest(),
-        ),
-        ValueFault::NotWith(instead, name) => tell_line_of(
-            alloc,
-            errors,
-            command,
-            "--",
-            name.as_bytes(),
-            instead.rest(),
-        ),
-        ValueFault::WordNotWith(instead, name) => tell_line_of(
-            alloc,
-            errors,
-            command,
-            "",
-            name.as_bytes(),
-            instead.rest(),
-        ),
-        ValueFault::Beside(name) => tell_line_of(
-            alloc,
-            errors,
-            command,
-            "--",
-            name.as_bytes(),
-            " cannot be used with --game",
-        ),
+    match *fault {
+        ValueFault::NoOption(name) => tell_name(alloc, errors, command, "--", name, " is missing"),
+        ValueFault::NoWord(name) => tell_name(alloc, errors, command, "", name, " is missing"),
+        ValueFault::Unfit(wanted, text) => {
+            tell_name(alloc, errors, command, wanted.front(), text, wanted.rest())
+        }
+        ValueFault::NotWith(instead, name) => {
+            tell_name(alloc, errors, command, "--", name, instead.rest())
+        }
+        ValueFault::WordNotWith(instead, name) => {
+            tell_name(alloc, errors, command, "", name, instead.rest())
+        }
+        ValueFault::Beside(name) => {
+            tell_name(
+                alloc,
+                errors,
+                command,
+                "--",
+                name,
+                " cannot be used with --game",
+            )
+        }
     }
 }
 

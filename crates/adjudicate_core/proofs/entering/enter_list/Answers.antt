@@ -4,7 +4,7 @@ use Rattle.system_io.proofs.HistoryLaws.{Passes-nil}
 use Rattle.adjudicate_core.proofs.entering.enter_list.Goals as goal
 
 pub returns-in-Ok : goal.returns-in-Ok
-returns-in-Ok g c = Listed _ (rw c.deref.ensures.value c.in-Ok.ensures.ok) c.enter_lines.ensures.made c.enter_lines.ensures.puts
+returns-in-Ok g c = Listed _ (rw c.deref.ensures.value c.in-Ok.ensures.ok) c.enter_lines.ensures
 
 pub returns-in-Err : goal.returns-in-Err
 returns-in-Err g c =

@@ -6,7 +6,7 @@ use Rattle.adjudicate_core.proofs.hosting.host_games.Goals as goal
 
 pub returns-in-Ok-Err : goal.returns-in-Ok-Err
 returns-in-Ok-Err g c =
-    let refused = rw c.in-Ok-Err.field-0-is at c.in-Ok-Err.ensures in
+    let refused = rw c.in-Ok-Err.field-0-is at c.in-Ok-Err.ensures.tables in
     BadTables (Passes-nil _) _ (sym refused) c.put_refusal.ensures
 
 pub returns-in-Err : goal.returns-in-Err
@@ -14,7 +14,7 @@ returns-in-Err g c = NoRoom (Passes-nil _) c.put_refusal-in-Err.ensures
 
 pub returns-in-Err-list_games : goal.returns-in-Err-list_games
 returns-in-Err-list_games g c =
-    let tables = rw c.in-Ok-Ok.field-0-is at c.in-Ok-Ok.ensures in
+    let tables = rw c.in-Ok-Ok.field-0-is at c.in-Ok-Ok.ensures.tables in
     unlisted _ _ _ _ _ _ _ _ _ _ c.in-Err-list_games.refusal c.in-Ok-Ok.tables tables (Passes-nil _) c.in-Err-list_games.ensures.err c.put_refusal-in-Err-list_games.ensures
 
 pub returns-in-Err-manifest_for : goal.returns-in-Err-manifest_for
@@ -22,5 +22,6 @@ returns-in-Err-manifest_for g c = NoRoom (Passes-nil _) c.put_refusal-in-Err-man
 
 pub returns : goal.returns
 returns g c =
-    let tables = rw c.in-Ok-Ok.field-0-is at c.in-Ok-Ok.ensures in
-    Hosting c.in-Ok-Ok.tables tables c.in-Ok.ensures.ok.0 c.in-Ok.ensures.ok.1 c.in-Ok-manifest_for.manifest.items c.in-Ok-manifest_for.ensures (rw c.deref.ensures.value at c.lock_and_serve.ensures)
+    let tables = rw c.in-Ok-Ok.field-0-is at c.in-Ok-Ok.ensures.tables in
+    let cache = rw c.in-Ok-Ok.field-0-is at c.in-Ok-Ok.ensures.cache in
+    Hosting c.in-Ok-Ok.tables tables cache c.in-Ok.ensures.ok.0 c.in-Ok.ensures.ok.1 c.in-Ok-manifest_for.manifest.items c.in-Ok-manifest_for.ensures (rw c.deref.ensures.value at c.lock_and_serve.ensures)

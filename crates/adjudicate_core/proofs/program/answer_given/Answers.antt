@@ -55,7 +55,7 @@ returns-in-Send g c = record {
 }
 
 pub returns-in-Enter : goal.returns-in-Enter
-returns-in-Enter g c = record { answered = rw c.in-Enter.is c.enter.ensures; quiet = λ unasked. inl refl; made = rw c.in-Enter.is (enter_makes _ _ _ _ _ _ _ _ c.enter.result c.enter.ensures) }
+returns-in-Enter g c = record { answered = rw c.in-Enter.is c.enter.ensures; quiet = λ unasked. inl refl; made = rw c.in-Enter.is (enter_makes _ _ _ _ c.enter.result c.enter.ensures) }
 
 pub returns-in-Host : goal.returns-in-Host
 returns-in-Host g c = record { answered = rw c.in-Host.is (hosted_games _ _ _ _ _ _ _ _ _ _ c.host_games.result c.host_games.ensures); quiet = λ unasked. inl refl; made = rw c.in-Host.is (host_makes _ _ _ _ _ _ _ _ _ c.host_games.result c.host_games.ensures) }

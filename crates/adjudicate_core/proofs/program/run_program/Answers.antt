@@ -4,15 +4,15 @@ use Rattle.adjudicate_core.specs.Running.{OnNoText, OnWords, called_by}
 use Rattle.adjudicate_core.proofs.MakeLaws.{none_called}
 use Rattle.adjudicate_core.proofs.program.run_program.Goals as goal
 
-pub returns-in-Ok-tail_of-clause-called : goal.returns-in-Ok-tail_of-clause-called
-returns-in-Ok-tail_of-clause-called g c =
+pub returns-in-Ok-tail_of-clause-runs : goal.returns-in-Ok-tail_of-clause-runs
+returns-in-Ok-tail_of-clause-runs g c =
     let on_tail = rw c.deref-in-Ok-tail_of.ensures.value at c.run.ensures.runs in
     let on_rest = rw c.in-Ok-tail_of.ensures at on_tail in
     let on_words = rw c.deref.ensures.value at on_rest in
     OnWords _ (ap called_by c.in-Ok.is) on_words
 
-pub returns-in-Err-NoText-clause-called : goal.returns-in-Err-NoText-clause-called
-returns-in-Err-NoText-clause-called g c =
+pub returns-in-Err-NoText-clause-runs : goal.returns-in-Err-NoText-clause-runs
+returns-in-Err-NoText-clause-runs g c =
     let is : called_by c.args.called.now ≡ Err (NoText c.in-Err-NoText.word) = search rules in
     OnNoText c.in-Err-NoText.word c.as_slice.result is c.as_slice.ensures.value c.tell_misuse.ensures refl refl
 

@@ -2,7 +2,9 @@ use Rattle.adjudicate_core.specs.Sends.{Bound, NoRoomToBind, Unbound}
 use Rattle.adjudicate_core.proofs.sending.bind_and_send.Goals as goal
 
 pub returns-in-Ok : goal.returns-in-Ok
-returns-in-Ok g c = let sent = rw (c.terms_of-terms.ensures.stamp, c.terms_of-terms.ensures.tries) at c.send_over.ensures in Bound c.in-Ok.ensures.made _ _ c.in-Ok.ensures.bound c.in-Ok.ensures.each sent
+returns-in-Ok g c =
+    let terms = c.terms_of-terms.ensures in
+    Bound c.in-Ok.ensures.made _ _ c.in-Ok.ensures.bound c.in-Ok.ensures.each _ (record { is = terms.stamp; tries = terms.tries; wait = terms.wait }) c.send_over.ensures
 
 pub returns-in-Err-Unbound : goal.returns-in-Err-Unbound
 returns-in-Err-Unbound g c = Unbound c.in-Err-Unbound.ensures.made (rw c.in-Err-Unbound.field-0-is at c.in-Err-Unbound.ensures.cause) c.refuse.ensures

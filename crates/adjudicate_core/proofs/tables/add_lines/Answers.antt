@@ -6,16 +6,16 @@ use Rattle.adjudicate_core.specs.Looks.{look_for, tables_from}
 use Rattle.adjudicate_core.proofs.TableLaws.{goes_on, is_refused, none_left}
 use Rattle.adjudicate_core.proofs.tables.add_lines.Goals as goal
 
-pub returns-in-Err : goal.returns-in-Err
-returns-in-Err c =
-    is_refused entry_of (look_for (map file_of c.args.files.now)) c.args.lines.now c.loop-line.line-index c.line-item.result c.loop-line-test.true c.line-item.is _ _ _ _ c.in_ok-found.ensures (rw c.in-Err.is at c.in_ok-add_found.ensures) c.loop-line.invariant
+pub returns-in-Err-clause-tables : goal.returns-in-Err-clause-tables
+returns-in-Err-clause-tables c =
+    is_refused entry_of (look_for (map file_of c.args.files.now)) c.args.lines.now c.loop-line.line-index c.line-item.result c.loop-line-test.true c.line-item.is _ _ _ _ c.in_ok-found.ensures (rw c.in-Err.is at c.in_ok-add_found.ensures.tables) c.loop-line.invariant.0
 
 pub loop-line-preserved : goal.loop-line-preserved
 loop-line-preserved c =
-    goes_on entry_of (look_for (map file_of c.args.files.now)) c.args.lines.now c.loop-line.line-index c.line-item.result c.loop-line-test.true c.line-item.is _ _ _ _ c.in_ok-found.ensures (rw c.in-Ok.is at c.in_ok-add_found.ensures) c.loop-line.invariant
+    (goes_on entry_of (look_for (map file_of c.args.files.now)) c.args.lines.now c.loop-line.line-index c.line-item.result c.loop-line-test.true c.line-item.is _ _ _ _ c.in_ok-found.ensures (rw c.in-Ok.is at c.in_ok-add_found.ensures.tables) c.loop-line.invariant.0, c.in_ok-add_found.ensures.cache ∙ c.loop-line.invariant.1)
 
-pub returns : goal.returns
-returns c =
+pub returns-clause-tables : goal.returns-clause-tables
+returns-clause-tables c =
     sym (none_left c.loop-line.set.tables)
     ∙ sym (at_drop_all (λ lines. tables_from c.loop-line.set.tables (map (look_for (map file_of c.args.files.now)) (map entry_of lines))) c.args.lines.now c.loop-line.line-index (omega arith))
-    ∙ c.loop-line.invariant
+    ∙ c.loop-line.invariant.0

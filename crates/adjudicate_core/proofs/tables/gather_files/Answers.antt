@@ -5,14 +5,14 @@ use Rattle.adjudicate_core.specs.Looks.{look_at, no_tables, tables_from}
 use Rattle.adjudicate_core.specs.Inside.Refusals.{filled}
 use Rattle.adjudicate_core.proofs.tables.gather_files.Goals as goal
 
-pub returns-in-Ok : goal.returns-in-Ok
-returns-in-Ok c =
+pub returns-in-Ok-clause-tables : goal.returns-in-Ok-clause-tables
+returns-in-Ok-clause-tables c =
     let empty : c.in_ok-set.set.tables ≡ no_tables = ap (λ (s : Holding). s.tables) c.in_ok-set.ensures in
-    sym (ap (λ added. filled added c.add_files.new.set.tables) c.in-Ok.is) ∙ c.in_ok-add_files.ensures
+    sym (ap (λ added. filled added c.add_files.new.set.tables) c.in-Ok.is) ∙ c.in_ok-add_files.ensures.tables
     ∙ ap (λ tables. tables_from tables (map look_at (map file_of c.args.files.now))) empty
 
-pub returns : goal.returns
-returns c =
+pub returns-clause-tables : goal.returns-clause-tables
+returns-clause-tables c =
     let empty : c.in_ok-set.set.tables ≡ no_tables = ap (λ (s : Holding). s.tables) c.in_ok-set.ensures in
-    sym (ap (λ added. filled added c.add_files.new.set.tables) c.in-Err.is) ∙ c.in_ok-add_files.ensures
+    sym (ap (λ added. filled added c.add_files.new.set.tables) c.in-Err.is) ∙ c.in_ok-add_files.ensures.tables
     ∙ ap (λ tables. tables_from tables (map look_at (map file_of c.args.files.now))) empty

@@ -4,14 +4,14 @@ use Rattle.adjudicate_core.specs.Misuses.{instead_name}
 use Rattle.adjudicate_core.proofs.uses.tell_fault.Goals as goal
 
 pub returns-in-NoWord : goal.returns-in-NoWord
-returns-in-NoWord g c = rw c.in-NoWord.is (rw c.as_bytes-in-NoWord.ensures.value at c.tell_line_of-in-NoWord.ensures)
+returns-in-NoWord g c = rw c.in-NoWord.is c.tell_name-in-NoWord.ensures
 
 pub returns-in-NotWith : goal.returns-in-NotWith
 returns-in-NotWith g c =
     let name = c.in-NotWith.name.now in
     rw c.in-NotWith.is (
     rw (append_assoc name (codes " cannot be used with --") (instead_name c.in-NotWith.instead))
-    (rw c.as_bytes-in-NotWith.ensures.value at (rw c.rest-in-NotWith.ensures at c.tell_line_of-in-NotWith.ensures))
+    (rw c.rest-in-NotWith.ensures at c.tell_name-in-NotWith.ensures)
     )
 
 pub returns-in-WordNotWith : goal.returns-in-WordNotWith
@@ -19,5 +19,5 @@ returns-in-WordNotWith g c =
     let name = c.in-WordNotWith.name.now in
     rw c.in-WordNotWith.is (
     rw (append_assoc name (codes " cannot be used with --") (instead_name c.in-WordNotWith.instead))
-    (rw c.as_bytes-in-WordNotWith.ensures.value at (rw c.rest-in-WordNotWith.ensures at c.tell_line_of-in-WordNotWith.ensures))
+    (rw c.rest-in-WordNotWith.ensures at c.tell_name-in-WordNotWith.ensures)
     )

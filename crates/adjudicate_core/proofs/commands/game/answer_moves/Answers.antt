@@ -6,9 +6,9 @@ use Rattle.adjudicate_core.specs.Commands.Game.{BadTables, Played}
 use Rattle.adjudicate_core.proofs.commands.game.answer_moves.Goals as goal
 
 pub returns-in-Err : goal.returns-in-Err
-returns-in-Err c = BadTables c.args.moves.now c.requires (refusal_words c.in-Err.refusal) (sym (rw c.in-Err.is at c.in_ok-set.ensures)) refl
+returns-in-Err c = BadTables c.args.moves.now c.requires (refusal_words c.in-Err.refusal) (sym (rw c.in-Err.is at c.in_ok-set.ensures.tables)) refl
 
 pub returns : goal.returns
 returns c =
-    Played c.args.moves.now c.requires c.in-Ok.set.tables (sym (rw c.in-Ok.is at c.in_ok-set.ensures)) c.in_ok-outcome.outcome (rw c.plies.ensures.value at c.in_ok-outcome.ensures.value)
+    Played c.args.moves.now c.requires c.in-Ok.set.tables (sym (rw c.in-Ok.is at c.in_ok-set.ensures.tables)) c.in_ok-outcome.outcome (rw c.plies.ensures.value at c.in_ok-outcome.ensures.value)
     (ap (λ status. record { text = ended (outcome_words c.in_ok-outcome.outcome (length c.args.moves.now)); status = status }) c.is_legal.ensures)

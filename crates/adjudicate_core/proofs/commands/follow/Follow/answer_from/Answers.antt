@@ -5,12 +5,12 @@ use Rattle.adjudicate_core.proofs.commands.follow.Follow.answer_from.Goals as go
 
 pub returns-in-Ok-Ok : goal.returns-in-Ok-Ok
 returns-in-Ok-Ok g c =
-    let is = sym (rw c.in-Ok-Ok.field-0-is at c.in-Ok-Ok.ensures) in
+    let is = sym (rw c.in-Ok-Ok.field-0-is at c.in-Ok-Ok.ensures.tables) in
     Followed c.args.start.now c.requires.spelled c.requires.position c.in-Ok-Ok.set.tables is c.put_game.ensures
 
 pub returns-in-Ok-Err : goal.returns-in-Ok-Err
 returns-in-Ok-Err g c =
-    let is = sym (rw c.in-Ok-Err.field-0-is at c.in-Ok-Err.ensures) in
+    let is = sym (rw c.in-Ok-Err.field-0-is at c.in-Ok-Err.ensures.tables) in
     BadTables (c.args.start.now, c.requires.spelled, c.requires.position) (refusal_words c.in-Ok-Err.refusal) is c.put_refusal.ensures
 
 pub returns-in-Err : goal.returns-in-Err

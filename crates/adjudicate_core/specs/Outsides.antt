@@ -1,0 +1,31 @@
+-- What is outside of the program (this project's own).
+use Rattle.std.specs.Prelude.{ℕ, List, Option}
+use Rattle.system_io.specs.Disks.{DiskFacts}
+use Rattle.system_io.specs.Hosts.{HostFacts, Made}
+use Rattle.system_io.specs.Inputs.{InputFacts}
+use Rattle.system_io.specs.KeptFiles.{KeptFacts}
+use Rattle.system_io.specs.Outputs.{OutputFacts}
+use Rattle.system_io.specs.Ports.{PortFacts}
+use Rattle.adjudicate_core.specs.Hostings.{Around, around}
+use Rattle.adjudicate_core.specs.Listens.{Hosted, hosted}
+use Rattle.adjudicate_core.specs.declared.system.System.{System}
+
+-- what is outside of the program: its disk, its input, the host of its ports and files, and what that had made before a run and has made
+-- after it
+pub record Outside (P F : Type 0) : Type 1 where
+  pub disk : DiskFacts
+  pub source : InputFacts
+  pub host : Hosted P F
+  pub had : Option (List Made)
+  pub has : Option (List Made)
+
+abbrev pub outside : {P F : Type 0} → DiskFacts → InputFacts → Hosted P F → Option (List Made) → Option (List Made) → Outside P F
+outside disk source host had has = record { disk = disk; source = source; host = host; had = had; has = has }
+
+-- so it is of this system
+abbrev pub outside_of : {D I H M P F : Type 0} → (D → DiskFacts) → (I → InputFacts) → (H → HostFacts P F) → (M → Option (List Made)) → (P → PortFacts) → (F → KeptFacts) → System D I H → M → M → Outside P F
+outside_of disk source host made port file s history history' = outside (disk s.disk.now) (source s.input.now) (hosted (host s.host.now) port file) (made history) (made history')
+
+-- what is known of a system's disk and host, and of a writer
+abbrev pub around_of : {D I H P F W : Type 0} → (D → DiskFacts) → (H → HostFacts P F) → (P → PortFacts) → (F → KeptFacts) → (W → Option (List ℕ)) → (W → OutputFacts) → System D I H → Around P F W
+around_of disk host port file written output s = around (disk s.disk.now) (host s.host.now) port file written output
