@@ -19,9 +19,17 @@ pub(crate) struct Plan {
     pub verdict: Option<Verdict>,
 }
 
-/// Plans a legal move that leads to this position, and then the waiting moves after it. It stops at a verdict, and
-/// where the next move doesn't wait or isn't legal. They are put into an empty vector with room for them. Each new
-/// position is judged once.
+/// What lies ahead: a legal move, the position that it leads to, and the moves that wait behind it.
+#[derive(Drop)]
+pub(crate) struct Ahead<'a> {
+    pub m: Move,
+    pub position: Position,
+    pub window: &'a Window,
+}
+
+/// Plans the legal move that lies ahead, and then the waiting moves after it. It stops at a verdict, and where the next
+/// move doesn't wait or isn't legal. They are put into an empty vector with room for them. Each new position is judged
+/// once.
 ///
 /// The error comes only where memory for a list of moves is refused, while one of the new positions is judged. The tables stay
 /// as they were but for their cache.
@@ -31,29 +39,27 @@ fn make_plan(
     terms: &Terms<'_>,
     played: &Played,
     moves: Vec<Move>,
-    m: Move,
-    position: Position,
-    window: &Window,
+    ahead: &Ahead<'_>,
 ) -> Result<Plan, AllocError>
     requires none { moves.items ≡ [] }
     requires room { 32 ≤ vec_capacity moves }
-    requires in_order { IsInOrder (terms_with terms.now tables.old) played.now window.now }
-    requires next { IsNext (rules_at (terms_with terms.now tables.old)) (recorded_in played.now) m position }
+    requires in_order { IsInOrder (terms_with terms.now tables.old) played.now ahead.now.window.now }
+    requires next { IsNext (rules_at (terms_with terms.now tables.old)) (recorded_in played.now) ahead.now.m ahead.now.position }
     ensures same { tables.new ≡ tables.old }
-    ensures planned { IfOk result (IsPlan (rules_at (terms_with terms.now tables.old)) (recorded_in played.now) m window.now) }
-    ensures memory { OnErr result (ListsMovesAhead (rules_at (terms_with terms.now tables.old)) played.now.record.moves m window.now) }
+    ensures planned { IfOk result (IsPlan (rules_at (terms_with terms.now tables.old)) (recorded_in played.now) ahead.now.m ahead.now.window.now) }
+    ensures memory { OnErr result (ListsMovesAhead (rules_at (terms_with terms.now tables.old)) played.now.record.moves ahead.now.m ahead.now.window.now) }
 {
     let delay = terms.delay;
     let mut moves = moves;
-    moves.push_reserved(m);
-    let standing = tables.move_on(alloc, &played.standing, position)?;
+    moves.push_reserved(ahead.m);
+    let standing = tables.move_on(alloc, &played.standing, ahead.position)?;
     let verdict = standing.verdict(delay);
     let mut plan = Plan {
         moves,
         standing,
         verdict,
     };
-    for slot in window.places() {
+    for slot in ahead.window.places() {
         if plan.verdict.is_some() {
             return Ok(plan);
         }
@@ -76,15 +82,13 @@ pub(crate) fn plan_on(
     tables: &mut Set<'_>,
     terms: &Terms<'_>,
     played: &Played,
-    m: Move,
-    position: Position,
-    window: &Window,
+    ahead: &Ahead<'_>,
 ) -> Result<Plan, AllocError>
-    requires in_order { IsInOrder (terms_with terms.now tables.old) played.now window.now }
-    requires next { IsNext (rules_at (terms_with terms.now tables.old)) (recorded_in played.now) m position }
+    requires in_order { IsInOrder (terms_with terms.now tables.old) played.now ahead.now.window.now }
+    requires next { IsNext (rules_at (terms_with terms.now tables.old)) (recorded_in played.now) ahead.now.m ahead.now.position }
     ensures same { tables.new ≡ tables.old }
-    ensures planned { IfOk result (IsPlan (rules_at (terms_with terms.now tables.old)) (recorded_in played.now) m window.now) }
+    ensures planned { IfOk result (IsPlan (rules_at (terms_with terms.now tables.old)) (recorded_in played.now) ahead.now.m ahead.now.window.now) }
 {
     let moves = Vec::with_capacity(alloc, 32)?;
-    make_plan(alloc, tables, terms, played, moves, m, position, window)
+    make_plan(alloc, tables, terms, played, moves, ahead)
 }

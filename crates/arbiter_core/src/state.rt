@@ -16,7 +16,7 @@ ghost use Rattle.arbiter_core.specs.Inside.Playing.{IsNext, IsPlayedFrom};
 
 use crate::fault::DeliverFault;
 use crate::keeper::Keeper;
-use crate::planning::plan_on;
+use crate::planning::{Ahead, plan_on};
 use crate::played::Played;
 use crate::setup::Terms;
 use crate::window::Window;
@@ -117,9 +117,11 @@ impl<'a> ArbiterState<'a> {
             tables,
             &self.terms,
             &self.played,
-            *m,
-            *position,
-            &self.window,
+            &Ahead {
+                m: *m,
+                position: *position,
+                window: &self.window,
+            },
         ) else {
             return Err(DeliverFault::OutOfMemory);
         };

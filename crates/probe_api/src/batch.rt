@@ -12,6 +12,7 @@ use crate::reply::Reply;
 use board_core::Position;
 use judge_core::{ProbeFault, Set, Wdl};
 use std::alloc::Global;
+use std::ops::Range;
 
 fn board_at(boards: &[Board], place: usize) -> &Board
     requires { place < length boards.now }
@@ -20,25 +21,24 @@ fn board_at(boards: &[Board], place: usize) -> &Board
     &boards[place]
 }
 
-/// What is asked of each board from one place up to another, in its place.
+/// What is asked of each board in a part of the list, in its place.
 fn answer_between(
     alloc: Global,
     set: &mut Set<'_>,
     question: Question,
     boards: &[Board],
-    from: usize,
-    to: usize,
+    part: Range<usize>,
     replies: &mut [Reply],
 )
     requires lengths { length boards.now ≡ length replies.old }
-    requires from { from ≤ to }
-    requires to { to ≤ length boards.now }
-    requires before { AreTold question set.old.tables boards.now replies.old from }
+    requires from { part.start ≤ part.end }
+    requires to { part.end ≤ length boards.now }
+    requires before { AreTold question set.old.tables boards.now replies.old part.start }
     ensures places { length replies.new ≡ length replies.old }
-    ensures each { AreTold question set.old.tables boards.now replies.new to }
+    ensures each { AreTold question set.old.tables boards.now replies.new part.end }
     ensures kept { set.new ≡ set.old }
 {
-    for place in from..to {
+    for place in part.start..part.end {
         let board = board_at(boards, place);
         let reply = answer_board(alloc, set, question, board);
         replies[place] = reply;
@@ -84,29 +84,28 @@ fn values_on(
     }
 }
 
-/// The WDL value of each board from one place up to another, in its place.
+/// The WDL value of each board in a part of the list, in its place.
 fn wdl_between(
     alloc: Global,
     set: &mut Set<'_>,
     boards: &[Board],
-    from: usize,
-    to: usize,
+    part: Range<usize>,
     replies: &mut [Reply],
 )
     requires lengths { length boards.now ≡ length replies.old }
-    requires from { from ≤ to }
-    requires to { to ≤ length boards.now }
-    requires before { AreTold AsksWdl set.old.tables boards.now replies.old from }
+    requires from { part.start ≤ part.end }
+    requires to { part.end ≤ length boards.now }
+    requires before { AreTold AsksWdl set.old.tables boards.now replies.old part.start }
     ensures places { length replies.new ≡ length replies.old }
-    ensures each { AreTold AsksWdl set.old.tables boards.now replies.new to }
+    ensures each { AreTold AsksWdl set.old.tables boards.now replies.new part.end }
     ensures kept { set.new ≡ set.old }
 {
-    let Some(values) = values_on(alloc, set, &boards[from..to]) else {
-        answer_between(alloc, set, Question::Wdl, boards, from, to, replies);
+    let Some(values) = values_on(alloc, set, &boards[part.start..part.end]) else {
+        answer_between(alloc, set, Question::Wdl, boards, part, replies);
         return;
     };
     for i in 0..values.len() {
-        replies[from + i] = wdl_reply(values[i]);
+        replies[part.start + i] = wdl_reply(values[i]);
     }
 }
 
@@ -120,7 +119,7 @@ fn wdl_of_each(alloc: Global, set: &mut Set<'_>, boards: &[Board], replies: &mut
     let mut from: usize = 0;
     'boards: while from < boards.len() {
         let to = from + SIDE_BY_SIDE.min(boards.len() - from);
-        wdl_between(alloc, set, boards, from, to, replies);
+        wdl_between(alloc, set, boards, from..to, replies);
         from = to;
     }
 }
@@ -141,7 +140,7 @@ fn answer_each(
     match question {
         Question::Wdl => wdl_of_each(alloc, set, boards, replies),
         Question::Dtz | Question::Verdict | Question::DeterminedWdl | Question::DeterminedDtz => {
-            answer_between(alloc, set, question, boards, 0, boards.len(), replies)
+            answer_between(alloc, set, question, boards, 0..boards.len(), replies)
         }
     }
 }

@@ -18,11 +18,11 @@ pub loop-slot-init : goal.loop-slot-init
 loop-slot-init c =
     let r : Rules = rules_at (terms_with c.args.terms.now c.args.tables.now) in
     let before : List Move = c.args.played.now.record.moves in
-    let m : Move = c.args.m in
+    let m : Move = c.args.ahead.now.m in
     let own = c.requires.in_order.played in
     let next = c.requires.next in
-    let legal : position_after c.args.played.now.standing.position m ≡ Some c.args.position = sym (next_position r before c.args.played.now.standing m own.at) ∙ next.legal in
-    let reached = reach_next r before m c.args.played.now.standing c.args.position c.args.played.now.record.verdict own.at own.ruled next.unruled own.reached legal in
+    let legal : position_after c.args.played.now.standing.position m ≡ Some c.args.ahead.now.position = sym (next_position r before c.args.played.now.standing m own.at) ∙ next.legal in
+    let reached = reach_next r before m c.args.played.now.standing c.args.ahead.now.position c.args.played.now.record.verdict own.at own.ruled next.unruled own.reached legal in
     let one : c.push_reserved.new.self.items ≡ m ∷ [] = c.push_reserved.ensures.items ∙ ap (λ (xs : List Move). xs ++ m ∷ []) c.requires.none in
     let pushed : before ++ c.push_reserved.new.self.items ≡ before ++ m ∷ [] = ap (λ (xs : List Move). before ++ xs) one in
     let room = c.requires.room in
@@ -35,7 +35,7 @@ loop-slot-init c =
       room = omega arith;
       filled = ap length one;
       short = omega arith;
-      plan = plan_starts r before m c.args.window.now _ _ _ pushed at (c.verdict-verdict.ensures r (before ++ m ∷ []) refl at) reached;
+      plan = plan_starts r before m c.args.ahead.now.window.now _ _ _ pushed at (c.verdict-verdict.ensures r (before ++ m ∷ []) refl at) reached;
     }
 
 pub returns-then-is_some-clause-planned : goal.returns-then-is_some-clause-planned
@@ -49,19 +49,19 @@ slot_is w v i o p e l is here = subst (λ (x : Window). (i < length x) × (get_o
 
 pub returns-in_default-clause-planned : goal.returns-in_default-clause-planned
 returns-in_default-clause-planned c =
-    let slot = slot_is c.args.window.now _ _ _ None c.places-slot-items.ensures.places c.loop-slot-test.true c.slot-item.is c.in_default.is in
+    let slot = slot_is c.args.ahead.now.window.now _ _ _ None c.places-slot-items.ensures.places c.loop-slot-test.true c.slot-item.is c.in_default.is in
     planned _ _ _ _ _ _ c.loop-slot.invariant.plan c.loop-slot.invariant.short (ends_none _ _ _ _ _ _ _ _ c.loop-slot.invariant.plan slot.0 slot.1)
 
 pub returns-in_default-play-clause-planned : goal.returns-in_default-play-clause-planned
 returns-in_default-play-clause-planned c =
-    let slot = slot_is c.args.window.now _ _ _ (Some c.in-Some.m) c.places-slot-items.ensures.places c.loop-slot-test.true c.slot-item.is c.in-Some.is in
+    let slot = slot_is c.args.ahead.now.window.now _ _ _ (Some c.in-Some.m) c.places-slot-items.ensures.places c.loop-slot-test.true c.slot-item.is c.in-Some.is in
     planned _ _ _ _ _ _ c.loop-slot.invariant.plan c.loop-slot.invariant.short
     (ends_illegal _ _ _ _ _ _ _ _ _ c.loop-slot.invariant.plan slot.0 slot.1
     (ap (λ (p : Parts). position_after p c.in-Some.m) (sym c.position.ensures) ∙ sym c.play.ensures.computed ∙ c.in_default-play.is))
 
 pub returns-clause-planned : goal.returns-clause-planned
 returns-clause-planned c =
-    let end : length c.args.window.now ≤ c.loop-slot.slot-index = subst (λ (w : Window). length w ≤ c.loop-slot.slot-index) c.places-slot-items.ensures.places c.loop-slot-test.false in
+    let end : length c.args.ahead.now.window.now ≤ c.loop-slot.slot-index = subst (λ (w : Window). length w ≤ c.loop-slot.slot-index) c.places-slot-items.ensures.places c.loop-slot-test.false in
     planned _ _ _ _ _ _ c.loop-slot.invariant.plan c.loop-slot.invariant.short (ends_past _ _ _ _ _ _ _ _ c.loop-slot.invariant.plan end)
 
 pub loop-slot-preserved : goal.loop-slot-preserved
@@ -71,7 +71,7 @@ loop-slot-preserved c =
     let before : List Move = c.args.played.now.record.moves in
     let added : List Move = c.loop-slot.plan.moves.items in
     let moves : List Move = before ++ added in
-    let slot = slot_is c.args.window.now _ _ _ (Some m) c.places-slot-items.ensures.places c.loop-slot-test.true c.slot-item.is c.in-Some.is in
+    let slot = slot_is c.args.ahead.now.window.now _ _ _ (Some m) c.places-slot-items.ensures.places c.loop-slot-test.true c.slot-item.is c.in-Some.is in
     let tables = sym (ap (λ (h : Holding). h.tables) c.loop-slot.invariant.same) in
     let legal : position_after c.loop-slot.plan.standing.position m ≡ Some c.in-Some-play.position =
     ap (λ (p : Parts). position_after p m) (sym c.position.ensures) ∙ sym c.play.ensures.computed ∙ c.in-Some-play.is in
@@ -102,16 +102,16 @@ pub returns-in_err-standing-clause-memory : goal.returns-in_err-standing-clause-
 returns-in_err-standing-clause-memory c =
     let r : Rules = rules_at (terms_with c.args.terms.now c.args.tables.now) in
     let before : List Move = c.args.played.now.record.moves in
-    let m : Move = c.args.m in
+    let m : Move = c.args.ahead.now.m in
     let own = c.requires.in_order.played in
     let next = c.requires.next in
-    let legal : position_after c.args.played.now.standing.position m ≡ Some c.args.position = sym (next_position r before c.args.played.now.standing m own.at) ∙ next.legal in
-    owed c.from_residual.result (lists_first r before m c.args.window.now c.args.position (reach_next r before m c.args.played.now.standing c.args.position c.args.played.now.record.verdict own.at own.ruled next.unruled own.reached legal) next.legal c.in_err-standing.ensures.memory)
+    let legal : position_after c.args.played.now.standing.position m ≡ Some c.args.ahead.now.position = sym (next_position r before c.args.played.now.standing m own.at) ∙ next.legal in
+    owed c.from_residual.result (lists_first r before m c.args.ahead.now.window.now c.args.ahead.now.position (reach_next r before m c.args.played.now.standing c.args.ahead.now.position c.args.played.now.record.verdict own.at own.ruled next.unruled own.reached legal) next.legal c.in_err-standing.ensures.memory)
 
 -- or that after one that waited
 pub returns-in_err-plan-clause-memory : goal.returns-in_err-plan-clause-memory
 returns-in_err-plan-clause-memory c =
-    let slot = slot_is c.args.window.now _ _ _ (Some c.in-Some.m) c.places-slot-items.ensures.places c.loop-slot-test.true c.slot-item.is c.in-Some.is in
+    let slot = slot_is c.args.ahead.now.window.now _ _ _ (Some c.in-Some.m) c.places-slot-items.ensures.places c.loop-slot-test.true c.slot-item.is c.in-Some.is in
     let legal : position_after c.loop-slot.plan.standing.position c.in-Some.m ≡ Some c.in-Some-play.position =
     ap (λ (p : Parts). position_after p c.in-Some.m) (sym c.position.ensures) ∙ sym c.play.ensures.computed ∙ c.in-Some-play.is in
     owed c.from_residual-in_err-plan.result (lists_next _ _ _ _ _ _ _ _ c.in-Some.m c.in-Some-play.position c.loop-slot.invariant.plan (sym c.is_some.ensures ∙ c.if-is_some.false) slot.0 slot.1 legal

@@ -5,4 +5,4 @@ use Rattle.probe_api.proofs.batch.wdl_between.Given as goal
 
 -- the boards so far are answered
 abbrev pub invariant-loop-i : goal.invariant-loop-i
-invariant-loop-i l = (length l.replies ≡ length l.fn.replies) × (l.set ≡ l.fn.set) × AreTold Wdl l.fn.set.tables l.boards l.replies (l.from + l.i)
+invariant-loop-i l = (length l.replies ≡ length l.fn.replies) × (l.set ≡ l.fn.set) × AreTold Wdl l.fn.set.tables l.boards l.replies (l.part.start + l.i)
