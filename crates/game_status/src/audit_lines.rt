@@ -37,7 +37,7 @@ pub enum AuditLook {
 }
 
 /// Adds a finding.
-fn add_finding(line: &mut LineWords, finding: Finding)
+pub fn add_finding(line: &mut LineWords, finding: Finding)
     requires { length line.old ≤ 180 }
     ensures is { line.new ≡ line.old ++ finding_words finding }
     ensures size { length line.new ≤ length line.old + 54 }

@@ -48,10 +48,10 @@ fn compare_two(one: &Record, other: &Record) -> Compared
 }
 
 /// What comes of a record beside which the other folder keeps none.
-fn compare_alone(record: &Record) -> Compared
-    ensures { IsAlone record.now result }
+fn compare_alone(kept: &Record) -> Compared
+    ensures { IsAlone kept.now result }
 {
-    let moves = record.moves.as_slice().len();
+    let moves = kept.moves.as_slice().len();
     if moves > 0 {
         Compared::Behind(moves)
     } else {

@@ -1,8 +1,9 @@
 //! Games of folders that are audited by one set of tables.
 
-ghost use Rattle.std.specs.Prelude.{◌≡◌, ◌≤◌, ◌↔◌, option_map, IfOk, IfSome, IfNone, IsTrue};
+ghost use Rattle.std.specs.Prelude.{◌≡◌, OnErr, ◌≤◌, ◌↔◌, option_map, IfOk, IfSome, IfNone, IsTrue};
 ghost use Rattle.board_core.specs.Delays.{most_delay};
 ghost use Rattle.arbiter_server.specs.Games.{IsGameOf};
+ghost use Rattle.line_teller.specs.ToldLines.{HasFailed};
 ghost use Rattle.game_status.specs.GameAudits.{AreFewDelays, IsAuditLook, IsAuditOf, IsSoundSide, IsSoundLook, IsUnsoundLook, IsUnsoundPair, IsUnsoundSide, IsUntrue, IsWhole, TellsAuditTo};
 ghost use Rattle.game_status.specs.Listings.{listing_of, other_listing};
 
@@ -199,7 +200,8 @@ pub fn tell_audit<D: Disk, W: Output>(
     other: Option<&str>,
     out: &mut W,
 ) -> Result<bool, WriteFault>
-    ensures { TellsAuditTo tables.entry.manifest.now tables.entry.set.tables (D.facts disk.now) folder.now (option_map (λ s. s.now) other.entry) (W.contents out.old) (W.contents out.new) result }
+    ensures told { TellsAuditTo tables.entry.manifest.now tables.entry.set.tables (D.facts disk.now) folder.now (option_map (λ s. s.now) other.entry) (W.contents out.old) (W.contents out.new) result }
+    ensures cause { OnErr result (HasFailed W.facts) }
 {
     let folders = match list_folders(alloc, disk, folder, other) {
         Ok(folders) => folders,

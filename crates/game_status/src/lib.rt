@@ -7,6 +7,7 @@
 //!
 //! Inside: `listing` (the stamps that names tell), `entry` (a game's file and the bytes of its record), `side` (the record),
 //! `comparing` (two records), `status_lines`, `telling` (games in turn, and sums: `GameTeller`), `status`; `audit_lines`, `game_audit`.
+//! `add_moves`, `add_refused_record` and `add_finding` are for lines of the crate above too.
 //!
 //! Definitions, in reading order: `Listings` (`AreListed`), `Entries` (`HasEntry`, `LacksEntry`), `Sides` (`HasSide`, `LacksSide`),
 //! `Comparisons` (`IsComparedAs`), `Tellings` (`TellsGames`, `TellsFolders`), `Statuses` (`IsStatus`, `TellsStatus`), `GameAudits`
@@ -17,7 +18,7 @@
 //!   records agree, by how many moves one is behind, or the first ply at which they part; two files that tell two games are a fault.
 //!   The sums count these lines, and nothing is well that is at fault or differs. `refused files` comes alone, and only where a folder
 //!   can't be listed. Refused memory has no cause; the whole lines before it stay. After an error the lines before are whole, and of
-//!   the last a front is written.
+//!   the last a front is written; it comes only of a writer that refused a write, or from which some can't go out.
 //! - CLAIM: `tell_audit`: the same games, whose files have to be those of their stamps by the tables; a game is well only where an
 //!   arbiter of it resumes from each of its records, and both are equal; nothing kept is no fault.
 #![tactic(auto)]
@@ -32,12 +33,12 @@ mod status;
 mod status_lines;
 mod telling;
 
-pub use audit_lines::{AuditLook, Unsound};
+pub use audit_lines::{AuditLook, Unsound, add_finding};
 pub use comparing::Compared;
 pub use entry::{Entry, EntryFault};
 pub use game_audit::{AuditTables, tell_audit};
 pub use listing::{Folder, Folders, stamp_of};
 pub use side::Side;
 pub use status::tell_status;
-pub use status_lines::Look;
+pub use status_lines::{Look, add_moves, add_refused_record};
 pub use telling::{GameTeller, Mark, Sums};

@@ -1,6 +1,7 @@
 //! How far the games of folders have come.
 
-ghost use Rattle.std.specs.Prelude.{◌≡◌, ◌↔◌, option_map, IfOk, IsTrue};
+ghost use Rattle.std.specs.Prelude.{◌≡◌, OnErr, ◌↔◌, option_map, IfOk, IsTrue};
+ghost use Rattle.line_teller.specs.ToldLines.{HasFailed};
 ghost use Rattle.game_status.specs.Entries.{game_told};
 ghost use Rattle.game_status.specs.Listings.{listing_of, other_listing};
 ghost use Rattle.game_status.specs.Statuses.{IsLook, IsLookAtBoth, IsLookBeside, TellsStatusTo};
@@ -123,7 +124,8 @@ pub fn tell_status<D: Disk, W: Output>(
     other: Option<&str>,
     out: &mut W,
 ) -> Result<bool, WriteFault>
-    ensures { TellsStatusTo (D.facts disk.now) folder.now (option_map (λ s. s.now) other.entry) (W.contents out.old) (W.contents out.new) result }
+    ensures told { TellsStatusTo (D.facts disk.now) folder.now (option_map (λ s. s.now) other.entry) (W.contents out.old) (W.contents out.new) result }
+    ensures cause { OnErr result (HasFailed W.facts) }
 {
     let folders = match list_folders(alloc, disk, folder, other) {
         Ok(folders) => folders,

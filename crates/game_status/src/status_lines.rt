@@ -44,7 +44,7 @@ pub(crate) fn stamped(stamp: &[u8; 16]) -> LineWords
 }
 
 /// Adds how many moves there are and a verdict.
-pub(crate) fn add_moves(line: &mut LineWords, count: usize, verdict: Option<Verdict>)
+pub fn add_moves(line: &mut LineWords, count: usize, verdict: Option<Verdict>)
     requires { length line.old ≤ 200 }
     ensures is { line.new ≡ line.old ++ decimal count ++ codes " " ++ verdict_or_none verdict }
     ensures size { length line.new ≤ length line.old + 51 }
@@ -89,7 +89,7 @@ fn record_fault(fault: RecordFault) -> &'static str
 }
 
 /// Adds the refusal of bytes that are no record.
-pub(crate) fn add_refused_record(line: &mut LineWords, fault: RecordFault)
+pub fn add_refused_record(line: &mut LineWords, fault: RecordFault)
     requires { length line.old ≤ 200 }
     ensures is { line.new ≡ line.old ++ refused_record fault }
     ensures size { length line.new ≤ length line.old + 31 }

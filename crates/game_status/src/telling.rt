@@ -4,7 +4,7 @@ ghost use Rattle.std.specs.Prelude.{◌≡◌, ◌≤◌, ◌++◌, false, List,
 ghost use Rattle.std.specs.Io.KnownBytes.{Appends};
 ghost use Rattle.move_msg.specs.TextLines.{ended};
 ghost use Rattle.system_io.specs.Outputs.{WritesFront};
-ghost use Rattle.line_teller.specs.ToldLines.{HasFront, cut_words};
+ghost use Rattle.line_teller.specs.ToldLines.{HasFailed, HasFront, cut_words};
 ghost use Rattle.game_status.specs.Tellings.{CutsGame, GamesTo, TellsNoMore, WritesGame, are_well, counts_words, differ_words, sums_of, sums_words};
 ghost use Rattle.game_status.specs.declared.telling.GameTold.{GameTold};
 ghost use Rattle.game_status.specs.Inside.Counting.{AddsMark, AreFew, CutsSome, TellsEach, TellsSome};
@@ -117,7 +117,7 @@ pub trait GameTeller {
 }
 
 /// Writes the line of the game with this stamp, and returns how the game is counted. Nothing of the line is written where memory is
-/// refused. After `Io` a front of it is, and nothing else; it comes only where the writer refused a write.
+/// refused. After `Io` a front of it is, and nothing else; it comes only where the writer failed.
 fn tell_game<T: GameTeller, W: Output>(
     teller: &mut T,
     stamp: &[u8; 16],
@@ -126,7 +126,7 @@ fn tell_game<T: GameTeller, W: Output>(
     ensures told { IfOk result (WritesGame (T.tells teller.old stamp.now) (W.contents out.old) (W.contents out.new)) }
     ensures memory { IsErrOf result TellFault.OutOfMemory → W.contents out.new ≡ W.contents out.old }
     ensures front { IsErrOf result TellFault.Io → CutsGame (T.tells teller.old stamp.now) (W.contents out.old) (W.contents out.new) }
-    ensures cause { IsErrOf result TellFault.Io → (W.facts out.old).refuses }
+    ensures cause { IsErrOf result TellFault.Io → HasFailed W.facts }
     ensures same { TellsNoMore (T.tells teller.old) (T.tells teller.new) }
 {
     let Ok(GameTold { words, mark }) = teller.tell(stamp) else {
@@ -147,6 +147,7 @@ fn tell_each<T: GameTeller, W: Output>(
     ensures told { IfOk result (TellsEach (T.tells teller.old) stamps.now (W.contents out.old) (W.contents out.new)) }
     ensures memory { IsErrOf result TellFault.OutOfMemory → TellsSome (T.tells teller.old) stamps.now (W.contents out.old) (W.contents out.new) }
     ensures front { IsErrOf result TellFault.Io → CutsSome (T.tells teller.old) stamps.now (W.contents out.old) (W.contents out.new) }
+    ensures cause { IsErrOf result TellFault.Io → HasFailed W.facts }
 {
     let mut sums = Sums::none();
     for stamp in stamps {
@@ -191,10 +192,10 @@ fn sums_line(sums: &Sums, compares: bool) -> LineWords
     line
 }
 
-/// Writes the line of the sums at once. The error is that of the writer, which refused a write; a front of it is written then.
+/// Writes the line of the sums at once. The error is that of the writer; a front of the line is written then.
 fn tell_sums<W: Output>(out: &mut W, sums: &Sums, compares: bool) -> Result<(), WriteFault>
     ensures front { WritesFront (W.contents out.old) (W.contents out.new) (ended (sums_words compares sums.now)) result }
-    ensures cause { OnErr result (W.facts out.old).refuses }
+    ensures cause { OnErr result (HasFailed W.facts) }
 {
     sums_line(sums, compares).put(out)
 }
@@ -203,6 +204,7 @@ fn tell_sums<W: Output>(out: &mut W, sums: &Sums, compares: bool) -> Result<(), 
 pub(crate) fn put_cut<W: Output>(out: &mut W, fault: ReadFault) -> Result<bool, WriteFault>
     ensures cut { IfOk result (λ done. (done ≡ false) × Appends (W.contents out.old) (W.contents out.new) (ended (cut_words fault))) }
     ensures front { OnErr result (HasFront (W.contents out.old) (W.contents out.new) (ended (cut_words fault))) }
+    ensures cause { OnErr result (HasFailed W.facts) }
 {
     match tell_cut(out, fault) {
         Ok(()) => Ok(false),
@@ -221,7 +223,8 @@ pub(crate) fn tell_games<T: GameTeller, W: Output>(
     compares: bool,
     out: &mut W,
 ) -> Result<bool, WriteFault>
-    ensures { GamesTo (T.tells teller.old) stamps.now compares (W.contents out.old) (W.contents out.new) result }
+    ensures told { GamesTo (T.tells teller.old) stamps.now compares (W.contents out.old) (W.contents out.new) result }
+    ensures cause { OnErr result (HasFailed W.facts) }
 {
     match tell_each(teller, stamps, out) {
         Ok(sums) => match tell_sums(out, &sums, compares) {

@@ -6,7 +6,7 @@ ghost use Rattle.board_core.specs.declared.moves.Move.{Move as Moves};
 ghost use Rattle.board_core.specs.Delays.{most_delay};
 ghost use Rattle.fen_text.specs.Coordinates.{SpellsMove};
 ghost use Rattle.judge_core.specs.Games.{Rules};
-ghost use Rattle.line_teller.specs.ToldLines.{TellsInTurn, stops_by};
+ghost use Rattle.line_teller.specs.ToldLines.{HasFailed, TellsInTurn, stops_by};
 ghost use Rattle.system_io.specs.declared.reading.ReadFault.{ReadFault};
 ghost use Rattle.game_teller.specs.Agreements.{AgreesIfKnown};
 ghost use Rattle.game_teller.specs.Followings.{FollowsInTurn, FollowsTo, rules_by};
@@ -98,6 +98,7 @@ impl<'a> Course<'a> {
         requires { self.now.delay ≤ most_delay }
         ensures ply { IfOk result (PutsPly self.now.delay number self.now.standing (W.contents out.old) (W.contents out.new)) }
         ensures front { OnErr result (CutsPly self.now.delay number self.now.standing (W.contents out.old) (W.contents out.new)) }
+        ensures cause { OnErr result (HasFailed W.facts) }
         ensures gone { OnOk result (W.facts out.new).gone }
     {
         let verdict = self.standing.verdict(self.delay);
@@ -118,6 +119,7 @@ impl<'a> Course<'a> {
         requires more { number < 2 ^ 64 - 1 }
         ensures steps { IfOk result (LineSteps self.old.set.tables self.old.delay number self.old.standing line.now self.new.standing (W.contents out.old) (W.contents out.new)) }
         ensures front { OnErr result (LineCuts self.old.set.tables self.old.delay number self.old.standing line.now self.new.standing (W.contents out.old) (W.contents out.new)) }
+        ensures cause { OnErr result (HasFailed W.facts) }
         ensures gone { IfOk result (λ step. (v : Option Verdict) → step ≡ Step.Told v → (W.facts out.new).gone) }
         ensures set { self.new.set ≡ self.old.set }
         ensures delay { self.new.delay ≡ self.old.delay }
@@ -148,6 +150,7 @@ impl<'a> Course<'a> {
         requires gone { (W.facts out.old).gone }
         ensures steps { IfOk result (Steps (L.facts reader.old) (L.facts reader.new).left self.old number self.new.standing (W.contents out.old) (W.contents out.new)) }
         ensures front { OnErr result (StepCuts (L.facts reader.old) (L.facts reader.new).left self.old number self.new.standing (W.contents out.old) (W.contents out.new)) }
+        ensures cause { OnErr result (HasFailed W.facts) }
         ensures gone { IfOk result (λ step. (v : Option Verdict) → step ≡ Step.Told v → (W.facts out.new).gone) }
         ensures reader { (fault : ReadFault) → stops_by (L.facts reader.new) fault → stops_by (L.facts reader.old) fault }
         ensures set { self.new.set ≡ self.old.set }
@@ -174,6 +177,7 @@ impl<'a> Course<'a> {
         requires gone { (W.facts out.old).gone }
         ensures follows { (rules : Rules) (before : Option (List ℕ)) → rules.tables ≡ self.old.set.tables → rules.delay ≡ self.old.delay
             → HasBegun rules self.old.standing before (W.contents out.old) → FollowsTo rules (stops_by (L.facts reader.old)) (L.facts reader.old).left before (W.contents out.new) result }
+        ensures cause { OnErr result (HasFailed W.facts) }
         ensures turns { OnOk result (TellsInTurn L.facts W.facts W.contents reader.old out.old out.new) }
     {
         let mut line = Vec::new(self.alloc);
@@ -204,6 +208,7 @@ fn follow_moves<L: LineReader, W: Output>(
 ) -> Result<bool, WriteFault>
     requires { delay ≤ most_delay }
     ensures follows { FollowsTo (rules_by start.now set.entry.tables delay) (stops_by (L.facts reader.old)) (L.facts reader.old).left (W.contents out.old) (W.contents out.new) result }
+    ensures cause { OnErr result (HasFailed W.facts) }
     ensures turns { OnOk result (FollowsInTurn L.facts W.facts W.contents reader.old out.old out.new) }
 {
     let standing = match set.begin(alloc, start) {
@@ -248,6 +253,9 @@ pub fn follow_game<L: LineReader, W: Output>(
     // Each ply is told up to the first verdict. Where the writer fails, the lines before are written whole, none of which tells a verdict,
     // and a front of the last.
     ensures follows { FollowsTo (rules_by start.now set.entry.tables delay) (stops_by (L.facts reader.old)) (L.facts reader.old).left (W.contents out.old) (W.contents out.new) result }
+
+    // The error is that of the writer: it refused a write, or what was written couldn't go out.
+    ensures cause { OnErr result (HasFailed W.facts) }
 
     // The last line is that of the outcome of the whole game.
     ensures as_game { IfOk result (λ done. AgreesIfKnown (rules_by start.now set.entry.tables delay) (L.facts reader.old).left (W.contents out.old) (W.contents out.new)) }

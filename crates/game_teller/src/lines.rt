@@ -5,6 +5,7 @@ ghost use Rattle.std.specs.Fmt.{decimal};
 ghost use Rattle.judge_core.specs.Words.{verdict_words};
 ghost use Rattle.move_msg.specs.TextLines.{ended};
 ghost use Rattle.game_teller.specs.Plies.{ply_words, stop_words};
+ghost use Rattle.line_teller.specs.ToldLines.{HasFailed};
 ghost use Rattle.system_io.specs.Outputs.{WritesFront};
 
 use board_core::{Position, Verdict};
@@ -51,7 +52,7 @@ fn stop_line(stop: Stop) -> LineWords
 /// Writes why no more is told. The error is that of the writer, which refused a write; a front of that is written then.
 pub(crate) fn put_stop<W: Output>(out: &mut W, stop: Stop) -> Result<(), WriteFault>
     ensures front { WritesFront (W.contents out.old) (W.contents out.new) (ended (stop_words stop)) result }
-    ensures cause { OnErr result (W.facts out.old).refuses }
+    ensures cause { OnErr result (HasFailed W.facts) }
 {
     stop_line(stop).put(out)
 }
@@ -86,6 +87,7 @@ pub(crate) fn put_ply_now<W: Output>(
 ) -> Result<(), WriteFault>
     ensures front { WritesFront (W.contents out.old) (W.contents out.new) (ended (ply_words number verdict position.now)) result }
     ensures gone { OnOk result (W.facts out.new).gone }
+    ensures cause { OnErr result (HasFailed W.facts) }
 {
     match ply_line(number, verdict, position).put(out) {
         Ok(()) => out.flush_all(),

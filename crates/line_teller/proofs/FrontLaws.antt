@@ -1,5 +1,5 @@
 -- Fronts of what is written in parts.
-use Rattle.std.proofs.Common.{◌≡◌, ◌∙◌, ℕ, ◌+◌, ◌≤◌, ◌<◌, ◌++◌, List, [], ◌∷◌, length, Option, take, subst, sym, ap, append-nil, arith, inl, inr}
+use Rattle.std.proofs.Common.{◌∙◌, ℕ, ◌+◌, ◌++◌, List, [], ◌∷◌, length, Option, take, subst, sym, ap, append-nil, arith, inl, inr}
 use Rattle.std.specs.Prelude.{Result, Ok, Err}
 use Rattle.std.specs.Io.KnownBytes.{Appends, Keeps}
 use Rattle.std.proofs.KnownBytes.{Appends-kept, Appends-nil, Appends-trans}

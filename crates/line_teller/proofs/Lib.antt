@@ -1,2 +1,3 @@
 pub mod TellLaws
 pub mod FrontLaws
+pub mod FailLaws

@@ -42,6 +42,11 @@ WritesTold IsTold old new done = (words : List ℕ) × IsTold (record { words = 
 abbrev pub HasFront : Option (List ℕ) → Option (List ℕ) → List ℕ → Type 0
 HasFront old new text = (n : ℕ) × Appends old new (take n text)
 
+-- a writer failed: at some moment it refused a write, or some of what was written couldn't go out
+pub record HasFailed {W : Type 0} (facts : W → OutputFacts) : Type 0 where
+  pub at : W
+  pub so : (facts at).refuses ⊎ (facts at).stuck
+
 -- of what is told of one line a front was written
 abbrev pub CutsTold : (LineTold → Type 0) → Option (List ℕ) → Option (List ℕ) → Type 0
 CutsTold IsTold old new = (told : LineTold) × IsTold told × HasFront old new (ended told.words)

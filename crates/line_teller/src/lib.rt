@@ -11,8 +11,8 @@
 //! - CLAIM: `tell_lines`, clauses `written`, `same`: where an answer is returned, the answers to the lines that were read are
 //!   written in turn, up to the input's end. Or a refusal follows the whole lines before and nothing after it: `refused memory`
 //!   at a line that takes memory or for whose bytes there was none, `refused files` where the input fails or after 2^64 - 1
-//!   lines. After an error the lines before are whole, and of the last a front is written. That it comes only of a writer that
-//!   failed is no clause.
+//!   lines. After an error the lines before are whole, and of the last a front is written.
+//! - CLAIM: `tell_lines`, clause `cause`: an error comes only of a writer that refused a write, or of which some can't go out.
 //! - CLAIM: `tell_lines`, clause `same_text`: where the input's bytes are known these are the lines of the whole text.
 //! - CLAIM: `tell_lines`, clause `turns`: before each line that came, a whole one had come already or all answers had gone out.
 //!   Of the last wait, at which the input ends or fails, this is no clause.

@@ -5,7 +5,7 @@ ghost use Rattle.std.specs.Io.KnownBytes.{Appends, Keeps};
 ghost use Rattle.move_msg.specs.TextLines.{ended};
 ghost use Rattle.system_io.specs.Outputs.{WritesFront};
 ghost use Rattle.system_io.specs.declared.reading.ReadFault.{ReadFault};
-ghost use Rattle.line_teller.specs.ToldLines.{CutsTold, HasFront, LineCut, LineTells, LineTold, MayWait, StepCut, StepTells, TellsInTurn, TellsNoMore, TellsRead, WritesIfKnown, WritesTold, cut_words, done_words, stops_by};
+ghost use Rattle.line_teller.specs.ToldLines.{CutsTold, HasFailed, HasFront, LineCut, LineTells, LineTold, MayWait, StepCut, StepTells, TellsInTurn, TellsNoMore, TellsRead, WritesIfKnown, WritesTold, cut_words, done_words, stops_by};
 
 use std::alloc::Global;
 use std::io::Write;
@@ -34,12 +34,13 @@ pub trait Teller {
     /// Writes the answer to a line, with a line feed after it, and returns whether it is complete. An answer given
     /// later could have been given before.
     ///
-    /// `OutOfMemory` comes only for a line that takes memory, and nothing of the answer is written then. After `Io` a
-    /// front of it is, and nothing else.
+    /// `OutOfMemory` comes only for a line that takes memory, and nothing of the answer is written then. `Io` comes only where the
+    /// writer failed. A front of the answer is written then, and nothing else.
     fn tell<W: Output>(&mut self, line: &[u8], out: &mut W) -> Result<bool, TellFault>
         ensures told { IfOk result (WritesTold (tells self.old line.now) (W.contents out.old) (W.contents out.new)) }
         ensures memory { IsErrOf result TellFault.OutOfMemory → takes_memory line.now × (W.contents out.new ≡ W.contents out.old) }
         ensures front { IsErrOf result TellFault.Io → CutsTold (tells self.old line.now) (W.contents out.old) (W.contents out.new) }
+        ensures cause { IsErrOf result TellFault.Io → HasFailed W.facts }
         ensures same { TellsNoMore (tells self.old) (tells self.new) };
 }
 
@@ -101,6 +102,7 @@ pub fn tell_cut<W: Output>(out: &mut W, fault: ReadFault) -> Result<(), WriteFau
 fn put_cut<W: Output>(out: &mut W, fault: ReadFault) -> Result<Step, WriteFault>
     ensures cut { IfOk result (λ step. (step ≡ Step.Cut) × Appends (W.contents out.old) (W.contents out.new) (ended (cut_words fault))) }
     ensures front { OnErr result (HasFront (W.contents out.old) (W.contents out.new) (ended (cut_words fault))) }
+    ensures cause { OnErr result (HasFailed W.facts) }
 {
     match tell_cut(out, fault) {
         Ok(()) => Ok(Step::Cut),
@@ -116,6 +118,7 @@ fn tell_line<T: Teller, W: Output>(
 ) -> Result<Step, WriteFault>
     ensures told { IfOk result (LineTells (T.tells teller.old line.now) (T.takes_memory line.now) (W.contents out.old) (W.contents out.new)) }
     ensures front { OnErr result (LineCut (T.tells teller.old line.now) (T.takes_memory line.now) (W.contents out.old) (W.contents out.new)) }
+    ensures cause { OnErr result (HasFailed W.facts) }
     ensures same { TellsNoMore (T.tells teller.old) (T.tells teller.new) }
 {
     match teller.tell(line, out) {
@@ -136,6 +139,7 @@ fn tell_next<T: Teller, L: LineReader, W: Output>(
     requires { MayWait (L.facts reader.old) (W.facts out.old) }
     ensures told { IfOk result (StepTells (T.tells teller.old) T.takes_memory (L.facts reader.old) (L.facts reader.new).left (W.contents out.old) (W.contents out.new)) }
     ensures front { OnErr result (StepCut (T.tells teller.old) T.takes_memory (L.facts reader.old) (L.facts reader.new).left (W.contents out.old) (W.contents out.new)) }
+    ensures cause { OnErr result (HasFailed W.facts) }
     ensures reader { (fault : ReadFault) → stops_by (L.facts reader.new) fault → stops_by (L.facts reader.old) fault }
     ensures same { TellsNoMore (T.tells teller.old) (T.tells teller.new) }
 {
@@ -150,6 +154,7 @@ fn tell_next<T: Teller, L: LineReader, W: Output>(
 fn flush_before_wait<L: LineReader, W: Output>(reader: &L, out: &mut W) -> Result<(), WriteFault>
     ensures kept { Keeps (W.contents out.old) (W.contents out.new) }
     ensures may_wait { OnOk result (MayWait (L.facts reader.now) (W.facts out.new)) }
+    ensures cause { OnErr result (HasFailed W.facts) }
 {
     if reader.has_line() {
         return Ok(());
@@ -166,8 +171,8 @@ fn flush_before_wait<L: LineReader, W: Output>(reader: &L, out: &mut W) -> Resul
 /// false.
 ///
 /// With `progress` a line such as `20000 done` goes to `errors` after every 10,000 lines. Without it nothing is written
-/// there. A failure there changes nothing. The error comes where the writer of the lines fails, or the teller says that
-/// it did. The lines before are whole then, and of the last a front is written.
+/// there. A failure there changes nothing. The error comes only where the writer of the lines failed. The lines before are whole then,
+/// and of the last a front is written.
 pub fn tell_lines<T: Teller, L: LineReader, W: Output, E: Write>(
     alloc: Global,
     teller: &mut T,
@@ -178,6 +183,9 @@ pub fn tell_lines<T: Teller, L: LineReader, W: Output, E: Write>(
 ) -> Result<bool, WriteFault>
     // The lines that were read are answered. Where the writer fails, those before are written whole, and a front of the last.
     ensures written { TellsRead (T.tells teller.old) T.takes_memory (stops_by (L.facts reader.old)) (L.facts reader.old).left (W.contents out.old) (W.contents out.new) result }
+
+    // The error is that of the writer: it refused a write, or what was written couldn't go out.
+    ensures cause { OnErr result (HasFailed W.facts) }
 
     // Where the reader's bytes are stated, these are the lines of the whole text, or those until it was cut short.
     ensures same_text { IfOk result (WritesIfKnown (T.tells teller.old) T.takes_memory (L.facts reader.old) (W.contents out.old) (W.contents out.new)) }

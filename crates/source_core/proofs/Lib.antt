@@ -3,3 +3,4 @@ pub mod ReportLaws
 pub mod BoardLaws
 pub mod TurnLaws
 pub mod SendingLaws
+pub mod LineLaws

@@ -1,6 +1,5 @@
 -- What comes in one try, and tries one after the other.
 use Rattle.std.proofs.Common.{◌≡◌, ◌⊎◌, ℕ, zero, suc, ◌+◌, ◌≤◌, true, false, List, [], ◌∷◌, ◌++◌, length, Option, Some, None, refl, sym, ap, subst, ◌∙◌, append_assoc, append-nil, length-append, arith, inl, inr}
-use Rattle.std.specs.declared.time.Duration.{Duration}
 use Rattle.std.specs.List.{AllByRecursion}
 use Rattle.std.proofs.lemmas.List.Concat.{flat_map-append}
 use Rattle.board_core.specs.declared.moves.Move.{Move as Moves}
@@ -15,10 +14,10 @@ use Rattle.source_core.specs.declared.turn.Next.TheVariants as next
 use Rattle.source_core.specs.declared.turn.Terms.{Terms}
 use Rattle.source_core.specs.declared.turn.Turn.{Turn}
 use Rattle.source_core.specs.declared.turn.Turn.TheVariants as at_turn
-use Rattle.system_io.specs.Ports.{Passing, Came, Quiet, Missed, Handed, PortFacts, Passed, to_each}
-use Rattle.source_core.specs.Reports.{Knows, StandsSo, IsAcked}
+use Rattle.system_io.specs.Ports.{Passing, Came, Quiet, Handed, PortFacts, Passed, to_each}
+use Rattle.source_core.specs.Reports.{Knows, StandsSo}
 use Rattle.source_core.specs.Sendings.{again}
-use Rattle.source_core.specs.Turns.{AllButLastWaited, ComesTo, EachWaitsSoLong, ForAnswers, ForVerdicts, HasWaited, IsReceived, HasSpelling, IsTurn, IsWait, Learns, WaitsSoLong, most_answers, one_try, move_message, tries_of, try_nanos}
+use Rattle.source_core.specs.Turns.{AllButLastWaited, ComesTo, EachWaitsSoLong, ForAnswers, ForVerdicts, HasWaited, IsReceived, HasSpelling, IsTurn, IsWait, Learns, WaitsSoLong, most_answers, one_try, move_message, tries_of}
 use Rattle.source_core.specs.Inside.Steps.{EndsIf, HasEnded, HasTriedOnce, IsLast, IsWaitBy, TryLearns, TryWaits, Waits, is_ruled, loss_by, wait_by}
 use Rattle.source_core.proofs.PortLaws.{Passed-nil, Passed-trans}
 use Rattle.source_core.proofs.ReportLaws.{ReportsNothing, is_acked, is_ruled_so, is_unsettled, knows_past}

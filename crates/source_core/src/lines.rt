@@ -1,15 +1,17 @@
 //! The lines of a run.
 
-ghost use Rattle.std.specs.Prelude.{◌≡◌, Some, IfSome, OnOk};
-ghost use Rattle.std.specs.Fmt.{DisplaysOnOk};
+ghost use Rattle.std.specs.Prelude.{◌≡◌, ◌≤◌, ◌+◌, ◌++◌, OnErr, OnOk, length};
+ghost use Rattle.std.specs.Fmt.{decimal};
+ghost use Rattle.board_core.specs.Verdicts.{verdict_name};
+ghost use Rattle.line_teller.specs.ToldLines.{HasFailed};
 ghost use Rattle.move_msg.specs.TextLines.{ended};
 ghost use Rattle.system_io.specs.Outputs.{WritesFront};
-ghost use Rattle.source_core.specs.Lines.{clash_words, end_words, ended_by, ended_status, line_words, ruling_words, status_by};
+ghost use Rattle.source_core.specs.Lines.{acked_words, clash_words, end_words, ended_by, ended_status, line_words, ruling_words, status_by};
 
 use crate::known::{Clash, Known};
 use crate::report::Ruling;
-use arrayvec::ArrayString;
-use std::fmt::{self, Write as _};
+use board_core::Verdict;
+use line_teller::LineWords;
 use system_io::{Output, WriteFault};
 
 /// The end of a run.
@@ -91,88 +93,103 @@ impl End {
     }
 }
 
-impl fmt::Display for Ruling {
-    ghost use Rattle.std.specs.Prelude.{Some};
-    ghost use Rattle.system_io.specs.Outputs.{WritesFront};
-    ghost use Rattle.source_core.specs.Lines.{ruling_words};
+/// The name of a verdict.
+fn name_of(verdict: Verdict) -> &'static str
+    ensures is { result.now ≡ verdict_name verdict }
+    ensures short { length result.now ≤ 10 }
+{
+    verdict.name()
+}
 
-    ghost output = { λ r. Some (ruling_words r) };
+/// Adds the ply of a verdict, and its name.
+fn add_ruling(line: &mut LineWords, ruling: Ruling)
+    requires { length line.old ≤ 200 }
+    ensures is { line.new ≡ line.old ++ ruling_words ruling }
+    ensures size { length line.new ≤ length line.old + 51 }
+{
+    line.add_number(ruling.ply);
+    line.add(" ");
+    line.add(name_of(ruling.verdict));
+}
 
-    fn fmt<W: fmt::Write>(&self, f: &mut fmt::Formatter<W>) -> fmt::Result {
-        let ply = self.ply;
-        let name = self.verdict.name();
-        write!(f, "{ply} {name}")
-    }
+/// Words, and a verdict behind them.
+fn ruled(words: &str, ruling: Ruling) -> LineWords
+    requires { length words.now ≤ 20 }
+    ensures is { result ≡ words.now ++ ruling_words ruling }
+    ensures size { length result ≤ 71 }
+{
+    let mut line = LineWords::of(words);
+    add_ruling(&mut line, ruling);
+    line
 }
 
 /// The words for two verdicts that differ.
-fn fmt_clash<W: fmt::Write>(f: &mut fmt::Formatter<W>, clash: &Clash) -> fmt::Result
-    ensures { DisplaysOnOk W.Write.write_str_gives f.old result (Some (clash_words clash.now)) f.new }
+fn clash_line(clash: &Clash) -> LineWords
+    ensures { result ≡ clash_words clash.now }
 {
-    let first = clash.first;
-    let second = clash.second;
-    write!(f, "disagree {first} {second}")
+    let mut line = ruled("disagree ", clash.first);
+    line.add(" ");
+    add_ruling(&mut line, clash.second);
+    line
 }
 
-impl fmt::Display for End {
-    ghost use Rattle.std.specs.Prelude.{Some};
-    ghost use Rattle.system_io.specs.Outputs.{WritesFront};
-    ghost use Rattle.source_core.specs.Lines.{end_words};
-
-    ghost output = { λ e. Some (end_words e) };
-
-    fn fmt<W: fmt::Write>(&self, f: &mut fmt::Formatter<W>) -> fmt::Result {
-        match self {
-            End::Open(count) => write!(f, "open {count}"),
-            End::Ruled(ruling) => write!(f, "verdict {ruling}"),
-            End::Clashed(clash) => fmt_clash(f, clash),
-            End::Belied(ruling) => write!(f, "disagree {ruling}"),
-            End::NotAMove(number) => write!(f, "refused move {number}"),
-            End::Illegal(number) => write!(f, "illegal {number}"),
-            End::TooLong => f.write_str("refused TooLong"),
-            End::Lost => f.write_str("refused lost"),
-            End::PortLost => f.write_str("refused port"),
-            End::Unread => f.write_str("refused files"),
-            End::OutOfMemory => f.write_str("refused memory"),
-        }
-    }
-}
-
-impl fmt::Display for Line {
-    ghost use Rattle.std.specs.Prelude.{Some};
-    ghost use Rattle.system_io.specs.Outputs.{WritesFront};
-    ghost use Rattle.source_core.specs.Lines.{line_words};
-
-    ghost output = { λ l. Some (line_words l) };
-
-    fn fmt<W: fmt::Write>(&self, f: &mut fmt::Formatter<W>) -> fmt::Result {
-        match self {
-            Line::Acked(count) => write!(f, "{count} acked"),
-            Line::Ends(end) => fmt::Display::fmt(end, f),
-        }
-    }
-}
-
-/// The text of a line with its line feed; none where it has more than 64 bytes, which no line has.
-fn text_of(line: &Line) -> Option<ArrayString<64>>
-    ensures { IfSome result (λ t. t.bytes ≡ ended (line_words line.now)) }
+/// Words, and a number behind them.
+fn numbered(words: &str, number: u32) -> LineWords
+    requires { length words.now ≤ 20 }
+    ensures { result ≡ words.now ++ decimal number }
 {
-    let mut text = ArrayString::new();
-    match writeln!(text, "{line}") {
-        Ok(()) => Some(text),
-        Err(_) => None,
+    let mut line = LineWords::new();
+    line.add_counted(words, number);
+    line
+}
+
+/// The line with which a run ends.
+fn end_line(end: &End) -> LineWords
+    ensures { result ≡ end_words end.now }
+{
+    match end {
+        End::Open(count) => numbered("open ", *count),
+        End::Ruled(ruling) => ruled("verdict ", *ruling),
+        End::Clashed(clash) => clash_line(clash),
+        End::Belied(ruling) => ruled("disagree ", *ruling),
+        End::NotAMove(number) => numbered("refused move ", *number),
+        End::Illegal(number) => numbered("illegal ", *number),
+        End::TooLong => LineWords::of("refused TooLong"),
+        End::Lost => LineWords::of("refused lost"),
+        End::PortLost => LineWords::of("refused port"),
+        End::Unread => LineWords::of("refused files"),
+        End::OutOfMemory => LineWords::of("refused memory"),
     }
 }
 
-/// Writes a line, and flushes it.
+/// The line that says how many moves both have acknowledged.
+fn acked_line(count: u32) -> LineWords
+    ensures { result ≡ acked_words count }
+{
+    let mut line = LineWords::new();
+    line.add_number(count);
+    line.add(" acked");
+    line
+}
+
+/// The words of a line.
+fn words_of(line: &Line) -> LineWords
+    ensures { result ≡ line_words line.now }
+{
+    match line {
+        Line::Acked(count) => acked_line(*count),
+        Line::Ends(end) => end_line(end),
+    }
+}
+
+/// Writes a line at once, and flushes it. The error is that of the writer, which refused a write, or from which the line can't go out; a
+/// front of it is written then.
 pub(crate) fn put_now<W: Output>(out: &mut W, line: &Line) -> Result<(), WriteFault>
     ensures front { WritesFront (W.contents out.old) (W.contents out.new) (ended (line_words line.now)) result }
     ensures gone { OnOk result (W.facts out.new).gone }
+    ensures cause { OnErr result (HasFailed W.facts) }
 {
-    let Some(text) = text_of(line) else {
-        return Err(WriteFault::Io);
-    };
-    match out.put(text.as_bytes()) {
+    match words_of(line).put(out) {
         Ok(()) => out.flush_all(),
         Err(fault) => Err(fault),
     }

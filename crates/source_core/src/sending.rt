@@ -1,6 +1,7 @@
 //! A run of a source.
 
-ghost use Rattle.std.specs.Prelude.{◌≡◌, ◌≤◌, IfOk, IfErr, OnOk};
+ghost use Rattle.std.specs.Prelude.{◌≡◌, ◌≤◌, IfOk, IfErr, OnErr, OnOk};
+ghost use Rattle.line_teller.specs.ToldLines.{HasFailed};
 ghost use Rattle.source_core.specs.Sendings.{IsRefusedLine, SendsLines};
 ghost use Rattle.source_core.specs.Inside.Steps.{Closes, EndsAt, IsPlayed, StepsAt, StepsOn, begun_at, end_by};
 ghost use Rattle.system_io.specs.Outputs.{WritesFront};
@@ -161,6 +162,7 @@ fn finish<W: Output>(out: &mut W, end: End, known: &Known) -> Result<Ended, Writ
     ensures ended { IfOk result (λ ended. ended ≡ ended_by end known.now) }
     ensures front { WritesFront (W.contents out.old) (W.contents out.new) (ended (end_words end)) result }
     ensures gone { OnOk result (W.facts out.new).gone }
+    ensures cause { OnErr result (HasFailed W.facts) }
 {
     match put_now(out, &Line::Ends(end)) {
         Ok(()) => Ok(end.ended(known)),
@@ -193,6 +195,9 @@ pub fn send_game<L: LineReader, P: Port, W: Output>(
 
     // All of them have gone out.
     ensures gone { OnOk result (W.facts out.new).gone }
+
+    // The error is that of the writer: it refused a write, or a line couldn't go out.
+    ensures cause { OnErr result (HasFailed W.facts) }
 {
     let mut line = Vec::new(alloc);
     let mut course = begun_at(start);
