@@ -67,6 +67,11 @@ pub sent : (e : Result Ended WriteFault) (r : Result ℕ WriteFault) → IfOk e 
 sent (Ok x) r is other = is
 sent (Err fault) r is other = other
 
+-- an error of the writer is one of the source's run
+pub sent_failed : (P : Type 0) (e : Result Ended WriteFault) (r : Result ℕ WriteFault) → IfOk e (λ x. r ≡ Ok (ended_status x)) → IfErr e (λ fault. r ≡ Err fault) → OnErr e P → OnErr r P
+sent_failed P (Ok x) r is other failed = subst (λ y. OnErr y P) (sym is) tt
+sent_failed P (Err fault) r is other failed = subst (λ y. OnErr y P) (sym other) failed
+
 -- who was silent is told, or nothing
 pub told_or_quiet : {E : Type 0} (facts : E → OutputFacts) (contents : E → Option (List ℕ)) (old new : E) (t : Send) (e : Result Ended WriteFault) (r : Result ℕ WriteFault) → IfOk e (TellsSilence facts contents old new) → OnErr e (new ≡ old) → IfOk e (λ x. r ≡ Ok (ended_status x)) → TellsIfLost facts contents old new (task.Send t) r
 told_or_quiet facts contents old new t (Ok (run.With status)) r told quiet is = inl told

@@ -1,10 +1,11 @@
 -- Lines that went out at a writer, by what is written.
-use Rattle.std.proofs.Common.{◌≡◌, ◌∙◌, ◌+◌, ◌++◌, ℕ, List, [], ◌∷◌, Option, length, length-append, take, ap, subst, sym, arith}
-use Rattle.std.specs.Prelude.{Result, Ok, Err, get_or}
+use Rattle.std.proofs.Common.{◌≡◌, ◌++◌, ℕ, List, [], ◌∷◌, Option, length, length-append, take, ap, subst, sym, arith, inl, inr}
+use Rattle.std.specs.Prelude.{Result, Ok, Err, OnErr, get_or}
 use Rattle.std.specs.Io.KnownBytes.{Appends}
 use Rattle.std.proofs.KnownBytes.{Appends-nil, Appends-trans}
 use Rattle.arbiter_server.specs.GoingOut.{GoOut, LastIsCut, LinesEnd, Writers}
-use Rattle.line_teller.specs.ToldLines.{HasFront}
+use Rattle.line_teller.specs.ToldLines.{HasFailed, HasFront}
+use Rattle.line_teller.proofs.FailLaws.{refused, stuck}
 use Rattle.move_msg.specs.TextLines.{ended, text_of}
 use Rattle.source_core.specs.Lines.{IsCut}
 use Rattle.system_io.specs.declared.output.WriteFault.{WriteFault}
@@ -45,3 +46,15 @@ module _ {W : Type 0} (w : Writers W) where
   pub lines_to : {T : Type 0} (out now : W) (lines : List (List ℕ)) (r : Result T WriteFault) → LinesEnd w out lines now r → WritesTo lines (w.written out) (w.written now) r
   lines_to out now lines (Ok x) h = lines_written out now lines h
   lines_to out now lines (Err fault) h = lines_cut out now lines h
+
+  -- where one was cut short, the writer failed
+  pub cut_failed : (out now : W) (lines : List (List ℕ)) → LastIsCut w out lines now → HasFailed w.output
+  cut_failed out now lines h =
+      elim h.cut.cause [
+        | inl refuses ↦ refused w.output h.at refuses
+        | inr is_stuck ↦ stuck w.output now is_stuck
+      ]
+
+  pub ends_failed : {T : Type 0} (out now : W) (lines : List (List ℕ)) (r : Result T WriteFault) → LinesEnd w out lines now r → OnErr r (HasFailed w.output)
+  ends_failed out now lines (Ok x) h = tt
+  ends_failed out now lines (Err fault) h = cut_failed out now lines h

@@ -5,8 +5,7 @@ use Rattle.std.specs.List.{AllByRecursion}
 use Rattle.system_io.specs.Disks.{DiskFacts}
 use Rattle.system_io.specs.Histories.{Passes}
 use Rattle.system_io.specs.Hosts.{FileAt, LockAt, Made, PortAt}
-use Rattle.system_io.specs.Inputs.{InputFacts}
-use Rattle.system_io.specs.Ports.{Came, Handed, Missed, Passing, PortFacts, Quiet}
+use Rattle.system_io.specs.Ports.{PortFacts}
 use Rattle.system_io.specs.declared.output.WriteFault.{WriteFault}
 use Rattle.system_io.proofs.HistoryLaws.{Passes-nil, Passes-trans}
 use Rattle.arbiter_core.specs.Setups.{SetupView}
@@ -40,7 +39,6 @@ use Rattle.adjudicate_core.specs.declared.commands.host.HostGames.{HostGames}
 use Rattle.adjudicate_core.specs.declared.commands.listen.Listen.{Listen}
 use Rattle.adjudicate_core.specs.declared.commands.send.Send.{Send}
 use Rattle.adjudicate_core.specs.declared.usage.WordsFault.{WordsFault}
-use Rattle.std.specs.Borrow.{Bor}
 
 -- ---- nothing
 
@@ -120,14 +118,14 @@ listen_makes host seen l given had has old new r (listening.Opened start spells 
 
 -- ---- `send`
 
-bound_sends : {P F : Type 0} (host : listening.Hosted P F) (source : InputFacts) (t : Send) (stamp : Stamp) (start : Parts) (had has : Option (List Made)) (old new : Option (List ℕ)) (r : Result Ended WriteFault) → sending.BindsAndSends host source t stamp start had has old new r → Within (of_send t) had has
-bound_sends host source t stamp start had has old new r (sending.Unbound made why told) = within_none _ had has made
-bound_sends host source t stamp start had has old new r (sending.NoRoomToBind made why told) = within_none _ had has made
-bound_sends host source t stamp start had has old new r (sending.Bound made port port' bound each terms on h) = within_last [] _ had has made
+bound_sends : {P F : Type 0} (out : Outside P F) (t : Send) (stamp : Stamp) (start : Parts) (old new : Option (List ℕ)) (r : Result Ended WriteFault) → sending.BindsAndSends out t stamp start old new r → Within (of_send t) out.had out.has
+bound_sends out t stamp start old new r (sending.Unbound made why told) = within_none _ out.had out.has made
+bound_sends out t stamp start old new r (sending.NoRoomToBind made why told) = within_none _ out.had out.has made
+bound_sends out t stamp start old new r (sending.Bound made port port' bound each terms on h) = within_last [] _ out.had out.has made
 
-pub send_makes : {P F : Type 0} (disk : DiskFacts) (source : InputFacts) (host : listening.Hosted P F) (t : Send) (had has : Option (List Made)) (old new : Option (List ℕ)) (r : Result Ended WriteFault) → sending.Sends disk source host t had has old new r → MakesFor (task.Send t) had has
-send_makes disk source host t had has old new r (sending.NoGame made words lacks told) = within_none _ had has made
-send_makes disk source host t had has old new r (sending.Stamped start stamp is h) = bound_sends host source t stamp start had has old new r h
+pub send_makes : {P F : Type 0} (out : Outside P F) (t : Send) (old new : Option (List ℕ)) (r : Result Ended WriteFault) → sending.Sends out t old new r → MakesFor (task.Send t) out.had out.has
+send_makes out t old new r (sending.NoGame made words lacks told) = within_none _ out.had out.has made
+send_makes out t old new r (sending.Stamped start stamp is h) = bound_sends out t stamp start old new r h
 
 -- ---- `host`
 

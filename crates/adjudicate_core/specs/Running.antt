@@ -1,5 +1,5 @@
 -- The answer of the program to its words and to what it reads (this project's own).
-use Rattle.std.specs.Prelude.{◌≡◌, ℕ, List, Option, Some, None, Result, Ok, Err, drop, map, String, Vec, string_bytes}
+use Rattle.std.specs.Prelude.{◌≡◌, ℕ, List, Option, Some, None, Result, Ok, Err, IfOk, drop, map, String, Vec, string_bytes}
 use Rattle.std.specs.Borrow.{Bor}
 use Rattle.std.specs.Global.{Global}
 use Rattle.system_io.specs.Disks.{DiskFacts}
@@ -21,6 +21,7 @@ use Rattle.system_io.specs.Ports.{PortFacts}
 use Rattle.adjudicate_core.specs.Listens.{Listens, hosted, seen_as}
 use Rattle.adjudicate_core.specs.Outsides.{Outside, outside, outside_of}
 use Rattle.adjudicate_core.specs.Sends.{Sends}
+use Rattle.adjudicate_core.specs.Silences.{TellsSilence}
 use Rattle.source_core.specs.declared.lines.Ended.{Ended}
 use Rattle.source_core.specs.Lines.{ended_status}
 use Rattle.adjudicate_core.specs.Enters.{Enters}
@@ -63,36 +64,36 @@ abbrev pub status_ended : Result Ended WriteFault → Result ℕ WriteFault
 status_ended (Ok ended) = Ok (ended_status ended)
 status_ended (Err fault) = Err fault
 
--- what the program answers to a task from what was read for it: `judge`, `probe`, `moves`, `game` and `audit` take memory for a
+-- what the program answers to a task from what was read for it, where so is told how a source's run ends: `judge`, `probe`, `moves`, `game` and `audit` take memory for a
 -- text that is a position, `record` for what is laid out as a record, `list`, `check` and `run` always, `show` and `version` never
-abbrev pub AnswersFrom : {P F : Type 0} → Outside P F → Task → Given → Option (List ℕ) → Option (List ℕ) → Result ℕ WriteFault → Type 0
-AnswersFrom out (task.Judge t) given old new r = AnswersOnce (judges.IsReply t given) (IsText t.fen.now) old new r
-AnswersFrom out (task.Probe t) given old new r = AnswersOnce (probes.IsReply t given) (IsText t.fen.now) old new r
-AnswersFrom out (task.Moves t) given old new r = AnswersOnce (of_moves.IsReply t) (IsText t.fen.now) old new r
-AnswersFrom out (task.List t) given old new r = AnswersRead (lists.IsReply out.disk t) (lists.IsUnread out.disk t) old new r
-AnswersFrom out (task.Check t) given old new r = AnswersRead (checks.IsReply out.disk t) (checks.IsUnread out.disk t) old new r
-AnswersFrom out (task.Show t) given old new r = shows.Answers given old new r
-AnswersFrom out (task.Run t) given old new r = AnswersOnce (runs.IsReply t given) (Unit {0}) old new r
-AnswersFrom out (task.Listen t) given old new r = Listens out.host (seen_as out.host.file r) t given out.had out.has old new r
-AnswersFrom out (task.Probes t) given old new r = PutsByTables (of_probes.TellsLineIn t.json (ask_of t.determined)) out.source given old new r
-AnswersFrom out (task.Game t) given old new r = AnswersOnce (games.IsReply t given) (IsText t.fen.now) old new r
-AnswersFrom out (task.Record t) given old new r = AnswersOnce (records.IsReply given.kept) (records.TakesMemory given.kept) old new r
-AnswersFrom out (task.Audit t) given old new r = AnswersOnce (audits.IsReply t given) (IsText t.start.now) old new r
-AnswersFrom out (task.AuditGames t) given old new r = game_audits.Puts out.disk t given old new r
-AnswersFrom out (task.Version t) given old new r = versions.Answers old new r
-AnswersFrom out (task.Send t) given old new r = (e : Result Ended WriteFault) × (r ≡ status_ended e) × Sends out.disk out.source out.host t out.had out.has old new e
-AnswersFrom out (task.Enter t) given old new r = Enters out t old new r
-AnswersFrom out (task.Host t) given old new r = HostsGames out.disk out.host (seen_hosting (disk_keepers out.disk out.host.host out.host.file)) t given out.had out.has old new r
-AnswersFrom out (task.Root t) given old new r = roots.Puts t.json (ask_of t.determined) out.source t.fen given old new r
-AnswersFrom out (task.Follow t) given old new r = follows.Puts out.source t given old new r
-AnswersFrom out (task.Status t) given old new r = statuses.Puts out.disk t old new r
+abbrev pub AnswersFrom : {P F : Type 0} → Outside P F → (Ended → Type 0) → Task → Given → Option (List ℕ) → Option (List ℕ) → Result ℕ WriteFault → Type 0
+AnswersFrom out Told (task.Judge t) given old new r = AnswersOnce (judges.IsReply t given) (IsText t.fen.now) old new r
+AnswersFrom out Told (task.Probe t) given old new r = AnswersOnce (probes.IsReply t given) (IsText t.fen.now) old new r
+AnswersFrom out Told (task.Moves t) given old new r = AnswersOnce (of_moves.IsReply t) (IsText t.fen.now) old new r
+AnswersFrom out Told (task.List t) given old new r = AnswersRead (lists.IsReply out.disk t) (lists.IsUnread out.disk t) old new r
+AnswersFrom out Told (task.Check t) given old new r = AnswersRead (checks.IsReply out.disk t) (checks.IsUnread out.disk t) old new r
+AnswersFrom out Told (task.Show t) given old new r = shows.Answers given old new r
+AnswersFrom out Told (task.Run t) given old new r = AnswersOnce (runs.IsReply t given) (Unit {0}) old new r
+AnswersFrom out Told (task.Listen t) given old new r = Listens out.host (seen_as out.host.file r) t given out.had out.has old new r
+AnswersFrom out Told (task.Probes t) given old new r = PutsByTables (of_probes.TellsLineIn t.json (ask_of t.determined)) out.source given old new r
+AnswersFrom out Told (task.Game t) given old new r = AnswersOnce (games.IsReply t given) (IsText t.fen.now) old new r
+AnswersFrom out Told (task.Record t) given old new r = AnswersOnce (records.IsReply given.kept) (records.TakesMemory given.kept) old new r
+AnswersFrom out Told (task.Audit t) given old new r = AnswersOnce (audits.IsReply t given) (IsText t.start.now) old new r
+AnswersFrom out Told (task.AuditGames t) given old new r = game_audits.Puts out.disk t given old new r
+AnswersFrom out Told (task.Version t) given old new r = versions.Answers old new r
+AnswersFrom out Told (task.Send t) given old new r = (e : Result Ended WriteFault) × (r ≡ status_ended e) × IfOk e Told × Sends out t old new e
+AnswersFrom out Told (task.Enter t) given old new r = Enters out t old new r
+AnswersFrom out Told (task.Host t) given old new r = HostsGames out.disk out.host (seen_hosting (disk_keepers out.disk out.host.host out.host.file)) t given out.had out.has old new r
+AnswersFrom out Told (task.Root t) given old new r = roots.Puts t.json (ask_of t.determined) out.source t.fen given old new r
+AnswersFrom out Told (task.Follow t) given old new r = follows.Puts out.source t given old new r
+AnswersFrom out Told (task.Status t) given old new r = statuses.Puts out.disk t old new r
 
 -- to a task the program answers from what it reads; or something that it reads for it can't be read; or memory was refused while
 -- it read
-pub data AnswersTask {P F : Type 0} (out : Outside P F) (t : Task) (old new : Option (List ℕ)) (r : Result ℕ WriteFault) : Type 0 where
-  FromGiven : (given : Given) → IsGiven out.disk out.source (named_in t) given → AnswersFrom out t given old new r → AnswersTask out t old new r
-  Unread : CannotRead out.disk out.source (named_in t) → TellsOne refused_files old new r → AnswersTask out t old new r
-  NoMemory : TakesMemory out.source (named_in t) → TellsOne refused_memory old new r → AnswersTask out t old new r
+pub data AnswersTask {P F : Type 0} (out : Outside P F) (Told : Ended → Type 0) (t : Task) (old new : Option (List ℕ)) (r : Result ℕ WriteFault) : Type 0 where
+  FromGiven : (given : Given) → IsGiven out.disk out.source (named_in t) given → AnswersFrom out Told t given old new r → AnswersTask out Told t old new r
+  Unread : CannotRead out.disk out.source (named_in t) → TellsOne refused_files old new r → AnswersTask out Told t old new r
+  NoMemory : TakesMemory out.source (named_in t) → TellsOne refused_memory old new r → AnswersTask out Told t old new r
 
 -- the same with a host whose ports seal by these keys
 abbrev pub sealed_by : {P F : Type 0} → Keys → Outside P F → Outside (SealedView P) F
@@ -100,18 +101,18 @@ sealed_by keys out = outside out.disk out.source (hosted (keyed_host keys out.ho
 
 -- To a task that names no file of keys the program answers with the host as it is. To one that does it answers with that host's ports
 -- sealed by the keys of the file; or it has none, which is told before all else; or memory for them was refused.
-pub data AnswersByKey {P F : Type 0} (out : Outside P F) (t : Task) (old new : Option (List ℕ)) (r : Result ℕ WriteFault) : Type 0 where
-  Bare : key_in t ≡ None → AnswersTask out t old new r → AnswersByKey out t old new r
-  BySeal : (path : List ℕ) → key_in t ≡ Some path → (keys : Keys) → HasKeys out.disk path keys → AnswersTask (sealed_by keys out) t old new r → AnswersByKey out t old new r
-  NoKeys : (path : List ℕ) → key_in t ≡ Some path → (words : List ℕ) → LacksKeys out.disk path words → TellsOne words old new r → AnswersByKey out t old new r
-  NoRoomForKeys : (path : List ℕ) → key_in t ≡ Some path → TellsOne refused_memory old new r → AnswersByKey out t old new r
+pub data AnswersByKey {P F : Type 0} (out : Outside P F) (Told : Ended → Type 0) (t : Task) (old new : Option (List ℕ)) (r : Result ℕ WriteFault) : Type 0 where
+  Bare : key_in t ≡ None → AnswersTask out Told t old new r → AnswersByKey out Told t old new r
+  BySeal : (path : List ℕ) → key_in t ≡ Some path → (keys : Keys) → HasKeys out.disk path keys → AnswersTask (sealed_by keys out) Told t old new r → AnswersByKey out Told t old new r
+  NoKeys : (path : List ℕ) → key_in t ≡ Some path → (words : List ℕ) → LacksKeys out.disk path words → TellsOne words old new r → AnswersByKey out Told t old new r
+  NoRoomForKeys : (path : List ℕ) → key_in t ≡ Some path → TellsOne refused_memory old new r → AnswersByKey out Told t old new r
 
 -- what the program makes of its words: the answer to the task that they name; or they are misused, which is told, and nothing is
 -- written; or memory was refused before there was a task, where they name a command
-pub data Performs {P F : Type 0} (out : Outside P F) (IsTold : Misuse → Type 0) (words : List (List ℕ)) (old new : Option (List ℕ)) (r : Result ℕ WriteFault) : Type 0 where
-  ToTask : (t : Task) → IsTask words t → AnswersByKey out t old new r → Performs out IsTold words old new r
-  ToMisuse : (misuse : Misuse) → IsMisuse words misuse → IsTold misuse → new ≡ old → r ≡ Ok 2 → Performs out IsTold words old new r
-  ToNone : (NamesNone words → ⊥) → TellsOne refused_memory old new r → Performs out IsTold words old new r
+pub data Performs {P F : Type 0} (out : Outside P F) (IsTold : Misuse → Type 0) (Told : Ended → Type 0) (words : List (List ℕ)) (old new : Option (List ℕ)) (r : Result ℕ WriteFault) : Type 0 where
+  ToTask : (t : Task) → IsTask words t → AnswersByKey out Told t old new r → Performs out IsTold Told words old new r
+  ToMisuse : (misuse : Misuse) → IsMisuse words misuse → IsTold misuse → new ≡ old → r ≡ Ok 2 → Performs out IsTold Told words old new r
+  ToNone : (NamesNone words → ⊥) → TellsOne refused_memory old new r → Performs out IsTold Told words old new r
 
 -- the words that a program is called with, or why there are none
 abbrev pub called_by : Result (Vec (String Global) Global) WordsFault → Result (List (List ℕ)) WordsFault
@@ -120,10 +121,10 @@ called_by (Err fault) = Err fault
 
 -- what it makes of all words that it was called with, of which the first is its own name; one that is no text is told as a misuse;
 -- or memory was refused for them
-pub data Called {P F : Type 0} (out : Outside P F) (IsTold : Misuse → Type 0) (called : Result (List (List ℕ)) WordsFault) (old new : Option (List ℕ)) (r : Result ℕ WriteFault) : Type 0 where
-  OnWords : (words : List (List ℕ)) → called ≡ Ok words → Performs out IsTold (drop 1 words) old new r → Called out IsTold called old new r
-  OnNoText : (word : Vec ℕ Global) (bytes : Bor (List ℕ)) → called ≡ Err (NoText word) → bytes.now ≡ word.items → IsTold (misuse.NoText bytes) → new ≡ old → r ≡ Ok 2 → Called out IsTold called old new r
-  NoRoomForWords : TellsOne refused_memory old new r → Called out IsTold called old new r
+pub data Called {P F : Type 0} (out : Outside P F) (IsTold : Misuse → Type 0) (Told : Ended → Type 0) (called : Result (List (List ℕ)) WordsFault) (old new : Option (List ℕ)) (r : Result ℕ WriteFault) : Type 0 where
+  OnWords : (words : List (List ℕ)) → called ≡ Ok words → Performs out IsTold Told (drop 1 words) old new r → Called out IsTold Told called old new r
+  OnNoText : (word : Vec ℕ Global) (bytes : Bor (List ℕ)) → called ≡ Err (NoText word) → bytes.now ≡ word.items → IsTold (misuse.NoText bytes) → new ≡ old → r ≡ Ok 2 → Called out IsTold Told called old new r
+  NoRoomForWords : TellsOne refused_memory old new r → Called out IsTold Told called old new r
 
 -- ---- as a call sees it
 
@@ -131,9 +132,9 @@ pub data Called {P F : Type 0} (out : Outside P F) (IsTold : Misuse → Type 0) 
 -- an output for errors and is written there: what the program makes of its words at a system, from each of these moments to a later one.
 abbrev pub Runs : {D I H M P F W E : Type 0} → (D → DiskFacts) → (I → InputFacts) → (H → HostFacts P F) → (M → Option (List Made)) → (P → PortFacts) → (F → KeptFacts) → (W → Option (List ℕ)) → (E → OutputFacts) → (E → Option (List ℕ)) → List (Bor (List ℕ)) → System D I H → M → M → W → W → E → E → Result ℕ WriteFault → Type 0
 Runs disk input host made port file written facts told words s history history' out out' errors errors' r =
-    Performs (outside_of disk input host made port file s history history') (TellsMisuse facts told errors errors') (texts words) (written out) (written out') r
+    Performs (outside_of disk input host made port file s history history') (TellsMisuse facts told errors errors') (TellsSilence facts told errors errors') (texts words) (written out) (written out') r
 
 -- so it is for all words that it was called with
 abbrev pub Calls : {D I H M P F W E : Type 0} → (D → DiskFacts) → (I → InputFacts) → (H → HostFacts P F) → (M → Option (List Made)) → (P → PortFacts) → (F → KeptFacts) → (W → Option (List ℕ)) → (E → OutputFacts) → (E → Option (List ℕ)) → Result (Vec (String Global) Global) WordsFault → System D I H → M → M → W → W → E → E → Result ℕ WriteFault → Type 0
 Calls disk input host made port file written facts told called s history history' out out' errors errors' r =
-    Called (outside_of disk input host made port file s history history') (TellsMisuse facts told errors errors') (called_by called) (written out) (written out') r
+    Called (outside_of disk input host made port file s history history') (TellsMisuse facts told errors errors') (TellsSilence facts told errors errors') (called_by called) (written out) (written out') r

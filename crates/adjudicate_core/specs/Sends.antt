@@ -14,7 +14,7 @@ use Rattle.system_io.specs.declared.output.WriteFault.{WriteFault}
 use Rattle.system_io.specs.Disks.{AtFile, DiskFacts, HasMore}
 use Rattle.system_io.specs.declared.host.BindFault.TheVariants as bind
 use Rattle.system_io.specs.Histories.{Passes}
-use Rattle.system_io.specs.Hosts.{Made, PortAt}
+use Rattle.system_io.specs.Hosts.{PortAt}
 use Rattle.system_io.specs.Inputs.{InputFacts}
 use Rattle.system_io.specs.Ports.{Passed, PortFacts}
 use Rattle.source_core.specs.declared.lines.Ended.{Ended}
@@ -32,8 +32,9 @@ use Rattle.adjudicate_core.specs.declared.commands.send.GameFile.{GameFile}
 use Rattle.adjudicate_core.specs.declared.commands.send.SentGame.{SentGame}
 use Rattle.adjudicate_core.specs.declared.commands.send.SentGame.TheVariants as sent
 use Rattle.adjudicate_core.specs.Lines.{refused_fen, refused_line}
-use Rattle.adjudicate_core.specs.Listens.{Hosted, LacksRoomToBind}
+use Rattle.adjudicate_core.specs.Listens.{LacksRoomToBind}
 use Rattle.adjudicate_core.specs.Manifests.{IsManifestOf, LacksManifest}
+use Rattle.adjudicate_core.specs.Outsides.{Outside}
 use Rattle.adjudicate_core.specs.Reply.{IsText}
 use Rattle.line_teller.specs.ToldLines.{HasFront, refused_files, refused_memory}
 
@@ -98,13 +99,13 @@ pub data SendsOver (source : InputFacts) (terms : Terms) (start : Parts) (port p
   NoRoomForLines : source.takes_memory → Passed port port' [] → EndsOnce refused_memory old new r → SendsOver source terms start port port' old new r
 
 -- the port can't be bound; or it is, and sends to each of the addresses
-pub data BindsAndSends {P F : Type 0} (host : Hosted P F) (source : InputFacts) (t : Send) (stamp : Stamp) (start : Parts) (had has : Option (List Made)) (old new : Option (List ℕ)) (r : Result Ended WriteFault) : Type 0 where
-  Unbound : Passes had has [] → host.host.refuses t.bind.now bind.Unbound → EndsOnce refused_port old new r → BindsAndSends host source t stamp start had has old new r
-  NoRoomToBind : Passes had has [] → LacksRoomToBind host.host t.bind.now t.to.now → EndsOnce refused_memory old new r → BindsAndSends host source t stamp start had has old new r
-  Bound : Passes had has (PortAt t.bind.now (addresses_of t.to.now) ∷ []) → (port port' : P) → host.host.binds t.bind.now (addresses_of t.to.now) port → (host.port port).addresses ≡ length (addresses_of t.to.now) → (terms : Terms) → IsOnTerms t stamp terms → SendsOver source terms start (host.port port) (host.port port') old new r → BindsAndSends host source t stamp start had has old new r
+pub data BindsAndSends {P F : Type 0} (out : Outside P F) (t : Send) (stamp : Stamp) (start : Parts) (old new : Option (List ℕ)) (r : Result Ended WriteFault) : Type 0 where
+  Unbound : Passes out.had out.has [] → out.host.host.refuses t.bind.now bind.Unbound → EndsOnce refused_port old new r → BindsAndSends out t stamp start old new r
+  NoRoomToBind : Passes out.had out.has [] → LacksRoomToBind out.host.host t.bind.now t.to.now → EndsOnce refused_memory old new r → BindsAndSends out t stamp start old new r
+  Bound : Passes out.had out.has (PortAt t.bind.now (addresses_of t.to.now) ∷ []) → (port port' : P) → out.host.host.binds t.bind.now (addresses_of t.to.now) port → (out.host.port port).addresses ≡ length (addresses_of t.to.now) → (terms : Terms) → IsOnTerms t stamp terms → SendsOver out.source terms start (out.host.port port) (out.host.port port') old new r → BindsAndSends out t stamp start old new r
 
 -- sending: there is no game, which is told; or what follows, with its stamp. What the host has made before and after it is in its
 -- history: the port.
-pub data Sends {P F : Type 0} (disk : DiskFacts) (source : InputFacts) (host : Hosted P F) (t : Send) (had has : Option (List Made)) (old new : Option (List ℕ)) (r : Result Ended WriteFault) : Type 0 where
-  NoGame : Passes had has [] → (words : List ℕ) → LacksSent disk t t.game words → EndsOnce words old new r → Sends disk source host t had has old new r
-  Stamped : (start : Parts) (stamp : Stamp) → IsSent disk t t.game stamp start → BindsAndSends host source t stamp start had has old new r → Sends disk source host t had has old new r
+pub data Sends {P F : Type 0} (out : Outside P F) (t : Send) (old new : Option (List ℕ)) (r : Result Ended WriteFault) : Type 0 where
+  NoGame : Passes out.had out.has [] → (words : List ℕ) → LacksSent out.disk t t.game words → EndsOnce words old new r → Sends out t old new r
+  Stamped : (start : Parts) (stamp : Stamp) → IsSent out.disk t t.game stamp start → BindsAndSends out t stamp start old new r → Sends out t old new r

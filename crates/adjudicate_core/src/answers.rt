@@ -1,11 +1,12 @@
 //! Answers as values, and their text.
 
-ghost use Rattle.std.specs.Prelude.{◌≡◌, map};
+ghost use Rattle.std.specs.Prelude.{◌≡◌, OnErr, map};
 ghost use Rattle.move_msg.specs.TextLines.{text_of};
 ghost use Rattle.adjudicate_core.specs.Inside.Asked.{PutsAnswered, PutsRead, reply_of};
 ghost use Rattle.adjudicate_core.specs.Lines.{words_of};
 ghost use Rattle.adjudicate_core.specs.Reply.{WritesReply, status_if, status_told};
 ghost use Rattle.system_io.specs.Outputs.{WritesFront};
+ghost use Rattle.line_teller.specs.ToldLines.{HasFailed};
 
 use crate::json_answers::put_json_fault;
 use crate::lines::{Line, put_line, put_refusal};
@@ -48,7 +49,8 @@ pub(crate) fn status_told(told: Result<bool, WriteFault>) -> Result<u8, WriteFau
 
 /// Writes lines.
 fn put_lines<W: Output>(out: &mut W, lines: &[Line]) -> Result<(), WriteFault>
-    ensures { WritesFront (W.contents out.old) (W.contents out.new) (text_of (map words_of lines.now)) result }
+    ensures told { WritesFront (W.contents out.old) (W.contents out.new) (text_of (map words_of lines.now)) result }
+    ensures cause { OnErr result (HasFailed W.facts) }
 {
     for line in lines {
         match put_line(out, line) {
@@ -61,7 +63,8 @@ fn put_lines<W: Output>(out: &mut W, lines: &[Line]) -> Result<(), WriteFault>
 
 /// Writes an answer, and returns its status.
 pub(crate) fn put_answer<W: Output>(out: &mut W, answer: &Answer) -> Result<u8, WriteFault>
-    ensures { WritesReply (W.contents out.old) (W.contents out.new) (reply_of answer.now) result }
+    ensures told { WritesReply (W.contents out.old) (W.contents out.new) (reply_of answer.now) result }
+    ensures cause { OnErr result (HasFailed W.facts) }
 {
     match answer {
         Answer::Refused(refusal) => put_refusal(out, *refusal),
@@ -89,7 +92,8 @@ pub(crate) fn put_answered<W: Output>(
     out: &mut W,
     answered: Result<Answer, AllocError>,
 ) -> Result<u8, WriteFault>
-    ensures { PutsAnswered answered (W.contents out.old) (W.contents out.new) result }
+    ensures told { PutsAnswered answered (W.contents out.old) (W.contents out.new) result }
+    ensures cause { OnErr result (HasFailed W.facts) }
 {
     match answered {
         Ok(answer) => put_answer(out, &answer),
@@ -102,7 +106,8 @@ pub(crate) fn put_read<W: Output>(
     out: &mut W,
     answered: Result<Answer, ReadFault>,
 ) -> Result<u8, WriteFault>
-    ensures { PutsRead answered (W.contents out.old) (W.contents out.new) result }
+    ensures told { PutsRead answered (W.contents out.old) (W.contents out.new) result }
+    ensures cause { OnErr result (HasFailed W.facts) }
 {
     match answered {
         Ok(answer) => put_answer(out, &answer),

@@ -12,6 +12,7 @@ ghost use Rattle.system_io.specs.Hosts.{FileAt};
 ghost use Rattle.system_io.specs.Outputs.{WritesFront};
 ghost use Rattle.adjudicate_core.specs.Listens.{hosted};
 ghost use Rattle.system_io.specs.KeptFiles.{bytes_of};
+ghost use Rattle.line_teller.specs.ToldLines.{HasFailed};
 
 use crate::answers::status_if;
 use crate::commands::{Enter, Entries, OneGame};
@@ -25,6 +26,7 @@ use crate::system::System;
 use arbiter_server::{game_path, write_game};
 use board_core::Position;
 use fen_text::read;
+use line_teller::LineWords;
 use move_msg::Stamp;
 use std::alloc::{AllocError, Global};
 use system_io::{Disk, Host, Input, KeptFile, Output, ReadFault, WriteFault, begin, replace};
@@ -150,24 +152,15 @@ fn enter_game<H: Host>(
     }
 }
 
-/// Writes a line. Where the writer fails, a front of it is written.
-fn put_digits<W: Output>(out: &mut W, digits: &[u8]) -> Result<(), WriteFault>
-    ensures { WritesFront (W.contents out.old) (W.contents out.new) (ended digits.now) result }
-{
-    match out.put(digits) {
-        Ok(()) => out.put(b"\n"),
-        Err(fault) => Err(fault),
-    }
-}
-
 /// Writes a stamp in hexadecimal digits, in a line of its own, and tells the status 0. Where the writer fails, a front of the line is
 /// written.
 fn put_stamp<W: Output>(out: &mut W, stamp: Stamp) -> Result<u8, WriteFault>
-    ensures { TellsStamp stamp.0 (W.contents out.old) (W.contents out.new) result }
+    ensures told { TellsStamp stamp.0 (W.contents out.old) (W.contents out.new) result }
+    ensures cause { OnErr result (HasFailed W.facts) }
 {
-    let mut digits = [0; 32];
-    hex::encode_to_slice(&stamp.0, &mut digits).unwrap();
-    match put_digits(out, &digits) {
+    let mut line = LineWords::new();
+    line.add_stamp(&stamp.0);
+    match line.put(out) {
         Ok(()) => Ok(0),
         Err(fault) => Err(fault),
     }
@@ -182,7 +175,8 @@ fn put_game<H: Host, W: Output>(
     start: &Position,
     out: &mut W,
 ) -> Result<u8, WriteFault>
-    ensures { PutsGame (place_of H.facts H.Port.facts H.File.facts place.now) (game_of game.now start.now) (H.made history.old) (H.made history.new) (W.contents out.old) (W.contents out.new) result }
+    ensures told { PutsGame (place_of H.facts H.Port.facts H.File.facts place.now) (game_of game.now start.now) (H.made history.old) (H.made history.new) (W.contents out.old) (W.contents out.new) result }
+    ensures cause { OnErr result (HasFailed W.facts) }
 {
     match enter_game(alloc, place, history, &game.name, start, game.delay) {
         Ok(stamp) => put_stamp(out, stamp),
@@ -199,7 +193,8 @@ fn enter_one<D: Disk, I: Input, H: Host, W: Output>(
     history: &mut H::History,
     out: &mut W,
 ) -> Result<u8, WriteFault>
-    ensures { EntersOne (outside_of D.facts I.facts H.facts H.made H.Port.facts H.File.facts system.now history.old history.new) task.now game.now (W.contents out.old) (W.contents out.new) result }
+    ensures told { EntersOne (outside_of D.facts I.facts H.facts H.made H.Port.facts H.File.facts system.now history.old history.new) task.now game.now (W.contents out.old) (W.contents out.new) result }
+    ensures cause { OnErr result (HasFailed W.facts) }
 {
     let start = match read(game.start.as_bytes()) {
         Ok(start) => start,
@@ -259,6 +254,7 @@ fn put_entered<W: Output>(
 ) -> Result<bool, WriteFault>
     ensures written { WritesFront (W.contents out.old) (W.contents out.new) (ended (told_of number entered).words) result }
     ensures done { IfOk result (λ done. done ≡ (told_of number entered).done) }
+    ensures cause { OnErr result (HasFailed W.facts) }
 {
     match entered {
         Ok(stamp) => match put_stamp(out, stamp) {
@@ -283,6 +279,7 @@ fn enter_next<H: Host, W: Output>(
 ) -> Result<Step, WriteFault>
     ensures enters { EntersNext (place_of H.facts H.Port.facts H.File.facts place.now) number line.now (W.contents out.old) (W.contents out.new) result }
     ensures made { MakesForLine (place_of H.facts H.Port.facts H.File.facts place.now) line.now (H.made history.old) (H.made history.new) }
+    ensures cause { OnErr result (HasFailed W.facts) }
 {
     match enter_line(alloc, place, history, line) {
         Ok(entered) => match put_entered(out, number, entered) {
@@ -305,7 +302,8 @@ fn enter_lines<H: Host, W: Output>(
     list: &[u8],
     out: &mut W,
 ) -> Result<u8, WriteFault>
-    ensures { PutsGames (place_of H.facts H.Port.facts H.File.facts place.now) (lines_in list.now) (H.made history.old) (H.made history.new) (W.contents out.old) (W.contents out.new) result }
+    ensures told { PutsGames (place_of H.facts H.Port.facts H.File.facts place.now) (lines_in list.now) (H.made history.old) (H.made history.new) (W.contents out.old) (W.contents out.new) result }
+    ensures cause { OnErr result (HasFailed W.facts) }
 {
     let mut rest = list;
     let mut before: usize = 0;
@@ -355,7 +353,8 @@ fn enter_list<D: Disk, I: Input, H: Host, W: Output>(
     history: &mut H::History,
     out: &mut W,
 ) -> Result<u8, WriteFault>
-    ensures { EntersList (outside_of D.facts I.facts H.facts H.made H.Port.facts H.File.facts system.now history.old history.new) task.now list.now (W.contents out.old) (W.contents out.new) result }
+    ensures told { EntersList (outside_of D.facts I.facts H.facts H.made H.Port.facts H.File.facts system.now history.old history.new) task.now list.now (W.contents out.old) (W.contents out.new) result }
+    ensures cause { OnErr result (HasFailed W.facts) }
 {
     match manifest_for(alloc, system.disk, task.manifest, task.tables) {
         Ok(manifest) => {
@@ -390,7 +389,8 @@ pub fn enter<D: Disk, I: Input, H: Host, W: Output>(
     history: &mut H::History,
     out: &mut W,
 ) -> Result<u8, WriteFault>
-    ensures { Enters (outside_of D.facts I.facts H.facts H.made H.Port.facts H.File.facts system.now history.old history.new) task.now (W.contents out.old) (W.contents out.new) result }
+    ensures told { Enters (outside_of D.facts I.facts H.facts H.made H.Port.facts H.File.facts system.now history.old history.new) task.now (W.contents out.old) (W.contents out.new) result }
+    ensures cause { OnErr result (HasFailed W.facts) }
 {
     match &task.entries {
         Entries::One(game) => enter_one(alloc, task, game, system, history, out),

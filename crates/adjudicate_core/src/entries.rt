@@ -10,7 +10,6 @@ use crate::game_name::GameName;
 use crate::numbers::Delay;
 use board_core::Position;
 use fen_text::{FenFault, cut_first, read};
-use std::fmt;
 
 /// Why the game of a line isn't entered.
 #[derive(Clone, Copy)]
@@ -25,26 +24,6 @@ pub(crate) enum EntryFault {
     Delay,
     /// The file of the game can't be read or written.
     Keeper,
-}
-
-impl fmt::Display for EntryFault {
-    ghost use Rattle.std.specs.Prelude.{Some};
-    ghost use Rattle.adjudicate_core.specs.Lines.{entry_fault_words};
-
-    ghost output = { λ fault. Some (entry_fault_words fault) };
-
-    fn fmt<W: fmt::Write>(&self, f: &mut fmt::Formatter<W>) -> fmt::Result {
-        match self {
-            EntryFault::Fields => f.write_str("fields"),
-            EntryFault::Name => f.write_str("name"),
-            EntryFault::Start(FenFault::BadPosition(fault)) => {
-                write!(f, "BadPosition {}", fault.name())
-            }
-            EntryFault::Start(fault) => f.write_str(fault.name()),
-            EntryFault::Delay => f.write_str("delay"),
-            EntryFault::Keeper => f.write_str("keeper"),
-        }
-    }
 }
 
 /// A game that a line tells.

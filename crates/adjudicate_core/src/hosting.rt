@@ -1,10 +1,11 @@
 //! Arbiters of any number of games, from their words to their status.
 
-ghost use Rattle.std.specs.Prelude.{◌≡◌, IfErr, IfOk, List, ℕ};
+ghost use Rattle.std.specs.Prelude.{◌≡◌, ℕ, IfErr, IfOk, List, OnErr};
 ghost use Rattle.arbiter_server.specs.LineLogs.{IsLogOf};
 ghost use Rattle.adjudicate_core.specs.Hostings.{BindsAndWrites, HostsAndTells, LocksAndWrites, WritesAt, way};
 ghost use Rattle.adjudicate_core.specs.Inside.HostingParts.{IsUnlisted, WritesOver};
 ghost use Rattle.adjudicate_core.specs.Outsides.{around_of};
+ghost use Rattle.line_teller.specs.ToldLines.{HasFailed};
 
 use crate::binding::bind;
 use crate::commands::HostGames;
@@ -46,7 +47,8 @@ fn serve_logged<D: Disk, H: Host, W: Output>(
     out: &mut W,
 ) -> Result<u8, WriteFault>
     requires { IsLogOf plan.task.now.log log.old }
-    ensures { WritesOver (way D.facts H.facts H.Port.facts H.File.facts W.contents W.facts plan.entry) (H.made history.old) (H.made history.new) port.old port.new out.old out.new result }
+    ensures told { WritesOver (way D.facts H.facts H.Port.facts H.File.facts W.contents W.facts plan.entry) (H.made history.old) (H.made history.new) port.old port.new out.old out.new result }
+    ensures cause { OnErr result (HasFailed W.facts) }
 {
     let HostPlan {
         task,
@@ -85,7 +87,8 @@ fn serve_at<D: Disk, H: Host, W: Output>(
     port: &mut H::Port,
     out: &mut W,
 ) -> Result<u8, WriteFault>
-    ensures { WritesOver (way D.facts H.facts H.Port.facts H.File.facts W.contents W.facts plan.entry) (H.made history.old) (H.made history.new) port.old port.new out.old out.new result }
+    ensures told { WritesOver (way D.facts H.facts H.Port.facts H.File.facts W.contents W.facts plan.entry) (H.made history.old) (H.made history.new) port.old port.new out.old out.new result }
+    ensures cause { OnErr result (HasFailed W.facts) }
 {
     match LineLog::new(alloc, plan.task.log) {
         Ok(mut log) => serve_logged(alloc, plan, history, port, &mut log, out),
@@ -109,7 +112,8 @@ fn start_at<D: Disk, H: Host, W: Output>(
     port: &mut H::Port,
     out: &mut W,
 ) -> Result<u8, WriteFault>
-    ensures { WritesAt (way D.facts H.facts H.Port.facts H.File.facts W.contents W.facts plan.entry) (H.made history.old) (H.made history.new) port.old (H.Port.facts port.new) out.old out.new result }
+    ensures told { WritesAt (way D.facts H.facts H.Port.facts H.File.facts W.contents W.facts plan.entry) (H.made history.old) (H.made history.new) port.old (H.Port.facts port.new) out.old out.new result }
+    ensures cause { OnErr result (HasFailed W.facts) }
 {
     let line = match ready_line_at(alloc, plan.host, port) {
         Ok(line) => line,
@@ -131,7 +135,8 @@ fn bind_and_serve<D: Disk, H: Host, W: Output>(
     history: &mut H::History,
     out: &mut W,
 ) -> Result<u8, WriteFault>
-    ensures { BindsAndWrites (way D.facts H.facts H.Port.facts H.File.facts W.contents W.facts plan.entry) (H.made history.old) (H.made history.new) out.old out.new result }
+    ensures told { BindsAndWrites (way D.facts H.facts H.Port.facts H.File.facts W.contents W.facts plan.entry) (H.made history.old) (H.made history.new) out.old out.new result }
+    ensures cause { OnErr result (HasFailed W.facts) }
 {
     match bind(alloc, plan.host, history, plan.task.bind, plan.task.to) {
         Ok(mut port) => start_at(alloc, plan, history, &mut port, out),
@@ -148,7 +153,8 @@ fn lock_and_serve<D: Disk, H: Host, W: Output>(
     history: &mut H::History,
     out: &mut W,
 ) -> Result<u8, WriteFault>
-    ensures { LocksAndWrites (way D.facts H.facts H.Port.facts H.File.facts W.contents W.facts plan.entry) (H.made history.old) (H.made history.new) out.old out.new result }
+    ensures told { LocksAndWrites (way D.facts H.facts H.Port.facts H.File.facts W.contents W.facts plan.entry) (H.made history.old) (H.made history.new) out.old out.new result }
+    ensures cause { OnErr result (HasFailed W.facts) }
 {
     match lock(alloc, plan.host, history, plan.task.games, IN_GAMES) {
         Ok(_lock) => bind_and_serve(alloc, plan, history, out),
@@ -183,7 +189,8 @@ pub fn host_games<'a, D: Disk, I, H: Host, W: Output>(
     history: &mut H::History,
     out: &mut W,
 ) -> Result<u8, WriteFault>
-    ensures { HostsAndTells (around_of D.facts H.facts H.Port.facts H.File.facts W.contents W.facts system.now) task.now sources.now (H.made history.old) (H.made history.new) out.old out.new result }
+    ensures told { HostsAndTells (around_of D.facts H.facts H.Port.facts H.File.facts W.contents W.facts system.now) task.now sources.now (H.made history.old) (H.made history.new) out.old out.new result }
+    ensures cause { OnErr result (HasFailed W.facts) }
 {
     let tables = match gather(alloc, sources, task.cache) {
         Ok(Ok(tables)) => tables,

@@ -1,13 +1,13 @@
 //! Answers as JSON: one object a line.
 
-ghost use Rattle.std.specs.Prelude.{◌≡◌, IfOk, IsErrOf, OnOk};
+ghost use Rattle.std.specs.Prelude.{◌≡◌, IfOk, IsErrOf, OnErr, OnOk};
 ghost use Rattle.std.specs.Io.KnownBytes.{Appends};
 ghost use Rattle.adjudicate_core.specs.Inside.Asked.{HasText, reply_of};
 ghost use Rattle.adjudicate_core.specs.JsonAnswers.{json_reply};
 ghost use Rattle.fen_text.specs.declared.fault.FenFault.TheVariants as fen;
 ghost use Rattle.json_lines.specs.Objects.{fault_json, json_text, line_json};
 ghost use Rattle.json_lines.specs.declared.told.JsonLine.TheVariants as line;
-ghost use Rattle.line_teller.specs.ToldLines.{HasFront};
+ghost use Rattle.line_teller.specs.ToldLines.{HasFailed, HasFront};
 ghost use Rattle.move_msg.specs.TextLines.{ended};
 ghost use Rattle.system_io.specs.Outputs.{WritesFront};
 
@@ -87,7 +87,8 @@ fn fault_line(fault: FenFault) -> &'static str
 
 /// Writes why a text is no position. This takes no memory.
 pub(crate) fn put_json_fault<W: Output>(out: &mut W, fault: FenFault) -> Result<(), WriteFault>
-    ensures { WritesFront (W.contents out.old) (W.contents out.new) (ended (json_text (line_json (line.Fault fault)))) result }
+    ensures told { WritesFront (W.contents out.old) (W.contents out.new) (ended (json_text (line_json (line.Fault fault)))) result }
+    ensures cause { OnErr result (HasFailed W.facts) }
 {
     out.put(fault_line(fault).as_bytes())
 }
@@ -97,6 +98,7 @@ fn put_told<W: Output>(alloc: Global, out: &mut W, told: &JsonLine) -> Result<()
     ensures written { OnOk result (Appends (W.contents out.old) (W.contents out.new) (ended (json_text (line_json told.now)))) }
     ensures front { IsErrOf result TellFault.Io → HasFront (W.contents out.old) (W.contents out.new) (ended (json_text (line_json told.now))) }
     ensures memory { IsErrOf result TellFault.OutOfMemory → HasText told.now × (W.contents out.new ≡ W.contents out.old) }
+    ensures cause { IsErrOf result TellFault.Io → HasFailed W.facts }
 {
     if let JsonLine::Fault(fault) = told {
         return match put_json_fault(out, *fault) {

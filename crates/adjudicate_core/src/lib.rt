@@ -6,8 +6,9 @@
 //!
 //! Each command is a file in `commands/`, with its definitions in the file of the same name in `specs/Commands/`. `values`,
 //! `numbers`, `usage`, `uses`, `addresses` read words, `entries` the lines of a list; `tables` and `manifests` make sets of files;
-//! `answers`, `line_answers`, `lines`, `refusals` write (each line one `Display`); `listening`, `hosting`, `entering`, `sending`,
-//! `binding`, `game_name` run the commands that touch ports and files.
+//! `answers`, `line_answers`, `lines`, `refusals` write, each line laid out by `LineWords` of `line_teller` (its parts in
+//! `line_parts`), which doesn't fail, and written at once; `listening`, `hosting`, `entering`, `sending`, `binding`, `game_name` run
+//! the commands that touch ports and files.
 //!
 //! Definitions, in reading order: `Rules`, `Tasks`, `Misuses`, `Uses` for words; `Looks`, `Lines`, `Reply`, `Commands`,
 //! `Schedules`, `LineAnswers`, `Audits` for answers; `Listens`, `Manifests`, `Sends`, `Entries`, `Enters`, `Hostings`, `Makes` for runs;
@@ -20,15 +21,17 @@
 //! - CLAIM: `run`, clause `runs`; `run_program`: the program on its words answers the task that they
 //!   name over what it read, or one of its sources failed (`refused files`), or memory was refused, or the words are misused and
 //!   nothing is written. The definition of each command's answer is in `AnswersFrom`. Of a call that ends with the writer's error
-//!   it says that a front of that answer was written: the lines before whole, and of the last a front. For `list`, `check`, `status`, `audit --games`, `run`, `probes`, `root`, `host` and the list of
-//!   `enter` refused memory has no cause.
+//!   it says that a front of that answer was written: the lines before whole, and of the last a front. For `list`, `check`, `status`,
+//!   `audit --games`, `run`, `probes`, `root`, `host` and the list of `enter` refused memory has no cause.
+//! - CLAIM: `run`, `run_program`, clause `cause`: the error is that of the writer: it refused a write, or what was written couldn't go out.
 //! - CLAIM: `run`, clause `made`; `run_program`, clause `made`: at the host nothing is opened but what `IsMadeBy` has of the task, whatever
 //!   it comes to: `listen` opens its port, the lock and the kept file, `send` its port, `host` the lock, its port and files of records,
 //!   `enter` files of games. Which of these it has opened where it ends so, and that a record's file is opened once for each Move or
 //!   Fetch at most, is in `Listens`, `Sends`, `HostsGames`.
 //! - CLAIM: `run`, clauses `runs`, `quiet`; `run_program`: for a misuse standard error gets one line of printing bytes (none
 //!   where help is asked for) and then the usage, of which no clause speaks, or as much of these as it takes. It gets bytes for
-//!   nothing else but for a task with progress.
+//!   nothing else but for a task with progress, and where `send` ends as `refused lost`: a line of each arbiter, of which it tells that
+//!   no answer came or how many moves it has acknowledged (`TellsSilence`).
 //! - CLAIM: `run`, clause `runs`: of a schedule the answer of status 0 is of the last of its worlds, in each of which both
 //!   records are true to the game (`IsRun`).
 //! - CLAIM: `run`, clause `runs`: `listen` refuses its start, its tables, its address and its kept file in this order, and
@@ -69,6 +72,7 @@ mod json_answers;
 mod keys;
 pub mod laws;
 mod line_answers;
+mod line_parts;
 mod lines;
 mod listening;
 mod locking;

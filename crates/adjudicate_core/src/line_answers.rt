@@ -1,8 +1,8 @@
 //! Answers to the lines of an input as they come.
 
-ghost use Rattle.std.specs.Prelude.{◌≡◌, false, IfOk};
+ghost use Rattle.std.specs.Prelude.{◌≡◌, IfOk, OnErr, false};
 ghost use Rattle.adjudicate_core.specs.LineAnswers.{PutsLines, PutsLinesOrNone};
-ghost use Rattle.line_teller.specs.ToldLines.{stops_by};
+ghost use Rattle.line_teller.specs.ToldLines.{HasFailed, stops_by};
 
 use crate::answers::status_if;
 use crate::lines::put_refusal;
@@ -24,6 +24,7 @@ fn put_lines_told<T: Teller, L: LineReader, W: Output, E: Write>(
 ) -> Result<u8, WriteFault>
     ensures written { PutsLines (T.tells teller.old) T.takes_memory (stops_by (L.facts lines.old)) (L.facts lines.old).left (W.contents out.old) (W.contents out.new) result }
     ensures quiet { progress ≡ false → errors.new ≡ errors.old }
+    ensures cause { OnErr result (HasFailed W.facts) }
 {
     match tell_lines(alloc, teller, lines, out, errors, progress) {
         Ok(done) => Ok(status_if(done)),
@@ -43,6 +44,7 @@ pub(crate) fn put_told<T: Teller, I: Input, W: Output, E: Write>(
 ) -> Result<u8, WriteFault>
     ensures written { PutsLinesOrNone (T.tells teller.old) T.takes_memory (I.facts input.now) (W.contents out.old) (W.contents out.new) result }
     ensures quiet { progress ≡ false → errors.new ≡ errors.old }
+    ensures cause { OnErr result (HasFailed W.facts) }
 {
     match input.lines(alloc) {
         Ok(mut lines) => put_lines_told(alloc, teller, &mut lines, out, errors, progress),

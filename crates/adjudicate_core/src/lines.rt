@@ -1,26 +1,32 @@
 //! The lines that the program writes.
 
-ghost use Rattle.std.specs.Prelude.{◌≡◌, ◌++◌, Some, IfSome, codes};
-ghost use Rattle.std.specs.Fmt.{DisplaysOnOk};
+ghost use Rattle.std.specs.Prelude.{◌≡◌, ◌≤◌, ◌++◌, OnErr, codes, length};
+ghost use Rattle.std.specs.Fmt.{decimal};
+ghost use Rattle.board_core.specs.Verdicts.{verdict_name};
+ghost use Rattle.judge_core.specs.Words.{columns_words, outcome_words};
+ghost use Rattle.line_teller.specs.ToldLines.{HasFailed};
+ghost use Rattle.move_msg.specs.MessageWords.{message_words};
 ghost use Rattle.move_msg.specs.TextLines.{ended};
-ghost use Rattle.arbiter_server.specs.ServedLines.{verdict_or_none};
-ghost use Rattle.judge_core.specs.Words.{column_words};
-ghost use Rattle.adjudicate_core.specs.Lines.{arbiter_words, mark_word, probed_of, refusal_words, root_line_words, root_words, state_word, told_words, words_of};
+ghost use Rattle.record_audit.specs.Findings.{finding_words};
+ghost use Rattle.adjudicate_core.specs.Lines.{arbiter_words, look_word, look_words, mark_word, probed_of, refusal_words, root_line_words, root_words, state_word, told_words, words_of};
 ghost use Rattle.adjudicate_core.specs.Telling.{TellsOne};
 ghost use Rattle.relay_world.specs.Texts.{who_word};
 ghost use Rattle.system_io.specs.Outputs.{WritesFront};
 
+use crate::line_parts::{add_column, add_word, numbered, verdict_word};
 use crate::refusals::Refusal;
 use crate::tables::FileFault;
-use arbiter_server::verdict_or_none;
 use arrayvec::ArrayString;
 use board_core::{Move, Verdict};
 use fen_text::write_move;
-use judge_core::{BoardState, Column, Columns, Effect, Outcome, Probed, RootMove, verdict_or_open};
+use game_status::{add_finding, add_moves};
+use judge_core::{
+    BoardState, Column, Columns, Effect, GameOutcome, Outcome, ProbeFault, Probed, RootMove,
+};
+use line_teller::LineWords;
 use move_msg::{Message, Who};
 use record_audit::Finding;
 use relay_world::State;
-use std::fmt::{self, Write as _};
 use system_io::{Output, WriteFault};
 
 /// What an arbiter keeps.
@@ -61,7 +67,8 @@ impl RootLine {
 
     /// The word for what becomes of the game or of the halfmove clock.
     fn mark(&self) -> &'static str
-        ensures { result.now ≡ mark_word self.now.state self.now.effect }
+        ensures is { result.now ≡ mark_word self.now.state self.now.effect }
+        ensures short { length result.now ≤ 9 }
     {
         match self.state {
             BoardState::Checkmate => "mate",
@@ -73,6 +80,23 @@ impl RootLine {
                     "-"
                 }
             }
+        }
+    }
+
+    /// Its line.
+    #[tactic(auto, unfolding(crate::specs::Lines::root_line_words))]
+    fn words(&self) -> LineWords
+        ensures { result ≡ root_line_words self.now }
+    {
+        let mut line = told_line(write_move(&self.played).as_str(), self.probed.wdl);
+        match self.probed.wdl {
+            Ok(_) => {
+                line.add(" ");
+                add_column(&mut line, self.probed.dtz);
+                add_word(&mut line, self.mark());
+                line
+            }
+            Err(_) => line,
         }
     }
 }
@@ -110,16 +134,96 @@ pub(crate) enum Line {
     Root(RootLine),
 }
 
-/// Writes a value of the tables, or why there is none.
-fn fmt_told<W: fmt::Write>(f: &mut fmt::Formatter<W>, question: &str, told: Column) -> fmt::Result
-    ensures { DisplaysOnOk W.Write.write_str_gives f.old result (Some (told_words question.now told.0)) f.new }
+/// The line of a number of the tables, or why there is none, behind a word.
+fn told_line(question: &str, told: Result<i32, ProbeFault>) -> LineWords
+    requires { length question.now ≤ 40 }
+    ensures is { result ≡ told_words question.now told }
+    ensures size { length result ≤ 81 }
 {
-    write!(f, "{question} {told}")
+    let mut line = LineWords::of(question);
+    line.add(" ");
+    add_column(&mut line, told);
+    line
+}
+
+/// The word for what was found of a file.
+fn look_word(fault: Option<FileFault>) -> &'static str
+    ensures is { result.now ≡ look_word fault }
+    ensures short { length result.now ≤ 11 }
+{
+    match fault {
+        None => "ok",
+        Some(fault) => fault.name(),
+    }
+}
+
+/// The line of a file that was looked at.
+fn look_line(name: &ArrayString<16>, fault: Option<FileFault>) -> LineWords
+    ensures { result ≡ look_words name.now.bytes fault }
+{
+    let mut line = LineWords::of(name.as_str());
+    add_word(&mut line, look_word(fault));
+    line
+}
+
+/// A message without what follows its number.
+fn message_head(kind: &str, sender: u8, number: u32) -> LineWords
+    requires { length kind.now ≤ 8 }
+    ensures is { result ≡ kind.now ++ decimal sender ++ codes " " ++ decimal number }
+    ensures size { length result ≤ 89 }
+{
+    let mut line = LineWords::of(kind);
+    line.add_number(sender);
+    line.add(" ");
+    line.add_number(number);
+    line
+}
+
+/// The line of a message.
+#[tactic(auto, unfolding(move_msg::specs::MessageWords::message_words))]
+fn message_line(message: &Message) -> LineWords
+    ensures { result ≡ message_words message.now }
+{
+    match *message {
+        Message::Move {
+            sender,
+            number,
+            ref m,
+            ..
+        } => {
+            let mut line = message_head("Move ", sender.number(), number);
+            add_word(&mut line, write_move(m).as_str());
+            line
+        }
+        Message::Ack { who, count, .. } => message_head("Ack ", who.number(), count.number()),
+        Message::Verdict {
+            who,
+            ply,
+            verdict,
+            ..
+        } => {
+            let mut line = message_head("Verdict ", who.number(), ply.number());
+            add_word(&mut line, verdict_word(Some(verdict)));
+            line
+        }
+        Message::Fetch {
+            who,
+            number,
+            wanted,
+            ..
+        } => {
+            let mut line = message_head("Fetch ", who.number(), number.number());
+            line.add(" ");
+            line.add_number(wanted.number());
+            line
+        }
+    }
 }
 
 /// The letter of an arbiter.
 fn letter_of(who: Who) -> &'static str
-    ensures { result.now ≡ who_word who }
+    ensures is { result.now ≡ who_word who }
+    ensures short { length result.now ≤ 1 }
 {
     match who {
         Who::A => "A",
@@ -129,7 +233,8 @@ fn letter_of(who: Who) -> &'static str
 
 /// The word for the state of an arbiter.
 fn state_word(state: State) -> &'static str
-    ensures { result.now ≡ state_word state }
+    ensures is { result.now ≡ state_word state }
+    ensures short { length result.now ≤ 7 }
 {
     match state {
         State::Running => "running",
@@ -138,119 +243,107 @@ fn state_word(state: State) -> &'static str
     }
 }
 
-/// Writes the state of an arbiter, and what it keeps.
+/// The line of an arbiter: its state, and what it keeps.
 #[tactic(auto, unfolding(crate::specs::Lines::arbiter_words))]
-fn fmt_arbiter<W: fmt::Write>(
-    f: &mut fmt::Formatter<W>,
-    who: Who,
-    state: State,
-    kept: Option<KeptCount>,
-) -> fmt::Result
-    ensures { DisplaysOnOk W.Write.write_str_gives f.old result (Some (arbiter_words who state kept)) f.new }
+fn arbiter_line(who: Who, state: State, kept: Option<KeptCount>) -> LineWords
+    ensures { result ≡ arbiter_words who state kept }
 {
-    let letter = letter_of(who);
-    let word = state_word(state);
+    let mut line = LineWords::of(letter_of(who));
+    add_word(&mut line, state_word(state));
     match kept {
-        None => write!(f, "{letter} {word} - none"),
+        None => {
+            line.add(" - none");
+            line
+        }
         Some(kept) => {
-            let verdict = verdict_or_none(kept.verdict);
-            write!(f, "{letter} {word} {} {verdict}", kept.count)
+            line.add(" ");
+            add_moves(&mut line, kept.count as usize, kept.verdict);
+            line
         }
     }
 }
 
-/// Writes a move with its value, its distance and a word.
-fn fmt_valued<W: fmt::Write>(
-    f: &mut fmt::Formatter<W>,
-    played: &str,
-    wdl: Column,
-    dtz: Column,
-    mark: &str,
-) -> fmt::Result
-    ensures { DisplaysOnOk W.Write.write_str_gives f.old result (Some (played.now ++ codes " " ++ column_words wdl.0 ++ codes " " ++ column_words dtz.0 ++ codes " " ++ mark.now)) f.new }
+/// The line of a finding.
+fn finding_line(finding: Finding) -> LineWords
+    ensures { result ≡ finding_words finding }
 {
-    write!(f, "{played} {wdl} {dtz} {mark}")
+    let mut line = LineWords::new();
+    add_finding(&mut line, finding);
+    line
 }
 
-/// Writes a move, and what tables tell of it.
-#[tactic(auto, unfolding(crate::specs::Lines::root_line_words))]
-fn fmt_root<W: fmt::Write>(f: &mut fmt::Formatter<W>, line: &RootLine) -> fmt::Result
-    ensures { DisplaysOnOk W.Write.write_str_gives f.old result (Some (root_line_words line.now)) f.new }
+/// The line of a game that ends by a verdict.
+fn ruled_line(ply: usize, verdict: Verdict) -> LineWords
+    ensures { result ≡ codes "ruled " ++ decimal ply ++ codes " " ++ verdict_name verdict }
 {
-    let played = write_move(&line.played);
-    let wdl = Column(line.probed.wdl);
-    match line.probed.wdl {
-        Ok(_) => fmt_valued(
-            f,
-            played.as_str(),
-            wdl,
-            Column(line.probed.dtz),
-            line.mark(),
-        ),
-        Err(_) => fmt_told(f, played.as_str(), wdl),
+    let mut line = numbered("ruled ", ply);
+    add_word(&mut line, verdict_word(Some(verdict)));
+    line
+}
+
+/// The line of the outcome of a game.
+#[tactic(auto, unfolding(judge_core::specs::Words::outcome_words))]
+fn outcome_line(outcome: &Outcome) -> LineWords
+    ensures { result ≡ outcome_words outcome.now.outcome outcome.now.plies }
+{
+    match outcome.outcome {
+        GameOutcome::Ruled { ply, verdict } => ruled_line(ply, verdict),
+        GameOutcome::Illegal { place } => numbered("illegal ", place),
+        GameOutcome::Going => numbered("open ", outcome.plies),
     }
 }
 
-/// Writes a name, and a word on it.
-fn fmt_named<W: fmt::Write>(f: &mut fmt::Formatter<W>, name: &str, word: &str) -> fmt::Result
-    ensures { DisplaysOnOk W.Write.write_str_gives f.old result (Some (name.now ++ codes " " ++ word.now)) f.new }
+/// The line of both probes of a position and the verdict on it, with a tab between two of them.
+fn columns_line(columns: &Columns) -> LineWords
+    ensures { result ≡ columns_words columns.now.probed.wdl columns.now.probed.dtz columns.now.verdict }
 {
-    write!(f, "{name} {word}")
+    let mut line = LineWords::new();
+    add_column(&mut line, columns.probed.wdl);
+    line.add("\t");
+    add_column(&mut line, columns.probed.dtz);
+    line.add("\t");
+    line.add(verdict_word(columns.verdict));
+    line
 }
 
-impl fmt::Display for Line {
-    ghost use Rattle.std.specs.Prelude.{Some};
-    ghost use Rattle.adjudicate_core.specs.Lines.{words_of};
-
-    ghost output = { λ l. Some (words_of l) };
-
-    fn fmt<W: fmt::Write>(&self, f: &mut fmt::Formatter<W>) -> fmt::Result {
+impl Line {
+    /// Its words.
+    fn words(&self) -> LineWords
+        ensures { result ≡ words_of self.now }
+    {
         match self {
-            Line::Ruling(verdict) => f.write_str(verdict_or_open(*verdict)),
-            Line::Refused(refusal) => fmt::Display::fmt(refusal, f),
-            Line::Move(m) => f.write_str(write_move(m).as_str()),
-            Line::Look(name, None) => fmt_named(f, name.as_str(), "ok"),
-            Line::Look(name, Some(fault)) => fmt_named(f, name.as_str(), fault.name()),
-            Line::Wdl(told) => fmt_told(f, "wdl", *told),
-            Line::Dtz(told) => fmt_told(f, "dtz", *told),
-            Line::Message(message) => fmt::Display::fmt(message, f),
-            Line::Arbiter(who, state, kept) => fmt_arbiter(f, *who, *state, *kept),
-            Line::Sent(number) => write!(f, "sent {number}"),
-            Line::Finding(finding) => fmt::Display::fmt(finding, f),
-            Line::Compared(None) => f.write_str("agree"),
-            Line::Compared(Some(ply)) => write!(f, "differ {ply}"),
-            Line::Outcome(outcome) => fmt::Display::fmt(outcome, f),
-            Line::Columns(columns) => fmt::Display::fmt(columns, f),
-            Line::Root(line) => fmt_root(f, line),
+            Line::Ruling(verdict) => LineWords::of(verdict_word(*verdict)),
+            Line::Refused(refusal) => refusal.words(),
+            Line::Move(m) => LineWords::of(write_move(m).as_str()),
+            Line::Look(name, fault) => look_line(name, *fault),
+            Line::Wdl(told) => told_line("wdl", told.0),
+            Line::Dtz(told) => told_line("dtz", told.0),
+            Line::Message(message) => message_line(message),
+            Line::Arbiter(who, state, kept) => arbiter_line(*who, *state, *kept),
+            Line::Sent(number) => numbered("sent ", *number),
+            Line::Finding(finding) => finding_line(*finding),
+            Line::Compared(None) => LineWords::of("agree"),
+            Line::Compared(Some(ply)) => numbered("differ ", *ply),
+            Line::Outcome(outcome) => outcome_line(outcome),
+            Line::Columns(columns) => columns_line(columns),
+            Line::Root(line) => line.words(),
         }
     }
 }
 
-/// The text of a line with its line feed; none where it has more than 256 bytes, which no line has, or where a `Display` fails, of which
-/// the contracts of `fmt` say nothing.
-fn text_of(line: &Line) -> Option<ArrayString<256>>
-    ensures { IfSome result (λ t. t.bytes ≡ ended (words_of line.now)) }
-{
-    let mut text = ArrayString::new();
-    match writeln!(text, "{line}") {
-        Ok(()) => Some(text),
-        Err(_) => None,
-    }
-}
-
-/// Writes a line. Where the writer fails, a front of it is written.
+/// Writes a line at once. The error is that of the writer, which refused a write; a front of the line is written then.
 pub(crate) fn put_line<W: Output>(out: &mut W, line: &Line) -> Result<(), WriteFault>
-    ensures { WritesFront (W.contents out.old) (W.contents out.new) (ended (words_of line.now)) result }
+    ensures front { WritesFront (W.contents out.old) (W.contents out.new) (ended (words_of line.now)) result }
+    ensures cause { OnErr result (HasFailed W.facts) }
 {
-    match text_of(line) {
-        Some(text) => out.put(text.as_bytes()),
-        None => Err(WriteFault::Io),
-    }
+    line.words().put(out)
 }
 
-/// Writes a refusal of everything, and returns the status 1.
+/// Writes a refusal of everything, and returns the status 1. The error is that of the writer, which refused a write; a front of the
+/// refusal is written then.
 pub(crate) fn put_refusal<W: Output>(out: &mut W, refusal: Refusal) -> Result<u8, WriteFault>
-    ensures { TellsOne (refusal_words refusal) (W.contents out.old) (W.contents out.new) result }
+    ensures told { TellsOne (refusal_words refusal) (W.contents out.old) (W.contents out.new) result }
+    ensures cause { OnErr result (HasFailed W.facts) }
 {
     match put_line(out, &Line::Refused(refusal)) {
         Ok(()) => Ok(1),

@@ -1,6 +1,6 @@
 //! An arbiter that answers datagrams, from its words to its status.
 
-ghost use Rattle.std.specs.Prelude.{◌≡◌, string_bytes, IfErr, IfOk};
+ghost use Rattle.std.specs.Prelude.{◌≡◌, IfErr, IfOk, OnErr, string_bytes};
 ghost use Rattle.board_core.specs.Position.{IsPosition};
 ghost use Rattle.fen_text.specs.Fen.{SpellsPosition};
 ghost use Rattle.move_msg.specs.Files.{entries_of};
@@ -12,6 +12,7 @@ ghost use Rattle.adjudicate_core.specs.Inside.ListeningParts.{ListensBy, way};
 ghost use Rattle.adjudicate_core.specs.Lines.{ready_words};
 ghost use Rattle.arbiter_server.specs.GoingOut.{writers};
 ghost use Rattle.arbiter_server.specs.StoredBytes.{IsInFile};
+ghost use Rattle.line_teller.specs.ToldLines.{HasFailed};
 
 use crate::binding::bind;
 use crate::commands::Listen;
@@ -39,7 +40,8 @@ struct ListenAt<'l, 'w, H> {
 
 /// Writes that no arbiter is opened: `refused keeper`, or `refused memory` where memory was refused.
 fn put_unopened<W: Output>(fault: OpenFault, out: &mut W) -> Result<u8, WriteFault>
-    ensures { TellsUnopened fault (W.contents out.old) (W.contents out.new) result }
+    ensures told { TellsUnopened fault (W.contents out.old) (W.contents out.new) result }
+    ensures cause { OnErr result (HasFailed W.facts) }
 {
     match fault {
         OpenFault::OutOfMemory => put_refusal(out, Refusal::Memory),
@@ -58,7 +60,8 @@ fn open_and_serve<F: KeptFile + Drop, P: Port, W: Output>(
     out: &mut W,
 ) -> Result<u8, WriteFault>
     requires { IsInFile F.facts keeper.old }
-    ensures { OpensAndWrites F.facts (writers W.contents W.facts) listening.now (setup_view setup.entry) keeper.old keeper.new (P.facts port.old) (P.facts port.new) out.old out.new result }
+    ensures told { OpensAndWrites F.facts (writers W.contents W.facts) listening.now (setup_view setup.entry) keeper.old keeper.new (P.facts port.old) (P.facts port.new) out.old out.new result }
+    ensures cause { OnErr result (HasFailed W.facts) }
 {
     match arbiter_server::open_and_serve(
         alloc,
@@ -87,7 +90,8 @@ fn keep_and_serve<F: KeptFile + Drop, P: Port, W: Output>(
     port: &mut P,
     out: &mut W,
 ) -> Result<u8, WriteFault>
-    ensures { KeepsAndWrites F.facts (writers W.contents W.facts) listening.now (setup_view setup.entry) file (P.facts port.old) (P.facts port.new) out.old out.new result }
+    ensures told { KeepsAndWrites F.facts (writers W.contents W.facts) listening.now (setup_view setup.entry) file (P.facts port.old) (P.facts port.new) out.old out.new result }
+    ensures cause { OnErr result (HasFailed W.facts) }
 {
     match FileKeeper::new(alloc, file) {
         Ok(mut keeper) => open_and_serve(alloc, listening, setup, &mut keeper, port, out),
@@ -105,7 +109,8 @@ fn serve_over<H: Host, W: Output>(
     port: &mut H::Port,
     out: &mut W,
 ) -> Result<u8, WriteFault>
-    ensures { LockedAndWrites (way H.facts H.Port.facts H.File.facts W.contents W.facts at.entry setup.entry) (H.made history.old) (H.made history.new) port.old port.new out.old out.new result }
+    ensures told { LockedAndWrites (way H.facts H.Port.facts H.File.facts W.contents W.facts at.entry setup.entry) (H.made history.old) (H.made history.new) port.old port.new out.old out.new result }
+    ensures cause { OnErr result (HasFailed W.facts) }
 {
     match at.host.file(alloc, history, at.listening.kept) {
         Ok(file) => keep_and_serve(alloc, at.listening, setup, file, port, out),
@@ -123,7 +128,8 @@ fn serve_at<H: Host, W: Output>(
     port: &mut H::Port,
     out: &mut W,
 ) -> Result<u8, WriteFault>
-    ensures { WritesAt (way H.facts H.Port.facts H.File.facts W.contents W.facts at.entry setup.entry) (H.made history.old) (H.made history.new) port.old port.new out.old out.new result }
+    ensures told { WritesAt (way H.facts H.Port.facts H.File.facts W.contents W.facts at.entry setup.entry) (H.made history.old) (H.made history.new) port.old port.new out.old out.new result }
+    ensures cause { OnErr result (HasFailed W.facts) }
 {
     match lock(alloc, at.host, history, at.listening.kept, BESIDE_KEPT) {
         Ok(_lock) => serve_over(alloc, at, setup, history, port, out),
@@ -167,7 +173,8 @@ fn start_at<H: Host, W: Output>(
     port: &mut H::Port,
     out: &mut W,
 ) -> Result<u8, WriteFault>
-    ensures { StartsAndWrites (way H.facts H.Port.facts H.File.facts W.contents W.facts at.entry setup.entry) (H.made history.old) (H.made history.new) port.old port.new out.old out.new result }
+    ensures told { StartsAndWrites (way H.facts H.Port.facts H.File.facts W.contents W.facts at.entry setup.entry) (H.made history.old) (H.made history.new) port.old port.new out.old out.new result }
+    ensures cause { OnErr result (HasFailed W.facts) }
 {
     if !at.listening.ready {
         return serve_at(alloc, at, setup, history, port, out);
@@ -190,7 +197,8 @@ fn bind_and_serve<H: Host, W: Output>(
     history: &mut H::History,
     out: &mut W,
 ) -> Result<u8, WriteFault>
-    ensures { BindsAndWrites (way H.facts H.Port.facts H.File.facts W.contents W.facts at.entry setup.entry) (H.made history.old) (H.made history.new) out.old out.new result }
+    ensures told { BindsAndWrites (way H.facts H.Port.facts H.File.facts W.contents W.facts at.entry setup.entry) (H.made history.old) (H.made history.new) out.old out.new result }
+    ensures cause { OnErr result (HasFailed W.facts) }
 {
     match bind(alloc, at.host, history, at.listening.bind, at.listening.to) {
         Ok(mut port) => start_at(alloc, at, setup, history, &mut port, out),
@@ -217,7 +225,8 @@ fn listen_from<H: Host, W: Output>(
 ) -> Result<u8, WriteFault>
     requires spelled { SpellsPosition at.listening.now.start.now start }
     requires position { IsPosition start }
-    ensures { ListensBy H.facts H.Port.facts H.File.facts W.contents W.facts at.entry sources.now (H.made history.old) (H.made history.new) out.old out.new result }
+    ensures told { ListensBy H.facts H.Port.facts H.File.facts W.contents W.facts at.entry sources.now (H.made history.old) (H.made history.new) out.old out.new result }
+    ensures cause { OnErr result (HasFailed W.facts) }
 {
     let set = match gather(alloc, sources, CacheSize::usual()) {
         Ok(Ok(set)) => set,
@@ -253,7 +262,8 @@ pub fn listen<'a, H: Host, W: Output>(
     history: &mut H::History,
     out: &mut W,
 ) -> Result<u8, WriteFault>
-    ensures { ListensAndWrites (hosted (H.facts host.now) H.Port.facts H.File.facts) W.contents W.facts listening.now sources.now (H.made history.old) (H.made history.new) out.old out.new result }
+    ensures told { ListensAndWrites (hosted (H.facts host.now) H.Port.facts H.File.facts) W.contents W.facts listening.now sources.now (H.made history.old) (H.made history.new) out.old out.new result }
+    ensures cause { OnErr result (HasFailed W.facts) }
 {
     match read(listening.start.as_bytes()) {
         Ok(start) => listen_from(

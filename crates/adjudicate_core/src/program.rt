@@ -1,12 +1,11 @@
 //! The program's words, its output and its status.
 
-ghost use Rattle.std.specs.Prelude.{◌≡◌, ◌≢◌, ◌⊎◌, drop, map, string_bytes, false, Ok, IfOk};
+ghost use Rattle.std.specs.Prelude.{◌≡◌, ◌≢◌, ◌⊎◌, IfOk, Ok, OnErr, drop, false, map, string_bytes};
 ghost use Rattle.adjudicate_core.specs.declared.commands.Task.{Task};
-ghost use Rattle.line_teller.specs.ToldLines.{refused_memory};
+ghost use Rattle.line_teller.specs.ToldLines.{HasFailed, refused_memory};
 ghost use Rattle.adjudicate_core.specs.Makes.{Makes, MakesCalled, MakesFor};
-ghost use Rattle.adjudicate_core.specs.Outsides.{outside_of};
-ghost use Rattle.adjudicate_core.specs.Inside.Answering.{AnswersGiven};
-ghost use Rattle.adjudicate_core.specs.Running.{AnswersByKey, AnswersTask, Calls, Runs, called_by, texts};
+ghost use Rattle.adjudicate_core.specs.Inside.Answering.{AnswersTaskAt, AnswersBySeal, AnswersGiven};
+ghost use Rattle.adjudicate_core.specs.Running.{Calls, Runs, called_by, texts};
 ghost use Rattle.adjudicate_core.specs.Silences.{IsLoud, TellsIfLost};
 ghost use Rattle.adjudicate_core.specs.Tasks.{IsTask, tells_progress};
 ghost use Rattle.move_msg.specs.TextLines.{ended};
@@ -31,6 +30,14 @@ use std::io::Write;
 use system_io::{Disk, Host, Input, Output, ReadFault, WriteFault};
 use task_files::Sources;
 
+/// What a task is answered from.
+struct Context<'s, 'a, D, I, H> {
+    /// What was read for it.
+    sources: &'s Sources,
+    /// What it reads, and where it opens ports and files, while it is answered.
+    system: &'s System<'a, D, I, H>,
+}
+
 /// Answers a task from what was read for it, and returns the status, 0 done or 1 refused.
 ///
 /// `judge` and `probe` use all files, or with a manifest those of its lines, in its order. They report the first
@@ -46,16 +53,17 @@ use task_files::Sources;
 fn answer_given<D: Disk, I: Input, H: Host, W: Output, E: Output>(
     alloc: Global,
     task: &Task,
-    sources: &Sources,
-    system: &System<'_, D, I, H>,
+    given: Context<'_, '_, D, I, H>,
     history: &mut H::History,
     out: &mut W,
     errors: &mut E,
 ) -> Result<u8, WriteFault>
     ensures quiet { tells_progress task.now ≡ false → TellsIfLost E.facts E.contents errors.old errors.new task.now result }
-    ensures answered { AnswersGiven D.facts I.facts H.facts H.made H.Port.facts H.File.facts W.contents task.now sources.now system.now history.old history.new out.old out.new result }
+    ensures answered { AnswersGiven D.facts I.facts H.facts H.made H.Port.facts H.File.facts W.contents E.facts E.contents task.now given.entry history.old history.new out.old out.new errors.old errors.new result }
     ensures made { MakesFor task.now (H.made history.old) (H.made history.new) }
+    ensures cause { OnErr result (HasFailed W.facts) }
 {
+    let Context { sources, system } = given;
     match task {
         Task::Judge(task) => put_answered(out, task.answer(alloc, sources)),
         Task::Probe(task) => put_answered(out, task.answer(alloc, sources)),
@@ -90,12 +98,19 @@ fn run_task<D: Disk, I: Input, H: Host, W: Output, E: Output>(
     errors: &mut E,
 ) -> Result<u8, WriteFault>
     ensures quiet { tells_progress task.now ≡ false → TellsIfLost E.facts E.contents errors.old errors.new task.now result }
-    ensures answered { AnswersTask (outside_of D.facts I.facts H.facts H.made H.Port.facts H.File.facts system.now history.old history.new) task.now (W.contents out.old) (W.contents out.new) result }
+    ensures answered { AnswersTaskAt D.facts I.facts H.facts H.made H.Port.facts H.File.facts W.contents E.facts E.contents task.now system.now history.old history.new out.old out.new errors.old errors.new result }
     ensures made { MakesFor task.now (H.made history.old) (H.made history.new) }
+    ensures cause { OnErr result (HasFailed W.facts) }
 {
     let places = task.places();
     match Sources::read(alloc, system.disk, system.input, &places) {
-        Ok(sources) => answer_given(alloc, task, &sources, system, history, out, errors),
+        Ok(sources) => {
+            let given = Context {
+                sources: &sources,
+                system,
+            };
+            answer_given(alloc, task, given, history, out, errors)
+        }
         Err(ReadFault::Unreadable) => put_refusal(out, Refusal::Files),
         Err(ReadFault::OutOfMemory) => put_refusal(out, Refusal::Memory),
     }
@@ -112,8 +127,9 @@ fn run_by_key<D: Disk, I: Input, H: Host, W: Output, E: Output>(
     errors: &mut E,
 ) -> Result<u8, WriteFault>
     ensures quiet { tells_progress task.now ≡ false → TellsIfLost E.facts E.contents errors.old errors.new task.now result }
-    ensures answered { AnswersByKey (outside_of D.facts I.facts H.facts H.made H.Port.facts H.File.facts system.now history.old history.new) task.now (W.contents out.old) (W.contents out.new) result }
+    ensures answered { AnswersBySeal D.facts I.facts H.facts H.made H.Port.facts H.File.facts W.contents E.facts E.contents task.now system.now history.old history.new out.old out.new errors.old errors.new result }
     ensures made { MakesFor task.now (H.made history.old) (H.made history.new) }
+    ensures cause { OnErr result (HasFailed W.facts) }
 {
     match task.key() {
         None => run_task(alloc, task, system, history, out, errors),
@@ -168,6 +184,7 @@ pub fn run<D: Disk, I: Input, H: Host, W: Output, E: Output>(
     ensures quiet { errors.new ≢ errors.old → (result ≡ Ok 2) ⊎ ((t : Task) × IsTask (texts words.now) t × IsLoud E.facts E.contents errors.old errors.new t result) }
     ensures runs { Runs D.facts I.facts H.facts H.made H.Port.facts H.File.facts W.contents E.facts E.contents words.now system.now history.old history.new out.old out.new errors.old errors.new result }
     ensures made { Makes (texts words.now) (H.made history.old) (H.made history.new) }
+    ensures cause { OnErr result (HasFailed W.facts) }
 {
     match parse(alloc, words) {
         Ok(task) => run_by_key(alloc, &task, system, history, out, errors),
@@ -223,6 +240,7 @@ pub fn run_program<D: Disk, I: Input, H: Host, W: Output, E: Output>(
 ) -> Result<u8, WriteFault>
     ensures runs { Calls D.facts I.facts H.facts H.made H.Port.facts H.File.facts W.contents E.facts E.contents called.now system.now history.old history.new out.old out.new errors.old errors.new result }
     ensures made { MakesCalled (called_by called.now) (H.made history.old) (H.made history.new) }
+    ensures cause { OnErr result (HasFailed W.facts) }
 {
     match called {
         Ok(words) => match tail_of(alloc, words) {

@@ -1,15 +1,17 @@
-//! Refusals and their text.
+//! Refusals and their lines.
 
-ghost use Rattle.std.specs.Prelude.{◌++◌, Some};
-ghost use Rattle.std.specs.Fmt.{DisplaysOnOk, decimal};
-ghost use Rattle.adjudicate_core.specs.Lines.{refused_entry, refused_fen, refused_file, refused_message};
+ghost use Rattle.std.specs.Prelude.{◌≡◌, ◌≤◌, ◌++◌, length};
+ghost use Rattle.adjudicate_core.specs.Lines.{entry_fault_words, fault_text, file_fault_name, message_fault, refusal_words, refused_entry, refused_fen, refused_file, refused_message};
+ghost use Rattle.record_audit.specs.Findings.{refused_record};
 
 use crate::entries::EntryFault;
+use crate::line_parts::{add_word, numbered};
 use crate::tables::FileFault;
 use arrayvec::ArrayString;
 use fen_text::FenFault;
+use game_status::add_refused_record;
+use line_teller::LineWords;
 use move_msg::{MessageFault, RecordFault};
-use std::fmt;
 
 /// Why something is refused.
 #[derive(Clone, Copy)]
@@ -46,72 +48,113 @@ pub(crate) enum Refusal {
     Memory,
 }
 
-/// Writes why a text is no position.
-fn fmt_fen<W: fmt::Write>(f: &mut fmt::Formatter<W>, fault: FenFault) -> fmt::Result
-    ensures { DisplaysOnOk W.Write.write_str_gives f.old result (Some (refused_fen fault)) f.new }
+/// Adds the fault of a text, and that of the position after it where the text spells its parts.
+fn add_text_fault(line: &mut LineWords, fault: FenFault)
+    requires { length line.old ≤ 200 }
+    ensures { line.new ≡ line.old ++ fault_text fault }
 {
     match fault {
-        FenFault::BadPosition(fault) => write!(f, "refused FEN BadPosition {}", fault.name()),
-        _ => write!(f, "refused FEN {}", fault.name()),
+        FenFault::BadPosition(fault) => {
+            line.add("BadPosition ");
+            line.add(fault.name());
+        }
+        _ => line.add(fault.name()),
     }
 }
 
-/// Writes that a file is refused.
-fn fmt_file<W: fmt::Write>(f: &mut fmt::Formatter<W>, name: &str, word: &str) -> fmt::Result
-    ensures { DisplaysOnOk W.Write.write_str_gives f.old result (Some (refused_file name.now word.now)) f.new }
+/// Adds why the game of a line isn't entered.
+fn add_entry_fault(line: &mut LineWords, fault: EntryFault)
+    requires { length line.old ≤ 200 }
+    ensures { line.new ≡ line.old ++ entry_fault_words fault }
 {
-    write!(f, "refused {name} {word}")
+    match fault {
+        EntryFault::Fields => line.add("fields"),
+        EntryFault::Name => line.add("name"),
+        EntryFault::Start(fault) => add_text_fault(line, fault),
+        EntryFault::Delay => line.add("delay"),
+        EntryFault::Keeper => line.add("keeper"),
+    }
 }
 
-/// Writes that a message is refused.
-fn fmt_message<W: fmt::Write>(f: &mut fmt::Formatter<W>, number: usize, word: &str) -> fmt::Result
-    ensures { DisplaysOnOk W.Write.write_str_gives f.old result (Some (refused_message number word.now)) f.new }
+/// What is wrong with a message, or that it is cut.
+fn message_fault(fault: Option<MessageFault>) -> &'static str
+    ensures is { result.now ≡ message_fault fault }
+    ensures short { length result.now ≤ 9 }
 {
-    write!(f, "refused message {number} {word}")
+    match fault {
+        None => "Cut",
+        Some(fault) => fault.name(),
+    }
 }
 
-/// Writes that the game of a line is refused.
-fn fmt_entry<W: fmt::Write>(
-    f: &mut fmt::Formatter<W>,
-    number: usize,
-    fault: EntryFault,
-) -> fmt::Result
-    ensures { DisplaysOnOk W.Write.write_str_gives f.old result (Some (refused_entry number fault)) f.new }
+/// The line of a text that is no position.
+fn fen_line(fault: FenFault) -> LineWords
+    ensures { result ≡ refused_fen fault }
 {
-    write!(f, "refused line {number} {fault}")
+    let mut line = LineWords::of("refused FEN ");
+    add_text_fault(&mut line, fault);
+    line
 }
 
-/// Writes a number after these words.
-fn fmt_number<W: fmt::Write>(f: &mut fmt::Formatter<W>, words: &str, number: usize) -> fmt::Result
-    ensures { DisplaysOnOk W.Write.write_str_gives f.old result (Some (words.now ++ decimal number)) f.new }
+/// The line of a file that isn't the table that it should be.
+fn file_line(name: &ArrayString<16>, fault: FileFault) -> LineWords
+    ensures { result ≡ refused_file name.now.bytes (file_fault_name fault) }
 {
-    write!(f, "{words}{number}")
+    let mut line = LineWords::of("refused ");
+    line.add(name.as_str());
+    add_word(&mut line, fault.name());
+    line
 }
 
-impl fmt::Display for Refusal {
-    ghost use Rattle.std.specs.Prelude.{Some};
-    ghost use Rattle.adjudicate_core.specs.Lines.{refusal_words};
+/// The line of a message.
+fn message_line(number: usize, fault: Option<MessageFault>) -> LineWords
+    ensures { result ≡ refused_message number (message_fault fault) }
+{
+    let mut line = numbered("refused message ", number);
+    add_word(&mut line, message_fault(fault));
+    line
+}
 
-    ghost output = { λ r. Some (refusal_words r) };
+/// The line of a game that isn't entered.
+fn entry_line(number: usize, fault: EntryFault) -> LineWords
+    ensures { result ≡ refused_entry number fault }
+{
+    let mut line = numbered("refused line ", number);
+    line.add(" ");
+    add_entry_fault(&mut line, fault);
+    line
+}
 
-    fn fmt<W: fmt::Write>(&self, f: &mut fmt::Formatter<W>) -> fmt::Result {
+/// The line of bytes that are no record.
+fn record_line(fault: RecordFault) -> LineWords
+    ensures { result ≡ refused_record fault }
+{
+    let mut line = LineWords::new();
+    add_refused_record(&mut line, fault);
+    line
+}
+
+impl Refusal {
+    /// Its line.
+    pub(crate) fn words(&self) -> LineWords
+        ensures { result ≡ refusal_words self.now }
+    {
         match self {
-            Refusal::Fen(fault) => fmt_fen(f, *fault),
-            Refusal::Manifest(number) => fmt_number(f, "refused manifest ", *number),
-            Refusal::File(name, fault) => fmt_file(f, name.as_str(), fault.name()),
-            Refusal::Message(number, None) => fmt_message(f, *number, "Cut"),
-            Refusal::Message(number, Some(fault)) => fmt_message(f, *number, fault.name()),
-            Refusal::Line(number) => fmt_number(f, "refused line ", *number),
-            Refusal::Entry(number, fault) => fmt_entry(f, *number, *fault),
-            Refusal::Move(place) => fmt_number(f, "refused move ", *place),
-            Refusal::Record(fault) => write!(f, "refused record {}", fault.name()),
-            Refusal::Port => f.write_str("refused port"),
-            Refusal::Keeper => f.write_str("refused keeper"),
-            Refusal::InUse => f.write_str("refused in use"),
-            Refusal::Files => f.write_str("refused files"),
-            Refusal::SharedKey => f.write_str("refused key shared"),
-            Refusal::Key(number) => fmt_number(f, "refused key ", *number),
-            Refusal::Memory => f.write_str("refused memory"),
+            Refusal::Fen(fault) => fen_line(*fault),
+            Refusal::Manifest(number) => numbered("refused manifest ", *number),
+            Refusal::File(name, fault) => file_line(name, *fault),
+            Refusal::Message(number, fault) => message_line(*number, *fault),
+            Refusal::Line(number) => numbered("refused line ", *number),
+            Refusal::Entry(number, fault) => entry_line(*number, *fault),
+            Refusal::Move(place) => numbered("refused move ", *place),
+            Refusal::Record(fault) => record_line(*fault),
+            Refusal::Port => LineWords::of("refused port"),
+            Refusal::Keeper => LineWords::of("refused keeper"),
+            Refusal::InUse => LineWords::of("refused in use"),
+            Refusal::Files => LineWords::of("refused files"),
+            Refusal::SharedKey => LineWords::of("refused key shared"),
+            Refusal::Key(number) => numbered("refused key ", *number),
+            Refusal::Memory => LineWords::of("refused memory"),
         }
     }
 }

@@ -1,12 +1,13 @@
 //! The source of a game: the moves of the input at a port.
 
-ghost use Rattle.std.specs.Prelude.{◌≡◌, ◌*◌, IfErr, IfOk};
+ghost use Rattle.std.specs.Prelude.{◌≡◌, ◌*◌, IfErr, IfOk, OnErr};
 ghost use Rattle.std.specs.Duration.{as_nanos};
 ghost use Rattle.board_core.specs.Position.{IsPosition};
 ghost use Rattle.fen_text.specs.Fen.{SpellsPosition};
 ghost use Rattle.adjudicate_core.specs.Lines.{refusal_words};
-ghost use Rattle.adjudicate_core.specs.Listens.{hosted};
+ghost use Rattle.adjudicate_core.specs.Outsides.{outside_of};
 ghost use Rattle.adjudicate_core.specs.Sends.{BindsAndSends, EndsOnce, IsFiled, IsSent, IsStamped, LacksFile, LacksSent, LacksTold, Sends, SendsOver};
+ghost use Rattle.line_teller.specs.ToldLines.{HasFailed};
 
 use crate::binding::bind;
 use crate::commands::{GameFile, Send, SentGame, ToldGame};
@@ -102,7 +103,8 @@ fn game_of<D: Disk>(alloc: Global, task: &Send<'_>, disk: &D) -> Result<Stamped,
 
 /// Writes a refusal as the only line.
 fn refuse<W: Output>(out: &mut W, refusal: Refusal) -> Result<Ended, WriteFault>
-    ensures { EndsOnce (refusal_words refusal) (W.contents out.old) (W.contents out.new) result }
+    ensures told { EndsOnce (refusal_words refusal) (W.contents out.old) (W.contents out.new) result }
+    ensures cause { OnErr result (HasFailed W.facts) }
 {
     match put_refusal(out, refusal) {
         Ok(status) => Ok(Ended::With(status)),
@@ -132,7 +134,8 @@ fn send_over<I: Input, P: Port, W: Output>(
     port: &mut P,
     out: &mut W,
 ) -> Result<Ended, WriteFault>
-    ensures { SendsOver (I.facts input.now) terms start (P.facts port.old) (P.facts port.new) (W.contents out.old) (W.contents out.new) result }
+    ensures told { SendsOver (I.facts input.now) terms start (P.facts port.old) (P.facts port.new) (W.contents out.old) (W.contents out.new) result }
+    ensures cause { OnErr result (HasFailed W.facts) }
 {
     match input.lines(alloc) {
         Ok(mut lines) => send_game(alloc, terms, start, &mut lines, port, out),
@@ -141,7 +144,7 @@ fn send_over<I: Input, P: Port, W: Output>(
 }
 
 /// Binds the address that the words name, and sends from there. Where it can't be bound, the line is `refused port`.
-fn bind_and_send<D, I: Input, H: Host, W: Output>(
+fn bind_and_send<D: Disk, I: Input, H: Host, W: Output>(
     alloc: Global,
     task: &Send<'_>,
     game: &Stamped,
@@ -149,7 +152,8 @@ fn bind_and_send<D, I: Input, H: Host, W: Output>(
     history: &mut H::History,
     out: &mut W,
 ) -> Result<Ended, WriteFault>
-    ensures { BindsAndSends (hosted (H.facts system.now.host.now) H.Port.facts H.File.facts) (I.facts system.now.input.now) task.now game.now.stamp game.now.start (H.made history.old) (H.made history.new) (W.contents out.old) (W.contents out.new) result }
+    ensures told { BindsAndSends (outside_of D.facts I.facts H.facts H.made H.Port.facts H.File.facts system.now history.old history.new) task.now game.now.stamp game.now.start (W.contents out.old) (W.contents out.new) result }
+    ensures cause { OnErr result (HasFailed W.facts) }
 {
     let terms = terms_of(task, game.stamp);
     match bind(alloc, system.host, history, task.bind, task.to) {
@@ -175,7 +179,8 @@ pub fn send<D: Disk, I: Input, H: Host, W: Output>(
     history: &mut H::History,
     out: &mut W,
 ) -> Result<Ended, WriteFault>
-    ensures { Sends (D.facts system.now.disk.now) (I.facts system.now.input.now) (hosted (H.facts system.now.host.now) H.Port.facts H.File.facts) task.now (H.made history.old) (H.made history.new) (W.contents out.old) (W.contents out.new) result }
+    ensures told { Sends (outside_of D.facts I.facts H.facts H.made H.Port.facts H.File.facts system.now history.old history.new) task.now (W.contents out.old) (W.contents out.new) result }
+    ensures cause { OnErr result (HasFailed W.facts) }
 {
     match game_of(alloc, task, system.disk) {
         Ok(game) => bind_and_send(alloc, task, &game, system, history, out),

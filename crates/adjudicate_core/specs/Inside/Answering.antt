@@ -4,14 +4,27 @@ use Rattle.system_io.specs.Disks.{DiskFacts}
 use Rattle.system_io.specs.Hosts.{HostFacts, Made}
 use Rattle.system_io.specs.Inputs.{InputFacts}
 use Rattle.system_io.specs.KeptFiles.{KeptFacts}
+use Rattle.system_io.specs.Outputs.{OutputFacts}
 use Rattle.system_io.specs.Ports.{PortFacts}
 use Rattle.system_io.specs.declared.output.WriteFault.{WriteFault}
-use Rattle.task_files.specs.Given.{Given}
 use Rattle.adjudicate_core.specs.Outsides.{outside_of}
-use Rattle.adjudicate_core.specs.Running.{AnswersFrom}
+use Rattle.adjudicate_core.specs.Running.{AnswersByKey, AnswersFrom, AnswersTask}
+use Rattle.adjudicate_core.specs.Silences.{TellsSilence}
 use Rattle.adjudicate_core.specs.declared.commands.Task.{Task}
+use Rattle.adjudicate_core.specs.declared.program.Context.{Context}
 use Rattle.adjudicate_core.specs.declared.system.System.{System}
 
--- from what was read for it, at a system, from one history of the host and one moment of the output to later ones
-abbrev pub AnswersGiven : {D I H M P F W : Type 0} → (D → DiskFacts) → (I → InputFacts) → (H → HostFacts P F) → (M → Option (List Made)) → (P → PortFacts) → (F → KeptFacts) → (W → Option (List ℕ)) → Task → Given → System D I H → M → M → W → W → Result ℕ WriteFault → Type 0
-AnswersGiven disk input host made port file written t given s history history' out out' r = AnswersFrom (outside_of disk input host made port file s history history') t given (written out) (written out') r
+-- from what was read for it and at a system, from one history of the host and one moment of each output to later ones
+abbrev pub AnswersGiven : {D I H M P F W E : Type 0} → (D → DiskFacts) → (I → InputFacts) → (H → HostFacts P F) → (M → Option (List Made)) → (P → PortFacts) → (F → KeptFacts) → (W → Option (List ℕ)) → (E → OutputFacts) → (E → Option (List ℕ)) → Task → Context D I H → M → M → W → W → E → E → Result ℕ WriteFault → Type 0
+AnswersGiven disk input host made port file written facts told t given history history' out out' errors errors' r =
+    AnswersFrom (outside_of disk input host made port file given.system.now history history') (TellsSilence facts told errors errors') t given.sources.now (written out) (written out') r
+
+-- from what is read for it
+abbrev pub AnswersTaskAt : {D I H M P F W E : Type 0} → (D → DiskFacts) → (I → InputFacts) → (H → HostFacts P F) → (M → Option (List Made)) → (P → PortFacts) → (F → KeptFacts) → (W → Option (List ℕ)) → (E → OutputFacts) → (E → Option (List ℕ)) → Task → System D I H → M → M → W → W → E → E → Result ℕ WriteFault → Type 0
+AnswersTaskAt disk input host made port file written facts told t s history history' out out' errors errors' r =
+    AnswersTask (outside_of disk input host made port file s history history') (TellsSilence facts told errors errors') t (written out) (written out') r
+
+-- by the keys that it names
+abbrev pub AnswersBySeal : {D I H M P F W E : Type 0} → (D → DiskFacts) → (I → InputFacts) → (H → HostFacts P F) → (M → Option (List Made)) → (P → PortFacts) → (F → KeptFacts) → (W → Option (List ℕ)) → (E → OutputFacts) → (E → Option (List ℕ)) → Task → System D I H → M → M → W → W → E → E → Result ℕ WriteFault → Type 0
+AnswersBySeal disk input host made port file written facts told t s history history' out out' errors errors' r =
+    AnswersByKey (outside_of disk input host made port file s history history') (TellsSilence facts told errors errors') t (written out) (written out') r

@@ -1,10 +1,11 @@
 //! `audit --games`: the audit of the games of a folder, or of two.
 
-ghost use Rattle.std.specs.Prelude.{◌≡◌, IfErr, IfOk, None, OnOk, codes};
+ghost use Rattle.std.specs.Prelude.{◌≡◌, IfErr, IfOk, None, OnErr, OnOk, codes};
 ghost use Rattle.clap.specs.Words.{first_value, found_of};
 ghost use Rattle.adjudicate_core.specs.Commands.AuditGames.{HasValues, LacksGameWords, Puts, faults, named, without_faults};
 ghost use Rattle.adjudicate_core.specs.Misuses.{AreWell, IsFirst, fault_words};
 ghost use Rattle.task_files.specs.Sources.{named_by};
+ghost use Rattle.line_teller.specs.ToldLines.{HasFailed};
 
 use crate::answers::status_told;
 use crate::lines::put_refusal;
@@ -83,7 +84,8 @@ impl<'a> AuditGames<'a> {
         disk: &D,
         out: &mut W,
     ) -> Result<u8, WriteFault>
-        ensures { Puts (D.facts disk.now) self.now sources.now (W.contents out.old) (W.contents out.new) result }
+        ensures told { Puts (D.facts disk.now) self.now sources.now (W.contents out.old) (W.contents out.new) result }
+        ensures cause { OnErr result (HasFailed W.facts) }
     {
         let set = match gather(alloc, sources, CacheSize::usual()) {
             Ok(Ok(set)) => set,

@@ -1,12 +1,13 @@
 //! `follow`: the game of the moves of the input, ply by ply as they come.
 
-ghost use Rattle.std.specs.Prelude.{◌≡◌, IfErr, IfOk, Ok};
+ghost use Rattle.std.specs.Prelude.{◌≡◌, IfErr, IfOk, Ok, OnErr};
 ghost use Rattle.board_core.specs.Position.{IsPosition};
 ghost use Rattle.clap.specs.Words.{first_value, found_of};
 ghost use Rattle.fen_text.specs.Fen.{SpellsPosition};
 ghost use Rattle.adjudicate_core.specs.Commands.Follow.{HasValues, Puts, PutsGame, faults, named};
 ghost use Rattle.adjudicate_core.specs.Misuses.{IsFirst, fault_words};
 ghost use Rattle.task_files.specs.Sources.{named_by};
+ghost use Rattle.line_teller.specs.ToldLines.{HasFailed};
 
 use super::{Form, Value};
 use crate::answers::status_told;
@@ -67,7 +68,8 @@ fn put_game<I: Input, W: Output>(
     input: &I,
     out: &mut W,
 ) -> Result<u8, WriteFault>
-    ensures { PutsGame (I.facts input.now) delay start.now set.entry.tables (W.contents out.old) (W.contents out.new) result }
+    ensures told { PutsGame (I.facts input.now) delay start.now set.entry.tables (W.contents out.old) (W.contents out.new) result }
+    ensures cause { OnErr result (HasFailed W.facts) }
 {
     let Ok(mut lines) = input.lines(alloc) else {
         return put_refusal(out, Refusal::Memory);
@@ -113,7 +115,8 @@ impl<'a> Follow<'a> {
     ) -> Result<u8, WriteFault>
         requires spelled { SpellsPosition self.now.fen.now start.now }
         requires position { IsPosition start.now }
-        ensures { Puts (I.facts input.now) self.now sources.now (W.contents out.old) (W.contents out.new) result }
+        ensures told { Puts (I.facts input.now) self.now sources.now (W.contents out.old) (W.contents out.new) result }
+        ensures cause { OnErr result (HasFailed W.facts) }
     {
         match gather(alloc, sources, CacheSize::usual()) {
             Ok(Ok(set)) => put_game(alloc, set, start, self.delay, input, out),
@@ -132,7 +135,8 @@ impl<'a> Follow<'a> {
         input: &I,
         out: &mut W,
     ) -> Result<u8, WriteFault>
-        ensures { Puts (I.facts input.now) self.now sources.now (W.contents out.old) (W.contents out.new) result }
+        ensures told { Puts (I.facts input.now) self.now sources.now (W.contents out.old) (W.contents out.new) result }
+        ensures cause { OnErr result (HasFailed W.facts) }
     {
         match read(self.fen.as_bytes()) {
             Err(fault) => put_refusal(out, Refusal::Fen(fault)),

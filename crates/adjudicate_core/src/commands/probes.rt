@@ -12,6 +12,7 @@ ghost use Rattle.judge_core.specs.Ask.{ask_of};
 ghost use Rattle.task_files.specs.Sources.{named_by};
 ghost use Rattle.adjudicate_core.specs.Reply.{IsText};
 ghost use Rattle.adjudicate_core.specs.TableAnswers.{PutsByTables};
+ghost use Rattle.line_teller.specs.ToldLines.{HasFailed};
 
 use super::{Form, Value};
 use crate::json_answers::JsonTeller;
@@ -175,6 +176,7 @@ impl<'a> Probes<'a> {
     ) -> Result<u8, WriteFault>
         ensures written { PutsLinesOrNone (TellsLineIn self.now.json (ask_of self.now.determined) set.entry.tables) IsText (I.facts input.now) (W.contents out.old) (W.contents out.new) result }
         ensures quiet { self.now.progress ≡ false → errors.new ≡ errors.old }
+        ensures cause { OnErr result (HasFailed W.facts) }
     {
         let ask = Ask::of(self.determined);
         if self.json {
@@ -211,6 +213,7 @@ impl<'a> Probes<'a> {
     ) -> Result<u8, WriteFault>
         ensures written { PutsByTables (TellsLineIn self.now.json (ask_of self.now.determined)) (I.facts input.now) sources.now (W.contents out.old) (W.contents out.new) result }
         ensures quiet { self.now.progress ≡ false → errors.new ≡ errors.old }
+        ensures cause { OnErr result (HasFailed W.facts) }
     {
         match gather(alloc, sources, CacheSize::usual()) {
             Ok(Ok(set)) => self.answer_lines(alloc, set, input, out, errors),

@@ -15,6 +15,7 @@ ghost use Rattle.judge_core.specs.Ask.{ask_of};
 ghost use Rattle.judge_core.specs.Words.{columns_words};
 ghost use Rattle.move_msg.specs.TextLines.{ended};
 ghost use Rattle.task_files.specs.Sources.{named_by};
+ghost use Rattle.line_teller.specs.ToldLines.{HasFailed};
 
 use super::{Form, Value};
 use crate::answers::{Answer, put_answer, put_answered};
@@ -209,6 +210,7 @@ fn answer_text(
 fn put_with_empty_line<W: Output>(out: &mut W, answer: &Answer) -> Result<bool, WriteFault>
     ensures written { WritesFront (W.contents out.old) (W.contents out.new) (ended (reply_of answer.now).text) result }
     ensures done { IfOk result (λ done. done ≡ ((reply_of answer.now).status == 0)) }
+    ensures cause { OnErr result (HasFailed W.facts) }
 {
     match put_answer(out, answer) {
         Ok(status) => match out.put(b"\n") {
@@ -288,6 +290,7 @@ impl<'a> Root<'a> {
     ) -> Result<u8, WriteFault>
         ensures written { PutsLinesOrNone (TellsLineIn self.now.json (ask_of self.now.determined) set.entry.tables) IsText (I.facts input.now) (W.contents out.old) (W.contents out.new) result }
         ensures quiet { errors.new ≡ errors.old }
+        ensures cause { OnErr result (HasFailed W.facts) }
     {
         let ask = Ask::of(self.determined);
         if self.json {
@@ -316,6 +319,7 @@ impl<'a> Root<'a> {
     ) -> Result<u8, WriteFault>
         ensures written { PutsByTables (TellsLineIn self.now.json (ask_of self.now.determined)) (I.facts input.now) sources.now (W.contents out.old) (W.contents out.new) result }
         ensures quiet { errors.new ≡ errors.old }
+        ensures cause { OnErr result (HasFailed W.facts) }
     {
         match gather(alloc, sources, CacheSize::usual()) {
             Ok(Ok(set)) => self.answer_lines(alloc, set, input, out, errors),
@@ -342,6 +346,7 @@ impl<'a> Root<'a> {
     ) -> Result<u8, WriteFault>
         ensures written { Puts self.now.json (ask_of self.now.determined) (I.facts input.now) self.now.fen sources.now (W.contents out.old) (W.contents out.new) result }
         ensures quiet { errors.new ≡ errors.old }
+        ensures cause { OnErr result (HasFailed W.facts) }
     {
         match self.fen {
             Some(text) => {

@@ -1,10 +1,11 @@
 //! `status`: how far the games of a folder have come, or those of two.
 
-ghost use Rattle.std.specs.Prelude.{◌≡◌, IfErr, IfOk};
+ghost use Rattle.std.specs.Prelude.{◌≡◌, IfErr, IfOk, OnErr};
 ghost use Rattle.clap.specs.Words.{first_value, found_of};
 ghost use Rattle.adjudicate_core.specs.Commands.Status.{HasValues, Puts, faults, named};
 ghost use Rattle.adjudicate_core.specs.Misuses.{IsFirst, fault_words};
 ghost use Rattle.task_files.specs.Sources.{named_by};
+ghost use Rattle.line_teller.specs.ToldLines.{HasFailed};
 
 use super::{Form, Value};
 use crate::answers::status_told;
@@ -64,7 +65,8 @@ impl<'a> ShowStatus<'a> {
         disk: &D,
         out: &mut W,
     ) -> Result<u8, WriteFault>
-        ensures { Puts (D.facts disk.now) self.now (W.contents out.old) (W.contents out.new) result }
+        ensures told { Puts (D.facts disk.now) self.now (W.contents out.old) (W.contents out.new) result }
+        ensures cause { OnErr result (HasFailed W.facts) }
     {
         status_told(tell_status(alloc, disk, self.games, self.other, out))
     }

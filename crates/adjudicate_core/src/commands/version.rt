@@ -1,8 +1,9 @@
 //! `version`: the program's version.
 
-ghost use Rattle.std.specs.Prelude.{◌≡◌};
+ghost use Rattle.std.specs.Prelude.{◌≡◌, OnErr};
 ghost use Rattle.adjudicate_core.specs.Commands.Version.{Answers, named};
 ghost use Rattle.task_files.specs.Sources.{named_by};
+ghost use Rattle.line_teller.specs.ToldLines.{HasFailed};
 
 use system_io::{Output, WriteFault};
 use task_files::Places;
@@ -25,7 +26,8 @@ impl Version {
 
     /// Writes the version as a line, and returns the status 0.
     pub(crate) fn answer<W: Output>(&self, out: &mut W) -> Result<u8, WriteFault>
-        ensures { Answers (W.contents out.old) (W.contents out.new) result }
+        ensures told { Answers (W.contents out.old) (W.contents out.new) result }
+        ensures cause { OnErr result (HasFailed W.facts) }
     {
         match out.put(TEXT.as_bytes()) {
             Ok(()) => Ok(0),

@@ -1,8 +1,8 @@
 use Rattle.adjudicate_core.specs.Enters.{Kept, Unkept}
 use Rattle.adjudicate_core.proofs.entering.put_game.Goals as goal
 
-pub returns-in-Ok : goal.returns-in-Ok
-returns-in-Ok g c = Kept c.enter_game.ensures.made _ c.in-Ok.ensures.ok c.put_stamp.ensures
+pub returns-in-Ok-clause-told : goal.returns-in-Ok-clause-told
+returns-in-Ok-clause-told g c = Kept c.enter_game.ensures.made _ c.in-Ok.ensures.ok c.put_stamp.ensures.told
 
-pub returns-in-Err : goal.returns-in-Err
-returns-in-Err g c = Unkept c.enter_game.ensures.made _ c.in-Err.ensures.err (rw c.refusal.ensures at c.put_refusal.ensures)
+pub returns-in-Err-clause-told : goal.returns-in-Err-clause-told
+returns-in-Err-clause-told g c = Unkept c.enter_game.ensures.made _ c.in-Err.ensures.err (rw c.refusal.ensures at c.put_refusal.ensures.told)

@@ -4,24 +4,24 @@ use Rattle.adjudicate_core.proofs.HostLaws.{unlisted}
 use Rattle.system_io.proofs.HistoryLaws.{Passes-nil}
 use Rattle.adjudicate_core.proofs.hosting.host_games.Goals as goal
 
-pub returns-in-Ok-Err : goal.returns-in-Ok-Err
-returns-in-Ok-Err g c =
+pub returns-in-Ok-Err-clause-told : goal.returns-in-Ok-Err-clause-told
+returns-in-Ok-Err-clause-told g c =
     let refused = rw c.in-Ok-Err.field-0-is at c.in-Ok-Err.ensures.tables in
-    BadTables (Passes-nil _) _ (sym refused) c.put_refusal.ensures
+    BadTables (Passes-nil _) _ (sym refused) c.put_refusal.ensures.told
 
-pub returns-in-Err : goal.returns-in-Err
-returns-in-Err g c = NoRoom (Passes-nil _) c.put_refusal-in-Err.ensures
+pub returns-in-Err-clause-told : goal.returns-in-Err-clause-told
+returns-in-Err-clause-told g c = NoRoom (Passes-nil _) c.put_refusal-in-Err.ensures.told
 
-pub returns-in-Err-list_games : goal.returns-in-Err-list_games
-returns-in-Err-list_games g c =
+pub returns-in-Err-list_games-clause-told : goal.returns-in-Err-list_games-clause-told
+returns-in-Err-list_games-clause-told g c =
     let tables = rw c.in-Ok-Ok.field-0-is at c.in-Ok-Ok.ensures.tables in
-    unlisted _ _ _ _ _ _ _ _ _ _ c.in-Err-list_games.refusal c.in-Ok-Ok.tables tables (Passes-nil _) c.in-Err-list_games.ensures.err c.put_refusal-in-Err-list_games.ensures
+    unlisted _ _ _ _ _ _ _ _ _ _ c.in-Err-list_games.refusal c.in-Ok-Ok.tables tables (Passes-nil _) c.in-Err-list_games.ensures.err c.put_refusal-in-Err-list_games.ensures.told
 
-pub returns-in-Err-manifest_for : goal.returns-in-Err-manifest_for
-returns-in-Err-manifest_for g c = NoRoom (Passes-nil _) c.put_refusal-in-Err-manifest_for.ensures
+pub returns-in-Err-manifest_for-clause-told : goal.returns-in-Err-manifest_for-clause-told
+returns-in-Err-manifest_for-clause-told g c = NoRoom (Passes-nil _) c.put_refusal-in-Err-manifest_for.ensures.told
 
-pub returns : goal.returns
-returns g c =
+pub returns-clause-told : goal.returns-clause-told
+returns-clause-told g c =
     let tables = rw c.in-Ok-Ok.field-0-is at c.in-Ok-Ok.ensures.tables in
     let cache = rw c.in-Ok-Ok.field-0-is at c.in-Ok-Ok.ensures.cache in
-    Hosting c.in-Ok-Ok.tables tables cache c.in-Ok.ensures.ok.0 c.in-Ok.ensures.ok.1 c.in-Ok-manifest_for.manifest.items c.in-Ok-manifest_for.ensures (rw c.deref.ensures.value at c.lock_and_serve.ensures)
+    Hosting c.in-Ok-Ok.tables tables cache c.in-Ok.ensures.ok.0 c.in-Ok.ensures.ok.1 c.in-Ok-manifest_for.manifest.items c.in-Ok-manifest_for.ensures (rw c.deref.ensures.value at c.lock_and_serve.ensures.told)

@@ -3,5 +3,5 @@ use Rattle.adjudicate_core.specs.Hostings.{NoRoomForGames}
 use Rattle.system_io.proofs.HistoryLaws.{Passes-nil}
 use Rattle.adjudicate_core.proofs.hosting.serve_at.Goals as goal
 
-pub returns-in-Err : goal.returns-in-Err
-returns-in-Err g c = NoRoomForGames (Passes-nil _) refl c.put_refusal.ensures
+pub returns-in-Err-clause-told : goal.returns-in-Err-clause-told
+returns-in-Err-clause-told g c = NoRoomForGames (Passes-nil _) refl c.put_refusal.ensures.told

@@ -1,11 +1,11 @@
 use Rattle.adjudicate_core.specs.Listens.{Bound, NoRoomToBind, Unbound}
 use Rattle.adjudicate_core.proofs.listening.bind_and_serve.Goals as goal
 
-pub returns-in-Ok : goal.returns-in-Ok
-returns-in-Ok g c = Bound _ c.in-Ok.ensures.made _ _ c.in-Ok.ensures.bound c.in-Ok.ensures.each c.start_at.ensures
+pub returns-in-Ok-clause-told : goal.returns-in-Ok-clause-told
+returns-in-Ok-clause-told g c = Bound _ c.in-Ok.ensures.made _ _ c.in-Ok.ensures.bound c.in-Ok.ensures.each c.start_at.ensures.told
 
-pub returns-in-Err-Unbound : goal.returns-in-Err-Unbound
-returns-in-Err-Unbound g c = Unbound c.in-Err-Unbound.ensures.made (rw c.in-Err-Unbound.field-0-is at c.in-Err-Unbound.ensures.cause) c.put_refusal.ensures
+pub returns-in-Err-Unbound-clause-told : goal.returns-in-Err-Unbound-clause-told
+returns-in-Err-Unbound-clause-told g c = Unbound c.in-Err-Unbound.ensures.made (rw c.in-Err-Unbound.field-0-is at c.in-Err-Unbound.ensures.cause) c.put_refusal.ensures.told
 
-pub returns : goal.returns
-returns g c = NoRoomToBind c.in-Err-OutOfMemory.ensures.made (rw c.in-Err-OutOfMemory.field-0-is at c.in-Err-OutOfMemory.ensures.cause) c.put_refusal-in-Err-OutOfMemory.ensures
+pub returns-clause-told : goal.returns-clause-told
+returns-clause-told g c = NoRoomToBind c.in-Err-OutOfMemory.ensures.made (rw c.in-Err-OutOfMemory.field-0-is at c.in-Err-OutOfMemory.ensures.cause) c.put_refusal-in-Err-OutOfMemory.ensures.told

@@ -2,11 +2,11 @@ use Rattle.adjudicate_core.specs.Listens.{Kept, NoRoomToKeep, Unreadable}
 use Rattle.arbiter_server.proofs.PortLaws.{Passed-nil}
 use Rattle.adjudicate_core.proofs.listening.keep_and_serve.Goals as goal
 
-pub returns-in-Ok : goal.returns-in-Ok
-returns-in-Ok g c = Kept _ _ (record { one = c.in-Ok.ensures.one; in_file = c.in-Ok.ensures.found }) c.open_and_serve.ensures
+pub returns-in-Ok-clause-told : goal.returns-in-Ok-clause-told
+returns-in-Ok-clause-told g c = Kept _ _ (record { one = c.in-Ok.ensures.one; in_file = c.in-Ok.ensures.found }) c.open_and_serve.ensures.told
 
-pub returns-in-Err-Unreadable : goal.returns-in-Err-Unreadable
-returns-in-Err-Unreadable g c = Unreadable (rw c.in-Err-Unreadable.field-0-is at c.in-Err-Unreadable.ensures.cause) (Passed-nil _) c.put_refusal.ensures
+pub returns-in-Err-Unreadable-clause-told : goal.returns-in-Err-Unreadable-clause-told
+returns-in-Err-Unreadable-clause-told g c = Unreadable (rw c.in-Err-Unreadable.field-0-is at c.in-Err-Unreadable.ensures.cause) (Passed-nil _) c.put_refusal.ensures.told
 
-pub returns : goal.returns
-returns g c = NoRoomToKeep (rw c.in-Err-OutOfMemory.field-0-is at c.in-Err-OutOfMemory.ensures.cause) (Passed-nil _) c.put_refusal-in-Err-OutOfMemory.ensures
+pub returns-clause-told : goal.returns-clause-told
+returns-clause-told g c = NoRoomToKeep (rw c.in-Err-OutOfMemory.field-0-is at c.in-Err-OutOfMemory.ensures.cause) (Passed-nil _) c.put_refusal-in-Err-OutOfMemory.ensures.told

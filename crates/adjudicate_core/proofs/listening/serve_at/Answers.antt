@@ -3,8 +3,8 @@ use Rattle.adjudicate_core.specs.Listens.{Locked}
 use Rattle.adjudicate_core.proofs.LockLaws.{unserved}
 use Rattle.adjudicate_core.proofs.listening.serve_at.Goals as goal
 
-pub returns-in-Ok : goal.returns-in-Ok
-returns-in-Ok g c = Locked _ c.in-Ok.ensures.made c.in-Ok.ensures.ok c.serve_over.ensures
+pub returns-in-Ok-clause-told : goal.returns-in-Ok-clause-told
+returns-in-Ok-clause-told g c = Locked _ c.in-Ok.ensures.made c.in-Ok.ensures.ok c.serve_over.ensures.told
 
-pub returns-in-Err : goal.returns-in-Err
-returns-in-Err g c = unserved _ _ _ _ _ _ _ _ _ _ _ c.in-Err.refusal c.in-Err.ensures.made c.in-Err.ensures.err (Passed-nil _) c.put_refusal.ensures
+pub returns-in-Err-clause-told : goal.returns-in-Err-clause-told
+returns-in-Err-clause-told g c = unserved _ _ _ _ _ _ _ _ _ _ _ c.in-Err.refusal c.in-Err.ensures.made c.in-Err.ensures.err (Passed-nil _) c.put_refusal.ensures.told

@@ -1,70 +1,71 @@
 use Rattle.std.proofs.Common.{◌∙◌, refl, sym, ap, inl}
 use Rattle.adjudicate_core.specs.Tasks.{tells_progress}
-use Rattle.adjudicate_core.proofs.AnswerLaws.{after_reading, listened, once, once_always, sent, told_or_quiet}
+use Rattle.adjudicate_core.proofs.AnswerLaws.{after_reading, listened, once, once_always, sent, sent_failed, told_or_quiet}
 use Rattle.adjudicate_core.proofs.HostLaws.{hosted_games}
 use Rattle.adjudicate_core.proofs.MakeLaws.{enter_makes, host_makes, listen_makes, makes_nothing, send_makes}
 use Rattle.adjudicate_core.proofs.program.answer_given.Goals as goal
 
 pub returns-in-Judge : goal.returns-in-Judge
-returns-in-Judge g c = record { answered = rw c.in-Judge.is (once c.answer.result _ c.answer.ensures.ok c.put_answered.result _ _ c.put_answered.ensures _ c.answer.ensures.memory); quiet = λ unasked. inl refl; made = makes_nothing _ _ }
+returns-in-Judge g c = record { answered = rw c.in-Judge.is (once c.answer.result _ c.answer.ensures.ok c.put_answered.result _ _ c.put_answered.ensures.told _ c.answer.ensures.memory); quiet = λ unasked. inl refl; made = makes_nothing _ _; cause = c.put_answered.ensures.cause }
 
 pub returns-in-Probe : goal.returns-in-Probe
-returns-in-Probe g c = record { answered = rw c.in-Probe.is (once c.answer-in-Probe.result _ c.answer-in-Probe.ensures.ok c.put_answered-in-Probe.result _ _ c.put_answered-in-Probe.ensures _ c.answer-in-Probe.ensures.memory); quiet = λ unasked. inl refl; made = makes_nothing _ _ }
+returns-in-Probe g c = record { answered = rw c.in-Probe.is (once c.answer-in-Probe.result _ c.answer-in-Probe.ensures.ok c.put_answered-in-Probe.result _ _ c.put_answered-in-Probe.ensures.told _ c.answer-in-Probe.ensures.memory); quiet = λ unasked. inl refl; made = makes_nothing _ _; cause = c.put_answered-in-Probe.ensures.cause }
 
 pub returns-in-Moves : goal.returns-in-Moves
-returns-in-Moves g c = record { answered = rw c.in-Moves.is (once c.answer-in-Moves.result _ c.answer-in-Moves.ensures.ok c.put_answered-in-Moves.result _ _ c.put_answered-in-Moves.ensures _ c.answer-in-Moves.ensures.memory); quiet = λ unasked. inl refl; made = makes_nothing _ _ }
+returns-in-Moves g c = record { answered = rw c.in-Moves.is (once c.answer-in-Moves.result _ c.answer-in-Moves.ensures.ok c.put_answered-in-Moves.result _ _ c.put_answered-in-Moves.ensures.told _ c.answer-in-Moves.ensures.memory); quiet = λ unasked. inl refl; made = makes_nothing _ _; cause = c.put_answered-in-Moves.ensures.cause }
 
 pub returns-in-Show : goal.returns-in-Show
-returns-in-Show g c = record { answered = rw c.in-Show.is c.answer-in-Show.ensures; quiet = λ unasked. inl refl; made = makes_nothing _ _ }
+returns-in-Show g c = record { answered = rw c.in-Show.is c.answer-in-Show.ensures.told; quiet = λ unasked. inl refl; made = makes_nothing _ _; cause = c.answer-in-Show.ensures.cause }
 
 pub returns-in-Run : goal.returns-in-Run
-returns-in-Run g c = record { answered = rw c.in-Run.is (once_always c.answer-in-Run.result _ c.answer-in-Run.ensures c.put_answered-in-Run.result _ _ c.put_answered-in-Run.ensures); quiet = λ unasked. inl refl; made = makes_nothing _ _ }
+returns-in-Run g c = record { answered = rw c.in-Run.is (once_always c.answer-in-Run.result _ c.answer-in-Run.ensures c.put_answered-in-Run.result _ _ c.put_answered-in-Run.ensures.told); quiet = λ unasked. inl refl; made = makes_nothing _ _; cause = c.put_answered-in-Run.ensures.cause }
 
 pub returns-in-Listen : goal.returns-in-Listen
-returns-in-Listen g c = record { answered = rw c.in-Listen.is (listened _ _ _ _ _ _ _ _ c.listen.result c.listen.ensures); quiet = λ unasked. inl refl; made = rw c.in-Listen.is (listen_makes _ _ _ _ _ _ _ _ c.listen.result c.listen.ensures) }
+returns-in-Listen g c = record { answered = rw c.in-Listen.is (listened _ _ _ _ _ _ _ _ c.listen.result c.listen.ensures.told); quiet = λ unasked. inl refl; made = rw c.in-Listen.is (listen_makes _ _ _ _ _ _ _ _ c.listen.result c.listen.ensures.told); cause = c.listen.ensures.cause }
 
 pub returns-in-Probes : goal.returns-in-Probes
-returns-in-Probes g c = record { answered = rw c.in-Probes.is c.answer-in-Probes.ensures.written; quiet = λ unasked. inl (c.answer-in-Probes.ensures.quiet (ap tells_progress (sym c.in-Probes.is) ∙ unasked)); made = makes_nothing _ _ }
+returns-in-Probes g c = record { answered = rw c.in-Probes.is c.answer-in-Probes.ensures.written; quiet = λ unasked. inl (c.answer-in-Probes.ensures.quiet (ap tells_progress (sym c.in-Probes.is) ∙ unasked)); made = makes_nothing _ _; cause = c.answer-in-Probes.ensures.cause }
 
 pub returns-in-Game : goal.returns-in-Game
-returns-in-Game g c = record { answered = rw c.in-Game.is (once c.answer-in-Game.result _ c.answer-in-Game.ensures.ok c.put_answered-in-Game.result _ _ c.put_answered-in-Game.ensures _ c.answer-in-Game.ensures.memory); quiet = λ unasked. inl refl; made = makes_nothing _ _ }
+returns-in-Game g c = record { answered = rw c.in-Game.is (once c.answer-in-Game.result _ c.answer-in-Game.ensures.ok c.put_answered-in-Game.result _ _ c.put_answered-in-Game.ensures.told _ c.answer-in-Game.ensures.memory); quiet = λ unasked. inl refl; made = makes_nothing _ _; cause = c.put_answered-in-Game.ensures.cause }
 
 pub returns-in-List : goal.returns-in-List
-returns-in-List g c = record { answered = rw c.in-List.is (after_reading c.answer-in-List.result _ _ c.answer-in-List.ensures.ok c.answer-in-List.ensures.cause c.put_read.result _ _ c.put_read.ensures); quiet = λ unasked. inl (c.answer-in-List.ensures.quiet (ap tells_progress (sym c.in-List.is) ∙ unasked)); made = makes_nothing _ _ }
+returns-in-List g c = record { answered = rw c.in-List.is (after_reading c.answer-in-List.result _ _ c.answer-in-List.ensures.ok c.answer-in-List.ensures.cause c.put_read.result _ _ c.put_read.ensures.told); quiet = λ unasked. inl (c.answer-in-List.ensures.quiet (ap tells_progress (sym c.in-List.is) ∙ unasked)); made = makes_nothing _ _; cause = c.put_read.ensures.cause }
 
 pub returns-in-Check : goal.returns-in-Check
-returns-in-Check g c = record { answered = rw c.in-Check.is (after_reading c.answer-in-Check.result _ _ c.answer-in-Check.ensures.ok c.answer-in-Check.ensures.cause c.put_read-in-Check.result _ _ c.put_read-in-Check.ensures); quiet = λ unasked. inl (c.answer-in-Check.ensures.quiet (ap tells_progress (sym c.in-Check.is) ∙ unasked)); made = makes_nothing _ _ }
+returns-in-Check g c = record { answered = rw c.in-Check.is (after_reading c.answer-in-Check.result _ _ c.answer-in-Check.ensures.ok c.answer-in-Check.ensures.cause c.put_read-in-Check.result _ _ c.put_read-in-Check.ensures.told); quiet = λ unasked. inl (c.answer-in-Check.ensures.quiet (ap tells_progress (sym c.in-Check.is) ∙ unasked)); made = makes_nothing _ _; cause = c.put_read-in-Check.ensures.cause }
 
 pub returns-in-Record : goal.returns-in-Record
-returns-in-Record g c = record { answered = rw c.in-Record.is (once c.answer-in-Record.result _ c.answer-in-Record.ensures.ok c.put_answered-in-Record.result _ _ c.put_answered-in-Record.ensures _ c.answer-in-Record.ensures.memory); quiet = λ unasked. inl refl; made = makes_nothing _ _ }
+returns-in-Record g c = record { answered = rw c.in-Record.is (once c.answer-in-Record.result _ c.answer-in-Record.ensures.ok c.put_answered-in-Record.result _ _ c.put_answered-in-Record.ensures.told _ c.answer-in-Record.ensures.memory); quiet = λ unasked. inl refl; made = makes_nothing _ _; cause = c.put_answered-in-Record.ensures.cause }
 
 pub returns-in-Audit : goal.returns-in-Audit
-returns-in-Audit g c = record { answered = rw c.in-Audit.is (once c.answer-in-Audit.result _ c.answer-in-Audit.ensures.ok c.put_answered-in-Audit.result _ _ c.put_answered-in-Audit.ensures _ c.answer-in-Audit.ensures.memory); quiet = λ unasked. inl refl; made = makes_nothing _ _ }
+returns-in-Audit g c = record { answered = rw c.in-Audit.is (once c.answer-in-Audit.result _ c.answer-in-Audit.ensures.ok c.put_answered-in-Audit.result _ _ c.put_answered-in-Audit.ensures.told _ c.answer-in-Audit.ensures.memory); quiet = λ unasked. inl refl; made = makes_nothing _ _; cause = c.put_answered-in-Audit.ensures.cause }
 
 pub returns-in-AuditGames : goal.returns-in-AuditGames
-returns-in-AuditGames g c = record { answered = rw c.in-AuditGames.is c.answer-in-AuditGames.ensures; quiet = λ unasked. inl refl; made = makes_nothing _ _ }
+returns-in-AuditGames g c = record { answered = rw c.in-AuditGames.is c.answer-in-AuditGames.ensures.told; quiet = λ unasked. inl refl; made = makes_nothing _ _; cause = c.answer-in-AuditGames.ensures.cause }
 
 pub returns-in-Version : goal.returns-in-Version
-returns-in-Version g c = record { answered = rw c.in-Version.is c.answer-in-Version.ensures; quiet = λ unasked. inl refl; made = makes_nothing _ _ }
+returns-in-Version g c = record { answered = rw c.in-Version.is c.answer-in-Version.ensures.told; quiet = λ unasked. inl refl; made = makes_nothing _ _; cause = c.answer-in-Version.ensures.cause }
 
 pub returns-in-Send : goal.returns-in-Send
 returns-in-Send g c = record {
-  answered = rw c.in-Send.is (c.send.result, sent c.send.result c.tell_silence.result c.tell_silence.ensures.status c.tell_silence.ensures.err, c.send.ensures);
+  answered = rw c.in-Send.is (c.send.result, sent c.send.result c.tell_silence.result c.tell_silence.ensures.status c.tell_silence.ensures.err, c.tell_silence.ensures.told, c.send.ensures.told);
   quiet = λ unasked. rw c.in-Send.is (told_or_quiet g.E.Output.facts g.E.Write.contents _ _ _ c.send.result c.tell_silence.result c.tell_silence.ensures.told c.tell_silence.ensures.quiet c.tell_silence.ensures.status);
-  made = rw c.in-Send.is (send_makes _ _ _ _ _ _ _ _ c.send.result c.send.ensures);
+  made = rw c.in-Send.is (send_makes _ _ _ _ c.send.result c.send.ensures.told);
+  cause = sent_failed _ c.send.result c.tell_silence.result c.tell_silence.ensures.status c.tell_silence.ensures.err c.send.ensures.cause;
 }
 
 pub returns-in-Enter : goal.returns-in-Enter
-returns-in-Enter g c = record { answered = rw c.in-Enter.is c.enter.ensures; quiet = λ unasked. inl refl; made = rw c.in-Enter.is (enter_makes _ _ _ _ c.enter.result c.enter.ensures) }
+returns-in-Enter g c = record { answered = rw c.in-Enter.is c.enter.ensures.told; quiet = λ unasked. inl refl; made = rw c.in-Enter.is (enter_makes _ _ _ _ c.enter.result c.enter.ensures.told); cause = c.enter.ensures.cause }
 
 pub returns-in-Host : goal.returns-in-Host
-returns-in-Host g c = record { answered = rw c.in-Host.is (hosted_games _ _ _ _ _ _ _ _ _ _ c.host_games.result c.host_games.ensures); quiet = λ unasked. inl refl; made = rw c.in-Host.is (host_makes _ _ _ _ _ _ _ _ _ c.host_games.result c.host_games.ensures) }
+returns-in-Host g c = record { answered = rw c.in-Host.is (hosted_games _ _ _ _ _ _ _ _ _ _ c.host_games.result c.host_games.ensures.told); quiet = λ unasked. inl refl; made = rw c.in-Host.is (host_makes _ _ _ _ _ _ _ _ _ c.host_games.result c.host_games.ensures.told); cause = c.host_games.ensures.cause }
 
 pub returns-in-Root : goal.returns-in-Root
-returns-in-Root g c = record { answered = rw c.in-Root.is c.answer-in-Root.ensures.written; quiet = λ unasked. inl (c.answer-in-Root.ensures.quiet); made = makes_nothing _ _ }
+returns-in-Root g c = record { answered = rw c.in-Root.is c.answer-in-Root.ensures.written; quiet = λ unasked. inl (c.answer-in-Root.ensures.quiet); made = makes_nothing _ _; cause = c.answer-in-Root.ensures.cause }
 
 pub returns-in-Follow : goal.returns-in-Follow
-returns-in-Follow g c = record { answered = rw c.in-Follow.is c.answer-in-Follow.ensures; quiet = λ unasked. inl refl; made = makes_nothing _ _ }
+returns-in-Follow g c = record { answered = rw c.in-Follow.is c.answer-in-Follow.ensures.told; quiet = λ unasked. inl refl; made = makes_nothing _ _; cause = c.answer-in-Follow.ensures.cause }
 
 pub returns-in-Status : goal.returns-in-Status
-returns-in-Status g c = record { answered = rw c.in-Status.is c.answer-in-Status.ensures; quiet = λ unasked. inl refl; made = makes_nothing _ _ }
+returns-in-Status g c = record { answered = rw c.in-Status.is c.answer-in-Status.ensures.told; quiet = λ unasked. inl refl; made = makes_nothing _ _; cause = c.answer-in-Status.ensures.cause }

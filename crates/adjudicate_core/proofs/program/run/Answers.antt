@@ -12,6 +12,7 @@ returns-in-Ok g c = record {
   runs = ToTask c.in-Ok.task c.in-Ok.ensures.ok c.run_by_key.ensures.answered;
   quiet = λ differ. inr (c.in-Ok.task, c.in-Ok.ensures.ok, not_quiet _ c.run_by_key.ensures.quiet differ);
   made = inr (c.in-Ok.task, c.in-Ok.ensures.ok, c.run_by_key.ensures.made);
+  cause = c.run_by_key.ensures.cause;
 }
 
 pub returns-in-Err-Misuse-clause-runs : goal.returns-in-Err-Misuse-clause-runs

@@ -1,6 +1,5 @@
 use Rattle.std.proofs.Common.{◌≡◌, ◌∙◌, Some, None, ap, inl, refl, subst, sym}
 use Rattle.std.specs.Prelude.{option_map}
-use Rattle.std.proofs.lemmas.Result.{IfOk-weaker}
 use Rattle.adjudicate_core.specs.Inside.Keying.{GivesKeys}
 use Rattle.adjudicate_core.specs.Lines.{refusal_words}
 use Rattle.adjudicate_core.specs.Running.{Bare, BySeal, NoKeys, NoRoomForKeys}
@@ -12,7 +11,7 @@ use Rattle.adjudicate_core.proofs.program.run_by_key.Goals as goal
 pub returns-in-None : goal.returns-in-None
 returns-in-None g c =
     let none : key_in c.args.task.now ≡ None = sym c.key.ensures ∙ ap (option_map (λ s. s.now)) c.in-None.is in
-    record { answered = Bare none c.run_task.ensures.answered; quiet = c.run_task.ensures.quiet; made = c.run_task.ensures.made }
+    record { answered = Bare none c.run_task.ensures.answered; quiet = c.run_task.ensures.quiet; made = c.run_task.ensures.made; cause = c.run_task.ensures.cause }
 
 pub returns-in-Ok-Ok : goal.returns-in-Ok-Ok
 returns-in-Ok-Ok g c =
@@ -21,9 +20,10 @@ returns-in-Ok-Ok g c =
     let has = subst (GivesKeys (g.D.Disk.facts c.args.system.now.disk.now) c.in-Some.path.now) c.in-Ok-Ok.field-0-is c.in-Ok-Ok.ensures in
     let over = over_keyed (g.D.Disk.facts c.args.system.now.disk.now) (g.I.Input.facts c.args.system.now.input.now) g.H.Host.facts g.H.Port.Port.facts g.H.File.KeptFile.facts c.args.system.now.host.now keys c.over-keyed.result _ _ in
     record {
-      answered = BySeal c.in-Some.path.now named keys has (over _ _ _ _ c.over-keyed.ensures c.run_task-in-Ok-Ok.ensures.answered);
+      answered = BySeal c.in-Some.path.now named keys has (over _ _ _ _ _ c.over-keyed.ensures c.run_task-in-Ok-Ok.ensures.answered);
       quiet = c.run_task-in-Ok-Ok.ensures.quiet;
       made = c.run_task-in-Ok-Ok.ensures.made;
+      cause = c.run_task-in-Ok-Ok.ensures.cause;
     }
 
 pub returns-in-Ok-Err : goal.returns-in-Ok-Err
@@ -31,16 +31,18 @@ returns-in-Ok-Err g c =
     let named : key_in c.args.task.now ≡ Some c.in-Some.path.now = sym c.key.ensures ∙ ap (option_map (λ s. s.now)) c.in-Some.is in
     let lacks = subst (GivesKeys (g.D.Disk.facts c.args.system.now.disk.now) c.in-Some.path.now) c.in-Ok-Err.field-0-is c.in-Ok-Err.ensures in
     record {
-      answered = NoKeys c.in-Some.path.now named (refusal_words c.in-Ok-Err.refusal) lacks c.put_refusal.ensures;
+      answered = NoKeys c.in-Some.path.now named (refusal_words c.in-Ok-Err.refusal) lacks c.put_refusal.ensures.told;
       quiet = λ unasked. inl refl;
       made = makes_nothing _ _;
+      cause = c.put_refusal.ensures.cause;
     }
 
 pub returns-in-Err : goal.returns-in-Err
 returns-in-Err g c =
     let named : key_in c.args.task.now ≡ Some c.in-Some.path.now = sym c.key.ensures ∙ ap (option_map (λ s. s.now)) c.in-Some.is in
     record {
-      answered = NoRoomForKeys c.in-Some.path.now named c.put_refusal-in-Err.ensures;
+      answered = NoRoomForKeys c.in-Some.path.now named c.put_refusal-in-Err.ensures.told;
       quiet = λ unasked. inl refl;
       made = makes_nothing _ _;
+      cause = c.put_refusal-in-Err.ensures.cause;
     }

@@ -3,7 +3,7 @@ use Rattle.fen_text.specs.Fen.{IsFirstFenFault}
 use Rattle.adjudicate_core.specs.Commands.Follow.{BadStart}
 use Rattle.adjudicate_core.proofs.commands.follow.Follow.answer.Goals as goal
 
-pub returns-in-Err : goal.returns-in-Err
-returns-in-Err g c =
+pub returns-in-Err-clause-told : goal.returns-in-Err-clause-told
+returns-in-Err-clause-told g c =
     let fault = subst (λ text. IsFirstFenFault text c.in-Err.fault) c.as_bytes.ensures.value c.in-Err.ensures.err in
-    BadStart c.in-Err.fault fault c.put_refusal.ensures
+    BadStart c.in-Err.fault fault c.put_refusal.ensures.told

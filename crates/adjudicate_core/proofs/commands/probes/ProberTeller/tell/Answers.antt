@@ -12,4 +12,4 @@ pub returns-in-Err-clause-same : goal.returns-in-Err-clause-same
 returns-in-Err-clause-same g c = λ line told h. subst (λ tables. TellsLine c.args.self.now.ask tables line told) c.probe_line.ensures.unchanged h
 
 pub returns-in-Err-put_line-clause-front : goal.returns-in-Err-put_line-clause-front
-returns-in-Err-put_line-clause-front g c = λ is. (_, c.in-Ok.ensures.told, c.in-Err-put_line.ensures)
+returns-in-Err-put_line-clause-front g c = λ is. (_, c.in-Ok.ensures.told, c.in-Err-put_line.ensures.front)

@@ -11,4 +11,4 @@ returns-in-Ok-Ok-clause-written g c =
 pub returns-in-Ok-Err-clause-written : goal.returns-in-Ok-Err-clause-written
 returns-in-Ok-Err-clause-written g c =
     let is = sym (rw c.in-Ok-Err.field-0-is at c.in-Ok-Err.ensures.tables) in
-    PutsRefusal (refusal_words c.in-Ok-Err.refusal) is c.put_refusal.ensures
+    PutsRefusal (refusal_words c.in-Ok-Err.refusal) is c.put_refusal.ensures.told
