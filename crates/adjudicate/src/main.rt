@@ -60,19 +60,22 @@ fn words_of(rt: &HostRuntime) -> Result<Vec<String>, WordsFault> {
     }
 }
 
-/// Runs the program on its words over this disk, input and host.
-fn run_over<D: Disk, I: Input, H: Host, W: Output, E: Output>(
-    alloc: Global,
-    called: &Result<Vec<String>, WordsFault>,
+/// Runs the program on its words over this disk, input and host. Standard error is buffered; where memory for that is refused,
+/// nothing is run.
+fn run_over<D: Disk, I: Input, H: Host, W: Output>(
+    rt: &HostRuntime,
     disk: &D,
     input: &I,
     host: &H,
     history: &mut H::History,
     out: &mut W,
-    errors: &mut E,
 ) -> Result<u8, WriteFault> {
+    let Ok(mut errors) = BufferedOutput::new(rt.alloc(), rt.stderr()) else {
+        return refuse_memory(out);
+    };
     let system = System { disk, input, host };
-    run_program(alloc, called, &system, history, out, errors)
+    let words = words_of(rt);
+    run_program(rt.alloc(), &words, &system, history, out, &mut errors)
 }
 
 /// Runs the program, and ends with its status, 1 where the output can't be written. Its output is buffered. Nothing that it opens
@@ -84,19 +87,14 @@ fn main(rt: HostRuntime) -> ExitCode {
     let Ok(mut out) = BufferedOutput::new(rt.alloc(), io::writer(&rt)) else {
         return ExitCode::from(refuse_memory(&mut io::writer(&rt)).unwrap_or(1));
     };
-    let Ok(mut errors) = BufferedOutput::new(rt.alloc(), rt.stderr()) else {
-        return ExitCode::from(refuse_memory(&mut io::writer(&rt)).unwrap_or(1));
-    };
     let (host, mut history) = SystemHost::new(&rt, rt.stderr());
     let answered = run_over(
-        rt.alloc(),
-        &words_of(&rt),
+        &rt,
         &SystemDisk::new(&rt, rt.stderr()),
         &SystemInput::new(&rt),
         &host,
         &mut history,
         &mut out,
-        &mut errors,
     );
     ExitCode::from(end(&mut out, answered))
 }
