@@ -12,7 +12,9 @@ use crate::positions::position_of;
 use crate::rounds::{read_tables, set_of};
 use crate::tables::small;
 use crate::texts::{bytes_of, tell_hex};
-use arbiter_core::{Arbiter, DeliverFault, Keep, Keeper, MemoryKeeper, Outputs, Setup, name_of};
+use arbiter_core::{
+    Arbiter, DeliverFault, Keep, Keeper, MemoryKeeper, OpenFault, Outputs, Setup, name_of,
+};
 use judge_core::Set;
 use std::alloc::{AllocError, Global};
 use std::fmt::Write;
@@ -199,6 +201,26 @@ fn tell_lines(
     Ok(())
 }
 
+/// Tells where an arbiter stands, and does what lines say to it.
+fn tell_from_state(
+    alloc: Global,
+    told: &mut String,
+    arbiter: &mut Arbiter<'_>,
+    keeper: &mut MemoryKeeper,
+    lines: &str,
+) -> Result<(), Fault>
+    requires { IsKept keeper.old.kept arbiter.old }
+{
+    tell_state(told, arbiter)?;
+    tell_lines(alloc, told, arbiter, keeper, lines)
+}
+
+/// Tells why no arbiter is opened.
+fn tell_refused(told: &mut String, fault: OpenFault) -> Result<(), AllocError> {
+    let name = fault.name();
+    writeln!(told, "refused {name}")
+}
+
 /// Opens an arbiter over what is kept, does what lines say to it, and closes it.
 fn tell_opened<'a>(
     alloc: Global,
@@ -209,13 +231,11 @@ fn tell_opened<'a>(
 ) -> Result<Setup<'a>, Fault> {
     match Arbiter::open(alloc, keeper, setup) {
         Ok(mut arbiter) => {
-            tell_state(told, &arbiter)?;
-            tell_lines(alloc, told, &mut arbiter, keeper, lines)?;
+            tell_from_state(alloc, told, &mut arbiter, keeper, lines)?;
             Ok(arbiter.close())
         }
         Err(refused) => {
-            let name = refused.fault.name();
-            writeln!(told, "refused {name}")?;
+            tell_refused(told, refused.fault)?;
             Ok(refused.setup)
         }
     }

@@ -140,6 +140,34 @@ fn positions_of<'a>(given: &Given<'a>, tables: usize) -> Result<&'a [&'a str], F
     }
 }
 
+/// Tells so many rounds of each two of these positions.
+fn tell_pairs(
+    alloc: Global,
+    told: &mut String,
+    set: &mut Set<'_>,
+    texts: &[&str],
+    rounds: usize,
+) -> Result<(), Fault> {
+    for pair in texts.chunks(2) {
+        tell_each_round(alloc, told, set, pair, rounds)?;
+    }
+    Ok(())
+}
+
+/// Tells how many decoded blocks are kept, of how many that may be.
+fn tell_kept(told: &mut String, set: &Set<'_>) -> Result<(), AllocError> {
+    let (kept, most) = (set.kept_blocks(), set.cache());
+    writeln!(told, "kept {kept} of {most}")
+}
+
+/// How many rounds the last of the words says.
+fn rounds_of(given: &Given<'_>) -> Result<usize, Fault> {
+    match given.words {
+        [.., last] => number_of(last),
+        [] => Err(Fault::Line),
+    }
+}
+
 /// Tells what the tables of the words, by their paths, tell of the positions behind them, of each two in as many rounds as the last
 /// word says. The first word says how many decoded blocks may be kept; in the end it is told how many are.
 pub(crate) fn tell_rounds(
@@ -149,10 +177,7 @@ pub(crate) fn tell_rounds(
 ) -> Result<(), Fault> {
     let files = read_tables(alloc, given)?;
     let mut set = set_of(alloc, told, given, &files)?;
-    let rounds = number_of(given.words.last().copied().ok_or(Fault::Line)?)?;
-    for texts in positions_of(given, files.len())?.chunks(2) {
-        tell_each_round(alloc, told, &mut set, texts, rounds)?;
-    }
-    let (kept, most) = (set.kept_blocks(), set.cache());
-    Ok(writeln!(told, "kept {kept} of {most}")?)
+    let texts = positions_of(given, files.len())?;
+    tell_pairs(alloc, told, &mut set, texts, rounds_of(given)?)?;
+    Ok(tell_kept(told, &set)?)
 }

@@ -5,6 +5,7 @@ use crate::pieces::{Fault, add_piece, number_of};
 use crate::shelf::{Shelf, head_of, is_comment, parted};
 use crate::slow_input::SlowInput;
 use std::alloc::{AllocError, Global};
+use std::cell::Cell;
 use system_io::WriteFault;
 
 /// What is run.
@@ -30,6 +31,8 @@ pub(crate) struct Wanted {
     pub(crate) is_front: bool,
     pub(crate) errors: Vec<u8>,
     pub(crate) ended: Result<u8, WriteFault>,
+    /// How many notes the host is told.
+    pub(crate) notes: usize,
 }
 
 /// A case.
@@ -79,6 +82,7 @@ impl Wanted {
             is_front: false,
             errors: Vec::new(alloc),
             ended: Ok(0),
+            notes: 0,
         }
     }
 }
@@ -106,6 +110,7 @@ impl<'t> Case<'t> {
         SlowInput {
             bytes: &self.input,
             fails: self.input_fails,
+            is_taken: Cell::new(false),
         }
     }
 
@@ -121,6 +126,7 @@ impl<'t> Case<'t> {
             waiting: &self.datagrams,
             stands: self.stands,
             kept: &self.kept,
+            notes: Cell::new(0),
         }
     }
 
@@ -194,6 +200,7 @@ impl<'t> Case<'t> {
             "datagram" => return self.add_datagram(alloc, shelf, text),
             "kept" => return self.set_kept(alloc, shelf, text),
             "writes" => self.refused_writes = number_of(text)?,
+            "notes" => self.wanted.notes = number_of(text)?,
             "task" => self.call = Call::Task(text),
             "call" => self.call = Call::Library(text),
             _ => return self.mark(word, text),

@@ -4,6 +4,7 @@ ghost use Rattle.std.specs.Prelude.{◌≡◌, ◌≤◌, IfNone};
 ghost use Rattle.system_io.specs.Failures.{Risen};
 
 use std::alloc::{AllocError, Global};
+use std::cell::Cell;
 use std::net::{IpAddr, Ipv4Addr, SocketAddr};
 use std::time::Duration;
 use system_io::{BindFault, DiskFile, Host, LockFault, Outcome, Port, PortFault};
@@ -97,12 +98,14 @@ const TO: &str = "t:1";
 
 /// A host whose address can be bound if it is so said, at which these datagrams wait, and under whose paths this stands. Another
 /// address can't be bound, and to no other one is anything sent.
-#[derive(Clone, Copy)]
+#[derive(Drop)]
 pub(crate) struct MemoryHost<'a> {
     pub(crate) is_bound: bool,
     pub(crate) waiting: &'a [Vec<u8>],
     pub(crate) stands: Stands,
     pub(crate) kept: &'a [u8],
+    /// How many notes it was told.
+    pub(crate) notes: Cell<usize>,
 }
 
 impl<'a> MemoryHost<'a> {
@@ -197,5 +200,7 @@ impl<'a> Host for MemoryHost<'a> {
         Ok(())
     }
 
-    fn note(&self, _line: &str) {}
+    fn note(&self, _line: &str) {
+        self.notes.set(self.notes.get().saturating_add(1));
+    }
 }

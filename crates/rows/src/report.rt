@@ -94,6 +94,18 @@ pub(crate) fn check_end(
     writeln!(report, "  end: wanted {wanted:?}, got {got:?}")
 }
 
+/// Compares how many notes the host was told.
+pub(crate) fn check_notes(
+    report: &mut String,
+    wanted: usize,
+    got: usize,
+) -> Result<(), AllocError> {
+    if wanted == got {
+        return Ok(());
+    }
+    writeln!(report, "  notes: wanted {wanted}, got {got}")
+}
+
 /// Compares the end where a write was refused.
 pub(crate) fn check_refused(
     report: &mut String,

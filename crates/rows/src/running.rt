@@ -4,7 +4,9 @@ use crate::case::{Call, Case};
 use crate::counting::Counting;
 use crate::memory_host::Unwritten;
 use crate::paper::Paper;
-use crate::report::{check_end, check_errors, check_output, check_refused, check_text, note_call};
+use crate::report::{
+    check_end, check_errors, check_notes, check_output, check_refused, check_text, note_call,
+};
 use crate::shelf::parted;
 use crate::system::tell_system;
 use adjudicate_core::{System, Task, Usage, parse, run};
@@ -13,27 +15,29 @@ use row_calls::{Fault, Given, tell_call};
 use std::alloc::{AllocError, Global};
 use system_io::{Input, MemoryDisk, WriteFault};
 
-/// How the program ends.
+/// How the program ends, and how many notes its host is told.
 fn ended_over(
     alloc: Global,
     case: &Case<'_>,
     disk: &MemoryDisk<'_>,
     output: &mut Paper,
     errors: &mut Paper,
-) -> Result<u8, WriteFault> {
+) -> (Result<u8, WriteFault>, usize) {
+    let host = case.host();
     let system = System {
         disk,
         input: &case.input(),
-        host: &case.host(),
+        host: &host,
     };
-    run(
+    let ended = run(
         alloc,
         &case.words,
         &system,
         &mut Unwritten {},
         output,
         errors,
-    )
+    );
+    (ended, host.notes.get())
 }
 
 /// How the teller ends, as a status: 0 where all is told, else 1.
@@ -51,16 +55,16 @@ fn told(
     told.map(|all| if all { 0 } else { 1 })
 }
 
-/// How a case ends.
+/// How a case ends, and how many notes the host is told.
 fn ended(
     alloc: Global,
     case: &Case<'_>,
     disk: &MemoryDisk<'_>,
     output: &mut Paper,
     errors: &mut Paper,
-) -> Result<u8, WriteFault> {
+) -> (Result<u8, WriteFault>, usize) {
     match case.call {
-        Call::Teller => told(alloc, case, output, errors),
+        Call::Teller => (told(alloc, case, output, errors), 0),
         _ => ended_over(alloc, case, disk, output, errors),
     }
 }
@@ -134,8 +138,9 @@ fn check_run(
 ) -> Result<(), AllocError> {
     let mut output = Paper::new(alloc, None);
     let mut errors = Paper::new(alloc, if case.is_mute { Some(0) } else { None });
-    let got = ended(alloc, case, disk, &mut output, &mut errors);
+    let (got, notes) = ended(alloc, case, disk, &mut output, &mut errors);
     check_end(report, case.wanted.ended, got)?;
+    check_notes(report, case.wanted.notes, notes)?;
     check_output(alloc, report, &case.wanted, output.bytes())?;
     if case.is_mute {
         return Ok(());
@@ -153,7 +158,7 @@ fn check_write(
 ) -> Result<(), AllocError> {
     let mut output = Paper::new(alloc, Some(number));
     let mut errors = Paper::new(alloc, None);
-    let got = ended(alloc, case, disk, &mut output, &mut errors);
+    let (got, _) = ended(alloc, case, disk, &mut output, &mut errors);
     check_refused(report, number, got)
 }
 

@@ -1,6 +1,7 @@
-//! An input that comes a byte a call, and may fail behind its last byte.
+//! An input that comes a byte a call, may fail behind its last byte, and is there once: asked for again, it can't be read.
 
 use std::alloc::{AllocError, Global};
+use std::cell::Cell;
 use std::io::{self, BufReader, Read};
 use system_io::{Input, ReadFault, read_at_most};
 
@@ -29,18 +30,21 @@ impl<'a> Read for Left<'a> {
 }
 
 /// An input of these bytes.
-#[derive(Clone, Copy)]
+#[derive(Drop)]
 pub(crate) struct SlowInput<'a> {
     pub(crate) bytes: &'a [u8],
     pub(crate) fails: bool,
+    /// Whether it was asked for.
+    pub(crate) is_taken: Cell<bool>,
 }
 
 impl<'a> SlowInput<'a> {
-    /// All of it.
+    /// All of it; nothing but a failure where it was asked for before.
     fn left(&self) -> Left<'a> {
+        let is_there = !self.is_taken.replace(true);
         Left {
-            bytes: self.bytes,
-            fails: self.fails,
+            bytes: if is_there { self.bytes } else { &[] },
+            fails: self.fails || !is_there,
         }
     }
 }
