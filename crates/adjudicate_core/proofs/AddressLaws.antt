@@ -6,7 +6,7 @@ use Rattle.std.specs.List.{AllByRecursion, Contains, after_first, before_first, 
 use Rattle.std.proofs.lemmas.List.Splits.{length-slice_split, slice_split_first, slice_split-cons_no}
 use Rattle.fen_text.specs.Cuts.{cut_at}
 use Rattle.adjudicate_core.specs.Addresses.{IsAddress, addresses_of}
-use Rattle.adjudicate_core.specs.Numbers.{IsNumber}
+use Rattle.adjudicate_core.specs.Numbers.{IsDecimalNumber}
 use Rattle.adjudicate_core.specs.Inside.Behind.{IsBehindColon}
 
 -- the first comma is later than here
@@ -63,14 +63,14 @@ cut_more text rest more h is_more some = record { front = h.front ++ before_firs
 same_port : (text rest : List ℕ) → IsBehindColon text rest → (a : IsAddress text) → a.port ≡ rest
 same_port text rest h a = last_same a.front h.front a.port rest (sym a.parts ∙ h.parts)
 
-pub address_so : (text rest : List ℕ) (n : ℕ) → (Contains text 32 → ⊥) → IsBehindColon text rest → 2 ≤ length text - length rest → IsNumber rest n → n < 2 ^ 16 → IsAddress text
+pub address_so : (text rest : List ℕ) (n : ℕ) → (Contains text 32 → ⊥) → IsBehindColon text rest → 2 ≤ length text - length rest → IsDecimalNumber rest n → n < 2 ^ 16 → IsAddress text
 address_so text rest n solid h more is within = record { solid = solid; front = h.front; port = rest; number = n; parts = h.parts; host = (let w = h.within in omega (arith, more, w)); is = is; within = within }
 
 pub not_long : (text rest : List ℕ) → IsBehindColon text rest → length text - length rest < 2 → IsAddress text → ⊥
 not_long text rest h short a = let host = a.host in let same : length a.port ≡ length rest = ap length (same_port text rest h a) in absurd (omega (arith, host, same, short))
 
-pub no_port : (text rest : List ℕ) → IsBehindColon text rest → ((n : ℕ) → IsNumber rest n → n < 2 ^ 16 → ⊥) → IsAddress text → ⊥
-no_port text rest h none a = none a.number (subst (λ p. IsNumber p a.number) (same_port text rest h a) a.is) a.within
+pub no_port : (text rest : List ℕ) → IsBehindColon text rest → ((n : ℕ) → IsDecimalNumber rest n → n < 2 ^ 16 → ⊥) → IsAddress text → ⊥
+no_port text rest h none a = none a.number (subst (λ p. IsDecimalNumber p a.number) (same_port text rest h a) a.is) a.within
 
 -- ---- addresses one by one
 

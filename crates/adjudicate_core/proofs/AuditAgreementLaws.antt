@@ -13,7 +13,7 @@ use Rattle.game_status.specs.declared.audit_lines.AuditLook.TheVariants.{Sound, 
 use Rattle.game_status.specs.declared.audit_lines.Unsound.TheVariants as unsound
 use Rattle.game_status.specs.declared.status_lines.Look.{Look}
 use Rattle.game_status.specs.Comparisons.{mark_by, mark_of}
-use Rattle.game_status.specs.GameAudits.{IsUntrue, IsWhole, kept_finding, mark_of_look, sound_line}
+use Rattle.game_status.specs.GameAudits.{IsUntrue, IsWholeRecord, kept_finding, mark_of_look, sound_line}
 use Rattle.game_status.specs.Tellings.{is_fault}
 use Rattle.adjudicate_core.specs.Audits.{IsAudited, One, audited_one}
 use Rattle.adjudicate_core.specs.AuditAgreements.{TellsAsAudit}
@@ -32,7 +32,7 @@ whole_is_no_fault kept r is = subst (λ (k : Option Records). is_fault (mark_of 
 pub tells_as_audit : TellsAsAudit
 tells_as_audit manifest tables stamp side (Sound l) bytes r is spelled same h =
     let whole : Finding = found.Whole (length r.moves) r.verdict in
-    let sound = subst (IsWhole side.game.start tables) is h.1.1 in
+    let sound = subst (IsWholeRecord side.game.start tables) is h.1.1 in
     inr (
       whole,
       audited_so side.game.start tables side.game.delay r bytes whole same (sound bytes spelled),

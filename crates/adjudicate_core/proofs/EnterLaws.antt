@@ -20,7 +20,7 @@ use Rattle.line_teller.specs.ToldLines.{HasFront, LineTold, WritesTold, all_told
 use Rattle.adjudicate_core.specs.declared.entering.KeepFault.{KeepFault}
 use Rattle.adjudicate_core.specs.declared.entering.KeepFault.TheVariants as keep
 use Rattle.adjudicate_core.specs.declared.entries.EntryFault.{EntryFault}
-use Rattle.adjudicate_core.specs.Enters.{AreMadeForTold, ComesOf, CutsGames, CutsLine, EntersFirst, EntersLine, EntersLines, Failed, HasList, HasText, HasTextAt, LacksGame, LacksText, LacksTextAt, Left, MakesForTold, OfFile, OfInput, OverFile, Place, Put, PutsAll, told_of}
+use Rattle.adjudicate_core.specs.Enters.{AreMadeForTold, ComesOf, CutsEntries, CutsLine, EntersFirst, EntersLine, EntersLines, EntersNoGame, Failed, HasList, HasText, HasTextAt, LacksText, LacksTextAt, Left, MakesForTold, OfFile, OfInput, OverFile, Place, Put, PutsEntries, told_entry}
 use Rattle.adjudicate_core.specs.Inside.Entering.{HasOver, LacksOver, MakesForLine, Replaced, Same}
 use Rattle.adjudicate_core.specs.Listens.{Hosted}
 use Rattle.adjudicate_core.specs.Reply.{status_if}
@@ -64,9 +64,9 @@ file_list disk source path (Err fault) other h = tt
 -- ---- lines
 
 -- what came of a line is told
-pub line_told : {P F : Type 0} (p : Place P F) (number : ℕ) (line : List ℕ) (r : Result Stamp EntryFault) (old new : Option (List ℕ)) (done : Bool) → ComesOf p line r → Appends old new (ended (told_of number r).words) → done ≡ (told_of number r).done → WritesTold (EntersLine p number line) old new done
+pub line_told : {P F : Type 0} (p : Place P F) (number : ℕ) (line : List ℕ) (r : Result Stamp EntryFault) (old new : Option (List ℕ)) (done : Bool) → ComesOf p line r → Appends old new (ended (told_entry number r).words) → done ≡ (told_entry number r).done → WritesTold (EntersLine p number line) old new done
 line_told p number line r old new done comes wrote is =
-    ((told_of number r).words, (r, comes, ap (λ (d : Bool). the_line (told_of number r).words d) is), wrote)
+    ((told_entry number r).words, (r, comes, ap (λ (d : Bool). the_line (told_entry number r).words d) is), wrote)
   where
     the_line : List ℕ → Bool → LineTold
     the_line words d = record { words = words; done = d }
@@ -125,7 +125,7 @@ made_last p all rest tail line before had now has old mid done h t cut (of_line,
     (h.more ++ of_line, Passes-trans had now has h.more of_line h.passes passes, h.makes (t ∷ []) of_line (subst (λ (ls : List (List ℕ)). AreMadeForTold p ls (t ∷ []) of_line) (sym cut) (of_line, [], is_made, sym (append-nil of_line), refl)))
 
 -- no line is left
-pub entered_all : {P F : Type 0} (p : Place P F) (all rest : List ℕ) (before status : ℕ) (had has : Option (List Made)) (old new : Option (List ℕ)) (done : Bool) → EnteredSoFar p all rest before had has old new done → lines_in rest ≡ [] → status ≡ status_if done → PutsAll p (lines_in all) had has old new status
+pub entered_all : {P F : Type 0} (p : Place P F) (all rest : List ℕ) (before status : ℕ) (had has : Option (List Made)) (old new : Option (List ℕ)) (done : Bool) → EnteredSoFar p all rest before had has old new done → lines_in rest ≡ [] → status ≡ status_if done → PutsEntries p (lines_in all) had has old new status
 entered_all p all rest before status had has old new done h none e =
     record {
       told = h.told;
@@ -136,7 +136,7 @@ entered_all p all rest before status had has old new done h none e =
     }
 
 -- memory was refused for the game of a line
-pub entered_cut : {P F : Type 0} (p : Place P F) (all rest tail line : List ℕ) (before : ℕ) (had now has : Option (List Made)) (old mid new : Option (List ℕ)) (done : Bool) → EnteredSoFar p all rest before had now old mid done → lines_in rest ≡ line ∷ lines_in tail → MakesForLine p line now has → LacksGame p line keep.OutOfMemory → Appends mid new (ended refused_memory) → PutsAll p (lines_in all) had has old new 1
+pub entered_cut : {P F : Type 0} (p : Place P F) (all rest tail line : List ℕ) (before : ℕ) (had now has : Option (List Made)) (old mid new : Option (List ℕ)) (done : Bool) → EnteredSoFar p all rest before had now old mid done → lines_in rest ≡ line ∷ lines_in tail → MakesForLine p line now has → EntersNoGame p line keep.OutOfMemory → Appends mid new (ended refused_memory) → PutsEntries p (lines_in all) had has old new 1
 entered_cut p all rest tail line before had now has old mid new done h cut made lacks wrote =
     let one : LineTold = record { words = refused_memory; done = false } in
     record {
@@ -148,7 +148,7 @@ entered_cut p all rest tail line before had now has old mid new done h cut made 
     }
 
 -- the writer failed at a line
-pub entered_front : {P F : Type 0} (p : Place P F) (all rest tail line : List ℕ) (before : ℕ) (had now has : Option (List Made)) (old mid new : Option (List ℕ)) (done : Bool) → EnteredSoFar p all rest before had now old mid done → lines_in rest ≡ line ∷ lines_in tail → MakesForLine p line now has → (t : LineTold) × (EntersLine p (before + 1) line t ⊎ CutsLine p line t) × HasFront mid new (ended t.words) → CutsGames p (lines_in all) had has old new
+pub entered_front : {P F : Type 0} (p : Place P F) (all rest tail line : List ℕ) (before : ℕ) (had now has : Option (List Made)) (old mid new : Option (List ℕ)) (done : Bool) → EnteredSoFar p all rest before had now old mid done → lines_in rest ≡ line ∷ lines_in tail → MakesForLine p line now has → (t : LineTold) × (EntersLine p (before + 1) line t ⊎ CutsLine p line t) × HasFront mid new (ended t.words) → CutsEntries p (lines_in all) had has old new
 entered_front p all rest tail line before had now has old mid new done h cut made (t, comes, (n, front)) = record {
   told = h.told ++ t ∷ [];
   makes = made_last p all rest tail line before had now has old mid done h t cut made;

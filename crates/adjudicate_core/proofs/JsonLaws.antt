@@ -12,7 +12,7 @@ use Rattle.json_lines.specs.Told.{ForNone, ForPosition, IsLineFor, IsLineOf, is_
 use Rattle.json_lines.specs.declared.told.JsonLine.{JsonLine}
 use Rattle.line_teller.specs.ToldLines.{CutsTold, HasFront}
 use Rattle.move_msg.specs.TextLines.{ended}
-use Rattle.adjudicate_core.specs.Inside.Asked.{HasText}
+use Rattle.adjudicate_core.specs.Inside.Asked.{IsPositionLine}
 use Rattle.adjudicate_core.specs.JsonAnswers.{InNone, InPosition, IsForTextIn, TellsJson, refused_in}
 use Rattle.adjudicate_core.specs.Reply.{IsText, Reply}
 
@@ -30,9 +30,9 @@ pub is_text : (bytes text : List ℕ) (p : Parts) → bytes ≡ text → SpellsP
 is_text bytes text p same spells legal = (p, subst (λ t. SpellsPosition t p) same spells, legal)
 
 -- a line that is not that of a fault is that of a text's position
-pub has_text : (text : List ℕ) (ask : Ask) (with_moves : Bool) (tables : Tables) (l : JsonLine) → IsLineFor text (IsLineOf ask with_moves tables) l → HasText l → IsText text
+pub has_text : (text : List ℕ) (ask : Ask) (with_moves : Bool) (tables : Tables) (l : JsonLine) → IsLineFor text (IsLineOf ask with_moves tables) l → IsPositionLine l → IsText text
 has_text text ask with_moves tables l (ForPosition p spells legal is) h = (p, spells, legal)
-has_text text ask with_moves tables l (ForNone fault first is) h = absurd (subst HasText is h)
+has_text text ask with_moves tables l (ForNone fault first is) h = absurd (subst IsPositionLine is h)
 
 pub has_front : (ask : Ask) (with_moves : Bool) (tables : Tables) (text : List ℕ) (l : JsonLine) (old new : Option (List ℕ)) → IsLineFor text (IsLineOf ask with_moves tables) l → HasFront old new (ended (json_text (line_json l))) → CutsTold (TellsJson ask with_moves tables text) old new
 has_front ask with_moves tables text l old new tells front = (record { words = json_text (line_json l); done = is_done l }, (l, tells, refl), front)

@@ -17,7 +17,7 @@ use Rattle.task_files.specs.FileNames.{file_named}
 use Rattle.task_files.specs.Made.{AreMadeOf}
 use Rattle.adjudicate_core.specs.Inside.Looking.{IsSeenOf, Sight, fault_by, fault_seen, reply_seen, sight_at, sight_of}
 use Rattle.adjudicate_core.specs.Lines.{look_words}
-use Rattle.adjudicate_core.specs.Looks.{Found, are_tables, fault_in, found_in, held, look_for, look_line}
+use Rattle.adjudicate_core.specs.Looks.{Found, are_tables, file_found, found_fault, held, look_for, look_line}
 use Rattle.adjudicate_core.specs.Reply.{status_if}
 
 abbrev IsLineOf : Line → File → Type 0
@@ -61,18 +61,18 @@ find_seen name (f ∷ files) = by_name (find_seen name files) (bytes_eq f.name n
     by_name rest true = refl
     by_name rest false = rest
 
-held_so : (digest : List ℕ) (o : Option File) → fault_by digest (option_map sight_at o) ≡ fault_in (held digest o)
+held_so : (digest : List ℕ) (o : Option File) → fault_by digest (option_map sight_at o) ≡ found_fault (held digest o)
 held_so digest None = refl
 held_so digest (Some f) = by_digest (bytes_eq (sha256 f.bytes) digest)
   where
-    by_digest : (b : Bool) → (if b then fault_in (found_in f) else Some Changed) ≡ fault_in (if b then found_in f else Err Changed)
+    by_digest : (b : Bool) → (if b then found_fault (file_found f) else Some Changed) ≡ found_fault (if b then file_found f else Err Changed)
     by_digest true = refl
     by_digest false = refl
 
-seen_so : (files : List File) (e : Entry) → fault_seen (map sight_at files) e ≡ fault_in (look_for files e).found
+seen_so : (files : List File) (e : Entry) → fault_seen (map sight_at files) e ≡ found_fault (look_for files e).found
 seen_so files e = ap (fault_by e.digest) (find_seen e.name files) ∙ held_so e.digest (file_named e.name files)
 
-none_is_ok : (found : Found) → is_none (fault_in found) ≡ is_ok found
+none_is_ok : (found : Found) → is_none (found_fault found) ≡ is_ok found
 none_is_ok (Ok t) = refl
 none_is_ok (Err fault) = refl
 

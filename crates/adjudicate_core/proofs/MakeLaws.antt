@@ -11,23 +11,23 @@ use Rattle.system_io.proofs.HistoryLaws.{Passes-nil, Passes-trans}
 use Rattle.arbiter_core.specs.Setups.{SetupView}
 use Rattle.board_core.specs.declared.parts.Parts.{Parts}
 use Rattle.move_msg.specs.declared.stamp.Stamp.{Stamp}
-use Rattle.arbiter_server.specs.GameFiles.{Told}
+use Rattle.arbiter_server.specs.GameFiles.{GameContents}
 use Rattle.arbiter_server.specs.Folders.{MakesOnce}
-use Rattle.arbiter_server.specs.GameFolders.{stamp_for}
+use Rattle.arbiter_server.specs.GameFolders.{game_stamp}
 use Rattle.move_msg.specs.TextLines.{lines_in}
 use Rattle.arbiter_server.specs.Games.{CommonView}
 use Rattle.source_core.specs.declared.lines.Ended.{Ended}
 use Rattle.task_files.specs.Given.{Given}
 use Rattle.adjudicate_core.specs.Hostings as hosting
 use Rattle.adjudicate_core.specs.Entries.{SpellsEntry}
-use Rattle.adjudicate_core.specs.Enters.{AreMadeForTold, BadStart, Entered, Enters, EntersAs, EntersList, IsMadeForLine, Kept, Listed, MakesForTold, NoList, NoManifest, NoRoom, NoRoomForList, NoRoomForManifest, OfList, Place, PutsGame, PutsGames, Unkept, Unstamped, file_of_game, game_of, place}
+use Rattle.adjudicate_core.specs.Enters.{AreMadeForTold, BadStart, Entered, Enters, EntersAs, EntersList, IsMadeForLine, Kept, Listed, MakesForTold, NoList, NoManifest, NoRoom, NoRoomForList, NoRoomForManifest, OfList, Place, PutsGame, PutsGames, Unkept, Unstamped, entered_game, file_of_game, place}
 use Rattle.adjudicate_core.specs.Inside.Entering.{MakesForLine}
 use Rattle.adjudicate_core.specs.Outsides.{Outside}
 use Rattle.line_teller.specs.ToldLines.{LineTold}
 use Rattle.adjudicate_core.specs.Addresses.{addresses_of}
 use Rattle.adjudicate_core.specs.Listens as listening
 use Rattle.adjudicate_core.specs.Locks.{kept_lock}
-use Rattle.adjudicate_core.specs.Makes.{IsFrontOf, IsGameIn, IsMadeBy, IsOfEntries, IsRecordIn, MakesCalled, MakesFor, before_games, of_listen, of_send}
+use Rattle.adjudicate_core.specs.Makes.{IsFrontOfMade, IsGameIn, IsMadeBy, IsOfEntries, IsRecordIn, MakesCalled, MakesFor, before_games, of_listen, of_send}
 use Rattle.adjudicate_core.specs.Sends as sending
 use Rattle.adjudicate_core.specs.declared.commands.Task.{Task}
 use Rattle.adjudicate_core.specs.declared.commands.Task.TheVariants as task
@@ -74,7 +74,7 @@ makes_nothing t had = ([], Passes-nil had, nothing_by t)
 -- ---- the first of some
 
 abbrev Within : List Made → Option (List Made) → Option (List Made) → Type 0
-Within all had has = (more : List Made) × Passes had has more × IsFrontOf all more
+Within all had has = (more : List Made) × Passes had has more × IsFrontOfMade all more
 
 within_none : (all : List Made) (had has : Option (List Made)) → Passes had has [] → Within all had has
 within_none all had has none = ([], none, (all, refl))
@@ -98,19 +98,19 @@ module _ {P F : Type 0} (host : listening.Hosted P F) (l : Listen) (setup : Setu
   at_makes S had port port' old new (listening.NoRoomToLock made nothing told) = within_none _ had has made
   at_makes S had port port' old new (listening.Locked between made given h) = within_more _ _ had between has made (locked_makes S between port port' old new h)
 
-  start_makes : {T : Type 0} (seen : listening.Seen F T) (had : Option (List Made)) (port : P) (port' : PortFacts) (old new : T) → listening.StartsAt host seen l setup had has port port' old new r → Within (LockAt (kept_lock l.kept.now) ∷ FileAt l.kept.now ∷ []) had has
+  start_makes : {T : Type 0} (seen : listening.SeenServing F T) (had : Option (List Made)) (port : P) (port' : PortFacts) (old new : T) → listening.StartsAt host seen l setup had has port port' old new r → Within (LockAt (kept_lock l.kept.now) ∷ FileAt l.kept.now ∷ []) had has
   start_makes seen had port port' old new (listening.Unasked off h) = at_makes (seen.serves old new) had (host.port port) port' (seen.written old) (seen.written new) h
   start_makes seen had port port' old new (listening.NoAddress made on none nothing told) = within_none _ had has made
   start_makes seen had port port' old new (listening.NoRoomForLine made on nothing told) = within_none _ had has made
   start_makes seen had port port' old new (listening.Ready on own is mid gone h) = at_makes (seen.serves mid new) had (host.port port) port' (seen.written mid) (seen.written new) h
   start_makes seen had port port' old new (listening.Unready made on own is nothing cut fault failed) = within_none _ had has made
 
-  bound_makes : {T : Type 0} (seen : listening.Seen F T) (had : Option (List Made)) (old new : T) → listening.BindsAndServes host seen l setup had has old new r → Within (of_listen l) had has
+  bound_makes : {T : Type 0} (seen : listening.SeenServing F T) (had : Option (List Made)) (old new : T) → listening.BindsAndServes host seen l setup had has old new r → Within (of_listen l) had has
   bound_makes seen had old new (listening.Unbound made why told) = within_none _ had has made
   bound_makes seen had old new (listening.NoRoomToBind made why told) = within_none _ had has made
   bound_makes seen had old new (listening.Bound between made port port' bound each h) = within_more _ _ had between has made (start_makes seen between port (host.port port') old new h)
 
-pub listen_makes : {P F T : Type 0} (host : listening.Hosted P F) (seen : listening.Seen F T) (l : Listen) (given : Given) (had has : Option (List Made)) (old new : T) (r : Result ℕ WriteFault) → listening.Listens host seen l given had has old new r → MakesFor (task.Listen l) had has
+pub listen_makes : {P F T : Type 0} (host : listening.Hosted P F) (seen : listening.SeenServing F T) (l : Listen) (given : Given) (had has : Option (List Made)) (old new : T) (r : Result ℕ WriteFault) → listening.Listens host seen l given had has old new r → MakesFor (task.Listen l) had has
 listen_makes host seen l given had has old new r (listening.BadStart made fault first told) = within_none _ had has made
 listen_makes host seen l given had has old new r (listening.BadTables made text words refused told) = within_none _ had has made
 listen_makes host seen l given had has old new r (listening.NoRoom made text told) = within_none _ had has made
@@ -123,7 +123,7 @@ bound_sends out t stamp start old new r (sending.Unbound made why told) = within
 bound_sends out t stamp start old new r (sending.NoRoomToBind made why told) = within_none _ out.had out.has made
 bound_sends out t stamp start old new r (sending.Bound made port port' bound each terms on h) = within_last [] _ out.had out.has made
 
-pub send_makes : {P F : Type 0} (out : Outside P F) (t : Send) (old new : Option (List ℕ)) (r : Result Ended WriteFault) → sending.Sends out t old new r → MakesFor (task.Send t) out.had out.has
+pub send_makes : {P F : Type 0} (out : Outside P F) (t : Send) (old new : Option (List ℕ)) (r : Result Ended WriteFault) → sending.SendsGame out t old new r → MakesFor (task.Send t) out.had out.has
 send_makes out t old new r (sending.NoGame made words lacks told) = within_none _ out.had out.has made
 send_makes out t old new r (sending.Stamped start stamp is h) = bound_sends out t stamp start old new r h
 
@@ -139,7 +139,7 @@ all_records h (stamp ∷ taken) = ((stamp, refl), all_records h taken)
 
 -- some first things, and files of records behind them
 abbrev Hosting : HostGames → List Made → Option (List Made) → Option (List Made) → Type 0
-Hosting h before had has = (more : List Made) × Passes had has more × (IsFrontOf before more ⊎ ((later : List Made) × (more ≡ before ++ later) × AllByRecursion (IsRecordIn h.games.now) later))
+Hosting h before had has = (more : List Made) × Passes had has more × (IsFrontOfMade before more ⊎ ((later : List Made) × (more ≡ before ++ later) × AllByRecursion (IsRecordIn h.games.now) later))
 
 hosts_none : (h : HostGames) (before : List Made) (had has : Option (List Made)) → Passes had has [] → Hosting h before had has
 hosts_none h before had has none = ([], none, inl (before, refl))
@@ -192,7 +192,7 @@ module _ {P F : Type 0} (p : Place P F) where
   pub no_line : (line : List ℕ) (had : Option (List Made)) → MakesForLine p line had had
   no_line line had = ([], Passes-nil had, inl refl)
 
-  pub line_once : (line : List ℕ) (g : Told) (had has : Option (List Made)) → SpellsEntry line g → MakesOnce had has (file_of_game p g) → MakesForLine p line had has
+  pub line_once : (line : List ℕ) (g : GameContents) (had has : Option (List Made)) → SpellsEntry line g → MakesOnce had has (file_of_game p g) → MakesForLine p line had has
   line_once line g had has spells (inl none) = ([], none, inl refl)
   line_once line g had has spells (inr one) = (file_of_game p g ∷ [], one, inr (g, spells, refl))
 
@@ -203,7 +203,7 @@ module _ {P F : Type 0} (p : Place P F) where
     where
       game_of_line : (first rest : List Made) → IsMadeForLine p line first → AllByRecursion (IsGameIn p.games) rest → AllByRecursion (IsGameIn p.games) (first ++ rest)
       game_of_line first rest (inl none) others = subst (λ (l : List Made). AllByRecursion (IsGameIn p.games) (l ++ rest)) (sym none) others
-      game_of_line first rest (inr (g, spells, one)) others = subst (λ (l : List Made). AllByRecursion (IsGameIn p.games) (l ++ rest)) (sym one) ((stamp_for g p.manifest, refl), others)
+      game_of_line first rest (inr (g, spells, one)) others = subst (λ (l : List Made). AllByRecursion (IsGameIn p.games) (l ++ rest)) (sym one) ((game_stamp g p.manifest, refl), others)
 
   told_makes : (lines : List (List ℕ)) (told : List LineTold) (had has : Option (List Made)) → MakesForTold p lines told had has → (more : List Made) × Passes had has more × AllByRecursion (IsGameIn p.games) more
   told_makes lines told had has (more, passes, are) = (more, passes, games_of_told lines told more are)
@@ -212,17 +212,17 @@ module _ {P F : Type 0} (p : Place P F) where
   puts_makes lines had has old new (Ok status) h = told_makes lines h.told had has h.makes
   puts_makes lines had has old new (Err fault) h = told_makes lines h.told had has h.makes
 
-  put_makes : (t : OneGame) (g : Told) (had has : Option (List Made)) (old new : Option (List ℕ)) (r : Result ℕ WriteFault) → PutsGame p g had has old new r → (more : List Made) × Passes had has more × IsOfEntries p.games (One t) more
+  put_makes : (t : OneGame) (g : GameContents) (had has : Option (List Made)) (old new : Option (List ℕ)) (r : Result ℕ WriteFault) → PutsGame p g had has old new r → (more : List Made) × Passes had has more × IsOfEntries p.games (One t) more
   put_makes t g had has old new r (Kept made stamp is told) = one_of t g had has made
     where
-      one_of : (t : OneGame) (g : Told) (had has : Option (List Made)) → MakesOnce had has (file_of_game p g) → (more : List Made) × Passes had has more × IsOfEntries p.games (One t) more
+      one_of : (t : OneGame) (g : GameContents) (had has : Option (List Made)) → MakesOnce had has (file_of_game p g) → (more : List Made) × Passes had has more × IsOfEntries p.games (One t) more
       one_of t g had has (inl none) = ([], none, inl refl)
-      one_of t g had has (inr one) = (file_of_game p g ∷ [], one, inr (file_of_game p g, (stamp_for g p.manifest, refl), refl))
+      one_of t g had has (inr one) = (file_of_game p g ∷ [], one, inr (file_of_game p g, (game_stamp g p.manifest, refl), refl))
   put_makes t g had has old new r (Unkept made fault is told) = one_of t g had has made
     where
-      one_of : (t : OneGame) (g : Told) (had has : Option (List Made)) → MakesOnce had has (file_of_game p g) → (more : List Made) × Passes had has more × IsOfEntries p.games (One t) more
+      one_of : (t : OneGame) (g : GameContents) (had has : Option (List Made)) → MakesOnce had has (file_of_game p g) → (more : List Made) × Passes had has more × IsOfEntries p.games (One t) more
       one_of t g had has (inl none) = ([], none, inl refl)
-      one_of t g had has (inr one) = (file_of_game p g ∷ [], one, inr (file_of_game p g, (stamp_for g p.manifest, refl), refl))
+      one_of t g had has (inr one) = (file_of_game p g ∷ [], one, inr (file_of_game p g, (game_stamp g p.manifest, refl), refl))
 
 module _ {P F : Type 0} (out : Outside P F) (t : Enter) (old new : Option (List ℕ)) (r : Result ℕ WriteFault) where
   list_makes : (text : List ℕ) → EntersList out t text old new r → (more : List Made) × Passes out.had out.has more × AllByRecursion (IsGameIn t.games.now) more
@@ -234,7 +234,7 @@ module _ {P F : Type 0} (out : Outside P F) (t : Enter) (old new : Option (List 
   as_makes (One g) (BadStart made fault first told) = ([], made, inl refl)
   as_makes (One g) (NoManifest made text words lacks told) = ([], made, inl refl)
   as_makes (One g) (NoRoom made text told) = ([], made, inl refl)
-  as_makes (One g) (Entered start spells legal manifest is puts) = put_makes (place out.host t.games.now manifest) g (game_of g start) out.had out.has old new r puts
+  as_makes (One g) (Entered start spells legal manifest is puts) = put_makes (place out.host t.games.now manifest) g (entered_game g start) out.had out.has old new r puts
   as_makes (From path) (NoList made lacks told) = ([], made, tt)
   as_makes (From path) (NoRoomForList made told) = ([], made, tt)
   as_makes (From path) (OfList text is h) = list_makes text h

@@ -14,9 +14,9 @@ use Rattle.adjudicate_core.specs.declared.usage.Usage.TheVariants.{Misuse, OutOf
 use Rattle.adjudicate_core.specs.declared.usage.ValueFault.{ValueFault}
 use Rattle.adjudicate_core.specs.declared.usage.Misuse.TheVariants as misuse
 use Rattle.adjudicate_core.specs.Inside.Putting.{IsMisuseOf}
-use Rattle.adjudicate_core.specs.Misuses.{AreWell, AsksForHelp, Fault, IsFirst, fault_words}
-use Rattle.adjudicate_core.specs.Rules.{fault_in, value_in}
-use Rattle.adjudicate_core.specs.Tasks.{IsMisuse, IsTaken, Names, NamesNone, app_for, faults_of}
+use Rattle.adjudicate_core.specs.Misuses.{AreWell, AsksForHelp, Fault, IsFirstMisuse, fault_words}
+use Rattle.adjudicate_core.specs.Rules.{argument_value, words_fault}
+use Rattle.adjudicate_core.specs.Tasks.{IsMisuse, NamesCommand, NamesNoCommand, TakesWords, app_for, faults_of}
 use Rattle.adjudicate_core.specs.Usage.{usage_by, usage_of}
 
 -- ---- by one word alone
@@ -50,7 +50,7 @@ refused_by kind.DisplayVersion e m is = let f : Misuse (Refused e) ≡ Misuse m 
 refused_by kind.Io e m is = let f : Misuse (Refused e) ≡ Misuse m = is in cc
 refused_by kind.Format e m is = let f : Misuse (Refused e) ≡ Misuse m = is in cc
 
-pub refused_so : (words : List Text) (name : Name) (e : Error) (m : Misuses) → Names words name → HasKind (fault_in (app_for name) words) e → usage_of e ≡ Misuse m → IsMisuse words m
+pub refused_so : (words : List Text) (name : Name) (e : Error) (m : Misuses) → NamesCommand words name → HasKind (words_fault (app_for name) words) e → usage_of e ≡ Misuse m → IsMisuse words m
 refused_so words name e m named h is = elim h [
   | inl memory ↦ absurd (let f : OutOfMemory ≡ Misuse m = sym (ap (λ k. usage_by k e) memory) ∙ is in cc)
   | inr among ↦ subst (IsMisuse words) (refused_by (kind_of e) e m is) (name, named, among)
@@ -58,28 +58,28 @@ refused_so words name e m named h is = elim h [
 
 -- ---- by the command's values
 
-pub value_so : (words : List Text) (name : Name) (value : Text → Option Text) (fault : ValueFault) (m : Misuses) → Names words name → IsTaken (app_for name) words → ((id : Text) → value id ≡ value_in (app_for name) words id) → IsFirst value (faults_of name value) (fault_words fault) → Misuse (Value fault) ≡ Misuse m → IsMisuse words m
+pub value_so : (words : List Text) (name : Name) (value : Text → Option Text) (fault : ValueFault) (m : Misuses) → NamesCommand words name → TakesWords (app_for name) words → ((id : Text) → value id ≡ argument_value (app_for name) words id) → IsFirstMisuse value (faults_of name value) (fault_words fault) → Misuse (Value fault) ≡ Misuse m → IsMisuse words m
 value_so words name value fault m named taken same first is =
-    let one : value ≡ value_in (app_for name) words = (λ i id. same id i) in
+    let one : value ≡ argument_value (app_for name) words = (λ i id. same id i) in
     let at : Value fault ≡ m = cc in
-    subst (IsMisuse words) at (name, named, taken, subst (λ (v : Text → Option Text). IsFirst v (faults_of name v) (fault_words fault)) one first)
+    subst (IsMisuse words) at (name, named, taken, subst (λ (v : Text → Option Text). IsFirstMisuse v (faults_of name v) (fault_words fault)) one first)
 
 -- ---- the first of several
 
-pub first_in_front : (value : Text → Option Text) (front rest : List Fault) (line : List ℕ) → IsFirst value front line → IsFirst value (front ++ rest) line
+pub first_in_front : (value : Text → Option Text) (front rest : List Fault) (line : List ℕ) → IsFirstMisuse value front line → IsFirstMisuse value (front ++ rest) line
 first_in_front value [] rest line h = absurd h
 first_in_front value (fault ∷ front) rest line h = elim h [
   | inl here ↦ inl here
   | inr later ↦ inr (later.0, first_in_front value front rest line later.1)
 ]
 
-pub first_behind : (value : Text → Option Text) (front rest : List Fault) (line : List ℕ) → AreWell value front → IsFirst value rest line → IsFirst value (front ++ rest) line
+pub first_behind : (value : Text → Option Text) (front rest : List Fault) (line : List ℕ) → AreWell value front → IsFirstMisuse value rest line → IsFirstMisuse value (front ++ rest) line
 first_behind value [] rest line well h = h
 first_behind value (fault ∷ front) rest line well h = inr (well.0, first_behind value front rest line well.1 h)
 
 -- ---- a first word that names no command
 
-pub misuse_so : (words : List Text) (word : Text) (m : Misuses) → NamesNone words → slice_get words 0 ≡ Some word → IsMisuseOf word m → IsMisuse words m
+pub misuse_so : (words : List Text) (word : Text) (m : Misuses) → NamesNoCommand words → slice_get words 0 ≡ Some word → IsMisuseOf word m → IsMisuse words m
 misuse_so words word misuse.Help none at h = (word, at, h)
 misuse_so words word (misuse.UnknownCommand told) none at h = (none, at ∙ ap Some (sym h.0), λ asks. h.1 (subst AsksForHelp h.0 asks))
 misuse_so words word misuse.NoCommand none at h = absurd h

@@ -9,8 +9,8 @@ use Rattle.std.proofs.Math.Seq.{split_at}
 use Rattle.std.specs.Io.KnownBytes.{Appends, Keeps}
 use Rattle.std.proofs.KnownBytes.{Appends-nil, Appends-trans}
 use Rattle.system_io.specs.Outputs.{OutputFacts, WritesFront}
-use Rattle.adjudicate_core.specs.Uses.{CutOff, CutsOff, GoesOut, Gone, IsLineOf, TellsMisuse, is_plain, shown, shown_byte, shown_line}
-use Rattle.adjudicate_core.specs.Inside.Putting.{IsPut, TellsLine}
+use Rattle.adjudicate_core.specs.Uses.{CutOff, CutsOff, GoesOut, Gone, IsMisuseLine, TellsMisuse, is_plain_byte, shown_byte, shown_bytes, shown_line}
+use Rattle.adjudicate_core.specs.Inside.Putting.{IsPut, TellsLineFirst}
 
 module _ {E : Type 0} (facts : E → OutputFacts) (contents : E → Option (List ℕ)) where
   pub put_so : {T F : Type 0} (old new : E) (bytes : List ℕ) (r : Result T F) → WritesFront (contents old) (contents new) bytes r → OnErr r (facts old).refuses → IsPut facts contents old new bytes r
@@ -68,41 +68,41 @@ module _ {E : Type 0} (facts : E → OutputFacts) (contents : E → Option (List
   goes_after old mid new a b h (CutOff p) = CutOff (cut_later old mid new a b h p)
 
   -- words of which some are written
-  pub cut_in : (old mid new : E) (words : List ℕ) (i : ℕ) → i < length words → Appends (contents old) (contents mid) (shown (take i words)) → CutsOff facts contents mid new (shown_byte (get_or words i 0)) → CutsOff facts contents old new (shown words)
+  pub cut_in : (old mid new : E) (words : List ℕ) (i : ℕ) → i < length words → Appends (contents old) (contents mid) (shown_bytes (take i words)) → CutsOff facts contents mid new (shown_byte (get_or words i 0)) → CutsOff facts contents old new (shown_bytes words)
   cut_in old mid new words i lt h p =
       let front = take i words in
       let byte = get_or words i 0 in
       let rest = drop (suc i) words in
       let parts : words ≡ front ++ byte ∷ rest = split_at words i 0 lt in
-      cut_as old new _ _ (sym (ap shown parts ∙ flat_map-append shown_byte front (byte ∷ rest)))
-      (cut_later old mid new (shown front) (shown_byte byte ++ shown rest) h (cut_before mid new (shown_byte byte) (shown rest) p))
+      cut_as old new _ _ (sym (ap shown_bytes parts ∙ flat_map-append shown_byte front (byte ∷ rest)))
+      (cut_later old mid new (shown_bytes front) (shown_byte byte ++ shown_bytes rest) h (cut_before mid new (shown_byte byte) (shown_bytes rest) p))
 
   -- ---- words of several parts
 
-  pub number_so : {T F : Type 0} (old mid new : E) (byte : ℕ) (digits : List ℕ) (r : Result T F) → is_plain byte ≡ false → digits ≡ encode_lower (byte ∷ []) → Appends (contents old) (contents mid) (92 ∷ 120 ∷ []) → IsPut facts contents mid new digits r → IsPut facts contents old new (shown_byte byte) r
+  pub number_so : {T F : Type 0} (old mid new : E) (byte : ℕ) (digits : List ℕ) (r : Result T F) → is_plain_byte byte ≡ false → digits ≡ encode_lower (byte ∷ []) → Appends (contents old) (contents mid) (92 ∷ 120 ∷ []) → IsPut facts contents mid new digits r → IsPut facts contents old new (shown_byte byte) r
   number_so old mid new byte digits r plain same h p =
-      let e : shown_byte byte ≡ 92 ∷ 120 ∷ digits = cond-false (is_plain byte) (byte ∷ []) (92 ∷ 120 ∷ encode_lower (byte ∷ [])) plain ∙ ap (λ d. 92 ∷ 120 ∷ d) (sym same) in
+      let e : shown_byte byte ≡ 92 ∷ 120 ∷ digits = cond-false (is_plain_byte byte) (byte ∷ []) (92 ∷ 120 ∷ encode_lower (byte ∷ [])) plain ∙ ap (λ d. 92 ∷ 120 ∷ d) (sym same) in
       subst (λ t. IsPut facts contents old new t r) (sym e) (then_put old mid new (92 ∷ 120 ∷ []) digits r h p)
 
-  pub number_cut : (old new : E) (byte : ℕ) → is_plain byte ≡ false → CutsOff facts contents old new (92 ∷ 120 ∷ []) → CutsOff facts contents old new (shown_byte byte)
+  pub number_cut : (old new : E) (byte : ℕ) → is_plain_byte byte ≡ false → CutsOff facts contents old new (92 ∷ 120 ∷ []) → CutsOff facts contents old new (shown_byte byte)
   number_cut old new byte plain p =
-      cut_as old new _ _ (sym (cond-false (is_plain byte) (byte ∷ []) (92 ∷ 120 ∷ encode_lower (byte ∷ [])) plain))
+      cut_as old new _ _ (sym (cond-false (is_plain_byte byte) (byte ∷ []) (92 ∷ 120 ∷ encode_lower (byte ∷ [])) plain))
       (cut_before old new (92 ∷ 120 ∷ []) (encode_lower (byte ∷ [])) p)
 
-  pub two_put : {T F : Type 0} (old mid new : E) (a b : List ℕ) (r : Result T F) → Appends (contents old) (contents mid) (shown a) → IsPut facts contents mid new (shown b) r → IsPut facts contents old new (shown (a ++ b)) r
-  two_put old mid new a b r h p = subst (λ t. IsPut facts contents old new t r) (sym (flat_map-append shown_byte a b)) (then_put old mid new (shown a) (shown b) r h p)
+  pub two_put : {T F : Type 0} (old mid new : E) (a b : List ℕ) (r : Result T F) → Appends (contents old) (contents mid) (shown_bytes a) → IsPut facts contents mid new (shown_bytes b) r → IsPut facts contents old new (shown_bytes (a ++ b)) r
+  two_put old mid new a b r h p = subst (λ t. IsPut facts contents old new t r) (sym (flat_map-append shown_byte a b)) (then_put old mid new (shown_bytes a) (shown_bytes b) r h p)
 
-  pub two_cut : (old new : E) (a b : List ℕ) → CutsOff facts contents old new (shown a) → CutsOff facts contents old new (shown (a ++ b))
-  two_cut old new a b p = cut_as old new _ _ (sym (flat_map-append shown_byte a b)) (cut_before old new (shown a) (shown b) p)
+  pub two_cut : (old new : E) (a b : List ℕ) → CutsOff facts contents old new (shown_bytes a) → CutsOff facts contents old new (shown_bytes (a ++ b))
+  two_cut old new a b p = cut_as old new _ _ (sym (flat_map-append shown_byte a b)) (cut_before old new (shown_bytes a) (shown_bytes b) p)
 
-  pub three_put : {T F : Type 0} (old mid new : E) (a b d : List ℕ) (r : Result T F) → Appends (contents old) (contents mid) (shown (a ++ b)) → IsPut facts contents mid new (shown d) r → IsPut facts contents old new (shown (a ++ b ++ d)) r
+  pub three_put : {T F : Type 0} (old mid new : E) (a b d : List ℕ) (r : Result T F) → Appends (contents old) (contents mid) (shown_bytes (a ++ b)) → IsPut facts contents mid new (shown_bytes d) r → IsPut facts contents old new (shown_bytes (a ++ b ++ d)) r
   three_put old mid new a b d r h p = two_put old mid new (a ++ b) d r h p
 
-  pub three_cut : (old new : E) (a b d : List ℕ) → CutsOff facts contents old new (shown (a ++ b)) → CutsOff facts contents old new (shown (a ++ b ++ d))
+  pub three_cut : (old new : E) (a b d : List ℕ) → CutsOff facts contents old new (shown_bytes (a ++ b)) → CutsOff facts contents old new (shown_bytes (a ++ b ++ d))
   three_cut old new a b d p = two_cut old new (a ++ b) d p
 
-  pub line_so : (old new : E) (words : List ℕ) (m : Misuse) → TellsLine facts contents old new (shown_line words) → IsLineOf m (shown_line words) → TellsMisuse facts contents old new m
+  pub line_so : (old new : E) (words : List ℕ) (m : Misuse) → TellsLineFirst facts contents old new (shown_line words) → IsMisuseLine m (shown_line words) → TellsMisuse facts contents old new m
   line_so old new words m h is = record { line = shown_line words; usage = h.usage; is = is; out = h.out }
 
-  pub usage_alone : (old new : E) (m : Misuse) → (usage : List ℕ) × GoesOut facts contents old new usage → IsLineOf m [] → TellsMisuse facts contents old new m
+  pub usage_alone : (old new : E) (m : Misuse) → (usage : List ℕ) × GoesOut facts contents old new usage → IsMisuseLine m [] → TellsMisuse facts contents old new m
   usage_alone old new m h is = record { line = []; usage = h.0; is = is; out = h.1 }

@@ -16,9 +16,9 @@ use Rattle.adjudicate_core.specs.declared.lines.Line.{Line}
 use Rattle.adjudicate_core.specs.declared.lines.Line.TheVariants as line
 use Rattle.adjudicate_core.specs.declared.lines.RootLine.{RootLine}
 use Rattle.judge_core.specs.Ask.{IsAnswered}
-use Rattle.json_lines.specs.Told.{AreMoves}
+use Rattle.json_lines.specs.Told.{AreRootMoves}
 use Rattle.judge_core.specs.declared.ask.Ask.{Ask}
-use Rattle.adjudicate_core.specs.Commands.Root.{IsTold, told}
+use Rattle.adjudicate_core.specs.Commands.Root.{IsRootReply, root_reply}
 use Rattle.adjudicate_core.specs.Lines.{probed_of, root_line_words, root_words, words_of}
 use Rattle.adjudicate_core.specs.Reply.{Reply, status_if}
 
@@ -59,7 +59,7 @@ module _ (ms : List RootMove) (i : ℕ) (m : RootMove) (lt : i < length ms) (is 
 -- the whole reply
 pub reply_is : (ms : List RootMove) (i : ℕ) (lines lines' : List Line) (columns : Columns) (done : Bool) → length ms ≤ i → map words_of lines ≡ map root_words (take i ms) → done ≡ (has_both columns.probed && list_all is_told (take i ms))
     → lines' ≡ lines ++ line.Columns columns ∷ []
-    → record { text = text_of (map words_of lines'); status = status_if done } ≡ told ms columns.probed (columns_words columns.probed.wdl columns.probed.dtz columns.verdict)
+    → record { text = text_of (map words_of lines'); status = status_if done } ≡ root_reply ms columns.probed (columns_words columns.probed.wdl columns.probed.dtz columns.verdict)
 reply_is ms i lines lines' columns done end so_far all e =
     let text = ap (map words_of) e ∙ map-append words_of lines (line.Columns columns ∷ []) ∙ ap (λ (ws : List (List ℕ)). ws ++ columns_words columns.probed.wdl columns.probed.dtz columns.verdict ∷ []) (so_far ∙ ap (map root_words) (take_all i ms end)) in
     let whole = all ∙ ap (λ (xs : List RootMove). has_both columns.probed && list_all is_told xs) (take_all i ms end) in
@@ -67,7 +67,7 @@ reply_is ms i lines lines' columns done end so_far all e =
     ∙ ap (λ (b : Bool). record { text = text_of (map root_words ms ++ columns_words columns.probed.wdl columns.probed.dtz columns.verdict ∷ []); status = status_if b }) whole
 
 -- what is told of a position
-pub told_in : (ask : Ask) (tables : Tables) (p : Parts) (moves : List RootMove) (columns : Columns) (r : Reply) → AreMoves ask tables p moves → IsAnswered ask tables p columns.probed → columns.verdict ≡ ruling tables p
-    → r ≡ told moves columns.probed (columns_words columns.probed.wdl columns.probed.dtz columns.verdict) → IsTold ask tables p r
+pub told_in : (ask : Ask) (tables : Tables) (p : Parts) (moves : List RootMove) (columns : Columns) (r : Reply) → AreRootMoves ask tables p moves → IsAnswered ask tables p columns.probed → columns.verdict ≡ ruling tables p
+    → r ≡ root_reply moves columns.probed (columns_words columns.probed.wdl columns.probed.dtz columns.verdict) → IsRootReply ask tables p r
 told_in ask tables p moves columns r are is verdict e =
-    (moves, are, columns.probed, is, e ∙ ap (λ (v : Option Verdict). told moves columns.probed (columns_words columns.probed.wdl columns.probed.dtz v)) verdict)
+    (moves, are, columns.probed, is, e ∙ ap (λ (v : Option Verdict). root_reply moves columns.probed (columns_words columns.probed.wdl columns.probed.dtz v)) verdict)

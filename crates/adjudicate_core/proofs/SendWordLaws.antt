@@ -5,11 +5,11 @@ use Rattle.clap.specs.Words.{Text}
 use Rattle.adjudicate_core.specs.declared.usage.Wanted.TheVariants as wanted
 use Rattle.adjudicate_core.specs.Commands.Send.{file_faults, sent_faults, words_faults}
 use Rattle.adjudicate_core.specs.GamePaths.{NamesGame}
-use Rattle.adjudicate_core.specs.Misuses.{AreWell, Beside, Fault, Holds, IsFirst, Unfit, Untold, game_faults, text_or_empty, unfit_words}
+use Rattle.adjudicate_core.specs.Misuses.{AreWell, Beside, Fault, Holds, IsFirstMisuse, Unfit, Untold, game_faults, text_or_empty, unfit_words}
 use Rattle.adjudicate_core.proofs.MisuseLaws.{first_behind, first_in_front}
 
 module _ (value : Text → Option Text) where
-  untold_first : (faults : List Fault) (line : List ℕ) → value (codes "game") ≡ None → IsFirst value faults line → IsFirst value (map Untold faults) line
+  untold_first : (faults : List Fault) (line : List ℕ) → value (codes "game") ≡ None → IsFirstMisuse value faults line → IsFirstMisuse value (map Untold faults) line
   untold_first [] line none h = absurd h
   untold_first (fault ∷ faults) line none h = elim h [
     | inl here ↦ inl ((none, here.0), here.1)
@@ -39,16 +39,16 @@ module _ (value : Text → Option Text) where
   pub told_well : value (codes "game") ≡ None → AreWell value game_faults → AreWell value sent_faults
   told_well none well = well_join words_faults file_faults (untold_well game_faults well) (file_well none)
 
-  pub told_first : (line : List ℕ) → value (codes "game") ≡ None → IsFirst value game_faults line → IsFirst value sent_faults line
+  pub told_first : (line : List ℕ) → value (codes "game") ≡ None → IsFirstMisuse value game_faults line → IsFirstMisuse value sent_faults line
   told_first line none h = first_in_front value words_faults file_faults line (untold_first game_faults line none h)
 
   pub filed_well : (path : Text) → value (codes "game") ≡ Some path → AreWell value file_faults → AreWell value sent_faults
   filed_well path is well = well_join words_faults file_faults (not_missed game_faults path is) well
 
-  pub filed_first : (path : Text) (line : List ℕ) → value (codes "game") ≡ Some path → IsFirst value file_faults line → IsFirst value sent_faults line
+  pub filed_first : (path : Text) (line : List ℕ) → value (codes "game") ≡ Some path → IsFirstMisuse value file_faults line → IsFirstMisuse value sent_faults line
   filed_first path line is h = first_behind value words_faults file_faults line (not_missed game_faults path is) h
 
-  pub unfit_first : (path : Text) (line : List ℕ) → value (codes "game") ≡ Some path → ((stamp : List ℕ) → NamesGame path stamp → ⊥) → line ≡ unfit_words wanted.GameFile path → IsFirst value file_faults line
+  pub unfit_first : (path : Text) (line : List ℕ) → value (codes "game") ≡ Some path → ((stamp : List ℕ) → NamesGame path stamp → ⊥) → line ≡ unfit_words wanted.GameFile path → IsFirstMisuse value file_faults line
   unfit_first path line is none at = inl ((path, is, none), at ∙ ap (λ o. unfit_words wanted.GameFile (text_or_empty o)) (sym is))
 
   pub not_unfit : (path stamp : List ℕ) → value (codes "game") ≡ Some path → NamesGame path stamp → Holds value (Unfit wanted.GameFile) → ⊥

@@ -5,12 +5,12 @@ use Rattle.std.proofs.KnownBytes.{Appends-nil, Appends-trans}
 use Rattle.std.proofs.lemmas.List.{length-append, map-append}
 use Rattle.move_msg.specs.declared.message.Message.{Message}
 use Rattle.move_msg.specs.declared.message.MessageFault.{MessageFault}
-use Rattle.move_msg.specs.Messages.{SpellsMessage, fault_name}
+use Rattle.move_msg.specs.Messages.{SpellsMessage, message_fault_name}
 use Rattle.move_msg.specs.Streams.{BeginsBy, EndsSo, AfterMessage, Cut, AtFault}
 use Rattle.move_msg.specs.TextLines.{ended, text_of}
 use Rattle.move_msg.specs.MessageWords.{message_words}
 use Rattle.adjudicate_core.specs.Lines.{refused_message}
-use Rattle.adjudicate_core.specs.Commands.Show.{AtEnd, AtMessage, CutsShown, IsShown, Shows, shown}
+use Rattle.adjudicate_core.specs.Commands.Show.{AtEnd, AtMessage, CutsShown, IsShownReply, ShowsStream, shown_stream}
 use Rattle.adjudicate_core.specs.Reply.{Reply}
 use Rattle.adjudicate_core.specs.Telling.{TellsOne}
 use Rattle.line_teller.specs.ToldLines.{HasFront}
@@ -57,19 +57,19 @@ shown_front stream rest tail text m old mid new number h e s (n, cut) =
     AtMessage h.done m tail (begins_more stream h.done rest text tail m h.begins e s) (n, Appends-trans old mid new (text_of (map message_words h.done)) (take n (ended (message_words m))) h.written cut)
 
 -- the stream ends after a message
-pub shown_whole : (stream rest : List ℕ) (old new : Option (List ℕ)) (number : ℕ) → HasShown stream rest old new number → EndsSo rest AfterMessage → (r : Reply) × IsShown stream r × Appends old new r.text × (0 ≡ r.status)
+pub shown_whole : (stream rest : List ℕ) (old new : Option (List ℕ)) (number : ℕ) → HasShown stream rest old new number → EndsSo rest AfterMessage → (r : Reply) × IsShownReply stream r × Appends old new r.text × (0 ≡ r.status)
 shown_whole stream rest old new number h end =
-    (shown h.done AfterMessage, (h.done, AfterMessage, record { rest = rest; messages = h.begins; ending = end }, refl), h.written, refl)
+    (shown_stream h.done AfterMessage, (h.done, AfterMessage, record { rest = rest; messages = h.begins; ending = end }, refl), h.written, refl)
 
 -- or with a refusal, which is told
-refused_so : (stream rest : List ℕ) (old mid new : Option (List ℕ)) (number : ℕ) (r : Result ℕ WriteFault) (name named : List ℕ) (reply : Reply) → (h : HasShown stream rest old mid number) → named ≡ name → reply ≡ record { text = text_of (map message_words h.done ++ refused_message (length h.done + 1) name ∷ []); status = 1 } → IsShown stream reply
-    → TellsOne (refused_message number named) mid new r → Shows stream old new r
+refused_so : (stream rest : List ℕ) (old mid new : Option (List ℕ)) (number : ℕ) (r : Result ℕ WriteFault) (name named : List ℕ) (reply : Reply) → (h : HasShown stream rest old mid number) → named ≡ name → reply ≡ record { text = text_of (map message_words h.done ++ refused_message (length h.done + 1) name ∷ []); status = 1 } → IsShownReply stream reply
+    → TellsOne (refused_message number named) mid new r → ShowsStream stream old new r
 refused_so stream rest old mid new number r name named reply h is made are told = by_result r (subst (λ (l : List ℕ). TellsOne l mid new r) same told)
   where
     same : refused_message number named ≡ refused_message (length h.done + 1) name
     same = ap₂ refused_message h.next is
 
-    by_result : (r : Result ℕ WriteFault) → TellsOne (refused_message (length h.done + 1) name) mid new r → Shows stream old new r
+    by_result : (r : Result ℕ WriteFault) → TellsOne (refused_message (length h.done + 1) name) mid new r → ShowsStream stream old new r
     by_result (Ok status) (wrote, one) = (
       reply,
       are,
@@ -79,11 +79,11 @@ refused_so stream rest old mid new number r name named reply h is made are told 
     by_result (Err fault) front = AtEnd reply are (subst (λ (q : Reply). HasFront old new q.text) (sym made) (front_of_lines old mid new (map message_words h.done) (refused_message (length h.done + 1) name) h.written front))
 
 -- it ends inside a message
-pub shown_cut : (stream rest : List ℕ) (old mid new : Option (List ℕ)) (number : ℕ) (r : Result ℕ WriteFault) (named : List ℕ) → HasShown stream rest old mid number → EndsSo rest Cut → named ≡ codes "Cut" → TellsOne (refused_message number named) mid new r → Shows stream old new r
+pub shown_cut : (stream rest : List ℕ) (old mid new : Option (List ℕ)) (number : ℕ) (r : Result ℕ WriteFault) (named : List ℕ) → HasShown stream rest old mid number → EndsSo rest Cut → named ≡ codes "Cut" → TellsOne (refused_message number named) mid new r → ShowsStream stream old new r
 shown_cut stream rest old mid new number r named h end is told =
-    refused_so stream rest old mid new number r (codes "Cut") named (shown h.done Cut) h is refl (h.done, Cut, record { rest = rest; messages = h.begins; ending = end }, refl) told
+    refused_so stream rest old mid new number r (codes "Cut") named (shown_stream h.done Cut) h is refl (h.done, Cut, record { rest = rest; messages = h.begins; ending = end }, refl) told
 
 -- or at a fault
-pub shown_fault : (stream rest : List ℕ) (old mid new : Option (List ℕ)) (number : ℕ) (r : Result ℕ WriteFault) (fault : MessageFault) (named : List ℕ) → HasShown stream rest old mid number → EndsSo rest (AtFault fault) → named ≡ fault_name fault → TellsOne (refused_message number named) mid new r → Shows stream old new r
+pub shown_fault : (stream rest : List ℕ) (old mid new : Option (List ℕ)) (number : ℕ) (r : Result ℕ WriteFault) (fault : MessageFault) (named : List ℕ) → HasShown stream rest old mid number → EndsSo rest (AtFault fault) → named ≡ message_fault_name fault → TellsOne (refused_message number named) mid new r → ShowsStream stream old new r
 shown_fault stream rest old mid new number r fault named h end is told =
-    refused_so stream rest old mid new number r (fault_name fault) named (shown h.done (AtFault fault)) h is refl (h.done, AtFault fault, record { rest = rest; messages = h.begins; ending = end }, refl) told
+    refused_so stream rest old mid new number r (message_fault_name fault) named (shown_stream h.done (AtFault fault)) h is refl (h.done, AtFault fault, record { rest = rest; messages = h.begins; ending = end }, refl) told

@@ -6,21 +6,21 @@ use Rattle.std.proofs.lemmas.List.{at_drop_more, map-append, take_more}
 use Rattle.std.proofs.lemmas.List.Folds.{list_all-map, list_all_more}
 use Rattle.judge_core.specs.Tables.{Tables}
 use Rattle.move_msg.specs.TextLines.{text_of}
-use Rattle.adjudicate_core.specs.Looks.{Found, Look, ◌>>=◌, are_tables, look_line, tables_from, with_found}
+use Rattle.adjudicate_core.specs.Looks.{Found, Look, ◌>>=◌, are_tables, look_line, tables_from_looks, with_found}
 use Rattle.adjudicate_core.specs.Commands.Check.{checked}
 use Rattle.adjudicate_core.specs.Reply.{status_if}
 
 -- one look more
-one_more : (tables more : Tables) (look : Look) (looks : List Look) → with_found tables look.name look.found ≡ Ok more → tables_from tables (look ∷ looks) ≡ tables_from more looks
-unfolding tables_from
-one_more tables more look looks h = ap (λ r. r >>= (λ t. tables_from t looks)) h
+one_more : (tables more : Tables) (look : Look) (looks : List Look) → with_found tables look.name look.found ≡ Ok more → tables_from_looks tables (look ∷ looks) ≡ tables_from_looks more looks
+unfolding tables_from_looks
+one_more tables more look looks h = ap (λ r. r >>= (λ t. tables_from_looks t looks)) h
 
-one_refused : (tables : Tables) (line : List ℕ) (look : Look) (looks : List Look) → with_found tables look.name look.found ≡ Err line → tables_from tables (look ∷ looks) ≡ Err line
-unfolding tables_from
-one_refused tables line look looks h = ap (λ r. r >>= (λ t. tables_from t looks)) h
+one_refused : (tables : Tables) (line : List ℕ) (look : Look) (looks : List Look) → with_found tables look.name look.found ≡ Err line → tables_from_looks tables (look ∷ looks) ≡ Err line
+unfolding tables_from_looks
+one_refused tables line look looks h = ap (λ r. r >>= (λ t. tables_from_looks t looks)) h
 
-pub none_left : (tables : Tables) → tables_from tables [] ≡ Ok tables
-unfolding tables_from
+pub none_left : (tables : Tables) → tables_from_looks tables [] ≡ Ok tables
+unfolding tables_from_looks
 none_left tables = refl
 
 -- the looks at a list, each by what is seen of it
@@ -28,17 +28,17 @@ abbrev pub looks_of : {X Y : Type 0} → (X → Y) → (Y → Look) → List X �
 looks_of view look xs = map look (map view xs)
 
 -- what comes of the rest, by its first
-by_first : {X Y : Type 0} (view : X → Y) (look : Y → Look) (xs : List X) (i : ℕ) (x : X) → i < length xs → x ≡ get_or xs i x → (tables : Tables) → tables_from tables (looks_of view look (drop i xs)) ≡ tables_from tables (look (view x) ∷ looks_of view look (drop (i + 1) xs))
+by_first : {X Y : Type 0} (view : X → Y) (look : Y → Look) (xs : List X) (i : ℕ) (x : X) → i < length xs → x ≡ get_or xs i x → (tables : Tables) → tables_from_looks tables (looks_of view look (drop i xs)) ≡ tables_from_looks tables (look (view x) ∷ looks_of view look (drop (i + 1) xs))
 by_first view look xs i x within is tables =
-    at_drop_more (λ ys. tables_from tables (looks_of view look ys)) xs i x within
-    ∙ ap (λ y. tables_from tables (looks_of view look (y ∷ drop (i + 1) xs))) (sym is)
+    at_drop_more (λ ys. tables_from_looks tables (looks_of view look ys)) xs i x within
+    ∙ ap (λ y. tables_from_looks tables (looks_of view look (y ∷ drop (i + 1) xs))) (sym is)
 
-pub goes_on : {X Y : Type 0} (view : X → Y) (look : Y → Look) (xs : List X) (i : ℕ) (x : X) → i < length xs → x ≡ get_or xs i x → (tables more : Tables) (found : Found) (total : Result Tables (List ℕ)) → found ≡ (look (view x)).found → Ok more ≡ with_found tables (look (view x)).name found → tables_from tables (looks_of view look (drop i xs)) ≡ total → tables_from more (looks_of view look (drop (i + 1) xs)) ≡ total
+pub goes_on : {X Y : Type 0} (view : X → Y) (look : Y → Look) (xs : List X) (i : ℕ) (x : X) → i < length xs → x ≡ get_or xs i x → (tables more : Tables) (found : Found) (total : Result Tables (List ℕ)) → found ≡ (look (view x)).found → Ok more ≡ with_found tables (look (view x)).name found → tables_from_looks tables (looks_of view look (drop i xs)) ≡ total → tables_from_looks more (looks_of view look (drop (i + 1) xs)) ≡ total
 goes_on view look xs i x within is tables more found total same step all =
     sym (one_more tables more (look (view x)) (looks_of view look (drop (i + 1) xs)) (sym (step ∙ ap (with_found tables (look (view x)).name) same)))
     ∙ sym (by_first view look xs i x within is tables) ∙ all
 
-pub is_refused : {X Y : Type 0} (view : X → Y) (look : Y → Look) (xs : List X) (i : ℕ) (x : X) → i < length xs → x ≡ get_or xs i x → (tables : Tables) (line : List ℕ) (found : Found) (total : Result Tables (List ℕ)) → found ≡ (look (view x)).found → Err line ≡ with_found tables (look (view x)).name found → tables_from tables (looks_of view look (drop i xs)) ≡ total → Err line ≡ total
+pub is_refused : {X Y : Type 0} (view : X → Y) (look : Y → Look) (xs : List X) (i : ℕ) (x : X) → i < length xs → x ≡ get_or xs i x → (tables : Tables) (line : List ℕ) (found : Found) (total : Result Tables (List ℕ)) → found ≡ (look (view x)).found → Err line ≡ with_found tables (look (view x)).name found → tables_from_looks tables (looks_of view look (drop i xs)) ≡ total → Err line ≡ total
 is_refused view look xs i x within is tables line found total same step all =
     sym (one_refused tables line (look (view x)) (looks_of view look (drop (i + 1) xs)) (sym (step ∙ ap (with_found tables (look (view x)).name) same)))
     ∙ sym (by_first view look xs i x within is tables) ∙ all

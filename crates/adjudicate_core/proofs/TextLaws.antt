@@ -11,11 +11,11 @@ use Rattle.fen_text.specs.Coordinates.{move_text}
 use Rattle.fen_text.specs.Fen.{IsFirstFenFault, SpellsPosition}
 use Rattle.move_msg.specs.TextLines.{text_of}
 use Rattle.adjudicate_core.specs.Lines.{refused_fen}
-use Rattle.adjudicate_core.specs.Reply.{ForNone, ForPosition, IsForText, IsText, Reply, refused}
+use Rattle.adjudicate_core.specs.Reply.{ForNone, ForPosition, IsForText, IsText, Reply, refusal_reply}
 use Rattle.adjudicate_core.specs.Commands.Moves.{IsMoves, moves_at}
 
 -- that of a text that is none, by its bytes
-pub for_none : (bytes text : List ℕ) (IsAnswer : Parts → Reply → Type 0) (fault : FenFault) → bytes ≡ text → IsFirstFenFault bytes fault → IsForText text IsAnswer (refused (refused_fen fault))
+pub for_none : (bytes text : List ℕ) (IsAnswer : Parts → Reply → Type 0) (fault : FenFault) → bytes ≡ text → IsFirstFenFault bytes fault → IsForText text IsAnswer (refusal_reply (refused_fen fault))
 for_none bytes text IsAnswer fault same first = ForNone fault (subst (λ t. IsFirstFenFault t fault) same first) refl
 
 module _ {A E : Type 0} (reply : A → Reply) (r : Result A E) (bytes text : List ℕ) (p : Parts) (same : bytes ≡ text) (spells : SpellsPosition bytes p) (legal : IsPosition p) where

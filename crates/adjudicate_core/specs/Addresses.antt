@@ -3,7 +3,7 @@ use Rattle.std.specs.Prelude.{◌≡◌, ◌⊎◌, ◌<◌, ◌+◌, ◌++◌, 
 use Rattle.std.specs.List.{AllByRecursion, Contains}
 use Rattle.fen_text.specs.Cuts.{cut_at}
 use Rattle.system_io.specs.Recipients.{sender_word}
-use Rattle.adjudicate_core.specs.Numbers.{IsNumber}
+use Rattle.adjudicate_core.specs.Numbers.{IsDecimalNumber}
 
 -- commas part them
 abbrev pub addresses_of : List ℕ → List (List ℕ)
@@ -18,7 +18,7 @@ pub record IsAddress (text : List ℕ) : Type 0 where
   pub number : ℕ
   pub parts : cut_at 58 text ≡ front ++ port ∷ []
   pub host : length port + 1 < length text
-  pub is : IsNumber port number
+  pub is : IsDecimalNumber port number
   pub within : number < 2 ^ 16
 
 -- where there is such a text, it is an address

@@ -5,12 +5,12 @@ use Rattle.move_msg.specs.declared.stamp.Stamp.{Stamp}
 use Rattle.move_msg.specs.TextLines.{text_of}
 use Rattle.record_audit.specs.declared.auditing.Finding.{Finding}
 use Rattle.record_audit.specs.Findings.{IsComparison, IsFound, agree, finding_words, is_whole}
-use Rattle.adjudicate_core.specs.Lines.{compared_words}
+use Rattle.adjudicate_core.specs.Lines.{agreement_words}
 use Rattle.adjudicate_core.specs.Reply.{Reply, status_if}
 
 abbrev pub comparison_lines : Option (Option ℕ) → List (List ℕ)
 comparison_lines None = []
-comparison_lines (Some compared) = compared_words compared ∷ []
+comparison_lines (Some compared) = agreement_words compared ∷ []
 
 -- ---- all of it
 

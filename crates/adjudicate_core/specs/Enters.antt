@@ -16,8 +16,8 @@ use Rattle.system_io.specs.Histories.{Passes}
 use Rattle.system_io.specs.Hosts.{FileAt, Made}
 use Rattle.system_io.specs.Inputs.{InputFacts}
 use Rattle.system_io.specs.KeptFiles.{CannotStart, FindsOldOrNew, IsOneOfFound, KeptFacts}
-use Rattle.arbiter_server.specs.GameFolders.{game_path, stamp_for}
-use Rattle.arbiter_server.specs.GameFiles.{SpellsGame, Told, told}
+use Rattle.arbiter_server.specs.GameFolders.{game_path, game_stamp}
+use Rattle.arbiter_server.specs.GameFiles.{GameContents, SpellsGame, game_as_told}
 use Rattle.arbiter_server.specs.Folders.{MakesOnce}
 use Rattle.arbiter_server.specs.ServedLines.{refused_keeper}
 use Rattle.line_teller.specs.ToldLines.{LineTold, all_told, refused_files, refused_memory, words_told}
@@ -32,10 +32,10 @@ use Rattle.adjudicate_core.specs.declared.entries.EntryFault.TheVariants as entr
 use Rattle.adjudicate_core.specs.Entries.{IsFirstEntryFault, SpellsEntry}
 use Rattle.adjudicate_core.specs.Lines.{refused_entry, refused_fen}
 use Rattle.adjudicate_core.specs.Listens.{Hosted}
-use Rattle.adjudicate_core.specs.Manifests.{IsManifestOf, LacksManifest}
+use Rattle.adjudicate_core.specs.Manifests.{IsNamedManifest, LacksManifest}
 use Rattle.adjudicate_core.specs.Outsides.{Outside}
 use Rattle.adjudicate_core.specs.Reply.{IsText, status_if}
-use Rattle.adjudicate_core.specs.Telling.{TellsOne, TellsText}
+use Rattle.adjudicate_core.specs.Telling.{TellsOne, TellsWholeText}
 use Rattle.source_core.specs.Lines.{IsCut}
 
 -- where games are entered: the host of their files, the folder, and the manifest by which they are stamped
@@ -75,20 +75,20 @@ pub data LacksTextAt {P F : Type 0} (host : Hosted P F) (path text : List ℕ) (
 -- ---- a game in a folder
 
 -- it is entered under this stamp: that is its own by the manifest, and the file of the stamp has its text
-pub record IsEntered {P F : Type 0} (p : Place P F) (g : Told) (stamp : List ℕ) : Type 0 where
-  pub is : stamp ≡ stamp_for g p.manifest
+pub record IsEntered {P F : Type 0} (p : Place P F) (g : GameContents) (stamp : List ℕ) : Type 0 where
+  pub is : stamp ≡ game_stamp g p.manifest
   pub text : List ℕ
   pub spells : SpellsGame text g
   pub has : HasTextAt p.host (game_path p.games stamp) text
 
 -- why it isn't: the file hasn't its text; or memory for the file's path was refused
-pub data IsUnentered {P F : Type 0} (p : Place P F) (g : Told) (fault : KeepFault) : Type 0 where
-  NoText : (text : List ℕ) → SpellsGame text g → LacksTextAt p.host (game_path p.games (stamp_for g p.manifest)) text fault → IsUnentered p g fault
+pub data IsUnentered {P F : Type 0} (p : Place P F) (g : GameContents) (fault : KeepFault) : Type 0 where
+  NoText : (text : List ℕ) → SpellsGame text g → LacksTextAt p.host (game_path p.games (game_stamp g p.manifest)) text fault → IsUnentered p g fault
   NoRoomForPath : fault ≡ keep.OutOfMemory → IsUnentered p g fault
 
 -- the file of a game in the folder, by its stamp
-abbrev pub file_of_game : {P F : Type 0} → Place P F → Told → Made
-file_of_game p g = FileAt (game_path p.games (stamp_for g p.manifest))
+abbrev pub file_of_game : {P F : Type 0} → Place P F → GameContents → Made
+file_of_game p g = FileAt (game_path p.games (game_stamp g p.manifest))
 
 abbrev pub keep_fault_words : KeepFault → List ℕ
 keep_fault_words keep.Keeper = refused_keeper
@@ -97,15 +97,15 @@ keep_fault_words keep.OutOfMemory = refused_memory
 -- ---- the game of the words
 
 -- the game that the words tell, with this start
-abbrev pub game_of : OneGame → Parts → Told
-game_of g start = told g.name start g.delay
+abbrev pub entered_game : OneGame → Parts → GameContents
+entered_game g start = game_as_told g.name start g.delay
 
 -- the stamp is the one line, in lower-case hexadecimal digits, and all is done
 abbrev pub TellsStamp : List ℕ → Option (List ℕ) → Option (List ℕ) → Result ℕ WriteFault → Type 0
-TellsStamp stamp old new r = TellsText (ended (encode_lower stamp)) 0 old new r
+TellsStamp stamp old new r = TellsWholeText (ended (encode_lower stamp)) 0 old new r
 
 -- it is entered, and its stamp is told; or it isn't, and that is told. At the host its file is opened, or nothing.
-pub data PutsGame {P F : Type 0} (p : Place P F) (g : Told) (had has : Option (List Made)) (old new : Option (List ℕ)) (r : Result ℕ WriteFault) : Type 0 where
+pub data PutsGame {P F : Type 0} (p : Place P F) (g : GameContents) (had has : Option (List Made)) (old new : Option (List ℕ)) (r : Result ℕ WriteFault) : Type 0 where
   Kept : MakesOnce had has (file_of_game p g) → (stamp : List ℕ) → IsEntered p g stamp → TellsStamp stamp old new r → PutsGame p g had has old new r
   Unkept : MakesOnce had has (file_of_game p g) → (fault : KeepFault) → IsUnentered p g fault → TellsOne (keep_fault_words fault) old new r → PutsGame p g had has old new r
 
@@ -115,30 +115,30 @@ pub data EntersOne {P F : Type 0} (out : Outside P F) (t : Enter) (g : OneGame) 
   BadStart : Passes out.had out.has [] → (fault : FenFault) → IsFirstFenFault g.start.now fault → TellsOne (refused_fen fault) old new r → EntersOne out t g old new r
   NoManifest : Passes out.had out.has [] → IsText g.start.now → (words : List ℕ) → LacksManifest out.disk (option_map (λ s. s.now) t.manifest) t.tables.now words → TellsOne words old new r → EntersOne out t g old new r
   NoRoom : Passes out.had out.has [] → IsText g.start.now → TellsOne refused_memory old new r → EntersOne out t g old new r
-  Entered : (start : Parts) → SpellsPosition g.start.now start → IsPosition start → (manifest : List ℕ) → IsManifestOf out.disk (option_map (λ s. s.now) t.manifest) t.tables.now manifest → PutsGame (place out.host t.games.now manifest) (game_of g start) out.had out.has old new r → EntersOne out t g old new r
+  Entered : (start : Parts) → SpellsPosition g.start.now start → IsPosition start → (manifest : List ℕ) → IsNamedManifest out.disk (option_map (λ s. s.now) t.manifest) t.tables.now manifest → PutsGame (place out.host t.games.now manifest) (entered_game g start) out.had out.has old new r → EntersOne out t g old new r
 
 -- ---- the games of a list
 
 -- no game is entered, for this fault, though the line spells one
-abbrev pub LacksGame : {P F : Type 0} → Place P F → List ℕ → KeepFault → Type 0
-LacksGame p line fault = (g : Told) × SpellsEntry line g × IsUnentered p g fault
+abbrev pub EntersNoGame : {P F : Type 0} → Place P F → List ℕ → KeepFault → Type 0
+EntersNoGame p line fault = (g : GameContents) × SpellsEntry line g × IsUnentered p g fault
 
 -- what comes of a line: its game is entered under this stamp; or the line is at fault, or the game's file
 abbrev pub ComesOf : {P F : Type 0} → Place P F → List ℕ → Result Stamp EntryFault → Type 0
-ComesOf p line (Ok stamp) = (g : Told) × SpellsEntry line g × IsEntered p g stamp.0
-ComesOf p line (Err fault) = IsFirstEntryFault line fault ⊎ ((fault ≡ entry.Keeper) × LacksGame p line keep.Keeper)
+ComesOf p line (Ok stamp) = (g : GameContents) × SpellsEntry line g × IsEntered p g stamp.0
+ComesOf p line (Err fault) = IsFirstEntryFault line fault ⊎ ((fault ≡ entry.Keeper) × EntersNoGame p line keep.Keeper)
 
 -- what is told of the line with this number, and whether its game is entered
-abbrev pub told_of : ℕ → Result Stamp EntryFault → LineTold
-told_of number (Ok stamp) = record { words = encode_lower stamp.0; done = true }
-told_of number (Err fault) = record { words = refused_entry number fault; done = false }
+abbrev pub told_entry : ℕ → Result Stamp EntryFault → LineTold
+told_entry number (Ok stamp) = record { words = encode_lower stamp.0; done = true }
+told_entry number (Err fault) = record { words = refused_entry number fault; done = false }
 
 abbrev pub EntersLine : {P F : Type 0} → Place P F → ℕ → List ℕ → LineTold → Type 0
-EntersLine p number line t = (r : Result Stamp EntryFault) × ComesOf p line r × (t ≡ told_of number r)
+EntersLine p number line t = (r : Result Stamp EntryFault) × ComesOf p line r × (t ≡ told_entry number r)
 
 -- memory was refused for the game of a line, which is told
 abbrev pub CutsLine : {P F : Type 0} → Place P F → List ℕ → LineTold → Type 0
-CutsLine p line t = LacksGame p line keep.OutOfMemory × (t ≡ record { words = refused_memory; done = false })
+CutsLine p line t = EntersNoGame p line keep.OutOfMemory × (t ≡ record { words = refused_memory; done = false })
 
 -- each line in turn, of which the first has this number, and nothing after one for whose game memory was refused
 abbrev pub EntersLines : {P F : Type 0} → Place P F → ℕ → List (List ℕ) → List LineTold → Type 0
@@ -156,7 +156,7 @@ EntersFirst p number (line ∷ lines) (t ∷ told) =
 
 -- at the host the file of the game of a line is opened, or nothing; nothing for a line that spells none
 abbrev pub IsMadeForLine : {P F : Type 0} → Place P F → List ℕ → List Made → Type 0
-IsMadeForLine p line more = (more ≡ []) ⊎ ((g : Told) × SpellsEntry line g × (more ≡ file_of_game p g ∷ []))
+IsMadeForLine p line more = (more ≡ []) ⊎ ((g : GameContents) × SpellsEntry line g × (more ≡ file_of_game p g ∷ []))
 
 -- so for each line of which something is told, in turn, and nothing for a later one
 abbrev pub AreMadeForTold : {P F : Type 0} → Place P F → List (List ℕ) → List LineTold → List Made → Type 0
@@ -169,7 +169,7 @@ MakesForTold p lines told had has = (more : List Made) × Passes had has more ×
 
 -- what came of each line was written, and the status is 0 only where all games are entered; after a line for whose game memory was
 -- refused no game is entered
-pub record PutsAll {P F : Type 0} (p : Place P F) (lines : List (List ℕ)) (had has : Option (List Made)) (old new : Option (List ℕ)) (status : ℕ) : Type 0 where
+pub record PutsEntries {P F : Type 0} (p : Place P F) (lines : List (List ℕ)) (had has : Option (List Made)) (old new : Option (List ℕ)) (status : ℕ) : Type 0 where
   pub told : List LineTold
   pub enters : EntersLines p 1 lines told
   pub makes : MakesForTold p lines told had has
@@ -178,21 +178,21 @@ pub record PutsAll {P F : Type 0} (p : Place P F) (lines : List (List ℕ)) (had
 
 -- the writer failed at one of the lines: what came of those before it was written, and of it a front; and no game of a later line is
 -- entered
-pub record CutsGames {P F : Type 0} (p : Place P F) (lines : List (List ℕ)) (had has : Option (List Made)) (old new : Option (List ℕ)) : Type 0 where
+pub record CutsEntries {P F : Type 0} (p : Place P F) (lines : List (List ℕ)) (had has : Option (List Made)) (old new : Option (List ℕ)) : Type 0 where
   pub told : List LineTold
   pub enters : EntersFirst p 1 lines told
   pub makes : MakesForTold p lines told had has
   pub written : IsCut (words_told told) old new
 
 abbrev pub PutsGames : {P F : Type 0} → Place P F → List (List ℕ) → Option (List Made) → Option (List Made) → Option (List ℕ) → Option (List ℕ) → Result ℕ WriteFault → Type 0
-PutsGames p lines had has old new (Ok status) = PutsAll p lines had has old new status
-PutsGames p lines had has old new (Err fault) = CutsGames p lines had has old new
+PutsGames p lines had has old new (Ok status) = PutsEntries p lines had has old new status
+PutsGames p lines had has old new (Err fault) = CutsEntries p lines had has old new
 
 -- there is no manifest, for which memory may be refused too; or the games of the lines of the text are entered by it
 pub data EntersList {P F : Type 0} (out : Outside P F) (t : Enter) (text : List ℕ) (old new : Option (List ℕ)) (r : Result ℕ WriteFault) : Type 0 where
   Unstamped : Passes out.had out.has [] → (words : List ℕ) → LacksManifest out.disk (option_map (λ s. s.now) t.manifest) t.tables.now words → TellsOne words old new r → EntersList out t text old new r
   NoRoomForManifest : Passes out.had out.has [] → TellsOne refused_memory old new r → EntersList out t text old new r
-  Listed : (manifest : List ℕ) → IsManifestOf out.disk (option_map (λ s. s.now) t.manifest) t.tables.now manifest → PutsGames (place out.host t.games.now manifest) (lines_in text) out.had out.has old new r → EntersList out t text old new r
+  Listed : (manifest : List ℕ) → IsNamedManifest out.disk (option_map (λ s. s.now) t.manifest) t.tables.now manifest → PutsGames (place out.host t.games.now manifest) (lines_in text) out.had out.has old new r → EntersList out t text old new r
 
 -- the list is what the input gives where the path is `-`, and else what the file has
 pub data HasList (disk : DiskFacts) (source : InputFacts) (path text : List ℕ) : Type 0 where

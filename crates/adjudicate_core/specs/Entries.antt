@@ -5,7 +5,7 @@ use Rattle.std.specs.Fmt.{decimal}
 use Rattle.fen_text.specs.Cuts.{cut_at}
 use Rattle.fen_text.specs.Fen.{IsFirstFenFault, SpellsPosition}
 use Rattle.move_msg.specs.Stamps.{IsGameName}
-use Rattle.arbiter_server.specs.GameFiles.{IsGame, Told}
+use Rattle.arbiter_server.specs.GameFiles.{GameContents, IsPossibleGame}
 use Rattle.adjudicate_core.specs.declared.entries.EntryFault.{EntryFault}
 use Rattle.adjudicate_core.specs.declared.entries.EntryFault.TheVariants.{Fields, Name, Start, Delay, Keeper}
 use Rattle.adjudicate_core.specs.Numbers.{IsDelayDigit}
@@ -14,15 +14,15 @@ use Rattle.adjudicate_core.specs.Reply.{IsText}
 -- ---- a line
 
 -- it has these three fields, parted by two tabs
-abbrev pub HasFields : List ℕ → List ℕ → List ℕ → List ℕ → Type 0
-HasFields line name start delay = cut_at 9 line ≡ name ∷ start ∷ delay ∷ []
+abbrev pub HasThreeFields : List ℕ → List ℕ → List ℕ → List ℕ → Type 0
+HasThreeFields line name start delay = cut_at 9 line ≡ name ∷ start ∷ delay ∷ []
 
 -- it spells this game
-pub record SpellsEntry (line : List ℕ) (g : Told) : Type 0 where
+pub record SpellsEntry (line : List ℕ) (g : GameContents) : Type 0 where
   pub start_text : List ℕ
-  pub fields : HasFields line g.name start_text (decimal g.delay)
+  pub fields : HasThreeFields line g.name start_text (decimal g.delay)
   pub start : SpellsPosition start_text g.start
-  pub game : IsGame g
+  pub game : IsPossibleGame g
 
 -- ---- what is at fault
 
@@ -30,9 +30,9 @@ pub record SpellsEntry (line : List ℕ) (g : Told) : Type 0 where
 abbrev pub IsFirstEntryFault : List ℕ → EntryFault → Type 0
 IsFirstEntryFault line Fields = length (cut_at 9 line) ≢ 3
 IsFirstEntryFault line Name =
-    (name start delay : List ℕ) × HasFields line name start delay × (IsGameName name → ⊥)
+    (name start delay : List ℕ) × HasThreeFields line name start delay × (IsGameName name → ⊥)
 IsFirstEntryFault line (Start fault) =
-    (name start delay : List ℕ) × HasFields line name start delay × IsGameName name × IsFirstFenFault start fault
+    (name start delay : List ℕ) × HasThreeFields line name start delay × IsGameName name × IsFirstFenFault start fault
 IsFirstEntryFault line Delay =
-    (name start delay : List ℕ) × HasFields line name start delay × IsGameName name × IsText start × ((n : ℕ) → IsDelayDigit delay n → ⊥)
+    (name start delay : List ℕ) × HasThreeFields line name start delay × IsGameName name × IsText start × ((n : ℕ) → IsDelayDigit delay n → ⊥)
 IsFirstEntryFault line Keeper = ⊥

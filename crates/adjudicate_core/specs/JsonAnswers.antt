@@ -13,7 +13,7 @@ use Rattle.json_lines.specs.Told.{IsLineFor, IsLineOf, is_done}
 use Rattle.line_teller.specs.ToldLines.{LineTold}
 use Rattle.move_msg.specs.TextLines.{ended}
 use Rattle.adjudicate_core.specs.Lines.{refused_fen}
-use Rattle.adjudicate_core.specs.Reply.{Reply, refused, status_if}
+use Rattle.adjudicate_core.specs.Reply.{Reply, refusal_reply, status_if}
 
 -- a line of the input: one object for its position, with its moves or without, or one that has the fault of the text
 abbrev pub TellsJson : Ask → Bool → Tables → List ℕ → LineTold → Type 0
@@ -30,7 +30,7 @@ IsJsonTold ask tables p r = (l : JsonLine) × IsLineOf ask true tables p l × (r
 -- the refusal of a text that is no position, as JSON or as a line
 abbrev pub refused_in : Bool → FenFault → Reply
 refused_in true fault = json_reply (line.Fault fault)
-refused_in false fault = refused (refused_fen fault)
+refused_in false fault = refusal_reply (refused_fen fault)
 
 -- the reply to the position that a text spells, or the refusal of the text before all else, as JSON or as lines
 pub data IsForTextIn (json : Bool) (text : List ℕ) (IsAnswer : Parts → Reply → Type 0) (r : Reply) : Type 0 where

@@ -2,7 +2,7 @@
 use Rattle.std.specs.Prelude.{◌≡◌, ◌≢◌, ◌≤◌, ℕ, List, bit_and, length}
 use Rattle.adjudicate_core.specs.Lines.{refused_key, refused_shared_key}
 use Rattle.line_teller.specs.ToldLines.{refused_files}
-use Rattle.sealed_port.specs.KeyFiles.{IsFirstKeyFault, SpellsKeys, line_of}
+use Rattle.sealed_port.specs.KeyFiles.{IsFirstKeyFault, SpellsKeys, key_fault_line}
 use Rattle.sealed_port.specs.declared.key_file.KeyFault.{KeyFault}
 use Rattle.sealed_port.specs.declared.seal_port.Keys.{Keys}
 use Rattle.system_io.specs.Disks.{DiskFacts, IsNoSmallFile}
@@ -34,4 +34,4 @@ pub record HasKeys (disk : DiskFacts) (path : List ℕ) (keys : Keys) : Type 0 w
 pub data LacksKeys (disk : DiskFacts) (path words : List ℕ) : Type 0 where
   NoFile : IsNoSmallFile disk path most_key_bytes → words ≡ refused_files → LacksKeys disk path words
   Shared : (text : List ℕ) (mode : ℕ) → IsKeyFile disk path text mode → rights_of_others mode ≢ 0 → words ≡ refused_shared_key → LacksKeys disk path words
-  BadLine : (text : List ℕ) (mode : ℕ) → IsKeyFile disk path text mode → rights_of_others mode ≡ 0 → (fault : KeyFault) → IsFirstKeyFault text fault → words ≡ refused_key (line_of fault) → LacksKeys disk path words
+  BadLine : (text : List ℕ) (mode : ℕ) → IsKeyFile disk path text mode → rights_of_others mode ≡ 0 → (fault : KeyFault) → IsFirstKeyFault text fault → words ≡ refused_key (key_fault_line fault) → LacksKeys disk path words

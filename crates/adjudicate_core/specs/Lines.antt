@@ -6,7 +6,7 @@ use Rattle.std.specs.Fmt.{decimal}
 use Rattle.board_core.specs.Position.{fault_name as position_fault_name}
 use Rattle.fen_text.specs.declared.fault.FenFault.{FenFault}
 use Rattle.fen_text.specs.declared.fault.FenFault.TheVariants as fen
-use Rattle.fen_text.specs.Fen.{fault_name as fen_fault_name}
+use Rattle.fen_text.specs.Fen.{fen_fault_name}
 use Rattle.fen_text.specs.Coordinates.{move_text}
 use Rattle.table_file.specs.Faults.{table_fault_name}
 use Rattle.judge_core.specs.declared.fault.ProbeFault.{ProbeFault}
@@ -16,11 +16,11 @@ use Rattle.judge_core.specs.declared.root_move.BoardState.TheVariants.{Open, Che
 use Rattle.judge_core.specs.declared.root_move.Effect.{Effect}
 use Rattle.judge_core.specs.declared.root_move.RootMove.{RootMove}
 use Rattle.judge_core.specs.Answers.{as_probe}
-use Rattle.judge_core.specs.Probed.{number_of}
+use Rattle.judge_core.specs.Probed.{wdl_number}
 use Rattle.judge_core.specs.Root.{zeroes_clock}
 use Rattle.judge_core.specs.Words.{column_words, columns_words, outcome_words, verdict_words}
 use Rattle.move_msg.specs.declared.message.MessageFault.{MessageFault}
-use Rattle.move_msg.specs.Messages.{fault_name as message_fault_name}
+use Rattle.move_msg.specs.Messages.{message_fault_name}
 use Rattle.move_msg.specs.MessageWords.{message_words}
 use Rattle.record_audit.specs.Findings.{finding_words, refused_record}
 use Rattle.line_teller.specs.ToldLines.{refused_files, refused_memory}
@@ -160,9 +160,9 @@ refusal_words (refusal.Key number) = refused_key number
 refusal_words refusal.Memory = refused_memory
 
 -- two records are the same, or part at a ply
-abbrev pub compared_words : Option ℕ → List ℕ
-compared_words None = codes "agree"
-compared_words (Some ply) = codes "differ " ++ decimal ply
+abbrev pub agreement_words : Option ℕ → List ℕ
+agreement_words None = codes "agree"
+agreement_words (Some ply) = codes "differ " ++ decimal ply
 
 -- a legal move: mate or stalemate, or whether it sets the halfmove clock to 0
 abbrev pub mark_word : BoardState → Effect → List ℕ
@@ -181,7 +181,7 @@ root_line_words l = valued_words (move_text l.played) l.probed.wdl l.probed.dtz 
 
 -- its value and its distance as numbers
 abbrev pub probed_of : RootMove → Probed
-probed_of m = record { wdl = as_probe number_of m.wdl; dtz = as_probe (λ n. n) m.dtz }
+probed_of m = record { wdl = as_probe wdl_number m.wdl; dtz = as_probe (λ n. n) m.dtz }
 
 -- a legal move and what tables tell of it
 abbrev pub root_words : RootMove → List ℕ
@@ -198,7 +198,7 @@ words_of (line.Message m) = message_words m
 words_of (line.Arbiter who state kept) = arbiter_words who state kept
 words_of (line.Sent number) = sent_words number
 words_of (line.Finding finding) = finding_words finding
-words_of (line.Compared compared) = compared_words compared
+words_of (line.Compared compared) = agreement_words compared
 words_of (line.Outcome o) = outcome_words o.outcome o.plies
 words_of (line.Columns c) = columns_words c.probed.wdl c.probed.dtz c.verdict
 words_of (line.Root l) = root_line_words l

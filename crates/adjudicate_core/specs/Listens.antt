@@ -86,16 +86,16 @@ hosted host port file = record { host = host; port = port; file = file }
 
 -- an arbiter is opened over the keeper and serves the datagrams, and between any two of them its record is in the file; or it
 -- isn't opened, and nothing is served; the keeper is left so
-pub data OpensAndServes {F : Type 0} (facts : F → KeptFacts) (S : ServesBy F) (l : Listen) (setup : SetupView) (old new : Scene (FileKeeper F)) (r : Result ℕ WriteFault) : Type 0 where
-  Served : S setup l.datagrams l.fetch old new → OpensAndServes facts S l setup old new r
-  Unopened : (fault : OpenFault) → IsOpening (keeper_over facts) setup old.at new.at (Err fault) → Passed old.port new.port [] → TellsUnopened fault old.written new.written r → OpensAndServes facts S l setup old new r
+pub data OpensToServe {F : Type 0} (facts : F → KeptFacts) (S : ServesBy F) (l : Listen) (setup : SetupView) (old new : Scene (FileKeeper F)) (r : Result ℕ WriteFault) : Type 0 where
+  Served : S setup l.datagrams l.fetch old new → OpensToServe facts S l setup old new r
+  Unopened : (fault : OpenFault) → IsOpening (keeper_over facts) setup old.at new.at (Err fault) → Passed old.port new.port [] → TellsUnopened fault old.written new.written r → OpensToServe facts S l setup old new r
 
 -- over the file in which the record is kept: it can't be brought to the disk or read; or an arbiter is opened over a keeper that
 -- started over this file, and so has stored one of any two that it said a start finds, and what every later start finds
 pub data KeepsAndServes {F : Type 0} (facts : F → KeptFacts) (S : ServesBy F) (l : Listen) (setup : SetupView) (file : F) (port port' : PortFacts) (old new : Option (List ℕ)) (r : Result ℕ WriteFault) : Type 0 where
   Unreadable : CannotKeep (facts file) read.Unreadable → Passed port port' [] → TellsOne refused_keeper old new r → KeepsAndServes facts S l setup file port port' old new r
   NoRoomToKeep : CannotKeep (facts file) read.OutOfMemory → Passed port port' [] → TellsOne refused_memory old new r → KeepsAndServes facts S l setup file port port' old new r
-  Kept : (keeper after : FileKeeper F) → StartsOver facts file keeper → OpensAndServes facts S l setup (scene keeper port old) (scene after port' new) r → KeepsAndServes facts S l setup file port port' old new r
+  Kept : (keeper after : FileKeeper F) → StartsOver facts file keeper → OpensToServe facts S l setup (scene keeper port old) (scene after port' new) r → KeepsAndServes facts S l setup file port port' old new r
 
 -- at a port, over the file at the path of the words
 pub data ServesLocked {P F : Type 0} (host : Hosted P F) (S : ServesBy F) (l : Listen) (setup : SetupView) (had has : Option (List Made)) (port port' : PortFacts) (old new : Option (List ℕ)) (r : Result ℕ WriteFault) : Type 0 where
@@ -123,23 +123,23 @@ LacksAddress host port why = ((why ≡ Port) × host.listens port None) ⊎ (why
 
 -- how a run is seen from moments of a type: what is written by then; that this line, and nothing else, went out between two of them;
 -- that it was cut short; and that an arbiter serves between them
-pub record Seen (F T : Type 0) : Type 1 where
+pub record SeenServing (F T : Type 0) : Type 1 where
   pub written : T → Option (List ℕ)
   pub told : T → List ℕ → T → Type 0
   pub cut : T → List ℕ → T → Type 0
   pub serves : T → T → ServesBy F
 
 -- by what is written
-abbrev pub seen_as : {F : Type 0} → (F → KeptFacts) → Result ℕ WriteFault → Seen F (Option (List ℕ))
-seen_as facts r = record { written = λ t. t; told = λ old line new. Appends old new (ended line); cut = λ old line new. HasFront old new (ended line); serves = λ old new. serving_to facts r }
+abbrev pub serving_seen_as : {F : Type 0} → (F → KeptFacts) → Result ℕ WriteFault → SeenServing F (Option (List ℕ))
+serving_seen_as facts r = record { written = λ t. t; told = λ old line new. Appends old new (ended line); cut = λ old line new. HasFront old new (ended line); serves = λ old new. serving_to facts r }
 
 -- by the writer
-abbrev pub seen_by : {F W : Type 0} → (F → KeptFacts) → Writers W → Result ℕ WriteFault → Seen F W
-seen_by facts w r = record { written = w.written; told = λ out line now. GoOut w out (line ∷ []) now; cut = λ out line now. LastIsCut w out (line ∷ []) now; serves = λ out now. writing_to facts w out now r }
+abbrev pub serving_seen_by : {F W : Type 0} → (F → KeptFacts) → Writers W → Result ℕ WriteFault → SeenServing F W
+serving_seen_by facts w r = record { written = w.written; told = λ out line now. GoOut w out (line ∷ []) now; cut = λ out line now. LastIsCut w out (line ∷ []) now; serves = λ out now. writing_to facts w out now r }
 
 -- at a port that is bound: the address at which it listens isn't wanted; or it isn't told; or its line goes out before all else; or
 -- that is cut short
-pub data StartsAt {P F T : Type 0} (host : Hosted P F) (seen : Seen F T) (l : Listen) (setup : SetupView) (had has : Option (List Made)) (port : P) (port' : PortFacts) (old new : T) (r : Result ℕ WriteFault) : Type 0 where
+pub data StartsAt {P F T : Type 0} (host : Hosted P F) (seen : SeenServing F T) (l : Listen) (setup : SetupView) (had has : Option (List Made)) (port : P) (port' : PortFacts) (old new : T) (r : Result ℕ WriteFault) : Type 0 where
   Unasked : l.ready ≡ false → ServesAt host (seen.serves old new) l setup had has (host.port port) port' (seen.written old) (seen.written new) r → StartsAt host seen l setup had has port port' old new r
   NoAddress : Passes had has [] → l.ready ≡ true → host.host.listens port None → Passed (host.port port) port' [] → TellsOne refused_port (seen.written old) (seen.written new) r → StartsAt host seen l setup had has port port' old new r
   NoRoomForLine : Passes had has [] → l.ready ≡ true → Passed (host.port port) port' [] → TellsOne refused_memory (seen.written old) (seen.written new) r → StartsAt host seen l setup had has port port' old new r
@@ -147,14 +147,14 @@ pub data StartsAt {P F T : Type 0} (host : Hosted P F) (seen : Seen F T) (l : Li
   Unready : Passes had has [] → l.ready ≡ true → (own : SocketAddr) → host.host.listens port (Some own) → Passed (host.port port) port' [] → seen.cut old (ready_words own) new → (fault : WriteFault) → r ≡ Err fault → StartsAt host seen l setup had has port port' old new r
 
 -- with these tables: the port can't be bound; or it is, sends to each of the addresses, and the record is kept in the file at the path
-pub data BindsAndServes {P F T : Type 0} (host : Hosted P F) (seen : Seen F T) (l : Listen) (setup : SetupView) (had has : Option (List Made)) (old new : T) (r : Result ℕ WriteFault) : Type 0 where
+pub data BindsAndServes {P F T : Type 0} (host : Hosted P F) (seen : SeenServing F T) (l : Listen) (setup : SetupView) (had has : Option (List Made)) (old new : T) (r : Result ℕ WriteFault) : Type 0 where
   Unbound : Passes had has [] → host.host.refuses l.bind.now bind.Unbound → TellsOne refused_port (seen.written old) (seen.written new) r → BindsAndServes host seen l setup had has old new r
   NoRoomToBind : Passes had has [] → LacksRoomToBind host.host l.bind.now l.to.now → TellsOne refused_memory (seen.written old) (seen.written new) r → BindsAndServes host seen l setup had has old new r
   Bound : (between : Option (List Made)) → Passes had between (PortAt l.bind.now (addresses_of l.to.now) ∷ []) → (port port' : P) → host.host.binds l.bind.now (addresses_of l.to.now) port → (host.port port).addresses ≡ length (addresses_of l.to.now) → StartsAt host seen l setup between has port (host.port port') old new r → BindsAndServes host seen l setup had has old new r
 
 -- listening: the text of the start is no position; or else a table is refused; or else what follows, with the manifest of the
 -- tables' files, and a set of them with the usual cache. What the host has made before and after it is in its history: the port, the lock and the file, in this order.
-pub data Listens {P F T : Type 0} (host : Hosted P F) (seen : Seen F T) (l : Listen) (given : Given) (had has : Option (List Made)) (old new : T) (r : Result ℕ WriteFault) : Type 0 where
+pub data Listens {P F T : Type 0} (host : Hosted P F) (seen : SeenServing F T) (l : Listen) (given : Given) (had has : Option (List Made)) (old new : T) (r : Result ℕ WriteFault) : Type 0 where
   BadStart : Passes had has [] → (fault : FenFault) → IsFirstFenFault l.start.now fault → TellsOne (refused_fen fault) (seen.written old) (seen.written new) r → Listens host seen l given had has old new r
   BadTables : Passes had has [] → IsText l.start.now → (words : List ℕ) → gathered given ≡ Err words → TellsOne words (seen.written old) (seen.written new) r → Listens host seen l given had has old new r
   NoRoom : Passes had has [] → IsText l.start.now → TellsOne refused_memory (seen.written old) (seen.written new) r → Listens host seen l given had has old new r
@@ -165,30 +165,30 @@ pub data Listens {P F T : Type 0} (host : Hosted P F) (seen : Seen F T) (l : Lis
 -- over a keeper, a file, a port or a host, and to this writer: what is written is the writer's, and each line has gone out before
 -- the next one
 abbrev pub OpensAndWrites : {F W : Type 0} → (F → KeptFacts) → Writers W → Listen → SetupView → FileKeeper F → FileKeeper F → PortFacts → PortFacts → W → W → Result ℕ WriteFault → Type 0
-OpensAndWrites facts w l setup keeper keeper' port port' out out' r = OpensAndServes facts (writing_to facts w out out' r) l setup (scene keeper port (w.written out)) (scene keeper' port' (w.written out')) r
+OpensAndWrites facts w l setup keeper keeper' port port' out out' r = OpensToServe facts (writing_to facts w out out' r) l setup (scene keeper port (w.written out)) (scene keeper' port' (w.written out')) r
 
 abbrev pub KeepsAndWrites : {F W : Type 0} → (F → KeptFacts) → Writers W → Listen → SetupView → F → PortFacts → PortFacts → W → W → Result ℕ WriteFault → Type 0
 KeepsAndWrites facts w l setup file port port' out out' r = KeepsAndServes facts (writing_to facts w out out' r) l setup file port port' (w.written out) (w.written out') r
 
 -- what is known of a host and a writer, the words, and how an arbiter is set up
-pub record Way (P F W : Type 0) : Type 1 where
+pub record ServingWay (P F W : Type 0) : Type 1 where
   pub host : Hosted P F
   pub writer : Writers W
   pub words : Listen
   pub setup : SetupView
 
 -- from one history of the host to a later one
-abbrev pub LockedAndWrites : {P F W : Type 0} → Way P F W → Option (List Made) → Option (List Made) → P → P → W → W → Result ℕ WriteFault → Type 0
+abbrev pub LockedAndWrites : {P F W : Type 0} → ServingWay P F W → Option (List Made) → Option (List Made) → P → P → W → W → Result ℕ WriteFault → Type 0
 LockedAndWrites w had has port port' out out' r = ServesLocked w.host (writing_to w.host.file w.writer out out' r) w.words w.setup had has (w.host.port port) (w.host.port port') (w.writer.written out) (w.writer.written out') r
 
-abbrev pub WritesAt : {P F W : Type 0} → Way P F W → Option (List Made) → Option (List Made) → P → P → W → W → Result ℕ WriteFault → Type 0
-WritesAt w had has port port' out out' r = ServesAt w.host (writing_to w.host.file w.writer out out' r) w.words w.setup had has (w.host.port port) (w.host.port port') (w.writer.written out) (w.writer.written out') r
+abbrev pub WritesServingAt : {P F W : Type 0} → ServingWay P F W → Option (List Made) → Option (List Made) → P → P → W → W → Result ℕ WriteFault → Type 0
+WritesServingAt w had has port port' out out' r = ServesAt w.host (writing_to w.host.file w.writer out out' r) w.words w.setup had has (w.host.port port) (w.host.port port') (w.writer.written out) (w.writer.written out') r
 
-abbrev pub StartsAndWrites : {P F W : Type 0} → Way P F W → Option (List Made) → Option (List Made) → P → P → W → W → Result ℕ WriteFault → Type 0
-StartsAndWrites w had has port port' out out' r = StartsAt w.host (seen_by w.host.file w.writer r) w.words w.setup had has port (w.host.port port') out out' r
+abbrev pub StartsAndWrites : {P F W : Type 0} → ServingWay P F W → Option (List Made) → Option (List Made) → P → P → W → W → Result ℕ WriteFault → Type 0
+StartsAndWrites w had has port port' out out' r = StartsAt w.host (serving_seen_by w.host.file w.writer r) w.words w.setup had has port (w.host.port port') out out' r
 
-abbrev pub BindsAndWrites : {P F W : Type 0} → Way P F W → Option (List Made) → Option (List Made) → W → W → Result ℕ WriteFault → Type 0
-BindsAndWrites w had has out out' r = BindsAndServes w.host (seen_by w.host.file w.writer r) w.words w.setup had has out out' r
+abbrev pub BindsAndWritesServing : {P F W : Type 0} → ServingWay P F W → Option (List Made) → Option (List Made) → W → W → Result ℕ WriteFault → Type 0
+BindsAndWritesServing w had has out out' r = BindsAndServes w.host (serving_seen_by w.host.file w.writer r) w.words w.setup had has out out' r
 
 abbrev pub ListensAndWrites : {P F W : Type 0} → Hosted P F → (W → Option (List ℕ)) → (W → OutputFacts) → Listen → Given → Option (List Made) → Option (List Made) → W → W → Result ℕ WriteFault → Type 0
-ListensAndWrites host written output l given had has out out' r = Listens host (seen_by host.file (writers written output) r) l given had has out out' r
+ListensAndWrites host written output l given had has out out' r = Listens host (serving_seen_by host.file (writers written output) r) l given had has out out' r

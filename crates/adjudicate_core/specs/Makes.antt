@@ -18,8 +18,8 @@ use Rattle.adjudicate_core.specs.declared.commands.send.Send.{Send}
 use Rattle.adjudicate_core.specs.declared.usage.WordsFault.{WordsFault}
 
 -- the first of these, in their order, and nothing else
-abbrev pub IsFrontOf : List Made → List Made → Type 0
-IsFrontOf all more = (rest : List Made) × (more ++ rest ≡ all)
+abbrev pub IsFrontOfMade : List Made → List Made → Type 0
+IsFrontOfMade all more = (rest : List Made) × (more ++ rest ≡ all)
 
 -- `listen`: its port, the lock of its file, and that file
 abbrev pub of_listen : Listen → List Made
@@ -37,7 +37,7 @@ abbrev pub IsRecordIn : List ℕ → Made → Type 0
 IsRecordIn games made = (stamp : List ℕ) × (made ≡ FileAt (kept_path games stamp))
 
 abbrev pub IsOfHost : HostGames → List Made → Type 0
-IsOfHost h more = IsFrontOf (before_games h) more ⊎ ((later : List Made) × (more ≡ before_games h ++ later) × AllByRecursion (IsRecordIn h.games.now) later)
+IsOfHost h more = IsFrontOfMade (before_games h) more ⊎ ((later : List Made) × (more ≡ before_games h ++ later) × AllByRecursion (IsRecordIn h.games.now) later)
 
 -- `enter`: files of games in its folder; of one game at most its file
 abbrev pub IsGameIn : List ℕ → Made → Type 0
@@ -56,14 +56,14 @@ IsMadeBy (task.List t) more = more ≡ []
 IsMadeBy (task.Check t) more = more ≡ []
 IsMadeBy (task.Show t) more = more ≡ []
 IsMadeBy (task.Run t) more = more ≡ []
-IsMadeBy (task.Listen l) more = IsFrontOf (of_listen l) more
+IsMadeBy (task.Listen l) more = IsFrontOfMade (of_listen l) more
 IsMadeBy (task.Probes t) more = more ≡ []
 IsMadeBy (task.Game t) more = more ≡ []
 IsMadeBy (task.Record t) more = more ≡ []
 IsMadeBy (task.Audit t) more = more ≡ []
 IsMadeBy (task.AuditGames t) more = more ≡ []
 IsMadeBy (task.Version t) more = more ≡ []
-IsMadeBy (task.Send t) more = IsFrontOf (of_send t) more
+IsMadeBy (task.Send t) more = IsFrontOfMade (of_send t) more
 IsMadeBy (task.Enter t) more = IsOfEntries t.games.now t.entries more
 IsMadeBy (task.Host h) more = IsOfHost h more
 IsMadeBy (task.Root t) more = more ≡ []

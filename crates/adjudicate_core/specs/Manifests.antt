@@ -8,9 +8,9 @@ use Rattle.task_files.specs.Outside.{AreFilesIn, FolderFails}
 use Rattle.line_teller.specs.ToldLines.{refused_files}
 
 -- that of the file that is named, where one is, and else that of the tables in the folder
-pub data IsManifestOf (disk : DiskFacts) (named : Option (List ℕ)) (tables manifest : List ℕ) : Type 0 where
-  OfFile : (path : List ℕ) → named ≡ Some path → disk.holds path manifest → (entries : List Entry) → SpellsManifest manifest entries → IsManifestOf disk named tables manifest
-  OfFolder : named ≡ None → (files : List File) → AreFilesIn disk tables None files → SpellsManifest manifest (entries_of files) → IsManifestOf disk named tables manifest
+pub data IsNamedManifest (disk : DiskFacts) (named : Option (List ℕ)) (tables manifest : List ℕ) : Type 0 where
+  OfFile : (path : List ℕ) → named ≡ Some path → disk.holds path manifest → (entries : List Entry) → SpellsManifest manifest entries → IsNamedManifest disk named tables manifest
+  OfFolder : named ≡ None → (files : List File) → AreFilesIn disk tables None files → SpellsManifest manifest (entries_of files) → IsNamedManifest disk named tables manifest
 
 -- why there is none: a line of that file is at fault; it can't be read; or the folder can't, which is read where no file is named
 pub data LacksManifest (disk : DiskFacts) (named : Option (List ℕ)) (tables words : List ℕ) : Type 0 where

@@ -18,20 +18,20 @@ use Rattle.adjudicate_core.specs.declared.usage.ValueFault.TheVariants as told
 -- ---- in words
 
 -- the option that has the value
-abbrev pub name_of : Wanted → Text
-name_of wanted.GameName = codes "name"
-name_of wanted.Cache = codes "cache"
-name_of wanted.Delay = codes "delay"
-name_of wanted.Datagrams = codes "datagrams"
-name_of wanted.Me = codes "me"
-name_of wanted.Wait = codes "wait"
-name_of wanted.Tries = codes "tries"
-name_of wanted.Addresses = codes "to"
-name_of wanted.Recipients = codes "to"
-name_of wanted.Address = codes "bind"
-name_of wanted.AtOnce = codes "at-once"
-name_of wanted.Log = codes "log"
-name_of wanted.GameFile = codes "game"
+abbrev pub option_name : Wanted → Text
+option_name wanted.GameName = codes "name"
+option_name wanted.Cache = codes "cache"
+option_name wanted.Delay = codes "delay"
+option_name wanted.Datagrams = codes "datagrams"
+option_name wanted.Me = codes "me"
+option_name wanted.Wait = codes "wait"
+option_name wanted.Tries = codes "tries"
+option_name wanted.Addresses = codes "to"
+option_name wanted.Recipients = codes "to"
+option_name wanted.Address = codes "bind"
+option_name wanted.AtOnce = codes "at-once"
+option_name wanted.Log = codes "log"
+option_name wanted.GameFile = codes "game"
 
 -- what it takes
 abbrev pub range_of : Wanted → List ℕ
@@ -61,7 +61,7 @@ abbrev pub word_not_with_words : Instead → Text → List ℕ
 word_not_with_words other name = name ++ codes " cannot be used with --" ++ instead_name other
 
 abbrev pub unfit_words : Wanted → List ℕ → List ℕ
-unfit_words wanted text = codes "--" ++ name_of wanted ++ codes " " ++ text ++ codes ": " ++ range_of wanted
+unfit_words wanted text = codes "--" ++ option_name wanted ++ codes " " ++ text ++ codes ": " ++ range_of wanted
 
 abbrev pub no_option_words : Text → List ℕ
 no_option_words name = codes "--" ++ name ++ codes " is missing"
@@ -129,23 +129,23 @@ text_or_empty None = []
 text_or_empty (Some text) = text
 
 -- the line that tells it
-abbrev pub line_of : (Text → Option Text) → Fault → List ℕ
-line_of value (NoOption name) = no_option_words name
-line_of value (NoWord name) = no_word_words name
-line_of value (Unfit wanted) = unfit_words wanted (text_or_empty (value (name_of wanted)))
-line_of value (NotWith other name) = not_with_words other name
-line_of value (WordNotWith other name) = word_not_with_words other name
-line_of value (Beside name) = beside_words name
-line_of value (Untold fault) = line_of value fault
+abbrev pub misuse_line : (Text → Option Text) → Fault → List ℕ
+misuse_line value (NoOption name) = no_option_words name
+misuse_line value (NoWord name) = no_word_words name
+misuse_line value (Unfit wanted) = unfit_words wanted (text_or_empty (value (option_name wanted)))
+misuse_line value (NotWith other name) = not_with_words other name
+misuse_line value (WordNotWith other name) = word_not_with_words other name
+misuse_line value (Beside name) = beside_words name
+misuse_line value (Untold fault) = misuse_line value fault
 
 -- it is wrong, and the line tells it
-abbrev pub IsTold : (Text → Option Text) → Fault → List ℕ → Type 0
-IsTold value fault line = Holds value fault × (line ≡ line_of value fault)
+abbrev pub IsToldMisuse : (Text → Option Text) → Fault → List ℕ → Type 0
+IsToldMisuse value fault line = Holds value fault × (line ≡ misuse_line value fault)
 
 -- the line tells the first of these that is wrong
-abbrev pub IsFirst : (Text → Option Text) → List Fault → List ℕ → Type 0
-IsFirst value [] line = ⊥
-IsFirst value (fault ∷ faults) line = IsTold value fault line ⊎ ((Holds value fault → ⊥) × IsFirst value faults line)
+abbrev pub IsFirstMisuse : (Text → Option Text) → List Fault → List ℕ → Type 0
+IsFirstMisuse value [] line = ⊥
+IsFirstMisuse value (fault ∷ faults) line = IsToldMisuse value fault line ⊎ ((Holds value fault → ⊥) × IsFirstMisuse value faults line)
 
 -- none of these is wrong
 abbrev pub AreWell : (Text → Option Text) → List Fault → Type 0

@@ -10,18 +10,18 @@ use Rattle.move_msg.specs.declared.who.Who.{Who}
 use Rattle.move_msg.specs.Senders.{who_number}
 
 -- the text is this number in decimal digits, perhaps after a plus
-abbrev pub IsNumber : List ℕ → ℕ → Type 0
-IsNumber text n = IsNumeral 10 (without_leading_plus text) × (digits_value 10 (without_leading_plus text) ≡ n)
+abbrev pub IsDecimalNumber : List ℕ → ℕ → Type 0
+IsDecimalNumber text n = IsNumeral 10 (without_leading_plus text) × (digits_value 10 (without_leading_plus text) ≡ n)
 
 -- a cache has 1 to 4096 blocks, and 64 where no number is given
 abbrev pub IsCache : Option (List ℕ) → ℕ → Type 0
 IsCache None blocks = blocks ≡ 64
-IsCache (Some text) blocks = IsNumber text blocks × (1 ≤ blocks) × (blocks ≤ 4096)
+IsCache (Some text) blocks = IsDecimalNumber text blocks × (1 ≤ blocks) × (blocks ≤ 4096)
 
 -- a delay has 0 to 8 plies, and 0 where no number is given
 abbrev pub IsDelay : Option (List ℕ) → ℕ → Type 0
 IsDelay None plies = plies ≡ 0
-IsDelay (Some text) plies = IsNumber text plies × (plies ≤ most_delay)
+IsDelay (Some text) plies = IsDecimalNumber text plies × (plies ≤ most_delay)
 
 -- in a list of games it is one digit
 abbrev pub IsDelayDigit : List ℕ → ℕ → Type 0
@@ -30,17 +30,17 @@ IsDelayDigit digit plies = (digit ≡ decimal plies) × (plies ≤ most_delay)
 -- a number of datagrams is 0 to 2^32 - 1; where none is given it is 2^64 - 1, which no run comes to
 abbrev pub IsDatagrams : Option (List ℕ) → ℕ → Type 0
 IsDatagrams None n = n ≡ 2 ^ 64 - 1
-IsDatagrams (Some text) n = IsNumber text n × (n < 2 ^ 32)
+IsDatagrams (Some text) n = IsDecimalNumber text n × (n < 2 ^ 32)
 
 -- 1 to 65535, and 100 where no number is given
 abbrev pub IsHundredOr : Option (List ℕ) → ℕ → Type 0
 IsHundredOr None n = n ≡ 100
-IsHundredOr (Some text) n = IsNumber text n × (1 ≤ n) × (n < 2 ^ 16)
+IsHundredOr (Some text) n = IsDecimalNumber text n × (1 ≤ n) × (n < 2 ^ 16)
 
 -- 1 to 65535 games are open at once, and 256 where no number is given
 abbrev pub IsAtOnce : Option (List ℕ) → ℕ → Type 0
 IsAtOnce None n = n ≡ 256
-IsAtOnce (Some text) n = IsNumber text n × (1 ≤ n) × (n < 2 ^ 16)
+IsAtOnce (Some text) n = IsDecimalNumber text n × (1 ≤ n) × (n < 2 ^ 16)
 
 -- which lines of a host are written: all where that isn't said
 abbrev pub IsLog : Option (List ℕ) → LogForm → Type 0
@@ -52,7 +52,7 @@ IsLog (Some text) log.Nothing = text ≡ codes "none"
 -- the number of an arbiter has to be given, 1 or 2
 abbrev pub IsMe : Option (List ℕ) → Who → Type 0
 IsMe None who = ⊥
-IsMe (Some text) who = IsNumber text (who_number who)
+IsMe (Some text) who = IsDecimalNumber text (who_number who)
 
 -- a flag is given
 abbrev pub is_set : Option (List ℕ) → Bool

@@ -8,7 +8,7 @@ use Rattle.judge_core.specs.Tables.{Tables}
 use Rattle.move_msg.specs.TextLines.{ended}
 use Rattle.system_io.specs.declared.output.WriteFault.{WriteFault}
 use Rattle.adjudicate_core.specs.Lines.{refused_fen}
-use Rattle.adjudicate_core.specs.Telling.{TellsOne, TellsText}
+use Rattle.adjudicate_core.specs.Telling.{TellsOne, TellsWholeText}
 use Rattle.line_teller.specs.ToldLines.{refused_files, refused_memory}
 
 pub record Reply : Type 0 where
@@ -25,18 +25,18 @@ status_told (Ok done) = Ok (status_if done)
 status_told (Err fault) = Err fault
 
 -- a refusal is one line, with status 1
-abbrev pub refused : List ℕ → Reply
-refused words = record { text = ended words; status = 1 }
+abbrev pub refusal_reply : List ℕ → Reply
+refusal_reply words = record { text = ended words; status = 1 }
 
 -- a reply by these tables, or the words that refuse them
 abbrev pub ByTables : Result Tables (List ℕ) → (Tables → Parts → Reply → Type 0) → Parts → Reply → Type 0
 ByTables (Ok tables) IsAnswer p r = IsAnswer tables p r
-ByTables (Err words) IsAnswer p r = r ≡ refused words
+ByTables (Err words) IsAnswer p r = r ≡ refusal_reply words
 
 -- the reply to the position that a text spells, or the refusal of the text before all else
 pub data IsForText (text : List ℕ) (IsAnswer : Parts → Reply → Type 0) (r : Reply) : Type 0 where
   ForPosition : (p : Parts) → SpellsPosition text p → IsPosition p → IsAnswer p r → IsForText text IsAnswer r
-  ForNone : (fault : FenFault) → IsFirstFenFault text fault → r ≡ refused (refused_fen fault) → IsForText text IsAnswer r
+  ForNone : (fault : FenFault) → IsFirstFenFault text fault → r ≡ refusal_reply (refused_fen fault) → IsForText text IsAnswer r
 
 -- the text spells a position
 abbrev pub IsText : List ℕ → Type 0
@@ -44,7 +44,7 @@ IsText text = (p : Parts) × SpellsPosition text p × IsPosition p
 
 -- the reply was written whole, and its status told; or, where the writer failed, a front of it was written
 abbrev pub WritesReply : Option (List ℕ) → Option (List ℕ) → Reply → Result ℕ WriteFault → Type 0
-WritesReply old new reply r = TellsText reply.text reply.status old new r
+WritesReply old new reply r = TellsWholeText reply.text reply.status old new r
 
 -- what a command answers that tells all at once: its reply, or, where the reply takes memory, that memory was refused
 pub data AnswersOnce (IsReply : Reply → Type 0) (TakesMemory : Type 0) (old new : Option (List ℕ)) (r : Result ℕ WriteFault) : Type 0 where

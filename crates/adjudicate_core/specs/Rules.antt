@@ -22,9 +22,9 @@ with_rules app [] = app
 with_rules app (rule ∷ rules) = with_rules (with_rule app rule) rules
 
 -- the value that a command gives an argument at the words
-unfoldable pub value_in : App → List Text → Text → Option Text
-value_in app words id = first_of id (matches_of app words)
+unfoldable pub argument_value : App → List Text → Text → Option Text
+argument_value app words id = first_of id (matches_of app words)
 
 -- what a command finds wrong with the words: nothing where it takes them
-unfoldable pub fault_in : App → List Text → Kinds
-fault_in app words = fault_of app words
+unfoldable pub words_fault : App → List Text → Kinds
+words_fault app words = fault_of app words

@@ -18,9 +18,9 @@ use Rattle.system_io.specs.Hosts.{HostFacts, Made}
 use Rattle.system_io.specs.KeptFiles.{KeptFacts}
 use Rattle.system_io.specs.Outputs.{OutputFacts}
 use Rattle.system_io.specs.Ports.{PortFacts}
-use Rattle.adjudicate_core.specs.Listens.{Listens, hosted, seen_as}
+use Rattle.adjudicate_core.specs.Listens.{Listens, hosted, serving_seen_as}
 use Rattle.adjudicate_core.specs.Outsides.{Outside, outside, outside_of}
-use Rattle.adjudicate_core.specs.Sends.{Sends}
+use Rattle.adjudicate_core.specs.Sends.{SendsGame}
 use Rattle.adjudicate_core.specs.Silences.{TellsSilence}
 use Rattle.source_core.specs.declared.lines.Ended.{Ended}
 use Rattle.source_core.specs.Lines.{ended_status}
@@ -52,7 +52,7 @@ use Rattle.sealed_port.specs.Sealing.{SealedView, sealed_facts}
 use Rattle.sealed_port.specs.declared.seal_port.Keys.{Keys}
 use Rattle.adjudicate_core.specs.Reply.{AnswersOnce, AnswersRead, IsText}
 use Rattle.adjudicate_core.specs.Telling.{TellsOne}
-use Rattle.adjudicate_core.specs.Tasks.{IsTask, IsMisuse, NamesNone, key_in, named_in}
+use Rattle.adjudicate_core.specs.Tasks.{IsTask, IsMisuse, NamesNoCommand, key_in, named_in}
 use Rattle.adjudicate_core.specs.Uses.{TellsMisuse}
 
 -- words as the bytes of their texts
@@ -70,18 +70,18 @@ abbrev pub AnswersFrom : {P F : Type 0} → Outside P F → (Ended → Type 0) �
 AnswersFrom out Told (task.Judge t) given old new r = AnswersOnce (judges.IsReply t given) (IsText t.fen.now) old new r
 AnswersFrom out Told (task.Probe t) given old new r = AnswersOnce (probes.IsReply t given) (IsText t.fen.now) old new r
 AnswersFrom out Told (task.Moves t) given old new r = AnswersOnce (of_moves.IsReply t) (IsText t.fen.now) old new r
-AnswersFrom out Told (task.List t) given old new r = AnswersRead (lists.IsReply out.disk t) (lists.IsUnread out.disk t) old new r
-AnswersFrom out Told (task.Check t) given old new r = AnswersRead (checks.IsReply out.disk t) (checks.IsUnread out.disk t) old new r
+AnswersFrom out Told (task.List t) given old new r = AnswersRead (lists.IsReply out.disk t) (lists.IsListUnread out.disk t) old new r
+AnswersFrom out Told (task.Check t) given old new r = AnswersRead (checks.IsReply out.disk t) (checks.IsCheckUnread out.disk t) old new r
 AnswersFrom out Told (task.Show t) given old new r = shows.Answers given old new r
 AnswersFrom out Told (task.Run t) given old new r = AnswersOnce (runs.IsReply t given) (Unit {0}) old new r
-AnswersFrom out Told (task.Listen t) given old new r = Listens out.host (seen_as out.host.file r) t given out.had out.has old new r
+AnswersFrom out Told (task.Listen t) given old new r = Listens out.host (serving_seen_as out.host.file r) t given out.had out.has old new r
 AnswersFrom out Told (task.Probes t) given old new r = PutsByTables (of_probes.TellsLineIn t.json (ask_of t.determined)) out.source given old new r
 AnswersFrom out Told (task.Game t) given old new r = AnswersOnce (games.IsReply t given) (IsText t.fen.now) old new r
-AnswersFrom out Told (task.Record t) given old new r = AnswersOnce (records.IsReply given.kept) (records.TakesMemory given.kept) old new r
+AnswersFrom out Told (task.Record t) given old new r = AnswersOnce (records.IsReply given.kept) (records.RecordTakesMemory given.kept) old new r
 AnswersFrom out Told (task.Audit t) given old new r = AnswersOnce (audits.IsReply t given) (IsText t.start.now) old new r
 AnswersFrom out Told (task.AuditGames t) given old new r = game_audits.Puts out.disk t given old new r
 AnswersFrom out Told (task.Version t) given old new r = versions.Answers old new r
-AnswersFrom out Told (task.Send t) given old new r = (e : Result Ended WriteFault) × (r ≡ status_ended e) × IfOk e Told × Sends out t old new e
+AnswersFrom out Told (task.Send t) given old new r = (e : Result Ended WriteFault) × (r ≡ status_ended e) × IfOk e Told × SendsGame out t old new e
 AnswersFrom out Told (task.Enter t) given old new r = Enters out t old new r
 AnswersFrom out Told (task.Host t) given old new r = HostsGames out.disk out.host (seen_hosting (disk_keepers out.disk out.host.host out.host.file)) t given out.had out.has old new r
 AnswersFrom out Told (task.Root t) given old new r = roots.Puts t.json (ask_of t.determined) out.source t.fen given old new r
@@ -112,7 +112,7 @@ pub data AnswersByKey {P F : Type 0} (out : Outside P F) (Told : Ended → Type 
 pub data Performs {P F : Type 0} (out : Outside P F) (IsTold : Misuse → Type 0) (Told : Ended → Type 0) (words : List (List ℕ)) (old new : Option (List ℕ)) (r : Result ℕ WriteFault) : Type 0 where
   ToTask : (t : Task) → IsTask words t → AnswersByKey out Told t old new r → Performs out IsTold Told words old new r
   ToMisuse : (misuse : Misuse) → IsMisuse words misuse → IsTold misuse → new ≡ old → r ≡ Ok 2 → Performs out IsTold Told words old new r
-  ToNone : (NamesNone words → ⊥) → TellsOne refused_memory old new r → Performs out IsTold Told words old new r
+  ToNone : (NamesNoCommand words → ⊥) → TellsOne refused_memory old new r → Performs out IsTold Told words old new r
 
 -- the words that a program is called with, or why there are none
 abbrev pub called_by : Result (Vec (String Global) Global) WordsFault → Result (List (List ℕ)) WordsFault
@@ -130,8 +130,8 @@ pub data Called {P F : Type 0} (out : Outside P F) (IsTold : Misuse → Type 0) 
 
 -- By how disks, inputs, hosts, their histories, their ports and their files are seen, what is written at an output, and what is known of
 -- an output for errors and is written there: what the program makes of its words at a system, from each of these moments to a later one.
-abbrev pub Runs : {D I H M P F W E : Type 0} → (D → DiskFacts) → (I → InputFacts) → (H → HostFacts P F) → (M → Option (List Made)) → (P → PortFacts) → (F → KeptFacts) → (W → Option (List ℕ)) → (E → OutputFacts) → (E → Option (List ℕ)) → List (Bor (List ℕ)) → System D I H → M → M → W → W → E → E → Result ℕ WriteFault → Type 0
-Runs disk input host made port file written facts told words s history history' out out' errors errors' r =
+abbrev pub RunsProgram : {D I H M P F W E : Type 0} → (D → DiskFacts) → (I → InputFacts) → (H → HostFacts P F) → (M → Option (List Made)) → (P → PortFacts) → (F → KeptFacts) → (W → Option (List ℕ)) → (E → OutputFacts) → (E → Option (List ℕ)) → List (Bor (List ℕ)) → System D I H → M → M → W → W → E → E → Result ℕ WriteFault → Type 0
+RunsProgram disk input host made port file written facts told words s history history' out out' errors errors' r =
     Performs (outside_of disk input host made port file s history history') (TellsMisuse facts told errors errors') (TellsSilence facts told errors errors') (texts words) (written out) (written out') r
 
 -- so it is for all words that it was called with

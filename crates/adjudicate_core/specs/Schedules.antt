@@ -5,26 +5,26 @@ use Rattle.move_msg.specs.declared.who.Who.{Who}
 use Rattle.move_msg.specs.declared.who.Who.TheVariants.{A, B}
 use Rattle.table_file.specs.declared.fault.TableFault.{TableFault}
 use Rattle.table_file.specs.Faults.{table_fault_name}
-use Rattle.arbiter_core.specs.Recording.{Recorded, count_of}
+use Rattle.arbiter_core.specs.Recording.{Recorded, move_count}
 use Rattle.relay_world.specs.declared.fault.WorldFault.TheVariants.{BadTable}
 use Rattle.relay_world.specs.declared.schedule.Schedule.{Schedule}
 use Rattle.relay_world.specs.Gathering.{tables_of}
-use Rattle.relay_world.specs.Runs.{GameView, state_of}
+use Rattle.relay_world.specs.Runs.{GameView, life_state}
 use Rattle.relay_world.specs.Worlds.{Side, World}
 use Rattle.adjudicate_core.specs.declared.lines.KeptCount.{KeptCount}
 use Rattle.adjudicate_core.specs.Lines.{arbiter_words, sent_words, refused_file}
 
 -- the game of a schedule, where a verdict by tables must hold for so many further plies
-abbrev pub game_of : Schedule → ℕ → GameView
-game_of schedule delay = record { name = schedule.name.items; start = schedule.start; moves = schedule.moves.items; delay = delay }
+abbrev pub scheduled_game : Schedule → ℕ → GameView
+scheduled_game schedule delay = record { name = schedule.name.items; start = schedule.start; moves = schedule.moves.items; delay = delay }
 
 -- how many moves are kept, and the verdict
-abbrev pub counted : Option Recorded → Option KeptCount
-counted None = None
-counted (Some kept) = Some (record { count = count_of kept; verdict = kept.verdict })
+abbrev pub counted_record : Option Recorded → Option KeptCount
+counted_record None = None
+counted_record (Some kept) = Some (record { count = move_count kept; verdict = kept.verdict })
 
 abbrev pub side_words : Who → Side → List ℕ
-side_words who side = arbiter_words who (state_of side.life) (counted side.kept)
+side_words who side = arbiter_words who (life_state side.life) (counted_record side.kept)
 
 -- what is told of a world: a line for A, a line for B, and how many messages were sent
 abbrev pub world_words : World → List (List ℕ)

@@ -20,9 +20,9 @@ use Rattle.system_io.specs.Ports.{Passed, PortFacts}
 use Rattle.source_core.specs.declared.lines.Ended.{Ended}
 use Rattle.source_core.specs.declared.lines.Ended.TheVariants as run
 use Rattle.source_core.specs.declared.turn.Terms.{Terms}
-use Rattle.source_core.specs.Sendings.{IsSending, Sending, WritesLines, causes, game_at}
+use Rattle.source_core.specs.Sendings.{IsSending, Sending, WritesLines, causes, game_at_port}
 use Rattle.arbiter_server.specs.declared.game_lines.GameFileFault.{GameFileFault}
-use Rattle.arbiter_server.specs.GameFiles.{IsFirstGameFault, SpellsGame, Told, line_number}
+use Rattle.arbiter_server.specs.GameFiles.{GameContents, IsFirstGameFault, SpellsGame, line_number}
 use Rattle.arbiter_server.specs.GameFolders.{most_game_bytes}
 use Rattle.arbiter_server.specs.ServedLines.{refused_port}
 use Rattle.adjudicate_core.specs.Addresses.{addresses_of}
@@ -33,7 +33,7 @@ use Rattle.adjudicate_core.specs.declared.commands.send.SentGame.{SentGame}
 use Rattle.adjudicate_core.specs.declared.commands.send.SentGame.TheVariants as sent
 use Rattle.adjudicate_core.specs.Lines.{refused_fen, refused_line}
 use Rattle.adjudicate_core.specs.Listens.{LacksRoomToBind}
-use Rattle.adjudicate_core.specs.Manifests.{IsManifestOf, LacksManifest}
+use Rattle.adjudicate_core.specs.Manifests.{IsNamedManifest, LacksManifest}
 use Rattle.adjudicate_core.specs.Outsides.{Outside}
 use Rattle.adjudicate_core.specs.Reply.{IsText}
 use Rattle.line_teller.specs.ToldLines.{HasFront, refused_files, refused_memory}
@@ -50,7 +50,7 @@ pub record IsStamped (disk : DiskFacts) (t : Send) (g : ToldGame) (stamp : Stamp
   pub spelled : SpellsPosition g.start.now start
   pub position : IsPosition start
   pub manifest : List ℕ
-  pub found : IsManifestOf disk (option_map (λ s. s.now) t.manifest) g.tables.now manifest
+  pub found : IsNamedManifest disk (option_map (λ s. s.now) t.manifest) g.tables.now manifest
   pub is : stamp.0 ≡ stamp_of g.name (fen_of start) manifest t.delay
 
 -- its file tells its start, and the file's name its stamp; whether that is the stamp of the game that is told there no one can say
@@ -58,7 +58,7 @@ pub record IsStamped (disk : DiskFacts) (t : Send) (g : ToldGame) (stamp : Stamp
 pub record IsFiled (disk : DiskFacts) (f : GameFile) (stamp : Stamp) (start : Parts) : Type 0 where
   pub text : List ℕ
   pub held : disk.holds f.path.now text
-  pub told : Told
+  pub told : GameContents
   pub spells : SpellsGame text told
   pub starts : told.start ≡ start
   pub is : stamp ≡ f.stamp
@@ -95,7 +95,7 @@ pub record IsOnTerms (t : Send) (stamp : Stamp) (terms : Terms) : Type 0 where
 
 -- over the port the moves of the input are sent; or memory for reading it was refused
 pub data SendsOver (source : InputFacts) (terms : Terms) (start : Parts) (port port' : PortFacts) (old new : Option (List ℕ)) (r : Result Ended WriteFault) : Type 0 where
-  Over : (left left' : Option (List ℕ)) → IfSome left source.gives → (s : Sending) → IsSending (causes source.fails source.takes_memory) (game_at terms port) start left left' port port' s → WritesLines s old new r → SendsOver source terms start port port' old new r
+  Over : (left left' : Option (List ℕ)) → IfSome left source.gives → (s : Sending) → IsSending (causes source.fails source.takes_memory) (game_at_port terms port) start left left' port port' s → WritesLines s old new r → SendsOver source terms start port port' old new r
   NoRoomForLines : source.takes_memory → Passed port port' [] → EndsOnce refused_memory old new r → SendsOver source terms start port port' old new r
 
 -- the port can't be bound; or it is, and sends to each of the addresses
@@ -106,6 +106,6 @@ pub data BindsAndSends {P F : Type 0} (out : Outside P F) (t : Send) (stamp : St
 
 -- sending: there is no game, which is told; or what follows, with its stamp. What the host has made before and after it is in its
 -- history: the port.
-pub data Sends {P F : Type 0} (out : Outside P F) (t : Send) (old new : Option (List ℕ)) (r : Result Ended WriteFault) : Type 0 where
-  NoGame : Passes out.had out.has [] → (words : List ℕ) → LacksSent out.disk t t.game words → EndsOnce words old new r → Sends out t old new r
-  Stamped : (start : Parts) (stamp : Stamp) → IsSent out.disk t t.game stamp start → BindsAndSends out t stamp start old new r → Sends out t old new r
+pub data SendsGame {P F : Type 0} (out : Outside P F) (t : Send) (old new : Option (List ℕ)) (r : Result Ended WriteFault) : Type 0 where
+  NoGame : Passes out.had out.has [] → (words : List ℕ) → LacksSent out.disk t t.game words → EndsOnce words old new r → SendsGame out t old new r
+  Stamped : (start : Parts) (stamp : Stamp) → IsSent out.disk t t.game stamp start → BindsAndSends out t stamp start old new r → SendsGame out t old new r

@@ -1,7 +1,7 @@
 -- Commands and tasks: a list for each thing that the program asks of a command (this project's own).
 use Rattle.std.specs.Prelude.{◌≡◌, ◌⊎◌, Bool, false, List, [], ◌∷◌, Option, Some, None, Result, Ok, Err, codes, option_map, slice_get}
 use Rattle.clap.specs.Words.{App, IsAmong, Rule, Text, kind_of, new_app}
-use Rattle.adjudicate_core.specs.Rules.{fault_in, value_in, with_rules}
+use Rattle.adjudicate_core.specs.Rules.{argument_value, with_rules, words_fault}
 use Rattle.task_files.specs.Sources.{Named}
 use Rattle.adjudicate_core.specs.Commands.Judge as judges
 use Rattle.adjudicate_core.specs.Commands.Probe as probes
@@ -23,7 +23,7 @@ use Rattle.adjudicate_core.specs.Commands.Record as records
 use Rattle.adjudicate_core.specs.Commands.Audit as audits
 use Rattle.adjudicate_core.specs.Commands.AuditGames as game_audits
 use Rattle.adjudicate_core.specs.Commands.Version as versions
-use Rattle.adjudicate_core.specs.Misuses.{AsksForHelp, Fault, IsFirst, fault_words}
+use Rattle.adjudicate_core.specs.Misuses.{AsksForHelp, Fault, IsFirstMisuse, fault_words}
 use Rattle.adjudicate_core.specs.declared.usage.Misuse.{Misuse}
 use Rattle.adjudicate_core.specs.declared.usage.Misuse.TheVariants as misuse
 use Rattle.adjudicate_core.specs.declared.usage.ValueFault.{ValueFault}
@@ -35,48 +35,48 @@ use Rattle.adjudicate_core.specs.declared.commands.Task.TheVariants as task
 -- ---- by the command
 
 -- the word that names it
-abbrev pub word_of : Name → Text
-word_of name.Judge = codes "judge"
-word_of name.Probe = codes "probe"
-word_of name.Moves = codes "moves"
-word_of name.List = codes "list"
-word_of name.Check = codes "check"
-word_of name.Show = codes "show"
-word_of name.Run = codes "run"
-word_of name.Listen = codes "listen"
-word_of name.Probes = codes "probes"
-word_of name.Game = codes "game"
-word_of name.Record = codes "record"
-word_of name.Audit = codes "audit"
-word_of name.Version = codes "version"
-word_of name.Send = codes "send"
-word_of name.Enter = codes "enter"
-word_of name.Host = codes "host"
-word_of name.Root = codes "root"
-word_of name.Follow = codes "follow"
-word_of name.Status = codes "status"
+abbrev pub command_word : Name → Text
+command_word name.Judge = codes "judge"
+command_word name.Probe = codes "probe"
+command_word name.Moves = codes "moves"
+command_word name.List = codes "list"
+command_word name.Check = codes "check"
+command_word name.Show = codes "show"
+command_word name.Run = codes "run"
+command_word name.Listen = codes "listen"
+command_word name.Probes = codes "probes"
+command_word name.Game = codes "game"
+command_word name.Record = codes "record"
+command_word name.Audit = codes "audit"
+command_word name.Version = codes "version"
+command_word name.Send = codes "send"
+command_word name.Enter = codes "enter"
+command_word name.Host = codes "host"
+command_word name.Root = codes "root"
+command_word name.Follow = codes "follow"
+command_word name.Status = codes "status"
 
 -- what it is given
-abbrev pub rules_of : Name → List Rule
-rules_of name.Judge = judges.rules
-rules_of name.Probe = probes.rules
-rules_of name.Moves = of_moves.rules
-rules_of name.List = lists.rules
-rules_of name.Check = checks.rules
-rules_of name.Show = shows.rules
-rules_of name.Run = runs.rules
-rules_of name.Listen = listens.rules
-rules_of name.Probes = of_probes.rules
-rules_of name.Game = games.rules
-rules_of name.Record = records.rules
-rules_of name.Audit = audits.rules
-rules_of name.Version = versions.rules
-rules_of name.Send = sends.rules
-rules_of name.Enter = enters.rules
-rules_of name.Host = hosts.rules
-rules_of name.Root = roots.rules
-rules_of name.Follow = follows.rules
-rules_of name.Status = statuses.rules
+abbrev pub command_rules : Name → List Rule
+command_rules name.Judge = judges.rules
+command_rules name.Probe = probes.rules
+command_rules name.Moves = of_moves.rules
+command_rules name.List = lists.rules
+command_rules name.Check = checks.rules
+command_rules name.Show = shows.rules
+command_rules name.Run = runs.rules
+command_rules name.Listen = listens.rules
+command_rules name.Probes = of_probes.rules
+command_rules name.Game = games.rules
+command_rules name.Record = records.rules
+command_rules name.Audit = audits.rules
+command_rules name.Version = versions.rules
+command_rules name.Send = sends.rules
+command_rules name.Enter = enters.rules
+command_rules name.Host = hosts.rules
+command_rules name.Root = roots.rules
+command_rules name.Follow = follows.rules
+command_rules name.Status = statuses.rules
 
 -- what may be wrong with its values, in the order in which it is told; with some values something else than with others
 abbrev pub faults_of : Name → (Text → Option Text) → List Fault
@@ -102,50 +102,50 @@ faults_of name.Status value = statuses.faults
 
 -- ---- by the task
 
-abbrev pub name_of : Task → Name
-name_of (task.Judge t) = name.Judge
-name_of (task.Probe t) = name.Probe
-name_of (task.Moves t) = name.Moves
-name_of (task.List t) = name.List
-name_of (task.Check t) = name.Check
-name_of (task.Show t) = name.Show
-name_of (task.Run t) = name.Run
-name_of (task.Listen t) = name.Listen
-name_of (task.Probes t) = name.Probes
-name_of (task.Game t) = name.Game
-name_of (task.Record t) = name.Record
-name_of (task.Audit t) = name.Audit
-name_of (task.AuditGames t) = name.Audit
-name_of (task.Version t) = name.Version
-name_of (task.Send t) = name.Send
-name_of (task.Enter t) = name.Enter
-name_of (task.Host t) = name.Host
-name_of (task.Root t) = name.Root
-name_of (task.Follow t) = name.Follow
-name_of (task.Status t) = name.Status
+abbrev pub task_name : Task → Name
+task_name (task.Judge t) = name.Judge
+task_name (task.Probe t) = name.Probe
+task_name (task.Moves t) = name.Moves
+task_name (task.List t) = name.List
+task_name (task.Check t) = name.Check
+task_name (task.Show t) = name.Show
+task_name (task.Run t) = name.Run
+task_name (task.Listen t) = name.Listen
+task_name (task.Probes t) = name.Probes
+task_name (task.Game t) = name.Game
+task_name (task.Record t) = name.Record
+task_name (task.Audit t) = name.Audit
+task_name (task.AuditGames t) = name.Audit
+task_name (task.Version t) = name.Version
+task_name (task.Send t) = name.Send
+task_name (task.Enter t) = name.Enter
+task_name (task.Host t) = name.Host
+task_name (task.Root t) = name.Root
+task_name (task.Follow t) = name.Follow
+task_name (task.Status t) = name.Status
 
 -- it has these values of its command's arguments
-abbrev pub HasValues : (Text → Option Text) → Task → Type 0
-HasValues value (task.Judge t) = judges.HasValues value t
-HasValues value (task.Probe t) = probes.HasValues value t
-HasValues value (task.Moves t) = of_moves.HasValues value t
-HasValues value (task.List t) = lists.HasValues value t
-HasValues value (task.Check t) = checks.HasValues value t
-HasValues value (task.Show t) = Unit {0}
-HasValues value (task.Run t) = runs.HasValues value t
-HasValues value (task.Listen t) = listens.IsListening value t
-HasValues value (task.Probes t) = of_probes.HasValues value t
-HasValues value (task.Game t) = games.HasValues value t
-HasValues value (task.Record t) = records.HasValues value t
-HasValues value (task.Audit t) = game_audits.LacksFolders value × audits.HasValues value t
-HasValues value (task.AuditGames t) = game_audits.HasValues value t
-HasValues value (task.Version t) = Unit {0}
-HasValues value (task.Send t) = sends.HasValues value t
-HasValues value (task.Enter t) = enters.HasValues value t
-HasValues value (task.Host t) = hosts.HasValues value t
-HasValues value (task.Root t) = roots.HasValues value t
-HasValues value (task.Follow t) = follows.HasValues value t
-HasValues value (task.Status t) = statuses.HasValues value t
+abbrev pub HasTaskValues : (Text → Option Text) → Task → Type 0
+HasTaskValues value (task.Judge t) = judges.HasValues value t
+HasTaskValues value (task.Probe t) = probes.HasValues value t
+HasTaskValues value (task.Moves t) = of_moves.HasValues value t
+HasTaskValues value (task.List t) = lists.HasValues value t
+HasTaskValues value (task.Check t) = checks.HasValues value t
+HasTaskValues value (task.Show t) = Unit {0}
+HasTaskValues value (task.Run t) = runs.HasValues value t
+HasTaskValues value (task.Listen t) = listens.IsListening value t
+HasTaskValues value (task.Probes t) = of_probes.HasValues value t
+HasTaskValues value (task.Game t) = games.HasValues value t
+HasTaskValues value (task.Record t) = records.HasValues value t
+HasTaskValues value (task.Audit t) = game_audits.LacksFolders value × audits.HasValues value t
+HasTaskValues value (task.AuditGames t) = game_audits.HasValues value t
+HasTaskValues value (task.Version t) = Unit {0}
+HasTaskValues value (task.Send t) = sends.HasValues value t
+HasTaskValues value (task.Enter t) = enters.HasValues value t
+HasTaskValues value (task.Host t) = hosts.HasValues value t
+HasTaskValues value (task.Root t) = roots.HasValues value t
+HasTaskValues value (task.Follow t) = follows.HasValues value t
+HasTaskValues value (task.Status t) = statuses.HasValues value t
 
 -- what is read for it
 abbrev pub named_in : Task → Named
@@ -204,34 +204,34 @@ tells_progress (task.Status t) = false
 
 -- the command as the parser reads it
 unfoldable pub app_for : Name → App
-app_for name = with_rules (new_app (word_of name)) (rules_of name)
+app_for name = with_rules (new_app (command_word name)) (command_rules name)
 
 -- the command takes the words
-abbrev pub IsTaken : App → List Text → Type 0
-IsTaken app words = fault_in app words ≡ []
+abbrev pub TakesWords : App → List Text → Type 0
+TakesWords app words = words_fault app words ≡ []
 
 -- the words are `--version` alone
 abbrev pub IsVersion : List Text → Type 0
 IsVersion words = words ≡ codes "--version" ∷ []
 
 -- the first word names this command; `--version` alone names `version`
-abbrev pub Names : List Text → Name → Type 0
-Names words n = (slice_get words 0 ≡ Some (word_of n)) ⊎ (IsVersion words × (n ≡ name.Version))
+abbrev pub NamesCommand : List Text → Name → Type 0
+NamesCommand words n = (slice_get words 0 ≡ Some (command_word n)) ⊎ (IsVersion words × (n ≡ name.Version))
 
 -- the words name no command, or there is none
-abbrev pub NamesNone : List Text → Type 0
-NamesNone words = (name : Name) → Names words name → ⊥
+abbrev pub NamesNoCommand : List Text → Type 0
+NamesNoCommand words = (name : Name) → NamesCommand words name → ⊥
 
 -- the words name the task's command, which takes them and gives the task's values
 pub record IsTask (words : List Text) (t : Task) : Type 0 where
-  pub named : Names words (name_of t)
-  pub taken : IsTaken (app_for (name_of t)) words
-  pub values : HasValues (value_in (app_for (name_of t)) words) t
+  pub named : NamesCommand words (task_name t)
+  pub taken : TakesWords (app_for (task_name t)) words
+  pub values : HasTaskValues (argument_value (app_for (task_name t)) words) t
 
 -- the values are read as this task of the command; or this is the first thing that is wrong with them
 abbrev pub IsReadAs : Name → (Text → Option Text) → Result Task ValueFault → Type 0
-IsReadAs name value (Ok t) = (name_of t ≡ name) × HasValues value t
-IsReadAs name value (Err fault) = IsFirst value (faults_of name value) (fault_words fault)
+IsReadAs name value (Ok t) = (task_name t ≡ name) × HasTaskValues value t
+IsReadAs name value (Err fault) = IsFirstMisuse value (faults_of name value) (fault_words fault)
 
 -- what is wrong with the words, the first of these: there is none; the first asks for help; it names no command; the command that
 -- it names finds them wrong, in this way, at the first of them where it does; the command's values, of which this is the first that is wrong
@@ -239,7 +239,7 @@ abbrev pub IsMisuse : List Text → Misuse → Type 0
 IsMisuse words misuse.NoCommand = words ≡ []
 IsMisuse words misuse.Help = (word : Text) × (slice_get words 0 ≡ Some word) × AsksForHelp word
 IsMisuse words (misuse.NoText word) = ⊥
-IsMisuse words (misuse.UnknownCommand word) = NamesNone words × (slice_get words 0 ≡ Some word.now) × (AsksForHelp word.now → ⊥)
-IsMisuse words (misuse.Refused e) = (name : Name) × Names words name × IsAmong (kind_of e) (fault_in (app_for name) words)
+IsMisuse words (misuse.UnknownCommand word) = NamesNoCommand words × (slice_get words 0 ≡ Some word.now) × (AsksForHelp word.now → ⊥)
+IsMisuse words (misuse.Refused e) = (name : Name) × NamesCommand words name × IsAmong (kind_of e) (words_fault (app_for name) words)
 IsMisuse words (misuse.Value fault) =
-    (name : Name) × Names words name × IsTaken (app_for name) words × IsFirst (value_in (app_for name) words) (faults_of name (value_in (app_for name) words)) (fault_words fault)
+    (name : Name) × NamesCommand words name × TakesWords (app_for name) words × IsFirstMisuse (argument_value (app_for name) words) (faults_of name (argument_value (app_for name) words)) (fault_words fault)

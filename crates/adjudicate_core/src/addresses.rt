@@ -4,7 +4,7 @@ ghost use Rattle.std.specs.Prelude.{◌≡◌, ◌↔◌, ◌<◌, ◌^◌, ℕ,
 ghost use Rattle.std.specs.List.{Contains};
 ghost use Rattle.adjudicate_core.specs.Addresses.{AreAddresses, AreRecipients, IsAddress, IsRecipient, addresses_of};
 ghost use Rattle.adjudicate_core.specs.Inside.Behind.{IsBehindColon};
-ghost use Rattle.adjudicate_core.specs.Numbers.{IsNumber};
+ghost use Rattle.adjudicate_core.specs.Numbers.{IsDecimalNumber};
 
 use std::alloc::{AllocError, Global};
 use system_io::SENDER;
@@ -47,8 +47,8 @@ fn behind_colon<'a>(text: &'a str) -> &'a str
 
 /// The port in a text, 0 to 65535; none where it is no such number.
 fn port_of(text: &str) -> Option<u16>
-    ensures some { IfSome result (λ n. IsNumber text.now n × (n < 2 ^ 16)) }
-    ensures none { IfNone result ((n : ℕ) → IsNumber text.now n → n < 2 ^ 16 → ⊥) }
+    ensures some { IfSome result (λ n. IsDecimalNumber text.now n × (n < 2 ^ 16)) }
+    ensures none { IfNone result ((n : ℕ) → IsDecimalNumber text.now n → n < 2 ^ 16 → ⊥) }
 {
     match text.parse::<u16>() {
         Ok(port) => Some(port),

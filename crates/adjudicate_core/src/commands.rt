@@ -5,10 +5,10 @@ ghost use Rattle.clap.specs.Words.{HasKind, Text, app_of, is_simple_and_free, fo
 ghost use Rattle.adjudicate_core.specs.declared.usage.Misuse.{Misuse};
 ghost use Rattle.adjudicate_core.specs.Commands.AuditGames.{LacksFolders};
 ghost use Rattle.adjudicate_core.specs.Misuses.{AsksForHelp};
-ghost use Rattle.adjudicate_core.specs.Rules.{fault_in, rule_of_value, value_in};
+ghost use Rattle.adjudicate_core.specs.Rules.{argument_value, rule_of_value, words_fault};
 ghost use Rattle.adjudicate_core.specs.Inside.Putting.{IsMisuseOf};
 ghost use Rattle.task_files.specs.Sources.{named_by};
-ghost use Rattle.adjudicate_core.specs.Tasks.{IsReadAs, IsTask, IsMisuse, IsTaken, IsVersion, Names, NamesNone, app_for, key_in, named_in, rules_of, word_of};
+ghost use Rattle.adjudicate_core.specs.Tasks.{IsReadAs, IsTask, IsMisuse, TakesWords, IsVersion, NamesCommand, NamesNoCommand, app_for, key_in, named_in, command_rules, command_word};
 
 mod audit;
 mod audit_games;
@@ -165,8 +165,8 @@ pub struct Value {
 impl Name {
     /// The command that a word names.
     fn of(word: &str) -> Option<Name>
-        ensures some { IfSome result (λ name. word.now ≡ word_of name) }
-        ensures none { IfNone result ((name : Name) → word.now ≡ word_of name → ⊥) }
+        ensures some { IfSome result (λ name. word.now ≡ command_word name) }
+        ensures none { IfNone result ((name : Name) → word.now ≡ command_word name → ⊥) }
     {
         match word {
             "judge" => Some(Name::Judge),
@@ -194,7 +194,7 @@ impl Name {
 
     /// The word that names the command.
     fn word<'a>(self) -> &'a str
-        ensures { result.now ≡ word_of self }
+        ensures { result.now ≡ command_word self }
     {
         match self {
             Name::Judge => "judge",
@@ -221,7 +221,7 @@ impl Name {
 
     /// The values that the command takes.
     fn values(self) -> &'static [Value]
-        ensures { map rule_of_value result.now ≡ rules_of self }
+        ensures { map rule_of_value result.now ≡ command_rules self }
     {
         match self {
             Name::Judge => &judge::VALUES,
@@ -285,9 +285,9 @@ fn command_of<'a>(alloc: Global, name: Name) -> Result<Command<'a>, AllocError>
 /// The matches of a simple command at the words, of which the first is the command's name.
 fn matches_at<'a>(command: Command<'a>, words: &'a [&'a str]) -> Result<ArgMatches<'a>, clap::Error>
     requires { is_simple_and_free (app_of command) ≡ true }
-    ensures taken { IfOk result (λ m. IsTaken (app_of command.entry) (map (λ w. w.now) words.entry.now)) }
-    ensures values { IfOk result (λ m. (id : Text) → first_value (found_of m) id ≡ value_in (app_of command.entry) (map (λ w. w.now) words.entry.now) id) }
-    ensures refused { IfErr result (HasKind (fault_in (app_of command.entry) (map (λ w. w.now) words.entry.now))) }
+    ensures taken { IfOk result (λ m. TakesWords (app_of command.entry) (map (λ w. w.now) words.entry.now)) }
+    ensures values { IfOk result (λ m. (id : Text) → first_value (found_of m) id ≡ argument_value (app_of command.entry) (map (λ w. w.now) words.entry.now) id) }
+    ensures refused { IfErr result (HasKind (words_fault (app_of command.entry) (map (λ w. w.now) words.entry.now))) }
 {
     command.try_get_matches_from(words)
 }
@@ -473,8 +473,8 @@ fn is_version(words: &[&str]) -> bool
 
 /// The command that the words name, or that they name none.
 fn name_in<'a>(words: &'a [&'a str]) -> Result<Name, Misuse<'a>>
-    ensures ok { IfOk result (Names (map (λ w. w.now) words.entry.now)) }
-    ensures none { OnErr result (NamesNone (map (λ w. w.now) words.entry.now)) }
+    ensures ok { IfOk result (NamesCommand (map (λ w. w.now) words.entry.now)) }
+    ensures none { OnErr result (NamesNoCommand (map (λ w. w.now) words.entry.now)) }
     ensures err { IfErr result (IsMisuse (map (λ w. w.now) words.entry.now)) }
 {
     if is_version(words) {
@@ -491,7 +491,7 @@ fn name_in<'a>(words: &'a [&'a str]) -> Result<Name, Misuse<'a>>
 
 /// The task of a command that the words name.
 fn task_by<'a>(alloc: Global, name: Name, words: &'a [&'a str]) -> Result<Task<'a>, Usage<'a>>
-    requires { Names (map (λ w. w.now) words.now) name }
+    requires { NamesCommand (map (λ w. w.now) words.now) name }
     ensures ok { IfOk result (IsTask (map (λ w. w.now) words.entry.now)) }
     ensures misuse { IfErr result (λ e. (misuse : Misuse) → e ≡ Usage.Misuse misuse → IsMisuse (map (λ w. w.now) words.entry.now) misuse) }
 {
@@ -512,7 +512,7 @@ fn task_by<'a>(alloc: Global, name: Name, words: &'a [&'a str]) -> Result<Task<'
 pub fn parse<'a>(alloc: Global, words: &'a [&'a str]) -> Result<Task<'a>, Usage<'a>>
     ensures ok { IfOk result (IsTask (map (λ w. w.now) words.entry.now)) }
     ensures misuse { IfErr result (λ e. (misuse : Misuse) → e ≡ Usage.Misuse misuse → IsMisuse (map (λ w. w.now) words.entry.now) misuse) }
-    ensures named { IsErrOf result Usage.OutOfMemory → NamesNone (map (λ w. w.now) words.entry.now) → ⊥ }
+    ensures named { IsErrOf result Usage.OutOfMemory → NamesNoCommand (map (λ w. w.now) words.entry.now) → ⊥ }
 {
     match name_in(words) {
         Ok(name) => task_by(alloc, name, words),

@@ -3,8 +3,8 @@
 ghost use Rattle.std.specs.Prelude.{◌≡◌, ◌≢◌, ◌<◌, [], ◌∷◌, length, IfErr, IfOk, IfNone, IfSome};
 ghost use Rattle.fen_text.specs.Cuts.{cut_at};
 ghost use Rattle.move_msg.specs.TextLines.{lines_in};
-ghost use Rattle.arbiter_server.specs.GameFiles.{told};
-ghost use Rattle.adjudicate_core.specs.Entries.{HasFields, IsFirstEntryFault, SpellsEntry};
+ghost use Rattle.arbiter_server.specs.GameFiles.{game_as_told};
+ghost use Rattle.adjudicate_core.specs.Entries.{HasThreeFields, IsFirstEntryFault, SpellsEntry};
 
 use crate::game_name::GameName;
 use crate::numbers::Delay;
@@ -62,7 +62,7 @@ pub(crate) fn first_line(text: &[u8]) -> Option<(&[u8], &[u8])>
 
 /// The fields of a line, where there are three.
 fn fields_of(line: &[u8]) -> Option<Fields<'_>>
-    ensures some { IfSome result (λ f. HasFields line.now f.name.now f.start.now f.delay.now) }
+    ensures some { IfSome result (λ f. HasThreeFields line.now f.name.now f.start.now f.delay.now) }
     ensures none { IfNone result (length (cut_at 9 line.now) ≢ 3) }
 {
     let (name, rest) = cut_first(line, b'\t')?;
@@ -77,7 +77,7 @@ fn fields_of(line: &[u8]) -> Option<Fields<'_>>
 ///
 /// The line is the name of the game, the FEN text of its start and its delay, a digit from 0 to 8, with a tab between two of them.
 pub(crate) fn read_entry(line: &[u8]) -> Result<LineGame<'_>, EntryFault>
-    ensures ok { IfOk result (λ g. SpellsEntry line.entry.now (told g.name g.start g.delay)) }
+    ensures ok { IfOk result (λ g. SpellsEntry line.entry.now (game_as_told g.name g.start g.delay)) }
     ensures err { IfErr result (IsFirstEntryFault line.entry.now) }
 {
     let Some(fields) = fields_of(line) else {

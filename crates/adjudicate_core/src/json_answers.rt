@@ -2,7 +2,7 @@
 
 ghost use Rattle.std.specs.Prelude.{◌≡◌, IfOk, IsErrOf, OnErr, OnOk};
 ghost use Rattle.std.specs.Io.KnownBytes.{Appends};
-ghost use Rattle.adjudicate_core.specs.Inside.Asked.{HasText, reply_of};
+ghost use Rattle.adjudicate_core.specs.Inside.Asked.{IsPositionLine, reply_of};
 ghost use Rattle.adjudicate_core.specs.JsonAnswers.{json_reply};
 ghost use Rattle.fen_text.specs.declared.fault.FenFault.TheVariants as fen;
 ghost use Rattle.json_lines.specs.Objects.{fault_json, json_text, line_json};
@@ -97,7 +97,7 @@ pub(crate) fn put_json_fault<W: Output>(out: &mut W, fault: FenFault) -> Result<
 fn put_told<W: Output>(alloc: Global, out: &mut W, told: &JsonLine) -> Result<(), TellFault>
     ensures written { OnOk result (Appends (W.contents out.old) (W.contents out.new) (ended (json_text (line_json told.now)))) }
     ensures front { IsErrOf result TellFault.Io → HasFront (W.contents out.old) (W.contents out.new) (ended (json_text (line_json told.now))) }
-    ensures memory { IsErrOf result TellFault.OutOfMemory → HasText told.now × (W.contents out.new ≡ W.contents out.old) }
+    ensures memory { IsErrOf result TellFault.OutOfMemory → IsPositionLine told.now × (W.contents out.new ≡ W.contents out.old) }
     ensures cause { IsErrOf result TellFault.Io → HasFailed W.facts }
 {
     if let JsonLine::Fault(fault) = told {

@@ -27,13 +27,13 @@
 //! - CLAIM: `run`, clause `made`; `run_program`, clause `made`: at the host nothing is opened but what `IsMadeBy` has of the task, whatever
 //!   it comes to: `listen` opens its port, the lock and the kept file, `send` its port, `host` the lock, its port and files of records,
 //!   `enter` files of games. Which of these it has opened where it ends so, and that a record's file is opened once for each Move or
-//!   Fetch at most, is in `Listens`, `Sends`, `HostsGames`.
+//!   Fetch at most, is in `Listens`, `SendsGame`, `HostsGames`.
 //! - CLAIM: `run`, clauses `runs`, `quiet`; `run_program`: for a misuse standard error gets one line of printing bytes (none
 //!   where help is asked for) and then the usage, of which no clause speaks, or as much of these as it takes. It gets bytes for
 //!   nothing else but for a task with progress, and where `send` ends as `refused lost`: a line of each arbiter, of which it tells that
 //!   no answer came or how many moves it has acknowledged (`TellsSilence`).
 //! - CLAIM: `run`, clause `runs`: of a schedule the answer of status 0 is of the last of its worlds, in each of which both
-//!   records are true to the game (`IsRun`).
+//!   records are true to the game (`IsRunReply`).
 //! - CLAIM: `run`, clause `runs`: `listen` refuses its start, its tables, its address and its kept file in this order, and
 //!   nothing passes at the port before an arbiter is opened; with `--ready` the line `ready ADDR` is written first. That each
 //!   line has gone out before the next is in the contract of the private `listen` alone.

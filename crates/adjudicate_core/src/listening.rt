@@ -7,8 +7,8 @@ ghost use Rattle.move_msg.specs.Files.{entries_of};
 ghost use Rattle.move_msg.specs.Manifests.{SpellsManifest};
 ghost use Rattle.move_msg.specs.TextLines.{ended};
 ghost use Rattle.arbiter_core.specs.Setups.{setup_view};
-ghost use Rattle.adjudicate_core.specs.Listens.{BindsAndWrites, KeepsAndWrites, LacksAddress, ListensAndWrites, LockedAndWrites, OpensAndWrites, StartsAndWrites, TellsAddress, TellsUnopened, WritesAt, hosted};
-ghost use Rattle.adjudicate_core.specs.Inside.ListeningParts.{ListensBy, way};
+ghost use Rattle.adjudicate_core.specs.Listens.{BindsAndWritesServing, KeepsAndWrites, LacksAddress, ListensAndWrites, LockedAndWrites, OpensAndWrites, StartsAndWrites, TellsAddress, TellsUnopened, WritesServingAt, hosted};
+ghost use Rattle.adjudicate_core.specs.Inside.ListeningParts.{ListensBy, serving_way};
 ghost use Rattle.adjudicate_core.specs.Lines.{ready_words};
 ghost use Rattle.arbiter_server.specs.GoingOut.{writers};
 ghost use Rattle.arbiter_server.specs.StoredBytes.{IsInFile};
@@ -109,7 +109,7 @@ fn serve_over<H: Host, W: Output>(
     port: &mut H::Port,
     out: &mut W,
 ) -> Result<u8, WriteFault>
-    ensures told { LockedAndWrites (way H.facts H.Port.facts H.File.facts W.contents W.facts at.entry setup.entry) (H.made history.old) (H.made history.new) port.old port.new out.old out.new result }
+    ensures told { LockedAndWrites (serving_way H.facts H.Port.facts H.File.facts W.contents W.facts at.entry setup.entry) (H.made history.old) (H.made history.new) port.old port.new out.old out.new result }
     ensures cause { OnErr result (HasFailed W.facts) }
 {
     match at.host.file(alloc, history, at.listening.kept) {
@@ -128,7 +128,7 @@ fn serve_at<H: Host, W: Output>(
     port: &mut H::Port,
     out: &mut W,
 ) -> Result<u8, WriteFault>
-    ensures told { WritesAt (way H.facts H.Port.facts H.File.facts W.contents W.facts at.entry setup.entry) (H.made history.old) (H.made history.new) port.old port.new out.old out.new result }
+    ensures told { WritesServingAt (serving_way H.facts H.Port.facts H.File.facts W.contents W.facts at.entry setup.entry) (H.made history.old) (H.made history.new) port.old port.new out.old out.new result }
     ensures cause { OnErr result (HasFailed W.facts) }
 {
     match lock(alloc, at.host, history, at.listening.kept, BESIDE_KEPT) {
@@ -173,7 +173,7 @@ fn start_at<H: Host, W: Output>(
     port: &mut H::Port,
     out: &mut W,
 ) -> Result<u8, WriteFault>
-    ensures told { StartsAndWrites (way H.facts H.Port.facts H.File.facts W.contents W.facts at.entry setup.entry) (H.made history.old) (H.made history.new) port.old port.new out.old out.new result }
+    ensures told { StartsAndWrites (serving_way H.facts H.Port.facts H.File.facts W.contents W.facts at.entry setup.entry) (H.made history.old) (H.made history.new) port.old port.new out.old out.new result }
     ensures cause { OnErr result (HasFailed W.facts) }
 {
     if !at.listening.ready {
@@ -197,7 +197,7 @@ fn bind_and_serve<H: Host, W: Output>(
     history: &mut H::History,
     out: &mut W,
 ) -> Result<u8, WriteFault>
-    ensures told { BindsAndWrites (way H.facts H.Port.facts H.File.facts W.contents W.facts at.entry setup.entry) (H.made history.old) (H.made history.new) out.old out.new result }
+    ensures told { BindsAndWritesServing (serving_way H.facts H.Port.facts H.File.facts W.contents W.facts at.entry setup.entry) (H.made history.old) (H.made history.new) out.old out.new result }
     ensures cause { OnErr result (HasFailed W.facts) }
 {
     match bind(alloc, at.host, history, at.listening.bind, at.listening.to) {

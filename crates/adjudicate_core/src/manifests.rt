@@ -2,7 +2,7 @@
 
 ghost use Rattle.std.specs.Prelude.{ℕ, List, None, Some, IfErr, IfOk, option_map};
 ghost use Rattle.adjudicate_core.specs.Inside.Manifesting.{LacksManifestOrRoom};
-ghost use Rattle.adjudicate_core.specs.Manifests.{IsManifestOf};
+ghost use Rattle.adjudicate_core.specs.Manifests.{IsNamedManifest};
 
 use crate::refusals::Refusal;
 use move_msg::{Line, Manifest, ManifestFault, manifest_read, manifest_write};
@@ -13,7 +13,7 @@ use task_files::looks_in;
 
 /// The manifest at a path.
 fn manifest_at<D: Disk>(alloc: Global, disk: &D, path: &str) -> Result<Vec<u8>, Refusal>
-    ensures ok { IfOk result (λ text. (tables : List ℕ) → IsManifestOf (D.facts disk.now) (Some path.now) tables text.items) }
+    ensures ok { IfOk result (λ text. (tables : List ℕ) → IsNamedManifest (D.facts disk.now) (Some path.now) tables text.items) }
     ensures err { IfErr result (λ refusal. (tables : List ℕ) → LacksManifestOrRoom (D.facts disk.now) (Some path.now) tables refusal) }
 {
     let text = match disk.read(alloc, path) {
@@ -30,7 +30,7 @@ fn manifest_at<D: Disk>(alloc: Global, disk: &D, path: &str) -> Result<Vec<u8>, 
 
 /// The manifest of the tables in a folder, of which one at a time is held.
 fn manifest_in<D: Disk>(alloc: Global, disk: &D, folder: &str) -> Result<Vec<u8>, Refusal>
-    ensures ok { IfOk result (λ text. IsManifestOf (D.facts disk.now) None folder.now text.items) }
+    ensures ok { IfOk result (λ text. IsNamedManifest (D.facts disk.now) None folder.now text.items) }
     ensures err { IfErr result (LacksManifestOrRoom (D.facts disk.now) None folder.now) }
 {
     let lines: Vec<Line> = match looks_in(
@@ -59,7 +59,7 @@ pub(crate) fn manifest_for<D: Disk>(
     named: Option<&str>,
     tables: &str,
 ) -> Result<Vec<u8>, Refusal>
-    ensures ok { IfOk result (λ text. IsManifestOf (D.facts disk.now) (option_map (λ s. s.now) named.entry) tables.now text.items) }
+    ensures ok { IfOk result (λ text. IsNamedManifest (D.facts disk.now) (option_map (λ s. s.now) named.entry) tables.now text.items) }
     ensures err { IfErr result (LacksManifestOrRoom (D.facts disk.now) (option_map (λ s. s.now) named.entry) tables.now) }
 {
     match named {

@@ -5,7 +5,7 @@ ghost use Rattle.adjudicate_core.specs.declared.commands.Task.{Task};
 ghost use Rattle.line_teller.specs.ToldLines.{HasFailed, refused_memory};
 ghost use Rattle.adjudicate_core.specs.Makes.{Makes, MakesCalled, MakesFor};
 ghost use Rattle.adjudicate_core.specs.Inside.Answering.{AnswersTaskAt, AnswersBySeal, AnswersGiven};
-ghost use Rattle.adjudicate_core.specs.Running.{Calls, Runs, called_by, texts};
+ghost use Rattle.adjudicate_core.specs.Running.{Calls, RunsProgram, called_by, texts};
 ghost use Rattle.adjudicate_core.specs.Silences.{IsLoud, TellsIfLost};
 ghost use Rattle.adjudicate_core.specs.Tasks.{IsTask, tells_progress};
 ghost use Rattle.move_msg.specs.TextLines.{ended};
@@ -182,7 +182,7 @@ pub fn run<D: Disk, I: Input, H: Host, W: Output, E: Output>(
     errors: &mut E,
 ) -> Result<u8, WriteFault>
     ensures quiet { errors.new ≢ errors.old → (result ≡ Ok 2) ⊎ ((t : Task) × IsTask (texts words.now) t × IsLoud E.facts E.contents errors.old errors.new t result) }
-    ensures runs { Runs D.facts I.facts H.facts H.made H.Port.facts H.File.facts W.contents E.facts E.contents words.now system.now history.old history.new out.old out.new errors.old errors.new result }
+    ensures runs { RunsProgram D.facts I.facts H.facts H.made H.Port.facts H.File.facts W.contents E.facts E.contents words.now system.now history.old history.new out.old out.new errors.old errors.new result }
     ensures made { Makes (texts words.now) (H.made history.old) (H.made history.new) }
     ensures cause { OnErr result (HasFailed W.facts) }
 {

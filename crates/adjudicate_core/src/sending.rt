@@ -6,7 +6,7 @@ ghost use Rattle.board_core.specs.Position.{IsPosition};
 ghost use Rattle.fen_text.specs.Fen.{SpellsPosition};
 ghost use Rattle.adjudicate_core.specs.Lines.{refusal_words};
 ghost use Rattle.adjudicate_core.specs.Outsides.{outside_of};
-ghost use Rattle.adjudicate_core.specs.Sends.{BindsAndSends, EndsOnce, IsFiled, IsSent, IsStamped, LacksFile, LacksSent, LacksTold, Sends, SendsOver};
+ghost use Rattle.adjudicate_core.specs.Sends.{BindsAndSends, EndsOnce, IsFiled, IsSent, IsStamped, LacksFile, LacksSent, LacksTold, SendsGame, SendsOver};
 ghost use Rattle.line_teller.specs.ToldLines.{HasFailed};
 
 use crate::binding::bind;
@@ -179,7 +179,7 @@ pub fn send<D: Disk, I: Input, H: Host, W: Output>(
     history: &mut H::History,
     out: &mut W,
 ) -> Result<Ended, WriteFault>
-    ensures told { Sends (outside_of D.facts I.facts H.facts H.made H.Port.facts H.File.facts system.now history.old history.new) task.now (W.contents out.old) (W.contents out.new) result }
+    ensures told { SendsGame (outside_of D.facts I.facts H.facts H.made H.Port.facts H.File.facts system.now history.old history.new) task.now (W.contents out.old) (W.contents out.new) result }
     ensures cause { OnErr result (HasFailed W.facts) }
 {
     match game_of(alloc, task, system.disk) {

@@ -1,12 +1,12 @@
 //! The tables of files, with or without a manifest.
 
 ghost use Rattle.std.specs.Prelude.{◌≡◌, map, option_map, IfOk, Some, None, Ok};
-ghost use Rattle.move_msg.specs.Files.{file_of};
+ghost use Rattle.move_msg.specs.Files.{table_file_of};
 ghost use Rattle.move_msg.specs.Manifests.{entry_of};
 ghost use Rattle.task_files.specs.FileNames.{file_named};
 ghost use Rattle.adjudicate_core.specs.Lines.{file_fault_name};
-ghost use Rattle.adjudicate_core.specs.Looks.{found_in, gathered, gathered_by, held, look_at, look_for, tables_from, with_found};
-ghost use Rattle.adjudicate_core.specs.Inside.Refusals.{filled, tables_in};
+ghost use Rattle.adjudicate_core.specs.Looks.{file_found, gathered, gathered_by, held, look_at, look_for, tables_from_looks, with_found};
+ghost use Rattle.adjudicate_core.specs.Inside.Refusals.{filled_unless_refused, tables_or_refusal};
 
 use crate::numbers::CacheSize;
 use crate::refusals::Refusal;
@@ -46,7 +46,7 @@ pub(crate) fn open_file<'f>(
     alloc: Global,
     file: &'f NamedFile,
 ) -> Result<Result<Table<'f>, FileFault>, AllocError>
-    ensures { IfOk result (λ found. found ≡ found_in (file_of file.now)) }
+    ensures { IfOk result (λ found. found ≡ file_found (table_file_of file.now)) }
 {
     match open(alloc, file.name.as_str().as_bytes(), &file.bytes) {
         Ok(table) => Ok(Ok(table)),
@@ -57,7 +57,7 @@ pub(crate) fn open_file<'f>(
 
 /// The file of this name.
 fn file_named<'f>(files: &'f [NamedFile], name: &str) -> Option<&'f NamedFile>
-    ensures { option_map (λ f. file_of f.now) result ≡ file_named name.now (map file_of files.now) }
+    ensures { option_map (λ f. table_file_of f.now) result ≡ file_named name.now (map table_file_of files.now) }
 {
     for file in files {
         if file.name.as_str() == name {
@@ -73,7 +73,7 @@ fn open_line<'f>(
     files: &'f [NamedFile],
     line: &Entry,
 ) -> Result<Result<Table<'f>, FileFault>, AllocError>
-    ensures { IfOk result (λ found. found ≡ held line.now.digest (file_named line.now.name.bytes (map file_of files.now))) }
+    ensures { IfOk result (λ found. found ≡ held line.now.digest (file_named line.now.name.bytes (map table_file_of files.now))) }
 {
     let Some(file) = file_named(files, line.name.as_str()) else {
         return Ok(Err(FileFault::Missing));
@@ -90,7 +90,7 @@ fn add_found<'f>(
     name: &ArrayString<16>,
     found: Result<Table<'f>, FileFault>,
 ) -> Result<Result<(), Refusal>, AllocError>
-    ensures tables { IfOk result (λ added. filled added set.new.tables ≡ with_found set.old.tables name.now.bytes found.entry) }
+    ensures tables { IfOk result (λ added. filled_unless_refused added set.new.tables ≡ with_found set.old.tables name.now.bytes found.entry) }
     ensures cache { IfOk result (λ _. set.new.cache ≡ set.old.cache) }
 {
     match found {
@@ -108,7 +108,7 @@ fn add_files<'f>(
     set: &mut Set<'f>,
     files: &'f [NamedFile],
 ) -> Result<Result<(), Refusal>, AllocError>
-    ensures tables { IfOk result (λ added. filled added set.new.tables ≡ tables_from set.old.tables (map look_at (map file_of files.now))) }
+    ensures tables { IfOk result (λ added. filled_unless_refused added set.new.tables ≡ tables_from_looks set.old.tables (map look_at (map table_file_of files.now))) }
     ensures cache { IfOk result (λ _. set.new.cache ≡ set.old.cache) }
 {
     for file in files {
@@ -128,7 +128,7 @@ fn add_lines<'f>(
     files: &'f [NamedFile],
     lines: &[Entry],
 ) -> Result<Result<(), Refusal>, AllocError>
-    ensures tables { IfOk result (λ added. filled added set.new.tables ≡ tables_from set.old.tables (map (look_for (map file_of files.now)) (map entry_of lines.now))) }
+    ensures tables { IfOk result (λ added. filled_unless_refused added set.new.tables ≡ tables_from_looks set.old.tables (map (look_for (map table_file_of files.now)) (map entry_of lines.now))) }
     ensures cache { IfOk result (λ _. set.new.cache ≡ set.old.cache) }
 {
     for line in lines {
@@ -147,7 +147,7 @@ fn gather_files<'f>(
     files: &'f [NamedFile],
     cache: CacheSize,
 ) -> Result<Result<Set<'f>, Refusal>, AllocError>
-    ensures tables { IfOk result (λ set. tables_in set ≡ gathered_by (map file_of files.now) None) }
+    ensures tables { IfOk result (λ set. tables_or_refusal set ≡ gathered_by (map table_file_of files.now) None) }
     ensures cache { IfOk result (λ found. IfOk found (λ set. set.cache ≡ cache)) }
 {
     let mut set = Set::new(alloc, cache.blocks())?;
@@ -164,7 +164,7 @@ fn gather_lines<'f>(
     lines: &[Entry],
     cache: CacheSize,
 ) -> Result<Result<Set<'f>, Refusal>, AllocError>
-    ensures tables { IfOk result (λ set. tables_in set ≡ gathered_by (map file_of files.now) (Some (Ok (map entry_of lines.now)))) }
+    ensures tables { IfOk result (λ set. tables_or_refusal set ≡ gathered_by (map table_file_of files.now) (Some (Ok (map entry_of lines.now)))) }
     ensures cache { IfOk result (λ found. IfOk found (λ set. set.cache ≡ cache)) }
 {
     let mut set = Set::new(alloc, cache.blocks())?;
@@ -182,7 +182,7 @@ pub(crate) fn gather<'f>(
     sources: &'f Sources,
     cache: CacheSize,
 ) -> Result<Result<Set<'f>, Refusal>, AllocError>
-    ensures tables { IfOk result (λ set. tables_in set ≡ gathered sources.now) }
+    ensures tables { IfOk result (λ set. tables_or_refusal set ≡ gathered sources.now) }
     ensures cache { IfOk result (λ found. IfOk found (λ set. set.cache ≡ cache)) }
 {
     match sources.manifest() {

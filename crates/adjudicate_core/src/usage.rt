@@ -3,7 +3,7 @@
 ghost use Rattle.std.specs.Prelude.{◌≡◌, ◌++◌, codes};
 ghost use Rattle.adjudicate_core.specs.declared.usage.Usage.TheVariants.{OutOfMemory};
 ghost use Rattle.adjudicate_core.specs.declared.usage.WordsFault.TheVariants.{OutOfMemory as NoRoom};
-ghost use Rattle.adjudicate_core.specs.Misuses.{instead_name, name_of, range_of};
+ghost use Rattle.adjudicate_core.specs.Misuses.{instead_name, option_name, range_of};
 ghost use Rattle.adjudicate_core.specs.Usage.{usage_of};
 
 use clap::error::ErrorKind;
@@ -43,7 +43,7 @@ pub enum Wanted {
 impl Wanted {
     /// The option's name, as it stands before a value.
     pub(crate) fn front(self) -> &'static str
-        ensures { result.now ≡ codes "--" ++ name_of self ++ codes " " }
+        ensures { result.now ≡ codes "--" ++ option_name self ++ codes " " }
     {
         match self {
             Wanted::GameName => "--name ",

@@ -2,9 +2,9 @@
 
 ghost use Rattle.std.specs.Prelude.{◌≡◌, ◌++◌, [], ◌∷◌, ℕ, List, false};
 ghost use Rattle.hex.specs.Hex.{encode_lower};
-ghost use Rattle.adjudicate_core.specs.Inside.Putting.{IsPut, TellsLine};
+ghost use Rattle.adjudicate_core.specs.Inside.Putting.{IsPut, TellsLineFirst};
 ghost use Rattle.adjudicate_core.specs.Misuses.{fault_words};
-ghost use Rattle.adjudicate_core.specs.Uses.{GoesOut, TellsMisuse, is_plain, shown, shown_byte, shown_line};
+ghost use Rattle.adjudicate_core.specs.Uses.{GoesOut, TellsMisuse, is_plain_byte, shown_byte, shown_bytes, shown_line};
 
 use crate::usage::{Misuse, ValueFault};
 use clap::error::ErrorKind;
@@ -42,7 +42,7 @@ const USAGE: &str = "usage: adjudicate judge [--tables DIR] [--manifest FILE] FE
 
 /// Whether a byte is printed as it is.
 fn is_plain(byte: u8) -> bool
-    ensures { result ≡ is_plain byte }
+    ensures { result ≡ is_plain_byte byte }
 {
     32 <= byte && byte <= 126 && byte != b'\\'
 }
@@ -66,7 +66,7 @@ fn digits_of(byte: u8) -> [u8; 2]
 
 /// Writes a byte by its number.
 fn put_number<E: Output>(errors: &mut E, byte: u8) -> Result<(), WriteFault>
-    ensures { is_plain byte ≡ false → IsPut E.facts E.contents errors.old errors.new (shown_byte byte) result }
+    ensures { is_plain_byte byte ≡ false → IsPut E.facts E.contents errors.old errors.new (shown_byte byte) result }
 {
     let digits = digits_of(byte);
     match put(errors, b"\\x") {
@@ -88,7 +88,7 @@ fn put_byte<E: Output>(errors: &mut E, byte: u8) -> Result<(), WriteFault>
 
 /// Writes words as they are printed.
 fn put_shown<E: Output>(errors: &mut E, words: &[u8]) -> Result<(), WriteFault>
-    ensures { IsPut E.facts E.contents errors.old errors.new (shown words.now) result }
+    ensures { IsPut E.facts E.contents errors.old errors.new (shown_bytes words.now) result }
 {
     for byte in words {
         match put_byte(errors, *byte) {
@@ -101,7 +101,7 @@ fn put_shown<E: Output>(errors: &mut E, words: &[u8]) -> Result<(), WriteFault>
 
 /// Writes words of two parts.
 fn put_two<E: Output>(errors: &mut E, front: &[u8], rest: &[u8]) -> Result<(), WriteFault>
-    ensures { IsPut E.facts E.contents errors.old errors.new (shown (front.now ++ rest.now)) result }
+    ensures { IsPut E.facts E.contents errors.old errors.new (shown_bytes (front.now ++ rest.now)) result }
 {
     match put_shown(errors, front) {
         Ok(()) => put_shown(errors, rest),
@@ -116,7 +116,7 @@ fn put_three<E: Output>(
     middle: &[u8],
     rest: &[u8],
 ) -> Result<(), WriteFault>
-    ensures { IsPut E.facts E.contents errors.old errors.new (shown (front.now ++ middle.now ++ rest.now)) result }
+    ensures { IsPut E.facts E.contents errors.old errors.new (shown_bytes (front.now ++ middle.now ++ rest.now)) result }
 {
     match put_two(errors, front, middle) {
         Ok(()) => put_shown(errors, rest),
@@ -203,7 +203,7 @@ fn tell_usage_of<E: Output>(alloc: Global, errors: &mut E, command: &str)
 
 /// Writes words of three parts in one line, and the usage.
 fn tell_line<E: Output>(errors: &mut E, front: &str, middle: &[u8], rest: &str)
-    ensures { TellsLine E.facts E.contents errors.old errors.new (shown_line (front.now ++ middle.now ++ rest.now)) }
+    ensures { TellsLineFirst E.facts E.contents errors.old errors.new (shown_line (front.now ++ middle.now ++ rest.now)) }
 {
     match put_line(errors, front.as_bytes(), middle, rest.as_bytes()) {
         Ok(()) => tell_usage(errors),
@@ -220,7 +220,7 @@ fn tell_line_of<E: Output>(
     middle: &[u8],
     rest: &str,
 )
-    ensures { TellsLine E.facts E.contents errors.old errors.new (shown_line (front.now ++ middle.now ++ rest.now)) }
+    ensures { TellsLineFirst E.facts E.contents errors.old errors.new (shown_line (front.now ++ middle.now ++ rest.now)) }
 {
     match put_line(errors, front.as_bytes(), middle, rest.as_bytes()) {
         Ok(()) => tell_usage_of(alloc, errors, command),
@@ -240,7 +240,7 @@ fn first_words(text: &str) -> &str {
 /// Writes why the parser of command lines refuses words: in its own words, or, where memory for these is refused, by
 /// its name for the fault.
 fn tell_refused<E: Output>(alloc: Global, errors: &mut E, error: &clap::Error, command: &str)
-    ensures { (words : List ℕ) × TellsLine E.facts E.contents errors.old errors.new (shown_line words) }
+    ensures { (words : List ℕ) × TellsLineFirst E.facts E.contents errors.old errors.new (shown_line words) }
 {
     match format!(in alloc; "{error}") {
         Ok(text) => tell_line_of(alloc, errors, command, first_words(text.as_str()), b"", ""),
@@ -257,14 +257,14 @@ fn tell_name<E: Output>(
     name: &str,
     rest: &str,
 )
-    ensures { TellsLine E.facts E.contents errors.old errors.new (shown_line (front.now ++ name.now ++ rest.now)) }
+    ensures { TellsLineFirst E.facts E.contents errors.old errors.new (shown_line (front.now ++ name.now ++ rest.now)) }
 {
     tell_line_of(alloc, errors, command, front, name.as_bytes(), rest);
 }
 
 /// Writes a fault of the values of a command.
 fn tell_fault<E: Output>(alloc: Global, errors: &mut E, fault: &ValueFault<'_>, command: &str)
-    ensures { TellsLine E.facts E.contents errors.old errors.new (shown_line (fault_words fault.now)) }
+    ensures { TellsLineFirst E.facts E.contents errors.old errors.new (shown_line (fault_words fault.now)) }
 {
     match *fault {
         ValueFault::NoOption(name) => tell_name(alloc, errors, command, "--", name, " is missing"),

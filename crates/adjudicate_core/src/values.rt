@@ -4,7 +4,7 @@ ghost use Rattle.std.specs.Prelude.{◌≡◌, IfOk, IfErr, OnOk, None, Some, co
 ghost use Rattle.clap.specs.Words.{first_value, found_of};
 ghost use Rattle.move_msg.specs.Stamps.{IsGameName};
 ghost use Rattle.adjudicate_core.specs.Addresses.{AreAddresses, AreRecipients, IsAddressIfAny};
-ghost use Rattle.adjudicate_core.specs.Misuses.{AreGameWords, AreWell, IsFirst, IsTold, NoOption, NoWord, NotWith, Unfit, WordNotWith, fault_words, game_faults, me_faults, name_faults, recipient_faults, to_faults};
+ghost use Rattle.adjudicate_core.specs.Misuses.{AreGameWords, AreWell, IsFirstMisuse, IsToldMisuse, NoOption, NoWord, NotWith, Unfit, WordNotWith, fault_words, game_faults, me_faults, name_faults, recipient_faults, to_faults};
 ghost use Rattle.adjudicate_core.specs.Numbers.{IsAtOnce, IsCache, IsDatagrams, IsDelay, IsHundredOr, IsLog, IsMe};
 
 use crate::addresses::{are_addresses, are_recipients, is_address};
@@ -22,7 +22,7 @@ pub(crate) fn option_in<'a>(
     name: &'static str,
 ) -> Result<&'a str, ValueFault<'a>>
     ensures ok { IfOk result (λ text. Some text.now ≡ first_value (found_of matches.now) name.now) }
-    ensures err { IfErr result (λ fault. IsTold (first_value (found_of matches.now)) (NoOption name.now) (fault_words fault)) }
+    ensures err { IfErr result (λ fault. IsToldMisuse (first_value (found_of matches.now)) (NoOption name.now) (fault_words fault)) }
 {
     match matches.get_str(name) {
         Some(text) => Ok(text),
@@ -36,7 +36,7 @@ pub(crate) fn word_in<'a>(
     name: &'static str,
 ) -> Result<&'a str, ValueFault<'a>>
     ensures ok { IfOk result (λ text. Some text.now ≡ first_value (found_of matches.now) name.now) }
-    ensures err { IfErr result (λ fault. IsTold (first_value (found_of matches.now)) (NoWord name.now) (fault_words fault)) }
+    ensures err { IfErr result (λ fault. IsToldMisuse (first_value (found_of matches.now)) (NoWord name.now) (fault_words fault)) }
 {
     match matches.get_str(name) {
         Some(text) => Ok(text),
@@ -51,7 +51,7 @@ pub(crate) fn without<'a>(
     instead: Instead,
 ) -> Result<(), ValueFault<'a>>
     ensures ok { OnOk result (first_value (found_of matches.now) name.now ≡ None) }
-    ensures err { IfErr result (λ fault. IsTold (first_value (found_of matches.now)) (NotWith instead name.now) (fault_words fault)) }
+    ensures err { IfErr result (λ fault. IsToldMisuse (first_value (found_of matches.now)) (NotWith instead name.now) (fault_words fault)) }
 {
     match matches.get_str(name) {
         None => Ok(()),
@@ -66,7 +66,7 @@ pub(crate) fn without_word<'a>(
     instead: Instead,
 ) -> Result<(), ValueFault<'a>>
     ensures ok { OnOk result (first_value (found_of matches.now) name.now ≡ None) }
-    ensures err { IfErr result (λ fault. IsTold (first_value (found_of matches.now)) (WordNotWith instead name.now) (fault_words fault)) }
+    ensures err { IfErr result (λ fault. IsToldMisuse (first_value (found_of matches.now)) (WordNotWith instead name.now) (fault_words fault)) }
 {
     match matches.get_str(name) {
         None => Ok(()),
@@ -78,7 +78,7 @@ pub(crate) fn without_word<'a>(
 fn game_name_in<'a>(matches: &ArgMatches<'a>) -> Result<GameName<'a>, ValueFault<'a>>
     ensures ok { IfOk result (λ name. (Some name ≡ first_value (found_of matches.now) (codes "name")) × IsGameName name) }
     ensures well { IfOk result (λ name. AreWell (first_value (found_of matches.now)) name_faults) }
-    ensures err { IfErr result (λ fault. IsFirst (first_value (found_of matches.now)) name_faults (fault_words fault)) }
+    ensures err { IfErr result (λ fault. IsFirstMisuse (first_value (found_of matches.now)) name_faults (fault_words fault)) }
 {
     let text = option_in(matches, "name")?;
     match GameName::of(text.as_bytes()) {
@@ -102,7 +102,7 @@ pub(crate) struct GameWords<'a> {
 pub(crate) fn game_words_in<'a>(matches: &ArgMatches<'a>) -> Result<GameWords<'a>, ValueFault<'a>>
     ensures ok { IfOk result (λ w. AreGameWords (first_value (found_of matches.now)) w.name w.start.now w.tables.now) }
     ensures well { IfOk result (λ w. AreWell (first_value (found_of matches.now)) game_faults) }
-    ensures err { IfErr result (λ fault. IsFirst (first_value (found_of matches.now)) game_faults (fault_words fault)) }
+    ensures err { IfErr result (λ fault. IsFirstMisuse (first_value (found_of matches.now)) game_faults (fault_words fault)) }
 {
     Ok(GameWords {
         name: game_name_in(matches)?,
@@ -115,7 +115,7 @@ pub(crate) fn game_words_in<'a>(matches: &ArgMatches<'a>) -> Result<GameWords<'a
 pub(crate) fn to_in<'a>(matches: &ArgMatches<'a>) -> Result<&'a str, ValueFault<'a>>
     ensures ok { IfOk result (λ to. (Some to.now ≡ first_value (found_of matches.now) (codes "to")) × AreAddresses to.now) }
     ensures well { IfOk result (λ to. AreWell (first_value (found_of matches.now)) to_faults) }
-    ensures err { IfErr result (λ fault. IsFirst (first_value (found_of matches.now)) to_faults (fault_words fault)) }
+    ensures err { IfErr result (λ fault. IsFirstMisuse (first_value (found_of matches.now)) to_faults (fault_words fault)) }
 {
     let text = option_in(matches, "to")?;
     if are_addresses(text) {
@@ -129,7 +129,7 @@ pub(crate) fn to_in<'a>(matches: &ArgMatches<'a>) -> Result<&'a str, ValueFault<
 pub(crate) fn recipients_in<'a>(matches: &ArgMatches<'a>) -> Result<&'a str, ValueFault<'a>>
     ensures ok { IfOk result (λ to. (Some to.now ≡ first_value (found_of matches.now) (codes "to")) × AreRecipients to.now) }
     ensures well { IfOk result (λ to. AreWell (first_value (found_of matches.now)) recipient_faults) }
-    ensures err { IfErr result (λ fault. IsFirst (first_value (found_of matches.now)) recipient_faults (fault_words fault)) }
+    ensures err { IfErr result (λ fault. IsFirstMisuse (first_value (found_of matches.now)) recipient_faults (fault_words fault)) }
 {
     let text = option_in(matches, "to")?;
     if are_recipients(text) {
@@ -142,7 +142,7 @@ pub(crate) fn recipients_in<'a>(matches: &ArgMatches<'a>) -> Result<&'a str, Val
 /// That the address at which datagrams come is one, where it is named.
 pub(crate) fn check_bind<'a>(matches: &ArgMatches<'a>) -> Result<(), ValueFault<'a>>
     ensures ok { OnOk result (IsAddressIfAny (first_value (found_of matches.now) (codes "bind"))) }
-    ensures err { IfErr result (λ fault. IsTold (first_value (found_of matches.now)) (Unfit Wanted.Address) (fault_words fault)) }
+    ensures err { IfErr result (λ fault. IsToldMisuse (first_value (found_of matches.now)) (Unfit Wanted.Address) (fault_words fault)) }
 {
     let Some(text) = matches.get_str("bind") else {
         return Ok(());
@@ -157,7 +157,7 @@ pub(crate) fn check_bind<'a>(matches: &ArgMatches<'a>) -> Result<(), ValueFault<
 /// The size of a cache.
 pub(crate) fn cache_in<'a>(matches: &ArgMatches<'a>) -> Result<CacheSize, ValueFault<'a>>
     ensures ok { IfOk result (IsCache (first_value (found_of matches.now) (codes "cache"))) }
-    ensures err { IfErr result (λ fault. IsTold (first_value (found_of matches.now)) (Unfit Wanted.Cache) (fault_words fault)) }
+    ensures err { IfErr result (λ fault. IsToldMisuse (first_value (found_of matches.now)) (Unfit Wanted.Cache) (fault_words fault)) }
 {
     let text = matches.get_str("cache");
     match CacheSize::of(text) {
@@ -169,7 +169,7 @@ pub(crate) fn cache_in<'a>(matches: &ArgMatches<'a>) -> Result<CacheSize, ValueF
 /// The delay of a verdict.
 pub(crate) fn delay_in<'a>(matches: &ArgMatches<'a>) -> Result<Delay, ValueFault<'a>>
     ensures ok { IfOk result (IsDelay (first_value (found_of matches.now) (codes "delay"))) }
-    ensures err { IfErr result (λ fault. IsTold (first_value (found_of matches.now)) (Unfit Wanted.Delay) (fault_words fault)) }
+    ensures err { IfErr result (λ fault. IsToldMisuse (first_value (found_of matches.now)) (Unfit Wanted.Delay) (fault_words fault)) }
 {
     let text = matches.get_str("delay");
     match Delay::of(text) {
@@ -181,7 +181,7 @@ pub(crate) fn delay_in<'a>(matches: &ArgMatches<'a>) -> Result<Delay, ValueFault
 /// How many milliseconds the first try of a move lasts.
 pub(crate) fn wait_in<'a>(matches: &ArgMatches<'a>) -> Result<u16, ValueFault<'a>>
     ensures ok { IfOk result (IsHundredOr (first_value (found_of matches.now) (codes "wait"))) }
-    ensures err { IfErr result (λ fault. IsTold (first_value (found_of matches.now)) (Unfit Wanted.Wait) (fault_words fault)) }
+    ensures err { IfErr result (λ fault. IsToldMisuse (first_value (found_of matches.now)) (Unfit Wanted.Wait) (fault_words fault)) }
 {
     let text = matches.get_str("wait");
     match hundred_or(text) {
@@ -193,7 +193,7 @@ pub(crate) fn wait_in<'a>(matches: &ArgMatches<'a>) -> Result<u16, ValueFault<'a
 /// How often a move is sent at most.
 pub(crate) fn tries_in<'a>(matches: &ArgMatches<'a>) -> Result<u16, ValueFault<'a>>
     ensures ok { IfOk result (IsHundredOr (first_value (found_of matches.now) (codes "tries"))) }
-    ensures err { IfErr result (λ fault. IsTold (first_value (found_of matches.now)) (Unfit Wanted.Tries) (fault_words fault)) }
+    ensures err { IfErr result (λ fault. IsToldMisuse (first_value (found_of matches.now)) (Unfit Wanted.Tries) (fault_words fault)) }
 {
     let text = matches.get_str("tries");
     match hundred_or(text) {
@@ -205,7 +205,7 @@ pub(crate) fn tries_in<'a>(matches: &ArgMatches<'a>) -> Result<u16, ValueFault<'
 /// How many games are open at once.
 pub(crate) fn at_once_in<'a>(matches: &ArgMatches<'a>) -> Result<NonZeroUsize, ValueFault<'a>>
     ensures ok { IfOk result (λ n. IsAtOnce (first_value (found_of matches.now) (codes "at-once")) n.value) }
-    ensures err { IfErr result (λ fault. IsTold (first_value (found_of matches.now)) (Unfit Wanted.AtOnce) (fault_words fault)) }
+    ensures err { IfErr result (λ fault. IsToldMisuse (first_value (found_of matches.now)) (Unfit Wanted.AtOnce) (fault_words fault)) }
 {
     let text = matches.get_str("at-once");
     match at_once_of(text) {
@@ -217,7 +217,7 @@ pub(crate) fn at_once_in<'a>(matches: &ArgMatches<'a>) -> Result<NonZeroUsize, V
 /// Which lines of a host are written.
 pub(crate) fn log_in<'a>(matches: &ArgMatches<'a>) -> Result<LogForm, ValueFault<'a>>
     ensures ok { IfOk result (IsLog (first_value (found_of matches.now) (codes "log"))) }
-    ensures err { IfErr result (λ fault. IsTold (first_value (found_of matches.now)) (Unfit Wanted.Log) (fault_words fault)) }
+    ensures err { IfErr result (λ fault. IsToldMisuse (first_value (found_of matches.now)) (Unfit Wanted.Log) (fault_words fault)) }
 {
     let text = matches.get_str("log");
     match log_of(text) {
@@ -229,7 +229,7 @@ pub(crate) fn log_in<'a>(matches: &ArgMatches<'a>) -> Result<LogForm, ValueFault
 /// A number of datagrams.
 pub(crate) fn datagrams_in<'a>(matches: &ArgMatches<'a>) -> Result<u64, ValueFault<'a>>
     ensures ok { IfOk result (IsDatagrams (first_value (found_of matches.now) (codes "datagrams"))) }
-    ensures err { IfErr result (λ fault. IsTold (first_value (found_of matches.now)) (Unfit Wanted.Datagrams) (fault_words fault)) }
+    ensures err { IfErr result (λ fault. IsToldMisuse (first_value (found_of matches.now)) (Unfit Wanted.Datagrams) (fault_words fault)) }
 {
     let text = matches.get_str("datagrams");
     match datagrams_of(text) {
@@ -241,7 +241,7 @@ pub(crate) fn datagrams_in<'a>(matches: &ArgMatches<'a>) -> Result<u64, ValueFau
 /// Which of the two arbiters it is, of an option that has to be there.
 pub(crate) fn me_in<'a>(matches: &ArgMatches<'a>) -> Result<Who, ValueFault<'a>>
     ensures ok { IfOk result (IsMe (first_value (found_of matches.now) (codes "me"))) }
-    ensures err { IfErr result (λ fault. IsFirst (first_value (found_of matches.now)) me_faults (fault_words fault)) }
+    ensures err { IfErr result (λ fault. IsFirstMisuse (first_value (found_of matches.now)) me_faults (fault_words fault)) }
 {
     let text = option_in(matches, "me")?;
     match me_of(text) {

@@ -18,7 +18,7 @@ use Rattle.task_files.specs.Sources.{Named}
 use Rattle.task_files.specs.Given.{Given}
 use Rattle.adjudicate_core.specs.Looks.{gathered}
 use Rattle.adjudicate_core.specs.Numbers.{IsDelay}
-use Rattle.adjudicate_core.specs.Reply.{IsForText, Reply, refused}
+use Rattle.adjudicate_core.specs.Reply.{IsForText, Reply, refusal_reply}
 use Rattle.adjudicate_core.specs.declared.commands.audit.Audit.{Audit}
 
 abbrev pub rules : List Rule
@@ -55,9 +55,9 @@ other_in t given = option_map (λ s. given.other_kept) t.other
 
 -- the refusal of the tables; or else what is found by the rules of the game with this start, whose stamp is by the manifest of the
 -- tables' files
-pub data IsHeld (t : Audit) (given : Given) (start : Parts) (r : Reply) : Type 0 where
-  BadTables : (words : List ℕ) → gathered given ≡ Err words → r ≡ refused words → IsHeld t given start r
-  Held : (tables : Tables) (manifest : List ℕ) (stamp : Stamp) → gathered given ≡ Ok tables → SpellsManifest manifest (entries_of given.files) → stamp.0 ≡ stamp_of t.name (fen_of start) manifest t.delay → IsAudited (record { start = start; tables = tables; delay = t.delay }) stamp given.kept (other_in t given) r → IsHeld t given start r
+pub data IsAuditResult (t : Audit) (given : Given) (start : Parts) (r : Reply) : Type 0 where
+  BadTables : (words : List ℕ) → gathered given ≡ Err words → r ≡ refusal_reply words → IsAuditResult t given start r
+  Held : (tables : Tables) (manifest : List ℕ) (stamp : Stamp) → gathered given ≡ Ok tables → SpellsManifest manifest (entries_of given.files) → stamp.0 ≡ stamp_of t.name (fen_of start) manifest t.delay → IsAudited (record { start = start; tables = tables; delay = t.delay }) stamp given.kept (other_in t given) r → IsAuditResult t given start r
 
 abbrev pub IsReply : Audit → Given → Reply → Type 0
-IsReply t given r = IsForText t.start.now (IsHeld t given) r
+IsReply t given r = IsForText t.start.now (IsAuditResult t given) r

@@ -44,13 +44,13 @@ abbrev pub named : Follow → Named
 named t = record { folder = option_map (λ s. s.now) t.tables; manifest = option_map (λ s. s.now) t.manifest; input = false; kept = None; other_kept = None }
 
 -- from this start, by these tables, the game of the input is told; or memory for reading the input was refused
-pub data PutsGame (source : InputFacts) (delay : ℕ) (start : Parts) (tables : Tables) (old new : Option (List ℕ)) (r : Result ℕ WriteFault) : Type 0 where
-  PutsPlies : (left : Option (List ℕ)) → IfSome left source.gives → (told : Result Bool WriteFault) → FollowsTo (record { start = start; tables = tables; delay = delay }) (source_stops source) left old new told → r ≡ status_told told → PutsGame source delay start tables old new r
-  PutsNone : source.takes_memory → TellsOne refused_memory old new r → PutsGame source delay start tables old new r
+pub data PutsFollowed (source : InputFacts) (delay : ℕ) (start : Parts) (tables : Tables) (old new : Option (List ℕ)) (r : Result ℕ WriteFault) : Type 0 where
+  PutsPlies : (left : Option (List ℕ)) → IfSome left source.gives → (told : Result Bool WriteFault) → FollowsTo (record { start = start; tables = tables; delay = delay }) (source_stops source) left old new told → r ≡ status_told told → PutsFollowed source delay start tables old new r
+  PutsNone : source.takes_memory → TellsOne refused_memory old new r → PutsFollowed source delay start tables old new r
 
 -- the refusal of the text of the start; or else that of the tables; or else the game; or memory for the tables was refused
 pub data Puts (source : InputFacts) (t : Follow) (given : Given) (old new : Option (List ℕ)) (r : Result ℕ WriteFault) : Type 0 where
   BadStart : (fault : FenFault) → IsFirstFenFault t.fen.now fault → TellsOne (refused_fen fault) old new r → Puts source t given old new r
   BadTables : IsText t.fen.now → (words : List ℕ) → gathered given ≡ Err words → TellsOne words old new r → Puts source t given old new r
-  Followed : (start : Parts) → SpellsPosition t.fen.now start → IsPosition start → (tables : Tables) → gathered given ≡ Ok tables → PutsGame source t.delay start tables old new r → Puts source t given old new r
+  Followed : (start : Parts) → SpellsPosition t.fen.now start → IsPosition start → (tables : Tables) → gathered given ≡ Ok tables → PutsFollowed source t.delay start tables old new r → Puts source t given old new r
   NoRoom : IsText t.fen.now → TellsOne refused_memory old new r → Puts source t given old new r

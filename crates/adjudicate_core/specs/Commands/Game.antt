@@ -19,7 +19,7 @@ use Rattle.task_files.specs.Given.{Given}
 use Rattle.adjudicate_core.specs.Lines.{refused_move}
 use Rattle.adjudicate_core.specs.Looks.{gathered}
 use Rattle.adjudicate_core.specs.Numbers.{IsDelay}
-use Rattle.adjudicate_core.specs.Reply.{IsForText, Reply, refused}
+use Rattle.adjudicate_core.specs.Reply.{IsForText, Reply, refusal_reply}
 use Rattle.adjudicate_core.specs.declared.commands.game.FollowGame.{FollowGame}
 
 abbrev pub rules : List Rule
@@ -51,10 +51,10 @@ abbrev pub outcome_reply : GameOutcome → List Move → Reply
 outcome_reply outcome moves = record { text = ended (outcome_words outcome (length moves)); status = outcome_status outcome }
 
 -- the refusal of the first word that is no move; or else that of the tables; or else what the game comes to
-pub data IsPlayed (text : List ℕ) (found : Result Tables (List ℕ)) (delay : ℕ) (start : Parts) (r : Reply) : Type 0 where
-  BadWord : (place : ℕ) → IsBadWordAt (words_in text) place → r ≡ refused (refused_move place) → IsPlayed text found delay start r
-  BadTables : (moves : List Move) → TellsMoves text moves → (words : List ℕ) → found ≡ Err words → r ≡ refused words → IsPlayed text found delay start r
-  Played : (moves : List Move) → TellsMoves text moves → (tables : Tables) → found ≡ Ok tables → (outcome : GameOutcome) → IsOutcome (record { start = start; tables = tables; delay = delay }) moves outcome → r ≡ outcome_reply outcome moves → IsPlayed text found delay start r
+pub data IsPlayedReply (text : List ℕ) (found : Result Tables (List ℕ)) (delay : ℕ) (start : Parts) (r : Reply) : Type 0 where
+  BadWord : (place : ℕ) → IsBadWordAt (words_in text) place → r ≡ refusal_reply (refused_move place) → IsPlayedReply text found delay start r
+  BadTables : (moves : List Move) → TellsMoves text moves → (words : List ℕ) → found ≡ Err words → r ≡ refusal_reply words → IsPlayedReply text found delay start r
+  Played : (moves : List Move) → TellsMoves text moves → (tables : Tables) → found ≡ Ok tables → (outcome : GameOutcome) → IsOutcome (record { start = start; tables = tables; delay = delay }) moves outcome → r ≡ outcome_reply outcome moves → IsPlayedReply text found delay start r
 
 abbrev pub IsReply : FollowGame → Given → Reply → Type 0
-IsReply t given r = IsForText t.fen.now (IsPlayed given.input (gathered given) t.delay) r
+IsReply t given r = IsForText t.fen.now (IsPlayedReply given.input (gathered given) t.delay) r

@@ -31,13 +31,13 @@ abbrev pub named : Named
 named = nothing
 
 -- the manifest of the files
-abbrev pub IsListed : List File → Reply → Type 0
-IsListed files r = SpellsManifest r.text (entries_of files) × (r.status ≡ 0)
+abbrev pub IsListedManifest : List File → Reply → Type 0
+IsListedManifest files r = SpellsManifest r.text (entries_of files) × (r.status ≡ 0)
 
 -- the reply by the files of the folder
 abbrev pub IsReply : DiskFacts → ListTask → Reply → Type 0
-IsReply disk t r = (files : List File) × AreFilesIn disk t.folder.now None files × IsListed files r
+IsReply disk t r = (files : List File) × AreFilesIn disk t.folder.now None files × IsListedManifest files r
 
 -- the folder or one of its files can't be read, or it lists one twice
-abbrev pub IsUnread : DiskFacts → ListTask → Type 0
-IsUnread disk t = FolderFails disk t.folder.now None
+abbrev pub IsListUnread : DiskFacts → ListTask → Type 0
+IsListUnread disk t = FolderFails disk t.folder.now None

@@ -35,15 +35,15 @@ abbrev pub named : Probe → Named
 named t = record { folder = Some t.tables.now; manifest = option_map (λ s. s.now) t.manifest; input = false; kept = None; other_kept = None }
 
 -- a line a question, the value and then the distance
-abbrev pub told : Probed → Reply
-told probed = record {
+abbrev pub probed_reply : Probed → Reply
+probed_reply probed = record {
   text = text_of (told_words (codes "wdl") probed.wdl ∷ told_words (codes "dtz") probed.dtz ∷ []);
   status = status_if (has_both probed);
 }
 
 -- what both probes answer, told
-abbrev pub IsTold : Tables → Parts → Reply → Type 0
-IsTold tables p r = (probed : Probed) × IsProbed tables p probed × (r ≡ told probed)
+abbrev pub IsProbeReply : Tables → Parts → Reply → Type 0
+IsProbeReply tables p r = (probed : Probed) × IsProbed tables p probed × (r ≡ probed_reply probed)
 
 abbrev pub IsReply : Probe → Given → Reply → Type 0
-IsReply t given r = IsForText t.fen.now (ByTables (gathered given) IsTold) r
+IsReply t given r = IsForText t.fen.now (ByTables (gathered given) IsProbeReply) r

@@ -18,7 +18,7 @@ use Rattle.adjudicate_core.specs.declared.commands.Form.TheVariants as form
 use Rattle.adjudicate_core.specs.Misuses.{Fault, NoWord}
 use Rattle.task_files.specs.Sources.{Named}
 use Rattle.record_audit.specs.Findings.{refused_record}
-use Rattle.adjudicate_core.specs.Reply.{Reply, refused}
+use Rattle.adjudicate_core.specs.Reply.{Reply, refusal_reply}
 use Rattle.adjudicate_core.specs.declared.commands.record.ShowRecord.{ShowRecord}
 
 abbrev pub rules : List Rule
@@ -50,17 +50,17 @@ spaced = flat_map (λ m. codes " " ++ move_text m)
 abbrev pub moves_words : List Move → List ℕ
 moves_words moves = codes "moves" ++ spaced moves
 
-abbrev pub ruling_words : Option Verdict → List ℕ
-ruling_words verdict = codes "verdict " ++ verdict_or_none verdict
+abbrev pub recorded_verdict_words : Option Verdict → List ℕ
+recorded_verdict_words verdict = codes "verdict " ++ verdict_or_none verdict
 
 unfoldable pub record_lines : Records → List (List ℕ)
-record_lines r = stamp_words r.stamp ∷ delay_words r.delay ∷ moves_words r.moves ∷ ruling_words r.verdict ∷ []
+record_lines r = stamp_words r.stamp ∷ delay_words r.delay ∷ moves_words r.moves ∷ recorded_verdict_words r.verdict ∷ []
 
 -- the record that the bytes spell, a line for each of its parts; or the first fault of bytes that spell none
 pub data IsReply (bytes : List ℕ) (r : Reply) : Type 0 where
   OfRecord : (q : Records) → SpellsRecord bytes q → r ≡ record { text = text_of (record_lines q); status = 0 } → IsReply bytes r
-  OfNone : (fault : RecordFault) → IsFirstRecordFault bytes fault → r ≡ refused (refused_record fault) → IsReply bytes r
+  OfNone : (fault : RecordFault) → IsFirstRecordFault bytes fault → r ≡ refusal_reply (refused_record fault) → IsReply bytes r
 
 -- only what is laid out as a record takes memory
-abbrev pub TakesMemory : List ℕ → Type 0
-TakesMemory = HasRecordLayout
+abbrev pub RecordTakesMemory : List ℕ → Type 0
+RecordTakesMemory = HasRecordLayout

@@ -26,7 +26,7 @@ use Rattle.adjudicate_core.specs.Numbers.{is_set}
 use Rattle.adjudicate_core.specs.Reply.{AnswersOnce, ByTables, IsForText, IsText, Reply, status_if}
 use Rattle.adjudicate_core.specs.TableAnswers.{PutsByTables}
 use Rattle.judge_core.specs.Ask.{IsAnswered}
-use Rattle.json_lines.specs.Told.{AreMoves}
+use Rattle.json_lines.specs.Told.{AreRootMoves}
 use Rattle.judge_core.specs.declared.ask.Ask.{Ask}
 use Rattle.line_teller.specs.ToldLines.{LineTold}
 use Rattle.adjudicate_core.specs.declared.commands.root.Root.{Root}
@@ -55,25 +55,25 @@ abbrev pub named : Root → Named
 named t = record { folder = Some t.tables.now; manifest = option_map (λ s. s.now) t.manifest; input = false; kept = None; other_kept = None }
 
 -- A line for each legal move, the best first, and then what `probes` tells of the position. It is complete where nothing is refused.
-abbrev pub told : List RootMove → Probed → List ℕ → Reply
-told moves probed columns = record {
+abbrev pub root_reply : List RootMove → Probed → List ℕ → Reply
+root_reply moves probed columns = record {
   text = text_of (map root_words moves ++ columns ∷ []);
   status = status_if (has_both probed && list_all (λ m. has_both (probed_of m)) moves);
 }
 
-abbrev pub IsTold : Ask → Tables → Parts → Reply → Type 0
-IsTold ask tables p r =
-    (moves : List RootMove) × AreMoves ask tables p moves × (probed : Probed) × IsAnswered ask tables p probed
-    × (r ≡ told moves probed (columns_words probed.wdl probed.dtz (ruling tables p)))
+abbrev pub IsRootReply : Ask → Tables → Parts → Reply → Type 0
+IsRootReply ask tables p r =
+    (moves : List RootMove) × AreRootMoves ask tables p moves × (probed : Probed) × IsAnswered ask tables p probed
+    × (r ≡ root_reply moves probed (columns_words probed.wdl probed.dtz (ruling tables p)))
 
 -- a line of the input: what is told of its position, or the refusal of the text, and then an empty line
 abbrev pub TellsLine : Ask → Tables → List ℕ → LineTold → Type 0
-TellsLine ask tables text line = (r : Reply) × IsForText text (IsTold ask tables) r × (line ≡ record { words = r.text; done = r.status == 0 })
+TellsLine ask tables text line = (r : Reply) × IsForText text (IsRootReply ask tables) r × (line ≡ record { words = r.text; done = r.status == 0 })
 
 -- so it is told in lines or as JSON
 abbrev pub IsToldIn : Bool → Ask → Tables → Parts → Reply → Type 0
 IsToldIn true = IsJsonTold
-IsToldIn false = IsTold
+IsToldIn false = IsRootReply
 
 abbrev pub TellsLineIn : Bool → Ask → Tables → List ℕ → LineTold → Type 0
 TellsLineIn true ask = TellsJson ask true

@@ -4,7 +4,7 @@ use Rattle.move_msg.specs.Files.{File}
 use Rattle.move_msg.specs.TextLines.{text_of}
 use Rattle.relay_world.specs.declared.schedule.Schedule.{Schedule}
 use Rattle.relay_world.specs.Runs.{Runs, WorldView}
-use Rattle.relay_world.specs.Texts.{SpellsSchedule, IsFirstBadLine}
+use Rattle.relay_world.specs.Texts.{SpellsSchedule, IsFirstBadScheduleLine}
 use Rattle.relay_world.specs.Worlds.{World}
 use Rattle.clap.specs.Words.{Rule, Text}
 use Rattle.adjudicate_core.specs.Rules.{rule_of_form}
@@ -15,8 +15,8 @@ use Rattle.task_files.specs.Sources.{Named}
 use Rattle.task_files.specs.Given.{Given}
 use Rattle.adjudicate_core.specs.Lines.{refused_line}
 use Rattle.adjudicate_core.specs.Numbers.{IsCache, IsDelay}
-use Rattle.adjudicate_core.specs.Reply.{Reply, refused}
-use Rattle.adjudicate_core.specs.Schedules.{RefusesTable, game_of, world_words}
+use Rattle.adjudicate_core.specs.Reply.{Reply, refusal_reply}
+use Rattle.adjudicate_core.specs.Schedules.{RefusesTable, scheduled_game, world_words}
 use Rattle.adjudicate_core.specs.declared.commands.run.RunSchedule.{RunSchedule}
 
 abbrev pub rules : List Rule
@@ -39,10 +39,10 @@ named t = record { folder = option_map (λ s. s.now) t.tables; manifest = None; 
 
 -- the refusal of the first line at fault; or else that of the first file that is no table; or else there are worlds of the
 -- schedule, in each of which what both arbiters keep is true to the game, and the last of them is told
-pub data IsRun (text : List ℕ) (files : List File) (delay : ℕ) (r : Reply) : Type 0 where
-  BadLine : (number : ℕ) → IsFirstBadLine text number → r ≡ refused (refused_line number) → IsRun text files delay r
-  BadTable : (schedule : Schedule) → SpellsSchedule text schedule → (words : List ℕ) → RefusesTable files words → r ≡ refused words → IsRun text files delay r
-  Ran : (schedule : Schedule) → SpellsSchedule text schedule → (told : WorldView) (runs : Runs (game_of schedule delay) files schedule.events.items told) (last : World) → slice_get runs.worlds (length schedule.events.items) ≡ Some last → r ≡ record { text = text_of (world_words last); status = 0 } → IsRun text files delay r
+pub data IsRunReply (text : List ℕ) (files : List File) (delay : ℕ) (r : Reply) : Type 0 where
+  BadLine : (number : ℕ) → IsFirstBadScheduleLine text number → r ≡ refusal_reply (refused_line number) → IsRunReply text files delay r
+  BadTable : (schedule : Schedule) → SpellsSchedule text schedule → (words : List ℕ) → RefusesTable files words → r ≡ refusal_reply words → IsRunReply text files delay r
+  Ran : (schedule : Schedule) → SpellsSchedule text schedule → (told : WorldView) (runs : Runs (scheduled_game schedule delay) files schedule.events.items told) (last : World) → slice_get runs.worlds (length schedule.events.items) ≡ Some last → r ≡ record { text = text_of (world_words last); status = 0 } → IsRunReply text files delay r
 
 abbrev pub IsReply : RunSchedule → Given → Reply → Type 0
-IsReply t given r = IsRun given.input given.files t.delay r
+IsReply t given r = IsRunReply given.input given.files t.delay r

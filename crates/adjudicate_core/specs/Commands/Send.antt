@@ -36,12 +36,12 @@ abbrev pub IsToldGame : (Text → Option Text) → ToldGame → Type 0
 IsToldGame value g = (value (codes "game") ≡ None) × AreGameWords value g.name g.start.now g.tables.now
 
 -- the file that tells it, whose name is its stamp
-abbrev pub IsInFile : (Text → Option Text) → GameFile → Type 0
-IsInFile value f = (Some f.path.now ≡ value (codes "game")) × NamesGame f.path.now f.stamp.0
+abbrev pub IsGameInFile : (Text → Option Text) → GameFile → Type 0
+IsGameInFile value f = (Some f.path.now ≡ value (codes "game")) × NamesGame f.path.now f.stamp.0
 
-abbrev pub HasGame : (Text → Option Text) → SentGame → Type 0
-HasGame value (sent.Told g) = IsToldGame value g
-HasGame value (sent.InFile f) = IsInFile value f
+abbrev pub HasSentGame : (Text → Option Text) → SentGame → Type 0
+HasSentGame value (sent.Told g) = IsToldGame value g
+HasSentGame value (sent.InFile f) = IsGameInFile value f
 
 -- any port of any address, unless one is named
 abbrev pub bind_or_any : Option Text → List ℕ
@@ -50,7 +50,7 @@ bind_or_any (Some address) = address
 
 -- the values of its arguments
 pub record HasValues (value : Text → Option Text) (t : Send) : Type 0 where
-  pub game : HasGame value t.game
+  pub game : HasSentGame value t.game
   pub manifest : option_map (λ s. s.now) t.manifest ≡ value (codes "manifest")
   pub bind : t.bind.now ≡ bind_or_any (value (codes "bind"))
   pub address : IsAddressIfAny (value (codes "bind"))

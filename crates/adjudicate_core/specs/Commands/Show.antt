@@ -3,7 +3,7 @@ use Rattle.std.specs.Prelude.{◌≡◌, ◌+◌, ◌++◌, ℕ, true, List, [],
 use Rattle.std.specs.Io.KnownBytes.{Appends}
 use Rattle.move_msg.specs.MessageWords.{message_words}
 use Rattle.move_msg.specs.declared.message.Message.{Message}
-use Rattle.move_msg.specs.Messages.{fault_name as message_fault_name}
+use Rattle.move_msg.specs.Messages.{message_fault_name}
 use Rattle.move_msg.specs.Streams.{BeginsBy, End, AfterMessage, Cut, AtFault, SpellsStream}
 use Rattle.move_msg.specs.TextLines.{text_of}
 use Rattle.clap.specs.Words.{Rule}
@@ -27,23 +27,23 @@ abbrev pub named : Named
 named = record { folder = None; manifest = None; input = true; kept = None; other_kept = None }
 
 -- a line a message, and a refusal where the stream doesn't end after one
-abbrev pub shown : List Message → End → Reply
-shown ms AfterMessage = record { text = text_of (map message_words ms); status = 0 }
-shown ms Cut = record { text = text_of (map message_words ms ++ refused_message (length ms + 1) (codes "Cut") ∷ []); status = 1 }
-shown ms (AtFault fault) =
+abbrev pub shown_stream : List Message → End → Reply
+shown_stream ms AfterMessage = record { text = text_of (map message_words ms); status = 0 }
+shown_stream ms Cut = record { text = text_of (map message_words ms ++ refused_message (length ms + 1) (codes "Cut") ∷ []); status = 1 }
+shown_stream ms (AtFault fault) =
     record { text = text_of (map message_words ms ++ refused_message (length ms + 1) (message_fault_name fault) ∷ []); status = 1 }
 
-abbrev pub IsShown : List ℕ → Reply → Type 0
-IsShown input r = (ms : List Message) × (end : End) × SpellsStream input ms end × (r ≡ shown ms end)
+abbrev pub IsShownReply : List ℕ → Reply → Type 0
+IsShownReply input r = (ms : List Message) × (end : End) × SpellsStream input ms end × (r ≡ shown_stream ms end)
 
 -- what a writer that failed leaves: the lines of the first messages, and a front of that of one more; or a front of all
 pub data CutsShown (input : List ℕ) (old new : Option (List ℕ)) : Type 0 where
   AtMessage : (ms : List Message) (last : Message) (rest : List ℕ) → BeginsBy input (ms ++ last ∷ []) rest → CutsAfter (map message_words ms) (message_words last) old new → CutsShown input old new
-  AtEnd : (reply : Reply) → IsShown input reply → HasFront old new reply.text → CutsShown input old new
+  AtEnd : (reply : Reply) → IsShownReply input reply → HasFront old new reply.text → CutsShown input old new
 
-abbrev pub Shows : List ℕ → Option (List ℕ) → Option (List ℕ) → Result ℕ WriteFault → Type 0
-Shows input old new (Ok status) = (reply : Reply) × IsShown input reply × Appends old new reply.text × (status ≡ reply.status)
-Shows input old new (Err fault) = CutsShown input old new
+abbrev pub ShowsStream : List ℕ → Option (List ℕ) → Option (List ℕ) → Result ℕ WriteFault → Type 0
+ShowsStream input old new (Ok status) = (reply : Reply) × IsShownReply input reply × Appends old new reply.text × (status ≡ reply.status)
+ShowsStream input old new (Err fault) = CutsShown input old new
 
 abbrev pub Answers : Given → Option (List ℕ) → Option (List ℕ) → Result ℕ WriteFault → Type 0
-Answers given old new r = Shows given.input old new r
+Answers given old new r = ShowsStream given.input old new r

@@ -7,7 +7,7 @@ use Rattle.json_lines.specs.declared.told.JsonLine.{JsonLine}
 use Rattle.json_lines.specs.declared.told.JsonLine.TheVariants as line
 use Rattle.adjudicate_core.specs.JsonAnswers.{json_reply}
 use Rattle.adjudicate_core.specs.Lines.{refusal_words, words_of}
-use Rattle.adjudicate_core.specs.Reply.{Reply, WritesReply, refused, status_if}
+use Rattle.adjudicate_core.specs.Reply.{Reply, WritesReply, refusal_reply, status_if}
 use Rattle.adjudicate_core.specs.Telling.{TellsOne}
 use Rattle.line_teller.specs.ToldLines.{refused_files, refused_memory}
 use Rattle.system_io.specs.declared.output.WriteFault.{WriteFault}
@@ -16,7 +16,7 @@ use Rattle.system_io.specs.declared.reading.ReadFault.TheVariants.{OutOfMemory, 
 
 -- the reply that an answer is
 abbrev pub reply_of : Answer → Reply
-reply_of (Refused refusal) = refused (refusal_words refusal)
+reply_of (Refused refusal) = refusal_reply (refusal_words refusal)
 reply_of (One line done) = record { text = ended (words_of line); status = status_if done }
 reply_of (Lines lines done) = record { text = text_of (map words_of lines.items); status = status_if done }
 reply_of (Text bytes done) = record { text = bytes.items; status = status_if done }
@@ -34,7 +34,7 @@ PutsRead (Err Unreadable) old new r = TellsOne refused_files old new r
 PutsRead (Err OutOfMemory) old new r = TellsOne refused_memory old new r
 
 -- it is the line of a position, and not of a text's fault
-abbrev pub HasText : JsonLine → Type 0
-HasText (line.Fault fault) = ⊥
-HasText (line.Position told) = Unit {0}
-HasText (line.Root told moves) = Unit {0}
+abbrev pub IsPositionLine : JsonLine → Type 0
+IsPositionLine (line.Fault fault) = ⊥
+IsPositionLine (line.Position told) = Unit {0}
+IsPositionLine (line.Root told moves) = Unit {0}

@@ -14,12 +14,12 @@ use Rattle.adjudicate_core.specs.declared.entering.KeepFault.{KeepFault}
 use Rattle.adjudicate_core.specs.declared.entering.KeepFault.TheVariants as keep
 use Rattle.adjudicate_core.specs.declared.entering.Step.{Step}
 use Rattle.adjudicate_core.specs.declared.entering.Step.TheVariants as step
-use Rattle.adjudicate_core.specs.Enters.{CutsLine, EntersLine, IsMadeForLine, LacksGame, Place, place}
+use Rattle.adjudicate_core.specs.Enters.{CutsLine, EntersLine, EntersNoGame, IsMadeForLine, Place, place}
 use Rattle.adjudicate_core.specs.Listens.{hosted}
 
 -- the place where games are entered
-abbrev pub place_of : {H P F : Type 0} → (H → HostFacts P F) → (P → PortFacts) → (F → KeptFacts) → GamePlace H → Place P F
-place_of host port file p = place (hosted (host p.host.now) port file) p.games.now p.manifest.now
+abbrev pub entering_place : {H P F : Type 0} → (H → HostFacts P F) → (P → PortFacts) → (F → KeptFacts) → GamePlace H → Place P F
+entering_place host port file p = place (hosted (host p.host.now) port file) p.games.now p.manifest.now
 
 -- a file has the text, and is left; or the text takes its place
 pub data HasOver {F : Type 0} (facts : F → KeptFacts) (file file' : F) (found : Option (List ℕ)) (text : List ℕ) : Type 0 where
@@ -37,7 +37,7 @@ pub record LacksOver {F : Type 0} (facts : F → KeptFacts) (file file' : F) (fo
 -- what is told of it
 abbrev pub EntersNext : {P F : Type 0} → Place P F → ℕ → List ℕ → Option (List ℕ) → Option (List ℕ) → Result Step WriteFault → Type 0
 EntersNext p number line old new (Ok (step.Told done)) = WritesTold (EntersLine p number line) old new done
-EntersNext p number line old new (Ok step.Cut) = LacksGame p line keep.OutOfMemory × Appends old new (ended refused_memory)
+EntersNext p number line old new (Ok step.Cut) = EntersNoGame p line keep.OutOfMemory × Appends old new (ended refused_memory)
 EntersNext p number line old new (Err fault) = (t : LineTold) × (EntersLine p number line t ⊎ CutsLine p line t) × HasFront old new (ended t.words)
 
 -- ---- what is made

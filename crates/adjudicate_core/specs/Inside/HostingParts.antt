@@ -12,12 +12,12 @@ use Rattle.adjudicate_core.specs.Addresses.{AreRecipients, IsAddressIfAny}
 use Rattle.adjudicate_core.specs.Hostings.{Way, WritesNow}
 use Rattle.adjudicate_core.specs.Numbers.{IsAtOnce, IsCache, IsDatagrams, IsLog, IsMe}
 
-abbrev pub AreEnds : (Text → Option Text) → List ℕ → List ℕ → List ℕ → List ℕ → Type 0
-AreEnds value games tables bind to =
+abbrev pub AreHostEnds : (Text → Option Text) → List ℕ → List ℕ → List ℕ → List ℕ → Type 0
+AreHostEnds value games tables bind to =
     (Some games ≡ value (codes "games")) × (Some tables ≡ value (codes "tables")) × (Some bind ≡ value (codes "bind")) × (Some to ≡ value (codes "to")) × AreRecipients to
 
-abbrev pub AreTerms : (Text → Option Text) → Who → ℕ → ℕ → ℕ → LogForm → Type 0
-AreTerms value me at_once cache datagrams log =
+abbrev pub AreHostTerms : (Text → Option Text) → Who → ℕ → ℕ → ℕ → LogForm → Type 0
+AreHostTerms value me at_once cache datagrams log =
     IsMe (value (codes "me")) me × IsAtOnce (value (codes "at-once")) at_once × IsCache (value (codes "cache")) cache × IsDatagrams (value (codes "datagrams")) datagrams × IsLog (value (codes "log")) log × IsAddressIfAny (value (codes "bind"))
 
 -- why a folder isn't listed: it can't be, or memory for its names was refused

@@ -12,20 +12,20 @@ use Rattle.system_io.specs.Ports.{PortFacts}
 use Rattle.system_io.specs.declared.output.WriteFault.{WriteFault}
 use Rattle.task_files.specs.Given.{Given}
 use Rattle.adjudicate_core.specs.declared.listening.ListenAt.{ListenAt}
-use Rattle.adjudicate_core.specs.Listens.{ListensAndWrites, Way, hosted}
+use Rattle.adjudicate_core.specs.Listens.{ListensAndWrites, ServingWay, hosted}
 use Rattle.adjudicate_core.specs.Addresses.{AreRecipients, IsAddressIfAny}
 use Rattle.adjudicate_core.specs.Numbers.{IsDatagrams, IsDelay, IsMe, is_set}
 
-abbrev pub AreEnds : (Text → Option Text) → List ℕ → List ℕ → List ℕ → Type 0
-AreEnds value bind to kept = (Some bind ≡ value (codes "bind")) × (Some to ≡ value (codes "to")) × AreRecipients to × (Some kept ≡ value (codes "kept"))
+abbrev pub AreListenEnds : (Text → Option Text) → List ℕ → List ℕ → List ℕ → Type 0
+AreListenEnds value bind to kept = (Some bind ≡ value (codes "bind")) × (Some to ≡ value (codes "to")) × AreRecipients to × (Some kept ≡ value (codes "kept"))
 
-abbrev pub AreTerms : (Text → Option Text) → Who → ℕ → ℕ → Bool → Bool → Type 0
-AreTerms value me datagrams delay fetch ready =
+abbrev pub AreListenTerms : (Text → Option Text) → Who → ℕ → ℕ → Bool → Bool → Type 0
+AreListenTerms value me datagrams delay fetch ready =
     IsMe (value (codes "me")) me × IsDatagrams (value (codes "datagrams")) datagrams × IsDelay (value (codes "delay")) delay × (fetch ≡ is_set (value (codes "fetch"))) × (ready ≡ is_set (value (codes "ready"))) × IsAddressIfAny (value (codes "bind"))
 
 -- at this host and with this writer, by the words and the setup
-abbrev pub way : {H P F W : Type 0} → (H → HostFacts P F) → (P → PortFacts) → (F → KeptFacts) → (W → Option (List ℕ)) → (W → OutputFacts) → ListenAt H → Setup → Way P F W
-way host port file written output at setup = record { host = hosted (host at.host.now) port file; writer = writers written output; words = at.listening.now; setup = setup_view setup }
+abbrev pub serving_way : {H P F W : Type 0} → (H → HostFacts P F) → (P → PortFacts) → (F → KeptFacts) → (W → Option (List ℕ)) → (W → OutputFacts) → ListenAt H → Setup → ServingWay P F W
+serving_way host port file written output at setup = record { host = hosted (host at.host.now) port file; writer = writers written output; words = at.listening.now; setup = setup_view setup }
 
 -- so it is from what was read
 abbrev pub ListensBy : {H P F W : Type 0} → (H → HostFacts P F) → (P → PortFacts) → (F → KeptFacts) → (W → Option (List ℕ)) → (W → OutputFacts) → ListenAt H → Given → Option (List Made) → Option (List Made) → W → W → Result ℕ WriteFault → Type 0

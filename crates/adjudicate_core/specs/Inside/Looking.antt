@@ -9,7 +9,7 @@ use Rattle.adjudicate_core.specs.declared.commands.check.Seen.{Seen}
 use Rattle.adjudicate_core.specs.declared.tables.FileFault.{FileFault}
 use Rattle.adjudicate_core.specs.declared.tables.FileFault.TheVariants.{Changed, Missing}
 use Rattle.adjudicate_core.specs.Lines.{look_words}
-use Rattle.adjudicate_core.specs.Looks.{fault_in, found_in}
+use Rattle.adjudicate_core.specs.Looks.{file_found, found_fault}
 use Rattle.adjudicate_core.specs.Reply.{Reply, status_if}
 
 -- the entry of a file, and why it is no table, if it isn't one
@@ -21,7 +21,7 @@ abbrev pub sight_of : Seen → Sight
 sight_of seen = record { entry = entry_of seen.entry; fault = seen.fault }
 
 abbrev pub sight_at : File → Sight
-sight_at f = record { entry = entry_for f; fault = fault_in (found_in f) }
+sight_at f = record { entry = entry_for f; fault = found_fault (file_found f) }
 
 abbrev pub IsSeenOf : Seen → File → Type 0
 IsSeenOf seen f = sight_of seen ≡ sight_at f

@@ -14,7 +14,7 @@ IsPut facts contents old new text (Ok x) = Appends (contents old) (contents new)
 IsPut facts contents old new text (Err e) = CutsOff facts contents old new text
 
 -- this line, and then more, of which nothing is said
-pub record TellsLine {E : Type 0} (facts : E → OutputFacts) (contents : E → Option (List ℕ)) (old new : E) (line : List ℕ) : Type 0 where
+pub record TellsLineFirst {E : Type 0} (facts : E → OutputFacts) (contents : E → Option (List ℕ)) (old new : E) (line : List ℕ) : Type 0 where
   pub usage : List ℕ
   pub out : GoesOut facts contents old new (line ++ usage)
 

@@ -5,10 +5,10 @@ use Rattle.adjudicate_core.specs.declared.refusals.Refusal.{Refusal}
 use Rattle.adjudicate_core.specs.Lines.{refusal_words}
 
 -- the tables that are in a set where nothing was refused
-abbrev pub filled : {X : Type 0} → Result X Refusal → Tables → Result Tables (List ℕ)
-filled (Ok x) tables = Ok tables
-filled (Err refusal) tables = Err (refusal_words refusal)
+abbrev pub filled_unless_refused : {X : Type 0} → Result X Refusal → Tables → Result Tables (List ℕ)
+filled_unless_refused (Ok x) tables = Ok tables
+filled_unless_refused (Err refusal) tables = Err (refusal_words refusal)
 
-abbrev pub tables_in : Result Holding Refusal → Result Tables (List ℕ)
-tables_in (Ok set) = Ok set.tables
-tables_in (Err refusal) = Err (refusal_words refusal)
+abbrev pub tables_or_refusal : Result Holding Refusal → Result Tables (List ℕ)
+tables_or_refusal (Ok set) = Ok set.tables
+tables_or_refusal (Err refusal) = Err (refusal_words refusal)

@@ -4,5 +4,5 @@ use Rattle.clap.specs.Words.{Text}
 use Rattle.adjudicate_core.specs.Addresses.{IsAddressIfAny}
 use Rattle.adjudicate_core.specs.Numbers.{IsDelay, IsHundredOr}
 
-abbrev pub AreTerms : (Text → Option Text) → ℕ → ℕ → ℕ → Type 0
-AreTerms value delay wait tries = IsDelay (value (codes "delay")) delay × IsHundredOr (value (codes "wait")) wait × IsHundredOr (value (codes "tries")) tries × IsAddressIfAny (value (codes "bind"))
+abbrev pub AreSendTerms : (Text → Option Text) → ℕ → ℕ → ℕ → Type 0
+AreSendTerms value delay wait tries = IsDelay (value (codes "delay")) delay × IsHundredOr (value (codes "wait")) wait × IsHundredOr (value (codes "tries")) tries × IsAddressIfAny (value (codes "bind"))

@@ -4,11 +4,11 @@ ghost use Rattle.std.specs.Prelude.{◌≡◌, ◌≤◌, Ok, option_map, IfErr,
 ghost use Rattle.clap.specs.Words.{first_value, found_of};
 ghost use Rattle.board_core.specs.Delays.{most_delay};
 ghost use Rattle.adjudicate_core.specs.Audits.{IsAudited, audited_one, audited_two};
-ghost use Rattle.adjudicate_core.specs.Commands.Audit.{HasValues, IsHeld, IsReply, faults, named, other_in};
+ghost use Rattle.adjudicate_core.specs.Commands.Audit.{HasValues, IsAuditResult, IsReply, faults, named, other_in};
 ghost use Rattle.adjudicate_core.specs.Inside.Asked.{reply_of};
 ghost use Rattle.record_audit.specs.Findings.{rules_of};
 ghost use Rattle.adjudicate_core.specs.Looks.{gathered};
-ghost use Rattle.adjudicate_core.specs.Misuses.{IsFirst, fault_words};
+ghost use Rattle.adjudicate_core.specs.Misuses.{IsFirstMisuse, fault_words};
 ghost use Rattle.adjudicate_core.specs.Reply.{IsText};
 ghost use Rattle.task_files.specs.Sources.{named_by};
 
@@ -140,7 +140,7 @@ impl<'a> Audit<'a> {
     /// The task with these values, or the first thing that is wrong with them.
     pub(crate) fn of(matches: &ArgMatches<'a>) -> Result<Audit<'a>, ValueFault<'a>>
         ensures ok { IfOk result (HasValues (first_value (found_of matches.now))) }
-        ensures err { IfErr result (λ fault. IsFirst (first_value (found_of matches.now)) faults (fault_words fault)) }
+        ensures err { IfErr result (λ fault. IsFirstMisuse (first_value (found_of matches.now)) faults (fault_words fault)) }
     {
         let game = game_words_in(matches)?;
         Ok(Audit {
@@ -186,7 +186,7 @@ impl<'a> Audit<'a> {
         set: Set<'_>,
     ) -> Result<Answer, AllocError>
         requires { Ok set.tables ≡ gathered sources.now }
-        ensures { IfOk result (λ a. IsHeld self.now sources.now start.now (reply_of a)) }
+        ensures { IfOk result (λ a. IsAuditResult self.now sources.now start.now (reply_of a)) }
     {
         let manifest = manifest_of(alloc, sources.files())?;
         let delay = self.delay.plies();
@@ -206,7 +206,7 @@ impl<'a> Audit<'a> {
         sources: &Sources,
         start: &Position,
     ) -> Result<Answer, AllocError>
-        ensures { IfOk result (λ a. IsHeld self.now sources.now start.now (reply_of a)) }
+        ensures { IfOk result (λ a. IsAuditResult self.now sources.now start.now (reply_of a)) }
     {
         match gather(alloc, sources, CacheSize::usual())? {
             Ok(set) => self.answer_by(alloc, sources, start, set),

@@ -3,7 +3,7 @@
 ghost use Rattle.std.specs.Prelude.{◌≡◌, IfErr, IfOk, None, OnErr, OnOk, codes};
 ghost use Rattle.clap.specs.Words.{first_value, found_of};
 ghost use Rattle.adjudicate_core.specs.Commands.AuditGames.{HasValues, LacksGameWords, Puts, faults, named, without_faults};
-ghost use Rattle.adjudicate_core.specs.Misuses.{AreWell, IsFirst, fault_words};
+ghost use Rattle.adjudicate_core.specs.Misuses.{AreWell, IsFirstMisuse, fault_words};
 ghost use Rattle.task_files.specs.Sources.{named_by};
 ghost use Rattle.line_teller.specs.ToldLines.{HasFailed};
 
@@ -38,7 +38,7 @@ pub struct AuditGames<'a> {
 fn no_game_in<'a>(matches: &ArgMatches<'a>) -> Result<(), ValueFault<'a>>
     ensures ok { OnOk result (LacksGameWords (first_value (found_of matches.now))) }
     ensures well { OnOk result (AreWell (first_value (found_of matches.now)) without_faults) }
-    ensures err { IfErr result (λ fault. IsFirst (first_value (found_of matches.now)) without_faults (fault_words fault)) }
+    ensures err { IfErr result (λ fault. IsFirstMisuse (first_value (found_of matches.now)) without_faults (fault_words fault)) }
 {
     without(matches, "name", Instead::Games)?;
     without(matches, "start", Instead::Games)?;
@@ -50,7 +50,7 @@ impl<'a> AuditGames<'a> {
     /// The task with these values, or the first thing that is wrong with them.
     pub(crate) fn of(matches: &ArgMatches<'a>) -> Result<AuditGames<'a>, ValueFault<'a>>
         ensures ok { IfOk result (HasValues (first_value (found_of matches.now))) }
-        ensures err { IfErr result (λ fault. IsFirst (first_value (found_of matches.now)) faults (fault_words fault)) }
+        ensures err { IfErr result (λ fault. IsFirstMisuse (first_value (found_of matches.now)) faults (fault_words fault)) }
     {
         let games = option_in(matches, "games")?;
         no_game_in(matches)?;

@@ -5,11 +5,11 @@ ghost use Rattle.clap.specs.Words.{first_value, found_of};
 ghost use Rattle.move_msg.specs.Files.{File};
 ghost use Rattle.move_msg.specs.Manifests.{entry_of};
 ghost use Rattle.move_msg.specs.ToldBy.{told_by};
-ghost use Rattle.adjudicate_core.specs.Commands.Check.{HasValues, IsReply, IsUnread, checked_by, faults, named};
+ghost use Rattle.adjudicate_core.specs.Commands.Check.{HasValues, IsCheckUnread, IsReply, checked_by, faults, named};
 ghost use Rattle.adjudicate_core.specs.Inside.Asked.{reply_of};
 ghost use Rattle.task_files.specs.Made.{AreMadeOf};
 ghost use Rattle.adjudicate_core.specs.Inside.Looking.{IsSeenOf, fault_seen, reply_seen, sight_of};
-ghost use Rattle.adjudicate_core.specs.Misuses.{IsFirst, fault_words};
+ghost use Rattle.adjudicate_core.specs.Misuses.{IsFirstMisuse, fault_words};
 ghost use Rattle.task_files.specs.Sources.{named_by};
 
 use super::{Form, Value};
@@ -122,7 +122,7 @@ impl<'a> Check<'a> {
     /// The task with these values, or the first thing that is wrong with them.
     pub(crate) fn of(matches: &ArgMatches<'a>) -> Result<Check<'a>, ValueFault<'a>>
         ensures ok { IfOk result (HasValues (first_value (found_of matches.now))) }
-        ensures err { IfErr result (λ fault. IsFirst (first_value (found_of matches.now)) faults (fault_words fault)) }
+        ensures err { IfErr result (λ fault. IsFirstMisuse (first_value (found_of matches.now)) faults (fault_words fault)) }
     {
         Ok(Check {
             manifest: option_in(matches, "manifest")?,
@@ -147,7 +147,7 @@ impl<'a> Check<'a> {
         errors: &mut E,
     ) -> Result<Answer, ReadFault>
         ensures ok { IfOk result (λ a. IsReply (D.facts disk.now) self.now (reply_of a)) }
-        ensures cause { IsErrOf result ReadFault.Unreadable → IsUnread (D.facts disk.now) self.now }
+        ensures cause { IsErrOf result ReadFault.Unreadable → IsCheckUnread (D.facts disk.now) self.now }
         ensures quiet { self.now.progress ≡ false → errors.new ≡ errors.old }
     {
         let manifest = match read_manifest(alloc, disk, Some(self.manifest)) {

@@ -2,7 +2,7 @@
 
 ghost use Rattle.std.specs.Prelude.{◌≡◌, IfOk, IfErr, OnOk, None, Some, codes};
 ghost use Rattle.clap.specs.Words.{found_of, first_value};
-ghost use Rattle.adjudicate_core.specs.Misuses.{AreWell, IsFirst, fault_words};
+ghost use Rattle.adjudicate_core.specs.Misuses.{AreWell, IsFirstMisuse, fault_words};
 ghost use Rattle.adjudicate_core.specs.Commands.Enter.{HasValues, LacksGameWords, list_faults, one_faults, without_faults};
 
 use super::{Form, Value};
@@ -82,7 +82,7 @@ pub(crate) const VALUES: [Value; 7] = [
 fn one_in<'a>(matches: &ArgMatches<'a>) -> Result<Enter<'a>, ValueFault<'a>>
     requires { first_value (found_of matches.now) (codes "from") ≡ None }
     ensures ok { IfOk result (HasValues (first_value (found_of matches.now))) }
-    ensures err { IfErr result (λ fault. IsFirst (first_value (found_of matches.now)) one_faults (fault_words fault)) }
+    ensures err { IfErr result (λ fault. IsFirstMisuse (first_value (found_of matches.now)) one_faults (fault_words fault)) }
 {
     let game = game_words_in(matches)?;
     Ok(Enter {
@@ -101,7 +101,7 @@ fn one_in<'a>(matches: &ArgMatches<'a>) -> Result<Enter<'a>, ValueFault<'a>>
 fn no_game_in<'a>(matches: &ArgMatches<'a>) -> Result<(), ValueFault<'a>>
     ensures ok { OnOk result (LacksGameWords (first_value (found_of matches.now))) }
     ensures well { OnOk result (AreWell (first_value (found_of matches.now)) without_faults) }
-    ensures err { IfErr result (λ fault. IsFirst (first_value (found_of matches.now)) without_faults (fault_words fault)) }
+    ensures err { IfErr result (λ fault. IsFirstMisuse (first_value (found_of matches.now)) without_faults (fault_words fault)) }
 {
     without(matches, "name", Instead::From)?;
     without(matches, "start", Instead::From)?;
@@ -112,7 +112,7 @@ fn no_game_in<'a>(matches: &ArgMatches<'a>) -> Result<(), ValueFault<'a>>
 fn list_in<'a>(matches: &ArgMatches<'a>, path: &'a str) -> Result<Enter<'a>, ValueFault<'a>>
     requires { first_value (found_of matches.now) (codes "from") ≡ Some path.now }
     ensures ok { IfOk result (HasValues (first_value (found_of matches.now))) }
-    ensures err { IfErr result (λ fault. IsFirst (first_value (found_of matches.now)) list_faults (fault_words fault)) }
+    ensures err { IfErr result (λ fault. IsFirstMisuse (first_value (found_of matches.now)) list_faults (fault_words fault)) }
 {
     no_game_in(matches)?;
     Ok(Enter {
@@ -127,13 +127,13 @@ impl<'a> Enter<'a> {
     ghost use Rattle.std.specs.Prelude.{◌≡◌, IfOk, IfErr};
     ghost use Rattle.clap.specs.Words.{found_of, first_value};
     ghost use Rattle.task_files.specs.Sources.{named_by};
-    ghost use Rattle.adjudicate_core.specs.Misuses.{IsFirst, fault_words};
+    ghost use Rattle.adjudicate_core.specs.Misuses.{IsFirstMisuse, fault_words};
     ghost use Rattle.adjudicate_core.specs.Commands.Enter.{HasValues, faults, named};
 
     /// The task with these values, or the first thing that is wrong with them.
     pub(crate) fn of(matches: &ArgMatches<'a>) -> Result<Enter<'a>, ValueFault<'a>>
         ensures ok { IfOk result (HasValues (first_value (found_of matches.now))) }
-        ensures err { IfErr result (λ fault. IsFirst (first_value (found_of matches.now)) (faults (first_value (found_of matches.now))) (fault_words fault)) }
+        ensures err { IfErr result (λ fault. IsFirstMisuse (first_value (found_of matches.now)) (faults (first_value (found_of matches.now))) (fault_words fault)) }
     {
         match matches.get_str("from") {
             None => one_in(matches),

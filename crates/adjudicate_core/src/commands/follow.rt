@@ -4,8 +4,8 @@ ghost use Rattle.std.specs.Prelude.{◌≡◌, IfErr, IfOk, Ok, OnErr};
 ghost use Rattle.board_core.specs.Position.{IsPosition};
 ghost use Rattle.clap.specs.Words.{first_value, found_of};
 ghost use Rattle.fen_text.specs.Fen.{SpellsPosition};
-ghost use Rattle.adjudicate_core.specs.Commands.Follow.{HasValues, Puts, PutsGame, faults, named};
-ghost use Rattle.adjudicate_core.specs.Misuses.{IsFirst, fault_words};
+ghost use Rattle.adjudicate_core.specs.Commands.Follow.{HasValues, Puts, PutsFollowed, faults, named};
+ghost use Rattle.adjudicate_core.specs.Misuses.{IsFirstMisuse, fault_words};
 ghost use Rattle.task_files.specs.Sources.{named_by};
 ghost use Rattle.line_teller.specs.ToldLines.{HasFailed};
 
@@ -68,7 +68,7 @@ fn put_game<I: Input, W: Output>(
     input: &I,
     out: &mut W,
 ) -> Result<u8, WriteFault>
-    ensures told { PutsGame (I.facts input.now) delay start.now set.entry.tables (W.contents out.old) (W.contents out.new) result }
+    ensures told { PutsFollowed (I.facts input.now) delay start.now set.entry.tables (W.contents out.old) (W.contents out.new) result }
     ensures cause { OnErr result (HasFailed W.facts) }
 {
     let Ok(mut lines) = input.lines(alloc) else {
@@ -81,7 +81,7 @@ impl<'a> Follow<'a> {
     /// The task with these values, or the first thing that is wrong with them.
     pub(crate) fn of(matches: &ArgMatches<'a>) -> Result<Follow<'a>, ValueFault<'a>>
         ensures ok { IfOk result (HasValues (first_value (found_of matches.now))) }
-        ensures err { IfErr result (λ fault. IsFirst (first_value (found_of matches.now)) faults (fault_words fault)) }
+        ensures err { IfErr result (λ fault. IsFirstMisuse (first_value (found_of matches.now)) faults (fault_words fault)) }
     {
         Ok(Follow {
             tables: matches.get_str("tables"),

@@ -6,8 +6,8 @@ ghost use Rattle.move_msg.specs.GameTexts.{TellsMoves};
 ghost use Rattle.adjudicate_core.specs.Inside.Asked.{reply_of};
 ghost use Rattle.adjudicate_core.specs.Looks.{gathered};
 ghost use Rattle.adjudicate_core.specs.Reply.{IsText, status_if};
-ghost use Rattle.adjudicate_core.specs.Commands.Game.{HasValues, IsPlayed, IsReply, faults, named, outcome_status};
-ghost use Rattle.adjudicate_core.specs.Misuses.{IsFirst, fault_words};
+ghost use Rattle.adjudicate_core.specs.Commands.Game.{HasValues, IsPlayedReply, IsReply, faults, named, outcome_status};
+ghost use Rattle.adjudicate_core.specs.Misuses.{IsFirstMisuse, fault_words};
 ghost use Rattle.task_files.specs.Sources.{named_by};
 
 use super::{Form, Value};
@@ -68,7 +68,7 @@ fn answer_moves(
     moves: &[Move],
 ) -> Result<Answer, AllocError>
     requires { TellsMoves sources.now.input moves.now }
-    ensures { IfOk result (λ a. IsPlayed sources.now.input (gathered sources.now) delay start.now (reply_of a)) }
+    ensures { IfOk result (λ a. IsPlayedReply sources.now.input (gathered sources.now) delay start.now (reply_of a)) }
 {
     let mut set = match gather(alloc, sources, CacheSize::usual())? {
         Ok(set) => set,
@@ -100,7 +100,7 @@ fn answer_from(
     delay: Delay,
     start: &Position,
 ) -> Result<Answer, AllocError>
-    ensures { IfOk result (λ a. IsPlayed sources.now.input (gathered sources.now) delay start.now (reply_of a)) }
+    ensures { IfOk result (λ a. IsPlayedReply sources.now.input (gathered sources.now) delay start.now (reply_of a)) }
 {
     match read_moves(alloc, sources.input())? {
         Ok(moves) => answer_moves(alloc, sources, delay, start, &moves),
@@ -112,7 +112,7 @@ impl<'a> FollowGame<'a> {
     /// The task with these values, or the first thing that is wrong with them.
     pub(crate) fn of(matches: &ArgMatches<'a>) -> Result<FollowGame<'a>, ValueFault<'a>>
         ensures ok { IfOk result (HasValues (first_value (found_of matches.now))) }
-        ensures err { IfErr result (λ fault. IsFirst (first_value (found_of matches.now)) faults (fault_words fault)) }
+        ensures err { IfErr result (λ fault. IsFirstMisuse (first_value (found_of matches.now)) faults (fault_words fault)) }
     {
         Ok(FollowGame {
             tables: matches.get_str("tables"),

@@ -2,9 +2,9 @@
 
 ghost use Rattle.std.specs.Prelude.{IfOk, IfErr};
 ghost use Rattle.clap.specs.Words.{found_of, first_value};
-ghost use Rattle.adjudicate_core.specs.Inside.HostingParts.{AreEnds, AreTerms};
+ghost use Rattle.adjudicate_core.specs.Inside.HostingParts.{AreHostEnds, AreHostTerms};
 ghost use Rattle.adjudicate_core.specs.Commands.Host.{end_faults, term_faults};
-ghost use Rattle.adjudicate_core.specs.Misuses.{AreWell, IsFirst, fault_words};
+ghost use Rattle.adjudicate_core.specs.Misuses.{AreWell, IsFirstMisuse, fault_words};
 
 use super::{Form, Value};
 use crate::numbers::{CacheSize, is_set};
@@ -120,9 +120,9 @@ struct Terms {
 
 /// The folders and the addresses, of options that have to be there.
 fn ends_in<'a>(matches: &ArgMatches<'a>) -> Result<Ends<'a>, ValueFault<'a>>
-    ensures ok { IfOk result (λ e. AreEnds (first_value (found_of matches.now)) e.games.now e.tables.now e.bind.now e.to.now) }
+    ensures ok { IfOk result (λ e. AreHostEnds (first_value (found_of matches.now)) e.games.now e.tables.now e.bind.now e.to.now) }
     ensures well { IfOk result (λ e. AreWell (first_value (found_of matches.now)) end_faults) }
-    ensures err { IfErr result (λ fault. IsFirst (first_value (found_of matches.now)) end_faults (fault_words fault)) }
+    ensures err { IfErr result (λ fault. IsFirstMisuse (first_value (found_of matches.now)) end_faults (fault_words fault)) }
 {
     Ok(Ends {
         games: option_in(matches, "games")?,
@@ -134,8 +134,8 @@ fn ends_in<'a>(matches: &ArgMatches<'a>) -> Result<Ends<'a>, ValueFault<'a>>
 
 /// The numbers, and which lines are written.
 fn terms_in<'a>(matches: &ArgMatches<'a>) -> Result<Terms, ValueFault<'a>>
-    ensures ok { IfOk result (λ t. AreTerms (first_value (found_of matches.now)) t.me t.at_once.value t.cache t.datagrams t.log) }
-    ensures err { IfErr result (λ fault. IsFirst (first_value (found_of matches.now)) term_faults (fault_words fault)) }
+    ensures ok { IfOk result (λ t. AreHostTerms (first_value (found_of matches.now)) t.me t.at_once.value t.cache t.datagrams t.log) }
+    ensures err { IfErr result (λ fault. IsFirstMisuse (first_value (found_of matches.now)) term_faults (fault_words fault)) }
 {
     let terms = Terms {
         me: me_in(matches)?,
@@ -152,13 +152,13 @@ impl<'a> HostGames<'a> {
     ghost use Rattle.std.specs.Prelude.{◌≡◌, IfOk, IfErr};
     ghost use Rattle.clap.specs.Words.{found_of, first_value};
     ghost use Rattle.task_files.specs.Sources.{named_by};
-    ghost use Rattle.adjudicate_core.specs.Misuses.{IsFirst, fault_words};
+    ghost use Rattle.adjudicate_core.specs.Misuses.{IsFirstMisuse, fault_words};
     ghost use Rattle.adjudicate_core.specs.Commands.Host.{HasValues, faults, named};
 
     /// The task with these values, or the first thing that is wrong with them.
     pub(crate) fn of(matches: &ArgMatches<'a>) -> Result<HostGames<'a>, ValueFault<'a>>
         ensures ok { IfOk result (HasValues (first_value (found_of matches.now))) }
-        ensures err { IfErr result (λ fault. IsFirst (first_value (found_of matches.now)) faults (fault_words fault)) }
+        ensures err { IfErr result (λ fault. IsFirstMisuse (first_value (found_of matches.now)) faults (fault_words fault)) }
     {
         let ends = ends_in(matches)?;
         let terms = terms_in(matches)?;

@@ -6,7 +6,7 @@ ghost use Rattle.adjudicate_core.specs.Commands.Judge.{HasValues, IsJudged, IsRe
 ghost use Rattle.adjudicate_core.specs.Inside.Asked.{reply_of};
 ghost use Rattle.adjudicate_core.specs.Looks.{gathered};
 ghost use Rattle.adjudicate_core.specs.Reply.{ByTables, IsText};
-ghost use Rattle.adjudicate_core.specs.Misuses.{IsFirst, fault_words};
+ghost use Rattle.adjudicate_core.specs.Misuses.{IsFirstMisuse, fault_words};
 ghost use Rattle.task_files.specs.Sources.{named_by};
 
 use super::{Form, Value};
@@ -70,7 +70,7 @@ impl<'a> Judge<'a> {
     /// The task with these values, or the first thing that is wrong with them.
     pub(crate) fn of(matches: &ArgMatches<'a>) -> Result<Judge<'a>, ValueFault<'a>>
         ensures ok { IfOk result (HasValues (first_value (found_of matches.now))) }
-        ensures err { IfErr result (λ fault. IsFirst (first_value (found_of matches.now)) faults (fault_words fault)) }
+        ensures err { IfErr result (λ fault. IsFirstMisuse (first_value (found_of matches.now)) faults (fault_words fault)) }
     {
         Ok(Judge {
             tables: matches.get_str("tables"),

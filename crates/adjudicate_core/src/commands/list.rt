@@ -2,9 +2,9 @@
 
 ghost use Rattle.std.specs.Prelude.{◌≡◌, false, IfErr, IfOk, IsErrOf};
 ghost use Rattle.clap.specs.Words.{first_value, found_of};
-ghost use Rattle.adjudicate_core.specs.Commands.List.{HasValues, IsReply, IsUnread, faults, named};
+ghost use Rattle.adjudicate_core.specs.Commands.List.{HasValues, IsListUnread, IsReply, faults, named};
 ghost use Rattle.adjudicate_core.specs.Inside.Asked.{reply_of};
-ghost use Rattle.adjudicate_core.specs.Misuses.{IsFirst, fault_words};
+ghost use Rattle.adjudicate_core.specs.Misuses.{IsFirstMisuse, fault_words};
 ghost use Rattle.task_files.specs.Sources.{named_by};
 
 use super::{Form, Value};
@@ -44,7 +44,7 @@ impl<'a> List<'a> {
     /// The task with these values, or the first thing that is wrong with them.
     pub(crate) fn of(matches: &ArgMatches<'a>) -> Result<List<'a>, ValueFault<'a>>
         ensures ok { IfOk result (HasValues (first_value (found_of matches.now))) }
-        ensures err { IfErr result (λ fault. IsFirst (first_value (found_of matches.now)) faults (fault_words fault)) }
+        ensures err { IfErr result (λ fault. IsFirstMisuse (first_value (found_of matches.now)) faults (fault_words fault)) }
     {
         Ok(List {
             progress: is_set(matches.get_str("progress")),
@@ -67,7 +67,7 @@ impl<'a> List<'a> {
         errors: &mut E,
     ) -> Result<Answer, ReadFault>
         ensures ok { IfOk result (λ a. IsReply (D.facts disk.now) self.now (reply_of a)) }
-        ensures cause { IsErrOf result ReadFault.Unreadable → IsUnread (D.facts disk.now) self.now }
+        ensures cause { IsErrOf result ReadFault.Unreadable → IsListUnread (D.facts disk.now) self.now }
         ensures quiet { self.now.progress ≡ false → errors.new ≡ errors.old }
     {
         let unnamed = Manifest::Unnamed;

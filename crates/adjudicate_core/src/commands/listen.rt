@@ -2,9 +2,9 @@
 
 ghost use Rattle.std.specs.Prelude.{IfOk, IfErr};
 ghost use Rattle.clap.specs.Words.{found_of, first_value};
-ghost use Rattle.adjudicate_core.specs.Inside.ListeningParts.{AreEnds, AreTerms};
+ghost use Rattle.adjudicate_core.specs.Inside.ListeningParts.{AreListenEnds, AreListenTerms};
 ghost use Rattle.adjudicate_core.specs.Commands.Listen.{end_faults, term_faults};
-ghost use Rattle.adjudicate_core.specs.Misuses.{AreWell, IsFirst, fault_words};
+ghost use Rattle.adjudicate_core.specs.Misuses.{AreWell, IsFirstMisuse, fault_words};
 
 use super::{Form, Value};
 use crate::game_name::GameName;
@@ -118,9 +118,9 @@ struct Terms {
 
 /// The addresses and the kept file, of options that have to be there.
 fn ends_in<'a>(matches: &ArgMatches<'a>) -> Result<Ends<'a>, ValueFault<'a>>
-    ensures ok { IfOk result (λ e. AreEnds (first_value (found_of matches.now)) e.bind.now e.to.now e.kept.now) }
+    ensures ok { IfOk result (λ e. AreListenEnds (first_value (found_of matches.now)) e.bind.now e.to.now e.kept.now) }
     ensures well { IfOk result (λ e. AreWell (first_value (found_of matches.now)) end_faults) }
-    ensures err { IfErr result (λ fault. IsFirst (first_value (found_of matches.now)) end_faults (fault_words fault)) }
+    ensures err { IfErr result (λ fault. IsFirstMisuse (first_value (found_of matches.now)) end_faults (fault_words fault)) }
 {
     Ok(Ends {
         bind: option_in(matches, "bind")?,
@@ -131,8 +131,8 @@ fn ends_in<'a>(matches: &ArgMatches<'a>) -> Result<Ends<'a>, ValueFault<'a>>
 
 /// The numbers, whether it asks first, and whether it tells its address.
 fn terms_in<'a>(matches: &ArgMatches<'a>) -> Result<Terms, ValueFault<'a>>
-    ensures ok { IfOk result (λ t. AreTerms (first_value (found_of matches.now)) t.me t.datagrams t.delay t.fetch t.ready) }
-    ensures err { IfErr result (λ fault. IsFirst (first_value (found_of matches.now)) term_faults (fault_words fault)) }
+    ensures ok { IfOk result (λ t. AreListenTerms (first_value (found_of matches.now)) t.me t.datagrams t.delay t.fetch t.ready) }
+    ensures err { IfErr result (λ fault. IsFirstMisuse (first_value (found_of matches.now)) term_faults (fault_words fault)) }
 {
     let terms = Terms {
         me: me_in(matches)?,
@@ -149,13 +149,13 @@ impl<'a> Listen<'a> {
     ghost use Rattle.std.specs.Prelude.{◌≡◌, IfOk, IfErr};
     ghost use Rattle.clap.specs.Words.{found_of, first_value};
     ghost use Rattle.task_files.specs.Sources.{named_by};
-    ghost use Rattle.adjudicate_core.specs.Misuses.{IsFirst, fault_words};
+    ghost use Rattle.adjudicate_core.specs.Misuses.{IsFirstMisuse, fault_words};
     ghost use Rattle.adjudicate_core.specs.Commands.Listen.{IsListening, faults, named};
 
     /// The task with these values, or the first thing that is wrong with them.
     pub(crate) fn of(matches: &ArgMatches<'a>) -> Result<Listen<'a>, ValueFault<'a>>
         ensures ok { IfOk result (IsListening (first_value (found_of matches.now))) }
-        ensures err { IfErr result (λ fault. IsFirst (first_value (found_of matches.now)) faults (fault_words fault)) }
+        ensures err { IfErr result (λ fault. IsFirstMisuse (first_value (found_of matches.now)) faults (fault_words fault)) }
     {
         let game = match game_words_in(matches) {
             Ok(game) => game,

@@ -2,11 +2,11 @@
 
 ghost use Rattle.std.specs.Prelude.{◌≡◌, IfOk, OnErr, IfErr};
 ghost use Rattle.clap.specs.Words.{first_value, found_of};
-ghost use Rattle.adjudicate_core.specs.Commands.Probe.{HasValues, IsReply, IsTold, faults, named, told};
+ghost use Rattle.adjudicate_core.specs.Commands.Probe.{HasValues, IsProbeReply, IsReply, faults, named, probed_reply};
 ghost use Rattle.adjudicate_core.specs.Inside.Asked.{reply_of};
 ghost use Rattle.adjudicate_core.specs.Looks.{gathered};
 ghost use Rattle.adjudicate_core.specs.Reply.{ByTables, IsText};
-ghost use Rattle.adjudicate_core.specs.Misuses.{IsFirst, fault_words};
+ghost use Rattle.adjudicate_core.specs.Misuses.{IsFirstMisuse, fault_words};
 ghost use Rattle.task_files.specs.Sources.{named_by};
 
 use super::{Form, Value};
@@ -53,7 +53,7 @@ pub(crate) const VALUES: [Value; 3] = [
 
 /// Both probes, a line each.
 fn tell(alloc: Global, probed: Probed) -> Result<Answer, AllocError>
-    ensures { IfOk result (λ a. reply_of a ≡ told probed) }
+    ensures { IfOk result (λ a. reply_of a ≡ probed_reply probed) }
 {
     let lines = [Line::Wdl(Column(probed.wdl)), Line::Dtz(Column(probed.dtz))];
     let lines = Vec::from_slice(alloc, &lines)?;
@@ -62,7 +62,7 @@ fn tell(alloc: Global, probed: Probed) -> Result<Answer, AllocError>
 
 /// The values of a position in the tables, a line each.
 fn told_by(alloc: Global, set: &mut Set<'_>, position: &Position) -> Result<Answer, AllocError>
-    ensures { IfOk result (λ a. IsTold set.old.tables position.now (reply_of a)) }
+    ensures { IfOk result (λ a. IsProbeReply set.old.tables position.now (reply_of a)) }
 {
     match set.probe(alloc, position) {
         Ok(probed) => tell(alloc, probed),
@@ -73,7 +73,7 @@ fn told_by(alloc: Global, set: &mut Set<'_>, position: &Position) -> Result<Answ
 /// The values of a position in the tables of files, or the refusal of these: of a malformed manifest, then of the first
 /// file at fault.
 fn told_of(alloc: Global, sources: &Sources, position: &Position) -> Result<Answer, AllocError>
-    ensures { IfOk result (λ a. ByTables (gathered sources.now) IsTold position.now (reply_of a)) }
+    ensures { IfOk result (λ a. ByTables (gathered sources.now) IsProbeReply position.now (reply_of a)) }
 {
     match gather(alloc, sources, CacheSize::usual()) {
         Ok(Ok(mut set)) => told_by(alloc, &mut set, position),
@@ -86,7 +86,7 @@ impl<'a> Probe<'a> {
     /// The task with these values, or the first thing that is wrong with them.
     pub(crate) fn of(matches: &ArgMatches<'a>) -> Result<Probe<'a>, ValueFault<'a>>
         ensures ok { IfOk result (HasValues (first_value (found_of matches.now))) }
-        ensures err { IfErr result (λ fault. IsFirst (first_value (found_of matches.now)) faults (fault_words fault)) }
+        ensures err { IfErr result (λ fault. IsFirstMisuse (first_value (found_of matches.now)) faults (fault_words fault)) }
     {
         Ok(Probe {
             tables: option_in(matches, "tables")?,

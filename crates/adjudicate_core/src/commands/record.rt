@@ -5,8 +5,8 @@ ghost use Rattle.fen_text.specs.Coordinates.{move_text};
 ghost use Rattle.std.specs.Io.KnownBytes.{Appends};
 ghost use Rattle.clap.specs.Words.{first_value, found_of};
 ghost use Rattle.move_msg.specs.TextLines.{ended, text_of};
-ghost use Rattle.adjudicate_core.specs.Commands.Record.{HasValues, IsReply, TakesMemory, delay_words, faults, moves_words, named, record_lines, ruling_words, spaced, stamp_words};
-ghost use Rattle.adjudicate_core.specs.Misuses.{IsFirst, fault_words};
+ghost use Rattle.adjudicate_core.specs.Commands.Record.{HasValues, IsReply, RecordTakesMemory, delay_words, faults, moves_words, named, record_lines, recorded_verdict_words, spaced, stamp_words};
+ghost use Rattle.adjudicate_core.specs.Misuses.{IsFirstMisuse, fault_words};
 ghost use Rattle.adjudicate_core.specs.Inside.Asked.{reply_of};
 ghost use Rattle.task_files.specs.Sources.{named_by};
 
@@ -101,7 +101,7 @@ fn put_moves<W: Write>(out: &mut W, moves: &[Move]) -> Result<(), WriteFault>
 
 /// Writes a verdict, or that there is none.
 fn put_verdict<W: Write>(out: &mut W, verdict: Option<Verdict>) -> Result<(), WriteFault>
-    ensures { OnOk result (Appends (W.contents out.old) (W.contents out.new) (ended (ruling_words verdict))) }
+    ensures { OnOk result (Appends (W.contents out.old) (W.contents out.new) (ended (recorded_verdict_words verdict))) }
 {
     let verdict = verdict_or_none(verdict);
     match writeln!(out, "verdict {verdict}") {
@@ -136,7 +136,7 @@ impl<'a> ShowRecord<'a> {
     /// The task with these values, or the first thing that is wrong with them.
     pub(crate) fn of(matches: &ArgMatches<'a>) -> Result<ShowRecord<'a>, ValueFault<'a>>
         ensures ok { IfOk result (HasValues (first_value (found_of matches.now))) }
-        ensures err { IfErr result (λ fault. IsFirst (first_value (found_of matches.now)) faults (fault_words fault)) }
+        ensures err { IfErr result (λ fault. IsFirstMisuse (first_value (found_of matches.now)) faults (fault_words fault)) }
     {
         Ok(ShowRecord {
             file: word_in(matches, "FILE")?,
@@ -159,7 +159,7 @@ impl<'a> ShowRecord<'a> {
     /// The answer: a line for each part of the record in the kept file, or why it is none.
     pub(crate) fn answer(&self, alloc: Global, sources: &Sources) -> Result<Answer, AllocError>
         ensures ok { IfOk result (λ a. IsReply sources.now.kept (reply_of a)) }
-        ensures memory { OnErr result (TakesMemory sources.now.kept) }
+        ensures memory { OnErr result (RecordTakesMemory sources.now.kept) }
     {
         match Record::decode(alloc, sources.kept()) {
             Ok(record) => match text_of(alloc, &record) {

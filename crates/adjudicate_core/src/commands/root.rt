@@ -3,12 +3,12 @@
 ghost use Rattle.std.specs.Prelude.{◌≡◌, ◌==◌, IfOk, OnErr, IfErr};
 ghost use Rattle.system_io.specs.Outputs.{WritesFront};
 ghost use Rattle.clap.specs.Words.{first_value, found_of};
-ghost use Rattle.adjudicate_core.specs.Commands.Root.{HasValues, IsTold, IsToldIn, Puts, TellsLineIn, faults, named, told};
+ghost use Rattle.adjudicate_core.specs.Commands.Root.{HasValues, IsRootReply, IsToldIn, Puts, TellsLineIn, faults, named, root_reply};
 ghost use Rattle.adjudicate_core.specs.Inside.Asked.{reply_of};
 ghost use Rattle.adjudicate_core.specs.JsonAnswers.{IsForTextIn, IsJsonTold, refused_in};
 ghost use Rattle.adjudicate_core.specs.LineAnswers.{PutsLinesOrNone};
 ghost use Rattle.adjudicate_core.specs.Looks.{gathered};
-ghost use Rattle.adjudicate_core.specs.Misuses.{IsFirst, fault_words};
+ghost use Rattle.adjudicate_core.specs.Misuses.{IsFirstMisuse, fault_words};
 ghost use Rattle.adjudicate_core.specs.Reply.{ByTables, IsForText, IsText};
 ghost use Rattle.adjudicate_core.specs.TableAnswers.{PutsByTables};
 ghost use Rattle.judge_core.specs.Ask.{ask_of};
@@ -79,7 +79,7 @@ pub(crate) const VALUES: [Value; 5] = [
 
 /// A line for each move, and then the position's own.
 fn lines_of(alloc: Global, moves: &[RootMove], columns: Columns) -> Result<Answer, AllocError>
-    ensures { IfOk result (λ a. reply_of a ≡ told moves.now columns.probed (columns_words columns.probed.wdl columns.probed.dtz columns.verdict)) }
+    ensures { IfOk result (λ a. reply_of a ≡ root_reply moves.now columns.probed (columns_words columns.probed.wdl columns.probed.dtz columns.verdict)) }
 {
     let mut lines = Vec::new(alloc);
     let mut done = columns.probed.has_both();
@@ -99,7 +99,7 @@ fn told_by(
     set: &mut Set<'_>,
     position: &Position,
 ) -> Result<Answer, AllocError>
-    ensures told { IfOk result (λ a. IsTold ask set.old.tables position.now (reply_of a)) }
+    ensures told { IfOk result (λ a. IsRootReply ask set.old.tables position.now (reply_of a)) }
     ensures unchanged { set.new.tables ≡ set.old.tables }
 {
     let columns = ask.answers(alloc, set, position)?;
@@ -117,7 +117,7 @@ fn answer_line(
     set: &mut Set<'_>,
     text: &[u8],
 ) -> Result<Answer, AllocError>
-    ensures told { IfOk result (λ a. IsForText text.now (IsTold ask set.old.tables) (reply_of a)) }
+    ensures told { IfOk result (λ a. IsForText text.now (IsRootReply ask set.old.tables) (reply_of a)) }
     ensures memory { OnErr result (IsText text.now) }
     ensures unchanged { set.new.tables ≡ set.old.tables }
 {
@@ -255,7 +255,7 @@ impl<'a> Root<'a> {
     /// The task with these values, or the first thing that is wrong with them.
     pub(crate) fn of(matches: &ArgMatches<'a>) -> Result<Root<'a>, ValueFault<'a>>
         ensures ok { IfOk result (HasValues (first_value (found_of matches.now))) }
-        ensures err { IfErr result (λ fault. IsFirst (first_value (found_of matches.now)) faults (fault_words fault)) }
+        ensures err { IfErr result (λ fault. IsFirstMisuse (first_value (found_of matches.now)) faults (fault_words fault)) }
     {
         Ok(Root {
             tables: option_in(matches, "tables")?,

@@ -3,20 +3,20 @@
 ghost use Rattle.std.specs.Prelude.{◌≡◌, ◌<◌, ℕ, Option, length, map, Err, IfOk, IfErr};
 ghost use Rattle.clap.specs.Words.{first_value, found_of};
 ghost use Rattle.move_msg.specs.declared.stamp.Stamp.{Stamp};
-ghost use Rattle.move_msg.specs.Files.{AreFiles, file_of};
+ghost use Rattle.move_msg.specs.Files.{AreFiles, table_file_of};
 ghost use Rattle.arbiter_core.specs.Recording.{Recorded};
 ghost use Rattle.relay_world.specs.declared.fault.WorldFault.TheVariants.{BadTable};
 ghost use Rattle.relay_world.specs.Gathering.{file_as, tables_of};
-ghost use Rattle.relay_world.specs.Runs.{Runs, Tells, TellsSide, told_of, KeptIs};
-ghost use Rattle.relay_world.specs.Texts.{SpellsSchedule, IsFirstBadLine};
+ghost use Rattle.relay_world.specs.Runs.{Runs, TellsWorld, TellsSide, told_side, KeptIs};
+ghost use Rattle.relay_world.specs.Texts.{SpellsSchedule, IsFirstBadScheduleLine};
 ghost use Rattle.relay_world.specs.Worlds.{Judged, Side, World as Worlds};
 ghost use Rattle.move_msg.specs.TextLines.{text_of};
 ghost use Rattle.adjudicate_core.specs.Inside.Asked.{reply_of};
 ghost use Rattle.adjudicate_core.specs.Lines.{refused_line, refusal_words, words_of};
-ghost use Rattle.adjudicate_core.specs.Commands.Run.{HasValues, IsReply, IsRun, faults, named};
-ghost use Rattle.adjudicate_core.specs.Misuses.{IsFirst, fault_words};
+ghost use Rattle.adjudicate_core.specs.Commands.Run.{HasValues, IsReply, IsRunReply, faults, named};
+ghost use Rattle.adjudicate_core.specs.Misuses.{IsFirstMisuse, fault_words};
 ghost use Rattle.task_files.specs.Sources.{named_by};
-ghost use Rattle.adjudicate_core.specs.Schedules.{RefusesTable, counted, game_of, side_words, world_words};
+ghost use Rattle.adjudicate_core.specs.Schedules.{RefusesTable, counted_record, scheduled_game, side_words, world_words};
 
 use super::{Form, Value};
 use crate::answers::Answer;
@@ -65,7 +65,7 @@ pub(crate) const VALUES: [Value; 3] = [
 /// The schedule of a text, or why it is refused.
 fn schedule_of(alloc: Global, text: &[u8]) -> Result<Result<Schedule, Refusal>, AllocError>
     ensures ok { IfOk result (λ found. IfOk found (SpellsSchedule text.now)) }
-    ensures err { IfOk result (λ found. IfErr found (λ refusal. (k : ℕ) × IsFirstBadLine text.now k × (refusal_words refusal ≡ refused_line k))) }
+    ensures err { IfOk result (λ found. IfErr found (λ refusal. (k : ℕ) × IsFirstBadScheduleLine text.now k × (refusal_words refusal ≡ refused_line k))) }
 {
     match read(alloc, text) {
         Ok(schedule) => Ok(Ok(schedule)),
@@ -76,7 +76,7 @@ fn schedule_of(alloc: Global, text: &[u8]) -> Result<Result<Schedule, Refusal>, 
 
 /// The game of a schedule.
 fn game_of(alloc: Global, schedule: &Schedule, delay: Delay) -> Result<Game, AllocError>
-    ensures { IfOk result (λ game. game ≡ game_of schedule.now delay) }
+    ensures { IfOk result (λ game. game ≡ scheduled_game schedule.now delay) }
 {
     match Game::new(
         alloc,
@@ -95,7 +95,7 @@ fn named_bytes<'f>(
     alloc: Global,
     files: &'f [NamedFile],
 ) -> Result<Vec<(&'f [u8], &'f [u8])>, AllocError>
-    ensures { IfOk result (λ named. map (λ f. file_as f.0.now f.1.now) named.items ≡ map file_of files.now) }
+    ensures { IfOk result (λ named. map (λ f. file_as f.0.now f.1.now) named.items ≡ map table_file_of files.now) }
 {
     let mut named = Vec::new(alloc);
     for file in files {
@@ -107,8 +107,8 @@ fn named_bytes<'f>(
 /// Why the first file that is no table is refused.
 fn refused_table(files: &[NamedFile], place: usize, fault: TableFault) -> Refusal
     requires within { place < length files.now }
-    requires refused { tables_of (map file_of files.now) ≡ Err (BadTable place fault) }
-    ensures { RefusesTable (map file_of files.now) (refusal_words result) }
+    requires refused { tables_of (map table_file_of files.now) ≡ Err (BadTable place fault) }
+    ensures { RefusesTable (map table_file_of files.now) (refusal_words result) }
 {
     Refusal::File(files[place].name, FileFault::Bad(fault))
 }
@@ -121,9 +121,9 @@ fn world_of(
     cache: CacheSize,
     events: &[Event],
 ) -> Result<Result<World, Refusal>, AllocError>
-    requires { AreFiles (map file_of files.now) }
-    ensures ok { IfOk result (λ ran. IfOk ran (Runs game.now (map file_of files.now) events.now)) }
-    ensures err { IfOk result (λ ran. IfErr ran (λ refusal. RefusesTable (map file_of files.now) (refusal_words refusal))) }
+    requires { AreFiles (map table_file_of files.now) }
+    ensures ok { IfOk result (λ ran. IfOk ran (Runs game.now (map table_file_of files.now) events.now)) }
+    ensures err { IfOk result (λ ran. IfErr ran (λ refusal. RefusesTable (map table_file_of files.now) (refusal_words refusal))) }
 {
     let named = named_bytes(alloc, files)?;
     reads_what_is_laid_out();
@@ -137,7 +137,7 @@ fn world_of(
 
 /// How many moves an arbiter keeps, and the verdict; none where nothing is kept.
 fn kept_count_of(world: &World, who: Who) -> Option<KeptCount>
-    ensures { (stamp : Stamp) (delay : ℕ) (kept : Option Recorded) → KeptIs stamp delay (told_of world.now who).bytes kept → result ≡ counted kept }
+    ensures { (stamp : Stamp) (delay : ℕ) (kept : Option Recorded) → KeptIs stamp delay (told_side world.now who).bytes kept → result ≡ counted_record kept }
 {
     match world.kept(who) {
         None => None,
@@ -150,14 +150,14 @@ fn kept_count_of(world: &World, who: Who) -> Option<KeptCount>
 
 /// The line for an arbiter.
 fn line_of(world: &World, who: Who) -> Line
-    ensures { (stamp : Stamp) (delay : ℕ) (side : Side) → TellsSide stamp delay (told_of world.now who) side → words_of result ≡ side_words who side }
+    ensures { (stamp : Stamp) (delay : ℕ) (side : Side) → TellsSide stamp delay (told_side world.now who) side → words_of result ≡ side_words who side }
 {
     Line::Arbiter(who, world.state(who), kept_count_of(world, who))
 }
 
 /// The lines for a world.
 fn lines_of(alloc: Global, world: &World) -> Result<Vec<Line>, AllocError>
-    ensures { IfOk result (λ lines. (game : Judged) (last : Worlds) → Tells game world.now last → map words_of lines.items ≡ world_words last) }
+    ensures { IfOk result (λ lines. (game : Judged) (last : Worlds) → TellsWorld game world.now last → map words_of lines.items ≡ world_words last) }
 {
     let lines = [
         line_of(world, Who::A),
@@ -169,7 +169,7 @@ fn lines_of(alloc: Global, world: &World) -> Result<Vec<Line>, AllocError>
 
 /// The lines for a world, as an answer.
 fn answer_world(alloc: Global, world: &World) -> Result<Answer, AllocError>
-    ensures { IfOk result (λ a. (game : Judged) (last : Worlds) → Tells game world.now last → reply_of a ≡ record { text = text_of (world_words last); status = 0 }) }
+    ensures { IfOk result (λ a. (game : Judged) (last : Worlds) → TellsWorld game world.now last → reply_of a ≡ record { text = text_of (world_words last); status = 0 }) }
 {
     let lines = lines_of(alloc, world)?;
     Ok(Answer::Lines(lines, true))
@@ -184,7 +184,7 @@ fn answer_events(
     game: &Game,
 ) -> Result<Answer, AllocError>
     requires { SpellsSchedule sources.now.input schedule.now }
-    ensures { IfOk result (λ a. (delay : ℕ) → game.now ≡ game_of schedule.now delay → IsRun sources.now.input sources.now.files delay (reply_of a)) }
+    ensures { IfOk result (λ a. (delay : ℕ) → game.now ≡ scheduled_game schedule.now delay → IsRunReply sources.now.input sources.now.files delay (reply_of a)) }
 {
     match world_of(alloc, game, sources.files(), cache, &schedule.events) {
         Ok(Ok(world)) => answer_world(alloc, &world),
@@ -202,7 +202,7 @@ fn answer_schedule(
     schedule: &Schedule,
 ) -> Result<Answer, AllocError>
     requires { SpellsSchedule sources.now.input schedule.now }
-    ensures { IfOk result (λ a. IsRun sources.now.input sources.now.files delay (reply_of a)) }
+    ensures { IfOk result (λ a. IsRunReply sources.now.input sources.now.files delay (reply_of a)) }
 {
     match game_of(alloc, schedule, delay) {
         Ok(game) => answer_events(alloc, sources, cache, schedule, &game),
@@ -214,7 +214,7 @@ impl<'a> RunSchedule<'a> {
     /// The task with these values, or the first thing that is wrong with them.
     pub(crate) fn of(matches: &ArgMatches<'a>) -> Result<RunSchedule<'a>, ValueFault<'a>>
         ensures ok { IfOk result (HasValues (first_value (found_of matches.now))) }
-        ensures err { IfErr result (λ fault. IsFirst (first_value (found_of matches.now)) faults (fault_words fault)) }
+        ensures err { IfErr result (λ fault. IsFirstMisuse (first_value (found_of matches.now)) faults (fault_words fault)) }
     {
         Ok(RunSchedule {
             tables: matches.get_str("tables"),

@@ -2,9 +2,9 @@
 
 ghost use Rattle.std.specs.Prelude.{◌≡◌, Some, None, IfOk, IfErr, IsSome, OnOk, codes};
 ghost use Rattle.clap.specs.Words.{found_of, first_value};
-ghost use Rattle.adjudicate_core.specs.Inside.SendingParts.{AreTerms};
-ghost use Rattle.adjudicate_core.specs.Commands.Send.{HasGame, IsInFile, IsToldGame, bind_or_any, file_faults, sent_faults, term_faults};
-ghost use Rattle.adjudicate_core.specs.Misuses.{AreWell, Beside, IsFirst, IsTold, fault_words};
+ghost use Rattle.adjudicate_core.specs.Inside.SendingParts.{AreSendTerms};
+ghost use Rattle.adjudicate_core.specs.Commands.Send.{HasSentGame, IsGameInFile, IsToldGame, bind_or_any, file_faults, sent_faults, term_faults};
+ghost use Rattle.adjudicate_core.specs.Misuses.{AreWell, Beside, IsFirstMisuse, IsToldMisuse, fault_words};
 
 use super::{Form, Value};
 use crate::game_name::GameName;
@@ -126,7 +126,7 @@ struct Terms {
 fn alone<'a>(matches: &ArgMatches<'a>, name: &'static str) -> Result<(), ValueFault<'a>>
     requires { IsSome (first_value (found_of matches.now) (codes "game")) }
     ensures ok { OnOk result (first_value (found_of matches.now) name.now ≡ None) }
-    ensures err { IfErr result (λ fault. IsTold (first_value (found_of matches.now)) (Beside name.now) (fault_words fault)) }
+    ensures err { IfErr result (λ fault. IsToldMisuse (first_value (found_of matches.now)) (Beside name.now) (fault_words fault)) }
 {
     match matches.get_str(name) {
         Some(_) => Err(ValueFault::Beside(name)),
@@ -137,9 +137,9 @@ fn alone<'a>(matches: &ArgMatches<'a>, name: &'static str) -> Result<(), ValueFa
 /// The file of a game whose path is the value of `--game`.
 fn file_in<'a>(matches: &ArgMatches<'a>, path: &'a str) -> Result<GameFile<'a>, ValueFault<'a>>
     requires { first_value (found_of matches.now) (codes "game") ≡ Some path.now }
-    ensures ok { IfOk result (IsInFile (first_value (found_of matches.now))) }
+    ensures ok { IfOk result (IsGameInFile (first_value (found_of matches.now))) }
     ensures well { OnOk result (AreWell (first_value (found_of matches.now)) file_faults) }
-    ensures err { IfErr result (λ fault. IsFirst (first_value (found_of matches.now)) file_faults (fault_words fault)) }
+    ensures err { IfErr result (λ fault. IsFirstMisuse (first_value (found_of matches.now)) file_faults (fault_words fault)) }
 {
     let Some(stamp) = stamp_in(path) else {
         return Err(ValueFault::Unfit(Wanted::GameFile, path));
@@ -157,7 +157,7 @@ fn told_in<'a>(matches: &ArgMatches<'a>) -> Result<ToldGame<'a>, ValueFault<'a>>
     requires { first_value (found_of matches.now) (codes "game") ≡ None }
     ensures ok { IfOk result (IsToldGame (first_value (found_of matches.now))) }
     ensures well { OnOk result (AreWell (first_value (found_of matches.now)) sent_faults) }
-    ensures err { IfErr result (λ fault. IsFirst (first_value (found_of matches.now)) sent_faults (fault_words fault)) }
+    ensures err { IfErr result (λ fault. IsFirstMisuse (first_value (found_of matches.now)) sent_faults (fault_words fault)) }
 {
     match game_words_in(matches) {
         Ok(words) => Ok(ToldGame {
@@ -171,9 +171,9 @@ fn told_in<'a>(matches: &ArgMatches<'a>) -> Result<ToldGame<'a>, ValueFault<'a>>
 
 /// The game, of one of the two ways to tell it.
 fn game_in<'a>(matches: &ArgMatches<'a>) -> Result<SentGame<'a>, ValueFault<'a>>
-    ensures ok { IfOk result (HasGame (first_value (found_of matches.now))) }
+    ensures ok { IfOk result (HasSentGame (first_value (found_of matches.now))) }
     ensures well { OnOk result (AreWell (first_value (found_of matches.now)) sent_faults) }
-    ensures err { IfErr result (λ fault. IsFirst (first_value (found_of matches.now)) sent_faults (fault_words fault)) }
+    ensures err { IfErr result (λ fault. IsFirstMisuse (first_value (found_of matches.now)) sent_faults (fault_words fault)) }
 {
     match matches.get_str("game") {
         Some(path) => match file_in(matches, path) {
@@ -199,8 +199,8 @@ fn bind_in<'a>(matches: &ArgMatches<'a>) -> &'a str
 
 /// The numbers.
 fn terms_in<'a>(matches: &ArgMatches<'a>) -> Result<Terms, ValueFault<'a>>
-    ensures ok { IfOk result (λ t. AreTerms (first_value (found_of matches.now)) t.delay t.wait t.tries) }
-    ensures err { IfErr result (λ fault. IsFirst (first_value (found_of matches.now)) term_faults (fault_words fault)) }
+    ensures ok { IfOk result (λ t. AreSendTerms (first_value (found_of matches.now)) t.delay t.wait t.tries) }
+    ensures err { IfErr result (λ fault. IsFirstMisuse (first_value (found_of matches.now)) term_faults (fault_words fault)) }
 {
     let terms = Terms {
         delay: delay_in(matches)?,
@@ -215,13 +215,13 @@ impl<'a> Send<'a> {
     ghost use Rattle.std.specs.Prelude.{◌≡◌, IfOk, IfErr};
     ghost use Rattle.clap.specs.Words.{found_of, first_value};
     ghost use Rattle.task_files.specs.Sources.{named_by};
-    ghost use Rattle.adjudicate_core.specs.Misuses.{IsFirst, fault_words};
+    ghost use Rattle.adjudicate_core.specs.Misuses.{IsFirstMisuse, fault_words};
     ghost use Rattle.adjudicate_core.specs.Commands.Send.{HasValues, faults, named};
 
     /// The task with these values, or the first thing that is wrong with them.
     pub(crate) fn of(matches: &ArgMatches<'a>) -> Result<Send<'a>, ValueFault<'a>>
         ensures ok { IfOk result (HasValues (first_value (found_of matches.now))) }
-        ensures err { IfErr result (λ fault. IsFirst (first_value (found_of matches.now)) faults (fault_words fault)) }
+        ensures err { IfErr result (λ fault. IsFirstMisuse (first_value (found_of matches.now)) faults (fault_words fault)) }
     {
         let game = game_in(matches)?;
         let to = to_in(matches)?;

@@ -2,7 +2,7 @@
 
 ghost use Rattle.std.specs.Prelude.{◌≡◌, OnErr};
 ghost use Rattle.move_msg.specs.Streams.{nothing_fed};
-ghost use Rattle.adjudicate_core.specs.Commands.Show.{Answers, Shows, named};
+ghost use Rattle.adjudicate_core.specs.Commands.Show.{Answers, ShowsStream, named};
 ghost use Rattle.adjudicate_core.specs.Inside.Fronts.{IsFront};
 ghost use Rattle.task_files.specs.Sources.{named_by};
 ghost use Rattle.line_teller.specs.ToldLines.{HasFailed};
@@ -46,7 +46,7 @@ fn read_front<'a>(feeder: &mut Feeder, stream: &'a [u8]) -> Front<'a>
 /// Writes a line for each message of a stream, and a refusal where it doesn't end after one. Returns the status, 0 done
 /// or 1 refused.
 fn show_messages<W: Output>(stream: &[u8], out: &mut W) -> Result<u8, WriteFault>
-    ensures told { Shows stream.now (W.contents out.old) (W.contents out.new) result }
+    ensures told { ShowsStream stream.now (W.contents out.old) (W.contents out.new) result }
     ensures cause { OnErr result (HasFailed W.facts) }
 {
     let mut feeder = Feeder::new();

@@ -1,8 +1,8 @@
 use Rattle.std.proofs.Common.{◌∙◌, ap, subst}
 use Rattle.std.specs.Prelude.{map}
 use Rattle.clap.specs.Words.{App, first_value, found_of, is_simple_and_free}
-use Rattle.adjudicate_core.specs.Rules.{value_in}
-use Rattle.adjudicate_core.specs.Tasks.{IsTaken}
+use Rattle.adjudicate_core.specs.Rules.{argument_value}
+use Rattle.adjudicate_core.specs.Tasks.{TakesWords}
 use Rattle.adjudicate_core.proofs.Clap.{is_simple}
 use Rattle.adjudicate_core.proofs.MisuseLaws.{value_so}
 use Rattle.adjudicate_core.proofs.commands.task_by.Goals as goal
@@ -14,6 +14,6 @@ pub returns-clause-misuse : goal.returns-clause-misuse
 returns-clause-misuse c = λ misuse is.
     let words = map (λ w. w.now) c.args.words.now in
     value_so words c.args.name (first_value (found_of c.in_ok-matches.matches)) c.in-Err.fault misuse c.requires
-    (subst (λ (app : App). IsTaken app words) c.in_ok-command.ensures c.in_ok-matches.ensures.taken)
-    (λ id. c.in_ok-matches.ensures.values id ∙ ap (λ (app : App). value_in app words id) c.in_ok-command.ensures)
+    (subst (λ (app : App). TakesWords app words) c.in_ok-command.ensures c.in_ok-matches.ensures.taken)
+    (λ id. c.in_ok-matches.ensures.values id ∙ ap (λ (app : App). argument_value app words id) c.in_ok-command.ensures)
     c.in-Err.ensures is

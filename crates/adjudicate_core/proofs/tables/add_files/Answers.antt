@@ -1,20 +1,20 @@
 use Rattle.std.proofs.Common.{map, sym, ◌∙◌, arith}
 use Rattle.std.proofs.lemmas.List.{at_drop_all}
-use Rattle.move_msg.specs.Files.{file_of}
-use Rattle.adjudicate_core.specs.Looks.{look_at, tables_from}
+use Rattle.move_msg.specs.Files.{table_file_of}
+use Rattle.adjudicate_core.specs.Looks.{look_at, tables_from_looks}
 use Rattle.adjudicate_core.proofs.TableLaws.{goes_on, is_refused, none_left}
 use Rattle.adjudicate_core.proofs.tables.add_files.Goals as goal
 
 pub returns-in-Err-clause-tables : goal.returns-in-Err-clause-tables
 returns-in-Err-clause-tables c =
-    is_refused file_of look_at c.args.files.now c.loop-file.file-index c.file-item.result c.loop-file-test.true c.file-item.is _ _ _ _ c.in_ok-found.ensures (rw c.in-Err.is at c.in_ok-add_found.ensures.tables) c.loop-file.invariant.0
+    is_refused table_file_of look_at c.args.files.now c.loop-file.file-index c.file-item.result c.loop-file-test.true c.file-item.is _ _ _ _ c.in_ok-found.ensures (rw c.in-Err.is at c.in_ok-add_found.ensures.tables) c.loop-file.invariant.0
 
 pub loop-file-preserved : goal.loop-file-preserved
 loop-file-preserved c =
-    (goes_on file_of look_at c.args.files.now c.loop-file.file-index c.file-item.result c.loop-file-test.true c.file-item.is _ _ _ _ c.in_ok-found.ensures (rw c.in-Ok.is at c.in_ok-add_found.ensures.tables) c.loop-file.invariant.0, c.in_ok-add_found.ensures.cache ∙ c.loop-file.invariant.1)
+    (goes_on table_file_of look_at c.args.files.now c.loop-file.file-index c.file-item.result c.loop-file-test.true c.file-item.is _ _ _ _ c.in_ok-found.ensures (rw c.in-Ok.is at c.in_ok-add_found.ensures.tables) c.loop-file.invariant.0, c.in_ok-add_found.ensures.cache ∙ c.loop-file.invariant.1)
 
 pub returns-clause-tables : goal.returns-clause-tables
 returns-clause-tables c =
     sym (none_left c.loop-file.set.tables)
-    ∙ sym (at_drop_all (λ files. tables_from c.loop-file.set.tables (map look_at (map file_of files))) c.args.files.now c.loop-file.file-index (omega arith))
+    ∙ sym (at_drop_all (λ files. tables_from_looks c.loop-file.set.tables (map look_at (map table_file_of files))) c.args.files.now c.loop-file.file-index (omega arith))
     ∙ c.loop-file.invariant.0

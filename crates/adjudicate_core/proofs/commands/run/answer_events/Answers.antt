@@ -3,22 +3,22 @@ use Rattle.std.proofs.lemmas.Result.{IfOk-weaker}
 use Rattle.move_msg.specs.Files.{File}
 use Rattle.relay_world.specs.declared.event.Event.{Event}
 use Rattle.relay_world.specs.declared.schedule.Schedule.{Schedule}
-use Rattle.relay_world.specs.Runs.{GameView, Runs, Tells, WorldView}
+use Rattle.relay_world.specs.Runs.{GameView, Runs, TellsWorld, WorldView}
 use Rattle.relay_world.specs.Texts.{SpellsSchedule}
 use Rattle.relay_world.specs.Worlds.{Judged, World}
 use Rattle.move_msg.specs.TextLines.{text_of}
-use Rattle.adjudicate_core.specs.Commands.Run.{BadTable, IsRun, Ran}
+use Rattle.adjudicate_core.specs.Commands.Run.{BadTable, IsRunReply, Ran}
 use Rattle.adjudicate_core.specs.Reply.{Reply}
-use Rattle.adjudicate_core.specs.Schedules.{game_of, world_words}
+use Rattle.adjudicate_core.specs.Schedules.{scheduled_game, world_words}
 use Rattle.adjudicate_core.proofs.ScheduleLaws.{last_of}
 use Rattle.adjudicate_core.proofs.commands.run.answer_events.Goals as goal
 
 -- what is told of the last world is the reply
-ran : (text : List ℕ) (files read : List File) (delay : ℕ) (schedule : Schedule) (game : GameView) (events : List Event) (told : WorldView) (reply : Reply) → SpellsSchedule text schedule → game ≡ game_of schedule delay → read ≡ files → events ≡ schedule.events.items → Runs game read events told → ((judged : Judged) (last : World) → Tells judged told last → reply ≡ record { text = text_of (world_words last); status = 0 }) → IsRun text files delay reply
+ran : (text : List ℕ) (files read : List File) (delay : ℕ) (schedule : Schedule) (game : GameView) (events : List Event) (told : WorldView) (reply : Reply) → SpellsSchedule text schedule → game ≡ scheduled_game schedule delay → read ≡ files → events ≡ schedule.events.items → Runs game read events told → ((judged : Judged) (last : World) → TellsWorld judged told last → reply ≡ record { text = text_of (world_words last); status = 0 }) → IsRunReply text files delay reply
 ran text files read delay schedule game events told reply spells is_game are_files are_events h tells =
-    let by_game : Runs (game_of schedule delay) read events told = subst (λ g. Runs g read events told) is_game h in
-    let by_files : Runs (game_of schedule delay) files events told = subst (λ fs. Runs (game_of schedule delay) fs events told) are_files by_game in
-    let runs : Runs (game_of schedule delay) files schedule.events.items told = subst (λ es. Runs (game_of schedule delay) files es told) are_events by_files in
+    let by_game : Runs (scheduled_game schedule delay) read events told = subst (λ g. Runs g read events told) is_game h in
+    let by_files : Runs (scheduled_game schedule delay) files events told = subst (λ fs. Runs (scheduled_game schedule delay) fs events told) are_files by_game in
+    let runs : Runs (scheduled_game schedule delay) files schedule.events.items told = subst (λ es. Runs (scheduled_game schedule delay) files es told) are_events by_files in
     let last = last_of runs.worlds (length schedule.events.items) runs.are.many in
     Ran schedule spells told runs last.0 last.1 (tells _ last.0 (runs.last last.0 last.1))
 

@@ -1,7 +1,7 @@
 use Rattle.std.proofs.Common.{ap, get_or, refl, ◌∙◌}
 use Rattle.std.specs.Option.{option_map}
 use Rattle.std.proofs.lemmas.Option.{slice_get-map, slice_get-get_or}
-use Rattle.move_msg.specs.Files.{file_of}
+use Rattle.move_msg.specs.Files.{table_file_of}
 use Rattle.adjudicate_core.proofs.commands.run.refused_table.Goals as goal
 
 pub returns : goal.returns
@@ -11,8 +11,8 @@ returns c =
     record {
       place = c.args.place;
       fault = c.args.fault;
-      file = file_of (get_or files c.args.place file);
+      file = table_file_of (get_or files c.args.place file);
       first = c.requires.refused;
-      at = slice_get-map file_of files c.args.place ∙ ap (option_map file_of) (slice_get-get_or files c.args.place file c.requires.within);
+      at = slice_get-map table_file_of files c.args.place ∙ ap (option_map table_file_of) (slice_get-get_or files c.args.place file c.requires.within);
       told = refl;
     }

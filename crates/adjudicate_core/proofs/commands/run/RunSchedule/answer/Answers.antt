@@ -1,14 +1,14 @@
 use Rattle.std.proofs.Common.{◌≡◌, ℕ, List, ap, subst}
 use Rattle.move_msg.specs.Files.{File}
-use Rattle.relay_world.specs.Texts.{IsFirstBadLine}
+use Rattle.relay_world.specs.Texts.{IsFirstBadScheduleLine}
 use Rattle.adjudicate_core.specs.Lines.{refused_line}
-use Rattle.adjudicate_core.specs.Commands.Run.{BadLine, IsRun}
-use Rattle.adjudicate_core.specs.Reply.{refused}
+use Rattle.adjudicate_core.specs.Commands.Run.{BadLine, IsRunReply}
+use Rattle.adjudicate_core.specs.Reply.{refusal_reply}
 use Rattle.adjudicate_core.proofs.commands.run.RunSchedule.answer.Goals as goal
 
 -- the first line at fault is refused
-refused_first : (text read words : List ℕ) (files : List File) (delay : ℕ) → read ≡ text → (number : ℕ) × IsFirstBadLine read number × (words ≡ refused_line number) → IsRun text files delay (refused words)
-refused_first text read words files delay is h = BadLine h.0 (subst (λ t. IsFirstBadLine t h.0) is h.1) (ap refused h.2)
+refused_first : (text read words : List ℕ) (files : List File) (delay : ℕ) → read ≡ text → (number : ℕ) × IsFirstBadScheduleLine read number × (words ≡ refused_line number) → IsRunReply text files delay (refusal_reply words)
+refused_first text read words files delay is h = BadLine h.0 (subst (λ t. IsFirstBadScheduleLine t h.0) is h.1) (ap refusal_reply h.2)
 
 pub returns-in-Ok-Err : goal.returns-in-Ok-Err
 returns-in-Ok-Err c = refused_first _ _ _ _ _ c.input.ensures (rw c.in-Ok-Err.field-0-is at c.in-Ok-Err.ensures.err)
