@@ -19,11 +19,11 @@ use Rattle.move_msg.specs.Numbers.{most_moves}
 use Rattle.arbiter_core.specs.Keeping.{KeeperFacts}
 use Rattle.arbiter_core.specs.declared.fault.DeliverFault.{DeliverFault}
 use Rattle.arbiter_core.specs.declared.fault.DeliverFault.TheVariants.{Stranger, IllegalMove, Down, OutOfMemory}
-use Rattle.arbiter_core.specs.Recording.{Window, count_of, advance}
+use Rattle.arbiter_core.specs.Recording.{Window, move_count, advance}
 use Rattle.arbiter_core.specs.Answering.{Answer, Refuses, Sends, fetched, sent_by, puts, answer_to, answer_to_move, answer_heard}
 use Rattle.arbiter_core.specs.Setups.{rules_at}
 use Rattle.arbiter_core.specs.Views.{View}
-use Rattle.arbiter_core.specs.Delivers.{Answers, Moment, in_game, answer_at, answer_of, moment, with_window, Told as Outcome}
+use Rattle.arbiter_core.specs.Delivers.{ReturnsAnswer, Moment, in_game, answer_at, answer_of, moment, with_window, Told as Outcome}
 use Rattle.arbiter_core.proofs.Cases.{case_turn}
 
 -- ---- whose message it is
@@ -62,29 +62,29 @@ pub hears_fault : (old : View) (fault : DeliverFault) → old.is_down ≡ false 
 hears_fault old fault up = heard_is old (Err fault) up
 
 -- the answer to the move whose turn it is
-pub turn_is : (v : View) (q : Parts) (number : ℕ) (m : Moves) → number < most_moves → is_some v.kept.verdict ≡ false → number ≡ count_of v.kept → position_after_all v.setup.start (v.kept.moves ++ m ∷ []) ≡ Some q → answer_to_move (rules_at v.setup) v.me v.kept v.window number m ≡ puts v.me v.kept v.window (advance (rules_at v.setup) v.kept.moves m v.window)
+pub turn_is : (v : View) (q : Parts) (number : ℕ) (m : Moves) → number < most_moves → is_some v.kept.verdict ≡ false → number ≡ move_count v.kept → position_after_all v.setup.start (v.kept.moves ++ m ∷ []) ≡ Some q → answer_to_move (rules_at v.setup) v.me v.kept v.window number m ≡ puts v.me v.kept v.window (advance (rules_at v.setup) v.kept.moves m v.window)
 turn_is v q number m short going turn after =
     case_turn (rules_at v.setup) v.me v.kept v.window number m short going turn ∙ cond-false (is_none (position_after_all v.setup.start (v.kept.moves ++ m ∷ []))) (Refuses IllegalMove) (puts v.me v.kept v.window (advance (rules_at v.setup) v.kept.moves m v.window)) (ap is_none after)
 
-pub illegal_is : (v : View) (number : ℕ) (m : Moves) → number < most_moves → is_some v.kept.verdict ≡ false → number ≡ count_of v.kept → position_after_all v.setup.start (v.kept.moves ++ m ∷ []) ≡ None → answer_to_move (rules_at v.setup) v.me v.kept v.window number m ≡ Refuses IllegalMove
+pub illegal_is : (v : View) (number : ℕ) (m : Moves) → number < most_moves → is_some v.kept.verdict ≡ false → number ≡ move_count v.kept → position_after_all v.setup.start (v.kept.moves ++ m ∷ []) ≡ None → answer_to_move (rules_at v.setup) v.me v.kept v.window number m ≡ Refuses IllegalMove
 illegal_is v number m short going turn after =
     case_turn (rules_at v.setup) v.me v.kept v.window number m short going turn ∙ cond-true (is_none (position_after_all v.setup.start (v.kept.moves ++ m ∷ []))) (Refuses IllegalMove) (puts v.me v.kept v.window (advance (rules_at v.setup) v.kept.moves m v.window)) (ap is_none after)
 
 -- ---- what holds of an answer holds of an equal one
 
-pub answers_as : {K : Type 0} (facts : KeeperFacts K) (old after : Moment K) (told : Outcome) (a b : Answer) → a ≡ b → Answers facts old b told after → Answers facts old a told after
-answers_as facts old after told a b e h = subst (λ (x : Answer). Answers facts old x told after) (sym e) h
+pub answers_as : {K : Type 0} (facts : KeeperFacts K) (old after : Moment K) (told : Outcome) (a b : Answer) → a ≡ b → ReturnsAnswer facts old b told after → ReturnsAnswer facts old a told after
+answers_as facts old after told a b e h = subst (λ (x : Answer). ReturnsAnswer facts old x told after) (sym e) h
 
 -- ---- answers without a put
 
 module _ {K : Type 0} (facts : KeeperFacts K) (old : View) (keeper : K) where
-  pub refuses : (a : Answer) (fault : DeliverFault) → a ≡ Refuses fault → Answers facts (moment old keeper) a (Err fault) (moment old keeper)
+  pub refuses : (a : Answer) (fault : DeliverFault) → a ≡ Refuses fault → ReturnsAnswer facts (moment old keeper) a (Err fault) (moment old keeper)
   refuses a fault e = answers_as facts _ _ _ a (Refuses fault) e (record { answered = record { answer = refl; arbiter = refl; keeper = refl }; put = tt })
 
-  pub sends : (a : Answer) (outputs : List Message) (window : Window) (told : List Message) (new : View) → a ≡ Sends outputs window → told ≡ outputs → new ≡ with_window old window → Answers facts (moment old keeper) a (Ok told) (moment new keeper)
+  pub sends : (a : Answer) (outputs : List Message) (window : Window) (told : List Message) (new : View) → a ≡ Sends outputs window → told ≡ outputs → new ≡ with_window old window → ReturnsAnswer facts (moment old keeper) a (Ok told) (moment new keeper)
   sends a outputs window told new e is same = answers_as facts _ _ _ a (Sends outputs window) e (record { answered = inl (record { answer = ap Ok is; arbiter = same; keeper = refl }); put = tt })
 
-  pub wants_memory : (a : Answer) (outputs : List Message) (window : Window) → a ≡ Sends outputs window → 4 < length outputs → Answers facts (moment old keeper) a (Err OutOfMemory) (moment old keeper)
+  pub wants_memory : (a : Answer) (outputs : List Message) (window : Window) → a ≡ Sends outputs window → 4 < length outputs → ReturnsAnswer facts (moment old keeper) a (Err OutOfMemory) (moment old keeper)
   wants_memory a outputs window e many = answers_as facts _ _ _ a (Sends outputs window) e (record { answered = inr (many, record { answer = refl; arbiter = refl; keeper = refl }); put = tt })
 
 module _ (v : View) (message : Message) where

@@ -37,9 +37,9 @@ use Rattle.arbiter_core.specs.Answering.{Identity, nothing_waits}
 use Rattle.arbiter_core.specs.Setups.{SetupView, rules_at}
 use Rattle.move_msg.specs.declared.who.Who.{Who}
 use Rattle.arbiter_core.specs.Views.{View, spelled_as}
-use Rattle.arbiter_core.specs.Inside.Playing.{IsInOrder, IsPlayed, recorded_in}
+use Rattle.arbiter_core.specs.Inside.Playing.{IsArbiterInOrder, IsPlayedRecord, recorded_in}
 use Rattle.arbiter_core.specs.Inside.Starting.{IsNotResumed, IsPutSo, IsPutFirst, recorded_by, told_from}
-use Rattle.arbiter_core.specs.Opens.{IsWhole, IsResumed, IsBadKept, at_end, first_record, running, Told, FirstLands, OpensOver, Opens}
+use Rattle.arbiter_core.specs.Opens.{IsWhole, IsResumed, IsBadKept, at_end, first_record, running, OpenResult, FirstLands, OpensOver, Opens}
 use Rattle.arbiter_core.proofs.Settling.{near_nothing}
 use Rattle.arbiter_core.proofs.Reach.{step_to, step_of, reach_below, unruled_below}
 
@@ -166,14 +166,14 @@ module _ (setup : SetupView) (stamp : Stamp) (bytes : List ℕ) (q : Record) (sp
       subst (IsWhole (rules_at setup)) same h.1
 
   -- a record that is read and can be run from
-  resumed : (p : Played) → IsPlayed setup stamp p → p.record ≡ q → IsWhole (rules_at setup) (recorded_by q) → IsResumed (rules_at setup) stamp bytes (recorded_in p)
+  resumed : (p : Played) → IsPlayedRecord setup stamp p → p.record ≡ q → IsWhole (rules_at setup) (recorded_by q) → IsResumed (rules_at setup) stamp bytes (recorded_in p)
   resumed p played e w = (
     subst (SpellsRecord bytes) (sym e ∙ record_is p.record.stamp stamp p.record.delay setup.delay p.record.verdict p.record.moves played.stamp_is played.delay_is) spelled,
     subst (λ (x : Record). IsWhole (rules_at setup) (recorded_by x)) (sym e) w,
   )
 
   -- what is answered for a record is answered for the bytes that spell it
-  pub read_ok : (result : Result Played OpenFault) → IfOk result (λ p. IsPlayed setup stamp p × (p.record ≡ q) × IsWhole (rules_at setup) (recorded_by q)) → IfOk result (λ p. IsPlayed setup stamp p × IsResumed (rules_at setup) stamp bytes (recorded_in p))
+  pub read_ok : (result : Result Played OpenFault) → IfOk result (λ p. IsPlayedRecord setup stamp p × (p.record ≡ q) × IsWhole (rules_at setup) (recorded_by q)) → IfOk result (λ p. IsPlayedRecord setup stamp p × IsResumed (rules_at setup) stamp bytes (recorded_in p))
   read_ok (Ok p) h = (h.0, resumed p h.0 h.1 h.2)
   read_ok (Err f) h = tt
 
@@ -189,7 +189,7 @@ module _ (setup : SetupView) (stamp : Stamp) (bytes : List ℕ) (q : Record) (sp
   read_err (Err f) h = not_read f h
 
 -- what is recorded before the first move
-pub first_is : (setup : SetupView) (stamp : Stamp) (p : Played) → p.record.stamp ≡ stamp → p.record.moves ≡ [] → IsAt (rules_at setup) [] p.standing → p.record.verdict ≡ verdict_after (rules_at setup) [] → p.record.delay ≡ setup.delay → IsPlayed setup stamp p × (recorded_in p ≡ first_record (rules_at setup))
+pub first_is : (setup : SetupView) (stamp : Stamp) (p : Played) → p.record.stamp ≡ stamp → p.record.moves ≡ [] → IsAt (rules_at setup) [] p.standing → p.record.verdict ≡ verdict_after (rules_at setup) [] → p.record.delay ≡ setup.delay → IsPlayedRecord setup stamp p × (recorded_in p ≡ first_record (rules_at setup))
 first_is setup stamp p same none at ruled delay = (
   record {
     stamp_is = same;
@@ -206,7 +206,7 @@ first_is setup stamp p same none at ruled delay = (
     recorded_is ms ns v w e f = cc
 
 -- what is recorded by a record that is read
-pub played_is : (setup : SetupView) (stamp : Stamp) (p : Played) (o : GameOutcome) (v : Option Verdict) → p.record.stamp ≡ stamp → IsOutcome (rules_at setup) p.record.moves o → at_end o (length p.record.moves) ≡ Some v → p.record.verdict ≡ v → p.record.delay ≡ setup.delay → IsAt (rules_at setup) (take (plies_to p.record.moves o) p.record.moves) p.standing → length p.record.moves ≤ most_moves → IsPlayed setup stamp p
+pub played_is : (setup : SetupView) (stamp : Stamp) (p : Played) (o : GameOutcome) (v : Option Verdict) → p.record.stamp ≡ stamp → IsOutcome (rules_at setup) p.record.moves o → at_end o (length p.record.moves) ≡ Some v → p.record.verdict ≡ v → p.record.delay ≡ setup.delay → IsAt (rules_at setup) (take (plies_to p.record.moves o) p.record.moves) p.standing → length p.record.moves ≤ most_moves → IsPlayedRecord setup stamp p
 played_is setup stamp p o v same h e verdict delay at short =
     let x = ends (rules_at setup) p.record.moves o v h e in
     record {
@@ -219,8 +219,8 @@ played_is setup stamp p o v same h e verdict delay at short =
     }
 
 -- an arbiter that is opened is in order
-pub first_in_order : (setup : SetupView) (stamp : Stamp) (p : Played) → setup.delay ≤ most_delay → IsPlayed setup stamp p → IsInOrder setup p nothing_waits
-first_in_order setup stamp p few h = record { played = subst (λ (s : Stamp). IsPlayed setup s p) (sym h.stamp_is) h; near = near_nothing (length p.record.moves + 1); delay = few }
+pub first_in_order : (setup : SetupView) (stamp : Stamp) (p : Played) → setup.delay ≤ most_delay → IsPlayedRecord setup stamp p → IsArbiterInOrder setup p nothing_waits
+first_in_order setup stamp p few h = record { played = subst (λ (s : Stamp). IsPlayedRecord setup s p) (sym h.stamp_is) h; near = near_nothing (length p.record.moves + 1); delay = few }
 
 -- bytes that are read as none spell no record
 pub no_record : (t : List ℕ) (d : Result Record RecordFault) (fault : RecordFault) → d ≡ Err fault → (fault ≡ NoMemory → ⊥) → ((r : Record) → SpellsRecord t r → (d ≡ Ok r) ⊎ (d ≡ Err NoMemory)) → (r : Record) → SpellsRecord t r → ⊥
@@ -244,7 +244,7 @@ wrote_so stamp delay p kept sent now same same_delay is written there =
     (subst (λ (k : Recorded). WritesRecord sent (spelled_as stamp delay k)) is
     (subst (WritesRecord sent) (record_is p.record.stamp stamp p.record.delay delay p.record.verdict p.record.moves same same_delay) written))
 
-pub put_fails : {K : Type 0} {T : Type 0} (facts : KeeperFacts K) (setup : SetupView) (me : Identity) (before now : K) (sent : List ℕ) (p : Played) (f : KeepFault) → PutLeaves {T = T} (facts.may_be before) (facts.kept before) sent (facts.kept now) (Err f) → (IsErrOf {T = T} (Err f) Failed → Risen (facts.faults before) (facts.faults now)) → IsPlayed setup me.stamp p × (recorded_in p ≡ first_record (rules_at setup)) → SpellsRecord sent p.record → WritesRecord sent p.record → facts.leaves before sent now → IsPutFirst facts setup me before now (Err KeeperFailed)
+pub put_fails : {K : Type 0} {T : Type 0} (facts : KeeperFacts K) (setup : SetupView) (me : Identity) (before now : K) (sent : List ℕ) (p : Played) (f : KeepFault) → PutLeaves {T = T} (facts.may_be before) (facts.kept before) sent (facts.kept now) (Err f) → (IsErrOf {T = T} (Err f) Failed → Risen (facts.faults before) (facts.faults now)) → IsPlayedRecord setup me.stamp p × (recorded_in p ≡ first_record (rules_at setup)) → SpellsRecord sent p.record → WritesRecord sent p.record → facts.leaves before sent now → IsPutFirst facts setup me before now (Err KeeperFailed)
 put_fails {T = T} facts setup me before now sent p f o cause first spelled written once = by_keep o.keep o.stated o.is
   where
     by_keep : (keep : Keep) → facts.may_be before keep → PutIs {T = T} keep (facts.kept before) sent (facts.kept now) (Err f) → IsPutFirst facts setup me before now (Err KeeperFailed)
@@ -259,16 +259,16 @@ risen_from before mid now le (inl lt) = inl (omega arith)
 risen_from before mid now le (inr most) = inr most
 
 module _ {K : Type 0} (facts : KeeperFacts K) (setup : SetupView) (me : Identity) where
-  pub over_bytes : (before now : K) (bytes : List ℕ) (result : Result Played OpenFault) → Some bytes ≡ facts.kept before → facts.kept now ≡ facts.kept before → facts.reads before None now → IfOk result (λ p. IsPlayed setup me.stamp p × IsResumed (rules_at setup) me.stamp bytes (recorded_in p)) → IfErr result (IsBadKept (rules_at setup) me.stamp bytes) → Opens facts setup me before now (told_from setup me result)
+  pub over_bytes : (before now : K) (bytes : List ℕ) (result : Result Played OpenFault) → Some bytes ≡ facts.kept before → facts.kept now ≡ facts.kept before → facts.reads before None now → IfOk result (λ p. IsPlayedRecord setup me.stamp p × IsResumed (rules_at setup) me.stamp bytes (recorded_in p)) → IfErr result (IsBadKept (rules_at setup) me.stamp bytes) → Opens facts setup me before now (told_from setup me result)
   over_bytes before now bytes (Ok p) e still got ok err = inr (inr (subst (λ (o : Option (List ℕ)). OpensOver facts setup me o before now (told_from setup me (Ok p))) e (still, (refl, ok.1), got)))
   over_bytes before now bytes (Err f) e still got ok err = inr (inr (subst (λ (o : Option (List ℕ)). OpensOver facts setup me o before now (told_from setup me (Err f))) e (still, err, got)))
 
-  pub played_first : (mid now : K) (result : Result Played OpenFault) → IsPutFirst facts setup me mid now result → IfOk result (IsPlayed setup me.stamp)
+  pub played_first : (mid now : K) (result : Result Played OpenFault) → IsPutFirst facts setup me mid now result → IfOk result (IsPlayedRecord setup me.stamp)
   played_first mid now (Err f) h = tt
   played_first mid now (Ok p) (inl m) = absurd (let x : ◌≡◌ {A = Result Played OpenFault} (Ok p) (Err Memory) = m.0 in cc)
   played_first mid now (Ok p) (inr o) = by_keep o.keep o.is
     where
-      by_keep : (keep : Keep) → IsPutSo keep setup me (facts.kept mid) (facts.kept now) (Ok p) → IsPlayed setup me.stamp p
+      by_keep : (keep : Keep) → IsPutSo keep setup me (facts.kept mid) (facts.kept now) (Ok p) → IsPlayedRecord setup me.stamp p
       by_keep Good is = is.0
       by_keep FailsOld is = absurd (let x : ◌≡◌ {A = Result Played OpenFault} (Ok p) (Err KeeperFailed) = is.0 in cc)
       by_keep FailsNew is = absurd (let x : ◌≡◌ {A = Result Played OpenFault} (Ok p) (Err KeeperFailed) = is.0 in cc)
@@ -284,8 +284,8 @@ module _ {K : Type 0} (facts : KeeperFacts K) (setup : SetupView) (me : Identity
   wrote_later before mid now e (inr written) = inr written
 
   failed_first : (result : Result Played OpenFault) → told_from setup me result ≡ Err KeeperFailed → result ≡ Err KeeperFailed
-  failed_first (Ok p) e = absurd (let x : ◌≡◌ {A = Told} (Ok (running setup me (recorded_in p))) (Err KeeperFailed) = e in cc)
-  failed_first (Err f) e = let x : ◌≡◌ {A = Told} (Err f) (Err KeeperFailed) = e in cc
+  failed_first (Ok p) e = absurd (let x : ◌≡◌ {A = OpenResult} (Ok (running setup me (recorded_in p))) (Err KeeperFailed) = e in cc)
+  failed_first (Err f) e = let x : ◌≡◌ {A = OpenResult} (Err f) (Err KeeperFailed) = e in cc
 
   pub over_nothing : (before mid now : K) (result : Result Played OpenFault) → None ≡ facts.kept before → facts.kept mid ≡ facts.kept before → ((k : Keep) → facts.may_be mid k ↔ facts.may_be before k) → facts.faults before ≤ facts.faults mid → facts.reads before None mid → IsPutFirst facts setup me mid now result → Opens facts setup me before now (told_from setup me result)
   over_nothing before mid now result e still same rise got (inl m) = inr (inl (record { answer = ap (told_from setup me) m.0; still = ap facts.kept m.1 ∙ still; cause = inr (sym e, subst (λ (k : K). facts.reads before None k) (sym m.1) got) }))
@@ -298,7 +298,7 @@ runs_is setup own stamp who kept window e f =
     ap (λ (x : Stamp). record { setup = setup; me = record { stamp = x; who = who }; kept = kept; window = window; is_down = false }) e
     ∙ ap (λ (w : Window). record { setup = setup; me = record { stamp = stamp; who = who }; kept = kept; window = w; is_down = false }) f
 
-pub opens_as : {K : Type 0} (facts : KeeperFacts K) (setup : SetupView) (me : Identity) (before now : K) (told other : Told) → told ≡ other → Opens facts setup me before now told → Opens facts setup me before now other
+pub opens_as : {K : Type 0} (facts : KeeperFacts K) (setup : SetupView) (me : Identity) (before now : K) (told other : OpenResult) → told ≡ other → Opens facts setup me before now told → Opens facts setup me before now other
 opens_as facts setup me before now told other e h = subst (Opens facts setup me before now) e h
 
 pub was_some : {T : Type 0} (f : T → List ℕ) (o : Option T) (x : T) (k : Option (List ℕ)) → o ≡ Some x → option_map f o ≡ k → Some (f x) ≡ k
@@ -311,10 +311,10 @@ was_none f o k e h = ap (option_map f) (sym e) ∙ h
 
 module _ {K : Type 0} (facts : KeeperFacts K) (setup : SetupView) (me : Identity) (before now : K) (v : View) where
   not_failed : (fault : OpenFault) → Ok v ≡ Err fault → ⊥
-  not_failed fault e = let f : ◌≡◌ {A = Told} (Ok v) (Err fault) = e in cc
+  not_failed fault e = let f : ◌≡◌ {A = OpenResult} (Ok v) (Err fault) = e in cc
 
   first_kept : (keep : Keep) → FirstLands keep setup me (facts.kept before) (facts.kept now) (Ok v) → Keeps (facts.kept now) v
-  first_kept Good h = let e : ◌≡◌ {A = Told} (Ok v) (Ok (running setup me (first_record (rules_at setup)))) = h.0 in let same : v ≡ running setup me (first_record (rules_at setup)) = cc in subst (Keeps (facts.kept now)) (sym same) h.1
+  first_kept Good h = let e : ◌≡◌ {A = OpenResult} (Ok v) (Ok (running setup me (first_record (rules_at setup)))) = h.0 in let same : v ≡ running setup me (first_record (rules_at setup)) = cc in subst (Keeps (facts.kept now)) (sym same) h.1
   first_kept FailsOld h = absurd (not_failed KeeperFailed h.0)
   first_kept FailsNew h = absurd (not_failed KeeperFailed h.0)
 

@@ -5,7 +5,7 @@ use Rattle.std.proofs.lemmas.Bool.{and_parts, and_from, ltb-true, lt-ltb, cases_
 use Rattle.std.proofs.lemmas.List.{take-append-le}
 use Rattle.board_core.specs.declared.moves.Move.{Move}
 use Rattle.judge_core.specs.Games.{position_after_all, Rules, verdict_after}
-use Rattle.arbiter_core.specs.Recording.{reaches, record_at, greatest, last_ply}
+use Rattle.arbiter_core.specs.Recording.{reaches, record_at, greatest_passing, last_ply}
 
 pub none_from : {A : Type 0} (o : Option A) → is_none o ≡ true → o ≡ None
 none_from None h = refl
@@ -74,18 +74,18 @@ reach_more r front rest (suc k) h =
 pub same_record : (r : Rules) (front rest : List Move) (k : ℕ) → k ≤ length front → record_at r front k ≡ record_at r (front ++ rest) k
 same_record r front rest k l = ap (λ (xs : List Move). record { moves = xs; verdict = verdict_after r xs }) (sym (take-append-le k front rest l))
 
-pub greatest_holds : (test : ℕ → Bool) (n : ℕ) → test 0 ≡ true → test (greatest test n) ≡ true
+pub greatest_holds : (test : ℕ → Bool) (n : ℕ) → test 0 ≡ true → test (greatest_passing test n) ≡ true
 greatest_holds test zero h = h
 greatest_holds test (suc n) h =
     ⊎_elim (λ (e : test (suc n) ≡ true). rw e e) (λ (e : test (suc n) ≡ false). rw e (greatest_holds test n h)) (cases_Bool (test (suc n)))
 
-pub greatest_le : (test : ℕ → Bool) (n : ℕ) → greatest test n ≤ n
+pub greatest_le : (test : ℕ → Bool) (n : ℕ) → greatest_passing test n ≤ n
 greatest_le test zero = omega arith
 greatest_le test (suc n) =
     ⊎_elim (λ (e : test (suc n) ≡ true). rw e (omega arith)) (λ (e : test (suc n) ≡ false). rw e (omega (arith, greatest_le test n))) (cases_Bool (test (suc n)))
 
 -- what passes is not above the greatest
-pub greatest_bound : (test : ℕ → Bool) (n k : ℕ) → k ≤ n → test k ≡ true → k ≤ greatest test n
+pub greatest_bound : (test : ℕ → Bool) (n k : ℕ) → k ≤ n → test k ≡ true → k ≤ greatest_passing test n
 greatest_bound test zero k l h = omega arith
 greatest_bound test (suc n) k l h =
     ⊎_elim (λ (e : test (suc n) ≡ true). rw e l)

@@ -7,7 +7,7 @@ use Rattle.arbiter_core.specs.declared.keeper.Keep.TheVariants.{Good, FailsOld, 
 use Rattle.arbiter_core.specs.Recording.{Recorded, Window}
 use Rattle.arbiter_core.specs.Answering.{Answer, Refuses, Sends, Puts}
 use Rattle.arbiter_core.specs.Views.{View}
-use Rattle.arbiter_core.specs.Delivers.{Answers, IsKept, Told, Lands, RefusesOrSends, PutsIfAny, moment, with_window, with_record, downed}
+use Rattle.arbiter_core.specs.Delivers.{ReturnsAnswer, IsKept, Told, Lands, RefusesOrSends, PutsIfAny, moment, with_window, with_record, downed}
 
 module _ {K : Type 0} (facts : KeeperFacts K) (old new : View) (before now : K) (told : Told) where
   same_kept : new ≡ old → now ≡ before → IsKept (facts.kept before) old → IsKept (facts.kept now) new
@@ -48,8 +48,8 @@ module _ {K : Type 0} (facts : KeeperFacts K) (old new : View) (before now : K) 
   setup_by (Puts next outputs window) h (inr p) = landed_setup p.keep next outputs window p.lands
 
   -- no answer changes what the arbiter was opened from
-  pub same_setup : (a : Answer) → Answers facts (moment old before) a told (moment new now) → new.setup ≡ old.setup
+  pub same_setup : (a : Answer) → ReturnsAnswer facts (moment old before) a told (moment new now) → new.setup ≡ old.setup
   same_setup a h = setup_by a h.answered h.put
 
-  pub still_kept : (a : Answer) → Answers facts (moment old before) a told (moment new now) → IsKept (facts.kept before) old → IsKept (facts.kept now) new
+  pub still_kept : (a : Answer) → ReturnsAnswer facts (moment old before) a told (moment new now) → IsKept (facts.kept before) old → IsKept (facts.kept now) new
   still_kept a h k = by_answer a h.answered h.put k

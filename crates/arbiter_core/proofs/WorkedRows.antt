@@ -12,7 +12,7 @@ use Rattle.move_msg.specs.declared.message.Message.{Message}
 use Rattle.move_msg.specs.declared.message.Message.TheVariants.{Move, Ack, Verdict, Fetch}
 use Rattle.arbiter_core.specs.declared.fault.DeliverFault.TheVariants.{TooFarAhead, TooLong}
 use Rattle.arbiter_core.specs.Recording.{Recorded}
-use Rattle.arbiter_core.specs.Answering.{Identity, Answer, Refuses, Sends, nothing_waits, still_waits, answer_to, asked}
+use Rattle.arbiter_core.specs.Answering.{Identity, Answer, Refuses, Sends, nothing_waits, still_waits, answer_to, request_of}
 
 abbrev move : ℕ → ℕ → Moves
 move from to = record { from = from; to = to; promotion = None }
@@ -104,10 +104,10 @@ unfolding answer_to
 fetches_one rules stamp = refl
 
 -- nothing is asked for at a verdict
-asks : (stamp : Stamp) → asked (me stamp) three ≡ Some (Fetch stamp who.A 3 8)
+asks : (stamp : Stamp) → request_of (me stamp) three ≡ Some (Fetch stamp who.A 3 8)
 asks stamp = refl
 
-asks_nothing : (stamp : Stamp) → asked (me stamp) drawn ≡ None
+asks_nothing : (stamp : Stamp) → request_of (me stamp) drawn ≡ None
 asks_nothing stamp = refl
 
 -- two of three moves that waited were played, and so was the one before them: the last one waits at place 0

@@ -12,7 +12,7 @@ use Rattle.move_msg.specs.declared.message.Message.TheVariants.{Move, Ack, Verdi
 use Rattle.move_msg.specs.Numbers.{most_moves, most_wanted}
 use Rattle.arbiter_core.specs.declared.fault.DeliverFault.{DeliverFault}
 use Rattle.arbiter_core.specs.declared.fault.DeliverFault.TheVariants.{IllegalMove, TooFarAhead, TooLong}
-use Rattle.arbiter_core.specs.Recording.{Recorded, Window, count_of, advance}
+use Rattle.arbiter_core.specs.Recording.{Recorded, Window, move_count, advance}
 
 -- who an arbiter is in its messages: the stamp of its game, and which of the two it is
 pub record Identity : Type 0 where
@@ -36,7 +36,7 @@ told_of me count None = Ack me.stamp me.who count ∷ []
 told_of me count (Some v) = Ack me.stamp me.who count ∷ Verdict me.stamp me.who count v ∷ []
 
 abbrev pub told_now : Identity → Recorded → List Message
-told_now me old = told_of me (count_of old) old.verdict
+told_now me old = told_of me (move_count old) old.verdict
 
 pub data Answer : Type 0 where
   -- nothing changes
@@ -48,14 +48,14 @@ pub data Answer : Type 0 where
 
 -- the record to be put, and what goes with it
 abbrev pub puts : Identity → Recorded → Window → Recorded → Answer
-puts me old window next = Puts next (told_now me next) (cond (is_some next.verdict) nothing_waits (still_waits window (count_of next - count_of old)))
+puts me old window next = Puts next (told_now me next) (cond (is_some next.verdict) nothing_waits (still_waits window (move_count next - move_count old)))
 
 abbrev pub answer_to_move : Rules → Identity → Recorded → Window → ℕ → Moves → Answer
 answer_to_move rules me old window number m =
     cond (nat_le most_moves number) (Refuses TooLong)
-    (cond (is_some old.verdict || nat_lt number (count_of old)) (Sends (told_now me old) window)
-    (cond (nat_le (count_of old + 32) number) (Refuses TooFarAhead)
-    (cond (nat_lt (count_of old) number) (Sends (Ack me.stamp me.who (count_of old) ∷ []) (waits_too window (number - (count_of old + 1)) m))
+    (cond (is_some old.verdict || nat_lt number (move_count old)) (Sends (told_now me old) window)
+    (cond (nat_le (move_count old + 32) number) (Refuses TooFarAhead)
+    (cond (nat_lt (move_count old) number) (Sends (Ack me.stamp me.who (move_count old) ∷ []) (waits_too window (number - (move_count old + 1)) m))
     (cond (is_none (position_after_all rules.start (old.moves ++ m ∷ []))) (Refuses IllegalMove)
     (puts me old window (advance rules old.moves m window))))))
 
@@ -69,8 +69,8 @@ abbrev pub fetched : Identity → Recorded → ℕ → ℕ → List Message
 fetched me old number wanted = sent_by me.stamp (Arbiter me.who) number (take wanted (drop number old.moves))
 
 -- the request of a running arbiter that has no verdict and room for more moves
-abbrev pub asked : Identity → Recorded → Option Message
-asked me old = cond (is_some old.verdict || nat_le most_moves (count_of old)) None (Some (Fetch me.stamp me.who (count_of old) most_wanted))
+abbrev pub request_of : Identity → Recorded → Option Message
+request_of me old = cond (is_some old.verdict || nat_le most_moves (move_count old)) None (Some (Fetch me.stamp me.who (move_count old) most_wanted))
 
 -- what a running arbiter answers to a message
 unfoldable pub answer_to : Rules → Identity → Recorded → Window → Message → Answer

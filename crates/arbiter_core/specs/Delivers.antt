@@ -118,7 +118,7 @@ PutsIfAny facts old before now new told (Puts next outputs window) =
     Unchanged old before now new told (Err OutOfMemory) ⊎ PutsOnce facts old next outputs window before now new told
 
 -- the arbiter returns this where its answer is so, with itself and the keeper in this state afterwards
-pub record Answers {K : Type 0} (facts : KeeperFacts K) (old : Moment K) (answer : Answer) (told : Told) (after : Moment K) : Type 0 where
+pub record ReturnsAnswer {K : Type 0} (facts : KeeperFacts K) (old : Moment K) (answer : Answer) (told : Told) (after : Moment K) : Type 0 where
   -- a refusal leaves both as they were, and so does what is sent without a put, but for the window
   pub answered : RefusesOrSends old.arbiter old.keeper after.keeper after.arbiter told answer
   -- a record to be put is put once, with an outcome that the keeper states, or memory was refused before it
@@ -146,4 +146,4 @@ answer_to_next v m = puts v.me v.kept v.window (advance (rules_at v.setup) v.kep
 
 -- a datagram is answered so
 abbrev pub Delivers : {K : Type 0} → KeeperFacts K → Moment K → Exchange K → Type 0
-Delivers facts old e = Answers facts old (answer_at old.arbiter e.datagram) e.told e.after
+Delivers facts old e = ReturnsAnswer facts old (answer_at old.arbiter e.datagram) e.told e.after

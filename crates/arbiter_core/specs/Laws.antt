@@ -5,7 +5,7 @@ use Rattle.board_core.specs.declared.verdict.Verdict.{Verdict}
 use Rattle.move_msg.specs.declared.message.Message.{Message}
 use Rattle.move_msg.specs.declared.stamp.Stamp.{Stamp}
 use Rattle.judge_core.specs.Games.{Rules, position_after_all, verdict_after, IsUnruled, IsFirst}
-use Rattle.arbiter_core.specs.Recording.{Recorded, Window, count_of, reaches, record_at, last_ply}
+use Rattle.arbiter_core.specs.Recording.{Recorded, Window, move_count, reaches, record_at, last_ply}
 use Rattle.arbiter_core.specs.Answering.{Puts}
 use Rattle.arbiter_core.specs.Setups.{rules_at}
 use Rattle.arbiter_core.specs.Views.{View}
@@ -51,7 +51,7 @@ pub record IsOwn (rules : Rules) (kept : Recorded) : Type 0 where
 -- the next record is its own too, and has more moves
 pub record Grows (rules : Rules) (old next : Recorded) : Type 0 where
   pub own : IsOwn rules next
-  pub more : count_of old < count_of next
+  pub more : move_count old < move_count next
 
 -- A record that is put has more moves than the one before.
 abbrev pub PutsGrow : Type 0

@@ -58,21 +58,21 @@ at_end Going n = Some None
 abbrev pub running : SetupView → Identity → Recorded → View
 running setup me kept = record { setup = setup; me = me; kept = kept; window = nothing_waits; is_down = false }
 
-abbrev pub Told : Type 0
-Told = Result View OpenFault
+abbrev pub OpenResult : Type 0
+OpenResult = Result View OpenFault
 
 -- the record before the first move
 abbrev pub first_record : Rules → Recorded
 first_record rules = record_at rules [] 0
 
 -- a put of the first record with this outcome, and what is then answered
-abbrev pub FirstLands : Keep → SetupView → Identity → Option (List ℕ) → Option (List ℕ) → Told → Type 0
+abbrev pub FirstLands : Keep → SetupView → Identity → Option (List ℕ) → Option (List ℕ) → OpenResult → Type 0
 FirstLands Good setup me before now told = (told ≡ Ok (running setup me (first_record (rules_at setup)))) × IsSpelled me.stamp setup.delay (first_record (rules_at setup)) now
 FirstLands FailsOld setup me before now told = (told ≡ Err KeeperFailed) × (now ≡ before)
 FirstLands FailsNew setup me before now told = (told ≡ Err KeeperFailed) × IsSpelled me.stamp setup.delay (first_record (rules_at setup)) now
 
 -- over nothing kept one put is made, with an outcome that the keeper stated
-pub record PutsFirst {K : Type 0} (facts : KeeperFacts K) (setup : SetupView) (me : Identity) (before now : K) (told : Told) : Type 0 where
+pub record PutsFirst {K : Type 0} (facts : KeeperFacts K) (setup : SetupView) (me : Identity) (before now : K) (told : OpenResult) : Type 0 where
   pub keep : Keep
   pub stated : facts.may_be before keep
   pub lands : FirstLands keep setup me (facts.kept before) (facts.kept now) told
@@ -85,17 +85,17 @@ pub record PutsFirst {K : Type 0} (facts : KeeperFacts K) (setup : SetupView) (m
   pub cause : told ≡ Err KeeperFailed → Risen (facts.faults before) (facts.faults now)
 
 -- over kept bytes nothing is put
-abbrev pub Resumes : SetupView → Identity → List ℕ → Told → Type 0
+abbrev pub Resumes : SetupView → Identity → List ℕ → OpenResult → Type 0
 Resumes setup me bytes (Ok v) = (v ≡ running setup me v.kept) × IsResumed (rules_at setup) me.stamp bytes v.kept
 Resumes setup me bytes (Err fault) = IsBadKept (rules_at setup) me.stamp bytes fault
 
 -- by what was kept
-abbrev pub OpensOver : {K : Type 0} → KeeperFacts K → SetupView → Identity → Option (List ℕ) → K → K → Told → Type 0
+abbrev pub OpensOver : {K : Type 0} → KeeperFacts K → SetupView → Identity → Option (List ℕ) → K → K → OpenResult → Type 0
 OpensOver facts setup me None before now told = PutsFirst facts setup me before now told
 OpensOver facts setup me (Some bytes) before now told = (facts.kept now ≡ facts.kept before) × Resumes setup me bytes told × facts.reads before None now
 
 -- the get failed, and nothing was put
-pub record GetFails {K : Type 0} (facts : KeeperFacts K) (before now : K) (told : Told) : Type 0 where
+pub record GetFails {K : Type 0} (facts : KeeperFacts K) (before now : K) (told : OpenResult) : Type 0 where
   pub answer : told ≡ Err KeeperFailed
   pub still : facts.kept now ≡ facts.kept before
   pub stated : facts.get_may_fail before
@@ -103,22 +103,22 @@ pub record GetFails {K : Type 0} (facts : KeeperFacts K) (before now : K) (told 
   pub cause : Risen (facts.faults before) (facts.faults now)
 
 -- memory was refused, to the get for a copy of what was kept or, where nothing was kept, for the first record; nothing was put
-pub record NoMemory {K : Type 0} (facts : KeeperFacts K) (before now : K) (told : Told) : Type 0 where
+pub record NoMemory {K : Type 0} (facts : KeeperFacts K) (before now : K) (told : OpenResult) : Type 0 where
   pub answer : told ≡ Err OutOfMemory
   pub still : facts.kept now ≡ facts.kept before
   pub cause : (facts.reads before (Some keep_fault.OutOfMemory) now × HasBytes (facts.kept before)) ⊎ ((facts.kept before ≡ None) × facts.reads before None now)
 
 -- what opening a good setup leaves
-abbrev pub Opens : {K : Type 0} → KeeperFacts K → SetupView → Identity → K → K → Told → Type 0
+abbrev pub Opens : {K : Type 0} → KeeperFacts K → SetupView → Identity → K → K → OpenResult → Type 0
 Opens facts setup me before now told =
     GetFails facts before now told
     ⊎ (NoMemory facts before now told ⊎ OpensOver facts setup me (facts.kept before) before now told)
 
 -- an arbiter of a good setup is opened so
-abbrev pub OpensIfGood : {K : Type 0} → KeeperFacts K → SetupView → K → K → Told → Type 0
+abbrev pub OpensIfGood : {K : Type 0} → KeeperFacts K → SetupView → K → K → OpenResult → Type 0
 OpensIfGood facts setup before now told = IsGood setup → (me : Identity) × IsIdentity setup me × Opens facts setup me before now told
 
 -- over this keeper an arbiter of a good setup is opened so, or refused; a bad one is refused, and nothing is put
-pub record IsOpening {K : Type 0} (facts : KeeperFacts K) (setup : SetupView) (before now : K) (told : Told) : Type 0 where
+pub record IsOpening {K : Type 0} (facts : KeeperFacts K) (setup : SetupView) (before now : K) (told : OpenResult) : Type 0 where
   pub good : OpensIfGood facts setup before now told
   pub bad : (IsGood setup → ⊥) → (told ≡ Err BadSetup) × (now ≡ before)

@@ -17,21 +17,21 @@ pub record Recorded : Type 0 where
   pub moves : List Move
   pub verdict : Option Verdict
 
-abbrev pub count_of : Recorded → ℕ
-count_of kept = length kept.moves
+abbrev pub move_count : Recorded → ℕ
+move_count kept = length kept.moves
 
 -- the record of the first k moves, for a ply that the game reaches
 abbrev pub record_at : Rules → List Move → ℕ → Recorded
 record_at rules game k = record { moves = take k game; verdict = verdict_after rules (take k game) }
 
 -- the greatest number up to n that passes, and 0 where none does
-abbrev pub greatest : (ℕ → Bool) → ℕ → ℕ
-greatest test zero = 0
-greatest test (suc n) = cond (test (suc n)) (suc n) (greatest test n)
+abbrev pub greatest_passing : (ℕ → Bool) → ℕ → ℕ
+greatest_passing test zero = 0
+greatest_passing test (suc n) = cond (test (suc n)) (suc n) (greatest_passing test n)
 
 -- the last ply that the game reaches
 unfoldable pub last_ply : Rules → List Move → ℕ
-last_ply rules game = greatest (reaches rules game) (length game)
+last_ply rules game = greatest_passing (reaches rules game) (length game)
 
 -- Moves that came before their turn: place i has the move with number count + 1 + i, if it came.
 abbrev pub Window : Type 0

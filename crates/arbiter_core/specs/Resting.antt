@@ -6,9 +6,9 @@ use Rattle.judge_core.specs.Games.{verdict_after}
 use Rattle.judge_core.specs.Standings.{IsAt, Reached}
 use Rattle.judge_core.specs.Tables.{Holding}
 use Rattle.move_msg.specs.Numbers.{most_moves}
-use Rattle.arbiter_core.specs.Recording.{Recorded, Window, count_of, reaches}
+use Rattle.arbiter_core.specs.Recording.{Recorded, Window, move_count, reaches}
 use Rattle.arbiter_core.specs.Answering.{Answer, Identity}
-use Rattle.arbiter_core.specs.Delivers.{Answers, Told, moment}
+use Rattle.arbiter_core.specs.Delivers.{ReturnsAnswer, Told, moment}
 use Rattle.arbiter_core.specs.Keeping.{KeeperFacts}
 use Rattle.arbiter_core.specs.Setups.{SetupView, rules_at}
 use Rattle.arbiter_core.specs.Views.{IsNear, View}
@@ -40,12 +40,12 @@ awake r set = record { setup = setup_with r set; me = r.me; kept = r.kept; windo
 pub record CanWake (r : Rest) (set : Holding) : Type 0 where
   pub at : IsAt (rules_at (setup_with r set)) r.kept.moves r.standing
   pub ruled : r.kept.verdict ≡ verdict_after (rules_at (setup_with r set)) r.kept.moves
-  pub reached : reaches (rules_at (setup_with r set)) r.kept.moves (count_of r.kept) ≡ true
-  pub short : count_of r.kept ≤ most_moves
-  pub near : IsNear r.window (count_of r.kept + 1)
+  pub reached : reaches (rules_at (setup_with r set)) r.kept.moves (move_count r.kept) ≡ true
+  pub short : move_count r.kept ≤ most_moves
+  pub near : IsNear r.window (move_count r.kept + 1)
   pub delay : r.delay ≤ most_delay
   pub spelled : r.spelled ≡ r.delay
 
 -- with these tables it returns this where its answer is so, with itself and the keeper in this state afterwards
 abbrev pub AnswersBy : {K : Type 0} → KeeperFacts K → Holding → Rest → K → Answer → Told → Rest → K → Type 0
-AnswersBy facts set old before answer told new now = Answers facts (moment (awake old set) before) answer told (moment (awake new set) now)
+AnswersBy facts set old before answer told new now = ReturnsAnswer facts (moment (awake old set) before) answer told (moment (awake new set) now)

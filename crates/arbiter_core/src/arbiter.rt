@@ -3,8 +3,8 @@
 ghost use Rattle.std.specs.Prelude.{◌≡◌, ◌≤◌, length, cond, Option, None};
 ghost use Rattle.std.specs.Result.{result_map_both};
 ghost use Rattle.move_msg.specs.Numbers.{most_moves};
-ghost use Rattle.arbiter_core.specs.Recording.{count_of};
-ghost use Rattle.arbiter_core.specs.Answering.{asked};
+ghost use Rattle.arbiter_core.specs.Recording.{move_count};
+ghost use Rattle.arbiter_core.specs.Answering.{request_of};
 ghost use Rattle.arbiter_core.specs.Setups.{setup_view};
 ghost use Rattle.arbiter_core.specs.Resting.{CanWake, awake};
 ghost use Rattle.arbiter_core.specs.Delivers.{Delivers, IsKept, exchange, moment};
@@ -41,7 +41,7 @@ impl<'a> Arbiter<'a> {
     /// The request to the other arbiter: a `Fetch` of eight moves from its count on. None where it is down, has a
     /// verdict, or has 4096 moves.
     pub fn ask(&self) -> Option<Message>
-        ensures { result ≡ cond self.now.is_down None (asked self.now.me self.now.kept) }
+        ensures { result ≡ cond self.now.is_down None (request_of self.now.me self.now.kept) }
     {
         self.state.ask()
     }
@@ -141,7 +141,7 @@ impl<'a> Arbiter<'a> {
 
     /// How many moves are recorded, 0 to 4096.
     pub fn count(&self) -> u32
-        ensures is { result ≡ count_of self.now.kept }
+        ensures is { result ≡ move_count self.now.kept }
         ensures few { result ≤ most_moves }
     {
         self.state.count()

@@ -9,7 +9,7 @@ ghost use Rattle.arbiter_core.specs.Opens.{OpensIfGood, IsResumed, IsBadKept, Is
 ghost use Rattle.arbiter_core.specs.Delivers.{IsKept};
 ghost use Rattle.arbiter_core.specs.Resting.{CanWake, awake, setup_with};
 ghost use Rattle.judge_core.specs.Tables.{Holding};
-ghost use Rattle.arbiter_core.specs.Inside.Playing.{IsPlayed, played_of, recorded_in};
+ghost use Rattle.arbiter_core.specs.Inside.Playing.{IsPlayedRecord, played_of, recorded_in};
 ghost use Rattle.arbiter_core.specs.Inside.Starting.{IsNotResumed, IsPutFirst, OpensAsEither, recorded_by};
 
 use crate::arbiter::Arbiter;
@@ -85,7 +85,7 @@ fn go_on_from(
 ) -> Result<Played, OpenFault>
     requires { terms.now.delay ≤ 8 }
     ensures same { tables.new ≡ tables.old }
-    ensures ok { IfOk result (λ p. IsPlayed (terms_with terms.now tables.old) stamp p × (p.record ≡ kept) × IsWhole (rules_at (terms_with terms.now tables.old)) (recorded_by kept)) }
+    ensures ok { IfOk result (λ p. IsPlayedRecord (terms_with terms.now tables.old) stamp p × (p.record ≡ kept) × IsWhole (rules_at (terms_with terms.now tables.old)) (recorded_by kept)) }
     ensures err { IfErr result (IsNotResumed (rules_at (terms_with terms.now tables.old)) stamp kept) }
 {
     let record = kept.as_record();
@@ -118,7 +118,7 @@ fn resume(
 ) -> Result<Played, OpenFault>
     requires { terms.now.delay ≤ 8 }
     ensures same { tables.new ≡ tables.old }
-    ensures ok { IfOk result (λ p. IsPlayed (terms_with terms.now tables.old) stamp p × IsResumed (rules_at (terms_with terms.now tables.old)) stamp bytes.now (recorded_in p)) }
+    ensures ok { IfOk result (λ p. IsPlayedRecord (terms_with terms.now tables.old) stamp p × IsResumed (rules_at (terms_with terms.now tables.old)) stamp bytes.now (recorded_in p)) }
     ensures err { IfErr result (IsBadKept (rules_at (terms_with terms.now tables.old)) stamp bytes.now) }
 {
     match WrittenRecord::read(alloc, bytes) {
@@ -140,7 +140,7 @@ fn first(
 ) -> Result<(Record, Standing), AllocError>
     requires { terms.now.delay ≤ 8 }
     ensures same { tables.new ≡ tables.old }
-    ensures ok { IfOk result (λ f. IsPlayed (terms_with terms.now tables.old) stamp (played_of f.0 f.1) × (recorded_by f.0 ≡ first_record (rules_at (terms_with terms.now tables.old)))) }
+    ensures ok { IfOk result (λ f. IsPlayedRecord (terms_with terms.now tables.old) stamp (played_of f.0 f.1) × (recorded_by f.0 ≡ first_record (rules_at (terms_with terms.now tables.old)))) }
     ensures memory { OnErr result (ListsMovesForVerdict tables.old.tables terms.now.start) }
 {
     let standing = tables.begin(alloc, &terms.start)?;
@@ -188,7 +188,7 @@ fn recorded<K: Keeper>(
 ) -> Result<Played, OpenFault>
     requires { terms.now.delay ≤ 8 }
     ensures same { tables.new ≡ tables.old }
-    ensures played { IfOk result (IsPlayed (terms_with terms.now tables.old) stamp) }
+    ensures played { IfOk result (IsPlayedRecord (terms_with terms.now tables.old) stamp) }
     ensures opens { OpensAsEither K.facts (terms_with terms.now tables.old) stamp keeper.old keeper.new result }
 {
     match keeper.get(alloc) {

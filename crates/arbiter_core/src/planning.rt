@@ -2,7 +2,7 @@
 
 ghost use Rattle.std.specs.Prelude.{◌≡◌, ◌≤◌, [], vec_capacity, IfOk, OnErr};
 ghost use Rattle.arbiter_core.specs.Setups.{rules_at, terms_with};
-ghost use Rattle.arbiter_core.specs.Inside.Playing.{IsInOrder, IsNext, IsPlan, ListsMovesAhead, recorded_in};
+ghost use Rattle.arbiter_core.specs.Inside.Playing.{IsArbiterInOrder, IsNext, IsPlan, ListsMovesAhead, recorded_in};
 
 use crate::played::Played;
 use crate::setup::Terms;
@@ -43,7 +43,7 @@ fn make_plan(
 ) -> Result<Plan, AllocError>
     requires none { moves.items ≡ [] }
     requires room { 32 ≤ vec_capacity moves }
-    requires in_order { IsInOrder (terms_with terms.now tables.old) played.now ahead.now.window.now }
+    requires in_order { IsArbiterInOrder (terms_with terms.now tables.old) played.now ahead.now.window.now }
     requires next { IsNext (rules_at (terms_with terms.now tables.old)) (recorded_in played.now) ahead.now.m ahead.now.position }
     ensures same { tables.new ≡ tables.old }
     ensures planned { IfOk result (IsPlan (rules_at (terms_with terms.now tables.old)) (recorded_in played.now) ahead.now.m ahead.now.window.now) }
@@ -84,7 +84,7 @@ pub(crate) fn plan_on(
     played: &Played,
     ahead: &Ahead<'_>,
 ) -> Result<Plan, AllocError>
-    requires in_order { IsInOrder (terms_with terms.now tables.old) played.now ahead.now.window.now }
+    requires in_order { IsArbiterInOrder (terms_with terms.now tables.old) played.now ahead.now.window.now }
     requires next { IsNext (rules_at (terms_with terms.now tables.old)) (recorded_in played.now) ahead.now.m ahead.now.position }
     ensures same { tables.new ≡ tables.old }
     ensures planned { IfOk result (IsPlan (rules_at (terms_with terms.now tables.old)) (recorded_in played.now) ahead.now.m ahead.now.window.now) }

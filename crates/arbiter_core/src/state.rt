@@ -7,8 +7,8 @@ ghost use Rattle.judge_core.specs.Games.{position_after_all};
 ghost use Rattle.move_msg.specs.Messages.{stamp_in};
 ghost use Rattle.move_msg.specs.Numbers.{most_moves};
 ghost use Rattle.move_msg.specs.declared.who.Sender.{Sender};
-ghost use Rattle.arbiter_core.specs.Recording.{count_of};
-ghost use Rattle.arbiter_core.specs.Answering.{asked, fetched, nothing_waits, sent_by, told_of};
+ghost use Rattle.arbiter_core.specs.Recording.{move_count};
+ghost use Rattle.arbiter_core.specs.Answering.{fetched, nothing_waits, request_of, sent_by, told_of};
 ghost use Rattle.arbiter_core.specs.Setups.{rules_at};
 ghost use Rattle.arbiter_core.specs.Resting.{AnswersBy, CanWake, awake, setup_with};
 ghost use Rattle.arbiter_core.specs.Delivers.{IsKept, Keeps, answer_to_any, answer_to_message, answer_to_next, answer_to_numbered};
@@ -230,7 +230,7 @@ impl<'a> ArbiterState<'a> {
     /// The request to the other arbiter: a `Fetch` of eight moves from its count on. None where it is down, has a
     /// verdict, or has 4096 moves.
     pub fn ask(&self) -> Option<Message>
-        ensures { result ≡ cond self.now.is_down None (asked self.now.me self.now.kept) }
+        ensures { result ≡ cond self.now.is_down None (request_of self.now.me self.now.kept) }
     {
         let record = self.played.record.as_record();
         let count = record.moves.count();
@@ -321,7 +321,7 @@ impl<'a> ArbiterState<'a> {
 
     /// How many moves are recorded, 0 to 4096.
     pub fn count(&self) -> u32
-        ensures is { result ≡ count_of self.now.kept }
+        ensures is { result ≡ move_count self.now.kept }
         ensures few { result ≤ most_moves }
     {
         self.played.record.as_record().moves.as_slice().len() as u32

@@ -27,7 +27,7 @@ abbrev pub IsPlayedFrom : Parts → List Move → Reached → Type 0
 IsPlayedFrom start moves standing = position_after_all start moves ≡ Some standing.position
 
 -- what is recorded for this stamp is whole, and the game stands so after its moves
-pub record IsPlayed (setup : SetupView) (stamp : Stamp) (p : Played) : Type 0 where
+pub record IsPlayedRecord (setup : SetupView) (stamp : Stamp) (p : Played) : Type 0 where
   pub stamp_is : p.record.stamp ≡ stamp
   pub delay_is : p.record.delay ≡ setup.delay
   pub at : IsAt (rules_at setup) p.record.moves p.standing
@@ -36,8 +36,8 @@ pub record IsPlayed (setup : SetupView) (stamp : Stamp) (p : Played) : Type 0 wh
   pub short : length p.record.moves ≤ most_moves
 
 -- what always holds of an arbiter's setup, of what it has recorded and of the moves that wait
-pub record IsInOrder (setup : SetupView) (p : Played) (window : Window) : Type 0 where
-  pub played : IsPlayed setup p.record.stamp p
+pub record IsArbiterInOrder (setup : SetupView) (p : Played) (window : Window) : Type 0 where
+  pub played : IsPlayedRecord setup p.record.stamp p
   pub near : IsNear window (length p.record.moves + 1)
   pub delay : setup.delay ≤ most_delay
 
@@ -62,6 +62,6 @@ ListsMovesAhead rules moves m window =
 
 -- this is recorded after this move and those that wait behind it
 pub record IsPlayedOn (setup : SetupView) (old : Played) (m : Move) (window : Window) (new : Played) : Type 0 where
-  pub played : IsPlayed setup old.record.stamp new
+  pub played : IsPlayedRecord setup old.record.stamp new
   pub advanced : recorded_in new ≡ advance (rules_at setup) old.record.moves m window
   pub more : length old.record.moves < length new.record.moves

@@ -18,8 +18,8 @@ use Rattle.judge_core.specs.Standings.{ListsMovesInGame}
 use Rattle.arbiter_core.specs.Recording.{Recorded}
 use Rattle.arbiter_core.specs.Views.{spelled_as}
 use Rattle.arbiter_core.specs.Delivers.{IsSpelled, IsWritten}
-use Rattle.arbiter_core.specs.Opens.{first_record, IsOfGame, IsWhole, Opens, Told, running}
-use Rattle.arbiter_core.specs.Inside.Playing.{IsPlayed, recorded_in}
+use Rattle.arbiter_core.specs.Opens.{first_record, IsOfGame, IsWhole, Opens, OpenResult, running}
+use Rattle.arbiter_core.specs.Inside.Playing.{IsPlayedRecord, recorded_in}
 
 -- what a record says of its game
 abbrev pub recorded_by : Record → Recorded
@@ -35,7 +35,7 @@ IsNotResumed rules stamp r KeeperFailed = ⊥
 
 -- a put of the first record with this outcome
 abbrev pub IsPutSo : Keep → SetupView → Identity → Option (List ℕ) → Option (List ℕ) → Result Played OpenFault → Type 0
-IsPutSo Good setup me before now (Ok p) = IsPlayed setup me.stamp p × (recorded_in p ≡ first_record (rules_at setup)) × IsSpelled me.stamp setup.delay (first_record (rules_at setup)) now
+IsPutSo Good setup me before now (Ok p) = IsPlayedRecord setup me.stamp p × (recorded_in p ≡ first_record (rules_at setup)) × IsSpelled me.stamp setup.delay (first_record (rules_at setup)) now
 IsPutSo Good setup me before now (Err fault) = ⊥
 IsPutSo FailsOld setup me before now result = (result ≡ Err KeeperFailed) × (now ≡ before)
 IsPutSo FailsNew setup me before now result = (result ≡ Err KeeperFailed) × IsSpelled me.stamp setup.delay (first_record (rules_at setup)) now
@@ -56,7 +56,7 @@ IsPutFirst facts setup me before now result =
     ((result ≡ Err OutOfMemory) × (now ≡ before)) ⊎ IsPutOnce facts setup me before now result
 
 -- what is answered where this is recorded
-abbrev pub told_from : SetupView → Identity → Result Played OpenFault → Told
+abbrev pub told_from : SetupView → Identity → Result Played OpenFault → OpenResult
 told_from setup me (Ok p) = Ok (running setup me (recorded_in p))
 told_from setup me (Err fault) = Err fault
 

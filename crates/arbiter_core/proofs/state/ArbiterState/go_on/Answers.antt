@@ -8,13 +8,13 @@ use Rattle.move_msg.specs.Records.{gone_on}
 use Rattle.move_msg.specs.declared.stamp.Stamp.{Stamp}
 use Rattle.move_msg.specs.declared.record_bytes.Record.{Record}
 use Rattle.arbiter_core.specs.declared.played.Played.{Played}
-use Rattle.arbiter_core.specs.Recording.{Recorded, Window, count_of}
+use Rattle.arbiter_core.specs.Recording.{Recorded, Window, move_count}
 use Rattle.arbiter_core.specs.Answering.{still_waits, nothing_waits, told_now, told_of}
 use Rattle.arbiter_core.specs.Setups.{SetupView, rules_at, terms_with}
 use Rattle.arbiter_core.specs.Views.{View, IsNear}
 use Rattle.arbiter_core.specs.Resting.{Rest, awake, setup_with}
 use Rattle.arbiter_core.specs.Inside.AtRest.{rest_of}
-use Rattle.arbiter_core.specs.Inside.Playing.{IsInOrder, IsNext, played_of}
+use Rattle.arbiter_core.specs.Inside.Playing.{IsArbiterInOrder, IsNext, played_of}
 use Rattle.arbiter_core.specs.Inside.Starting.{recorded_by}
 use Rattle.arbiter_core.proofs.Settling.{near_still, near_nothing}
 use Rattle.arbiter_core.proofs.Opened.{kept_so, wrote_so}
@@ -34,33 +34,33 @@ returns-in-Ok-put g c =
     let set : Holding = c.args.tables.now in
     let terms : SetupView = terms_with c.self.inside.terms set in
     let v : View = awake (rest_of c.self.inside) set in
-    let order : IsInOrder terms c.self.inside.played c.self.inside.window = in_order c.self.inside c.args.self.now set c.self.view_is c.requires.wakes in
+    let order : IsArbiterInOrder terms c.self.inside.played c.self.inside.window = in_order c.self.inside c.args.self.now set c.self.view_is c.requires.wakes in
     let old : Record = c.self.inside.played.record in
     let next : Recorded = recorded_by c.go_on.new.self in
     let added : List Move = c.in-Ok.plan.moves.items in
     let is : c.go_on.new.self ≡ gone_on old added c.in-Ok.plan.verdict = c.in-Ok-go_on.ensures.ok ∙ ap (λ (ms : List Move). gone_on old ms c.in-Ok.plan.verdict) c.deref.ensures.value in
     let on = played_on terms c.self.inside.played c.args.m.now c.self.inside.window c.in-Ok.plan c.go_on.new.self order is c.in-Ok.ensures.planned in
     let ruled : next.verdict ≡ c.in-Ok.plan.verdict = ap (λ (r : Record). r.verdict) is in
-    let counted : c.count.result ≡ count_of next = c.count.ensures ∙ ap (λ (r : Record). length r.moves) c.as_record-record.ensures in
+    let counted : c.count.result ≡ move_count next = c.count.ensures ∙ ap (λ (r : Record). length r.moves) c.as_record-record.ensures in
     let told : c.tell-outputs.result.items ≡ told_now v.me next =
     c.tell-outputs.ensures
     ∙ ap (λ (r : Record). told_of (record { stamp = r.stamp; who = c.self.inside.who }) c.count.result c.in-Ok.plan.verdict) c.as_record-record.ensures
     ∙ ap (λ (s : Stamp). told_of (record { stamp = s; who = c.self.inside.who }) c.count.result c.in-Ok.plan.verdict) on.played.stamp_is
     ∙ ap (λ (n : ℕ). told_of v.me n c.in-Ok.plan.verdict) counted
-    ∙ ap (λ (o : Option Verdict). told_of v.me (count_of next) o) (sym ruled) in
-    let grown : count_of next ≡ length old.moves + length added = ap (λ (r : Record). length r.moves) is ∙ length-append old.moves added in
-    let more : c.len-more.result ≡ count_of next - count_of v.kept = omega (arith, grown, c.len-more.ensures) in
-    let above : length old.moves < count_of next = on.more in
-    let near : IsNear c.if-is_some.window (count_of next + 1) =
+    ∙ ap (λ (o : Option Verdict). told_of v.me (move_count next) o) (sym ruled) in
+    let grown : move_count next ≡ length old.moves + length added = ap (λ (r : Record). length r.moves) is ∙ length-append old.moves added in
+    let more : c.len-more.result ≡ move_count next - move_count v.kept = omega (arith, grown, c.len-more.ensures) in
+    let above : length old.moves < move_count next = on.more in
+    let near : IsNear c.if-is_some.window (move_count next + 1) =
     elim c.if-is_some.branch [
-      | then-is_some w ↦ subst (λ (x : Window). IsNear x (count_of next + 1)) (sym (w.window-is ∙ w.empty-window.ensures)) (near_nothing (count_of next + 1))
-      | else-is_some w ↦ subst (λ (x : Window). IsNear x (count_of next + 1)) (sym (w.window-is ∙ w.after-window.ensures ∙ ap (still_waits c.self.inside.window) more))
-          (near_still c.self.inside.window (length old.moves) (count_of next) (omega arith) order.near)
+      | then-is_some w ↦ subst (λ (x : Window). IsNear x (move_count next + 1)) (sym (w.window-is ∙ w.empty-window.ensures)) (near_nothing (move_count next + 1))
+      | else-is_some w ↦ subst (λ (x : Window). IsNear x (move_count next + 1)) (sym (w.window-is ∙ w.after-window.ensures ∙ ap (still_waits c.self.inside.window) more))
+          (near_still c.self.inside.window (length old.moves) (move_count next) (omega arith) order.near)
     ] in
-    let later : c.if-is_some.window ≡ cond (is_some next.verdict) nothing_waits (still_waits v.window (count_of next - count_of v.kept)) =
+    let later : c.if-is_some.window ≡ cond (is_some next.verdict) nothing_waits (still_waits v.window (move_count next - move_count v.kept)) =
     elim c.if-is_some.branch [
-      | then-is_some w ↦ w.window-is ∙ w.empty-window.ensures ∙ sym (cond-true (is_some next.verdict) nothing_waits (still_waits v.window (count_of next - count_of v.kept)) (ap (λ (o : Option Verdict). is_some o) ruled ∙ sym c.is_some.ensures ∙ w.if-is_some.true))
-      | else-is_some w ↦ w.window-is ∙ w.after-window.ensures ∙ ap (still_waits v.window) more ∙ sym (cond-false (is_some next.verdict) nothing_waits (still_waits v.window (count_of next - count_of v.kept)) (ap (λ (o : Option Verdict). is_some o) ruled ∙ sym c.is_some.ensures ∙ w.if-is_some.false))
+      | then-is_some w ↦ w.window-is ∙ w.empty-window.ensures ∙ sym (cond-true (is_some next.verdict) nothing_waits (still_waits v.window (move_count next - move_count v.kept)) (ap (λ (o : Option Verdict). is_some o) ruled ∙ sym c.is_some.ensures ∙ w.if-is_some.true))
+      | else-is_some w ↦ w.window-is ∙ w.after-window.ensures ∙ ap (still_waits v.window) more ∙ sym (cond-false (is_some next.verdict) nothing_waits (still_waits v.window (move_count next - move_count v.kept)) (ap (λ (o : Option Verdict). is_some o) ruled ∙ sym c.is_some.ensures ∙ w.if-is_some.false))
     ] in
     let bytes : List ℕ = c.as_bytes.result.now in
     let p : Played = played_of c.go_on.new.self c.in-Ok.plan.standing in
@@ -79,7 +79,7 @@ returns g c =
     let set : Holding = c.args.tables.now in
     let terms : SetupView = terms_with c.self.inside.terms set in
     let v : View = awake (rest_of c.self.inside) set in
-    let order : IsInOrder terms c.self.inside.played c.self.inside.window = in_order c.self.inside c.args.self.now set c.self.view_is c.requires.wakes in
+    let order : IsArbiterInOrder terms c.self.inside.played c.self.inside.window = in_order c.self.inside c.args.self.now set c.self.view_is c.requires.wakes in
     let old : Record = c.self.inside.played.record in
     let next : Recorded = recorded_by c.go_on.new.self in
     let unruled : old.verdict ≡ None = ap (λ (r : Rest). r.kept.verdict) c.self.view_is ∙ c.requires.next.unruled in

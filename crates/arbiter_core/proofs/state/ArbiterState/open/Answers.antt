@@ -6,9 +6,9 @@ use Rattle.arbiter_core.specs.Answering.{Identity}
 use Rattle.arbiter_core.specs.Setups.{SetupView, terms_with}
 use Rattle.arbiter_core.specs.Resting.{awake}
 use Rattle.arbiter_core.specs.Views.{View}
-use Rattle.arbiter_core.specs.Opens.{Told, running}
+use Rattle.arbiter_core.specs.Opens.{OpenResult, running}
 use Rattle.arbiter_core.specs.Inside.AtRest.{rest_of}
-use Rattle.arbiter_core.specs.Inside.Playing.{IsInOrder, recorded_in}
+use Rattle.arbiter_core.specs.Inside.Playing.{IsArbiterInOrder, recorded_in}
 use Rattle.arbiter_core.proofs.Opened.{first_in_order, runs_is, opens_as, opened_keeps}
 use Rattle.arbiter_core.proofs.Waking.{can_wake}
 use Rattle.arbiter_core.proofs.state.ArbiterState.open.Goals as goal
@@ -18,7 +18,7 @@ returns-in-Ok-clause-wakes g c =
     let set : Holding = c.args.tables.now in
     let terms : SetupView = terms_with c.args.terms set in
     can_wake (record { terms = c.args.terms; who = c.in-Some.who; played = c.in-Ok.played; window = c.empty.result; down = false }) set
-    (subst (λ (w : Window). IsInOrder terms c.in-Ok.played w) (sym c.empty.ensures)
+    (subst (λ (w : Window). IsArbiterInOrder terms c.in-Ok.played w) (sym c.empty.ensures)
     (first_in_order terms c.in-Some.stamp c.in-Ok.played (let good = (c.in-Some.ensures.some set).0 in good.delay) c.in-Ok.ensures.played))
 
 pub returns-in-Ok-clause-good : goal.returns-in-Ok-clause-good
@@ -27,7 +27,7 @@ returns-in-Ok-clause-good g c = λ good.
     let terms : SetupView = terms_with c.args.terms set in
     let me : Identity = record { stamp = c.in-Some.stamp; who = c.in-Some.who } in
     let opened : Inside = record { terms = c.args.terms; who = c.in-Some.who; played = c.in-Ok.played; window = c.empty.result; down = false } in
-    let told : ◌≡◌ {A = Told} (Ok (running terms me (recorded_in c.in-Ok.played))) (Ok (awake (rest_of opened) set)) =
+    let told : ◌≡◌ {A = OpenResult} (Ok (running terms me (recorded_in c.in-Ok.played))) (Ok (awake (rest_of opened) set)) =
     ap (λ (v : View). Ok v) (sym (runs_is terms c.in-Ok.played.record.stamp c.in-Some.stamp c.in-Some.who (recorded_in c.in-Ok.played) c.empty.result c.in-Ok.ensures.played.stamp_is c.empty.ensures)) in
     (me, (c.in-Some.ensures.some set).1, opens_as g.K.Keeper.facts terms me c.args.keeper.now c.recorded.new.keeper _ _ told (c.in-Ok.ensures.opens c.in-Some.who))
 
@@ -41,7 +41,7 @@ returns-in-Ok-clause-keeps g c = λ up.
     let terms : SetupView = terms_with c.args.terms set in
     let me : Identity = record { stamp = c.in-Some.stamp; who = c.in-Some.who } in
     let opened : Inside = record { terms = c.args.terms; who = c.in-Some.who; played = c.in-Ok.played; window = c.empty.result; down = false } in
-    let told : ◌≡◌ {A = Told} (Ok (running terms me (recorded_in c.in-Ok.played))) (Ok (awake (rest_of opened) set)) =
+    let told : ◌≡◌ {A = OpenResult} (Ok (running terms me (recorded_in c.in-Ok.played))) (Ok (awake (rest_of opened) set)) =
     ap (λ (v : View). Ok v) (sym (runs_is terms c.in-Ok.played.record.stamp c.in-Some.stamp c.in-Some.who (recorded_in c.in-Ok.played) c.empty.result c.in-Ok.ensures.played.stamp_is c.empty.ensures)) in
     opened_keeps g.K.Keeper.facts terms me c.args.keeper.now c.recorded.new.keeper (awake (rest_of opened) set)
     (opens_as g.K.Keeper.facts terms me c.args.keeper.now c.recorded.new.keeper _ _ told (c.in-Ok.ensures.opens c.in-Some.who))

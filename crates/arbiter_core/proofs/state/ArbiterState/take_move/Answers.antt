@@ -2,7 +2,7 @@ use Rattle.std.proofs.Common.{◌≡◌, ℕ, ◌+◌, ◌-◌, ◌<◌, ◌≤�
 use Rattle.std.specs.Prelude.{is_some, nat_lt}
 use Rattle.move_msg.specs.Numbers.{most_moves}
 use Rattle.move_msg.specs.declared.record_bytes.Record.{Record}
-use Rattle.arbiter_core.specs.Recording.{Window, count_of}
+use Rattle.arbiter_core.specs.Recording.{Window, move_count}
 use Rattle.arbiter_core.specs.Answering.{told_now, told_of, waits_too}
 use Rattle.arbiter_core.specs.Views.{View}
 use Rattle.arbiter_core.specs.Delivers.{answer_to_next, answer_to_numbered, with_window}
@@ -31,7 +31,7 @@ returns-then-number-2 g c =
 
 pub returns-then-is_some : goal.returns-then-is_some
 returns-then-is_some g c =
-    let late : (is_some (awake c.args.self.now c.args.tables.now).kept.verdict || nat_lt c.args.number (count_of (awake c.args.self.now c.args.tables.now).kept)) ≡ true =
+    let late : (is_some (awake c.args.self.now c.args.tables.now).kept.verdict || nat_lt c.args.number (move_count (awake c.args.self.now c.args.tables.now).kept)) ≡ true =
     elim c.then-is_some.branch [
       | then-is_some-via-then-is_some w ↦ ruled (awake_is c.args.tables.now c.self.view_is) _ c.args.number (some_in c.as_record-record.ensures _ c.is_some.ensures) w.if-is_some.true
       | then-is_some-via-else-is_some+then-number w ↦ below (awake_is c.args.tables.now c.self.view_is) c.args.number _ _ w.number.ensures.value (count_in c.as_record-record.ensures _ c.count-count.ensures) w.if-number.true
@@ -45,7 +45,7 @@ returns-then-is_some g c =
 pub returns-then-number-3 : goal.returns-then-number-3
 returns-then-number-3 g c =
     let v : View = awake (rest_of c.self.inside) c.args.tables.now in
-    let k : ℕ = count_of v.kept in
+    let k : ℕ = move_count v.kept in
     let low : c.number.result ≡ k = c.number.ensures.value ∙ (count_in c.as_record-record.ensures _ c.count-count.ensures) in
     let high : c.number-2.result ≡ k = c.number-2.ensures.value ∙ (count_in c.as_record-record.ensures _ c.count-count.ensures) in
     let at : c.number-3.result ≡ k = c.number-3.ensures.value ∙ (count_in c.as_record-record.ensures _ c.count-count.ensures) in
