@@ -14,7 +14,7 @@ use Rattle.move_msg.proofs.RecordLaws.{is_spelled, one_record}
 use Rattle.arbiter_core.specs.declared.keeper.Keep.{Keep}
 use Rattle.arbiter_core.specs.declared.keeper.Keep.TheVariants.{Good, FailsOld, FailsNew}
 use Rattle.arbiter_core.specs.declared.fault.DeliverFault.TheVariants.{KeeperFailed}
-use Rattle.arbiter_core.specs.Recording.{Recorded, Window, count_of}
+use Rattle.arbiter_core.specs.Recording.{Recorded, Window, move_count}
 use Rattle.arbiter_core.specs.Answering.{Answer, Puts, Refuses, Sends}
 use Rattle.arbiter_core.specs.Opens.{IsWhole}
 use Rattle.arbiter_core.specs.Setups.{rules_at}
@@ -23,7 +23,7 @@ use Rattle.arbiter_core.specs.Delivers.{Delivers, Exchange, IsSpelled, Lands, Mo
 use Rattle.arbiter_server.specs.declared.file_keeper.FileKeeper.{FileKeeper}
 use Rattle.system_io.specs.KeptFiles.{KeptFacts, FindsOldOrNew}
 use Rattle.arbiter_server.specs.Serving.{InTurn, Loss, NoLoss, KeeperLost, PortLost, loses_keeper, with_last}
-use Rattle.arbiter_server.specs.StoredBytes.{Failed, Landed, PutsInto, file_of, keeper_over, stored}
+use Rattle.arbiter_server.specs.StoredBytes.{Failed, Landed, PutsInto, keeper_file, keeper_over, stored}
 use Rattle.arbiter_server.specs.OverFiles.{GoesOn, FindsAtLoss, FindsEither, FindsRecord, IsItsRecord}
 use Rattle.arbiter_core.specs.Laws.{Grows, IsOwn, PutsGrow}
 use Rattle.arbiter_server.proofs.Telling.{IsHonest, answer_honest, still_on}
@@ -47,7 +47,7 @@ pub record IsSafe {F : Type 0} (facts : F → KeptFacts) (at : Moment (FileKeepe
   pub bytes : List ℕ
   pub stored_is : stored at.keeper ≡ Some bytes
   pub spelled : SpellsOwn at bytes
-  pub found : (facts (file_of at.keeper)).finds (Some bytes) (Some bytes)
+  pub found : (facts (keeper_file at.keeper)).finds (Some bytes) (Some bytes)
   pub own : IsOwn (rules_at at.arbiter.setup) at.arbiter.kept
 
 pub safe_finds : {F : Type 0} (facts : F → KeptFacts) (at : Moment (FileKeeper F)) → IsSafe facts at → FindsRecord facts at
@@ -67,7 +67,7 @@ still_safe : {F : Type 0} (facts : F → KeptFacts) (e : Exchange (FileKeeper F)
 still_safe facts e s = record { safe = λ _. s; either = safe_either facts e.after s }
 
 -- bytes that spell two records of one game spell one
-one_kept : (v : View) (next : Recorded) (bytes : List ℕ) → SpellsRecord bytes (spelled_as v.me.stamp v.setup.delay v.kept) → SpellsRecord bytes (spelled_as v.me.stamp v.setup.delay next) → count_of v.kept ≡ count_of next
+one_kept : (v : View) (next : Recorded) (bytes : List ℕ) → SpellsRecord bytes (spelled_as v.me.stamp v.setup.delay v.kept) → SpellsRecord bytes (spelled_as v.me.stamp v.setup.delay next) → move_count v.kept ≡ move_count next
 one_kept v next bytes p q = ap (λ (r : Record). length r.moves) (one_record bytes _ _ p q)
 
 module _ (grow : PutsGrow) {F : Type 0} (facts : F → KeptFacts) (old : Moment (FileKeeper F)) (s : IsSafe facts old) (e : Exchange (FileKeeper F)) where
@@ -83,7 +83,7 @@ module _ (grow : PutsGrow) {F : Type 0} (facts : F → KeptFacts) (old : Moment 
       new : Moment (FileKeeper F)
       new = e.after
 
-      safe_after : (bytes : List ℕ) → new.arbiter ≡ with_record old.arbiter next window → stored new.keeper ≡ Some bytes → (facts (file_of new.keeper)).finds (Some bytes) (Some bytes) → IsSpelled old.arbiter.me.stamp old.arbiter.setup.delay next (stored new.keeper) → IsSafe facts new
+      safe_after : (bytes : List ℕ) → new.arbiter ≡ with_record old.arbiter next window → stored new.keeper ≡ Some bytes → (facts (keeper_file new.keeper)).finds (Some bytes) (Some bytes) → IsSpelled old.arbiter.me.stamp old.arbiter.setup.delay next (stored new.keeper) → IsSafe facts new
       safe_after bytes is there found spelled =
           let own : SpellsRecord bytes (spelled_as old.arbiter.me.stamp old.arbiter.setup.delay next) = subst (IsSpelled old.arbiter.me.stamp old.arbiter.setup.delay next) there spelled in
           let after : IsSafe facts (moment (with_record old.arbiter next window) new.keeper) = record { bytes = bytes; stored_is = there; spelled = own; found = found; own = grows.own } in
@@ -96,13 +96,13 @@ module _ (grow : PutsGrow) {F : Type 0} (facts : F → KeptFacts) (old : Moment 
           let more = grows.more in
           omega arith
 
-      lost : e.told ≡ Err KeeperFailed → new.arbiter ≡ downed old.arbiter → (sent : List ℕ) → SpellsRecord sent (spelled_as old.arbiter.me.stamp old.arbiter.setup.delay next) → ((facts (file_of new.keeper)).finds (Some s.bytes) (Some s.bytes) ⊎ ((facts (file_of new.keeper)).finds (Some s.bytes) (Some sent) ⊎ (facts (file_of new.keeper)).finds (Some sent) (Some sent))) → Leaves facts e
+      lost : e.told ≡ Err KeeperFailed → new.arbiter ≡ downed old.arbiter → (sent : List ℕ) → SpellsRecord sent (spelled_as old.arbiter.me.stamp old.arbiter.setup.delay next) → ((facts (keeper_file new.keeper)).finds (Some s.bytes) (Some s.bytes) ⊎ ((facts (keeper_file new.keeper)).finds (Some s.bytes) (Some sent) ⊎ (facts (keeper_file new.keeper)).finds (Some sent) (Some sent))) → Leaves facts e
       lost told is sent spells found = record {
         safe = λ going. absurd (let lossy : loses_keeper e.told ≡ true = ap loses_keeper told in both_ways _ going lossy);
         either = subst (λ (v : View). FindsEither facts (moment v new.keeper)) (sym is) (record { bytes = s.bytes; is = (s.spelled, own_whole _ _ s.own); next = next; sent = sent; is_next = (spells, own_whole _ _ grows.own); goes_on = goes; found = found });
       }
 
-      in_doubt : ((was : Option (List ℕ)) → (facts (file_of old.keeper)).finds was was → FindsOldOrNew (facts (file_of new.keeper)) was p.sent) → (facts (file_of new.keeper)).finds (Some s.bytes) (Some s.bytes) ⊎ ((facts (file_of new.keeper)).finds (Some s.bytes) (Some p.sent) ⊎ (facts (file_of new.keeper)).finds (Some p.sent) (Some p.sent))
+      in_doubt : ((was : Option (List ℕ)) → (facts (keeper_file old.keeper)).finds was was → FindsOldOrNew (facts (keeper_file new.keeper)) was p.sent) → (facts (keeper_file new.keeper)).finds (Some s.bytes) (Some s.bytes) ⊎ ((facts (keeper_file new.keeper)).finds (Some s.bytes) (Some p.sent) ⊎ (facts (keeper_file new.keeper)).finds (Some p.sent) (Some p.sent))
       in_doubt h = elim (h (Some s.bytes) s.found) [ inl old_one ↦ inl old_one | inr new_one ↦ inr (inl new_one) ]
 
       by_keep : (keep : Keep) → Lands keep old.arbiter next outputs window (stored old.keeper) (stored new.keeper) new.arbiter e.told → PutsInto facts old.keeper p.sent new.keeper → Leaves facts e

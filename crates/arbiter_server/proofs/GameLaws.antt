@@ -15,7 +15,7 @@ use Rattle.move_msg.specs.Stamps.{IsGameName}
 use Rattle.move_msg.specs.TextLines.{ended}
 use Rattle.arbiter_server.specs.declared.game_lines.GameFileFault.{GameFileFault}
 use Rattle.arbiter_server.specs.declared.game_lines.GameFileFault.TheVariants.{Name, Start, Delay, More}
-use Rattle.arbiter_server.specs.GameFiles.{HasDelay, HasName, HasStart, IsFirstGameFault, SpellsGame, Told, delay_line, name_line, start_line, told}
+use Rattle.arbiter_server.specs.GameFiles.{GameContents, HasDelay, HasName, HasStart, IsFirstGameFault, SpellsGame, delay_line, game_as_told, name_line, start_line}
 use Rattle.arbiter_server.specs.Inside.ValueLines.{StartsLine, is_one_line}
 use Rattle.arbiter_server.proofs.CutLines.{cut_value, heads_same, rests_same, tails_same}
 use Rattle.arbiter_server.proofs.OneLines.{fen_one, name_one, number_one}
@@ -47,23 +47,23 @@ one_delay text a r b s g h =
     (decimal_injective a b (omega (arith, g.0)) (omega (arith, h.0)) same.0, same.1)
 
 -- what follows the second line, and the first
-abbrev after_start : Told → List ℕ
+abbrev after_start : GameContents → List ℕ
 after_start g = ended (delay_line g.delay) ++ []
 
-abbrev after_name : Told → List ℕ
+abbrev after_name : GameContents → List ℕ
 after_name g = ended (start_line g.start) ++ after_start g
 
-told_name : (text : List ℕ) (g : Told) → SpellsGame text g → HasName text g.name (after_name g)
+told_name : (text : List ℕ) (g : GameContents) → SpellsGame text g → HasName text g.name (after_name g)
 told_name text g h = (h.0.name, h.1)
 
-told_start : (g : Told) (rest : List ℕ) → IsPosition g.start → rest ≡ after_name g → HasStart rest g.start (after_start g)
+told_start : (g : GameContents) (rest : List ℕ) → IsPosition g.start → rest ≡ after_name g → HasStart rest g.start (after_start g)
 told_start g rest is e = (is, e)
 
-told_delay : (g : Told) (rest : List ℕ) → g.delay ≤ most_delay → rest ≡ after_start g → HasDelay rest g.delay []
+told_delay : (g : GameContents) (rest : List ℕ) → g.delay ≤ most_delay → rest ≡ after_start g → HasDelay rest g.delay []
 told_delay g rest is e = (is, e)
 
 -- a game's text has no line at fault
-pub no_fault : (text : List ℕ) (g : Told) (fault : GameFileFault) → SpellsGame text g → IsFirstGameFault text fault → ⊥
+pub no_fault : (text : List ℕ) (g : GameContents) (fault : GameFileFault) → SpellsGame text g → IsFirstGameFault text fault → ⊥
 no_fault text g Name h bad = bad g.name (after_name g) (told_name text g h)
 no_fault text g Start h (name, rest, has, bad) =
     let one = one_name text g.name (after_name g) name rest (told_name text g h) has in
@@ -79,20 +79,20 @@ no_fault text g More h (name, rest, has, (start, last, starts, (delay, end, dela
     some (sym three.1)
 
 -- it is that of no other game
-pub one_game : (text : List ℕ) (g h : Told) → SpellsGame text g → SpellsGame text h → g ≡ h
+pub one_game : (text : List ℕ) (g h : GameContents) → SpellsGame text g → SpellsGame text h → g ≡ h
 one_game text g h a b =
     let one = one_name text g.name (after_name g) h.name (after_name h) (told_name text g a) (told_name text h b) in
     let two = one_start (after_name g) g.start (after_start g) h.start (after_start h) (told_start g (after_name g) a.0.start refl) (told_start h (after_name g) b.0.start one.1) in
     let three = one_delay (after_start g) g.delay [] h.delay [] (told_delay g (after_start g) a.0.delay refl) (told_delay h (after_start g) b.0.delay two.1) in
-    λ i. told (one.0 i) (two.0 i) (three.0 i)
+    λ i. game_as_told (one.0 i) (two.0 i) (three.0 i)
 
 -- three good lines, and nothing after them
-pub spelled : (text name own rest : List ℕ) (start : Parts) (last : List ℕ) (delay : ℕ) (end : List ℕ) → HasName text name rest → own ≡ name → HasStart rest start last → HasDelay last delay end → end ≡ [] → SpellsGame text (told own start delay)
+pub spelled : (text name own rest : List ℕ) (start : Parts) (last : List ℕ) (delay : ℕ) (end : List ℕ) → HasName text name rest → own ≡ name → HasStart rest start last → HasDelay last delay end → end ≡ [] → SpellsGame text (game_as_told own start delay)
 spelled text name own rest start last delay end n same s d none =
-    let third : last ≡ after_start (told own start delay) = d.1 ∙ ap (λ (t : List ℕ). ended (delay_line delay) ++ t) none in
-    let second : rest ≡ after_name (told own start delay) = s.1 ∙ ap (λ (t : List ℕ). ended (start_line start) ++ t) third in (
+    let third : last ≡ after_start (game_as_told own start delay) = d.1 ∙ ap (λ (t : List ℕ). ended (delay_line delay) ++ t) none in
+    let second : rest ≡ after_name (game_as_told own start delay) = s.1 ∙ ap (λ (t : List ℕ). ended (start_line start) ++ t) third in (
       record { name = subst IsGameName (sym same) n.0; start = s.0; delay = d.0 },
-      n.1 ∙ ap (λ (t : List ℕ). ended (name_line name) ++ t) second ∙ ap (λ (t : List ℕ). ended (name_line t) ++ after_name (told own start delay)) (sym same),
+      n.1 ∙ ap (λ (t : List ℕ). ended (name_line name) ++ t) second ∙ ap (λ (t : List ℕ). ended (name_line t) ++ after_name (game_as_told own start delay)) (sym same),
     )
 
 pub is_some : (xs : List ℕ) → false ≡ (length xs == 0) → xs ≢ []

@@ -5,7 +5,7 @@ use Rattle.std.specs.Io.KnownBytes.{Appends, Keeps}
 use Rattle.std.proofs.Math.Seq.{take-length}
 use Rattle.move_msg.specs.TextLines.{ended}
 use Rattle.system_io.specs.declared.output.WriteFault.{WriteFault}
-use Rattle.arbiter_server.specs.GoingOut.{GoesOut, GoOut, IsCutShort, LastIsCut, LinesEnd, Writers}
+use Rattle.arbiter_server.specs.GoingOut.{LineGoesOut, GoOut, IsLineCutShort, LastIsCut, LinesEnd, Writers}
 
 pub none_out : {W : Type 0} (w : Writers W) (a : W) → GoOut w a [] a
 unfolding GoOut
@@ -28,11 +28,11 @@ cut_later w a b c xs ys p h = record {
 }
 
 module _ {W : Type 0} (w : Writers W) (a : W) (line : List ℕ) where
-  one_out : (b : W) → GoesOut w a line b → GoOut w a (line ∷ []) b
+  one_out : (b : W) → LineGoesOut w a line b → GoOut w a (line ∷ []) b
   unfolding GoOut
   one_out b h = (b, h, refl)
 
-  one_cut : (b : W) → IsCutShort w a line b → LastIsCut w a (line ∷ []) b
+  one_cut : (b : W) → IsLineCutShort w a line b → LastIsCut w a (line ∷ []) b
   one_cut b h = record { whole = []; last = line; all = refl; at = a; went = none_out w a; cut = h }
 
   kept_on : (x y z : Option (List ℕ)) (bs : List ℕ) → Appends x y bs → Keeps y z → Appends x z bs

@@ -25,7 +25,7 @@ use Rattle.arbiter_server.specs.OverFiles.{GoesOn}
 use Rattle.arbiter_server.proofs.OpenedLaws.{good_unless}
 use Rattle.arbiter_server.proofs.Telling.{IsHonest, answer_honest, still_on}
 use Rattle.arbiter_server.specs.Folders.{Keepers}
-use Rattle.arbiter_server.specs.Acts.{Act, Reply, IsSorted, acts_of, all_replies, is_stamp, opens_for, replies_of, stamp_by, stamp_for}
+use Rattle.arbiter_server.specs.Acts.{Act, DatagramReply, IsSorted, acts_of, all_replies, is_stamp, opens_for, replies_of, stamp_by, stamp_for}
 use Rattle.arbiter_server.specs.Acts as act
 use Rattle.arbiter_server.specs.Games.{CommonView, Fresh, Goes, Life, Open, Shut, life_at}
 use Rattle.arbiter_server.specs.Games as game
@@ -34,16 +34,16 @@ use Rattle.arbiter_server.specs.Laws.{OpeningsAreFew, OwnReplies, RecordsGoOn, i
 -- ---- the replies of a game
 
 -- its datagram names this game
-abbrev names : List ℕ → Reply → Bool
+abbrev names : List ℕ → DatagramReply → Bool
 names stamp r = is_stamp stamp (stamp_for r.datagram)
 
 module _ {K : Type 0} (stamp : List ℕ) where
   silent : (b : Bool) (a : Act K) (acts : List (Act K)) → replies_of a ≡ [] → all_replies (cond b (a ∷ acts) acts) ≡ all_replies acts
-  silent true a acts e = ap (λ (rs : List Reply). rs ++ all_replies acts) e
+  silent true a acts e = ap (λ (rs : List DatagramReply). rs ++ all_replies acts) e
   silent false a acts e = refl
 
-  loud : (b : Bool) (a : Act K) (r : Reply) (acts : List (Act K)) (rest : List Reply) → replies_of a ≡ r ∷ [] → names stamp r ≡ b → all_replies acts ≡ filter (names stamp) rest → all_replies (cond b (a ∷ acts) acts) ≡ filter (names stamp) (r ∷ rest)
-  loud true a r acts rest e is h = ap (λ (rs : List Reply). rs ++ all_replies acts) e ∙ ap (λ (rs : List Reply). r ∷ rs) h ∙ ap (λ (b : Bool). cond b (r ∷ filter (names stamp) rest) (filter (names stamp) rest)) (sym is)
+  loud : (b : Bool) (a : Act K) (r : DatagramReply) (acts : List (Act K)) (rest : List DatagramReply) → replies_of a ≡ r ∷ [] → names stamp r ≡ b → all_replies acts ≡ filter (names stamp) rest → all_replies (cond b (a ∷ acts) acts) ≡ filter (names stamp) (r ∷ rest)
+  loud true a r acts rest e is h = ap (λ (rs : List DatagramReply). rs ++ all_replies acts) e ∙ ap (λ (rs : List DatagramReply). r ∷ rs) h ∙ ap (λ (b : Bool). cond b (r ∷ filter (names stamp) rest) (filter (names stamp) rest)) (sym is)
   loud false a r acts rest e is h = h ∙ ap (λ (b : Bool). cond b (r ∷ filter (names stamp) rest) (filter (names stamp) rest)) (sym is)
 
 pub own_replies : {K : Type 0} → OwnReplies K
@@ -94,14 +94,14 @@ whole_own rules kept w =
 
 module _ {K : Type 0} (facts : KeeperFacts K) (setup : SetupView) (before now : K) (v : View) where
   not_failed : (fault : OpenFault) → Ok v ≡ Err fault → ⊥
-  not_failed fault e = let f : ◌≡◌ {A = opening.Told} (Ok v) (Err fault) = e in cc
+  not_failed fault e = let f : ◌≡◌ {A = opening.OpenResult} (Ok v) (Err fault) = e in cc
 
   runs_own : (me : Identity) (kept : Recorded) → v ≡ running setup me kept → IsOwn (rules_at setup) kept → IsOwn (rules_at v.setup) v.kept
   runs_own me kept is own = subst (λ (x : View). IsOwn (rules_at x.setup) x.kept) (sym is) own
 
   first_own : (me : Identity) (keep : Keep) → FirstLands keep setup me (facts.kept before) (facts.kept now) (Ok v) → IsOwn (rules_at v.setup) v.kept
   first_own me Good lands =
-      let e : ◌≡◌ {A = opening.Told} (Ok v) (Ok (running setup me (first_record (rules_at setup)))) = lands.0 in
+      let e : ◌≡◌ {A = opening.OpenResult} (Ok v) (Ok (running setup me (first_record (rules_at setup)))) = lands.0 in
       let is : v ≡ running setup me (first_record (rules_at setup)) = cc in
       runs_own me (first_record (rules_at setup)) is (record { ruled = refl; reached = refl })
   first_own me FailsOld lands = absurd (not_failed KeeperFailed lands.0)
@@ -143,7 +143,7 @@ module _ {K : Type 0} (s : Keepers K) (t : CommonView) (stamp : List ℕ) where
   closed_own (Shut before) left new h = absurd h
   closed_own (Open at) left new h = subst OwnLife (sym h.1) tt
 
-  act_own : (old : Life K) (a : Act K) (new : Life K) → game.GoesOn s t stamp old a new → OwnLife old → OwnLife new
+  act_own : (old : Life K) (a : Act K) (new : Life K) → game.GoesByAct s t stamp old a new → OwnLife old → OwnLife new
   act_own old (act.Unread datagram fault) new h own = absurd h
   act_own old (act.Strange of datagram tried why) new h own = subst OwnLife (sym h.2) own
   act_own old (act.Refuses of datagram o fault) new h own = subst OwnLife (sym h.new_is) tt
@@ -160,10 +160,10 @@ records_go_on s t stamp acts at e path d = (delivered s.facts at e (all_own s t 
 
 -- ---- a game's openings
 
-abbrev asked : List ℕ → List Reply → ℕ
+abbrev asked : List ℕ → List DatagramReply → ℕ
 asked stamp replies = length (filter (opens_this stamp) replies)
 
-at_least : (stamp : List ℕ) (n : ℕ) (r : Reply) (rest : List Reply) → n ≤ asked stamp rest → n ≤ asked stamp (r ∷ rest)
+at_least : (stamp : List ℕ) (n : ℕ) (r : DatagramReply) (rest : List DatagramReply) → n ≤ asked stamp rest → n ≤ asked stamp (r ∷ rest)
 at_least stamp n r rest h = (elim (opens_this stamp r) as (λ b. n ≤ length (cond b (r ∷ filter (opens_this stamp) rest) (filter (opens_this stamp) rest))) [
   | true ↦ omega (arith, h)
   | false ↦ h
@@ -179,22 +179,22 @@ module _ {K : Type 0} (stamp : List ℕ) where
   no_opening false a acts e = refl
 
   -- with an opening, and a datagram for which games are opened
-  one_opening : (a : Act K) (acts : List (Act K)) (r : Reply) (rest : List Reply) → openings acts ≤ asked stamp rest → length (filter is_opening (a ∷ acts_of stamp acts)) ≤ length (r ∷ filter (opens_this stamp) rest)
+  one_opening : (a : Act K) (acts : List (Act K)) (r : DatagramReply) (rest : List DatagramReply) → openings acts ≤ asked stamp rest → length (filter is_opening (a ∷ acts_of stamp acts)) ≤ length (r ∷ filter (opens_this stamp) rest)
   one_opening a acts r rest h = (elim (is_opening a) as (λ x. length (cond x (a ∷ filter is_opening (acts_of stamp acts)) (filter is_opening (acts_of stamp acts))) ≤ length (r ∷ filter (opens_this stamp) rest)) [
     | true ↦ omega (arith, h)
     | false ↦ omega (arith, h)
   ])
 
-  one_more : (b c : Bool) (a : Act K) (acts : List (Act K)) (r : Reply) (rest : List Reply) → c ≡ true → openings acts ≤ asked stamp rest
+  one_more : (b c : Bool) (a : Act K) (acts : List (Act K)) (r : DatagramReply) (rest : List DatagramReply) → c ≡ true → openings acts ≤ asked stamp rest
       → length (filter is_opening (cond b (a ∷ acts_of stamp acts) (acts_of stamp acts))) ≤ length (cond (b && c) (r ∷ filter (opens_this stamp) rest) (filter (opens_this stamp) rest))
   one_more true true a acts r rest e h = one_opening a acts r rest h
   one_more true false a acts r rest e h = absurd (let wrong : false ≡ true = e in cc)
   one_more false c a acts r rest e h = h
 
-  still_few : (b : Bool) (a : Act K) (acts : List (Act K)) (rest : List Reply) → is_opening a ≡ false → openings acts ≤ asked stamp rest → length (filter is_opening (cond b (a ∷ acts_of stamp acts) (acts_of stamp acts))) ≤ asked stamp rest
+  still_few : (b : Bool) (a : Act K) (acts : List (Act K)) (rest : List DatagramReply) → is_opening a ≡ false → openings acts ≤ asked stamp rest → length (filter is_opening (cond b (a ∷ acts_of stamp acts) (acts_of stamp acts))) ≤ asked stamp rest
   still_few b a acts rest e h = subst (λ (n : ℕ). n ≤ asked stamp rest) (sym (no_opening b a acts e)) h
 
-  for_datagram : (a : Act K) (of datagram : List ℕ) (acts : List (Act K)) (r : Reply) (rest : List Reply) → r.datagram ≡ datagram → stamp_for datagram ≡ Some of → opens_for datagram ≡ true → openings acts ≤ asked stamp rest
+  for_datagram : (a : Act K) (of datagram : List ℕ) (acts : List (Act K)) (r : DatagramReply) (rest : List DatagramReply) → r.datagram ≡ datagram → stamp_for datagram ≡ Some of → opens_for datagram ≡ true → openings acts ≤ asked stamp rest
       → length (filter is_opening (cond (bytes_eq of stamp) (a ∷ acts_of stamp acts) (acts_of stamp acts))) ≤ asked stamp (r ∷ rest)
   for_datagram a of datagram acts r rest is sorted opens h =
       subst (λ (d : List ℕ). length (filter is_opening (cond (bytes_eq of stamp) (a ∷ acts_of stamp acts) (acts_of stamp acts))) ≤ length (cond (is_stamp stamp (stamp_for d) && opens_for d) (r ∷ filter (opens_this stamp) rest) (filter (opens_this stamp) rest))) (sym is)

@@ -11,7 +11,7 @@ use Rattle.arbiter_core.specs.declared.fault.DeliverFault.{DeliverFault}
 use Rattle.arbiter_core.specs.declared.fault.DeliverFault.TheVariants as deliver
 use Rattle.arbiter_server.specs.declared.heard.Heard.{Heard}
 use Rattle.arbiter_server.specs.declared.heard.Heard.TheVariants as heard
-use Rattle.arbiter_server.specs.LineLogs.{common, kind_of, place_in, told_part}
+use Rattle.arbiter_server.specs.LineLogs.{common, line_kind, place_in, told_part}
 use Rattle.arbiter_server.specs.ServedLines.{heard_line, refused_datagram}
 use Rattle.arbiter_server.specs.Told.{stamped}
 
@@ -27,8 +27,8 @@ not_short n long = by_test (ltb n 34) refl where
   by_test false e = e
   by_test true e = absurd (let short : n < 34 = (Decides-ltb n 34).0 e in omega (arith, short, long))
 
-pub kind_behind : (stamp words : List ℕ) → length stamp ≡ 16 → kind_of (ended (stamped stamp words)) ≡ place_in 0 common (ended words)
-unfolding kind_of
+pub kind_behind : (stamp words : List ℕ) → length stamp ≡ 16 → line_kind (ended (stamped stamp words)) ≡ place_in 0 common (ended words)
+unfolding line_kind
 kind_behind stamp words size =
     let digits = encode_lower stamp in
     let long = digits_long stamp size in

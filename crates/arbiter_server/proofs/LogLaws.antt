@@ -11,7 +11,7 @@ use Rattle.arbiter_core.proofs.Reach.{none_from}
 use Rattle.board_core.proofs.ComputedLists.{Contains-first}
 use Rattle.move_msg.specs.TextLines.{ended}
 use Rattle.arbiter_server.specs.declared.line_log.LogForm.TheVariants as form
-use Rattle.arbiter_server.specs.LineLogs.{changes_after, is_at, kind_of, last_at, picked, picked_by, place_of}
+use Rattle.arbiter_server.specs.LineLogs.{changes_after, is_at, last_at, line_kind, picked, picked_by, remembered_place}
 use Rattle.arbiter_server.specs.ServedLines.{heard_words}
 use Rattle.arbiter_server.specs.Told.{stamped}
 use Rattle.arbiter_server.proofs.LogKinds.{kind_behind}
@@ -25,27 +25,27 @@ latest_or : (t : Bool) (text before wanted : List ℕ) → cond t text before �
 latest_or true text before wanted e = inl (refl, e)
 latest_or false text before wanted e = inr e
 
-is_game : (text : List ℕ) (place : ℕ) → is_at place text ≡ true → kind_of text ≡ None
-is_game text place e = none_from (kind_of text) (and_parts (is_none (kind_of text)) (place_of text == place) e).0
+is_game : (text : List ℕ) (place : ℕ) → is_at place text ≡ true → line_kind text ≡ None
+is_game text place e = none_from (line_kind text) (and_parts (is_none (line_kind text)) (remembered_place text == place) e).0
 
 -- what is picked of a line of a game has it, or it was the last of its place
-module _ (before : List (List ℕ)) (line : List ℕ) (none : kind_of (ended line) ≡ None) where
-  by_last : (t : Bool) → bytes_eq (last_at (place_of (ended line)) before) (ended line) ≡ t → Contains (cond t [] (line ∷ [])) line ⊎ (last_at (place_of (ended line)) before ≡ ended line)
-  by_last true e = inr ((bytes_eq-Decides (last_at (place_of (ended line)) before) (ended line)).0 e)
+module _ (before : List (List ℕ)) (line : List ℕ) (none : line_kind (ended line) ≡ None) where
+  by_last : (t : Bool) → bytes_eq (last_at (remembered_place (ended line)) before) (ended line) ≡ t → Contains (cond t [] (line ∷ [])) line ⊎ (last_at (remembered_place (ended line)) before ≡ ended line)
+  by_last true e = inr ((bytes_eq-Decides (last_at (remembered_place (ended line)) before) (ended line)).0 e)
   by_last false e = inl (Contains-push [] line)
 
-  is_picked : Contains (picked form.Changes before line) line ⊎ (last_at (place_of (ended line)) before ≡ ended line)
-  is_picked = subst (λ (o : Option ℕ). Contains (picked_by before line o) line ⊎ (last_at (place_of (ended line)) before ≡ ended line)) (sym none) (by_last _ refl)
+  is_picked : Contains (picked form.Changes before line) line ⊎ (last_at (remembered_place (ended line)) before ≡ ended line)
+  is_picked = subst (λ (o : Option ℕ). Contains (picked_by before line o) line ⊎ (last_at (remembered_place (ended line)) before ≡ ended line)) (sym none) (by_last _ refl)
 
 -- these lines have each that is the last of its place
 abbrev HasLasts : List (List ℕ) → List (List ℕ) → Type 0
 HasLasts told before = (place : ℕ) (line : List ℕ) → last_at place before ≡ ended line → Contains told line
 
 module _ (told before : List (List ℕ)) (has : HasLasts told before) (first : List ℕ) where
-  first_in : kind_of (ended first) ≡ None → Contains (told ++ picked form.Changes before first) first
+  first_in : line_kind (ended first) ≡ None → Contains (told ++ picked form.Changes before first) first
   first_in none =
       ⊎_elim (λ there. Contains-append_right told (picked form.Changes before first) first there)
-      (λ (last : last_at (place_of (ended first)) before ≡ ended first). Contains-append_left told (picked form.Changes before first) first (has (place_of (ended first)) first last)) (is_picked before first none)
+      (λ (last : last_at (remembered_place (ended first)) before ≡ ended first). Contains-append_left told (picked form.Changes before first) first (has (remembered_place (ended first)) first last)) (is_picked before first none)
 
   has_more : HasLasts (told ++ picked form.Changes before first) (ended first ∷ before)
   unfolding last_at
@@ -54,14 +54,14 @@ module _ (told before : List (List ℕ)) (has : HasLasts told before) (first : L
       subst (Contains (told ++ picked form.Changes before first)) (same_line first line h.1) (first_in (is_game (ended first) place h.0)))
       (λ (was : last_at place before ≡ ended line). Contains-append_left told (picked form.Changes before first) line (has place line was)) (latest_or (is_at place (ended first)) (ended first) (last_at place before) (ended line) e)
 
-keeps_each : (lines told before : List (List ℕ)) → HasLasts told before → (line : List ℕ) → Contains lines line → kind_of (ended line) ≡ None → Contains (told ++ changes_after before lines) line
+keeps_each : (lines told before : List (List ℕ)) → HasLasts told before → (line : List ℕ) → Contains lines line → line_kind (ended line) ≡ None → Contains (told ++ changes_after before lines) line
 unfolding changes_after
 keeps_each [] told before has line there none = let lt = there.1 in absurd (omega (arith, lt))
 keeps_each (first ∷ lines) told before has line there none =
     let one = picked form.Changes before first in
     let rest = changes_after (ended first ∷ before) lines in
     subst (λ (ls : List (List ℕ)). Contains ls line) (append_assoc told one rest)
-    (⊎_elim (λ (is : first ≡ line). Contains-append_left (told ++ one) rest line (subst (Contains (told ++ one)) is (first_in told before has first (subst (λ (l : List ℕ). kind_of (ended l) ≡ None) (sym is) none))))
+    (⊎_elim (λ (is : first ≡ line). Contains-append_left (told ++ one) rest line (subst (Contains (told ++ one)) is (first_in told before has first (subst (λ (l : List ℕ). line_kind (ended l) ≡ None) (sym is) none))))
     (λ later. keeps_each lines (told ++ one) (ended first ∷ before) (has_more told before has first) line later none) (Contains-first first lines line there))
 
 nothing_last : HasLasts [] []

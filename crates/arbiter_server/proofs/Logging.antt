@@ -3,7 +3,7 @@ use Rattle.std.proofs.Common.{◌≡◌, ◌∙◌, ℕ, Bool, true, false, cond
 use Rattle.move_msg.specs.TextLines.{ended}
 use Rattle.arbiter_server.specs.declared.line_log.LogForm.{LogForm}
 use Rattle.arbiter_server.specs.declared.line_log.LogForm.TheVariants as form
-use Rattle.arbiter_server.specs.LineLogs.{changes_after, kind_of, logged, picked, picked_by}
+use Rattle.arbiter_server.specs.LineLogs.{changes_after, line_kind, logged, picked, picked_by}
 
 -- the texts of lines behind these, the latest first
 unfoldable pub texts_after : List (List ℕ) → List (List ℕ) → List (List ℕ)
@@ -61,4 +61,4 @@ pub only_one : (f : LogForm) (before : List (List ℕ)) (line : List ℕ) (whole
 only_one form.All before line whole last h = no_more line last whole h
 only_one form.Nothing before line [] last h = cc
 only_one form.Nothing before line (x ∷ whole) last h = cc
-only_one form.Changes before line whole last h = by_kind before line last (kind_of (ended line)) whole h
+only_one form.Changes before line whole last h = by_kind before line last (line_kind (ended line)) whole h

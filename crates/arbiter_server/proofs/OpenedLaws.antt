@@ -13,7 +13,7 @@ use Rattle.arbiter_core.specs.declared.fault.OpenFault.{OpenFault}
 use Rattle.arbiter_core.specs.declared.fault.OpenFault.TheVariants.{BadSetup, KeeperFailed, OutOfMemory}
 use Rattle.arbiter_core.specs.Answering.{Identity}
 use Rattle.arbiter_core.specs.Recording.{Recorded, reaches}
-use Rattle.arbiter_core.specs.Opens.{FirstLands, IsOpening, IsWhole, Opens, OpensOver, Told, first_record, running}
+use Rattle.arbiter_core.specs.Opens.{FirstLands, IsOpening, IsWhole, OpenResult, Opens, OpensOver, first_record, running}
 use Rattle.arbiter_core.specs.Setups.{SetupView, IsGood, rules_at}
 use Rattle.arbiter_core.specs.Views.{View}
 use Rattle.arbiter_core.specs.Delivers.{IsSpelled, Moment, moment}
@@ -22,7 +22,7 @@ use Rattle.system_io.specs.KeptFiles.{KeptFacts}
 use Rattle.arbiter_server.specs.OverFiles.{ServesAndWrites}
 use Rattle.arbiter_server.specs.GoingOut.{Writers}
 use Rattle.arbiter_server.specs.Serving.{Scene, Serves, scene}
-use Rattle.arbiter_server.specs.StoredBytes.{Failed, IsInFile, Landed, PutsInto, file_of, keeper_over, stored}
+use Rattle.arbiter_server.specs.StoredBytes.{Failed, IsInFile, Landed, PutsInto, keeper_file, keeper_over, stored}
 use Rattle.arbiter_server.proofs.FoundLaws.{IsSafe, found_through, safe_finds}
 use Rattle.arbiter_core.specs.Laws.{IsOwn, PutsGrow}
 
@@ -62,10 +62,10 @@ good_unless setup h = record { name = (long, short, printable); me = who (cases_
 
 module _ {F : Type 0} (facts : F → KeptFacts) (setup : SetupView) (before : FileKeeper F) (opened : Moment (FileKeeper F)) (in_file : IsInFile facts before) where
   not_failed : (fault : OpenFault) → Ok opened.arbiter ≡ Err fault → ⊥
-  not_failed fault e = let f : ◌≡◌ {A = Told} (Ok opened.arbiter) (Err fault) = e in cc
+  not_failed fault e = let f : ◌≡◌ {A = OpenResult} (Ok opened.arbiter) (Err fault) = e in cc
 
   -- it runs from these bytes, which are in the file
-  runs_from : (me : Identity) (kept : Recorded) (bytes : List ℕ) → opened.arbiter ≡ running setup me kept → stored opened.keeper ≡ Some bytes → (facts (file_of opened.keeper)).finds (Some bytes) (Some bytes) → IsSpelled me.stamp setup.delay kept (Some bytes) → IsOwn (rules_at setup) kept → IsSafe facts opened
+  runs_from : (me : Identity) (kept : Recorded) (bytes : List ℕ) → opened.arbiter ≡ running setup me kept → stored opened.keeper ≡ Some bytes → (facts (keeper_file opened.keeper)).finds (Some bytes) (Some bytes) → IsSpelled me.stamp setup.delay kept (Some bytes) → IsOwn (rules_at setup) kept → IsSafe facts opened
   runs_from me kept bytes is there found spelled own =
       let run : IsSafe facts (moment (running setup me kept) opened.keeper) = record { bytes = bytes; stored_is = there; spelled = spelled; found = found; own = own } in
       subst (λ (v : View). IsSafe facts (moment v opened.keeper)) (sym is) run
@@ -81,7 +81,7 @@ module _ {F : Type 0} (facts : F → KeptFacts) (setup : SetupView) (before : Fi
 
   first_safe : (me : Identity) (keep : Keep) (mid : FileKeeper F) (sent : List ℕ) → stored before ≡ None → mid ≡ before → FirstLands keep setup me (stored before) (stored opened.keeper) (Ok opened.arbiter) → PutsInto facts mid sent opened.keeper → IsSafe facts opened
   first_safe me Good mid sent none same lands (Landed good there found) =
-      let e : ◌≡◌ {A = Told} (Ok opened.arbiter) (Ok (running setup me (first_record (rules_at setup)))) = lands.0 in
+      let e : ◌≡◌ {A = OpenResult} (Ok opened.arbiter) (Ok (running setup me (first_record (rules_at setup)))) = lands.0 in
       let is : opened.arbiter ≡ running setup me (first_record (rules_at setup)) = cc in
       runs_from me (first_record (rules_at setup)) sent is there found (subst (IsSpelled me.stamp setup.delay (first_record (rules_at setup))) there lands.1) (record { ruled = refl; reached = refl })
   first_safe me Good mid sent none same lands (Failed cause stays risen left) =
@@ -94,8 +94,8 @@ module _ {F : Type 0} (facts : F → KeptFacts) (setup : SetupView) (before : Fi
   over_safe me (Some bytes) is h =
       let there : stored opened.keeper ≡ Some bytes = h.0 ∙ is in
       let keeper : opened.keeper ≡ before = h.2 in
-      let found : (facts (file_of opened.keeper)).finds (Some bytes) (Some bytes) =
-      subst (λ (o : Option (List ℕ)). (facts (file_of opened.keeper)).finds o o) there (subst (IsInFile facts) (sym keeper) in_file) in
+      let found : (facts (keeper_file opened.keeper)).finds (Some bytes) (Some bytes) =
+      subst (λ (o : Option (List ℕ)). (facts (keeper_file opened.keeper)).finds o o) there (subst (IsInFile facts) (sym keeper) in_file) in
       runs_from me opened.arbiter.kept bytes h.1.0 there found h.1.1.0 (whole_own opened.arbiter.kept h.1.1.1)
 
   opens_safe : (me : Identity) → Opens (keeper_over facts) setup me before opened.keeper (Ok opened.arbiter) → IsSafe facts opened

@@ -16,12 +16,12 @@ use Rattle.arbiter_server.specs.declared.line_log.LineLog.TheVariants as logs
 use Rattle.arbiter_server.specs.declared.line_log.LogForm.{LogForm}
 use Rattle.arbiter_server.specs.declared.line_log.LogForm.TheVariants as form
 use Rattle.arbiter_server.specs.GoingOut.{GoOut, LinesEnd, Writers}
-use Rattle.arbiter_server.specs.LineLogs.{Remembers, RemembersAll, TellsChange, TellsLine, count_of, counted, form_of, is_kind, kind_of, last_at, most, one_more, picked, picked_by, place_of}
+use Rattle.arbiter_server.specs.LineLogs.{LogsLine, Remembers, RemembersAll, TellsChange, form_of, is_line_kind, kind_count, last_at, line_kind, line_with_count, most, one_more_line, picked, picked_by, remembered_place}
 use Rattle.arbiter_server.proofs.GoingLaws.{none_out}
 use Rattle.arbiter_server.specs.Remembering.{Remembered}
 
 -- a number counted on, of which no more than the most is kept
-more_kept : (n : ℕ) → one_more (min n most) ≡ min (n + 1) most
+more_kept : (n : ℕ) → one_more_line (min n most) ≡ min (n + 1) most
 more_kept n = omega arith
 
 differs : (a b : ℕ) → a ≢ b → (a == b) ≡ false
@@ -32,127 +32,127 @@ differs a b ne = by_test (a == b) refl where
 
 -- ---- a line of a kind
 
-module _ (kind : ℕ) (text : List ℕ) (before : List (List ℕ)) (is : kind_of text ≡ Some kind) where
-  counts_one : count_of kind (text ∷ before) ≡ count_of kind before + 1
-  unfolding count_of
-  counts_one = ap (λ (o : Option ℕ). cond (is_kind kind o) (count_of kind before + 1) (count_of kind before)) is ∙ ap (λ (t : Bool). cond t (count_of kind before + 1) (count_of kind before)) (eq-eqb kind kind refl)
+module _ (kind : ℕ) (text : List ℕ) (before : List (List ℕ)) (is : line_kind text ≡ Some kind) where
+  counts_one : kind_count kind (text ∷ before) ≡ kind_count kind before + 1
+  unfolding kind_count
+  counts_one = ap (λ (o : Option ℕ). cond (is_line_kind kind o) (kind_count kind before + 1) (kind_count kind before)) is ∙ ap (λ (t : Bool). cond t (kind_count kind before + 1) (kind_count kind before)) (eq-eqb kind kind refl)
 
-  counts_no_other : (other : ℕ) → other ≢ kind → count_of other (text ∷ before) ≡ count_of other before
-  unfolding count_of
+  counts_no_other : (other : ℕ) → other ≢ kind → kind_count other (text ∷ before) ≡ kind_count other before
+  unfolding kind_count
   counts_no_other other ne =
-      ap (λ (o : Option ℕ). cond (is_kind other o) (count_of other before + 1) (count_of other before)) is
-      ∙ ap (λ (t : Bool). cond t (count_of other before + 1) (count_of other before)) (differs kind other (λ e. ne (sym e)))
+      ap (λ (o : Option ℕ). cond (is_line_kind other o) (kind_count other before + 1) (kind_count other before)) is
+      ∙ ap (λ (t : Bool). cond t (kind_count other before + 1) (kind_count other before)) (differs kind other (λ e. ne (sym e)))
 
   stays_last : (place : ℕ) → last_at place (text ∷ before) ≡ last_at place before
   unfolding last_at
-  stays_last place = ap (λ (o : Option ℕ). cond (is_none o && (place_of text == place)) text (last_at place before)) is
+  stays_last place = ap (λ (o : Option ℕ). cond (is_none o && (remembered_place text == place)) text (last_at place before)) is
 
-  pub remembers_kind : (old new : Remembered) → RemembersAll old before → kind < 8 → new.counts ≡ set old.counts kind (one_more (get_or old.counts kind 0)) → new.lasts ≡ old.lasts → RemembersAll new (text ∷ before)
+  pub remembers_kind : (old new : Remembered) → RemembersAll old before → kind < 8 → new.counts ≡ set old.counts kind (one_more_line (get_or old.counts kind 0)) → new.lasts ≡ old.lasts → RemembersAll new (text ∷ before)
   remembers_kind old new had few counts lasts =
       let size = had.kinds in
       record {
         kinds = ap (λ (l : List ℕ). length l) counts ∙ length-set old.counts kind _ ∙ had.kinds;
         places = ap (λ (l : List (List ℕ)). length l) lasts ∙ had.places;
         counts = λ other lt. ap (λ (l : List ℕ). get_or l other 0) counts ∙ ⊎_elim (λ (e : other ≡ kind).
-            subst (λ (k : ℕ). get_or (set old.counts kind (one_more (get_or old.counts kind 0))) k 0 ≡ min (count_of k (text ∷ before)) most) (sym e)
-            (get_or-set_same old.counts kind (one_more (get_or old.counts kind 0)) 0 (omega (arith, size, few)) ∙ ap one_more (had.counts kind few) ∙ more_kept (count_of kind before) ∙ ap (λ n. min n most) (sym counts_one)))
+            subst (λ (k : ℕ). get_or (set old.counts kind (one_more_line (get_or old.counts kind 0))) k 0 ≡ min (kind_count k (text ∷ before)) most) (sym e)
+            (get_or-set_same old.counts kind (one_more_line (get_or old.counts kind 0)) 0 (omega (arith, size, few)) ∙ ap one_more_line (had.counts kind few) ∙ more_kept (kind_count kind before) ∙ ap (λ n. min n most) (sym counts_one)))
             (λ (ne : other ≢ kind). get_or-set_other old.counts kind other _ 0 ne ∙ had.counts other lt ∙ ap (λ n. min n most) (sym (counts_no_other other ne))) (cases_eq other kind);
         lasts = λ place lt. ap (λ (l : List (List ℕ)). get_or l place []) lasts ∙ had.lasts place lt ∙ sym (stays_last place);
       }
 
 -- ---- a line of none
 
-module _ (text : List ℕ) (before : List (List ℕ)) (none : kind_of text ≡ None) where
-  counts_none : (kind : ℕ) → count_of kind (text ∷ before) ≡ count_of kind before
-  unfolding count_of
-  counts_none kind = ap (λ (o : Option ℕ). cond (is_kind kind o) (count_of kind before + 1) (count_of kind before)) none
+module _ (text : List ℕ) (before : List (List ℕ)) (none : line_kind text ≡ None) where
+  counts_none : (kind : ℕ) → kind_count kind (text ∷ before) ≡ kind_count kind before
+  unfolding kind_count
+  counts_none kind = ap (λ (o : Option ℕ). cond (is_line_kind kind o) (kind_count kind before + 1) (kind_count kind before)) none
 
-  is_last : last_at (place_of text) (text ∷ before) ≡ text
+  is_last : last_at (remembered_place text) (text ∷ before) ≡ text
   unfolding last_at
   is_last =
-      ap (λ (o : Option ℕ). cond (is_none o && (place_of text == place_of text)) text (last_at (place_of text) before)) none
-      ∙ ap (λ (t : Bool). cond t text (last_at (place_of text) before)) (eq-eqb (place_of text) (place_of text) refl)
+      ap (λ (o : Option ℕ). cond (is_none o && (remembered_place text == remembered_place text)) text (last_at (remembered_place text) before)) none
+      ∙ ap (λ (t : Bool). cond t text (last_at (remembered_place text) before)) (eq-eqb (remembered_place text) (remembered_place text) refl)
 
-  is_no_other : (place : ℕ) → place ≢ place_of text → last_at place (text ∷ before) ≡ last_at place before
+  is_no_other : (place : ℕ) → place ≢ remembered_place text → last_at place (text ∷ before) ≡ last_at place before
   unfolding last_at
   is_no_other place ne =
-      ap (λ (o : Option ℕ). cond (is_none o && (place_of text == place)) text (last_at place before)) none
-      ∙ ap (λ (t : Bool). cond t text (last_at place before)) (differs (place_of text) place (λ e. ne (sym e)))
+      ap (λ (o : Option ℕ). cond (is_none o && (remembered_place text == place)) text (last_at place before)) none
+      ∙ ap (λ (t : Bool). cond t text (last_at place before)) (differs (remembered_place text) place (λ e. ne (sym e)))
 
   -- another line than the last of its place
-  pub remembers_new : (old new : Remembered) → RemembersAll old before → place_of text < 65536 → new.counts ≡ old.counts → new.lasts ≡ set old.lasts (place_of text) text → RemembersAll new (text ∷ before)
+  pub remembers_new : (old new : Remembered) → RemembersAll old before → remembered_place text < 65536 → new.counts ≡ old.counts → new.lasts ≡ set old.lasts (remembered_place text) text → RemembersAll new (text ∷ before)
   remembers_new old new had few counts lasts =
       let size = had.places in
       record {
         kinds = ap (λ (l : List ℕ). length l) counts ∙ had.kinds;
-        places = ap (λ (l : List (List ℕ)). length l) lasts ∙ length-set old.lasts (place_of text) text ∙ had.places;
+        places = ap (λ (l : List (List ℕ)). length l) lasts ∙ length-set old.lasts (remembered_place text) text ∙ had.places;
         counts = λ kind lt. ap (λ (l : List ℕ). get_or l kind 0) counts ∙ had.counts kind lt ∙ ap (λ n. min n most) (sym (counts_none kind));
-        lasts = λ place lt. ap (λ (l : List (List ℕ)). get_or l place []) lasts ∙ ⊎_elim (λ (e : place ≡ place_of text).
-            subst (λ (p : ℕ). get_or (set old.lasts (place_of text) text) p [] ≡ last_at p (text ∷ before)) (sym e) (get_or-set_same old.lasts (place_of text) text [] (omega (arith, size, few)) ∙ sym is_last))
-            (λ (ne : place ≢ place_of text). get_or-set_other old.lasts (place_of text) place text [] ne ∙ had.lasts place lt ∙ sym (is_no_other place ne)) (cases_eq place (place_of text));
+        lasts = λ place lt. ap (λ (l : List (List ℕ)). get_or l place []) lasts ∙ ⊎_elim (λ (e : place ≡ remembered_place text).
+            subst (λ (p : ℕ). get_or (set old.lasts (remembered_place text) text) p [] ≡ last_at p (text ∷ before)) (sym e) (get_or-set_same old.lasts (remembered_place text) text [] (omega (arith, size, few)) ∙ sym is_last))
+            (λ (ne : place ≢ remembered_place text). get_or-set_other old.lasts (remembered_place text) place text [] ne ∙ had.lasts place lt ∙ sym (is_no_other place ne)) (cases_eq place (remembered_place text));
       }
 
   -- the last of its place again
-  pub remembers_again : (old new : Remembered) → RemembersAll old before → place_of text < 65536 → new.counts ≡ old.counts → new.lasts ≡ old.lasts → get_or old.lasts (place_of text) [] ≡ text → RemembersAll new (text ∷ before)
+  pub remembers_again : (old new : Remembered) → RemembersAll old before → remembered_place text < 65536 → new.counts ≡ old.counts → new.lasts ≡ old.lasts → get_or old.lasts (remembered_place text) [] ≡ text → RemembersAll new (text ∷ before)
   remembers_again old new had few counts lasts again =
       record {
         kinds = ap (λ (l : List ℕ). length l) counts ∙ had.kinds;
         places = ap (λ (l : List (List ℕ)). length l) lasts ∙ had.places;
         counts = λ kind lt. ap (λ (l : List ℕ). get_or l kind 0) counts ∙ had.counts kind lt ∙ ap (λ n. min n most) (sym (counts_none kind));
-        lasts = λ place lt. ap (λ (l : List (List ℕ)). get_or l place []) lasts ∙ ⊎_elim (λ (e : place ≡ place_of text).
+        lasts = λ place lt. ap (λ (l : List (List ℕ)). get_or l place []) lasts ∙ ⊎_elim (λ (e : place ≡ remembered_place text).
             subst (λ (p : ℕ). get_or old.lasts p [] ≡ last_at p (text ∷ before)) (sym e) (again ∙ sym is_last))
-            (λ (ne : place ≢ place_of text). had.lasts place lt ∙ sym (is_no_other place ne)) (cases_eq place (place_of text));
+            (λ (ne : place ≢ remembered_place text). had.lasts place lt ∙ sym (is_no_other place ne)) (cases_eq place (remembered_place text));
       }
 
 -- ---- what is remembered at first
 
 -- nothing
 pub remembers_none : (new : Remembered) → length new.counts ≡ 8 → length new.lasts ≡ 65536 → ((kind : ℕ) → kind < 8 → get_or new.counts kind 0 ≡ 0) → ((place : ℕ) → place < 65536 → get_or new.lasts place [] ≡ []) → RemembersAll new []
-unfolding count_of last_at
+unfolding kind_count last_at
 remembers_none new kinds places counts lasts = record { kinds = kinds; places = places; counts = counts; lasts = lasts }
 
 -- ---- what is told
 
 module _ {W T : Type 0} (w : Writers W) (before : List (List ℕ)) (line text : List ℕ) (is : text ≡ ended line) (old new : Remembered) (had : RemembersAll old before) (out out' : W) (r : Result T WriteFault) where
   -- of a line of a kind
-  pub tells_counted : (kind n : ℕ) → kind_of text ≡ Some kind → kind < 8 → n ≡ one_more (get_or old.counts kind 0) → new.counts ≡ set old.counts kind n → new.lasts ≡ old.lasts
-      → (t : Bool) → is_power_of_two n ≡ t → LinesEnd w out (cond t (counted line n ∷ []) []) out' r → TellsChange w before new line out out' r
+  pub tells_counted : (kind n : ℕ) → line_kind text ≡ Some kind → kind < 8 → n ≡ one_more_line (get_or old.counts kind 0) → new.counts ≡ set old.counts kind n → new.lasts ≡ old.lasts
+      → (t : Bool) → is_power_of_two n ≡ t → LinesEnd w out (cond t (line_with_count line n ∷ []) []) out' r → TellsChange w before new line out out' r
   tells_counted kind n of few count counts lasts t power lines =
-      let same : kind_of (ended line) ≡ Some kind = subst (λ (x : List ℕ). kind_of x ≡ Some kind) is of in
-      let counted_so : n ≡ one_more (min (count_of kind before) most) = count ∙ ap one_more (had.counts kind few) in
-      let picks : cond t (counted line n ∷ []) [] ≡ picked form.Changes before line =
-      ap (λ (b : Bool). cond b (counted line n ∷ []) []) (sym power)
-      ∙ ap (λ (m : ℕ). cond (is_power_of_two m) (counted line m ∷ []) []) counted_so
+      let same : line_kind (ended line) ≡ Some kind = subst (λ (x : List ℕ). line_kind x ≡ Some kind) is of in
+      let counted_so : n ≡ one_more_line (min (kind_count kind before) most) = count ∙ ap one_more_line (had.counts kind few) in
+      let picks : cond t (line_with_count line n ∷ []) [] ≡ picked form.Changes before line =
+      ap (λ (b : Bool). cond b (line_with_count line n ∷ []) []) (sym power)
+      ∙ ap (λ (m : ℕ). cond (is_power_of_two m) (line_with_count line m ∷ []) []) counted_so
       ∙ ap (picked_by before line) (sym same) in
       record {
         lines = subst (λ (ls : List (List ℕ)). LinesEnd w out ls out' r) picks lines;
         after = subst (λ (x : List ℕ). RemembersAll new (x ∷ before)) is (remembers_kind kind text before of old new had few (counts ∙ ap (λ (m : ℕ). set old.counts kind m) count) lasts);
       }
 
-  module _ (none : kind_of text ≡ None) (few : place_of text < 65536) (counts : new.counts ≡ old.counts) where
-    picks_by : (t : Bool) → bytes_eq (get_or old.lasts (place_of text) []) text ≡ t → cond t [] (line ∷ []) ≡ picked form.Changes before line
+  module _ (none : line_kind text ≡ None) (few : remembered_place text < 65536) (counts : new.counts ≡ old.counts) where
+    picks_by : (t : Bool) → bytes_eq (get_or old.lasts (remembered_place text) []) text ≡ t → cond t [] (line ∷ []) ≡ picked form.Changes before line
     picks_by t test =
         ap (λ (b : Bool). cond b [] (line ∷ [])) (sym test)
-        ∙ ap (λ (x : List ℕ). cond (bytes_eq x text) [] (line ∷ [])) (had.lasts (place_of text) few)
-        ∙ ap (λ (x : List ℕ). cond (bytes_eq (last_at (place_of x) before) x) [] (line ∷ [])) is
-        ∙ ap (picked_by before line) (sym (subst (λ (x : List ℕ). kind_of x ≡ None) is none))
+        ∙ ap (λ (x : List ℕ). cond (bytes_eq x text) [] (line ∷ [])) (had.lasts (remembered_place text) few)
+        ∙ ap (λ (x : List ℕ). cond (bytes_eq (last_at (remembered_place x) before) x) [] (line ∷ [])) is
+        ∙ ap (picked_by before line) (sym (subst (λ (x : List ℕ). line_kind x ≡ None) is none))
 
     -- of a line that is the last of its place
-    pub tells_again : new.lasts ≡ old.lasts → bytes_eq (get_or old.lasts (place_of text) []) text ≡ true → LinesEnd w out [] out' r → TellsChange w before new line out out' r
+    pub tells_again : new.lasts ≡ old.lasts → bytes_eq (get_or old.lasts (remembered_place text) []) text ≡ true → LinesEnd w out [] out' r → TellsChange w before new line out out' r
     tells_again lasts test lines = record {
       lines = subst (λ (ls : List (List ℕ)). LinesEnd w out ls out' r) (picks_by true test) lines;
-      after = subst (λ (x : List ℕ). RemembersAll new (x ∷ before)) is (remembers_again text before none old new had few counts lasts ((bytes_eq-Decides (get_or old.lasts (place_of text) []) text).0 test));
+      after = subst (λ (x : List ℕ). RemembersAll new (x ∷ before)) is (remembers_again text before none old new had few counts lasts ((bytes_eq-Decides (get_or old.lasts (remembered_place text) []) text).0 test));
     }
 
     -- of another one
-    pub tells_other : new.lasts ≡ set old.lasts (place_of text) text → bytes_eq (get_or old.lasts (place_of text) []) text ≡ false → LinesEnd w out (line ∷ []) out' r → TellsChange w before new line out out' r
+    pub tells_other : new.lasts ≡ set old.lasts (remembered_place text) text → bytes_eq (get_or old.lasts (remembered_place text) []) text ≡ false → LinesEnd w out (line ∷ []) out' r → TellsChange w before new line out out' r
     tells_other lasts test lines = record {
       lines = subst (λ (ls : List (List ℕ)). LinesEnd w out ls out' r) (picks_by false test) lines;
       after = subst (λ (x : List ℕ). RemembersAll new (x ∷ before)) is (remembers_new text before none old new had few counts lasts);
     }
 
 -- by a log of changes
-pub tells_by_change : {W T : Type 0} (w : Writers W) (before : List (List ℕ)) (log : LineLog) (was : LastLines) (now : LastLines) (line : List ℕ) (out out' : W) (r : Result T WriteFault) → log ≡ logs.Changes was → TellsChange w before now line out out' r → TellsLine w before log (logs.Changes now) line out out' r
+pub tells_by_change : {W T : Type 0} (w : Writers W) (before : List (List ℕ)) (log : LineLog) (was : LastLines) (now : LastLines) (line : List ℕ) (out out' : W) (r : Result T WriteFault) → log ≡ logs.Changes was → TellsChange w before now line out out' r → LogsLine w before log (logs.Changes now) line out out' r
 tells_by_change w before log was now line out out' r is told = record {
   lines = subst (λ (f : LogForm). LinesEnd w out (picked f before line) out' r) (sym (ap form_of is)) told.lines;
   after = told.after;
@@ -160,7 +160,7 @@ tells_by_change w before log was now line out out' r is told = record {
 }
 
 -- a log of nothing tells nothing
-pub tells_nothing : {W T : Type 0} (w : Writers W) (before : List (List ℕ)) (log : LineLog) (line : List ℕ) (out : W) (x : T) → log ≡ logs.Nothing → TellsLine w before log log line out out (Ok x)
+pub tells_nothing : {W T : Type 0} (w : Writers W) (before : List (List ℕ)) (log : LineLog) (line : List ℕ) (out : W) (x : T) → log ≡ logs.Nothing → LogsLine w before log log line out out (Ok x)
 tells_nothing w before log line out x is = record {
   lines = subst (λ (f : LogForm). GoOut w out (picked f before line) out) (sym (ap form_of is)) (none_out w out);
   after = subst (λ (l : LineLog). Remembers l (ended line ∷ before)) (sym is) tt;

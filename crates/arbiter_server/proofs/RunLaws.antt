@@ -4,8 +4,8 @@ use Rattle.std.specs.Prelude.{Result, Ok, Err}
 use Rattle.move_msg.specs.declared.message.Message.TheVariants.{Fetch}
 use Rattle.move_msg.specs.Numbers.{most_wanted}
 use Rattle.arbiter_core.specs.declared.fault.OpenFault.{OpenFault}
-use Rattle.arbiter_core.specs.Answering.{Identity, asked}
-use Rattle.arbiter_core.specs.Recording.{Recorded, count_of}
+use Rattle.arbiter_core.specs.Answering.{Identity, request_of}
+use Rattle.arbiter_core.specs.Recording.{Recorded, move_count}
 use Rattle.arbiter_core.specs.Setups.{SetupView}
 use Rattle.arbiter_core.specs.Views.{View}
 use Rattle.system_io.specs.declared.output.WriteFault.{WriteFault}
@@ -16,15 +16,15 @@ use Rattle.arbiter_server.specs.Lives.{Between, CameAfter, IsQuestion, RanOver, 
 use Rattle.arbiter_server.specs.GoingOut.{Writers}
 use Rattle.arbiter_server.specs.OverFiles.{IsRefused, OpensAndServes, ServesOpened}
 use Rattle.arbiter_server.specs.Serving.{KeeperLost, Loss, NoLoss, PortLost, Scene, asked_first, exchanges_of, handed_if_any, missed_by}
-use Rattle.arbiter_server.specs.StoredBytes.{StartsOver, file_of}
+use Rattle.arbiter_server.specs.StoredBytes.{StartsOver, keeper_file}
 use Rattle.arbiter_core.specs.Laws.{PutsGrow}
 use Rattle.arbiter_server.proofs.StillThere.{keeps}
 
-asks_one : (addresses : ℕ) (me : Identity) (kept : Recorded) (no : Bool) → IsQuestion addresses (handed_if_any addresses (cond no None (Some (Fetch me.stamp me.who (count_of kept) most_wanted))))
+asks_one : (addresses : ℕ) (me : Identity) (kept : Recorded) (no : Bool) → IsQuestion addresses (handed_if_any addresses (cond no None (Some (Fetch me.stamp me.who (move_count kept) most_wanted))))
 asks_one addresses me kept true = inl refl
-asks_one addresses me kept false = inr (me.stamp, me.who, count_of kept, most_wanted, refl)
+asks_one addresses me kept false = inr (me.stamp, me.who, move_count kept, most_wanted, refl)
 
-asks_up : (addresses : ℕ) (v : View) (down : Bool) → IsQuestion addresses (handed_if_any addresses (cond down None (asked v.me v.kept)))
+asks_up : (addresses : ℕ) (v : View) (down : Bool) → IsQuestion addresses (handed_if_any addresses (cond down None (request_of v.me v.kept)))
 asks_up addresses v true = inl refl
 asks_up addresses v false = asks_one addresses v.me v.kept _
 
@@ -41,7 +41,7 @@ module _ {F W : Type 0} (facts : F → KeptFacts) (w : Writers W) (setup : Setup
   ran_served : (ended : Result ℕ WriteFault) → ServesOpened facts setup n fetch old new ended → RanOver facts setup old.at new.at old.port new.port
   ran_served ended s = record {
     exchanges = exchanges_of s.run;
-    runs = Between s.now (record { opened = s.opened; is_opened = s.is_opened; in_turn = s.served.delivered }) (ap file_of (sym s.left));
+    runs = Between s.now (record { opened = s.opened; is_opened = s.is_opened; in_turn = s.served.delivered }) (ap keeper_file (sym s.left));
     first = asked_first old.port.addresses fetch s.opened.arbiter;
     asks = asks_first old.port.addresses s.opened.arbiter fetch;
     lost = missed_by s.run.loss;
@@ -74,9 +74,9 @@ last_run {F = F} facts setup first left after [] run turn starts ran is = (subst
 last_run facts setup first left after (r ∷ rs) run turn starts ran is = (turn.0, turn.1, last_run facts setup r.left left after rs run turn.2 starts ran is)
 
 module _ (grow : PutsGrow) {F : Type 0} (facts : F → KeptFacts) (setup : SetupView) (left : F) (port port' : PortFacts) (start ended : FileKeeper F) (starts : StartsOver facts left start) (o : RanOver facts setup start ended port port') where
-  pub came_after : (after : F) → after ≡ file_of ended → (first : F) (runs : List (PastRun F)) → RunsInTurn facts setup first runs left → CameAfter facts setup first runs after
+  pub came_after : (after : F) → after ≡ keeper_file ended → (first : F) (runs : List (PastRun F)) → RunsInTurn facts setup first runs left → CameAfter facts setup first runs after
   came_after after is first runs turn = record {
-    run = record { start = start; exchanges = o.exchanges; left = file_of ended };
-    in_turn = last_run facts setup first left after runs (record { start = start; exchanges = o.exchanges; left = file_of ended }) turn starts o.runs (sym is);
+    run = record { start = start; exchanges = o.exchanges; left = keeper_file ended };
+    in_turn = last_run facts setup first left after runs (record { start = start; exchanges = o.exchanges; left = keeper_file ended }) turn starts o.runs (sym is);
     there = keeps grow facts setup first left runs start turn starts;
   }

@@ -6,10 +6,10 @@ use Rattle.std.proofs.lemmas.Bool.{cond-true, cond-false}
 use Rattle.judge_core.specs.Tables.{Holding}
 use Rattle.arbiter_core.specs.Keeping.{KeeperFacts}
 use Rattle.arbiter_server.specs.declared.seat.Seat.{Seat}
-use Rattle.arbiter_server.specs.Folders.{FolderFacts, Gives, Keepers, keepers, keepers_at}
+use Rattle.arbiter_server.specs.Folders.{FolderFacts, GivesKeepers, Keepers, keepers, keepers_at}
 use Rattle.arbiter_server.specs.Acts.{LastDone, HasAnswered, Otherwise}
 use Rattle.arbiter_server.specs.Games.{CommonView, Life, Fresh, Open}
-use Rattle.arbiter_server.specs.Seats.{At, AreSeated, IsAtRest, IsSeated, Stands, in_hand, moment_of}
+use Rattle.arbiter_server.specs.Seats.{OpenSeats, AreSeated, IsSeatAtRest, IsSeated, StandsForLife, in_hand, moment_of}
 use Rattle.arbiter_server.specs.Turns.{Effect, LeadsFrom, LeadsFromBy, LeadsOpenFrom, ShutsFrom}
 use Rattle.arbiter_server.proofs.Turning.{itself, same_stamp}
 
@@ -20,36 +20,36 @@ both (Err e) P Q M join p m = tt
 
 module _ {K : Type 0} where
   -- a game that was taken out is in hand
-  pub taken_is : (stamp : List ℕ) (seat : Seat K) (at at' : At K) → at stamp ≡ Some seat → ((other : List ℕ) → at' other ≡ cond (bytes_eq stamp other) None (at other)) → (other : List ℕ) → in_hand stamp (Some seat) at' other ≡ at other
+  pub taken_is : (stamp : List ℕ) (seat : Seat K) (at at' : OpenSeats K) → at stamp ≡ Some seat → ((other : List ℕ) → at' other ≡ cond (bytes_eq stamp other) None (at other)) → (other : List ℕ) → in_hand stamp (Some seat) at' other ≡ at other
   taken_is stamp seat at at' was after other = (elim (bytes_eq stamp other) as (λ b. bytes_eq stamp other ≡ b → cond b (Some seat) (at' other) ≡ at other) [
     | true ↦ λ e. subst (λ (o : List ℕ). Some seat ≡ at o) (same_stamp stamp other e) (sym was)
     | false ↦ λ e. after other ∙ cond-false (bytes_eq stamp other) None (at other) e
   ]) refl
 
   -- where it wasn't there, nothing changes
-  pub not_taken : (stamp : List ℕ) (at at' : At K) → at stamp ≡ None → ((other : List ℕ) → at' other ≡ cond (bytes_eq stamp other) None (at other)) → (other : List ℕ) → at' other ≡ at other
+  pub not_taken : (stamp : List ℕ) (at at' : OpenSeats K) → at stamp ≡ None → ((other : List ℕ) → at' other ≡ cond (bytes_eq stamp other) None (at other)) → (other : List ℕ) → at' other ≡ at other
   not_taken stamp at at' was after other = after other ∙ (elim (bytes_eq stamp other) as (λ b. bytes_eq stamp other ≡ b → cond b None (at other) ≡ at other) [
     | true ↦ λ e. subst (λ (o : List ℕ). None ≡ at o) (same_stamp stamp other e) (sym was)
     | false ↦ λ e. refl
   ]) refl
 
-  pub taken_absent : (stamp : List ℕ) (at at' : At K) → ((other : List ℕ) → at' other ≡ cond (bytes_eq stamp other) None (at other)) → at' stamp ≡ None
+  pub taken_absent : (stamp : List ℕ) (at at' : OpenSeats K) → ((other : List ℕ) → at' other ≡ cond (bytes_eq stamp other) None (at other)) → at' stamp ≡ None
   taken_absent stamp at at' after = after stamp ∙ cond-true (bytes_eq stamp stamp) None (at stamp) (itself stamp)
 
 -- ---- the games that are open can answer
 
 module _ {K : Type 0} (facts : KeeperFacts K) (set : Holding) where
-  pub seated_at : (at : At K) (stamp : List ℕ) (seat : Seat K) → AreSeated facts set at → at stamp ≡ Some seat → IsSeated facts set seat
+  pub seated_at : (at : OpenSeats K) (stamp : List ℕ) (seat : Seat K) → AreSeated facts set at → at stamp ≡ Some seat → IsSeated facts set seat
   seated_at at stamp seat are is = subst (λ (x : Option (Seat K)). IfSome x (IsSeated facts set)) is (are stamp)
 
-  pub none_seated : (at : At K) → ((stamp : List ℕ) → at stamp ≡ None) → AreSeated facts set at
+  pub none_seated : (at : OpenSeats K) → ((stamp : List ℕ) → at stamp ≡ None) → AreSeated facts set at
   none_seated at none = λ stamp. subst (λ (x : Option (Seat K)). IfSome x (IsSeated facts set)) (sym (none stamp)) tt
 
-  same_seated : (at at' : At K) → ((other : List ℕ) → at' other ≡ at other) → AreSeated facts set at → AreSeated facts set at'
+  same_seated : (at at' : OpenSeats K) → ((other : List ℕ) → at' other ≡ at other) → AreSeated facts set at → AreSeated facts set at'
   same_seated at at' same are = λ other. subst (λ (x : Option (Seat K)). IfSome x (IsSeated facts set)) (sym (same other)) (are other)
 
   -- with one of them replaced, or taken out
-  changed : (at at' : At K) (stamp : List ℕ) (seat : Option (Seat K)) → IfSome seat (IsSeated facts set) → ((other : List ℕ) → at' other ≡ in_hand stamp seat at other) → AreSeated facts set at → AreSeated facts set at'
+  changed : (at at' : OpenSeats K) (stamp : List ℕ) (seat : Option (Seat K)) → IfSome seat (IsSeated facts set) → ((other : List ℕ) → at' other ≡ in_hand stamp seat at other) → AreSeated facts set at → AreSeated facts set at'
   changed at at' stamp seat is after are = λ other.
       subst (λ (x : Option (Seat K)). IfSome x (IsSeated facts set)) (sym (after other)) (by_stamp other (bytes_eq stamp other))
     where
@@ -57,21 +57,21 @@ module _ {K : Type 0} (facts : KeeperFacts K) (set : Holding) where
       by_stamp other true = is
       by_stamp other false = are other
 
-  pub without : (at at' : At K) (stamp : List ℕ) → ((other : List ℕ) → at' other ≡ cond (bytes_eq stamp other) None (at other)) → AreSeated facts set at → AreSeated facts set at'
+  pub without : (at at' : OpenSeats K) (stamp : List ℕ) → ((other : List ℕ) → at' other ≡ cond (bytes_eq stamp other) None (at other)) → AreSeated facts set at → AreSeated facts set at'
   without at at' stamp after are = changed at at' stamp None tt after are
 
-  pub seated_with : (at at' : At K) (stamp : List ℕ) (seat : Seat K) → IsSeated facts set seat → ((other : List ℕ) → at' other ≡ cond (bytes_eq stamp other) (Some seat) (at other)) → AreSeated facts set at → AreSeated facts set at'
+  pub seated_with : (at at' : OpenSeats K) (stamp : List ℕ) (seat : Seat K) → IsSeated facts set seat → ((other : List ℕ) → at' other ≡ cond (bytes_eq stamp other) (Some seat) (at other)) → AreSeated facts set at → AreSeated facts set at'
   seated_with at at' stamp seat is after are = changed at at' stamp (Some seat) is after are
 
 module _ {K : Type 0} (s : Keepers K) (t : CommonView) where
   -- from games that are open in the same way
-  pub from_same : (k k' : ℕ) (old new : Gives K) (at at1 at' : At K) (effects : List Effect) → ((other : List ℕ) → at1 other ≡ at other) → LeadsFrom s t Otherwise k old at1 new at' k' effects → LeadsFrom s t Otherwise k old at new at' k' effects
+  pub from_same : (k k' : ℕ) (old new : GivesKeepers K) (at at1 at' : OpenSeats K) (effects : List Effect) → ((other : List ℕ) → at1 other ≡ at other) → LeadsFrom s t Otherwise k old at1 new at' k' effects → LeadsFrom s t Otherwise k old at new at' k' effects
   from_same k k' old new at at1 at' effects same h = λ lives stand.
-      h lives (λ stamp. subst (λ (x : Option (Seat K)). Stands s t (old stamp) x (lives stamp)) (sym (same stamp)) (stand stamp))
+      h lives (λ stamp. subst (λ (x : Option (Seat K)). StandsForLife s t (old stamp) x (lives stamp)) (sym (same stamp)) (stand stamp))
 
-  pub opens_same : (stamp : List ℕ) (old new : Gives K) (at at1 at' : At K) → ((other : List ℕ) → at1 other ≡ at other) → LeadsOpenFrom s t stamp old at1 new at' → LeadsOpenFrom s t stamp old at new at'
+  pub opens_same : (stamp : List ℕ) (old new : GivesKeepers K) (at at1 at' : OpenSeats K) → ((other : List ℕ) → at1 other ≡ at other) → LeadsOpenFrom s t stamp old at1 new at' → LeadsOpenFrom s t stamp old at new at'
   opens_same stamp old new at at1 at' same h = λ lives stand.
-      h lives (λ other. subst (λ (x : Option (Seat K)). Stands s t (old other) x (lives other)) (sym (same other)) (stand other))
+      h lives (λ other. subst (λ (x : Option (Seat K)). StandsForLife s t (old other) x (lives other)) (sym (same other)) (stand other))
 
 -- acts lead from games that can answer to such games
 module _ {K : Type 0} (s : Keepers K) (t : CommonView) where
@@ -79,38 +79,38 @@ module _ {K : Type 0} (s : Keepers K) (t : CommonView) where
   life_of None = Fresh
   life_of (Some seat) = Open (moment_of t.set seat)
 
-  stands_so : (gives : K → Type 0) (o : Option (Seat K)) → IfSome o (IsSeated s.facts t.set) → Stands s t gives o (life_of o)
+  stands_so : (gives : K → Type 0) (o : Option (Seat K)) → IfSome o (IsSeated s.facts t.set) → StandsForLife s t gives o (life_of o)
   stands_so gives None is = tt
   stands_so gives (Some seat) is = (is, refl)
 
-  seat_of : (gives : K → Type 0) (o : Option (Seat K)) (life : Life K) → Stands s t gives o life → IfSome o (IsSeated s.facts t.set)
+  seat_of : (gives : K → Type 0) (o : Option (Seat K)) (life : Life K) → StandsForLife s t gives o life → IfSome o (IsSeated s.facts t.set)
   seat_of gives None life stands = tt
   seat_of gives (Some seat) life stands = stands.0
 
-  seated_after : (last : LastDone) (k k' : ℕ) (gives gives' : Gives K) (at at' : At K) (effects : List Effect) → LeadsFrom s t last k gives at gives' at' k' effects → AreSeated s.facts t.set at → AreSeated s.facts t.set at'
+  seated_after : (last : LastDone) (k k' : ℕ) (gives gives' : GivesKeepers K) (at at' : OpenSeats K) (effects : List Effect) → LeadsFrom s t last k gives at gives' at' k' effects → AreSeated s.facts t.set at → AreSeated s.facts t.set at'
   seated_after last k k' gives gives' at at' effects leads are = λ stamp.
       let there = leads (λ other. life_of (at other)) (λ other. stands_so (gives other) (at other) (are other)) in
       seat_of (gives' stamp) (at' stamp) (there.new stamp) (there.stand stamp)
 
   -- so do those that are left where one is settled
-  settled_by : (down : Bool) (k k' : ℕ) (gives gives' : Gives K) (at at' : At K) (stamp : List ℕ) (seat : Seat K) → seat.state.is_down ≡ down → AreSeated s.facts t.set at → IsAtRest s.facts t.set seat
+  settled_by : (down : Bool) (k k' : ℕ) (gives gives' : GivesKeepers K) (at at' : OpenSeats K) (stamp : List ℕ) (seat : Seat K) → seat.state.is_down ≡ down → AreSeated s.facts t.set at → IsSeatAtRest s.facts t.set seat
       → (seat.state.is_down ≡ false → LeadsFrom s t (HasAnswered stamp) (suc k) gives (in_hand stamp (Some seat) at) gives' at' k' []) → (seat.state.is_down ≡ true → (other : List ℕ) → at' other ≡ at other) → AreSeated s.facts t.set at'
   settled_by true k k' gives gives' at at' stamp seat is are rests runs down = same_seated s.facts t.set at at' (down is) are
   settled_by false k k' gives gives' at at' stamp seat is are rests runs down =
       seated_after (HasAnswered stamp) (suc k) k' gives gives' (in_hand stamp (Some seat) at) at' [] (runs is)
       (seated_with s.facts t.set at (in_hand stamp (Some seat) at) stamp seat (record { rests = rests; runs = is }) (λ other. refl) are)
 
-  pub settled : (k k' : ℕ) (gives gives' : Gives K) (at at' : At K) (stamp : List ℕ) (seat : Seat K) → AreSeated s.facts t.set at → IsAtRest s.facts t.set seat
+  pub settled : (k k' : ℕ) (gives gives' : GivesKeepers K) (at at' : OpenSeats K) (stamp : List ℕ) (seat : Seat K) → AreSeated s.facts t.set at → IsSeatAtRest s.facts t.set seat
       → (seat.state.is_down ≡ false → LeadsFrom s t (HasAnswered stamp) (suc k) gives (in_hand stamp (Some seat) at) gives' at' k' []) → (seat.state.is_down ≡ true → (other : List ℕ) → at' other ≡ at other) → AreSeated s.facts t.set at'
   settled k k' gives gives' at at' stamp seat are rests runs down = settled_by seat.state.is_down k k' gives gives' at at' stamp seat refl are rests runs down
 
 -- a folder that is where it was at the start has the keepers that it had then
-pub from_place : {G K : Type 0} (facts : KeeperFacts K) (folder : FolderFacts G K) (start now : G) → folder.place now ≡ folder.place start → (t : CommonView) (old new : Gives K) (at at' : At K)
+pub from_place : {G K : Type 0} (facts : KeeperFacts K) (folder : FolderFacts G K) (start now : G) → folder.place now ≡ folder.place start → (t : CommonView) (old new : GivesKeepers K) (at at' : OpenSeats K)
     → ShutsFrom (keepers facts folder now) t old at new at' → ShutsFrom (keepers facts folder start) t old at new at'
 from_place facts folder start now same t old new at at' shuts =
     subst (λ (p : folder.Place). ShutsFrom (keepers_at facts folder p) t old at new at') same shuts
 
-pub from_place_by : {G K : Type 0} (facts : KeeperFacts K) (folder : FolderFacts G K) (start now : G) → folder.place now ≡ folder.place start → (t : CommonView) (stamp datagram : List ℕ) (last : LastDone) (k k' : ℕ) (old new : Gives K) (at at' : At K) (effects : List Effect)
+pub from_place_by : {G K : Type 0} (facts : KeeperFacts K) (folder : FolderFacts G K) (start now : G) → folder.place now ≡ folder.place start → (t : CommonView) (stamp datagram : List ℕ) (last : LastDone) (k k' : ℕ) (old new : GivesKeepers K) (at at' : OpenSeats K) (effects : List Effect)
     → LeadsFromBy (keepers facts folder now) t stamp datagram last k old at new at' k' effects → LeadsFromBy (keepers facts folder start) t stamp datagram last k old at new at' k' effects
 from_place_by facts folder start now same t stamp datagram last k k' old new at at' effects leads =
     subst (λ (p : folder.Place). LeadsFromBy (keepers_at facts folder p) t stamp datagram last k old at new at' k' effects) same leads

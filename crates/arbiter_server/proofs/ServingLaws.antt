@@ -10,7 +10,7 @@ use Rattle.move_msg.specs.TextLines.{ended, text_of}
 use Rattle.system_io.specs.Ports.{Passing, Passed, PortFacts}
 use Rattle.arbiter_core.specs.Keeping.{KeeperFacts}
 use Rattle.arbiter_core.specs.Delivers.{Moment, Exchange}
-use Rattle.arbiter_server.specs.Serving.{InTurn, Loss, NoLoss, KeeperLost, PortLost, Session, ServesSession, TellsSession, all_passing, line_by, line_of, lines_of, loses_keeper, missed_by, passing_of, with_last}
+use Rattle.arbiter_server.specs.Serving.{InTurn, Loss, NoLoss, KeeperLost, PortLost, Session, ServesSession, TellsSession, session_passing, line_by, line_of, lines_of, loses_keeper, missed_by, passing_of, with_last}
 use Rattle.arbiter_server.specs.GoingOut.{GoOut, LastIsCut, Writers}
 use Rattle.arbiter_server.proofs.GoingLaws.{cut_later, go_join, none_out}
 use Rattle.arbiter_server.proofs.PortLaws.{Passed-on, Risen-later}
@@ -50,7 +50,7 @@ run_join s old mid new port port1 port2 first es fs loss h k =
       delivered = subst (λ xs. InTurn s old xs new) (sym (with_last_join es fs loss)) (in_turn_join s old mid new es (with_last fs loss) h.delivered k.delivered);
       passed =
           subst (Passed port port2) (passing_join port.addresses first es fs loss)
-          (Passed-on port port1 port2 (first ++ all_passing port.addresses (going_on es NoLoss)) (λ (n : ℕ). [] ++ all_passing n (going_on fs loss)) h.passed k.passed);
+          (Passed-on port port1 port2 (first ++ session_passing port.addresses (going_on es NoLoss)) (λ (n : ℕ). [] ++ session_passing n (going_on fs loss)) h.passed k.passed);
       cause = λ is. Risen-later port.faults port1.faults port2.faults h.passed.count (k.cause is);
     }
 

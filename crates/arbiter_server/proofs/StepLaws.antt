@@ -14,7 +14,7 @@ use Rattle.move_msg.specs.TextLines.{ended, text_of}
 use Rattle.arbiter_server.specs.ServedLines.{heard_line, refused_port}
 use Rattle.system_io.specs.Ports.{Came, Missed, Passed, PortFacts}
 use Rattle.arbiter_server.specs.Serving.{InTurn, Loss, NoLoss, KeeperLost, PortLost, Session, ServesSession, TellsSession, handed, lines_of, outputs_of}
-use Rattle.arbiter_server.specs.Inside.Steps.{Hears, IsOneStep, status_by}
+use Rattle.arbiter_server.specs.Inside.Steps.{DeliversAndHands, IsOneStep, next_status}
 use Rattle.arbiter_server.proofs.PortLaws.{Passed-on}
 use Rattle.arbiter_server.proofs.ServingLaws.{going_on}
 
@@ -28,7 +28,7 @@ pub record Steps {K : Type 0} (s : KeeperFacts K) (old new : Moment K) (port por
 came_and_sent : (n : ℕ) (d : List ℕ) (told : Told) → ((Came d ∷ []) ++ flat_map (handed n) (outputs_of told)) ≡ [] ++ (((Came d ∷ flat_map (handed n) (outputs_of told)) ++ []) ++ [])
 came_and_sent n d told = simp append-nil
 
-pub heard : {K : Type 0} (s : KeeperFacts K) (old new : Moment K) (port came_at port' : PortFacts) (d : List ℕ) (line : Heard) (next : Next) → Passed port came_at (Came d ∷ []) → Hears s old new came_at port' d (line, next) → Steps s old new port port' line next
+pub heard : {K : Type 0} (s : KeeperFacts K) (old new : Moment K) (port came_at port' : PortFacts) (d : List ℕ) (line : Heard) (next : Next) → Passed port came_at (Came d ∷ []) → DeliversAndHands s old new came_at port' d (line, next) → Steps s old new port port' line next
 unfolding InTurn
 heard {K = K} s old new port came_at port' d line GoesOn came h =
     let e : Exchange K = record { datagram = d; told = h.told; after = new } in
@@ -76,7 +76,7 @@ missed s at port port' line passed risen words =
     }
 
 -- its line was written
-pub told_one : {K : Type 0} (run : Session K) (line : Heard) (next : Next) (out out1 : Option (List ℕ)) → IsOneStep run (line, next) → Appends out out1 (ended (heard_line line)) → TellsSession 1 run out out1 (Ok (status_by next))
+pub told_one : {K : Type 0} (run : Session K) (line : Heard) (next : Next) (out out1 : Option (List ℕ)) → IsOneStep run (line, next) → Appends out out1 (ended (heard_line line)) → TellsSession 1 run out out1 (Ok (next_status next))
 told_one run line next out out1 is p =
     (is.1, subst (λ (ls : List (List ℕ)). Appends out out1 (text_of ls)) (sym is.0) (subst (Appends out out1) (sym (append-nil (ended (heard_line line)))) p))
 

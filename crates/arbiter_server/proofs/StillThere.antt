@@ -14,20 +14,20 @@ use Rattle.arbiter_core.specs.declared.keeper.Keep.{Keep}
 use Rattle.arbiter_core.specs.declared.keeper.Keep.TheVariants.{Good, FailsOld, FailsNew}
 use Rattle.arbiter_core.specs.Answering.{Identity}
 use Rattle.arbiter_core.specs.Delivers.{Exchange, Moment}
-use Rattle.arbiter_core.specs.Opens.{FirstLands, IsOpening, IsResumed, Opens, OpensOver, Told, first_record, running}
-use Rattle.arbiter_core.specs.Recording.{Recorded, count_of}
+use Rattle.arbiter_core.specs.Opens.{FirstLands, IsOpening, IsResumed, OpenResult, Opens, OpensOver, first_record, running}
+use Rattle.arbiter_core.specs.Recording.{Recorded, move_count}
 use Rattle.arbiter_core.specs.Setups.{SetupView, IsGood, rules_at}
 use Rattle.arbiter_core.specs.Views.{View}
 use Rattle.system_io.specs.FileCalls.{CallFacts}
 use Rattle.system_io.specs.KeptFiles.{KeptFacts}
 use Rattle.system_io.specs.TraceLaws.{as_told}
-use Rattle.system_io.specs.Traces.{told_of}
+use Rattle.system_io.specs.Traces.{traced_facts}
 use Rattle.system_io.specs.declared.traced_file.Traced.{Traced}
 use Rattle.arbiter_server.specs.declared.file_keeper.FileKeeper.{FileKeeper}
 use Rattle.arbiter_server.specs.Lives.{Answered, AsToldInTurn, AtPut, Between, CutAtFirst, Early, IsStillThere, KeepsAsTold, KeepsWhatItTold, Refused, PastRun, RunsInTurn, RunsOver, StartsAsTold, StillHolds}
 use Rattle.arbiter_server.specs.OverFiles.{GoesOn}
 use Rattle.arbiter_server.specs.Serving.{outputs_of}
-use Rattle.arbiter_server.specs.StoredBytes.{IsInFile, StartsOver, file_of, keeper_over, stored}
+use Rattle.arbiter_server.specs.StoredBytes.{IsInFile, StartsOver, keeper_file, keeper_over, stored}
 use Rattle.arbiter_server.proofs.FoundLaws.{own_whole}
 use Rattle.arbiter_server.proofs.OpenedLaws.{good_unless, opened_safe}
 use Rattle.arbiter_server.proofs.Telling.{AllTell, on_and_on, still_on}
@@ -39,7 +39,7 @@ use Rattle.arbiter_server.proofs.Turns.{Gone, GoesFrom, Passed, Sure, SureAt, cu
 abbrev StillAll : Recorded → Recorded → List Message → Type 0
 StillAll then now outputs = AllByRecursion (StillHolds then now) outputs
 
-first_ones : (a b : Recorded) → GoesOn a b → (n : ℕ) → n ≡ count_of a → (n ≤ count_of b) × (take n b.moves ≡ take n a.moves)
+first_ones : (a b : Recorded) → GoesOn a b → (n : ℕ) → n ≡ move_count a → (n ≤ move_count b) × (take n b.moves ≡ take n a.moves)
 first_ones a b g n is =
     let long : length b.moves ≡ length a.moves + length g.more = ap length g.moves ∙ length-append a.moves g.more in
     let fit : n ≤ length a.moves = omega arith in
@@ -50,7 +50,7 @@ still_tells a b g [] h = tt
 still_tells a b g (Move stamp sender number m ∷ ms) h = (tt, still_tells a b g ms h.1)
 still_tells a b g (Ack stamp who n ∷ ms) h = (first_ones a b g n h.0, still_tells a b g ms h.1)
 still_tells a b g (Verdict stamp who ply v ∷ ms) h =
-    let same : b ≡ a = g.ended v h.0.0 in ((ap (λ (x : Recorded). x.verdict) same ∙ h.0.0, ap count_of same ∙ sym h.0.1), still_tells a b g ms h.1)
+    let same : b ≡ a = g.ended v h.0.0 in ((ap (λ (x : Recorded). x.verdict) same ∙ h.0.0, ap move_count same ∙ sym h.0.1), still_tells a b g ms h.1)
 still_tells a b g (Fetch stamp who number wanted ∷ ms) h = (tt, still_tells a b g ms h.1)
 
 -- ---- what a start finds
@@ -100,11 +100,11 @@ pub record Resumed (setup : SetupView) (stamp : Stamp) (kept : Recorded) (v : Vi
   pub kept_is : v.kept ≡ kept
 
 module _ {F : Type 0} (facts : F → KeptFacts) (setup : SetupView) (start : FileKeeper F) where
-  is_good : (now : FileKeeper F) (told : Told) → IsOpening (keeper_over facts) setup start now told → (told ≡ Err BadSetup → ⊥) → IsGood setup
+  is_good : (now : FileKeeper F) (told : OpenResult) → IsOpening (keeper_over facts) setup start now told → (told ≡ Err BadSetup → ⊥) → IsGood setup
   is_good now told o not_bad = good_unless setup (λ bad. not_bad (o.bad bad).0)
 
   ok_not_bad : (v : View) (fault : OpenFault) → Ok v ≡ Err fault → ⊥
-  ok_not_bad v fault e = let f : ◌≡◌ {A = Told} (Ok v) (Err fault) = e in cc
+  ok_not_bad v fault e = let f : ◌≡◌ {A = OpenResult} (Ok v) (Err fault) = e in cc
 
   -- an arbiter is one of the setup
   setup_is : (now : FileKeeper F) (v : View) → IsOpening (keeper_over facts) setup start now (Ok v) → v.setup ≡ setup
@@ -112,7 +112,7 @@ module _ {F : Type 0} (facts : F → KeptFacts) (setup : SetupView) (start : Fil
     where
       first : (me : Identity) (keep : Keep) (before after : Option (List ℕ)) → FirstLands keep setup me before after (Ok v) → v.setup ≡ setup
       first me Good before after lands =
-          let e : ◌≡◌ {A = Told} (Ok v) (Ok (running setup me (first_record (rules_at setup)))) = lands.0 in
+          let e : ◌≡◌ {A = OpenResult} (Ok v) (Ok (running setup me (first_record (rules_at setup)))) = lands.0 in
           let is : v ≡ running setup me (first_record (rules_at setup)) = cc in
           ap (λ (w : View). w.setup) is
       first me FailsOld before after lands = absurd (ok_not_bad v KeeperFailed lands.0)
@@ -152,15 +152,15 @@ module _ {F : Type 0} (facts : F → KeptFacts) (setup : SetupView) (start : Fil
       reads_none fault me (inr (inl h)) = ⊎_elim (λ same. same.0) (λ none. absurd (let x : None ≡ Some bytes = sym none.0 ∙ there in cc)) h.cause
       reads_none fault me (inr (inr h)) = (subst (λ (o : Option (List ℕ)). OpensOver (keeper_over facts) setup me o start now (Err fault)) there h).2
 
-      unopened : (fault : OpenFault) → (◌≡◌ {A = Told} (Err fault) (Err BadSetup) → ⊥) → IsOpening (keeper_over facts) setup start now (Err fault) → now ≡ start
+      unopened : (fault : OpenFault) → (◌≡◌ {A = OpenResult} (Err fault) (Err BadSetup) → ⊥) → IsOpening (keeper_over facts) setup start now (Err fault) → now ≡ start
       unopened fault not_bad o = let g = o.good (is_good now (Err fault) o not_bad) in reads_none fault g.0 g.2
 
-      other : (fault : OpenFault) → (fault ≡ BadSetup → ⊥) → ◌≡◌ {A = Told} (Err fault) (Err BadSetup) → ⊥
-      other fault h e = h (let x : ◌≡◌ {A = Told} (Err fault) (Err BadSetup) = e in cc)
+      other : (fault : OpenFault) → (fault ≡ BadSetup → ⊥) → ◌≡◌ {A = OpenResult} (Err fault) (Err BadSetup) → ⊥
+      other fault h e = h (let x : ◌≡◌ {A = OpenResult} (Err fault) (Err BadSetup) = e in cc)
 
       not_good : (me : Identity) → Opens (keeper_over facts) setup me start now (Err BadSetup) → ⊥
       not_good me (inl h) = h.stated
-      not_good me (inr (inl h)) = let x : ◌≡◌ {A = Told} (Err BadSetup) (Err OutOfMemory) = h.answer in cc
+      not_good me (inr (inl h)) = let x : ◌≡◌ {A = OpenResult} (Err BadSetup) (Err OutOfMemory) = h.answer in cc
       not_good me (inr (inr h)) = (subst (λ (o : Option (List ℕ)). OpensOver (keeper_over facts) setup me o start now (Err BadSetup)) there h).1
 
       refused_same : (fault : OpenFault) → IsOpening (keeper_over facts) setup start now (Err fault) → now ≡ start
@@ -177,7 +177,7 @@ module _ (grow : PutsGrow) {F : Type 0} (facts : F → KeptFacts) (setup : Setup
   opened_gone start es now a in_file = through grow facts a.opened es now (safe_sure facts a.opened (opened_safe facts setup start a.opened in_file a.is_opened)) a.in_turn
 
   -- the file that is left holds what the arbiter last had
-  between : (now : Moment (FileKeeper F)) (left : F) → Sure facts now → left ≡ file_of now.keeper → Holds facts now.arbiter.setup now.arbiter.me.stamp now.arbiter.kept left
+  between : (now : Moment (FileKeeper F)) (left : F) → Sure facts now → left ≡ keeper_file now.keeper → Holds facts now.arbiter.setup now.arbiter.me.stamp now.arbiter.kept left
   between now left s e = sure_holds facts now.arbiter.setup now.arbiter.me now.arbiter.kept left (subst (SureAt facts now.arbiter.setup now.arbiter.me now.arbiter.kept) (sym e) s.surely)
 
   -- ---- what was found at the start stays
@@ -186,9 +186,9 @@ module _ (grow : PutsGrow) {F : Type 0} (facts : F → KeptFacts) (setup : Setup
     found : FindsOn setup stamp r start
     found = held start over
 
-    untouched : (left : F) → left ≡ file_of start → Holds facts setup stamp r left
+    untouched : (left : F) → left ≡ keeper_file start → Holds facts setup stamp r left
     untouched left e = λ next at.
-        let in_file : (facts (file_of start)).finds (Some found.bytes) (Some found.bytes) = subst (λ (o : Option (List ℕ)). (facts (file_of start)).finds o o) found.there over.in_file in
+        let in_file : (facts (keeper_file start)).finds (Some found.bytes) (Some found.bytes) = subst (λ (o : Option (List ℕ)). (facts (keeper_file start)).finds o o) found.there over.in_file in
         let there : stored next ≡ Some found.bytes = ⊎_elim (λ x. x) (λ x. x) (at.one _ _ (subst (λ (f : F). (facts f).finds (Some found.bytes) (Some found.bytes)) (sym e) in_file)) in
         record { bytes = found.bytes; there = there; kept = found.kept; is = found.is; goes_on = found.goes_on }
 
@@ -204,7 +204,7 @@ module _ (grow : PutsGrow) {F : Type 0} (facts : F → KeptFacts) (setup : Setup
 
     pub stays : (es : List (Exchange (FileKeeper F))) (left : F) → RunsOver facts setup start es left → Holds facts setup stamp r left
     stays es left (Early none e) = untouched left e
-    stays es left (Refused now fault o none e) = untouched left (e ∙ ap file_of (refused_same facts setup start stamp found.bytes found.kept found.there found.is now fault o))
+    stays es left (Refused now fault o none e) = untouched left (e ∙ ap keeper_file (refused_same facts setup start stamp found.bytes found.kept found.there found.is now fault o))
     stays es left (CutAtFirst sent none cut empty) = absurd (let x : None ≡ Some found.bytes = sym none ∙ found.there in cc)
     stays es left (Between now a e) = went_on es now a left (between now left (opened_gone start es now a over.in_file).sure e)
     stays es left (AtPut now a cut) = went_on es now a left (sure_holds facts now.arbiter.setup now.arbiter.me now.arbiter.kept left (cut_sure grow facts now (opened_gone start es now a over.in_file).sure left cut))
@@ -280,14 +280,14 @@ keeps grow facts = λ setup first last runs start. all_runs grow facts setup fir
 -- ---- over a file of the system
 
 module _ {C : Type 0} (facts : C → CallFacts) where
-  over_it : (left : Traced C) (start : FileKeeper (Traced C)) → StartsAsTold facts left start → StartsOver (told_of facts) left start
+  over_it : (left : Traced C) (start : FileKeeper (Traced C)) → StartsAsTold facts left start → StartsOver (traced_facts facts) left start
   over_it left start h = record { one = λ a b finds. as_told facts left (stored start) a b h.told finds; in_file = h.in_file }
 
-  in_turn : (setup : SetupView) (first last : Traced C) (runs : List (PastRun (Traced C))) → AsToldInTurn facts setup first runs last → RunsInTurn (told_of facts) setup first runs last
+  in_turn : (setup : SetupView) (first last : Traced C) (runs : List (PastRun (Traced C))) → AsToldInTurn facts setup first runs last → RunsInTurn (traced_facts facts) setup first runs last
   unfolding RunsInTurn AsToldInTurn
   in_turn setup first last [] turn = turn
   in_turn setup first last (r ∷ rs) turn = (over_it first r.start turn.0, turn.1, in_turn setup r.left last rs turn.2)
 
   pub keeps_as_told : (grow : PutsGrow) → KeepsAsTold facts
   keeps_as_told grow = λ setup first last runs start turn told.
-      all_runs grow (told_of facts) setup first last runs start (in_turn setup first last runs turn) (over_it last start told)
+      all_runs grow (traced_facts facts) setup first last runs start (in_turn setup first last runs turn) (over_it last start told)

@@ -14,7 +14,7 @@ use Rattle.move_msg.specs.declared.message.Message.TheVariants.{Move, Ack, Verdi
 use Rattle.move_msg.specs.Numbers.{most_moves}
 use Rattle.arbiter_core.specs.declared.fault.DeliverFault.{DeliverFault}
 use Rattle.arbiter_core.specs.declared.fault.DeliverFault.TheVariants.{Down, IllegalMove, TooFarAhead, TooLong}
-use Rattle.arbiter_core.specs.Recording.{Recorded, Window, advance, count_of, last_ply}
+use Rattle.arbiter_core.specs.Recording.{Recorded, Window, advance, last_ply, move_count}
 use Rattle.arbiter_core.specs.Answering.{Answer, Identity, Puts, Refuses, Sends, answer_heard, answer_to, answer_to_move, puts, sent_by, told_now, told_of, waits_too}
 use Rattle.arbiter_core.proofs.Cases.{at_turn, in_window, not_long, not_old}
 use Rattle.arbiter_server.specs.OverFiles.{GoesOn}
@@ -36,14 +36,14 @@ on_and_on a b c p q = record {
 -- what a message tells is what is recorded
 abbrev pub Tells : Recorded → Message → Type 0
 Tells r (Move stamp sender number m) = Unit {0}
-Tells r (Ack stamp who n) = n ≡ count_of r
-Tells r (Verdict stamp who ply v) = (r.verdict ≡ Some v) × (ply ≡ count_of r)
+Tells r (Ack stamp who n) = n ≡ move_count r
+Tells r (Verdict stamp who ply v) = (r.verdict ≡ Some v) × (ply ≡ move_count r)
 Tells r (Fetch stamp who number wanted) = Unit {0}
 
 abbrev pub AllTell : Recorded → List Message → Type 0
 AllTell r outputs = AllByRecursion (Tells r) outputs
 
-told_tells : (me : Identity) (r : Recorded) (o : Option Verdicts) → r.verdict ≡ o → AllTell r (told_of me (count_of r) o)
+told_tells : (me : Identity) (r : Recorded) (o : Option Verdicts) → r.verdict ≡ o → AllTell r (told_of me (move_count r) o)
 told_tells me r None e = (refl, tt)
 told_tells me r (Some v) e = (refl, ((e, refl), tt))
 
@@ -61,7 +61,7 @@ take_on (x ∷ xs) rest (suc k) h = let m = take_on xs rest k (omega arith) in (
 abbrev pub IsHonest : Recorded → Answer → Type 0
 IsHonest old (Refuses fault) = Unit {0}
 IsHonest old (Sends outputs window) = AllTell old outputs
-IsHonest old (Puts next outputs window) = AllTell next outputs × (count_of old ≤ count_of next → GoesOn old next)
+IsHonest old (Puts next outputs window) = AllTell next outputs × (move_count old ≤ move_count next → GoesOn old next)
 
 by_test : (old : Recorded) (b : Bool) (x y : Answer) → (b ≡ true → IsHonest old x) → (b ≡ false → IsHonest old y) → IsHonest old (cond b x y)
 by_test old true x y h k = h refl
@@ -85,17 +85,17 @@ module _ (r : Rules) (me : Identity) (old : Recorded) (waiting : Window) where
             record { more = t.0; moves = t.1; ended = λ v e. absurd (let x : None ≡ Some v = sym none ∙ e in cc) },
       )
 
-  acks : AllTell old (Ack me.stamp me.who (count_of old) ∷ [])
+  acks : AllTell old (Ack me.stamp me.who (move_count old) ∷ [])
   acks = (refl, tt)
 
   move_honest : (number : ℕ) (m : Moves) → IsHonest old (answer_to_move r me old waiting number m)
   move_honest number m =
       by_test old (nat_le most_moves number) (Refuses TooLong) (not_long r me old waiting number m) (λ _. tt) (λ _.
-      by_test old (is_some old.verdict || nat_lt number (count_of old)) (Sends (told_now me old) waiting) (not_old r me old waiting number m) (λ _. told_tells me old old.verdict refl) (λ unruled.
-      by_test old (nat_le (count_of old + 32) number) (Refuses TooFarAhead) (in_window r me old waiting number m) (λ _. tt) (λ _.
-      by_test old (nat_lt (count_of old) number) (Sends (Ack me.stamp me.who (count_of old) ∷ []) (waits_too waiting (number - (count_of old + 1)) m)) (at_turn r me old waiting number m) (λ _. acks) (λ _.
+      by_test old (is_some old.verdict || nat_lt number (move_count old)) (Sends (told_now me old) waiting) (not_old r me old waiting number m) (λ _. told_tells me old old.verdict refl) (λ unruled.
+      by_test old (nat_le (move_count old + 32) number) (Refuses TooFarAhead) (in_window r me old waiting number m) (λ _. tt) (λ _.
+      by_test old (nat_lt (move_count old) number) (Sends (Ack me.stamp me.who (move_count old) ∷ []) (waits_too waiting (number - (move_count old + 1)) m)) (at_turn r me old waiting number m) (λ _. acks) (λ _.
       by_test old (is_none (position_after_all r.start (old.moves ++ m ∷ []))) (Refuses IllegalMove) (puts me old waiting (advance r old.moves m waiting)) (λ _. tt)
-      (λ _. put_honest m (none_if old.verdict (first_false (is_some old.verdict) (nat_lt number (count_of old)) unruled)))))))
+      (λ _. put_honest m (none_if old.verdict (first_false (is_some old.verdict) (nat_lt number (move_count old)) unruled)))))))
 
   message_honest : (message : Message) → IsHonest old (answer_to r me old waiting message)
   unfolding answer_to

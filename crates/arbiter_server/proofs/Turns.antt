@@ -12,7 +12,7 @@ use Rattle.arbiter_core.specs.declared.keeper.Keep.{Keep}
 use Rattle.arbiter_core.specs.declared.keeper.Keep.TheVariants.{Good, FailsOld, FailsNew}
 use Rattle.arbiter_core.specs.Answering.{Answer, Identity, Puts, Refuses, Sends}
 use Rattle.arbiter_core.specs.Delivers.{Delivers, Exchange, IsSpelled, Lands, Moment, PutsIfAny, PutsOnce, RefusesOrSends, Told, answer_at, downed, heard, moment, with_record, with_window}
-use Rattle.arbiter_core.specs.Recording.{Recorded, Window, count_of}
+use Rattle.arbiter_core.specs.Recording.{Recorded, Window, move_count}
 use Rattle.arbiter_core.specs.Setups.{SetupView, rules_at}
 use Rattle.arbiter_core.specs.Views.{View, spelled_as}
 use Rattle.arbiter_core.specs.Laws.{Grows, IsOwn, PutsGrow}
@@ -21,7 +21,7 @@ use Rattle.arbiter_server.specs.declared.file_keeper.FileKeeper.{FileKeeper}
 use Rattle.arbiter_server.specs.Lives.{IsCutAtPut}
 use Rattle.arbiter_server.specs.OverFiles.{GoesOn}
 use Rattle.arbiter_server.specs.Serving.{InTurn, outputs_of}
-use Rattle.arbiter_server.specs.StoredBytes.{Failed, Landed, PutsInto, file_of, keeper_over, stored}
+use Rattle.arbiter_server.specs.StoredBytes.{Failed, Landed, PutsInto, keeper_file, keeper_over, stored}
 use Rattle.arbiter_server.proofs.FoundLaws.{IsSafe}
 use Rattle.arbiter_server.proofs.Telling.{AllTell, IsHonest, answer_honest, on_and_on, still_on}
 
@@ -43,7 +43,7 @@ pub record SureAt {F : Type 0} (facts : F → KeptFacts) (setup : SetupView) (me
 
 -- so it is of an arbiter's record, and one that is up has it stored
 pub record Sure {F : Type 0} (facts : F → KeptFacts) (m : Moment (FileKeeper F)) : Type 0 where
-  pub surely : SureAt facts m.arbiter.setup m.arbiter.me m.arbiter.kept (file_of m.keeper)
+  pub surely : SureAt facts m.arbiter.setup m.arbiter.me m.arbiter.kept (keeper_file m.keeper)
   pub up : m.arbiter.is_down ≡ false → IsSafe facts m
 
 pub safe_sure : {F : Type 0} (facts : F → KeptFacts) (m : Moment (FileKeeper F)) → IsSafe facts m → Sure facts m
@@ -81,7 +81,7 @@ tells_so : (r : Recorded) (told : Told) (outputs : List Message) → told ≡ Ok
 tells_so r told outputs e h = subst (λ (t : Told). AllTell r (outputs_of t)) (sym e) h
 
 -- bytes that spell two records of one game spell one
-one_count : (setup : SetupView) (me : Identity) (kept next : Recorded) (bytes : List ℕ) → Spells setup me kept bytes → Spells setup me next bytes → count_of kept ≡ count_of next
+one_count : (setup : SetupView) (me : Identity) (kept next : Recorded) (bytes : List ℕ) → Spells setup me kept bytes → Spells setup me next bytes → move_count kept ≡ move_count next
 one_count setup me kept next bytes p q = ap (λ (r : Record). length r.moves) (one_record bytes _ _ p q)
 
 module _ (grow : PutsGrow) {F : Type 0} (facts : F → KeptFacts) (old : Moment (FileKeeper F)) (s : Sure facts old) where
@@ -146,7 +146,7 @@ module _ (grow : PutsGrow) {F : Type 0} (facts : F → KeptFacts) (old : Moment 
     }
 
     module _ (safe : IsSafe facts old) (next : Recorded) (outputs : List Message) (window : Window) (g : Grows (rules_at old.arbiter.setup) old.arbiter.kept next × GoesOn old.arbiter.kept next × AllTell next outputs) where
-      landed : (bytes : List ℕ) → e.told ≡ Ok outputs → e.after.arbiter ≡ with_record old.arbiter next window → stored e.after.keeper ≡ Some bytes → (facts (file_of e.after.keeper)).finds (Some bytes) (Some bytes) → IsSpelled old.arbiter.me.stamp old.arbiter.setup.delay next (stored e.after.keeper) → Stepped facts old e
+      landed : (bytes : List ℕ) → e.told ≡ Ok outputs → e.after.arbiter ≡ with_record old.arbiter next window → stored e.after.keeper ≡ Some bytes → (facts (keeper_file e.after.keeper)).finds (Some bytes) (Some bytes) → IsSpelled old.arbiter.me.stamp old.arbiter.setup.delay next (stored e.after.keeper) → Stepped facts old e
       landed bytes told is there found spelled =
           let v : View = with_record old.arbiter next window in
           let own : Spells old.arbiter.setup old.arbiter.me next bytes = subst (IsSpelled old.arbiter.me.stamp old.arbiter.setup.delay next) there spelled in
@@ -157,7 +157,7 @@ module _ (grow : PutsGrow) {F : Type 0} (facts : F → KeptFacts) (old : Moment 
             tells = tells_at v is (tells_so next e.told outputs told g.2);
           }
 
-      lost : e.told ≡ Err KeeperFailed → e.after.arbiter ≡ downed old.arbiter → (sent : List ℕ) → Spells old.arbiter.setup old.arbiter.me next sent → ((facts (file_of e.after.keeper)).finds (Some safe.bytes) (Some safe.bytes) ⊎ ((facts (file_of e.after.keeper)).finds (Some safe.bytes) (Some sent) ⊎ (facts (file_of e.after.keeper)).finds (Some sent) (Some sent))) → Stepped facts old e
+      lost : e.told ≡ Err KeeperFailed → e.after.arbiter ≡ downed old.arbiter → (sent : List ℕ) → Spells old.arbiter.setup old.arbiter.me next sent → ((facts (keeper_file e.after.keeper)).finds (Some safe.bytes) (Some safe.bytes) ⊎ ((facts (keeper_file e.after.keeper)).finds (Some safe.bytes) (Some sent) ⊎ (facts (keeper_file e.after.keeper)).finds (Some sent) (Some sent))) → Stepped facts old e
       lost told is sent spells found =
           let v : View = downed old.arbiter in
           let after : Sure facts (moment v e.after.keeper) = record {
@@ -177,7 +177,7 @@ module _ (grow : PutsGrow) {F : Type 0} (facts : F → KeptFacts) (old : Moment 
           let more = g.0.more in
           omega arith
 
-      in_doubt : (sent : List ℕ) → ((was : Option (List ℕ)) → (facts (file_of old.keeper)).finds was was → FindsOldOrNew (facts (file_of e.after.keeper)) was sent) → (facts (file_of e.after.keeper)).finds (Some safe.bytes) (Some safe.bytes) ⊎ ((facts (file_of e.after.keeper)).finds (Some safe.bytes) (Some sent) ⊎ (facts (file_of e.after.keeper)).finds (Some sent) (Some sent))
+      in_doubt : (sent : List ℕ) → ((was : Option (List ℕ)) → (facts (keeper_file old.keeper)).finds was was → FindsOldOrNew (facts (keeper_file e.after.keeper)) was sent) → (facts (keeper_file e.after.keeper)).finds (Some safe.bytes) (Some safe.bytes) ⊎ ((facts (keeper_file e.after.keeper)).finds (Some safe.bytes) (Some sent) ⊎ (facts (keeper_file e.after.keeper)).finds (Some sent) (Some sent))
       in_doubt sent h = elim (h (Some safe.bytes) safe.found) [ inl old_one ↦ inl old_one | inr new_one ↦ inr (inl new_one) ]
 
       once : (p : PutsOnce (keeper_over facts) old.arbiter next outputs window old.keeper e.after.keeper e.after.arbiter e.told) → Stepped facts old e

@@ -116,34 +116,34 @@ AreOpenings (Closes of left ∷ acts) = AreOpenings acts
 -- ---- what is answered
 
 -- a datagram that came, the messages that are sent then, and the line that is told
-pub record Reply : Type 0 where
+pub record DatagramReply : Type 0 where
   pub datagram : List ℕ
   pub outputs : List Message
   pub line : List ℕ
 
-abbrev pub unread : List ℕ → MessageFault → Reply
+abbrev pub unread : List ℕ → MessageFault → DatagramReply
 unread datagram fault = record { datagram = datagram; outputs = []; line = codes "- " ++ refused_datagram (NotAMessage fault) }
 
-abbrev pub unopened : List ℕ → List ℕ → Unopened → Reply
+abbrev pub unopened : List ℕ → List ℕ → Unopened → DatagramReply
 unopened stamp datagram why = record { datagram = datagram; outputs = []; line = stamped stamp (unopened_words why) }
 
-abbrev pub answered : {K : Type 0} → List ℕ → Exchange K → Reply
-answered stamp e = record { datagram = e.datagram; outputs = outputs_of e.told; line = stamped stamp (line_of e) }
+abbrev pub exchange_reply : {K : Type 0} → List ℕ → Exchange K → DatagramReply
+exchange_reply stamp e = record { datagram = e.datagram; outputs = outputs_of e.told; line = stamped stamp (line_of e) }
 
 -- the reply that an act is, if a datagram came with it
-abbrev pub replies_of : {K : Type 0} → Act K → List Reply
+abbrev pub replies_of : {K : Type 0} → Act K → List DatagramReply
 replies_of (Unread datagram fault) = unread datagram fault ∷ []
 replies_of (Strange stamp datagram tried why) = unopened stamp datagram why ∷ []
 replies_of (Refuses stamp datagram over fault) = unopened stamp datagram (unopened_by fault) ∷ []
 replies_of (Opens stamp over arbiter) = []
-replies_of (Answers stamp exchange) = answered stamp exchange ∷ []
+replies_of (Answers stamp exchange) = exchange_reply stamp exchange ∷ []
 replies_of (Closes stamp left) = []
 
-abbrev pub all_replies : {K : Type 0} → List (Act K) → List Reply
+abbrev pub all_replies : {K : Type 0} → List (Act K) → List DatagramReply
 all_replies acts = flat_map replies_of acts
 
 -- at a port of so many addresses the datagram comes, and then each message is handed over for each address once, in order
-abbrev pub passing_at : ℕ → Reply → List Passing
+abbrev pub passing_at : ℕ → DatagramReply → List Passing
 passing_at addresses r = Came r.datagram ∷ flat_map (handed addresses) r.outputs
 
 -- ---- whose keepers are taken, and how many games are open

@@ -12,7 +12,7 @@ use Rattle.arbiter_server.specs.declared.file_keeper.FileKeeper.{FileKeeper}
 use Rattle.arbiter_server.specs.GoingOut.{Writers}
 use Rattle.arbiter_server.specs.OverFiles.{OpensAndServes}
 use Rattle.arbiter_server.specs.Serving.{scene}
-use Rattle.arbiter_server.specs.StoredBytes.{CannotKeep, file_of, stored}
+use Rattle.arbiter_server.specs.StoredBytes.{CannotKeep, keeper_file, stored}
 
 -- a keeper has stored what a stop left on a disk, over it an arbiter is opened and answers so many datagrams, or none is opened,
 -- and this is the disk then
@@ -22,7 +22,7 @@ pub record RunsAfter {W : Type 0} (w : Writers W) (disk : DiskFile) (choice : Ch
   pub ended : FileKeeper DiskFile
   pub told : Result (Result ℕ OpenFault) WriteFault
   pub served : OpensAndServes disk_facts w setup n fetch (scene start port (w.written out)) (scene ended port' (w.written out')) out out' told
-  pub is_left : left ≡ file_of ended
+  pub is_left : left ≡ keeper_file ended
 
 -- there is no keeper over what a stop left on a disk, for this reason
 pub record IsUnkeptAfter (disk : DiskFile) (choice : Choice) (fault : ReadFault) : Type 0 where

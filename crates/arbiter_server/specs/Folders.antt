@@ -8,15 +8,15 @@ use Rattle.arbiter_server.specs.declared.fault.Unopened.{Unopened}
 use Rattle.arbiter_server.specs.declared.games.Found.{Found}
 
 -- which keepers may be given next, by stamps
-abbrev pub Gives : Type 0 → Type 1
-Gives K = List ℕ → K → Type 0
+abbrev pub GivesKeepers : Type 0 → Type 1
+GivesKeepers K = List ℕ → K → Type 0
 
 -- all games but this one are given as before, or less
-abbrev pub GivesOthers : {K : Type 0} → List ℕ → Gives K → Gives K → Type 0
+abbrev pub GivesOthers : {K : Type 0} → List ℕ → GivesKeepers K → GivesKeepers K → Type 0
 GivesOthers {K = K} stamp old new = (other : List ℕ) → bytes_eq stamp other ≡ false → (keeper : K) → new other keeper → old other keeper
 
 -- all are
-abbrev pub GivesLess : {K : Type 0} → Gives K → Gives K → Type 0
+abbrev pub GivesLess : {K : Type 0} → GivesKeepers K → GivesKeepers K → Type 0
 GivesLess {K = K} old new = (other : List ℕ) (keeper : K) → new other keeper → old other keeper
 
 -- nothing was made, or this alone
@@ -39,7 +39,7 @@ pub record FolderFacts (G K : Type 0) : Type 1 where
   -- the second is a keeper over what the first one left
   pub follows : K → K → Type 0
   -- which keeper the folder may give next
-  pub gives : G → Gives K
+  pub gives : G → GivesKeepers K
   -- what is made where the keeper of the game with this stamp is taken
   pub taken : Place → List ℕ → Made
 

@@ -11,16 +11,16 @@ use Rattle.arbiter_server.specs.declared.game_lines.GameFileFault.{GameFileFault
 use Rattle.arbiter_server.specs.declared.game_lines.GameFileFault.TheVariants.{Name, Start, Delay, More}
 
 -- what the file tells: the game's name, its start, and for how many further plies a verdict by tables must hold
-pub record Told : Type 0 where
+pub record GameContents : Type 0 where
   pub name : List ℕ
   pub start : Parts
   pub delay : ℕ
 
-abbrev pub told : List ℕ → Parts → ℕ → Told
-told name start delay = record { name = name; start = start; delay = delay }
+abbrev pub game_as_told : List ℕ → Parts → ℕ → GameContents
+game_as_told name start delay = record { name = name; start = start; delay = delay }
 
 -- a game may have this name, this start and this delay
-pub record IsGame (g : Told) : Type 0 where
+pub record IsPossibleGame (g : GameContents) : Type 0 where
   pub name : IsGameName g.name
   pub start : IsPosition g.start
   pub delay : g.delay ≤ most_delay
@@ -38,12 +38,12 @@ start_line start = codes "start " ++ fen_of start
 abbrev pub delay_line : ℕ → List ℕ
 delay_line delay = codes "delay " ++ decimal delay
 
-abbrev pub game_text : Told → List ℕ
+abbrev pub game_text : GameContents → List ℕ
 game_text g = text_of (name_line g.name ∷ start_line g.start ∷ delay_line g.delay ∷ [])
 
 -- the text is that of this game
-abbrev pub SpellsGame : List ℕ → Told → Type 0
-SpellsGame text g = IsGame g × (text ≡ game_text g)
+abbrev pub SpellsGame : List ℕ → GameContents → Type 0
+SpellsGame text g = IsPossibleGame g × (text ≡ game_text g)
 
 -- ---- what is at fault
 

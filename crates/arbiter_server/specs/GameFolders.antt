@@ -6,7 +6,7 @@ use Rattle.move_msg.specs.Stamps.{stamp_of}
 use Rattle.system_io.specs.Disks.{AtFile, DiskFacts, HasMore}
 use Rattle.arbiter_server.specs.declared.folder.FindFault.{FindFault}
 use Rattle.arbiter_server.specs.declared.folder.FindFault.TheVariants.{NoGame, BadFile, OutOfMemory}
-use Rattle.arbiter_server.specs.GameFiles.{IsFirstGameFault, SpellsGame, Told}
+use Rattle.arbiter_server.specs.GameFiles.{GameContents, IsFirstGameFault, SpellsGame}
 
 -- ---- paths
 
@@ -28,11 +28,11 @@ abbrev pub most_game_bytes : ℕ
 most_game_bytes = 192
 
 -- the stamp of a game, by the manifest of its tables
-abbrev pub stamp_for : Told → List ℕ → List ℕ
-stamp_for g manifest = stamp_of g.name (fen_of g.start) manifest g.delay
+abbrev pub game_stamp : GameContents → List ℕ → List ℕ
+game_stamp g manifest = stamp_of g.name (fen_of g.start) manifest g.delay
 
 -- the folder has the file of this game under this stamp
-pub record HasGame (disk : DiskFacts) (folder stamp : List ℕ) (g : Told) : Type 0 where
+pub record HasGame (disk : DiskFacts) (folder stamp : List ℕ) (g : GameContents) : Type 0 where
   pub text : List ℕ
   pub held : disk.holds (game_path folder stamp) text
   pub spells : SpellsGame text g

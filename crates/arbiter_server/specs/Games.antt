@@ -6,7 +6,7 @@ use Rattle.fen_text.specs.Written.{fen_of}
 use Rattle.judge_core.specs.Tables.{Holding}
 use Rattle.move_msg.specs.Senders.{who_number}
 use Rattle.move_msg.specs.Stamps.{IsGameName, stamp_of}
-use Rattle.arbiter_core.specs.Opens.{IsOpening, Told}
+use Rattle.arbiter_core.specs.Opens.{IsOpening, OpenResult}
 use Rattle.arbiter_core.specs.Delivers.{Delivers, Exchange, Moment, moment}
 use Rattle.arbiter_core.specs.Setups.{SetupView}
 use Rattle.arbiter_server.specs.declared.config.ServerConfig.{ServerConfig}
@@ -36,7 +36,7 @@ pub record IsGameOf (manifest stamp name : List ℕ) (start : Parts) (delay : �
   pub stamped : stamp ≡ stamp_of name (fen_of start) manifest delay
 
 -- it is the setup of the game with this stamp
-pub record IsSetupOf (t : CommonView) (stamp : List ℕ) (setup : SetupView) : Type 0 where
+pub record IsSetupOfStamp (t : CommonView) (stamp : List ℕ) (setup : SetupView) : Type 0 where
   pub common : setup ≡ setup_of t setup.name setup.start setup.delay
   pub game : IsGameOf t.manifest stamp setup.name setup.start setup.delay
 
@@ -78,7 +78,7 @@ IsOver s stamp Fresh keeper = s.is_of stamp keeper
 IsOver s stamp (Shut left) keeper = s.is_of stamp keeper × s.follows left keeper
 IsOver s stamp (Open at) keeper = ⊥
 
-abbrev pub life_after : {K : Type 0} → K → Told → Life K
+abbrev pub life_after : {K : Type 0} → K → OpenResult → Life K
 life_after now (Ok arbiter) = Open (moment arbiter now)
 life_after now (Err fault) = Shut now
 
@@ -90,10 +90,10 @@ pub record IsToldAs {K : Type 0} (s : Keepers K) (stamp : List ℕ) (setup : Set
   pub start : setup.start ≡ game.start
   pub delay : setup.delay ≡ game.delay
 
-pub record OpensTo {K : Type 0} (s : Keepers K) (t : CommonView) (stamp : List ℕ) (old : Life K) (o : Opening K) (told : Told) (new : Life K) : Type 0 where
+pub record OpensTo {K : Type 0} (s : Keepers K) (t : CommonView) (stamp : List ℕ) (old : Life K) (o : Opening K) (told : OpenResult) (new : Life K) : Type 0 where
   pub over : IsOver s stamp old o.before
   pub tells : IsToldAs s stamp o.setup
-  pub game : IsSetupOf t stamp o.setup
+  pub game : IsSetupOfStamp t stamp o.setup
   pub opening : IsOpening s.facts o.setup o.before o.now told
   pub new_is : new ≡ life_after o.now told
 
@@ -114,15 +114,15 @@ ClosesTo (Shut before) left new = ⊥
 ClosesTo (Open at) left new = (left ≡ at.keeper) × (new ≡ Shut left)
 
 -- one act of a game
-abbrev pub GoesOn : {K : Type 0} → Keepers K → CommonView → List ℕ → Life K → Act K → Life K → Type 0
-GoesOn s t stamp old (Unread datagram fault) new = ⊥
-GoesOn s t stamp old (Strange of datagram tried why) new = IsNotOpen old × IsStrange s t.manifest stamp (opens_for datagram) tried why × (new ≡ old)
-GoesOn s t stamp old (Refuses of datagram o fault) new = OpensTo s t stamp old o (Err fault) new
-GoesOn s t stamp old (Opens of o arbiter) new = OpensTo s t stamp old o (Ok arbiter) new
-GoesOn s t stamp old (Answers of e) new = AnswersTo s old e new
-GoesOn s t stamp old (Closes of left) new = ClosesTo old left new
+abbrev pub GoesByAct : {K : Type 0} → Keepers K → CommonView → List ℕ → Life K → Act K → Life K → Type 0
+GoesByAct s t stamp old (Unread datagram fault) new = ⊥
+GoesByAct s t stamp old (Strange of datagram tried why) new = IsNotOpen old × IsStrange s t.manifest stamp (opens_for datagram) tried why × (new ≡ old)
+GoesByAct s t stamp old (Refuses of datagram o fault) new = OpensTo s t stamp old o (Err fault) new
+GoesByAct s t stamp old (Opens of o arbiter) new = OpensTo s t stamp old o (Ok arbiter) new
+GoesByAct s t stamp old (Answers of e) new = AnswersTo s old e new
+GoesByAct s t stamp old (Closes of left) new = ClosesTo old left new
 
 -- acts of a game in turn
 abbrev pub Goes : {K : Type 0} → Keepers K → CommonView → List ℕ → Life K → List (Act K) → Life K → Type 0
 Goes s t stamp old [] new = new ≡ old
-Goes {K = K} s t stamp old (act ∷ acts) new = (mid : Life K) × GoesOn s t stamp old act mid × Goes s t stamp mid acts new
+Goes {K = K} s t stamp old (act ∷ acts) new = (mid : Life K) × GoesByAct s t stamp old act mid × Goes s t stamp mid acts new

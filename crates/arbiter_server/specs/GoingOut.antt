@@ -14,17 +14,17 @@ abbrev pub writers : {W : Type 0} → (W → Option (List ℕ)) → (W → Outpu
 writers written output = record { written = written; output = output }
 
 -- a line was written whole, and with it all that was written has gone out
-pub record GoesOut {W : Type 0} (w : Writers W) (out : W) (line : List ℕ) (now : W) : Type 0 where
+pub record LineGoesOut {W : Type 0} (w : Writers W) (out : W) (line : List ℕ) (now : W) : Type 0 where
   pub whole : Appends (w.written out) (w.written now) (ended line)
   pub gone : (w.output now).gone
 
 -- so were these, one after the other
 unfoldable pub GoOut : {W : Type 0} → Writers W → W → List (List ℕ) → W → Type 0
 GoOut w out [] now = now ≡ out
-GoOut {W} w out (line ∷ lines) now = (next : W) × GoesOut w out line next × GoOut w next lines now
+GoOut {W} w out (line ∷ lines) now = (next : W) × LineGoesOut w out line next × GoOut w next lines now
 
 -- of a line at most a front was written, since a write was refused; or it can't go out
-pub record IsCutShort {W : Type 0} (w : Writers W) (out : W) (line : List ℕ) (now : W) : Type 0 where
+pub record IsLineCutShort {W : Type 0} (w : Writers W) (out : W) (line : List ℕ) (now : W) : Type 0 where
   pub front : ℕ
   pub written : Appends (w.written out) (w.written now) (take front (ended line))
   pub cause : (w.output out).refuses ⊎ (w.output now).stuck
@@ -36,7 +36,7 @@ pub record LastIsCut {W : Type 0} (w : Writers W) (out : W) (lines : List (List 
   pub all : lines ≡ whole ++ last ∷ []
   pub at : W
   pub went : GoOut w out whole at
-  pub cut : IsCutShort w at last now
+  pub cut : IsLineCutShort w at last now
 
 -- the lines went out; or the writer failed at the last of them
 abbrev pub LinesEnd : {W T : Type 0} → Writers W → W → List (List ℕ) → W → Result T WriteFault → Type 0

@@ -4,9 +4,9 @@ use Rattle.std.specs.List.{AllByRecursion, Contains, filter}
 use Rattle.arbiter_core.specs.Delivers.{Delivers, Exchange, Moment}
 use Rattle.arbiter_server.specs.OverFiles.{GoesOn}
 use Rattle.arbiter_server.specs.Folders.{Keepers}
-use Rattle.arbiter_server.specs.Acts.{Act, AreOpenings, IsSorted, Reply, Unread, Strange, Refuses, Opens, Answers, Closes, acts_of, all_replies, is_stamp, opens_for, stamp_for}
+use Rattle.arbiter_server.specs.Acts.{Act, AreOpenings, IsSorted, DatagramReply, Unread, Strange, Refuses, Opens, Answers, Closes, acts_of, all_replies, is_stamp, opens_for, stamp_for}
 use Rattle.arbiter_server.specs.Games.{CommonView, Fresh, Goes, Open}
-use Rattle.arbiter_server.specs.LineLogs.{kind_of, logged}
+use Rattle.arbiter_server.specs.LineLogs.{line_kind, logged}
 use Rattle.arbiter_server.specs.ServedLines.{heard_words}
 use Rattle.arbiter_server.specs.Told.{stamped}
 use Rattle.arbiter_server.specs.declared.line_log.LogForm.TheVariants as form
@@ -28,7 +28,7 @@ is_opening (Answers stamp exchange) = false
 is_opening (Closes stamp left) = false
 
 -- the datagram is a move or a request of this game
-abbrev pub opens_this : List ℕ → Reply → Bool
+abbrev pub opens_this : List ℕ → DatagramReply → Bool
 opens_this stamp r = is_stamp stamp (stamp_for r.datagram) && opens_for r.datagram
 
 -- A game is opened at most as often as moves and requests of it came.
@@ -44,7 +44,7 @@ RecordsGoOn {K = K} s =
 -- A log of changes has each line that is of no kind which strangers cause: one that is left out stands there already.
 abbrev pub ChangesHideNothing : Type 0
 ChangesHideNothing =
-    (lines : List (List ℕ)) (line : List ℕ) → Contains lines line → kind_of (ended line) ≡ None → Contains (logged form.Changes lines) line
+    (lines : List (List ℕ)) (line : List ℕ) → Contains lines line → line_kind (ended line) ≡ None → Contains (logged form.Changes lines) line
 
 -- So it has each count and verdict of a game that was told.
 abbrev pub VerdictsAreLogged : Type 0

@@ -35,31 +35,31 @@ place_in n [] told = None
 place_in n (kind ∷ kinds) told = cond (bytes_eq told kind) (Some n) (place_in (n + 1) kinds told)
 
 -- the number of the kind that a line is of; a line of a game is of none
-unfoldable pub kind_of : List ℕ → Option ℕ
-kind_of text = place_in 0 common (told_part text)
+unfoldable pub line_kind : List ℕ → Option ℕ
+line_kind text = place_in 0 common (told_part text)
 
 -- the value of a hexadecimal digit
 abbrev pub digit_of : ℕ → ℕ
 digit_of digit = cond (ltb digit 64) (digit % 16) ((digit + 9) % 16)
 
 -- the place at which the last line of a game is remembered: its stamp's first four digits, so that it is one of 65,536
-abbrev pub place_of : List ℕ → ℕ
-place_of text = cond (ltb (length text) 4) 0 (((digit_of (get_or text 0 0) * 16 + digit_of (get_or text 1 0)) * 16 + digit_of (get_or text 2 0)) * 16 + digit_of (get_or text 3 0))
+abbrev pub remembered_place : List ℕ → ℕ
+remembered_place text = cond (ltb (length text) 4) 0 (((digit_of (get_or text 0 0) * 16 + digit_of (get_or text 1 0)) * 16 + digit_of (get_or text 2 0)) * 16 + digit_of (get_or text 3 0))
 
 -- ---- what came before, the latest first
 
-abbrev pub is_kind : ℕ → Option ℕ → Bool
-is_kind kind None = false
-is_kind kind (Some other) = other == kind
+abbrev pub is_line_kind : ℕ → Option ℕ → Bool
+is_line_kind kind None = false
+is_line_kind kind (Some other) = other == kind
 
 -- how many lines of this kind there are
-unfoldable pub count_of : ℕ → List (List ℕ) → ℕ
-count_of kind [] = 0
-count_of kind (text ∷ before) = cond (is_kind kind (kind_of text)) (count_of kind before + 1) (count_of kind before)
+unfoldable pub kind_count : ℕ → List (List ℕ) → ℕ
+kind_count kind [] = 0
+kind_count kind (text ∷ before) = cond (is_line_kind kind (line_kind text)) (kind_count kind before + 1) (kind_count kind before)
 
 -- a line of a game is remembered at this place
 abbrev pub is_at : ℕ → List ℕ → Bool
-is_at place text = is_none (kind_of text) && (place_of text == place)
+is_at place text = is_none (line_kind text) && (remembered_place text == place)
 
 -- the last of them, and no text where there is none
 unfoldable pub last_at : ℕ → List (List ℕ) → List ℕ
@@ -69,27 +69,27 @@ last_at place (text ∷ before) = cond (is_at place text) text (last_at place be
 -- ---- what is written
 
 -- a line with its count
-abbrev pub counted : List ℕ → ℕ → List ℕ
-counted line count = line ++ codes " (" ++ decimal count ++ codes ")"
+abbrev pub line_with_count : List ℕ → ℕ → List ℕ
+line_with_count line count = line ++ codes " (" ++ decimal count ++ codes ")"
 
 -- it is counted to 2^64 - 1 at most
 abbrev pub most : ℕ
 most = 2 ^ 64 - 1
 
-abbrev pub one_more : ℕ → ℕ
-one_more count = min (count + 1) most
+abbrev pub one_more_line : ℕ → ℕ
+one_more_line count = min (count + 1) most
 
 -- of changes: a line of a kind with its count, where that is a power of two; and a line of a game where it isn't the last line at its
 -- place
 abbrev pub picked_by : List (List ℕ) → List ℕ → Option ℕ → List (List ℕ)
-picked_by before line None = cond (bytes_eq (last_at (place_of (ended line)) before) (ended line)) [] (line ∷ [])
-picked_by before line (Some kind) = cond (is_power_of_two (one_more (min (count_of kind before) most))) (counted line (one_more (min (count_of kind before) most)) ∷ []) []
+picked_by before line None = cond (bytes_eq (last_at (remembered_place (ended line)) before) (ended line)) [] (line ∷ [])
+picked_by before line (Some kind) = cond (is_power_of_two (one_more_line (min (kind_count kind before) most))) (line_with_count line (one_more_line (min (kind_count kind before) most)) ∷ []) []
 
 -- what is written of a line after these texts
 abbrev pub picked : LogForm → List (List ℕ) → List ℕ → List (List ℕ)
 picked form.All before line = line ∷ []
 picked form.Nothing before line = []
-picked form.Changes before line = picked_by before line (kind_of (ended line))
+picked form.Changes before line = picked_by before line (line_kind (ended line))
 
 -- what is written of lines after these texts
 unfoldable pub changes_after : List (List ℕ) → List (List ℕ) → List (List ℕ)
@@ -108,7 +108,7 @@ logged form.Changes lines = changes_after [] lines
 pub record RemembersAll (r : Remembered) (before : List (List ℕ)) : Type 0 where
   pub kinds : length r.counts ≡ 8
   pub places : length r.lasts ≡ 65536
-  pub counts : (kind : ℕ) → kind < 8 → get_or r.counts kind 0 ≡ min (count_of kind before) most
+  pub counts : (kind : ℕ) → kind < 8 → get_or r.counts kind 0 ≡ min (kind_count kind before) most
   pub lasts : (place : ℕ) → place < 65536 → get_or r.lasts place [] ≡ last_at place before
 
 -- a log knows of these texts what it has to
@@ -123,7 +123,7 @@ form_of log.Nothing = form.Nothing
 form_of (log.Changes lines) = form.Changes
 
 -- of one line after these texts what is picked goes out, and it is remembered
-pub record TellsLine {W T : Type 0} (w : Writers W) (before : List (List ℕ)) (old new : LineLog) (line : List ℕ) (out out' : W) (r : Result T WriteFault) : Type 0 where
+pub record LogsLine {W T : Type 0} (w : Writers W) (before : List (List ℕ)) (old new : LineLog) (line : List ℕ) (out out' : W) (r : Result T WriteFault) : Type 0 where
   pub lines : LinesEnd w out (picked (form_of old) before line) out' r
   pub after : Remembers new (ended line ∷ before)
   pub same : form_of new ≡ form_of old

@@ -10,19 +10,19 @@ use Rattle.arbiter_core.specs.declared.fault.OpenFault.{OpenFault}
 use Rattle.arbiter_core.specs.Answering.{Puts}
 use Rattle.arbiter_core.specs.Delivers.{Exchange, Moment, answer_at}
 use Rattle.arbiter_core.specs.Opens.{IsOpening}
-use Rattle.arbiter_core.specs.Recording.{Recorded, Window, count_of}
+use Rattle.arbiter_core.specs.Recording.{Recorded, Window, move_count}
 use Rattle.arbiter_core.specs.Setups.{SetupView}
 use Rattle.arbiter_core.specs.Views.{spelled_as}
 use Rattle.system_io.specs.FileCalls.{CallFacts}
 use Rattle.system_io.specs.KeptFiles.{KeptFacts, IsCutOff}
 use Rattle.system_io.specs.Ports.{Missed, Passed, Passing, PortFacts}
 use Rattle.system_io.specs.Premises.{IsAsTold}
-use Rattle.system_io.specs.Traces.{told_of}
+use Rattle.system_io.specs.Traces.{traced_facts}
 use Rattle.system_io.specs.declared.traced_file.Traced.{Traced}
 use Rattle.arbiter_server.specs.declared.file_keeper.FileKeeper.{FileKeeper}
 use Rattle.arbiter_server.specs.OverFiles.{GoesOn, IsItsRecord}
 use Rattle.arbiter_server.specs.Serving.{InTurn, handed, outputs_of, passing_of}
-use Rattle.arbiter_server.specs.StoredBytes.{IsInFile, StartsOver, file_of, keeper_over, stored}
+use Rattle.arbiter_server.specs.StoredBytes.{IsInFile, StartsOver, keeper_file, keeper_over, stored}
 
 -- ---- one run
 
@@ -35,7 +35,7 @@ pub record IsCutAtPut {F : Type 0} (facts : F → KeptFacts) (now : Moment (File
   pub wanted : Puts next outputs window ≡ answer_at now.arbiter datagram
   pub sent : List ℕ
   pub spells : WritesRecord sent (spelled_as now.arbiter.me.stamp now.arbiter.setup.delay next)
-  pub cut : IsCutOff (facts (file_of now.keeper)) sent (facts left)
+  pub cut : IsCutOff (facts (keeper_file now.keeper)) sent (facts left)
 
 -- an arbiter was opened over the keeper and answered these datagrams
 pub record Answered {F : Type 0} (facts : F → KeptFacts) (setup : SetupView) (start : FileKeeper F) (es : List (Exchange (FileKeeper F))) (now : Moment (FileKeeper F)) : Type 0 where
@@ -46,13 +46,13 @@ pub record Answered {F : Type 0} (facts : F → KeptFacts) (setup : SetupView) (
 -- one run over a keeper: what was answered in it, and the file that it left
 pub data RunsOver {F : Type 0} (facts : F → KeptFacts) (setup : SetupView) (start : FileKeeper F) (es : List (Exchange (FileKeeper F))) (left : F) : Type 0 where
   -- the process stopped before it put anything
-  Early : es ≡ [] → left ≡ file_of start → RunsOver facts setup start es left
+  Early : es ≡ [] → left ≡ keeper_file start → RunsOver facts setup start es left
   -- no arbiter was opened
-  Refused : (now : FileKeeper F) (fault : OpenFault) → IsOpening (keeper_over facts) setup start now (Err fault) → es ≡ [] → left ≡ file_of now → RunsOver facts setup start es left
+  Refused : (now : FileKeeper F) (fault : OpenFault) → IsOpening (keeper_over facts) setup start now (Err fault) → es ≡ [] → left ≡ keeper_file now → RunsOver facts setup start es left
   -- nothing was kept, and the process stopped while the first record was put
-  CutAtFirst : (sent : List ℕ) → stored start ≡ None → IsCutOff (facts (file_of start)) sent (facts left) → es ≡ [] → RunsOver facts setup start es left
+  CutAtFirst : (sent : List ℕ) → stored start ≡ None → IsCutOff (facts (keeper_file start)) sent (facts left) → es ≡ [] → RunsOver facts setup start es left
   -- the process stopped between two datagrams, or when it had sent some of the messages of the last answer
-  Between : (now : Moment (FileKeeper F)) → Answered facts setup start es now → left ≡ file_of now.keeper → RunsOver facts setup start es left
+  Between : (now : Moment (FileKeeper F)) → Answered facts setup start es now → left ≡ keeper_file now.keeper → RunsOver facts setup start es left
   -- the process stopped in the middle of a put
   AtPut : (now : Moment (FileKeeper F)) → Answered facts setup start es now → IsCutAtPut facts now left → RunsOver facts setup start es left
 
@@ -64,7 +64,7 @@ IsQuestion addresses first = (first ≡ []) ⊎ ((stamp : Stamp) × (who : Who) 
 -- and what was answered, and nothing else was handed over
 pub record RanOver {F : Type 0} (facts : F → KeptFacts) (setup : SetupView) (before after : FileKeeper F) (port port' : PortFacts) : Type 0 where
   pub exchanges : List (Exchange (FileKeeper F))
-  pub runs : RunsOver facts setup before exchanges (file_of after)
+  pub runs : RunsOver facts setup before exchanges (keeper_file after)
   pub first : List Passing
   pub asks : IsQuestion port.addresses first
   pub lost : List Passing
@@ -91,7 +91,7 @@ pub record OneMore {F : Type 0} (facts : F → KeptFacts) (setup : SetupView) (l
   pub starts : StartsOver facts left start
   pub ended : FileKeeper F
   pub ran : RanOver facts setup start ended port port'
-  pub leaves : after ≡ file_of ended
+  pub leaves : after ≡ keeper_file ended
 
 -- ---- what is still there
 
@@ -99,8 +99,8 @@ pub record OneMore {F : Type 0} (facts : F → KeptFacts) (setup : SetupView) (l
 -- told; and the verdict at its ply
 abbrev pub StillHolds : Recorded → Recorded → Message → Type 0
 StillHolds then now (Move stamp sender number m) = Unit {0}
-StillHolds then now (Ack stamp who n) = (n ≤ count_of now) × (take n now.moves ≡ take n then.moves)
-StillHolds then now (Verdict stamp who ply v) = (now.verdict ≡ Some v) × (count_of now ≡ ply)
+StillHolds then now (Ack stamp who n) = (n ≤ move_count now) × (take n now.moves ≡ take n then.moves)
+StillHolds then now (Verdict stamp who ply v) = (now.verdict ≡ Some v) × (move_count now ≡ ply)
 StillHolds then now (Fetch stamp who number wanted) = Unit {0}
 
 -- a start finds a record of the game that goes on from what the arbiter had recorded when it gave this answer, and in it what
@@ -127,12 +127,12 @@ KeepsWhatItTold {F} facts =
 -- last run that had a keeper and by their answers
 pub record StartsAsTold {C : Type 0} (facts : C → CallFacts) (left : Traced C) (start : FileKeeper (Traced C)) : Type 0 where
   pub told : IsAsTold left (stored start)
-  pub in_file : IsInFile (told_of facts) start
+  pub in_file : IsInFile (traced_facts facts) start
 
 -- runs of one setup, each over the file that the one before it left, under that premise
 unfoldable pub AsToldInTurn : {C : Type 0} → (C → CallFacts) → SetupView → Traced C → List (PastRun (Traced C)) → Traced C → Type 0
 AsToldInTurn facts setup first [] last = last ≡ first
-AsToldInTurn facts setup first (r ∷ rs) last = StartsAsTold facts first r.start × RunsOver (told_of facts) setup r.start r.exchanges r.left × AsToldInTurn facts setup r.left rs last
+AsToldInTurn facts setup first (r ∷ rs) last = StartsAsTold facts first r.start × RunsOver (traced_facts facts) setup r.start r.exchanges r.left × AsToldInTurn facts setup r.left rs last
 
 -- After any runs a start finds what each answer of each of them told, under that premise at each start.
 abbrev pub KeepsAsTold : {C : Type 0} → (C → CallFacts) → Type 0

@@ -14,7 +14,7 @@ use Rattle.arbiter_core.specs.Delivers.{Moment}
 use Rattle.arbiter_server.specs.GoingOut.{LinesEnd, Writers}
 use Rattle.arbiter_server.specs.Serving.{Loss, NoLoss, KeeperLost, PortLost, Session, Scene, Service, ServesSession, TellsSession, asked_first, lines_of, scene_of}
 use Rattle.arbiter_core.specs.Setups.{SetupView, rules_at}
-use Rattle.arbiter_server.specs.StoredBytes.{file_of, keeper_over}
+use Rattle.arbiter_server.specs.StoredBytes.{keeper_file, keeper_over}
 use Rattle.arbiter_core.specs.Views.{View}
 
 -- ---- the file through a run
@@ -33,7 +33,7 @@ pub record GoesOn (earlier later : Recorded) : Type 0 where
 pub record FindsRecord {F : Type 0} (facts : F → KeptFacts) (at : Moment (FileKeeper F)) : Type 0 where
   pub bytes : List ℕ
   pub is : IsItsRecord at.arbiter bytes at.arbiter.kept
-  pub found : (facts (file_of at.keeper)).finds (Some bytes) (Some bytes)
+  pub found : (facts (keeper_file at.keeper)).finds (Some bytes) (Some bytes)
 
 -- it finds the arbiter's record, or one that goes on from it; which one, a failed put says (`PutsInto`, by what it was to keep)
 pub record FindsEither {F : Type 0} (facts : F → KeptFacts) (at : Moment (FileKeeper F)) : Type 0 where
@@ -43,7 +43,7 @@ pub record FindsEither {F : Type 0} (facts : F → KeptFacts) (at : Moment (File
   pub sent : List ℕ
   pub is_next : IsItsRecord at.arbiter sent next
   pub goes_on : GoesOn at.arbiter.kept next
-  pub found : (facts (file_of at.keeper)).finds (Some bytes) (Some bytes) ⊎ ((facts (file_of at.keeper)).finds (Some bytes) (Some sent) ⊎ (facts (file_of at.keeper)).finds (Some sent) (Some sent))
+  pub found : (facts (keeper_file at.keeper)).finds (Some bytes) (Some bytes) ⊎ ((facts (keeper_file at.keeper)).finds (Some bytes) (Some sent) ⊎ (facts (keeper_file at.keeper)).finds (Some sent) (Some sent))
 
 abbrev pub FindsAtLoss : {F : Type 0} → (F → KeptFacts) → Loss (FileKeeper F) → Type 0
 FindsAtLoss facts NoLoss = Unit {0}

@@ -4,11 +4,11 @@ use Rattle.std.specs.Str.{bytes_eq}
 use Rattle.judge_core.specs.Tables.{Holding}
 use Rattle.move_msg.specs.declared.message.Message.{Message}
 use Rattle.arbiter_core.specs.Keeping.{KeeperFacts}
-use Rattle.arbiter_core.specs.Delivers.{Answers, IsKept, Moment, Told, answer_to_any, moment}
+use Rattle.arbiter_core.specs.Delivers.{IsKept, Moment, ReturnsAnswer, Told, answer_to_any, moment}
 use Rattle.arbiter_core.specs.Resting.{CanWake, awake}
 use Rattle.arbiter_server.specs.Serving.{line_for, outputs_of}
 use Rattle.arbiter_server.specs.declared.seat.Seat.{Seat}
-use Rattle.arbiter_server.specs.Folders.{Gives, GivesLess, GivesOthers, Keepers}
+use Rattle.arbiter_server.specs.Folders.{GivesKeepers, GivesLess, GivesOthers, Keepers}
 use Rattle.arbiter_server.specs.Games.{CommonView, Life, Fresh, Shut, Open}
 
 -- the arbiter of a seat, with these tables, and its keeper
@@ -16,32 +16,32 @@ abbrev pub moment_of : {K : Type 0} → Holding → Seat K → Moment K
 moment_of set seat = moment (awake seat.state set) seat.keeper
 
 -- it can wake, and while it runs its record is the one that is kept
-pub record IsAtRest {K : Type 0} (facts : KeeperFacts K) (set : Holding) (seat : Seat K) : Type 0 where
+pub record IsSeatAtRest {K : Type 0} (facts : KeeperFacts K) (set : Holding) (seat : Seat K) : Type 0 where
   pub wakes : CanWake seat.state set
   pub keeps : IsKept (facts.kept seat.keeper) (awake seat.state set)
 
 -- so it is, and it runs
 pub record IsSeated {K : Type 0} (facts : KeeperFacts K) (set : Holding) (seat : Seat K) : Type 0 where
-  pub rests : IsAtRest facts set seat
+  pub rests : IsSeatAtRest facts set seat
   pub runs : seat.state.is_down ≡ false
 
 -- the arbiter answers a message so, with these messages and this line
-pub record IsAnswered {K : Type 0} (facts : KeeperFacts K) (before : Moment K) (message : Message) (after : Moment K) (outputs : List Message) (line : List ℕ) : Type 0 where
+pub record IsMessageAnswered {K : Type 0} (facts : KeeperFacts K) (before : Moment K) (message : Message) (after : Moment K) (outputs : List Message) (line : List ℕ) : Type 0 where
   pub told : Told
-  pub answers : Answers facts before (answer_to_any before.arbiter message) told after
+  pub answers : ReturnsAnswer facts before (answer_to_any before.arbiter message) told after
   pub outputs_are : outputs ≡ outputs_of told
   pub line_is : line ≡ line_for told after.arbiter.kept
 
 -- which games are open, by their stamps
-abbrev pub At : Type 0 → Type 0
-At K = List ℕ → Option (Seat K)
+abbrev pub OpenSeats : Type 0 → Type 0
+OpenSeats K = List ℕ → Option (Seat K)
 
 -- all of them can answer by these tables
-abbrev pub AreSeated : {K : Type 0} → KeeperFacts K → Holding → At K → Type 0
+abbrev pub AreSeated : {K : Type 0} → KeeperFacts K → Holding → OpenSeats K → Type 0
 AreSeated facts set at = (stamp : List ℕ) → IfSome (at stamp) (IsSeated facts set)
 
 -- so they can, there is room for as many as there are to be at once, and there are no more
-pub record HasRoomFor {K : Type 0} (facts : KeeperFacts K) (set : Holding) (at : At K) (k cap most : ℕ) : Type 0 where
+pub record HasRoomFor {K : Type 0} (facts : KeeperFacts K) (set : Holding) (at : OpenSeats K) (k cap most : ℕ) : Type 0 where
   pub seated : AreSeated facts set at
   pub room : cap ≡ most
   pub few : k ≤ most
@@ -51,20 +51,20 @@ abbrev pub Lives : Type 0 → Type 0
 Lives K = List ℕ → Life K
 
 -- a game's seat, if it is open, stands for its life; of one that was closed the folder gives a keeper over what was left
-abbrev pub Stands : {K : Type 0} → Keepers K → CommonView → (K → Type 0) → Option (Seat K) → Life K → Type 0
-Stands s t gives None Fresh = Unit {0}
-Stands {K = K} s t gives None (Shut left) = (keeper : K) → gives keeper → s.follows left keeper
-Stands s t gives None (Open at) = ⊥
-Stands s t gives (Some seat) life = IsSeated s.facts t.set seat × (life ≡ Open (moment_of t.set seat))
+abbrev pub StandsForLife : {K : Type 0} → Keepers K → CommonView → (K → Type 0) → Option (Seat K) → Life K → Type 0
+StandsForLife s t gives None Fresh = Unit {0}
+StandsForLife {K = K} s t gives None (Shut left) = (keeper : K) → gives keeper → s.follows left keeper
+StandsForLife s t gives None (Open at) = ⊥
+StandsForLife s t gives (Some seat) life = IsSeated s.facts t.set seat × (life ≡ Open (moment_of t.set seat))
 
-abbrev pub AreLives : {K : Type 0} → Keepers K → CommonView → Gives K → At K → Lives K → Type 0
-AreLives s t gives at lives = (stamp : List ℕ) → Stands s t (gives stamp) (at stamp) (lives stamp)
+abbrev pub AreLives : {K : Type 0} → Keepers K → CommonView → GivesKeepers K → OpenSeats K → Lives K → Type 0
+AreLives s t gives at lives = (stamp : List ℕ) → StandsForLife s t (gives stamp) (at stamp) (lives stamp)
 
 -- which games are open, with this one in hand or taken out
-abbrev pub in_hand : {K : Type 0} → List ℕ → Option (Seat K) → At K → At K
+abbrev pub in_hand : {K : Type 0} → List ℕ → Option (Seat K) → OpenSeats K → OpenSeats K
 in_hand stamp seat at other = cond (bytes_eq stamp other) seat (at other)
 
 -- of so many nothing is closed; or, where they are too many, one game is, of which the folder gives from now on what was left
-pub data Evicts {K : Type 0} (follows : K → K → Type 0) (most : ℕ) (old : Gives K) (at : At K) (k : ℕ) (new : Gives K) (at' : At K) (k' : ℕ) : Type 0 where
+pub data Evicts {K : Type 0} (follows : K → K → Type 0) (most : ℕ) (old : GivesKeepers K) (at : OpenSeats K) (k : ℕ) (new : GivesKeepers K) (at' : OpenSeats K) (k' : ℕ) : Type 0 where
   Nothing : GivesLess old new → ((other : List ℕ) → at' other ≡ at other) → k' ≡ k → Evicts follows most old at k new at' k'
   One : (stamp : List ℕ) (seat : Seat K) → at stamp ≡ Some seat → ((other : List ℕ) → at' other ≡ cond (bytes_eq stamp other) None (at other)) → ((next : K) → new stamp next → follows seat.keeper next) → GivesOthers stamp old new → most ≤ k → k ≡ suc k' → Evicts follows most old at k new at' k'

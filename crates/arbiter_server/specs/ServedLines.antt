@@ -3,7 +3,7 @@ use Rattle.std.specs.Prelude.{ℕ, List, ◌++◌, Option, Some, None, codes}
 use Rattle.std.specs.Fmt.{decimal}
 use Rattle.board_core.specs.declared.verdict.Verdict.{Verdict}
 use Rattle.board_core.specs.Verdicts.{verdict_name}
-use Rattle.move_msg.specs.Messages.{fault_name as message_fault_name}
+use Rattle.move_msg.specs.Messages.{message_fault_name}
 use Rattle.arbiter_core.specs.declared.fault.DeliverFault.{DeliverFault}
 use Rattle.arbiter_core.specs.declared.fault.DeliverFault.TheVariants as deliver
 use Rattle.arbiter_server.specs.declared.heard.Heard.{Heard}

@@ -27,7 +27,7 @@ pub record IsIdle {G K : Type 0} (v : ServerView G K) : Type 0 where
   pub absent : (stamp : List ℕ) → at_stamp v.seats stamp ≡ None
 
 -- it is over this folder, and no game is open yet
-pub record IsNew {G K : Type 0} (common : CommonView) (games : G) (v : ServerView G K) : Type 0 where
+pub record IsNewServer {G K : Type 0} (common : CommonView) (games : G) (v : ServerView G K) : Type 0 where
   pub common_is : v.common ≡ common
   pub games_are : v.games ≡ games
   pub idle : IsIdle v

@@ -7,8 +7,8 @@ use Rattle.move_msg.specs.Messages.{message_text}
 use Rattle.arbiter_core.specs.Keeping.{KeeperFacts}
 use Rattle.arbiter_core.specs.declared.fault.DeliverFault.{DeliverFault}
 use Rattle.arbiter_core.specs.declared.fault.DeliverFault.TheVariants as deliver
-use Rattle.arbiter_core.specs.Recording.{Recorded, count_of}
-use Rattle.arbiter_core.specs.Answering.{asked}
+use Rattle.arbiter_core.specs.Recording.{Recorded, move_count}
+use Rattle.arbiter_core.specs.Answering.{request_of}
 use Rattle.system_io.specs.Failures.{Risen}
 use Rattle.arbiter_core.specs.Delivers.{Delivers, Exchange, Moment, Told, moment}
 use Rattle.arbiter_core.specs.Views.{View}
@@ -51,7 +51,7 @@ loses_keeper (Err fault) = is_loss fault
 
 -- the line for an answer, with what is recorded after it
 abbrev pub line_for : Told → Recorded → List ℕ
-line_for (Ok outputs) kept = heard_words (count_of kept) kept.verdict
+line_for (Ok outputs) kept = heard_words (move_count kept) kept.verdict
 line_for (Err fault) kept = cond (is_loss fault) refused_keeper (refused_datagram fault)
 
 abbrev pub line_of : {K : Type 0} → Exchange K → List ℕ
@@ -104,8 +104,8 @@ line_by (KeeperLost last) = []
 line_by PortLost = refused_port ∷ []
 
 -- all that passes at a port of so many addresses
-abbrev pub all_passing : {K : Type 0} → ℕ → Session K → List Passing
-all_passing addresses run = flat_map (passing_of addresses) (exchanges_of run) ++ missed_by run.loss
+abbrev pub session_passing : {K : Type 0} → ℕ → Session K → List Passing
+session_passing addresses run = flat_map (passing_of addresses) (exchanges_of run) ++ missed_by run.loss
 
 -- a line a datagram, and one for a port that is lost
 abbrev pub lines_of : {K : Type 0} → Session K → List (List ℕ)
@@ -117,18 +117,18 @@ pub record ServesSession {K : Type 0} (s : KeeperFacts K) (old new : Moment K) (
   pub going : AllByRecursion (λ e. loses_keeper e.told ≡ false) run.exchanges
   pub loss : IsLoss run.loss
   pub delivered : InTurn s old (exchanges_of run) new
-  pub passed : Passed port port' (first ++ all_passing port.addresses run)
+  pub passed : Passed port port' (first ++ session_passing port.addresses run)
   pub cause : run.loss ≡ PortLost → Risen port.faults port'.faults
 
 -- the status of a run for n datagrams: 0 where all came and nothing was lost, 1 where something was lost before
-abbrev pub IsStatus : {K : Type 0} → Loss K → ℕ → ℕ → ℕ → Type 0
-IsStatus NoLoss n came status = (came ≡ n) × (status ≡ 0)
-IsStatus (KeeperLost last) n came status = (came ≤ n) × (status ≡ 1)
-IsStatus PortLost n came status = (came < n) × (status ≡ 1)
+abbrev pub IsRunStatus : {K : Type 0} → Loss K → ℕ → ℕ → ℕ → Type 0
+IsRunStatus NoLoss n came status = (came ≡ n) × (status ≡ 0)
+IsRunStatus (KeeperLost last) n came status = (came ≤ n) × (status ≡ 1)
+IsRunStatus PortLost n came status = (came < n) × (status ≡ 1)
 
 -- the lines and the status are those of the run; or its last line could not be written, which is at most the n-th
 abbrev pub TellsSession : {K : Type 0} → ℕ → Session K → Option (List ℕ) → Option (List ℕ) → Result ℕ WriteFault → Type 0
-TellsSession n run old new (Ok status) = IsStatus run.loss n (length (exchanges_of run)) status × Appends old new (text_of (lines_of run))
+TellsSession n run old new (Ok status) = IsRunStatus run.loss n (length (exchanges_of run)) status × Appends old new (text_of (lines_of run))
 TellsSession n run old new (Err fault) = (0 < length (lines_of run)) × (length (lines_of run) ≤ n)
 
 -- the message by which a running arbiter asks the other for moves is handed over first, where that is wanted
@@ -137,7 +137,7 @@ handed_if_any addresses None = []
 handed_if_any addresses (Some m) = handed addresses m
 
 abbrev pub asked_first : ℕ → Bool → View → List Passing
-asked_first addresses fetch v = cond fetch (handed_if_any addresses (cond v.is_down None (asked v.me v.kept))) []
+asked_first addresses fetch v = cond fetch (handed_if_any addresses (cond v.is_down None (request_of v.me v.kept))) []
 
 -- ---- a service
 

@@ -13,12 +13,12 @@ abbrev pub stored : {F : Type 0} → FileKeeper F → Option (List ℕ)
 stored k = cond k.is_kept (Some k.bytes.items) None
 
 -- the file
-abbrev pub file_of : {F : Type 0} → FileKeeper F → F
-file_of k = k.file
+abbrev pub keeper_file : {F : Type 0} → FileKeeper F → F
+keeper_file k = k.file
 
 -- a start that comes now finds in the file what the keeper has stored
 abbrev pub IsInFile : {F : Type 0} → (F → KeptFacts) → FileKeeper F → Type 0
-IsInFile facts k = (facts (file_of k)).finds (stored k) (stored k)
+IsInFile facts k = (facts (keeper_file k)).finds (stored k) (stored k)
 
 -- a start over the file that was left: its keeper has stored one of any two of which the file said that each start finds the one
 -- or the other, and goes on over a file in which it is
@@ -37,13 +37,13 @@ keeper_faults k = k.failures
 
 -- a call of the file failed
 abbrev pub FileFails : {F : Type 0} → (F → KeptFacts) → FileKeeper F → FileKeeper F → Type 0
-FileFails facts before now = Risen (facts (file_of before)).faults (facts (file_of now)).faults
+FileFails facts before now = Risen (facts (keeper_file before)).faults (facts (keeper_file now)).faults
 
 -- what a put of bytes makes of a keeper: no call of the file failed, they have come into it and are stored; or one failed, which
 -- is counted, what was stored stays, and a start finds what stood in the file or these bytes
 pub data PutsInto {F : Type 0} (facts : F → KeptFacts) (before : FileKeeper F) (bytes : List ℕ) (now : FileKeeper F) : Type 0 where
-  Landed : (facts (file_of now)).faults ≡ (facts (file_of before)).faults → stored now ≡ Some bytes → (facts (file_of now)).finds (Some bytes) (Some bytes) → PutsInto facts before bytes now
-  Failed : FileFails facts before now → stored now ≡ stored before → Risen (keeper_faults before) (keeper_faults now) → ((old : Option (List ℕ)) → (facts (file_of before)).finds old old → FindsOldOrNew (facts (file_of now)) old bytes) → PutsInto facts before bytes now
+  Landed : (facts (keeper_file now)).faults ≡ (facts (keeper_file before)).faults → stored now ≡ Some bytes → (facts (keeper_file now)).finds (Some bytes) (Some bytes) → PutsInto facts before bytes now
+  Failed : FileFails facts before now → stored now ≡ stored before → Risen (keeper_faults before) (keeper_faults now) → ((old : Option (List ℕ)) → (facts (keeper_file before)).finds old old → FindsOldOrNew (facts (keeper_file now)) old bytes) → PutsInto facts before bytes now
 
 -- what keepers over files tell of themselves: a put that fails leaves what was stored, and no get fails or changes one
 abbrev pub keeper_over : {F : Type 0} → (F → KeptFacts) → KeeperFacts (FileKeeper F)

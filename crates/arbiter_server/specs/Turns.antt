@@ -15,27 +15,27 @@ use Rattle.system_io.specs.Hosts.{Made}
 use Rattle.system_io.specs.Ports.{Missed, Passed, PortFacts}
 use Rattle.system_io.specs.declared.output.WriteFault.{WriteFault}
 use Rattle.arbiter_server.specs.GoingOut.{LinesEnd, Writers}
-use Rattle.arbiter_server.specs.LineLogs.{Remembers, TellsLine, form_of, logged}
+use Rattle.arbiter_server.specs.LineLogs.{LogsLine, Remembers, form_of, logged}
 use Rattle.arbiter_server.specs.declared.line_log.LineLog.{LineLog}
 use Rattle.arbiter_server.specs.declared.line_log.LogForm.{LogForm}
 use Rattle.arbiter_server.specs.ServedLines.{refused_port}
 use Rattle.arbiter_server.specs.declared.fault.Unopened.{Unopened}
 use Rattle.arbiter_server.specs.declared.seat.Seat.{Seat}
-use Rattle.arbiter_server.specs.Folders.{FolderFacts, Gives, GivesOthers, Keepers, keepers}
+use Rattle.arbiter_server.specs.Folders.{FolderFacts, GivesKeepers, GivesOthers, Keepers, keepers}
 use Rattle.arbiter_server.specs.declared.turn.Answered.{Answered}
 use Rattle.arbiter_server.specs.Told.{line_words, unopened_by}
-use Rattle.arbiter_server.specs.Acts.{Act, Answers, AreInRoom, AreOpenings, Closes as ClosesGame, IsClosing, IsSorted, LastDone, HasAnswered, MayAnswer, Opening, Opens, Otherwise, Refuses as RefusesGame, Reply, Strange, Unread, acts_of, answered, opens_for, opens_game, passing_at, stamp_for, unopened, unread}
-use Rattle.arbiter_server.specs.Games.{CommonView, Fresh, Goes, IsSetupOf, IsToldAs}
+use Rattle.arbiter_server.specs.Acts.{Act, Answers, AreInRoom, AreOpenings, Closes as ClosesGame, IsClosing, IsSorted, LastDone, HasAnswered, MayAnswer, Opening, Opens, Otherwise, Refuses as RefusesGame, DatagramReply, Strange, Unread, acts_of, exchange_reply, opens_for, opens_game, passing_at, stamp_for, unopened, unread}
+use Rattle.arbiter_server.specs.Games.{CommonView, Fresh, Goes, IsSetupOfStamp, IsToldAs}
 use Rattle.arbiter_server.specs.Hosts.{Ends, EndsAtCut, all_lines, all_passing}
 use Rattle.arbiter_server.specs.Room.{at_stamp}
-use Rattle.arbiter_server.specs.Seats.{At, AreLives, Evicts, IsSeated, Lives, in_hand}
+use Rattle.arbiter_server.specs.Seats.{OpenSeats, AreLives, Evicts, IsSeated, Lives, in_hand}
 use Rattle.arbiter_server.specs.Servers.{AtHand, Knowing, ServerView}
 
 -- ---- what comes of acts
 
 -- a reply, or that the keeper of a game is taken
 pub data Effect : Type 0 where
-  Replied : Reply → Effect
+  Replied : DatagramReply → Effect
   Took : (stamp : List ℕ) → Effect
 
 abbrev pub effects_of : {K : Type 0} → Act K → List Effect
@@ -43,28 +43,28 @@ effects_of (Unread datagram fault) = Replied (unread datagram fault) ∷ []
 effects_of (Strange stamp datagram tried why) = cond tried (Took stamp ∷ []) [] ++ Replied (unopened stamp datagram why) ∷ []
 effects_of (RefusesGame stamp datagram over fault) = Took stamp ∷ Replied (unopened stamp datagram (unopened_by fault)) ∷ []
 effects_of (Opens stamp over arbiter) = Took stamp ∷ []
-effects_of (Answers stamp exchange) = Replied (answered stamp exchange) ∷ []
+effects_of (Answers stamp exchange) = Replied (exchange_reply stamp exchange) ∷ []
 effects_of (ClosesGame stamp left) = []
 
 abbrev pub all_effects : {K : Type 0} → List (Act K) → List Effect
 all_effects acts = flat_map effects_of acts
 
-abbrev pub reply_in : Effect → List Reply
+abbrev pub reply_in : Effect → List DatagramReply
 reply_in (Replied r) = r ∷ []
 reply_in (Took m) = []
 
-abbrev pub replies_in : List Effect → List Reply
+abbrev pub replies_in : List Effect → List DatagramReply
 replies_in effects = flat_map reply_in effects
 
 abbrev pub take_in : Effect → List (List ℕ)
 take_in (Replied r) = []
 take_in (Took stamp) = stamp ∷ []
 
-abbrev pub taken_in : List Effect → List (List ℕ)
-taken_in effects = flat_map take_in effects
+abbrev pub taken_by_effects : List Effect → List (List ℕ)
+taken_by_effects effects = flat_map take_in effects
 
 -- whose keepers are taken for a datagram, and then its reply
-abbrev pub effects_with : List (List ℕ) → Reply → List Effect
+abbrev pub effects_with : List (List ℕ) → DatagramReply → List Effect
 effects_with more r = map Took more ++ Replied r ∷ []
 
 -- from one history to a later one the files of some games were made, with which this is so
@@ -78,23 +78,23 @@ MakesAnd folder made games history history' Does = TakesAnd (folder.taken (folde
 -- ---- acts in turn
 
 -- the acts of each game lead from its old life to its new one, whatever stands between them
-pub record Each {K : Type 0} (s : Keepers K) (t : CommonView) (old new : Lives K) (acts : List (Act K)) : Type 0 where
+pub record EachGameGoes {K : Type 0} (s : Keepers K) (t : CommonView) (old new : Lives K) (acts : List (Act K)) : Type 0 where
   pub each : (stamp : List ℕ) → Goes s t stamp (old stamp) (acts_of stamp acts) (new stamp)
   pub sorted : AllByRecursion IsSorted acts
 
 -- where this was done last, some acts lead from these lives to where the games are now, and from so many
 -- that are open to so many, with these effects
-pub record Leads {K : Type 0} (s : Keepers K) (t : CommonView) (last : LastDone) (k : ℕ) (old : Lives K) (gives : Gives K) (at : At K) (k' : ℕ) (effects : List Effect) : Type 0 where
+pub record Leads {K : Type 0} (s : Keepers K) (t : CommonView) (last : LastDone) (k : ℕ) (old : Lives K) (gives : GivesKeepers K) (at : OpenSeats K) (k' : ℕ) (effects : List Effect) : Type 0 where
   pub acts : List (Act K)
   pub new : Lives K
-  pub turns : Each s t old new acts
+  pub turns : EachGameGoes s t old new acts
   pub opened : AreOpenings acts
   pub room : AreInRoom t.at_once k last acts k'
   pub stand : AreLives s t gives at new
   pub effects_are : all_effects acts ≡ effects
 
 -- so they do, and the first is the answer of this game's arbiter to this datagram
-pub record LeadsBy {K : Type 0} (s : Keepers K) (t : CommonView) (stamp datagram : List ℕ) (last : LastDone) (k : ℕ) (old : Lives K) (gives : Gives K) (at : At K) (k' : ℕ) (effects : List Effect) : Type 0 where
+pub record LeadsBy {K : Type 0} (s : Keepers K) (t : CommonView) (stamp datagram : List ℕ) (last : LastDone) (k : ℕ) (old : Lives K) (gives : GivesKeepers K) (at : OpenSeats K) (k' : ℕ) (effects : List Effect) : Type 0 where
   pub leads : Leads s t last k old gives at k' effects
   pub exchange : Exchange K
   pub rest : List (Act K)
@@ -102,44 +102,44 @@ pub record LeadsBy {K : Type 0} (s : Keepers K) (t : CommonView) (stamp datagram
   pub is : exchange.datagram ≡ datagram
 
 -- one act leads from these lives to where the games are now
-pub record LeadsOne {K : Type 0} (s : Keepers K) (t : CommonView) (act : Act K) (old : Lives K) (gives : Gives K) (at : At K) : Type 0 where
+pub record LeadsOne {K : Type 0} (s : Keepers K) (t : CommonView) (act : Act K) (old : Lives K) (gives : GivesKeepers K) (at : OpenSeats K) : Type 0 where
   pub new : Lives K
-  pub turns : Each s t old new (act ∷ [])
+  pub turns : EachGameGoes s t old new (act ∷ [])
   pub stand : AreLives s t gives at new
 
 -- the opening of this game does
-pub record LeadsOpen {K : Type 0} (s : Keepers K) (t : CommonView) (stamp : List ℕ) (old : Lives K) (gives : Gives K) (at : At K) : Type 0 where
+pub record LeadsOpen {K : Type 0} (s : Keepers K) (t : CommonView) (stamp : List ℕ) (old : Lives K) (gives : GivesKeepers K) (at : OpenSeats K) : Type 0 where
   pub over : Opening K
   pub arbiter : View
   pub one : LeadsOne s t (Opens stamp over arbiter) old gives at
 
 -- closings do
-pub record Shuts {K : Type 0} (s : Keepers K) (t : CommonView) (old : Lives K) (gives : Gives K) (at : At K) : Type 0 where
+pub record Shuts {K : Type 0} (s : Keepers K) (t : CommonView) (old : Lives K) (gives : GivesKeepers K) (at : OpenSeats K) : Type 0 where
   pub acts : List (Act K)
   pub new : Lives K
-  pub turns : Each s t old new acts
+  pub turns : EachGameGoes s t old new acts
   pub closing : AllByRecursion IsClosing acts
   pub stand : AreLives s t gives at new
 
 -- so they do for all lives for which the games stood before
-abbrev pub LeadsFrom : {K : Type 0} → Keepers K → CommonView → LastDone → ℕ → Gives K → At K → Gives K → At K → ℕ → List Effect → Type 0
+abbrev pub LeadsFrom : {K : Type 0} → Keepers K → CommonView → LastDone → ℕ → GivesKeepers K → OpenSeats K → GivesKeepers K → OpenSeats K → ℕ → List Effect → Type 0
 LeadsFrom {K = K} s t last k gives at gives' at' k' effects = (lives : Lives K) → AreLives s t gives at lives → Leads s t last k lives gives' at' k' effects
 
-abbrev pub LeadsFromBy : {K : Type 0} → Keepers K → CommonView → List ℕ → List ℕ → LastDone → ℕ → Gives K → At K → Gives K → At K → ℕ → List Effect → Type 0
+abbrev pub LeadsFromBy : {K : Type 0} → Keepers K → CommonView → List ℕ → List ℕ → LastDone → ℕ → GivesKeepers K → OpenSeats K → GivesKeepers K → OpenSeats K → ℕ → List Effect → Type 0
 LeadsFromBy {K = K} s t stamp datagram last k gives at gives' at' k' effects = (lives : Lives K) → AreLives s t gives at lives → LeadsBy s t stamp datagram last k lives gives' at' k' effects
 
-abbrev pub LeadsOpenFrom : {K : Type 0} → Keepers K → CommonView → List ℕ → Gives K → At K → Gives K → At K → Type 0
+abbrev pub LeadsOpenFrom : {K : Type 0} → Keepers K → CommonView → List ℕ → GivesKeepers K → OpenSeats K → GivesKeepers K → OpenSeats K → Type 0
 LeadsOpenFrom {K = K} s t stamp gives at gives' at' = (lives : Lives K) → AreLives s t gives at lives → LeadsOpen s t stamp lives gives' at'
 
-abbrev pub ShutsFrom : {K : Type 0} → Keepers K → CommonView → Gives K → At K → Gives K → At K → Type 0
+abbrev pub ShutsFrom : {K : Type 0} → Keepers K → CommonView → GivesKeepers K → OpenSeats K → GivesKeepers K → OpenSeats K → Type 0
 ShutsFrom {K = K} s t gives at gives' at' = (lives : Lives K) → AreLives s t gives at lives → Shuts s t lives gives' at'
 
 -- from a folder to a later one, by the keepers of where it was first
-abbrev pub Turns : {G K : Type 0} → KeeperFacts K → FolderFacts G K → CommonView → G → At K → ℕ → G → At K → ℕ → List Effect → Type 0
+abbrev pub Turns : {G K : Type 0} → KeeperFacts K → FolderFacts G K → CommonView → G → OpenSeats K → ℕ → G → OpenSeats K → ℕ → List Effect → Type 0
 Turns facts folder t games at k games' at' k' effects = LeadsFrom (keepers facts folder games) t Otherwise k (folder.gives games) at (folder.gives games') at' k' effects
 
 -- closings do, whatever the games have in common
-abbrev pub ShutsAnyhow : {G K : Type 0} → KeeperFacts K → FolderFacts G K → G → At K → G → At K → Type 0
+abbrev pub ShutsAnyhow : {G K : Type 0} → KeeperFacts K → FolderFacts G K → G → OpenSeats K → G → OpenSeats K → Type 0
 ShutsAnyhow facts folder games at games' at' = (t : CommonView) → ShutsFrom (keepers facts folder games) t (folder.gives games) at (folder.gives games') at'
 
 -- where this game is in hand beside others, and has just answered, with no effect, whatever the games have in common but how many are
@@ -160,17 +160,17 @@ pub record ComesBack {G K : Type 0} (folder : FolderFacts G K) (tables : Holding
 -- a game that isn't open is opened, and in hand
 pub record OpensSeat {G K : Type 0} (facts : KeeperFacts K) (folder : FolderFacts G K) (t : CommonView) (games games' : G) (stamp : List ℕ) (seat : Seat K) : Type 0 where
   pub seated : IsSeated facts t.set seat
-  pub turns : (at : At K) → at stamp ≡ None → LeadsOpenFrom (keepers facts folder games) t stamp (folder.gives games) at (folder.gives games') (in_hand stamp (Some seat) at)
+  pub turns : (at : OpenSeats K) → at stamp ≡ None → LeadsOpenFrom (keepers facts folder games) t stamp (folder.gives games) at (folder.gives games') (in_hand stamp (Some seat) at)
 
 -- it is the setup of the game with this stamp, as the folder tells it
 pub record IsFoundAs {G K : Type 0} (facts : KeeperFacts K) (folder : FolderFacts G K) (t : CommonView) (games : G) (stamp : List ℕ) (setup : SetupView) : Type 0 where
-  pub game : IsSetupOf t stamp setup
+  pub game : IsSetupOfStamp t stamp setup
   pub told : IsToldAs (keepers facts folder games) stamp setup
 
 -- or it isn't, and its datagram is refused so, for which this is made
 abbrev pub RefusesSeat : {G K : Type 0} → KeeperFacts K → FolderFacts G K → CommonView → G → G → List ℕ → Unopened → List (List ℕ) → Type 0
 RefusesSeat {K = K} facts folder t games games' stamp why more =
-    (at : At K) (k : ℕ) (datagram : List ℕ) → k ≤ t.at_once → at stamp ≡ None → stamp_for datagram ≡ Some stamp → opens_for datagram ≡ true → Turns facts folder t games at k games' at k (effects_with more (unopened stamp datagram why))
+    (at : OpenSeats K) (k : ℕ) (datagram : List ℕ) → k ≤ t.at_once → at stamp ≡ None → stamp_for datagram ≡ Some stamp → opens_for datagram ≡ true → Turns facts folder t games at k games' at k (effects_with more (unopened stamp datagram why))
 
 -- so it is of each setup that is found so
 abbrev pub OpensFound : {G K : Type 0} → KeeperFacts K → FolderFacts G K → G → G → List ℕ → SetupView → Seat K → Type 0
@@ -195,7 +195,7 @@ abbrev pub TriesSeat : {G H K : Type 0} → KeeperFacts K → FolderFacts G K �
 TriesSeat facts folder made t old new stamp why = MakesAnd folder made old.games old.history new.history (RefusesSeat facts folder t old.games new.games stamp why)
 
 -- the keeper of a game is given back: what the folder gives next of it is over what this one left, and of the others no more
-pub record Closes {G K : Type 0} (folder : FolderFacts G K) (games games' : G) (stamp : List ℕ) (left : K) : Type 0 where
+pub record GivesKeeperBack {G K : Type 0} (folder : FolderFacts G K) (games games' : G) (stamp : List ℕ) (left : K) : Type 0 where
   pub next : (next : K) → folder.gives games' stamp next → folder.follows left next
   pub others : GivesOthers stamp (folder.gives games) (folder.gives games')
 
@@ -206,7 +206,7 @@ abbrev pub TurnsTo : {G K : Type 0} → KeeperFacts K → FolderFacts G K → Se
 TurnsTo facts folder old new effects = Turns facts folder old.common old.games (at_stamp old.seats) (length old.seats) new.games (at_stamp new.seats) (length new.seats) effects
 
 -- the datagram is replied to so, after this was made
-abbrev pub RepliesSo : {G K : Type 0} → KeeperFacts K → FolderFacts G K → ServerView G K → ServerView G K → Reply → List (List ℕ) → Type 0
+abbrev pub RepliesSo : {G K : Type 0} → KeeperFacts K → FolderFacts G K → ServerView G K → ServerView G K → DatagramReply → List (List ℕ) → Type 0
 RepliesSo facts folder old new r more = TurnsTo facts folder old new (effects_with more r)
 
 -- a game that isn't open is opened for a message, which opens games, and in hand
@@ -217,13 +217,13 @@ pub record OpensFor {G K : Type 0} (facts : KeeperFacts K) (folder : FolderFacts
 -- or it isn't, and the message is refused so by whichever datagram it comes
 abbrev pub RefusesFor : {G K : Type 0} → KeeperFacts K → FolderFacts G K → CommonView → G → G → Message → Unopened → List (List ℕ) → Type 0
 RefusesFor {K = K} facts folder t games games' message why more =
-    (at : At K) (k : ℕ) (datagram : List ℕ) → k ≤ t.at_once → at (stamp_in message).0 ≡ None → heard_in datagram ≡ Ok message → Turns facts folder t games at k games' at k (effects_with more (unopened (stamp_in message).0 datagram why))
+    (at : OpenSeats K) (k : ℕ) (datagram : List ℕ) → k ≤ t.at_once → at (stamp_in message).0 ≡ None → heard_in datagram ≡ Ok message → Turns facts folder t games at k games' at k (effects_with more (unopened (stamp_in message).0 datagram why))
 
 abbrev pub TriesFor : {G H K : Type 0} → KeeperFacts K → FolderFacts G K → (H → Option (List Made)) → CommonView → Lent G H → Lent G H → Message → Unopened → Type 0
 TriesFor facts folder made t old new message why = MakesAnd folder made old.games old.history new.history (RefusesFor facts folder t old.games new.games message why)
 
 -- how a game comes into hand, beside which so many are open: it was open; or it is opened for a message, where there is room
-pub data ComesInHand {K : Type 0} (s : Keepers K) (t : CommonView) (message : Message) (gives : Gives K) (at : At K) (k : ℕ) (gives' : Gives K) (at' : At K) (k' : ℕ) (more : List (List ℕ)) : Type 0 where
+pub data ComesInHand {K : Type 0} (s : Keepers K) (t : CommonView) (message : Message) (gives : GivesKeepers K) (at : OpenSeats K) (k : ℕ) (gives' : GivesKeepers K) (at' : OpenSeats K) (k' : ℕ) (more : List (List ℕ)) : Type 0 where
   WasOpen : suc k' ≤ t.at_once → LeadsFrom s t Otherwise k gives at gives' at' (suc k') [] → more ≡ [] → ComesInHand s t message gives at k gives' at' k' more
   IsOpened : opens_game message ≡ true → k ≤ t.at_once → LeadsOpenFrom s t (stamp_in message).0 gives at gives' at' → k' ≡ k → more ≡ (stamp_in message).0 ∷ [] → ComesInHand s t message gives at k gives' at' k' more
 
@@ -238,17 +238,17 @@ abbrev pub Refuses : {G K : Type 0} → KeeperFacts K → FolderFacts G K → Se
 Refuses facts folder old new message why more = (datagram : List ℕ) → heard_in datagram ≡ Ok message → RepliesSo facts folder old new (unopened (stamp_in message).0 datagram why) more
 
 -- the reply to a datagram
-abbrev pub reply_of : List ℕ → Answered → Reply
-reply_of datagram r = record { datagram = datagram; outputs = r.outputs.items; line = line_words r.line }
+abbrev pub datagram_reply : List ℕ → Answered → DatagramReply
+datagram_reply datagram r = record { datagram = datagram; outputs = r.outputs.items; line = line_words r.line }
 
 -- a message that comes by any datagram is answered so
 abbrev pub AnswersMessage : {G K : Type 0} → KeeperFacts K → FolderFacts G K → ServerView G K → Message → ServerView G K → Answered → List (List ℕ) → Type 0
-AnswersMessage facts folder old message new r more = (datagram : List ℕ) → heard_in datagram ≡ Ok message → RepliesSo facts folder old new (reply_of datagram r) more
+AnswersMessage facts folder old message new r more = (datagram : List ℕ) → heard_in datagram ≡ Ok message → RepliesSo facts folder old new (datagram_reply datagram r) more
 
 -- so it is by a game that is in hand
 abbrev pub AnswersInHand : {G K : Type 0} → KeeperFacts K → FolderFacts G K → ServerView G K → Seat K → Message → ServerView G K → Answered → Type 0
 AnswersInHand facts folder old seat message new r =
-    (datagram : List ℕ) (last : LastDone) → heard_in datagram ≡ Ok message → MayAnswer old.common.at_once (suc (length old.seats)) last (stamp_in message).0 → LeadsFromBy (keepers facts folder old.games) old.common (stamp_in message).0 datagram last (suc (length old.seats)) (folder.gives old.games) (in_hand (stamp_in message).0 (Some seat) (at_stamp old.seats)) (folder.gives new.games) (at_stamp new.seats) (length new.seats) (effects_with [] (reply_of datagram r))
+    (datagram : List ℕ) (last : LastDone) → heard_in datagram ≡ Ok message → MayAnswer old.common.at_once (suc (length old.seats)) last (stamp_in message).0 → LeadsFromBy (keepers facts folder old.games) old.common (stamp_in message).0 datagram last (suc (length old.seats)) (folder.gives old.games) (in_hand (stamp_in message).0 (Some seat) (at_stamp old.seats)) (folder.gives new.games) (at_stamp new.seats) (length new.seats) (effects_with [] (datagram_reply datagram r))
 
 -- with these effects something goes on
 abbrev pub Going : Type 1
@@ -256,7 +256,7 @@ Going = List Effect → Type 0
 
 -- a datagram came and was answered, with what was made for it, and this is its line; or the port is lost, and nothing is done
 abbrev pub Receives : Going → (List ℕ → Made) → Option (List Made) → Option (List Made) → PortFacts → PortFacts → List ℕ → Bool → Type 0
-Receives turns file had has port port' line false = (r : Reply) × TakesAnd file had has (λ more. turns (effects_with more r)) × (line ≡ r.line) × Passed port port' (passing_at port.addresses r)
+Receives turns file had has port port' line false = (r : DatagramReply) × TakesAnd file had has (λ more. turns (effects_with more r)) × (line ≡ r.line) × Passed port port' (passing_at port.addresses r)
 Receives turns file had has port port' line true = (turns [] × Passes had has []) × (line ≡ refused_port) × Passed port port' (Missed ∷ []) × Risen port.faults port'.faults
 
 -- so it is of a server and a history
@@ -268,14 +268,14 @@ pub record TakesTurn {W : Type 0} (turns : Going) (file : List ℕ → Made) (w 
   pub line : List ℕ
   pub lost : Bool
   pub received : Receives turns file had has port port' line lost
-  pub tells : TellsLine w before log log' line out out' told
+  pub tells : LogsLine w before log log' line out out' told
   pub is : IfOk told (λ x. x ≡ lost)
 
 -- a run for n datagrams, before the games that are open then, so many, are closed
-pub record HasServed {K W : Type 0} (s : Keepers K) (t : CommonView) (w : Writers W) (form : LogForm) (n : ℕ) (gives : Gives K) (at : At K) (count : ℕ) (file : List ℕ → Made) (had has : Option (List Made)) (port port' : PortFacts) (out out' : W) (ended : Result ℕ WriteFault) : Type 0 where
+pub record HasServed {K W : Type 0} (s : Keepers K) (t : CommonView) (w : Writers W) (form : LogForm) (n : ℕ) (gives : GivesKeepers K) (at : OpenSeats K) (count : ℕ) (file : List ℕ → Made) (had has : Option (List Made)) (port port' : PortFacts) (out out' : W) (ended : Result ℕ WriteFault) : Type 0 where
   pub effects : List Effect
   pub leads : Leads s t Otherwise 0 (λ stamp. Fresh) gives at count effects
-  pub made : Passes had has (map file (taken_in effects))
+  pub made : Passes had has (map file (taken_by_effects effects))
   pub lost : Bool
   pub passed : Passed port port' (all_passing port.addresses (replies_in effects) lost)
   pub cause : lost ≡ true → Risen port.faults port'.faults

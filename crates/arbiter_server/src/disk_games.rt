@@ -1,7 +1,7 @@
 //! Games whose files are in a folder.
 
 ghost use Rattle.std.specs.Prelude.{◌≡◌};
-ghost use Rattle.arbiter_server.specs.DiskGames.{unopened_by};
+ghost use Rattle.arbiter_server.specs.DiskGames.{unopened_by_find};
 
 use crate::fault::Unopened;
 use crate::file_keeper::FileKeeper;
@@ -25,7 +25,7 @@ pub struct DiskGames<'f, D, H> {
 
 /// Why a game isn't open whose file can't be had.
 fn unopened_by(fault: FindFault) -> Unopened
-    ensures { result ≡ unopened_by fault }
+    ensures { result ≡ unopened_by_find fault }
 {
     match fault {
         FindFault::NoGame => Unopened::NoGame,
@@ -35,13 +35,13 @@ fn unopened_by(fault: FindFault) -> Unopened
 }
 
 impl<'f, D: Disk, H: Host> Games for DiskGames<'f, D, H> {
-    ghost use Rattle.arbiter_server.specs.DiskGames.{disk_facts};
+    ghost use Rattle.arbiter_server.specs.DiskGames.{disk_games_facts};
 
     type Keeper = FileKeeper<H::File>;
 
     type History = H::History;
 
-    ghost facts = { disk_facts D.facts H.facts H.File.facts };
+    ghost facts = { disk_games_facts D.facts H.facts H.File.facts };
 
     ghost made = { H.made };
 

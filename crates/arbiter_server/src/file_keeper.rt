@@ -30,7 +30,7 @@ fn roomy(alloc: Global, bytes: &[u8]) -> Result<Vec<u8>, AllocError>
 }
 
 impl<F: KeptFile + Drop> FileKeeper<F> {
-    ghost use Rattle.arbiter_server.specs.StoredBytes.{CannotKeep, IsInFile, file_of, stored};
+    ghost use Rattle.arbiter_server.specs.StoredBytes.{CannotKeep, IsInFile, keeper_file, stored};
 
     /// A keeper over a file, which is read here and never again. A file that doesn't exist is nothing kept. The file
     /// and its folder are synced before it is read, so that a loss of power can't take back what is read. `Unreadable`
@@ -62,14 +62,14 @@ impl<F: KeptFile + Drop> FileKeeper<F> {
 
     /// The file.
     pub fn file(&self) -> &F
-        ensures { result.now ≡ file_of self.now }
+        ensures { result.now ≡ keeper_file self.now }
     {
         &self.file
     }
 
     /// The file, of a keeper that is no longer needed.
     pub fn into_file(self) -> F
-        ensures { result ≡ file_of self }
+        ensures { result ≡ keeper_file self }
     {
         let FileKeeper {
             file,

@@ -2,7 +2,7 @@
 
 ghost use Rattle.std.specs.Prelude.{◌≡◌, string_bytes, IfErr, IfOk};
 ghost use Rattle.arbiter_server.specs.GameFolders.{HasGame, LacksGame, game_path, kept_path, path_of};
-ghost use Rattle.arbiter_server.specs.GameFiles.{told};
+ghost use Rattle.arbiter_server.specs.GameFiles.{game_as_told};
 
 use crate::game_file::{Game, MOST_GAME_BYTES, read_game};
 use crate::game_lines::GameFileFault;
@@ -81,7 +81,7 @@ pub fn find_game<D: Disk>(
     folder: &str,
     stamp: Stamp,
 ) -> Result<Game, FindFault>
-    ensures ok { IfOk result (λ g. HasGame (D.facts disk.now) folder.now stamp.0 (told g.name.items g.start g.delay)) }
+    ensures ok { IfOk result (λ g. HasGame (D.facts disk.now) folder.now stamp.0 (game_as_told g.name.items g.start g.delay)) }
     ensures err { IfErr result (LacksGame (D.facts disk.now) folder.now stamp.0) }
 {
     let bytes = match bytes_of(alloc, disk, folder, stamp) {

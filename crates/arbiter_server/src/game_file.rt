@@ -4,7 +4,7 @@ ghost use Rattle.std.specs.Prelude.{◌≡◌, ◌≤◌, ◌+◌, ◌++◌, len
 ghost use Rattle.std.specs.Result.{IsOkAnd};
 ghost use Rattle.arrayvec.specs.ArrayVec.{array_vec_len};
 ghost use Rattle.board_core.specs.Delays.{most_delay};
-ghost use Rattle.arbiter_server.specs.GameFiles.{IsFirstGameFault, SpellsGame, Told, game_text, told};
+ghost use Rattle.arbiter_server.specs.GameFiles.{GameContents, IsFirstGameFault, SpellsGame, game_as_told, game_text};
 ghost use Rattle.move_msg.specs.Stamps.{IsGameName};
 ghost use Rattle.move_msg.specs.TextLines.{ended};
 
@@ -46,8 +46,8 @@ fn push_line(out: &mut ArrayVec<u8, MOST_GAME_BYTES>, word: &[u8], value: &[u8])
 pub fn write_game(name: &[u8], start: &Position, delay: u8) -> ArrayVec<u8, MOST_GAME_BYTES>
     requires name { IsGameName name.now }
     requires delay { delay ≤ most_delay }
-    ensures text { result.items ≡ game_text (told name.now start.now delay) }
-    ensures spells { SpellsGame result.items (told name.now start.now delay) }
+    ensures text { result.items ≡ game_text (game_as_told name.now start.now delay) }
+    ensures spells { SpellsGame result.items (game_as_told name.now start.now delay) }
 {
     let _conditions = start.parts();
     let mut text = ArrayVec::new();
@@ -72,11 +72,11 @@ fn owned(name: &[u8]) -> ArrayVec<u8, 64>
 /// The file has three lines, each ended by a line feed: `name ` and the name, `start ` and the FEN text of a position as
 /// `fen_text::read` reads it, and `delay ` and a digit from 0 to 8. So each game has one text.
 pub fn read_game(bytes: &[u8]) -> Result<Game, GameFileFault>
-    ensures ok { IfOk result (λ g. SpellsGame bytes.now (told g.name.items g.start g.delay)) }
+    ensures ok { IfOk result (λ g. SpellsGame bytes.now (game_as_told g.name.items g.start g.delay)) }
     ensures err { IfErr result (IsFirstGameFault bytes.now) }
 
     // What `write_game` gives is read as the game that it was given.
-    ensures only { (g : Told) → SpellsGame bytes.now g → IsOkAnd result (λ read. told read.name.items read.start read.delay ≡ g) }
+    ensures only { (g : GameContents) → SpellsGame bytes.now g → IsOkAnd result (λ read. game_as_told read.name.items read.start read.delay ≡ g) }
 {
     let Some((name, rest)) = name_in(bytes) else {
         return Err(GameFileFault::Name);

@@ -3,7 +3,7 @@
 ghost use Rattle.std.specs.Prelude.{◌≡◌, ◌<◌, ℕ, List, [], IfOk, cond, get_or, set};
 ghost use Rattle.std.specs.Str.{bytes_eq};
 ghost use Rattle.move_msg.specs.TextLines.{ended};
-ghost use Rattle.arbiter_server.specs.LineLogs.{RemembersAll, counted, digit_of, one_more, place_of};
+ghost use Rattle.arbiter_server.specs.LineLogs.{RemembersAll, digit_of, line_with_count, one_more_line, remembered_place};
 
 use crate::line::LineText;
 use arrayvec::ArrayVec;
@@ -41,7 +41,7 @@ fn digit_of(digit: u8) -> usize
 
 /// The place for the last line of a game: the first four digits of its stamp.
 pub(crate) fn place_of(text: &[u8]) -> usize
-    ensures is { result ≡ place_of text.now }
+    ensures is { result ≡ remembered_place text.now }
     ensures few { result < 65536 }
 {
     if text.len() < 4 {
@@ -62,7 +62,7 @@ fn without_end(text: &[u8]) -> &[u8]
 
 /// A line with its count behind it.
 pub(crate) fn counted(text: &LineText, count: u64) -> CountedText
-    ensures { (line : List ℕ) → text.now.items ≡ ended line → result.items ≡ ended (counted line count) }
+    ensures { (line : List ℕ) → text.now.items ≡ ended line → result.items ≡ ended (line_with_count line count) }
 {
     let mut digits = Buffer::new();
     let mut all = ArrayVec::new();
@@ -118,7 +118,7 @@ impl LastLines {
     /// Counts a line of a kind; how many came now, 2^64 - 1 at most.
     pub(crate) fn count(&mut self, kind: usize) -> u64
         requires { kind < 8 }
-        ensures count { result ≡ one_more (get_or self.old.counts kind 0) }
+        ensures count { result ≡ one_more_line (get_or self.old.counts kind 0) }
         ensures counts { self.new.counts ≡ set self.old.counts kind result }
         ensures lasts { self.new.lasts ≡ self.old.lasts }
     {
@@ -129,10 +129,10 @@ impl LastLines {
 
     /// Whether a line is the last of its place; it is the last then.
     pub(crate) fn repeats(&mut self, text: &LineText) -> bool
-        ensures is { result ≡ bytes_eq (get_or self.old.lasts (place_of text.now.items) []) text.now.items }
-        ensures lasts { self.new.lasts ≡ cond result self.old.lasts (set self.old.lasts (place_of text.now.items) text.now.items) }
+        ensures is { result ≡ bytes_eq (get_or self.old.lasts (remembered_place text.now.items) []) text.now.items }
+        ensures lasts { self.new.lasts ≡ cond result self.old.lasts (set self.old.lasts (remembered_place text.now.items) text.now.items) }
         ensures counts { self.new.counts ≡ self.old.counts }
-        ensures few { place_of text.now.items < 65536 }
+        ensures few { remembered_place text.now.items < 65536 }
     {
         let place = place_of(text.as_slice());
         if is_same(self.places[place].as_slice(), text.as_slice()) {

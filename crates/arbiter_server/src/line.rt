@@ -4,7 +4,7 @@ ghost use Rattle.std.specs.Prelude.{◌≡◌, ◌<◌, ◌≤◌, ◌+◌, ◌+
 ghost use Rattle.arrayvec.specs.ArrayVec.{array_vec_len};
 ghost use Rattle.hex.specs.Hex.{encode_lower};
 ghost use Rattle.move_msg.specs.TextLines.{ended};
-ghost use Rattle.arbiter_server.specs.LineLogs.{common, kind_of, place_in};
+ghost use Rattle.arbiter_server.specs.LineLogs.{common, line_kind, place_in};
 ghost use Rattle.arbiter_server.specs.Told.{line_words, stamped, unopened_words};
 
 use crate::fault::Unopened;
@@ -107,9 +107,9 @@ fn unread_line(fault: MessageFault) -> LineText
 }
 
 /// The number of the kind of a line for bytes that are no message.
-#[tactic(auto, unfolding(crate::specs::LineLogs::kind_of))]
+#[tactic(auto, unfolding(crate::specs::LineLogs::line_kind))]
 fn unread_kind(fault: MessageFault) -> usize
-    ensures is { kind_of (ended (line_words (Line.Unread fault))) ≡ Some result }
+    ensures is { line_kind (ended (line_words (Line.Unread fault))) ≡ Some result }
     ensures few { result < 8 }
 {
     match fault {
@@ -146,7 +146,7 @@ fn open_kind(stamp: [u8; 16]) -> Option<usize>
 impl Line {
     /// The number of the kind that strangers cause, if the line is of one.
     pub(crate) fn kind(self) -> Option<usize>
-        ensures is { kind_of (ended (line_words self)) ≡ result }
+        ensures is { line_kind (ended (line_words self)) ≡ result }
         ensures few { IfSome result (λ kind. kind < 8) }
     {
         match self {

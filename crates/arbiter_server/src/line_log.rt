@@ -3,7 +3,7 @@
 ghost use Rattle.std.specs.Prelude.{◌≡◌, ◌<◌, [], List, ℕ, IfOk, Some, None};
 ghost use Rattle.move_msg.specs.TextLines.{ended};
 ghost use Rattle.arbiter_server.specs.GoingOut.{writers};
-ghost use Rattle.arbiter_server.specs.LineLogs.{IsLogOf, Remembers, RemembersAll, TellsChange, TellsLine, kind_of};
+ghost use Rattle.arbiter_server.specs.LineLogs.{IsLogOf, LogsLine, Remembers, RemembersAll, TellsChange, line_kind};
 ghost use Rattle.arbiter_server.specs.Told.{line_words};
 
 use crate::last_lines::{LastLines, counted};
@@ -42,7 +42,7 @@ fn tell_counted<W: Output>(
     out: &mut W,
     line: Line,
 ) -> Result<(), WriteFault>
-    requires of { kind_of (ended (line_words line)) ≡ Some kind }
+    requires of { line_kind (ended (line_words line)) ≡ Some kind }
     requires few { kind < 8 }
     ensures { (before : List (List ℕ)) → RemembersAll lines.old before → TellsChange (writers W.Write.contents W.facts) before lines.new (line_words line) out.old out.new result }
 {
@@ -56,7 +56,7 @@ fn tell_counted<W: Output>(
 
 /// Writes a line that isn't the last one of its place.
 fn tell_new<W: Output>(lines: &mut LastLines, out: &mut W, line: Line) -> Result<(), WriteFault>
-    requires { kind_of (ended (line_words line)) ≡ None }
+    requires { line_kind (ended (line_words line)) ≡ None }
     ensures { (before : List (List ℕ)) → RemembersAll lines.old before → TellsChange (writers W.Write.contents W.facts) before lines.new (line_words line) out.old out.new result }
 {
     let text = line.text();
@@ -94,7 +94,7 @@ impl LineLog {
 
     /// Writes a line where it is one that is written, and lets it go out at once.
     pub(crate) fn tell<W: Output>(&mut self, out: &mut W, line: Line) -> Result<(), WriteFault>
-        ensures { (before : List (List ℕ)) → Remembers self.old before → TellsLine (writers W.Write.contents W.facts) before self.old self.new (line_words line) out.old out.new result }
+        ensures { (before : List (List ℕ)) → Remembers self.old before → LogsLine (writers W.Write.contents W.facts) before self.old self.new (line_words line) out.old out.new result }
     {
         match self {
             LineLog::All => put_line(out, line.text().as_slice()),

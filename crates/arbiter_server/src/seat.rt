@@ -5,7 +5,7 @@ ghost use Rattle.std.specs.Result.{result_map_both};
 ghost use Rattle.arbiter_core.specs.Resting.{awake};
 ghost use Rattle.arbiter_server.specs.ServedLines.{heard_line};
 ghost use Rattle.arbiter_server.specs.Serving.{line_for, outputs_of};
-ghost use Rattle.arbiter_server.specs.Seats.{IsAnswered, IsAtRest, IsSeated, moment_of};
+ghost use Rattle.arbiter_server.specs.Seats.{IsMessageAnswered, IsSeatAtRest, IsSeated, moment_of};
 
 use crate::heard::Heard;
 use arbiter_core::{ArbiterState, DeliverFault, Keeper, Outputs};
@@ -59,8 +59,8 @@ impl<'a, K: Keeper + Drop> Seat<'a, K> {
     ) -> Answer
         requires { IsSeated K.facts tables.old self.old }
         ensures same { tables.new ≡ tables.old }
-        ensures rests { IsAtRest K.facts tables.old self.new }
-        ensures answered { IsAnswered K.facts (moment_of tables.old self.old) message.now (moment_of tables.old self.new) result.outputs.items (heard_line result.heard) }
+        ensures rests { IsSeatAtRest K.facts tables.old self.new }
+        ensures answered { IsMessageAnswered K.facts (moment_of tables.old self.old) message.now (moment_of tables.old self.new) result.outputs.items (heard_line result.heard) }
     {
         let told = self.state.deliver(alloc, tables, &mut self.keeper, message);
         answer_for(alloc, told, &self.state)

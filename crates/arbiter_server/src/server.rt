@@ -9,9 +9,9 @@ ghost use Rattle.arbiter_server.specs.LineLogs.{Remembers};
 ghost use Rattle.arbiter_server.specs.Games.{common_with};
 ghost use Rattle.arbiter_server.specs.Room.{at_stamp};
 ghost use Rattle.arbiter_server.specs.Seats.{IsSeated};
-ghost use Rattle.arbiter_server.specs.Servers.{IsIdle, IsNew, ServerHosts, Stays, at_hand, knowing};
+ghost use Rattle.arbiter_server.specs.Servers.{IsIdle, IsNewServer, ServerHosts, Stays, at_hand, knowing};
 ghost use Rattle.arbiter_server.specs.Turns.{ComesBack, OpensFor, OpensFound, OpensSeat, TriesFor, TriesFound, TriesSeat, lent};
-ghost use Rattle.arbiter_server.specs.Turns.{AnswersInHand, AnswersMessage, MakesAnd, Refuses, RepliesSo, ServerReceives, ServerTurns, ServesOn, TakesSeat, reply_of};
+ghost use Rattle.arbiter_server.specs.Turns.{AnswersInHand, AnswersMessage, MakesAnd, Refuses, RepliesSo, ServerReceives, ServerTurns, ServesOn, TakesSeat, datagram_reply};
 
 use crate::config::ServerConfig;
 use crate::fault::Unopened;
@@ -132,7 +132,7 @@ impl<'a, G: Games + Drop> Server<'a, G> {
         tables: Set<'a>,
         games: G,
     ) -> Result<Server<'a, G>, AllocError>
-        ensures { IfOk result (IsNew (common_with config.entry tables.entry) games) }
+        ensures { IfOk result (IsNewServer (common_with config.entry tables.entry) games) }
     {
         match LruCache::new(alloc, config.at_once) {
             Ok(seats) => Ok(Server {
@@ -202,7 +202,7 @@ impl<'a, G: Games + Drop> Server<'a, G> {
     /// Answers a datagram.
     fn hear(&mut self, history: &mut G::History, bytes: &[u8]) -> Answered
         ensures stays { Stays G.facts self.old self.new }
-        ensures turns { MakesAnd G.facts G.made self.old.games history.old history.new (RepliesSo G.Keeper.facts G.facts self.old self.new (reply_of bytes.now result)) }
+        ensures turns { MakesAnd G.facts G.made self.old.games history.old history.new (RepliesSo G.Keeper.facts G.facts self.old self.new (datagram_reply bytes.now result)) }
     {
         match Message::decode(bytes) {
             Ok(message) => self.answer(history, &message),

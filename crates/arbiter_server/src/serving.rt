@@ -8,7 +8,7 @@ ghost use Rattle.system_io.specs.Ports.{Passed};
 ghost use Rattle.arbiter_server.specs.GoingOut.{LinesEnd, writers};
 ghost use Rattle.arbiter_server.specs.ServedLines.{heard_line, refused_datagram, refused_keeper};
 ghost use Rattle.arbiter_server.specs.Serving.{Session, ServesFrom, ServesSession, asked_first, at_work, handed, is_loss};
-ghost use Rattle.arbiter_server.specs.Inside.Steps.{Hears, IsOneStep, status_in, stops};
+ghost use Rattle.arbiter_server.specs.Inside.Steps.{DeliversAndHands, IsOneStep, status_in, stops};
 
 use crate::heard::Heard;
 use arbiter_core::{Arbiter, DeliverFault, Keeper};
@@ -70,7 +70,7 @@ fn hear<K: Keeper, P: Port>(
     bytes: &[u8],
 ) -> (Heard, Next)
     requires { IsKept (K.facts.kept keeper.old) arbiter.old }
-    ensures hears { Hears K.facts (moment arbiter.old keeper.old) (moment arbiter.new keeper.new) (P.facts port.old) (P.facts port.new) bytes.now result }
+    ensures hears { DeliversAndHands K.facts (moment arbiter.old keeper.old) (moment arbiter.new keeper.new) (P.facts port.old) (P.facts port.new) bytes.now result }
     ensures keeps { IsKept (K.facts.kept keeper.new) arbiter.new }
 {
     match arbiter.deliver(alloc, keeper, bytes) {

@@ -3,7 +3,7 @@
 ghost use Rattle.std.specs.Prelude.{◌≡◌, ◌<◌, ◌≤◌, ℕ, List, None, Some, length, false, true};
 ghost use Rattle.arbiter_server.specs.Folders.{GivesOthers};
 ghost use Rattle.arbiter_server.specs.Room.{at_stamp};
-ghost use Rattle.arbiter_server.specs.Turns.{Closes, MakesRoom, ShutsAnyhow, TurnsInHand};
+ghost use Rattle.arbiter_server.specs.Turns.{GivesKeeperBack, MakesRoom, ShutsAnyhow, TurnsInHand};
 
 use crate::games::Games;
 use crate::room::{least_used, put_in, take_last};
@@ -12,7 +12,7 @@ use lru::LruCache;
 
 /// Closes a game: its keeper is given back.
 pub(crate) fn close<'a, G: Games>(games: &mut G, stamp: &[u8; 16], seat: Seat<'a, G::Keeper>)
-    ensures closes { Closes G.facts games.old games.new stamp.now seat.entry.keeper }
+    ensures closes { GivesKeeperBack G.facts games.old games.new stamp.now seat.entry.keeper }
     ensures place { G.facts.place games.new ≡ G.facts.place games.old }
 {
     let Seat { state: _, keeper } = seat;
@@ -61,7 +61,7 @@ pub(crate) fn settle<'a, G: Games>(
 )
     requires { at_stamp seats.old.entries stamp.now ≡ None }
     ensures runs { seat.entry.state.is_down ≡ false → TurnsInHand G.Keeper.facts G.facts seats.old.cap games.old seats.old.entries stamp.now seat.entry games.new seats.new.entries }
-    ensures down { seat.entry.state.is_down ≡ true → Closes G.facts games.old games.new stamp.now seat.entry.keeper × (seats.new ≡ seats.old) }
+    ensures down { seat.entry.state.is_down ≡ true → GivesKeeperBack G.facts games.old games.new stamp.now seat.entry.keeper × (seats.new ≡ seats.old) }
     ensures place { G.facts.place games.new ≡ G.facts.place games.old }
     ensures cap { seats.new.cap ≡ seats.old.cap }
     ensures few { length seats.old.entries ≤ seats.old.cap → length seats.new.entries ≤ seats.new.cap }

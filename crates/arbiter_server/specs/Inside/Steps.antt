@@ -10,21 +10,21 @@ use Rattle.arbiter_server.specs.declared.serving.Next.TheVariants.{GoesOn, Stops
 use Rattle.arbiter_server.specs.ServedLines.{heard_line}
 use Rattle.system_io.specs.Ports.{Passed, PortFacts}
 use Rattle.system_io.specs.declared.output.WriteFault.{WriteFault}
-use Rattle.arbiter_server.specs.Serving.{Session, IsStatus, exchanges_of, handed, lines_of, line_for, loses_keeper, outputs_of}
+use Rattle.arbiter_server.specs.Serving.{Session, IsRunStatus, exchanges_of, handed, lines_of, line_for, loses_keeper, outputs_of}
 
 abbrev pub stops : Next → Bool
 stops GoesOn = false
 stops Stops = true
 
-abbrev pub status_by : Next → ℕ
-status_by GoesOn = 0
-status_by Stops = 1
+abbrev pub next_status : Next → ℕ
+next_status GoesOn = 0
+next_status Stops = 1
 
 abbrev pub status_in : Result Next WriteFault → Result ℕ WriteFault
-status_in told = result_map_both status_by (λ e. e) told
+status_in told = result_map_both next_status (λ e. e) told
 
 -- a datagram is delivered, and its outputs are handed over
-pub record Hears {K : Type 0} (s : KeeperFacts K) (old new : Moment K) (port port' : PortFacts) (bytes : List ℕ) (heard : Heard × Next) : Type 0 where
+pub record DeliversAndHands {K : Type 0} (s : KeeperFacts K) (old new : Moment K) (port port' : PortFacts) (bytes : List ℕ) (heard : Heard × Next) : Type 0 where
   pub told : Told
   pub delivered : Delivers s old (record { datagram = bytes; told = told; after = new })
   pub passed : Passed port port' (flat_map (handed port.addresses) (outputs_of told))
@@ -33,4 +33,4 @@ pub record Hears {K : Type 0} (s : KeeperFacts K) (old new : Moment K) (port por
 
 -- a run of one datagram has this line, and goes on or stops so
 abbrev pub IsOneStep : {K : Type 0} → Session K → Heard × Next → Type 0
-IsOneStep run heard = (lines_of run ≡ heard_line heard.0 ∷ []) × IsStatus run.loss 1 (length (exchanges_of run)) (status_by heard.1)
+IsOneStep run heard = (lines_of run ≡ heard_line heard.0 ∷ []) × IsRunStatus run.loss 1 (length (exchanges_of run)) (next_status heard.1)

@@ -1,7 +1,7 @@
 use Rattle.std.proofs.Common.{ℕ, List, sym}
 use Rattle.board_core.specs.declared.parts.Parts.{Parts}
 use Rattle.arbiter_server.specs.declared.game_lines.GameFileFault.TheVariants.{Delay, More, Name, Start}
-use Rattle.arbiter_server.specs.GameFiles.{HasStart, IsFirstGameFault, SpellsGame, told}
+use Rattle.arbiter_server.specs.GameFiles.{HasStart, IsFirstGameFault, SpellsGame, game_as_told}
 use Rattle.arbiter_server.proofs.GameLaws.{is_none, is_some, no_fault, one_game, spelled, starts}
 use Rattle.arbiter_server.proofs.game_file.read_game.Goals as goal
 
@@ -52,7 +52,7 @@ returns-then-not-is_empty-clause-only c = λ g h. no_fault c.args.bytes.now g Mo
 pub returns-then-not-is_empty-clause-err : goal.returns-then-not-is_empty-clause-err
 returns-then-not-is_empty-clause-err c = more_there c
 
-whole : (c : goal.After-owned) → SpellsGame c.args.bytes.now (told c.owned.result.items c.in-Ok.start c.in-Some-delay_in.delay)
+whole : (c : goal.After-owned) → SpellsGame c.args.bytes.now (game_as_told c.owned.result.items c.in-Ok.start c.in-Some-delay_in.delay)
 whole c =
     let start = starts c.in-Some.rest.now c.in-Some-start_text_in.fen.now c.in-Some-start_text_in.rest.now c.in-Ok.start c.in-Ok.ensures.position c.in-Some-start_text_in.ensures.some c.in-Ok.ensures.one_text in
     let end = is_none c.in-Some-delay_in.rest.now c.if-not-is_empty.ensures in

@@ -5,7 +5,7 @@ use Rattle.arbiter_server.specs.Acts.{HasAnswered}
 use Rattle.arbiter_server.specs.Folders.{keepers}
 use Rattle.arbiter_server.specs.Room.{at_stamp}
 use Rattle.arbiter_server.specs.Seats.{Evicts, in_hand}
-use Rattle.arbiter_server.specs.Turns.{Closes, LeadsFrom}
+use Rattle.arbiter_server.specs.Turns.{GivesKeeperBack, LeadsFrom}
 use Rattle.arbiter_server.proofs.Handing.{absent_still, no_room, runs_not, stays_open}
 use Rattle.arbiter_server.proofs.settling.settle.Goals as goal
 
@@ -42,7 +42,7 @@ returns-in-Err-clause-runs g c = λ runs t most.
     let at1 = at_stamp c.make_room.new.seats.entries in
     let at' = at_stamp c.put_in.new.seats.entries in
     let back = c.in-Err.ensures.err in
-    let closed = subst (λ (seat : Seat g.row.G-Keeper.Denot). Closes g.G.Games.facts c.make_room.new.games c.close-in-Err.new.games c.args.stamp.now seat.keeper) back.0 c.close-in-Err.ensures.closes in
+    let closed = subst (λ (seat : Seat g.row.G-Keeper.Denot). GivesKeeperBack g.G.Games.facts c.make_room.new.games c.close-in-Err.new.games c.args.stamp.now seat.keeper) back.0 c.close-in-Err.ensures.closes in
     let room = subst (λ (n : ℕ). Evicts g.G.Games.facts.follows n gives at (length c.args.seats.now.entries) mid at1 (length c.make_room.new.seats.entries)) (sym most) c.make_room.ensures.closes in
     subst (λ (k : ℕ). LeadsFrom s t (HasAnswered c.args.stamp.now) (suc (length c.args.seats.now.entries)) gives (in_hand c.args.stamp.now (Some c.args.seat) at) gives' at' k []) (ap (λ (l : LruCache (List ℕ) (Seat g.row.G-Keeper.Denot)). length l.entries) (sym back.1))
     (no_room s t (length c.args.seats.now.entries) (length c.make_room.new.seats.entries) gives mid gives' at at1 at' c.args.stamp.now c.args.seat c.requires room

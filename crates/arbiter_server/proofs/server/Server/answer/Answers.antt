@@ -4,7 +4,7 @@ use Rattle.arbiter_server.specs.Folders.{keepers}
 use Rattle.arbiter_server.specs.Room.{at_stamp}
 use Rattle.arbiter_server.specs.Games.{CommonView}
 use Rattle.arbiter_server.specs.Seats.{IsSeated}
-use Rattle.arbiter_server.specs.Turns.{reply_of}
+use Rattle.arbiter_server.specs.Turns.{datagram_reply}
 use Rattle.arbiter_server.proofs.Seating.{from_place_by}
 use Rattle.arbiter_server.proofs.Handing.{comes_then}
 use Rattle.arbiter_server.proofs.WholeRuns.{still}
@@ -25,7 +25,7 @@ returns-in-Ok-clause-answers g c = (
   c.in-Ok.ensures.opened.1,
   λ datagram says.
       let t = c.args.self.now.common in
-      comes_then (keepers g.G.Keeper.Keeper.facts g.G.Games.facts c.args.self.now.games) t c.args.message.now datagram _ _ _ _ _ _ (at_stamp c.args.self.now.seats) _ (at_stamp c.answer_at.new.self.seats) c.in-Ok.ensures.opened.0 (reply_of datagram c.answer_at.result) says c.in-Ok.ensures.opened.2.comes
+      comes_then (keepers g.G.Keeper.Keeper.facts g.G.Games.facts c.args.self.now.games) t c.args.message.now datagram _ _ _ _ _ _ (at_stamp c.args.self.now.seats) _ (at_stamp c.answer_at.new.self.seats) c.in-Ok.ensures.opened.0 (datagram_reply datagram c.answer_at.result) says c.in-Ok.ensures.opened.2.comes
       (λ last may.
       let answered = c.answer_at.ensures.answers datagram last says (rw (sym c.seat_for.ensures.stays.common) at may) in
       let so = rw c.seat_for.ensures.stays.common at answered in

@@ -2,7 +2,7 @@ use Rattle.std.proofs.Common.{length, take, refl}
 use Rattle.arbiter_server.specs.Acts.{Otherwise}
 use Rattle.arbiter_server.specs.Folders.{keepers}
 use Rattle.arbiter_server.specs.Room.{at_stamp}
-use Rattle.arbiter_server.specs.Turns.{reply_of}
+use Rattle.arbiter_server.specs.Turns.{datagram_reply}
 use Rattle.arbiter_server.proofs.Hosted.{came_and_sent}
 use Rattle.arbiter_server.proofs.WholeRuns.{as_before}
 use Rattle.arbiter_server.proofs.Turning.{leads_not}
@@ -11,7 +11,7 @@ use Rattle.arbiter_server.proofs.server.Server.receive.Goals as goal
 
 pub returns-in-Ok-clause-received : goal.returns-in-Ok-clause-received
 returns-in-Ok-clause-received g c =
-    let r = reply_of (take c.in-Ok.length c.receive.new.buffer) c.hear-told.result in
+    let r = datagram_reply (take c.in-Ok.length c.receive.new.buffer) c.hear-told.result in
     (r, c.hear-told.ensures.turns, refl, came_and_sent (g.P.Port.facts c.args.port.now) (g.P.Port.facts c.receive.new.self) (g.P.Port.facts c.send_all.new.port) r c.in-Ok.ensures.came (rw c.as_slice.ensures at c.send_all.ensures))
 
 pub returns-in-Err-clause-received : goal.returns-in-Err-clause-received
