@@ -10,9 +10,9 @@ use Rattle.board_core.specs.declared.piece.Kind.TheVariants.{Pawn, Knight, Bisho
 use Rattle.board_core.specs.declared.attack.Direction.{Direction}
 use Rattle.board_core.specs.declared.attack.Direction.TheVariants.{North, South, East, West, NorthEast, NorthWest, SouthEast, SouthWest}
 use Rattle.board_core.specs.Side.{other}
-use Rattle.board_core.specs.Attack.{man_at, Along, IsClear, Goes, Ray, IsKingStep, IsKnightStep, IsPawnAttack, Reaches, IsAttacked, IsInCheck}
+use Rattle.board_core.specs.Attack.{man_at, Along, IsClear, Slides, Ray, IsKingStep, IsKnightStep, IsPawnAttack, Reaches, IsAttacked, IsInCheck}
 use Rattle.board_core.specs.Position.{is_same_side, is_king, is_of, is_king_of}
-use Rattle.board_core.specs.Computed.{some_below, each_below, is_along, onward, is_clear, goes, directions, is_line, is_ray, is_king_step, is_knight_step, is_pawn_attack, reaches, attacks, is_attacked, is_in_check}
+use Rattle.board_core.specs.Computed.{some_below, each_below, is_along, onward, is_clear, goes, directions, is_line, is_ray, is_king_step, is_knight_step, is_pawn_attack, reaches_square, attacks, is_attacked, is_in_check}
 
 pub Decides-leb : (a b : ℕ) → Decides (nat_le a b) (a ≤ b)
 Decides-leb a b = (λ h. grind (arith, nat_tests), λ h. grind (arith, nat_tests))
@@ -155,7 +155,7 @@ Decides-clear men d n from to h =
 Decides-line : (men : List (Option Piece)) (d : Direction) (from to n : ℕ) → Decides (is_line men d from to n) (((0 < n) × Along d n from to) × IsClear men d n from)
 Decides-line men d from to n = Decides-and_then _ _ (Decides-and _ _ (Decides-ltb 0 n) (Decides-along d n from to)) (λ h. Decides-clear men d n from to h.1)
 
-Decides-goes_straight : (d : Direction) → Decides (goes Rook d) (Goes Rook d)
+Decides-goes_straight : (d : Direction) → Decides (goes Rook d) (Slides Rook d)
 Decides-goes_straight North = (λ _. tt, λ _. refl)
 Decides-goes_straight South = (λ _. tt, λ _. refl)
 Decides-goes_straight East = (λ _. tt, λ _. refl)
@@ -165,7 +165,7 @@ Decides-goes_straight NorthWest = (λ e. let f = e in cc, λ h. absurd h)
 Decides-goes_straight SouthEast = (λ e. let f = e in cc, λ h. absurd h)
 Decides-goes_straight SouthWest = (λ e. let f = e in cc, λ h. absurd h)
 
-Decides-goes_diagonal : (d : Direction) → Decides (goes Bishop d) (Goes Bishop d)
+Decides-goes_diagonal : (d : Direction) → Decides (goes Bishop d) (Slides Bishop d)
 Decides-goes_diagonal North = (λ e. let f = e in cc, λ h. absurd h)
 Decides-goes_diagonal South = (λ e. let f = e in cc, λ h. absurd h)
 Decides-goes_diagonal East = (λ e. let f = e in cc, λ h. absurd h)
@@ -175,7 +175,7 @@ Decides-goes_diagonal NorthWest = (λ _. tt, λ _. refl)
 Decides-goes_diagonal SouthEast = (λ _. tt, λ _. refl)
 Decides-goes_diagonal SouthWest = (λ _. tt, λ _. refl)
 
-Decides-goes : (kind : Kind) (d : Direction) → Decides (goes kind d) (Goes kind d)
+Decides-goes : (kind : Kind) (d : Direction) → Decides (goes kind d) (Slides kind d)
 Decides-goes Pawn d = (λ e. let f = e in cc, λ h. absurd h)
 Decides-goes Knight d = (λ e. let f = e in cc, λ h. absurd h)
 Decides-goes Bishop d = Decides-goes_diagonal d
@@ -215,7 +215,7 @@ Decides-ray men kind from to lf lt =
     Decides-like _
     (λ r. record { direction = r.0; distance = r.1.1.0; goes = r.1.0; away = r.1.1.2.0.0; along = r.1.1.2.0.1; clear = r.1.1.2.1 })
     (λ ray. (ray.direction, (ray.goes, (ray.distance, along_below ray.direction ray.distance from to lf lt ray.along, ((ray.away, ray.along), ray.clear)))))
-    (Decides-directions _ (λ d. Goes kind d × ((n : ℕ) × (n < 8) × (((0 < n) × Along d n from to) × IsClear men d n from)))
+    (Decides-directions _ (λ d. Slides kind d × ((n : ℕ) × (n < 8) × (((0 < n) × Along d n from to) × IsClear men d n from)))
     (λ d. Decides-and _ _ (Decides-goes kind d) (Decides-some_below 8 _ _ (λ n _. Decides-line men d from to n))))
 
 pub Decides-king_step : (from to : ℕ) → Decides (is_king_step from to) (IsKingStep from to)
@@ -231,7 +231,7 @@ pub Decides-pawn_attack : (side : Side) (from to : ℕ) → Decides (is_pawn_att
 Decides-pawn_attack White from to = Decides-and _ _ (Decides-eqb _ 1) (Decides-eqb _ _)
 Decides-pawn_attack Black from to = Decides-and _ _ (Decides-eqb _ 1) (Decides-eqb _ _)
 
-pub Decides-reaches : (men : List (Option Piece)) (side : Side) (kind : Kind) (from to : ℕ) → from < 64 → to < 64 → Decides (reaches men side kind from to) (Reaches men side kind from to)
+pub Decides-reaches : (men : List (Option Piece)) (side : Side) (kind : Kind) (from to : ℕ) → from < 64 → to < 64 → Decides (reaches_square men side kind from to) (Reaches men side kind from to)
 Decides-reaches men side Pawn from to lf lt = Decides-pawn_attack side from to
 Decides-reaches men side Knight from to lf lt = Decides-knight_step from to
 Decides-reaches men side Bishop from to lf lt = Decides-ray men Bishop from to lf lt

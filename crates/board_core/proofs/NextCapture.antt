@@ -17,7 +17,7 @@ use Rattle.board_core.specs.Side.{other}
 use Rattle.board_core.specs.Attack.{man_at, Reaches}
 use Rattle.board_core.specs.Moves.{Stands, IsTaken, IsMove, IsCapture, IsLegalCapture, place_of, promotion_place}
 use Rattle.board_core.specs.ComputedMoves.{is_later, is_legal, position_after, promotion_at, legal_captures, captures_after}
-use Rattle.board_core.specs.Inside.Search.{AttacksTo, IsFirst, IsCandidate, IsLaterCapture, IsLaterBetween, start_of}
+use Rattle.board_core.specs.Inside.Search.{AttacksTo, IsFirstCandidate, IsCandidate, IsLaterCapture, IsLaterBetween, start_of}
 use Rattle.board_core.proofs.Listing.{make, promotion_below, same_place}
 use Rattle.board_core.proofs.Steps.{kind_on, move_takes}
 use Rattle.board_core.proofs.Preserved.{way}
@@ -79,7 +79,7 @@ made : (m : Move) (from to : ℕ) (o : Option Promotion) → m.from ≡ from →
 made m from to o f t e = rw (sym f, sym t, sym e) refl
 
 -- a candidate with this promotion is the first between the squares where none has an earlier one
-pub first_between : (p : Parts) (start from to k : ℕ) (m : Move) (o : Option Promotion) → k < 5 → o ≡ promotion_at k → m ≡ make from to o → IsCandidate p start m → ((x : Move) → IsLaterBetween p start from to x → promotion_place x.promotion < k → ⊥) → IsFirst p start (IsLaterBetween p start from to) m
+pub first_between : (p : Parts) (start from to k : ℕ) (m : Move) (o : Option Promotion) → k < 5 → o ≡ promotion_at k → m ≡ make from to o → IsCandidate p start m → ((x : Move) → IsLaterBetween p start from to x → promotion_place x.promotion < k → ⊥) → IsFirstCandidate p start (IsLaterBetween p start from to) m
 first_between p start from to k m o lt at is found none = record {
   candidate = found;
   first = λ x w. elim (cases_lt (promotion_place x.promotion) k) [
@@ -104,7 +104,7 @@ abbrev pub On : (Move → Type 0) → (Move → ℕ) → ℕ → Type 0
 On W key s = (m : Move) × W m × (key m ≡ s)
 
 -- the first of the moves with the lowest number is the first of all
-pub first_of_all : (W : Move → Type 0) (key : Move → ℕ) (next set s : ℕ) (p : Parts) (start : ℕ) (m : Move) → key m ≡ s → ((x : Move) → W x → key m < key x → place_of m ≤ place_of x) → ((x : Move) → W x → key x < 64) → Rests (On W key) next set → ((k : ℕ) → k < s → bit_at set k ≡ 0) → ((k : ℕ) → k < next → On W key k → ⊥) → IsFirst p start (λ x. W x × (key x ≡ s)) m → IsFirst p start W m
+pub first_of_all : (W : Move → Type 0) (key : Move → ℕ) (next set s : ℕ) (p : Parts) (start : ℕ) (m : Move) → key m ≡ s → ((x : Move) → W x → key m < key x → place_of m ≤ place_of x) → ((x : Move) → W x → key x < 64) → Rests (On W key) next set → ((k : ℕ) → k < s → bit_at set k ≡ 0) → ((k : ℕ) → k < next → On W key k → ⊥) → IsFirstCandidate p start (λ x. W x × (key x ≡ s)) m → IsFirstCandidate p start W m
 first_of_all W key next set s p start m is rises on_board rests first none f = record {
   candidate = f.candidate;
   first = λ x w. elim (cases_lt (key x) s) [
@@ -217,7 +217,7 @@ skips last m (x ∷ xs) absent on_board board later first =
           rw (before, after) rest
     ]
 
-next_by : (p : Parts) (last : Option Move) (m : Move) (legal : Bool) → is_legal p m ≡ legal → IsFirst p (start_of last) (IsLaterCapture p (start_of last)) m → captures_after p last ≡ if legal then m ∷ captures_after p (Some m) else captures_after p (Some m)
+next_by : (p : Parts) (last : Option Move) (m : Move) (legal : Bool) → is_legal p m ≡ legal → IsFirstCandidate p (start_of last) (IsLaterCapture p (start_of last)) m → captures_after p last ≡ if legal then m ∷ captures_after p (Some m) else captures_after p (Some m)
 unfolding captures_after
 next_by p last m true e n =
     let h = HasLegalCaptures-moves p in
@@ -231,15 +231,15 @@ next_by p last m false e n =
     n.candidate.to_board (start_later last m n.candidate.later)
     (λ x there later. n.first x (All-contains (IsLegalCapture p) (legal_captures p) x h.sound there, later_start last x later))
 
-pub next_goes_on : (p : Parts) (last : Option Move) (o : Option Move) → IfSome o (IsFirst p (start_of last) (IsLaterCapture p (start_of last))) → IfSome o (λ m. captures_after p last ≡ if is_legal p m then m ∷ captures_after p (Some m) else captures_after p (Some m))
+pub next_goes_on : (p : Parts) (last : Option Move) (o : Option Move) → IfSome o (IsFirstCandidate p (start_of last) (IsLaterCapture p (start_of last))) → IfSome o (λ m. captures_after p last ≡ if is_legal p m then m ∷ captures_after p (Some m) else captures_after p (Some m))
 next_goes_on p last None h = tt
 next_goes_on p last (Some m) h = next_by p last m (is_legal p m) refl h
 
-pub next_later : (p : Parts) (last : Option Move) (o : Option Move) → IfSome o (IsFirst p (start_of last) (IsLaterCapture p (start_of last))) → IfSome o (λ m. (l : Move) → last ≡ Some l → place_of l < place_of m)
+pub next_later : (p : Parts) (last : Option Move) (o : Option Move) → IfSome o (IsFirstCandidate p (start_of last) (IsLaterCapture p (start_of last))) → IfSome o (λ m. (l : Move) → last ≡ Some l → place_of l < place_of m)
 next_later p last None h = tt
 next_later p last (Some m) h = λ l e. let at : start_of last ≡ place_of l + 1 = rw e refl in omega (arith, at, h.candidate.later)
 
-pub next_below : (p : Parts) (start : ℕ) (o : Option Move) → IfSome o (IsFirst p start (IsLaterCapture p start)) → IfSome o (λ m. place_of m < 20480)
+pub next_below : (p : Parts) (start : ℕ) (o : Option Move) → IfSome o (IsFirstCandidate p start (IsLaterCapture p start)) → IfSome o (λ m. place_of m < 20480)
 next_below p start None h = tt
 next_below p start (Some m) h = let k = promotion_below m.promotion in omega (arith, h.candidate.from_board, h.candidate.to_board)
 

@@ -19,7 +19,7 @@ use Rattle.board_core.specs.declared.parts.Parts.{Parts}
 use Rattle.board_core.specs.Side.{other}
 use Rattle.board_core.specs.Attack.{man_at, Along, IsClear, Ray, Reaches, IsAttacked, IsInCheck}
 use Rattle.board_core.specs.Castling.{rook_home, king_end, rook_end}
-use Rattle.board_core.specs.Moves.{IsMove, IsTaken, Legal, IsLegal, carried, landed, behind, men_after, after, kind_of}
+use Rattle.board_core.specs.Moves.{IsMove, IsTaken, Legal, IsLegal, carried, landed, behind, men_after, after, promoted_kind}
 use Rattle.board_core.proofs.Outward.{opposite, along_back, along_split, along_rest, along_distance, clear_back}
 
 abbrev pub some_man : Side → Kind → Option Piece
@@ -139,7 +139,7 @@ enemy_carried men side f t s x len lf lt own h = elim (spot men f t x s len lf l
 
 landed_friend : (side : Side) (o : Option Piece) (k : Option Promotion) (sort sort' : Kind) → o ≡ some_man side sort → landed side o k ≡ some_man (other side) sort' → ⊥
 landed_friend side o None sort sort' st e = other_side side sort sort' (sym st ∙ e)
-landed_friend side o (Some k) sort sort' st e = other_side side (kind_of k) sort' e
+landed_friend side o (Some k) sort sort' st e = other_side side (promoted_kind k) sort' e
 
 pub enemy_stays : (p : Parts) (m : Move) (c : MoveCase) (s : ℕ) → s < 64 → length p.men ≡ 64 → m.from < 64 → m.to < 64 → IsMove p m c → IsTaken (men_after p m c) (other p.side) s → IsTaken p.men (other p.side) s
 enemy_stays p m Plain s b len lf lt r h = enemy_carried p.men p.side m.from m.to s _ len lf lt (λ k e. other_side p.side r.kind k (sym r.stands ∙ e)) h
@@ -239,7 +239,7 @@ attack_before men side what k f t x len lf lt own shut h =
 
 landed_own : (side : Side) (o : Option Piece) (k : Option Promotion) → o ≡ some_man side Pawn → (what : Kind) × (landed side o k ≡ some_man side what)
 landed_own side o None e = (Pawn, e)
-landed_own side o (Some k) e = (kind_of k, refl)
+landed_own side o (Some k) e = (promoted_kind k, refl)
 
 -- a case that carries one man puts a man of the side that moves on the square
 carries : (p : Parts) (m : Move) (c : MoveCase) → IsMove p m c → IsCarry c → (x : Option Piece) × ((what : Kind) × ((x ≡ some_man p.side what) × (men_after p m c ≡ carried p.men m.from m.to x)))

@@ -13,7 +13,7 @@ use Rattle.board_core.specs.Attack.{man_at}
 use Rattle.board_core.specs.Position.{is_of, is_king}
 use Rattle.board_core.specs.Sets.{is_in, side_by, kind_or, kind_on, man_by, man_on, shown_from, men_shown}
 use Rattle.board_core.specs.Sides.{squares_where, IsOccupied}
-use Rattle.board_core.specs.Inside.Census.{is_kind, is_pawn}
+use Rattle.board_core.specs.Inside.Census.{is_kind_passing, is_pawn_kind}
 use Rattle.board_core.proofs.SetBits.{bit_of, same_set}
 use Rattle.board_core.proofs.Sweep.{Rests, Rests-begin, Rests-next, Rests-without, Rests-between, Rests-empty}
 
@@ -101,7 +101,7 @@ king_kind false false false false true n = refl
 king_kind false false false false false true = refl
 king_kind false false false false false false = refl
 
-pawn_kind : (k p r q b n : Bool) → (p && not k) ≡ is_this is_pawn (chain k p r q b n)
+pawn_kind : (k p r q b n : Bool) → (p && not k) ≡ is_this is_pawn_kind (chain k p r q b n)
 pawn_kind true true r q b n = refl
 pawn_kind true false r q b n = refl
 pawn_kind false true r q b n = refl
@@ -161,7 +161,7 @@ with_false : (x : Bool) → (x && false) ≡ false
 with_false true = refl
 with_false false = refl
 
-kind_by : (test : Kind → Bool) (w b : Bool) (kind : Option Kind) → (is_this test kind && (w || b)) ≡ is_kind test (man_by (side_by w b) kind)
+kind_by : (test : Kind → Bool) (w b : Bool) (kind : Option Kind) → (is_this test kind && (w || b)) ≡ is_kind_passing test (man_by (side_by w b) kind)
 kind_by test true b None = refl
 kind_by test true b (Some this) = with_true (test this)
 kind_by test false true None = refl
@@ -175,22 +175,22 @@ swapped true false true = refl
 swapped true false false = refl
 swapped false y z = refl
 
-pub kings_shown : (sets : Sets) (of_a_side set : ℕ) → of_a_side ≡ bit_or sets.white sets.black → set < 2 ^ 64 → set ≡ bit_and sets.kings of_a_side → set ≡ squares_where (is_kind is_king) (men_shown sets)
-kings_shown sets of_a_side set sides below e = same_as_shown (is_kind is_king) refl sets set below (λ s.
+pub kings_shown : (sets : Sets) (of_a_side set : ℕ) → of_a_side ≡ bit_or sets.white sets.black → set < 2 ^ 64 → set ≡ bit_and sets.kings of_a_side → set ≡ squares_where (is_kind_passing is_king) (men_shown sets)
+kings_shown sets of_a_side set sides below e = same_as_shown (is_kind_passing is_king) refl sets set below (λ s.
     ap (λ x. bit_at x s) e
     ∙ and_bits sets.kings of_a_side s _ _ (is_bit sets.kings s) (ap (λ x. bit_at x s) sides ∙ or_bits sets.white sets.black s _ _ (is_bit sets.white s) (is_bit sets.black s))
     ∙ ap (λ x. bit_of (x && (is_in sets.white s || is_in sets.black s))) (king_kind (is_in sets.kings s) (is_in sets.pawns s) (is_in sets.rooks s) (is_in sets.queens s) (is_in sets.bishops s) (is_in sets.knights s))
     ∙ ap bit_of (kind_by is_king (is_in sets.white s) (is_in sets.black s) (kind_on sets s)))
 
 pub pawns_shown : (sets : Sets) (of_a_side both set : ℕ) → of_a_side ≡ bit_or sets.white sets.black → set < 2 ^ 64 → both ≡ bit_and sets.pawns of_a_side
-    → ((s : ℕ) → bit_at set s ≡ bit_at both s - bit_at sets.kings s) → set ≡ squares_where (is_kind is_pawn) (men_shown sets)
-pawns_shown sets of_a_side both set sides below e less = same_as_shown (is_kind is_pawn) refl sets set below (λ s.
+    → ((s : ℕ) → bit_at set s ≡ bit_at both s - bit_at sets.kings s) → set ≡ squares_where (is_kind_passing is_pawn_kind) (men_shown sets)
+pawns_shown sets of_a_side both set sides below e less = same_as_shown (is_kind_passing is_pawn_kind) refl sets set below (λ s.
     except_bits set both sets.kings s _ _ (less s)
     (ap (λ x. bit_at x s) e ∙ and_bits sets.pawns of_a_side s _ _ (is_bit sets.pawns s) (ap (λ x. bit_at x s) sides ∙ or_bits sets.white sets.black s _ _ (is_bit sets.white s) (is_bit sets.black s)))
     (is_bit sets.kings s)
     ∙ ap bit_of (swapped (is_in sets.pawns s) (is_in sets.white s || is_in sets.black s) (not (is_in sets.kings s)))
     ∙ ap (λ x. bit_of (x && (is_in sets.white s || is_in sets.black s))) (pawn_kind (is_in sets.kings s) (is_in sets.pawns s) (is_in sets.rooks s) (is_in sets.queens s) (is_in sets.bishops s) (is_in sets.knights s))
-    ∙ ap bit_of (kind_by is_pawn (is_in sets.white s) (is_in sets.black s) (kind_on sets s)))
+    ∙ ap bit_of (kind_by is_pawn_kind (is_in sets.white s) (is_in sets.black s) (kind_on sets s)))
 
 -- men copied from a list, square by square of those on which they stand
 abbrev pub IsManned : List (Option Piece) → ℕ → Type 0

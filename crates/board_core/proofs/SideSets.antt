@@ -12,7 +12,7 @@ use Rattle.board_core.specs.declared.piece.Kind.TheVariants.{King}
 use Rattle.board_core.specs.Attack.{man_at}
 use Rattle.board_core.specs.Moves.{Stands, IsTaken}
 use Rattle.board_core.specs.Position.{is_of}
-use Rattle.board_core.specs.Sides.{squares_where, squares_of, sides_of}
+use Rattle.board_core.specs.Sides.{squares_where, side_squares, sides_of}
 use Rattle.board_core.proofs.Computed.{Decides-of}
 use Rattle.board_core.proofs.SetBits.{bit_of, squares_where_bit, same_set}
 use Rattle.board_core.proofs.Sweep.{Rests, Rests-between, zero_one}
@@ -34,7 +34,7 @@ in_set men side s t = squares_where_bit (is_of side) refl men s ∙ ap bit_of ((
 pub set_only : (men : List (Option Piece)) (side : Side) (s : ℕ) → bit_at (squares_where (is_of side) men) s ≡ 1 → IsTaken men side s
 set_only men side s bit = (Decides-of side (man_at men s)).0 (one_is_true _ (sym (squares_where_bit (is_of side) refl men s) ∙ bit))
 
-pub side_set : (men : List (Option Piece)) (side : Side) → squares_of (sides_of men) side ≡ squares_where (is_of side) men
+pub side_set : (men : List (Option Piece)) (side : Side) → side_squares (sides_of men) side ≡ squares_where (is_of side) men
 side_set men White = refl
 side_set men Black = refl
 
@@ -71,7 +71,7 @@ king_to_come men side next set king r below b st = elim (cases_lt king next) [
 ]
 
 -- the sets of one side and of the other
-pub set_of_side : (men : List (Option Piece)) (side : Side) (sides : Sides) (s : ℕ) → sides ≡ sides_of men → IsTaken men side s → bit_at (squares_of sides side) s ≡ 1
+pub set_of_side : (men : List (Option Piece)) (side : Side) (sides : Sides) (s : ℕ) → sides ≡ sides_of men → IsTaken men side s → bit_at (side_squares sides side) s ≡ 1
 set_of_side men side sides s e t = rw (e, side_set men side) (in_set men side s t)
 
 -- the set of one test, once a man stands on a square or leaves it

@@ -52,19 +52,19 @@ IsDiagonal SouthEast = Unit {0}
 IsDiagonal SouthWest = Unit {0}
 
 -- the directions in which a kind of man goes any distance (FIDE articles 3.2 to 3.4)
-abbrev pub Goes : Kind → Direction → Type 0
-Goes Pawn d = ⊥
-Goes Knight d = ⊥
-Goes Bishop d = IsDiagonal d
-Goes Rook d = IsStraight d
-Goes Queen d = Unit {0}
-Goes King d = ⊥
+abbrev pub Slides : Kind → Direction → Type 0
+Slides Pawn d = ⊥
+Slides Knight d = ⊥
+Slides Bishop d = IsDiagonal d
+Slides Rook d = IsStraight d
+Slides Queen d = Unit {0}
+Slides King d = ⊥
 
 -- a man of this kind on `from` reaches `to` along a line over empty squares (FIDE article 3.5)
 pub record Ray (men : List (Option Piece)) (kind : Kind) (from to : ℕ) : Type 0 where
   pub direction : Direction
   pub distance : ℕ
-  pub goes : Goes kind direction
+  pub goes : Slides kind direction
   pub away : 0 < distance
   pub along : Along direction distance from to
   pub clear : IsClear men direction distance from

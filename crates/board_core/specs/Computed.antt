@@ -96,18 +96,18 @@ is_pawn_attack Black from to =
     (apart (file_of from) (file_of to) == 1) && (rank_of to + 1 == rank_of from)
 
 -- the man, standing on `from`, attacks `to`
-abbrev pub reaches : List (Option Piece) → Side → Kind → ℕ → ℕ → Bool
-reaches men side Pawn from to = is_pawn_attack side from to
-reaches men side Knight from to = is_knight_step from to
-reaches men side Bishop from to = is_ray men Bishop from to
-reaches men side Rook from to = is_ray men Rook from to
-reaches men side Queen from to = is_ray men Queen from to
-reaches men side King from to = is_king_step from to
+abbrev pub reaches_square : List (Option Piece) → Side → Kind → ℕ → ℕ → Bool
+reaches_square men side Pawn from to = is_pawn_attack side from to
+reaches_square men side Knight from to = is_knight_step from to
+reaches_square men side Bishop from to = is_ray men Bishop from to
+reaches_square men side Rook from to = is_ray men Rook from to
+reaches_square men side Queen from to = is_ray men Queen from to
+reaches_square men side King from to = is_king_step from to
 
 -- what stands on `from` is a man of this side, and attacks `to`
 abbrev pub attacks : List (Option Piece) → Side → Option Piece → ℕ → ℕ → Bool
 attacks men by None from to = false
-attacks men by (Some man) from to = is_same_side by man.side && reaches men by man.kind from to
+attacks men by (Some man) from to = is_same_side by man.side && reaches_square men by man.kind from to
 
 -- some man of this side attacks the square
 unfoldable pub is_attacked : List (Option Piece) → Side → ℕ → Bool

@@ -113,15 +113,15 @@ IsMove p m EnPassant = IsEnPassant p m
 IsMove p m (Castle wing) = IsCastle p m wing
 
 -- what stands on the square after the move: the man that moved, or what the pawn became
-abbrev pub kind_of : Promotion → Kind
-kind_of ToQueen = Queen
-kind_of ToRook = Rook
-kind_of ToBishop = Bishop
-kind_of ToKnight = Knight
+abbrev pub promoted_kind : Promotion → Kind
+promoted_kind ToQueen = Queen
+promoted_kind ToRook = Rook
+promoted_kind ToBishop = Bishop
+promoted_kind ToKnight = Knight
 
 abbrev pub landed : Side → Option Piece → Option Promotion → Option Piece
 landed side man None = man
-landed side man (Some k) = Some (record { side = side; kind = kind_of k })
+landed side man (Some k) = Some (record { side = side; kind = promoted_kind k })
 
 -- a man leaves one square and this one stands on another
 abbrev pub carried : List (Option Piece) → ℕ → ℕ → Option Piece → List (Option Piece)

@@ -18,9 +18,9 @@ abbrev pub sides_of : List (Option Piece) → Sides
 sides_of men = record { white = squares_where (is_of White) men; black = squares_where (is_of Black) men }
 
 -- the squares of one side
-abbrev pub squares_of : Sides → Side → ℕ
-squares_of sides White = sides.white
-squares_of sides Black = sides.black
+abbrev pub side_squares : Sides → Side → ℕ
+side_squares sides White = sides.white
+side_squares sides Black = sides.black
 
 -- the set has exactly the squares on which men stand
 abbrev pub IsOccupied : List (Option Piece) → ℕ → Type 0

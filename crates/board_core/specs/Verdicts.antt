@@ -3,14 +3,14 @@ use Rattle.std.specs.Prelude.{ℕ, List, codes}
 use Rattle.board_core.specs.declared.verdict.Verdict.{Verdict}
 use Rattle.board_core.specs.declared.verdict.Verdict.TheVariants.{WhiteMates, BlackMates, Stalemate, TableDraw, TableWhite, TableBlack, Stopped}
 
-abbrev pub code_of : Verdict → ℕ
-code_of WhiteMates = 1
-code_of BlackMates = 2
-code_of Stalemate = 3
-code_of TableDraw = 4
-code_of TableWhite = 5
-code_of TableBlack = 6
-code_of Stopped = 7
+abbrev pub verdict_code : Verdict → ℕ
+verdict_code WhiteMates = 1
+verdict_code BlackMates = 2
+verdict_code Stalemate = 3
+verdict_code TableDraw = 4
+verdict_code TableWhite = 5
+verdict_code TableBlack = 6
+verdict_code Stopped = 7
 
 -- as it is printed
 abbrev pub verdict_name : Verdict → List ℕ

@@ -4,7 +4,7 @@ ghost use Rattle.std.specs.Int.{bit_at};
 ghost use Rattle.std.specs.Prelude.{◌≡◌, ◌<◌, ◌≤◌, ◌↔◌, ◌+◌, ◌-◌, ℕ, IsTrue, IfSome, IfNone};
 ghost use Rattle.board_core.specs.Inside.Search.{IsKnightStepBy, IsAttackedByKnight, IsInside, IsAttackedAlong, AttacksTo, stride, rises};
 ghost use Rattle.board_core.specs.Moves.{IsTaken};
-ghost use Rattle.board_core.specs.Attack.{Along, IsClear, Goes, Ray, IsKingStep, IsKnightStep, IsPawnAttack, Reaches, IsAttacked, IsInCheck, forward};
+ghost use Rattle.board_core.specs.Attack.{Along, IsClear, Slides, Ray, IsKingStep, IsKnightStep, IsPawnAttack, Reaches, IsAttacked, IsInCheck, forward};
 ghost use Rattle.board_core.specs.Computed.{is_in_check};
 ghost use Rattle.board_core.specs.declared.attack.Direction.{Direction};
 ghost use Rattle.board_core.specs.declared.attack.KnightStep.{KnightStep};
@@ -166,7 +166,7 @@ pub fn forward(side: Side) -> Direction
 
 /// Whether this kind of man goes any distance in this direction.
 fn goes(kind: Kind, direction: Direction) -> bool
-    ensures { IsTrue result ↔ Goes kind direction }
+    ensures { IsTrue result ↔ Slides kind direction }
 {
     let straight = match direction {
         Direction::North | Direction::South | Direction::East | Direction::West => true,

@@ -6,7 +6,7 @@ ghost use Rattle.std.specs.Prelude.{◌≡◌, ◌<◌, IsTrue, IsFalse, IfSome,
 ghost use Rattle.std.specs.Int.{bit_at};
 ghost use Rattle.board_core.specs.Moves.{IsLegalCapture, Stands, place_of};
 ghost use Rattle.board_core.specs.Position.{IsPosition};
-ghost use Rattle.board_core.specs.Inside.Search.{IsFirst, IsCandidate, start_of, IsLaterCapture, IsLaterFrom, IsLaterBetween};
+ghost use Rattle.board_core.specs.Inside.Search.{IsFirstCandidate, IsCandidate, start_of, IsLaterCapture, IsLaterFrom, IsLaterBetween};
 ghost use Rattle.board_core.specs.Sides.{sides_of};
 ghost use Rattle.board_core.specs.declared.moves.Move.{Move};
 
@@ -94,7 +94,7 @@ fn is_candidate(p: &Parts, start: u32, m: &Move) -> bool
 
 /// The first move from one square to another, at this place or later, that may be a legal capture.
 fn capture_between(p: &Parts, start: u32, from: Square, to: Square) -> Option<Move>
-    ensures found { IfSome result (λ m. IsFirst p.now start (IsLaterBetween p.now start from to) m) }
+    ensures found { IfSome result (λ m. IsFirstCandidate p.now start (IsLaterBetween p.now start from to) m) }
     ensures from { IfSome result (λ m. m.from ≡ from) }
     ensures to { IfSome result (λ m. m.to ≡ to) }
     ensures none { IfNone result ((m : Move) → IsLaterBetween p.now start from to m → ⊥) }
@@ -119,7 +119,7 @@ fn capture_between(p: &Parts, start: u32, from: Square, to: Square) -> Option<Mo
 /// The first move from a square, at this place or later, that may be a legal capture.
 fn capture_from(p: &Parts, sides: &Sides, start: u32, from: Square) -> Option<Move>
     requires { sides.now ≡ sides_of p.now.men }
-    ensures found { IfSome result (λ m. IsFirst p.now start (IsLaterFrom p.now start from) m) }
+    ensures found { IfSome result (λ m. IsFirstCandidate p.now start (IsLaterFrom p.now start from) m) }
     ensures from { IfSome result (λ m. m.from ≡ from) }
     ensures none { IfNone result ((m : Move) → IsLaterFrom p.now start from m → ⊥) }
 {
@@ -143,7 +143,7 @@ fn capture_from(p: &Parts, sides: &Sides, start: u32, from: Square) -> Option<Mo
 fn first_capture(p: &Parts, sides: &Sides, start: u32) -> Option<Move>
     requires position { IsPosition p.now }
     requires sides { sides.now ≡ sides_of p.now.men }
-    ensures found { IfSome result (λ m. IsFirst p.now start (IsLaterCapture p.now start) m) }
+    ensures found { IfSome result (λ m. IsFirstCandidate p.now start (IsLaterCapture p.now start) m) }
     ensures none { IfNone result ((m : Move) → IsLaterCapture p.now start m → ⊥) }
 {
     let mut rest = sides.of_side(p.side);
@@ -163,7 +163,7 @@ fn first_capture(p: &Parts, sides: &Sides, start: u32) -> Option<Move>
 pub fn next_capture(p: &Parts, sides: &Sides, last: Option<Move>) -> Option<Move>
     requires position { IsPosition p.now }
     requires sides { sides.now ≡ sides_of p.now.men }
-    ensures next { IfSome result (λ m. IsFirst p.now (start_of last) (IsLaterCapture p.now (start_of last)) m) }
+    ensures next { IfSome result (λ m. IsFirstCandidate p.now (start_of last) (IsLaterCapture p.now (start_of last)) m) }
     ensures none { IfNone result ((m : Move) → IsLaterCapture p.now (start_of last) m → ⊥) }
 {
     first_capture(p, sides, start_of(last))

@@ -2,7 +2,7 @@
 
 ghost use Rattle.std.specs.Prelude.{◌≡◌, ◌↔◌, IsTrue, List, Option};
 ghost use Rattle.board_core.specs.Position.{is_same_side, is_king, HasOneKingEach, HasNoPawnOnEdge};
-ghost use Rattle.board_core.specs.Inside.Census.{IsAdded, census_of, is_pawn};
+ghost use Rattle.board_core.specs.Inside.Census.{IsAdded, census_of, is_pawn_kind};
 ghost use Rattle.board_core.specs.declared.piece.Piece.{Piece};
 ghost use Rattle.board_core.specs.declared.piece.Side.{Side};
 
@@ -56,7 +56,7 @@ impl Census {
         ensures white { IsAdded self.now.sides.white square (is_same_side Side.White man.side) result.sides.white }
         ensures black { IsAdded self.now.sides.black square (is_same_side Side.Black man.side) result.sides.black }
         ensures kings { IsAdded self.now.kings square (is_king man.kind) result.kings }
-        ensures pawns { IsAdded self.now.pawns square (is_pawn man.kind) result.pawns }
+        ensures pawns { IsAdded self.now.pawns square (is_pawn_kind man.kind) result.pawns }
     {
         let sides = Sides {
             white: added(self.sides.white, square, man.is_of(Side::White)),
@@ -94,7 +94,7 @@ fn is_king(kind: Kind) -> bool
 }
 
 fn is_pawn(kind: Kind) -> bool
-    ensures { result ≡ is_pawn kind }
+    ensures { result ≡ is_pawn_kind kind }
 {
     match kind {
         Kind::Pawn => true,

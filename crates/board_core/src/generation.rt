@@ -8,7 +8,7 @@ ghost use Rattle.std.specs.Int.{bit_at};
 ghost use Rattle.board_core.specs.Attack.{IsInCheck, Reaches};
 ghost use Rattle.board_core.specs.Moves.{Stands, IsFree, IsTaken, IsMove, Lists, HasLegal, HasLegalCaptures, place_of, men_after};
 ghost use Rattle.board_core.specs.ComputedMoves.{legal_captures, legal_moves};
-ghost use Rattle.board_core.specs.Inside.Search.{HasListedBelow, IsCarry, IsGuard, IsListed, IsUnpinned, IsStep, IsSurvey, IsWanted, IsKnown, HasAttacked, emptied};
+ghost use Rattle.board_core.specs.Inside.Search.{HasListedBelow, IsCarry, IsGuard, IsListed, IsUnpinned, IsStep, IsSurvey, IsWantedMove, IsKnown, HasAttacked, emptied};
 ghost use Rattle.board_core.specs.Side.{other};
 ghost use Rattle.board_core.specs.Sides.{sides_of};
 ghost use Rattle.board_core.specs.Position.{IsPosition};
@@ -178,7 +178,7 @@ fn is_safe(p: &Parts, m: &Move, case: MoveCase, g: &Guard, unpinned: bool) -> bo
 
 /// Whether the move is one of those asked for.
 fn is_wanted(p: &Parts, which: Which, m: &Move) -> bool
-    ensures { IsTrue result ↔ IsWanted which p.now m.now }
+    ensures { IsTrue result ↔ IsWantedMove which p.now m.now }
 {
     match which {
         Which::Every => true,

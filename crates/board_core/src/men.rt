@@ -2,7 +2,7 @@
 
 ghost use Rattle.std.specs.Prelude.{◌≡◌, ◌<◌, ◌≤◌, None, length, replicate, slice_set};
 ghost use Rattle.board_core.specs.Attack.{man_at};
-ghost use Rattle.board_core.specs.Inside.Coding.{code_of, kind_of, man_of};
+ghost use Rattle.board_core.specs.Inside.Coding.{code_on_square, coded_kind, coded_man};
 
 use crate::piece::{Kind, Piece, Side};
 use crate::square::Square;
@@ -11,7 +11,7 @@ use std::marker::Model;
 /// The code of what stands on a square: 0 for nothing, 1 to 6 for white's pawn, knight, bishop, rook, queen and king,
 /// and 9 to 14 for black's.
 fn code_of(man: Option<Piece>) -> u8
-    ensures { result ≡ code_of man }
+    ensures { result ≡ code_on_square man }
 {
     let Some(man) = man else {
         return 0;
@@ -32,7 +32,7 @@ fn code_of(man: Option<Piece>) -> u8
 
 /// The kind of a man by the last three bits of his code.
 fn kind_of(bits: u8) -> Kind
-    ensures { result ≡ kind_of bits }
+    ensures { result ≡ coded_kind bits }
 {
     match bits {
         1 => Kind::Pawn,
@@ -46,7 +46,7 @@ fn kind_of(bits: u8) -> Kind
 
 /// What a code stands for.
 fn man_of(code: u8) -> Option<Piece>
-    ensures { result ≡ man_of code }
+    ensures { result ≡ coded_man code }
 {
     if code == 0 {
         return None;
@@ -68,15 +68,15 @@ impl Model for Men {
     ghost use Rattle.std.specs.Prelude.{List, Option};
     ghost use Rattle.std.proofs.Common.{ap};
     ghost use Rattle.board_core.specs.declared.piece.Piece.{Piece};
-    ghost use Rattle.board_core.specs.Inside.Coding.{men_of, codes_of, AreCodes};
+    ghost use Rattle.board_core.specs.Inside.Coding.{coded_men, square_codes, AreSquareCodes};
 
     ghost Value = { List (Option Piece) };
 
-    ghost view = { λ m. men_of m.codes };
+    ghost view = { λ m. coded_men m.codes };
 
-    ghost invariant = { λ m. AreCodes m.codes };
+    ghost invariant = { λ m. AreSquareCodes m.codes };
 
-    ghost inverse = { λ men. record { codes = codes_of men } };
+    ghost inverse = { λ men. record { codes = square_codes men } };
 
     ghost inverse_ok = { λ a h. ap (λ x. record { codes = x }) h };
 }

@@ -4,7 +4,7 @@ ghost use Rattle.std.specs.Prelude.{◌≡◌, ◌≢◌, ◌<◌, ◌↔◌, �
 ghost use Rattle.std.specs.Int.{bit_at};
 ghost use Rattle.board_core.specs.Inside.Search.{IsInside, IsOnlyKing};
 ghost use Rattle.board_core.specs.Attack.{IsInCheck, forward};
-ghost use Rattle.board_core.specs.Moves.{IsMove, IsLegal, IsTaken, after, rights_after, keeps_right, en_passant_after, halfmove_after, behind, one_more, kind_of, carried, landed, men_after, fullmove_after};
+ghost use Rattle.board_core.specs.Moves.{IsMove, IsLegal, IsTaken, after, rights_after, keeps_right, en_passant_after, halfmove_after, behind, one_more, promoted_kind, carried, landed, men_after, fullmove_after};
 ghost use Rattle.board_core.specs.Side.{other};
 ghost use Rattle.board_core.specs.Castling.{king_home, rook_home};
 ghost use Rattle.board_core.specs.ComputedMoves.{is_legal};
@@ -31,7 +31,7 @@ fn carry(men: &mut Men, from: Square, to: Square, man: Option<Piece>)
 }
 
 fn promoted(promotion: Promotion) -> Kind
-    ensures { result ≡ kind_of promotion }
+    ensures { result ≡ promoted_kind promotion }
 {
     match promotion {
         Promotion::Queen => Kind::Queen,

@@ -5,7 +5,7 @@ ghost use Rattle.std.specs.Int.{bit_at};
 ghost use Rattle.board_core.specs.declared.piece.Piece.{Piece};
 ghost use Rattle.board_core.specs.Moves.{carried};
 ghost use Rattle.board_core.specs.Position.{is_of};
-ghost use Rattle.board_core.specs.Sides.{IsOccupied, sides_of, squares_of};
+ghost use Rattle.board_core.specs.Sides.{IsOccupied, side_squares, sides_of};
 
 use crate::bitboard::Bitboard;
 use crate::piece::{Piece, Side};
@@ -70,7 +70,7 @@ impl Sides {
 
     /// The squares of one side.
     pub fn of_side(&self, side: Side) -> Bitboard
-        ensures { result ≡ squares_of self.now side }
+        ensures { result ≡ side_squares self.now side }
     {
         match side {
             Side::White => self.white,

@@ -2,7 +2,7 @@
 
 ghost use Rattle.std.specs.Prelude.{◌≡◌, IfSome, Some};
 ghost use Rattle.board_core.specs.declared.verdict.Verdict.{Verdict};
-ghost use Rattle.board_core.specs.Verdicts.{code_of, verdict_name};
+ghost use Rattle.board_core.specs.Verdicts.{verdict_code, verdict_name};
 
 /// How a game ends.
 #[derive(Clone, Copy, PartialEq, Eq, Hash, Debug)]
@@ -26,7 +26,7 @@ pub enum Verdict {
 impl Verdict {
     /// The verdict's number in messages and records, 1 to 7.
     pub fn code(self) -> u8
-        ensures { result ≡ code_of self }
+        ensures { result ≡ verdict_code self }
     {
         match self {
             Verdict::WhiteMates => 1,
@@ -41,8 +41,8 @@ impl Verdict {
 
     /// The verdict with this number, 1 to 7; none for any other.
     pub fn from_code(code: u8) -> Option<Verdict>
-        ensures some { IfSome result (λ verdict. code ≡ code_of verdict) }
-        ensures only { (verdict : Verdict) → code ≡ code_of verdict → result ≡ Some verdict }
+        ensures some { IfSome result (λ verdict. code ≡ verdict_code verdict) }
+        ensures only { (verdict : Verdict) → code ≡ verdict_code verdict → result ≡ Some verdict }
     {
         match code {
             1 => Some(Verdict::WhiteMates),

@@ -8,25 +8,25 @@ use Rattle.board_core.specs.declared.census.Census.{Census}
 use Rattle.board_core.specs.Position.{is_king}
 use Rattle.board_core.specs.Sides.{squares_where, sides_of}
 
-abbrev pub is_pawn : Kind → Bool
-is_pawn Pawn = true
-is_pawn Knight = false
-is_pawn Bishop = false
-is_pawn Rook = false
-is_pawn Queen = false
-is_pawn King = false
+abbrev pub is_pawn_kind : Kind → Bool
+is_pawn_kind Pawn = true
+is_pawn_kind Knight = false
+is_pawn_kind Bishop = false
+is_pawn_kind Rook = false
+is_pawn_kind Queen = false
+is_pawn_kind King = false
 
 -- a man stands there whose kind passes the test
-abbrev pub is_kind : (Kind → Bool) → Option Piece → Bool
-is_kind test None = false
-is_kind test (Some man) = test man.kind
+abbrev pub is_kind_passing : (Kind → Bool) → Option Piece → Bool
+is_kind_passing test None = false
+is_kind_passing test (Some man) = test man.kind
 
 -- where the men of each side stand, the kings and the pawns
 abbrev pub census_of : List (Option Piece) → Census
 census_of men = record {
   sides = sides_of men;
-  kings = squares_where (is_kind is_king) men;
-  pawns = squares_where (is_kind is_pawn) men;
+  kings = squares_where (is_kind_passing is_king) men;
+  pawns = squares_where (is_kind_passing is_pawn_kind) men;
 }
 
 -- the one set is the other with this square where it belongs to it, and had not been in it

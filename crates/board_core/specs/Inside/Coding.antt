@@ -19,33 +19,33 @@ side_code White = 0
 side_code Black = 8
 
 -- what stands on a square: 0 for nothing, 1 to 6 for white's pawn, knight, bishop, rook, queen and king, 9 to 14 for black's
-abbrev pub code_of : Option Piece → ℕ
-code_of None = 0
-code_of (Some man) = side_code man.side + kind_code man.kind
+abbrev pub code_on_square : Option Piece → ℕ
+code_on_square None = 0
+code_on_square (Some man) = side_code man.side + kind_code man.kind
 
-abbrev pub kind_of : ℕ → Kind
-kind_of zero = King
-kind_of (suc zero) = Pawn
-kind_of (suc (suc zero)) = Knight
-kind_of (suc (suc (suc zero))) = Bishop
-kind_of (suc (suc (suc (suc zero)))) = Rook
-kind_of (suc (suc (suc (suc (suc zero))))) = Queen
-kind_of (suc (suc (suc (suc (suc (suc n)))))) = King
+abbrev pub coded_kind : ℕ → Kind
+coded_kind zero = King
+coded_kind (suc zero) = Pawn
+coded_kind (suc (suc zero)) = Knight
+coded_kind (suc (suc (suc zero))) = Bishop
+coded_kind (suc (suc (suc (suc zero)))) = Rook
+coded_kind (suc (suc (suc (suc (suc zero))))) = Queen
+coded_kind (suc (suc (suc (suc (suc (suc n)))))) = King
 
-abbrev pub side_of : ℕ → Side
-side_of code = cond (nat_lt code 8) White Black
+abbrev pub coded_side : ℕ → Side
+coded_side code = cond (nat_lt code 8) White Black
 
 -- what a code stands for
-abbrev pub man_of : ℕ → Option Piece
-man_of zero = None
-man_of (suc n) = Some (record { side = side_of (suc n); kind = kind_of (suc n % 8) })
+abbrev pub coded_man : ℕ → Option Piece
+coded_man zero = None
+coded_man (suc n) = Some (record { side = coded_side (suc n); kind = coded_kind (suc n % 8) })
 
-abbrev pub men_of : List ℕ → List (Option Piece)
-men_of codes = map man_of codes
+abbrev pub coded_men : List ℕ → List (Option Piece)
+coded_men codes = map coded_man codes
 
-abbrev pub codes_of : List (Option Piece) → List ℕ
-codes_of men = map code_of men
+abbrev pub square_codes : List (Option Piece) → List ℕ
+square_codes men = map code_on_square men
 
 -- each is the code of what it stands for
-abbrev pub AreCodes : List ℕ → Type 0
-AreCodes codes = codes_of (men_of codes) ≡ codes
+abbrev pub AreSquareCodes : List ℕ → Type 0
+AreSquareCodes codes = square_codes (coded_men codes) ≡ codes

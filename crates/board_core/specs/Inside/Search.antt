@@ -95,12 +95,12 @@ rises SouthEast = false
 rises SouthWest = false
 
 -- a move that is asked for: any move, or a capture
-abbrev pub IsWanted : Which → Parts → Move → Type 0
-IsWanted Every p m = Unit {0}
-IsWanted Captures p m = IsCapture p m
+abbrev pub IsWantedMove : Which → Parts → Move → Type 0
+IsWantedMove Every p m = Unit {0}
+IsWantedMove Captures p m = IsCapture p m
 
 abbrev pub IsListed : Which → Parts → Move → Type 0
-IsListed which p m = IsLegal p m × IsWanted which p m
+IsListed which p m = IsLegal p m × IsWantedMove which p m
 
 -- the list has exactly the legal moves asked for whose place is below n, each once and in order
 pub record HasListedBelow (p : Parts) (which : Which) (n : ℕ) (moves : List Move) : Type 0 where
@@ -158,7 +158,7 @@ IsUnpinned p from = (m : Move) (c : MoveCase) → m.from ≡ from → m.to < 64 
 pub record IsStep (p : Parts) (which : Which) (kind : Kind) (from to : ℕ) : Type 0 where
   pub reaches : Reaches p.men p.side kind from to
   pub free : IsFree p.men p.side to
-  pub wanted : IsWanted which p (record { from = from; to = to; promotion = None })
+  pub wanted : IsWantedMove which p (record { from = from; to = to; promotion = None })
 
 -- a line over empty squares leads in this direction to the square, where no man of this side stands
 pub record IsRayEnd (men : List (Option Piece)) (side : Side) (direction : Direction) (from to : ℕ) : Type 0 where
@@ -204,6 +204,6 @@ pub record IsCandidate (p : Parts) (start : ℕ) (m : Move) : Type 0 where
   pub later : start ≤ place_of m
 
 -- a candidate, before which none of these moves comes
-pub record IsFirst (p : Parts) (start : ℕ) (Wanted : Move → Type 0) (m : Move) : Type 0 where
+pub record IsFirstCandidate (p : Parts) (start : ℕ) (Wanted : Move → Type 0) (m : Move) : Type 0 where
   pub candidate : IsCandidate p start m
   pub first : (x : Move) → Wanted x → place_of m ≤ place_of x

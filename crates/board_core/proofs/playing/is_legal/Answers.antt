@@ -5,7 +5,7 @@ use Rattle.board_core.proofs.ComputedLists.{legal_computed}
 use Rattle.board_core.proofs.SideSets.{side_set, set_of_side}
 use Rattle.board_core.proofs.SoleKing.{one_king}
 use Rattle.board_core.specs.declared.sides.Sides.{Sides}
-use Rattle.board_core.specs.Sides.{squares_of}
+use Rattle.board_core.specs.Sides.{side_squares}
 use Rattle.board_core.proofs.playing.is_legal.Goals as goal
 
 pub king_of-king-requires-clause-one : goal.king_of-king-requires-clause-one
@@ -13,7 +13,7 @@ king_of-king-requires-clause-one c = one_king c.args.p.now c.args.p.now.side c.r
 
 pub king_of-king-requires-clause-own : goal.king_of-king-requires-clause-own
 king_of-king-requires-clause-own c =
-    c.of_side.ensures ∙ ap (λ (x : Sides). squares_of x c.args.p.now.side) c.requires.sides ∙ side_set c.args.p.now.men c.args.p.now.side
+    c.of_side.ensures ∙ ap (λ (x : Sides). side_squares x c.args.p.now.side) c.requires.sides ∙ side_set c.args.p.now.men c.args.p.now.side
 
 pub is_safe-requires-clause-enemy : goal.is_safe-requires-clause-enemy
 is_safe-requires-clause-enemy c = λ s _ t. rw (c.of_side-in-Some.ensures, c.other.ensures) (set_of_side c.args.p.now.men _ c.args.sides.now s c.requires.sides t)
