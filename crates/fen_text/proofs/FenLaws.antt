@@ -14,7 +14,7 @@ use Rattle.fen_text.specs.declared.fault.FenFault.TheVariants.{FieldCount, BadPl
 use Rattle.fen_text.specs.Cuts.{cut_at}
 use Rattle.fen_text.specs.Placement.{SpellsPlacement}
 use Rattle.fen_text.specs.Fields.{side_text, castling_text, en_passant_text, SpellsSide, SpellsCastling, SpellsEnPassant, SpellsCounter}
-use Rattle.fen_text.specs.Inside.Scan.{begins, after}
+use Rattle.fen_text.specs.Inside.Scan.{begins, past_letter}
 use Rattle.fen_text.specs.Fen.{SixFields, HasPlacement, HasSide, HasCastling, HasSquare, HasNumbers, SpellsPosition, IsFirstFenFault}
 use Rattle.fen_text.proofs.RanksLaws.{placement_only}
 
@@ -56,9 +56,9 @@ side_at Black Black e = refl
 rights_of : List ℕ → Rights
 rights_of t = record {
   white_king = begins 75 t;
-  white_queen = begins 81 (after 75 t);
-  black_king = begins 107 (after 81 (after 75 t));
-  black_queen = begins 113 (after 107 (after 81 (after 75 t)));
+  white_queen = begins 81 (past_letter 75 t);
+  black_king = begins 107 (past_letter 81 (past_letter 75 t));
+  black_queen = begins 113 (past_letter 107 (past_letter 81 (past_letter 75 t)));
 }
 
 rights_back : (white_king white_queen black_king black_queen : Bool) → rights_of (castling_text (record { white_king = white_king; white_queen = white_queen; black_king = black_king; black_queen = black_queen })) ≡ record { white_king = white_king; white_queen = white_queen; black_king = black_king; black_queen = black_queen }

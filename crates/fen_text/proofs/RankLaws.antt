@@ -13,7 +13,7 @@ use Rattle.board_core.specs.declared.piece.Side.{Side}
 use Rattle.board_core.specs.declared.piece.Side.TheVariants.{White, Black}
 use Rattle.board_core.specs.declared.piece.Kind.{Kind}
 use Rattle.board_core.specs.declared.piece.Kind.TheVariants.{Pawn, Knight, Bishop, Rook, Queen, King}
-use Rattle.fen_text.specs.Placement.{letter, letter_of, man_of, is_run, is_rank_byte, cells_of, runs_apart, SpellsRank}
+use Rattle.fen_text.specs.Placement.{fen_letter, letter_of, man_of, is_run, is_rank_byte, cells_of, runs_apart, SpellsRank}
 use Rattle.fen_text.specs.Inside.Scan.{fills}
 
 -- the squares of a digit
@@ -49,7 +49,7 @@ man_back c m e =
     (if_man c 107 (record { side = Black; kind = King }) _ m refl
     (λ none. absurd cc)))))))))))) e
 
-letter_from : (side : Side) (kind : Kind) → 66 ≤ letter side kind
+letter_from : (side : Side) (kind : Kind) → 66 ≤ fen_letter side kind
 letter_from White Pawn = lit≤ tt
 letter_from White Knight = lit≤ tt
 letter_from White Bishop = lit≤ tt

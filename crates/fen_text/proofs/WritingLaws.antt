@@ -9,10 +9,10 @@ use Rattle.board_core.specs.declared.piece.Side.{Side}
 use Rattle.board_core.specs.declared.piece.Side.TheVariants.{White, Black}
 use Rattle.board_core.specs.declared.piece.Kind.{Kind}
 use Rattle.board_core.specs.declared.piece.Kind.TheVariants.{Pawn, Knight, Bishop, Rook, Queen, King}
-use Rattle.fen_text.specs.Placement.{letter, man_of, letter_of, is_run, is_rank_byte, cells_of, runs_apart, SpellsRank}
+use Rattle.fen_text.specs.Placement.{fen_letter, man_of, letter_of, is_run, is_rank_byte, cells_of, runs_apart, SpellsRank}
 use Rattle.fen_text.specs.Written.{run_text, rank_text}
 
-letter_back_of : (side : Side) (kind : Kind) → man_of (letter side kind) ≡ Some (record { side = side; kind = kind })
+letter_back_of : (side : Side) (kind : Kind) → man_of (fen_letter side kind) ≡ Some (record { side = side; kind = kind })
 unfolding man_of
 letter_back_of White Pawn = refl
 letter_back_of White Knight = refl
@@ -27,7 +27,7 @@ letter_back_of Black Rook = refl
 letter_back_of Black Queen = refl
 letter_back_of Black King = refl
 
-letter_is_no_run_of : (side : Side) (kind : Kind) → is_run (letter side kind) ≡ false
+letter_is_no_run_of : (side : Side) (kind : Kind) → is_run (fen_letter side kind) ≡ false
 letter_is_no_run_of White Pawn = refl
 letter_is_no_run_of White Knight = refl
 letter_is_no_run_of White Bishop = refl

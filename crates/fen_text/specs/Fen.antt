@@ -62,11 +62,11 @@ IsFirstFenFault t BadNumber =
 IsFirstFenFault t (BadPosition fault) = (p : Parts) × SpellsPosition t p × IsFirstFault p fault
 
 -- the names of the faults
-abbrev pub fault_name : FenFault → List ℕ
-fault_name FieldCount = codes "FieldCount"
-fault_name BadPlacement = codes "BadPlacement"
-fault_name BadSide = codes "BadSide"
-fault_name BadCastlingText = codes "BadCastlingText"
-fault_name BadSquare = codes "BadSquare"
-fault_name BadNumber = codes "BadNumber"
-fault_name (BadPosition fault) = codes "BadPosition"
+abbrev pub fen_fault_name : FenFault → List ℕ
+fen_fault_name FieldCount = codes "FieldCount"
+fen_fault_name BadPlacement = codes "BadPlacement"
+fen_fault_name BadSide = codes "BadSide"
+fen_fault_name BadCastlingText = codes "BadCastlingText"
+fen_fault_name BadSquare = codes "BadSquare"
+fen_fault_name BadNumber = codes "BadNumber"
+fen_fault_name (BadPosition fault) = codes "BadPosition"

@@ -10,29 +10,29 @@ use Rattle.board_core.specs.declared.piece.Kind.TheVariants.{Pawn, Knight, Bisho
 use Rattle.fen_text.specs.Cuts.{cut_at}
 
 -- P N B R Q K for white, p n b r q k for black
-abbrev pub letter : Side → Kind → ℕ
-letter White Pawn = 80
-letter White Knight = 78
-letter White Bishop = 66
-letter White Rook = 82
-letter White Queen = 81
-letter White King = 75
-letter Black Pawn = 112
-letter Black Knight = 110
-letter Black Bishop = 98
-letter Black Rook = 114
-letter Black Queen = 113
-letter Black King = 107
+abbrev pub fen_letter : Side → Kind → ℕ
+fen_letter White Pawn = 80
+fen_letter White Knight = 78
+fen_letter White Bishop = 66
+fen_letter White Rook = 82
+fen_letter White Queen = 81
+fen_letter White King = 75
+fen_letter Black Pawn = 112
+fen_letter Black Knight = 110
+fen_letter Black Bishop = 98
+fen_letter Black Rook = 114
+fen_letter Black Queen = 113
+fen_letter Black King = 107
 
 abbrev pub letter_of : Piece → ℕ
-letter_of man = letter man.side man.kind
+letter_of man = fen_letter man.side man.kind
 
 -- the twelve men, whose letters differ
-abbrev pub men_of : Side → List Piece
-men_of side = map (λ kind. record { side = side; kind = kind }) (Pawn ∷ Knight ∷ Bishop ∷ Rook ∷ Queen ∷ King ∷ [])
+abbrev pub men_of_side : Side → List Piece
+men_of_side side = map (λ kind. record { side = side; kind = kind }) (Pawn ∷ Knight ∷ Bishop ∷ Rook ∷ Queen ∷ King ∷ [])
 
 abbrev pub twelve_men : List Piece
-twelve_men = men_of White ++ men_of Black
+twelve_men = men_of_side White ++ men_of_side Black
 
 -- the man of a letter
 unfoldable pub man_of : ℕ → Option Piece

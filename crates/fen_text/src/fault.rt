@@ -1,7 +1,7 @@
 //! Why a text is not the FEN text of a position.
 
 ghost use Rattle.std.specs.Prelude.{◌≡◌};
-ghost use Rattle.fen_text.specs.Fen.{fault_name};
+ghost use Rattle.fen_text.specs.Fen.{fen_fault_name};
 
 use board_core::PositionFault;
 use std::fmt;
@@ -28,7 +28,7 @@ pub enum FenFault {
 impl FenFault {
     /// The name of the fault, for printing.
     pub fn name(&self) -> &'static str
-        ensures { result.now ≡ fault_name self.now }
+        ensures { result.now ≡ fen_fault_name self.now }
     {
         match *self {
             FenFault::FieldCount => "FieldCount",
@@ -55,9 +55,9 @@ impl From<PositionFault> for FenFault {
 
 impl fmt::Display for FenFault {
     ghost use Rattle.std.specs.Prelude.{Some};
-    ghost use Rattle.fen_text.specs.Fen.{fault_name};
+    ghost use Rattle.fen_text.specs.Fen.{fen_fault_name};
 
-    ghost output = { λ fault. Some (fault_name fault) };
+    ghost output = { λ fault. Some (fen_fault_name fault) };
 
     fn fmt<W: fmt::Write>(&self, f: &mut fmt::Formatter<W>) -> fmt::Result {
         f.write_str(self.name())

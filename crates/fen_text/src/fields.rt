@@ -5,7 +5,7 @@ ghost use Rattle.std.specs.Prelude.{◌≡◌, ◌<◌, ◌∷◌, [], ℕ, Opti
 ghost use Rattle.board_core.specs.declared.piece.Side.{Side};
 ghost use Rattle.board_core.specs.declared.parts.Rights.{Rights};
 ghost use Rattle.fen_text.specs.Fields.{SpellsSide, SpellsCastling, SpellsEnPassant, square_text};
-ghost use Rattle.fen_text.specs.Inside.Scan.{begins, after};
+ghost use Rattle.fen_text.specs.Inside.Scan.{begins, past_letter};
 
 use board_core::{Rights, Side, Square};
 
@@ -24,7 +24,7 @@ pub(crate) fn read_side(text: &[u8]) -> Option<Side>
 /// Takes a letter off the front of a text, where it stands there.
 fn strip_letter(text: &[u8], letter: u8) -> (bool, &[u8])
     ensures found { result.0 ≡ begins letter text.now }
-    ensures rest { result.1.now ≡ after letter text.now }
+    ensures rest { result.1.now ≡ past_letter letter text.now }
 {
     match text {
         [first, rest @ ..] if *first == letter => (true, rest),

@@ -26,6 +26,6 @@ abbrev pub begins : ℕ → List ℕ → Bool
 begins letter [] = false
 begins letter (c ∷ cs) = c == letter
 
-abbrev pub after : ℕ → List ℕ → List ℕ
-after letter [] = []
-after letter (c ∷ cs) = if c == letter then cs else c ∷ cs
+abbrev pub past_letter : ℕ → List ℕ → List ℕ
+past_letter letter [] = []
+past_letter letter (c ∷ cs) = if c == letter then cs else c ∷ cs
