@@ -8,7 +8,7 @@ use Rattle.fen_text.specs.Written.{fen_of}
 use Rattle.move_msg.specs.declared.record_bytes.Record.{Record as Records}
 use Rattle.move_msg.specs.Stamps.{IsGameName, stamp_of}
 use Rattle.arbiter_server.specs.declared.game_file.Game.{Game}
-use Rattle.arbiter_server.specs.GameFiles.{Told}
+use Rattle.arbiter_server.specs.GameFiles.{GameContents}
 use Rattle.arbiter_server.specs.Games.{IsGameOf}
 use Rattle.board_core.specs.declared.verdict.Verdict.{Verdict}
 use Rattle.judge_core.specs.Tables.{Tables}
@@ -22,20 +22,20 @@ use Rattle.game_status.specs.declared.side.Side.{Side}
 use Rattle.game_status.specs.declared.status_lines.Look.{Look}
 use Rattle.game_status.specs.declared.status_lines.Look.TheVariants as look
 use Rattle.game_status.specs.Entries.{game_told}
-use Rattle.game_status.specs.GameAudits.{AreFewDelays, IsWhole}
+use Rattle.game_status.specs.GameAudits.{AreFewDelays, IsWholeRecord}
 use Rattle.game_status.specs.Listings.{Listing}
 use Rattle.game_status.specs.Sides.{IsRecorded}
 use Rattle.game_status.specs.Statuses.{HasBeside, InBoth, InNone, InOne, IsLook, IsLookAtBoth, IsLookBeside, IsSide, LacksBeside}
 
 -- ---- one game
 
-same_made : (n m : List ℕ) (p q : Parts) (d e : ℕ) → n ≡ m → p ≡ q → d ≡ e → ◌≡◌ {A = Told} (record { name = n; start = p; delay = d }) (record { name = m; start = q; delay = e })
+same_made : (n m : List ℕ) (p q : Parts) (d e : ℕ) → n ≡ m → p ≡ q → d ≡ e → ◌≡◌ {A = GameContents} (record { name = n; start = p; delay = d }) (record { name = m; start = q; delay = e })
 same_made n m p q d e f g h = cc
 
 pub same_so : (a b : Game) (r : Bool) → a.name.items ≡ b.name.items → a.delay ≡ b.delay → IsTrue r ↔ (a.start ≡ b.start) → IsTrue r ↔ (game_told a ≡ game_told b)
 same_so a b r name delay start = (
   (λ t. same_made a.name.items b.name.items a.start b.start a.delay b.delay name (start.0 t) delay),
-  (λ e. start.1 (ap (λ (g : Told). g.start) e)),
+  (λ e. start.1 (ap (λ (g : GameContents). g.start) e)),
 )
 
 pub other_so : (a b : Game) → ((game_told a ≡ game_told b) → ⊥) → IsTrue false ↔ (game_told a ≡ game_told b)
@@ -90,7 +90,7 @@ few_delays disk one other stamp l (InNone fault lacks is) = subst AreFewDelays (
 -- ---- what is found of a record
 
 -- what is whole has the record's own number of moves and verdict
-pub whole_so : (start : Parts) (tables : Tables) (r : Records) (finding : Finding) → is_whole finding ≡ true → IsOfRecord r finding → ((bytes : List ℕ) → SpellsRecord bytes r → IsFound (rules_with start tables r) r.stamp bytes finding) → IsWhole start tables (Some r)
+pub whole_so : (start : Parts) (tables : Tables) (r : Records) (finding : Finding) → is_whole finding ≡ true → IsOfRecord r finding → ((bytes : List ℕ) → SpellsRecord bytes r → IsFound (rules_with start tables r) r.stamp bytes finding) → IsWholeRecord start tables (Some r)
 whole_so start tables r (found.Whole count verdict) e own h = λ bytes spelled.
     subst (λ (n : ℕ). IsFound (rules_with start tables r) r.stamp bytes (found.Whole n r.verdict)) own.0 (subst (λ (v : Option Verdict). IsFound (rules_with start tables r) r.stamp bytes (found.Whole count v)) own.1 (h bytes spelled))
 whole_so start tables r (found.BadRecord fault) e own h = let f : false ≡ true = e in absurd (cc)

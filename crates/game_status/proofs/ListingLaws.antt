@@ -18,7 +18,7 @@ use Rattle.std.proofs.lemmas.List.{append_cancel_right, map-append, take_more}
 use Rattle.std.proofs.lemmas.List.Elements.{Contains-append_left, Contains-append_right, Contains-append_cases, Contains-push, Contains-push_cases}
 use Rattle.hex.specs.Hex.{decode_of, decode_sized, encode_lower, lower_digits}
 use Rattle.hex.proofs.HexLemmas.{decode_of-encode_lower, decode_sized-twice, length-encode_with}
-use Rattle.game_status.specs.Listings.{AddsStamps, AreStampsIn, IsStamp, file_name}
+use Rattle.game_status.specs.Listings.{AddsStamps, AreStampsIn, IsStamp, stamp_file_name}
 
 -- thirty-two lower-case digits are read as the bytes that they are written for
 pub decoded : (text stamp : List ℕ) → IsStamp stamp → text ≡ encode_lower stamp → decode_sized text 16 ≡ Ok stamp
@@ -37,7 +37,7 @@ no_front name ending r is h = subst (λ o. MatchOption o ((front : List ℕ) →
 some_same : {A E : Type 0} (x y : A) → ◌≡◌ {A = Result A E} (Ok x) (Ok y) → x ≡ y
 some_same x y e = cc
 
-pub one_stamp : (a b ending : List ℕ) → IsStamp a → IsStamp b → file_name a ending ≡ file_name b ending → a ≡ b
+pub one_stamp : (a b ending : List ℕ) → IsStamp a → IsStamp b → stamp_file_name a ending ≡ stamp_file_name b ending → a ≡ b
 one_stamp a b ending is also e =
     some_same a b (sym (decode_of-encode_lower a is.1) ∙ ap decode_of (append_cancel_right (encode_lower a) (encode_lower b) ending e) ∙ decode_of-encode_lower b also.1)
 
@@ -79,24 +79,24 @@ module _ (old new : BTreeSet (List ℕ)) (stamp : List ℕ) (h : Updates order o
   ]
 
   -- the stamp of a name was added
-  pub adds_one : (name ending : List ℕ) → IsStamp stamp → name ≡ file_name stamp ending → AddsStamps (name ∷ []) ending old.keys new.keys
+  pub adds_one : (name ending : List ℕ) → IsStamp stamp → name ≡ stamp_file_name stamp ending → AddsStamps (name ∷ []) ending old.keys new.keys
   adds_one name ending is named = record {
     kept = set_keeps;
-    all = λ q also listed. elim (Contains-push_cases [] name (file_name q ending) listed) [
+    all = λ q also listed. elim (Contains-push_cases [] name (stamp_file_name q ending) listed) [
       | inl none ↦ absurd (let w = none.1 in omega (arith, w))
       | inr same ↦ subst (Contains new.keys) (one_stamp stamp q ending is also (sym named ∙ same)) set_has
     ];
     only = λ q e. elim (set_only q e) [
       | inl before ↦ inl before
-      | inr same ↦ inr (subst IsStamp same is, subst (Contains (name ∷ [])) (named ∙ ap (λ s. file_name s ending) same) (Contains-push [] name))
+      | inr same ↦ inr (subst IsStamp same is, subst (Contains (name ∷ [])) (named ∙ ap (λ s. stamp_file_name s ending) same) (Contains-push [] name))
     ];
   }
 
 -- a name that is none of a stamp's adds none
-pub adds_none : (name ending : List ℕ) (stamps : List (List ℕ)) → ((stamp : List ℕ) → IsStamp stamp → name ≡ file_name stamp ending → ⊥) → AddsStamps (name ∷ []) ending stamps stamps
+pub adds_none : (name ending : List ℕ) (stamps : List (List ℕ)) → ((stamp : List ℕ) → IsStamp stamp → name ≡ stamp_file_name stamp ending → ⊥) → AddsStamps (name ∷ []) ending stamps stamps
 adds_none name ending stamps none = record {
   kept = λ q h. h;
-  all = λ q is listed. elim (Contains-push_cases [] name (file_name q ending) listed) [
+  all = λ q is listed. elim (Contains-push_cases [] name (stamp_file_name q ending) listed) [
     | inl none ↦ absurd (let w = none.1 in omega (arith, w))
     | inr same ↦ absurd (none q is same)
   ];
@@ -114,7 +114,7 @@ adds_nothing ending stamps = record {
 pub adds_both : (names others : List (List ℕ)) (ending : List ℕ) (old mid new : List (List ℕ)) → AddsStamps names ending old mid → AddsStamps others ending mid new → AddsStamps (names ++ others) ending old new
 adds_both names others ending old mid new a b = record {
   kept = λ q h. b.kept q (a.kept q h);
-  all = λ q is listed. elim (Contains-append_cases names others (file_name q ending) listed) [
+  all = λ q is listed. elim (Contains-append_cases names others (stamp_file_name q ending) listed) [
     | inl first ↦ b.kept q (a.all q is first)
     | inr second ↦ b.all q is second
   ];

@@ -9,11 +9,11 @@ use Rattle.game_status.specs.declared.entry.EntryFault.TheVariants.{NoGame, BadG
 use Rattle.game_status.specs.declared.side.Side.{Side}
 use Rattle.game_status.specs.Entries.{HasEntry, game_told}
 use Rattle.game_status.specs.Listings.{Listing}
-use Rattle.game_status.specs.Sides.{HasSide, IsRecorded, LacksSide}
+use Rattle.game_status.specs.Sides.{HasGameAndRecord, IsRecorded, LacksSide}
 use Rattle.game_status.specs.Inside.Decoding.{AreSides, IsNoSide}
 
 module _ (disk : DiskFacts) (f : Listing) (stamp : List ℕ) (e : Entry) (entry : HasEntry disk f stamp (game_told e.game) (option_map (λ v. v.items) e.kept)) where
-  pub side_by : (s : Side) → AreSides e stamp s → HasSide disk f stamp (game_told s.game) s.kept
+  pub side_by : (s : Side) → AreSides e stamp s → HasGameAndRecord disk f stamp (game_told s.game) s.kept
   side_by s h = record {
     bytes = option_map (λ v. v.items) e.kept;
     entry = subst (λ (g : Game). HasEntry disk f stamp (game_told g) (option_map (λ v. v.items) e.kept)) (sym h.game) entry;

@@ -33,9 +33,9 @@ use Rattle.game_status.specs.Tellings.{FoldersTo, TellsFolders}
 -- ---- one record
 
 -- nothing is kept; or an arbiter of the game from this start resumes from whatever spells the record, with its moves and its verdict
-abbrev pub IsWhole : Parts → Tables → Option Records → Type 0
-IsWhole start tables None = Unit {0}
-IsWhole start tables (Some r) = (bytes : List ℕ) → SpellsRecord bytes r → IsFound (rules_with start tables r) r.stamp bytes (found.Whole (length r.moves) r.verdict)
+abbrev pub IsWholeRecord : Parts → Tables → Option Records → Type 0
+IsWholeRecord start tables None = Unit {0}
+IsWholeRecord start tables (Some r) = (bytes : List ℕ) → SpellsRecord bytes r → IsFound (rules_with start tables r) r.stamp bytes (found.Whole (length r.moves) r.verdict)
 
 -- none does, and this is why
 abbrev pub IsUntrue : Parts → Tables → Option Records → Finding → Type 0
@@ -45,16 +45,16 @@ IsUntrue start tables (Some r) finding = (is_whole finding ≡ false) × ((bytes
 -- ---- one game
 
 -- by tables with this manifest the game's file is that of the stamp, and the record is whole
-abbrev pub IsOwn : List ℕ → List ℕ → Side → Type 0
-IsOwn manifest stamp side = IsGameOf manifest stamp side.game.name.items side.game.start side.game.delay
+abbrev pub IsOwnFile : List ℕ → List ℕ → Side → Type 0
+IsOwnFile manifest stamp side = IsGameOf manifest stamp side.game.name.items side.game.start side.game.delay
 
 abbrev pub IsSoundSide : List ℕ → Tables → List ℕ → Side → Type 0
-IsSoundSide manifest tables stamp side = IsOwn manifest stamp side × IsWhole side.game.start tables side.kept
+IsSoundSide manifest tables stamp side = IsOwnFile manifest stamp side × IsWholeRecord side.game.start tables side.kept
 
 -- what is wrong with it: the file is another game's, or else the record
 abbrev pub IsUnsoundSide : List ℕ → Tables → List ℕ → Side → Unsound → Type 0
-IsUnsoundSide manifest tables stamp side unsound.OtherGame = IsOwn manifest stamp side → ⊥
-IsUnsoundSide manifest tables stamp side (unsound.Record finding) = IsOwn manifest stamp side × IsUntrue side.game.start tables side.kept finding
+IsUnsoundSide manifest tables stamp side unsound.OtherGame = IsOwnFile manifest stamp side → ⊥
+IsUnsoundSide manifest tables stamp side (unsound.Record finding) = IsOwnFile manifest stamp side × IsUntrue side.game.start tables side.kept finding
 IsUnsoundSide manifest tables stamp side (unsound.OtherRecord finding) = ⊥
 
 -- the same where a second folder keeps this of it
@@ -66,7 +66,7 @@ IsUnsoundPair manifest tables stamp side other (unsound.OtherRecord finding) = I
 -- nothing is wrong beyond what the files have
 abbrev pub IsSoundLook : List ℕ → Tables → List ℕ → Look → Type 0
 IsSoundLook manifest tables stamp (look.One side) = IsSoundSide manifest tables stamp side
-IsSoundLook manifest tables stamp (look.Both side other compared) = IsSoundSide manifest tables stamp side × IsWhole side.game.start tables other.kept
+IsSoundLook manifest tables stamp (look.Both side other compared) = IsSoundSide manifest tables stamp side × IsWholeRecord side.game.start tables other.kept
 IsSoundLook manifest tables stamp (look.AtFault fault) = Unit {0}
 IsSoundLook manifest tables stamp (look.OtherAtFault fault) = Unit {0}
 

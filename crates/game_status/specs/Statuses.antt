@@ -14,9 +14,9 @@ use Rattle.game_status.specs.declared.status_lines.Look.{Look}
 use Rattle.game_status.specs.declared.status_lines.Look.TheVariants as look
 use Rattle.game_status.specs.declared.telling.Mark.TheVariants as mark
 use Rattle.game_status.specs.Comparisons.{IsComparedAs, compared_words, mark_of, mark_of_two}
-use Rattle.game_status.specs.Entries.{fault_words, game_told}
+use Rattle.game_status.specs.Entries.{game_told, listed_fault_words}
 use Rattle.game_status.specs.Listings.{Listing}
-use Rattle.game_status.specs.Sides.{HasSide, LacksSide}
+use Rattle.game_status.specs.Sides.{HasGameAndRecord, LacksSide}
 use Rattle.game_status.specs.declared.telling.GameTold.{GameTold}
 use Rattle.game_status.specs.Tellings.{FoldersTo, TellsFolders}
 
@@ -37,22 +37,22 @@ line_of_two stamp one other compared =
     encode_lower stamp ++ codes " " ++ kept_words one.kept ++ codes " " ++ kept_words other.kept ++ codes " " ++ compared_words compared ++ codes " " ++ one.game.name.items
 
 abbrev pub fault_line : List ℕ → EntryFault → List ℕ
-fault_line stamp fault = encode_lower stamp ++ codes " " ++ fault_words fault
+fault_line stamp fault = encode_lower stamp ++ codes " " ++ listed_fault_words fault
 
 abbrev pub other_fault_line : List ℕ → EntryFault → List ℕ
-other_fault_line stamp fault = encode_lower stamp ++ codes " " ++ codes "other " ++ fault_words fault
+other_fault_line stamp fault = encode_lower stamp ++ codes " " ++ codes "other " ++ listed_fault_words fault
 
 -- what is told, and how the game is counted: as ruled where its record has a verdict; of two records where they agree on one
-abbrev pub told_by : List ℕ → Look → GameTold
-told_by stamp (look.One side) = record { words = line_of_one stamp side; mark = mark_of side.kept }
-told_by stamp (look.Both side other compared) = record { words = line_of_two stamp side other compared; mark = mark_of_two side.kept compared }
-told_by stamp (look.AtFault fault) = record { words = fault_line stamp fault; mark = mark.AtFault }
-told_by stamp (look.OtherAtFault fault) = record { words = other_fault_line stamp fault; mark = mark.AtFault }
+abbrev pub game_told_by : List ℕ → Look → GameTold
+game_told_by stamp (look.One side) = record { words = line_of_one stamp side; mark = mark_of side.kept }
+game_told_by stamp (look.Both side other compared) = record { words = line_of_two stamp side other compared; mark = mark_of_two side.kept compared }
+game_told_by stamp (look.AtFault fault) = record { words = fault_line stamp fault; mark = mark.AtFault }
+game_told_by stamp (look.OtherAtFault fault) = record { words = other_fault_line stamp fault; mark = mark.AtFault }
 
 -- ---- one game
 
 abbrev pub IsSide : DiskFacts → Listing → List ℕ → Side → Type 0
-IsSide disk f stamp side = HasSide disk f stamp (game_told side.game) side.kept
+IsSide disk f stamp side = HasGameAndRecord disk f stamp (game_told side.game) side.kept
 
 -- the folders' files tell one game, and the records are compared; or the second's tells another one
 abbrev pub IsLookAtBoth : Side → Side → Look → Type 0
@@ -75,7 +75,7 @@ pub data IsLook (disk : DiskFacts) (one : Listing) (other : Option Listing) (sta
 
 -- what is told of it
 abbrev pub IsStatus : DiskFacts → Listing → Option Listing → List ℕ → GameTold → Type 0
-IsStatus disk one other stamp told = (l : Look) × IsLook disk one other stamp l × (told ≡ told_by stamp l)
+IsStatus disk one other stamp told = (l : Look) × IsLook disk one other stamp l × (told ≡ game_told_by stamp l)
 
 -- ---- all of them
 

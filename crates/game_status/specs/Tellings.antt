@@ -13,26 +13,26 @@ use Rattle.game_status.specs.Listings.{AreListed, CannotList, Listing}
 use Rattle.system_io.specs.declared.output.WriteFault.{WriteFault}
 use Rattle.system_io.specs.Disks.{DiskFacts}
 
-abbrev pub words_told : List GameTold → List (List ℕ)
-words_told = map (λ t. t.words)
+abbrev pub game_words_told : List GameTold → List (List ℕ)
+game_words_told = map (λ t. t.words)
 
 -- what is told of one game was written
 abbrev pub WritesGame : (GameTold → Type 0) → Option (List ℕ) → Option (List ℕ) → Mark → Type 0
 WritesGame IsTold old new mark = (words : List ℕ) × IsTold (record { words = words; mark = mark }) × Appends old new (ended words)
 
 -- of what is told of one game a front was written
-abbrev pub CutsGame : (GameTold → Type 0) → Option (List ℕ) → Option (List ℕ) → Type 0
-CutsGame IsTold old new = (told : GameTold) × IsTold told × HasFront old new (ended told.words)
+abbrev pub CutsToldGame : (GameTold → Type 0) → Option (List ℕ) → Option (List ℕ) → Type 0
+CutsToldGame IsTold old new = (told : GameTold) × IsTold told × HasFront old new (ended told.words)
 
 -- whatever is told later could have been told before
-abbrev pub TellsNoMore : (List ℕ → GameTold → Type 0) → (List ℕ → GameTold → Type 0) → Type 0
-TellsNoMore Before After = (stamp : List ℕ) (told : GameTold) → After stamp told → Before stamp told
+abbrev pub TellsNoMoreGames : (List ℕ → GameTold → Type 0) → (List ℕ → GameTold → Type 0) → Type 0
+TellsNoMoreGames Before After = (stamp : List ℕ) (told : GameTold) → After stamp told → Before stamp told
 
 -- ---- the sums
 
-abbrev pub is_ruled : Mark → Bool
-is_ruled mark.Ruled = true
-is_ruled _ = false
+abbrev pub is_ruled_mark : Mark → Bool
+is_ruled_mark mark.Ruled = true
+is_ruled_mark _ = false
 
 abbrev pub is_fault : Mark → Bool
 is_fault mark.AtFault = true
@@ -47,7 +47,7 @@ abbrev pub count_marked : (Mark → Bool) → List GameTold → ℕ
 count_marked test told = length (filter (λ t. test t.mark) told)
 
 abbrev pub sums_of : List GameTold → Sums
-sums_of told = record { games = length told; ruled = count_marked is_ruled told; faults = count_marked is_fault told; differ = count_marked is_apart told }
+sums_of told = record { games = length told; ruled = count_marked is_ruled_mark told; faults = count_marked is_fault told; differ = count_marked is_apart told }
 
 abbrev pub counts_words : Sums → List ℕ
 counts_words s = decimal s.games ++ codes " games, " ++ decimal s.ruled ++ codes " with a verdict, " ++ decimal s.faults ++ codes " at fault"
@@ -67,8 +67,8 @@ are_well s = (s.faults == 0) && (s.differ == 0)
 
 -- the games with these stamps were told in turn, and then their sums; or those until memory was refused for one
 pub data TellsGames (Tells : List ℕ → GameTold → Type 0) (stamps : List (List ℕ)) (compares : Bool) (old new : Option (List ℕ)) (done : Bool) : Type 0 where
-  TellsAll : (told : List GameTold) → AllZip Tells stamps told → Appends old new (text_of (words_told told ++ sums_words compares (sums_of told) ∷ [])) → done ≡ are_well (sums_of told) → TellsGames Tells stamps compares old new done
-  NoRoom : (count : ℕ) (told : List GameTold) → AllZip Tells (take count stamps) told → Appends old new (text_of (words_told told ++ refused_memory ∷ [])) → done ≡ false → TellsGames Tells stamps compares old new done
+  TellsAll : (told : List GameTold) → AllZip Tells stamps told → Appends old new (text_of (game_words_told told ++ sums_words compares (sums_of told) ∷ [])) → done ≡ are_well (sums_of told) → TellsGames Tells stamps compares old new done
+  NoRoom : (count : ℕ) (told : List GameTold) → AllZip Tells (take count stamps) told → Appends old new (text_of (game_words_told told ++ refused_memory ∷ [])) → done ≡ false → TellsGames Tells stamps compares old new done
 
 -- the games of the folders were listed and told; or a folder can't be listed; or memory for the stamps was refused
 pub data TellsFolders (disk : DiskFacts) (folder : List ℕ) (other : Option (List ℕ)) (Tells : Listing → Option Listing → List ℕ → GameTold → Type 0) (old new : Option (List ℕ)) (done : Bool) : Type 0 where
@@ -81,9 +81,9 @@ pub data TellsFolders (disk : DiskFacts) (folder : List ℕ) (other : Option (Li
 -- the games before were told, and of the line of one more a front was written; or all were, and of the line of the sums a front; or memory was
 -- refused for one, and of the line that says so a front
 pub data CutsGames (Tells : List ℕ → GameTold → Type 0) (stamps : List (List ℕ)) (compares : Bool) (old new : Option (List ℕ)) : Type 0 where
-  AtGame : (count : ℕ) (told : List GameTold) (last : GameTold) → AllZip Tells (take count stamps) (told ++ last ∷ []) → CutsAfter (words_told told) last.words old new → CutsGames Tells stamps compares old new
-  AtSums : (told : List GameTold) → AllZip Tells stamps told → CutsAfter (words_told told) (sums_words compares (sums_of told)) old new → CutsGames Tells stamps compares old new
-  AtRefusal : (count : ℕ) (told : List GameTold) → AllZip Tells (take count stamps) told → CutsAfter (words_told told) refused_memory old new → CutsGames Tells stamps compares old new
+  AtGame : (count : ℕ) (told : List GameTold) (last : GameTold) → AllZip Tells (take count stamps) (told ++ last ∷ []) → CutsAfter (game_words_told told) last.words old new → CutsGames Tells stamps compares old new
+  AtSums : (told : List GameTold) → AllZip Tells stamps told → CutsAfter (game_words_told told) (sums_words compares (sums_of told)) old new → CutsGames Tells stamps compares old new
+  AtRefusal : (count : ℕ) (told : List GameTold) → AllZip Tells (take count stamps) told → CutsAfter (game_words_told told) refused_memory old new → CutsGames Tells stamps compares old new
 
 -- so it is of the games of the folders; or of the line that refuses them
 pub data CutsFolders (disk : DiskFacts) (folder : List ℕ) (other : Option (List ℕ)) (Tells : Listing → Option Listing → List ℕ → GameTold → Type 0) (old new : Option (List ℕ)) : Type 0 where

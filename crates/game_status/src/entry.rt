@@ -1,7 +1,7 @@
 //! What a folder has of one game: its file and its record.
 
 ghost use Rattle.std.specs.Prelude.{option_map, IfErr, IfOk, IsErrOf};
-ghost use Rattle.game_status.specs.Entries.{CannotReadRecord, HasEntry, IsKept, LacksEntry, game_told};
+ghost use Rattle.game_status.specs.Entries.{CannotReadRecord, HasEntry, IsKeptRecord, LacksEntry, game_told};
 ghost use Rattle.game_status.specs.Listings.{listing_of};
 
 use crate::listing::Folder;
@@ -43,7 +43,7 @@ fn read_kept<D: Disk>(
     folder: &Folder<'_>,
     stamp: Stamp,
 ) -> Result<Option<Vec<u8>>, ReadFault>
-    ensures ok { IfOk result (λ kept. IsKept (D.facts disk.now) (listing_of folder.now) stamp.0 (option_map (λ v. v.items) kept)) }
+    ensures ok { IfOk result (λ kept. IsKeptRecord (D.facts disk.now) (listing_of folder.now) stamp.0 (option_map (λ v. v.items) kept)) }
     ensures cause { IsErrOf result ReadFault.Unreadable → CannotReadRecord (D.facts disk.now) (listing_of folder.now) stamp.0 }
 {
     if !folder.kept.contains(&stamp.0) {

@@ -4,7 +4,7 @@ ghost use Rattle.std.specs.Prelude.{◌≡◌, OnErr, ◌≤◌, ◌↔◌, opti
 ghost use Rattle.board_core.specs.Delays.{most_delay};
 ghost use Rattle.arbiter_server.specs.Games.{IsGameOf};
 ghost use Rattle.line_teller.specs.ToldLines.{HasFailed};
-ghost use Rattle.game_status.specs.GameAudits.{AreFewDelays, IsAuditLook, IsAuditOf, IsSoundSide, IsSoundLook, IsUnsoundLook, IsUnsoundPair, IsUnsoundSide, IsUntrue, IsWhole, TellsAuditTo};
+ghost use Rattle.game_status.specs.GameAudits.{AreFewDelays, IsAuditLook, IsAuditOf, IsSoundSide, IsSoundLook, IsUnsoundLook, IsUnsoundPair, IsUnsoundSide, IsUntrue, IsWholeRecord, TellsAuditTo};
 ghost use Rattle.game_status.specs.Listings.{listing_of, other_listing};
 
 use crate::audit_lines::{AuditLook, Unsound, audit_told};
@@ -55,7 +55,7 @@ fn fault_in(
     kept: &Option<Record>,
 ) -> Result<Option<Finding>, AllocError>
     requires { IfSome kept.now (λ r. r.delay ≤ most_delay) }
-    ensures none { IfOk result (λ fault. IfNone fault (IsWhole start.now set.old.tables kept.now)) }
+    ensures none { IfOk result (λ fault. IfNone fault (IsWholeRecord start.now set.old.tables kept.now)) }
     ensures some { IfOk result (λ fault. IfSome fault (IsUntrue start.now set.old.tables kept.now)) }
     ensures same { set.new ≡ set.old }
 {
@@ -101,7 +101,7 @@ fn unsound_pair(
 ) -> Result<Option<Unsound>, AllocError>
     requires first { IfSome side.now.kept (λ r. r.delay ≤ most_delay) }
     requires second { IfSome other.now (λ r. r.delay ≤ most_delay) }
-    ensures none { IfOk result (λ found. IfNone found (IsSoundSide tables.old.manifest.now tables.old.set.tables stamp.0 side.now × IsWhole side.now.game.start tables.old.set.tables other.now)) }
+    ensures none { IfOk result (λ found. IfNone found (IsSoundSide tables.old.manifest.now tables.old.set.tables stamp.0 side.now × IsWholeRecord side.now.game.start tables.old.set.tables other.now)) }
     ensures some { IfOk result (λ found. IfSome found (IsUnsoundPair tables.old.manifest.now tables.old.set.tables stamp.0 side.now other.now)) }
     ensures same { tables.new ≡ tables.old }
 {

@@ -9,7 +9,7 @@
 //! `comparing` (two records), `status_lines`, `telling` (games in turn, and sums: `GameTeller`), `status`; `audit_lines`, `game_audit`.
 //! `add_moves`, `add_refused_record` and `add_finding` are for lines of the crate above too.
 //!
-//! Definitions, in reading order: `Listings` (`AreListed`), `Entries` (`HasEntry`, `LacksEntry`), `Sides` (`HasSide`, `LacksSide`),
+//! Definitions, in reading order: `Listings` (`AreListed`), `Entries` (`HasEntry`, `LacksEntry`), `Sides` (`HasGameAndRecord`, `LacksSide`),
 //! `Comparisons` (`IsComparedAs`), `Tellings` (`TellsGames`, `TellsFolders`), `Statuses` (`IsStatus`, `TellsStatus`), `GameAudits`
 //! (`TellsAudit`). Its cases stand in `status.txt` and `game_audits.txt` of `rows`.
 //!

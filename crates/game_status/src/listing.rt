@@ -6,7 +6,7 @@ ghost use Rattle.std.specs.List.Sorted.{IsStrictlySortedBy};
 ghost use Rattle.std.specs.Ordering.{nat_cmp};
 ghost use Rattle.hex.specs.Hex.{encode_lower};
 ghost use Rattle.system_io.specs.Disks.{AtFolder};
-ghost use Rattle.game_status.specs.Listings.{AddsStamps, AreListed, CannotList, CannotListOther, IsStamp, file_name, listing_of};
+ghost use Rattle.game_status.specs.Listings.{AddsStamps, AreListed, CannotList, CannotListOther, IsStamp, listing_of, stamp_file_name};
 ghost use Rattle.game_status.specs.Inside.Listing.{ListsFolder, ListsOther};
 
 use std::alloc::{AllocError, Global};
@@ -34,8 +34,8 @@ pub fn stamp_of(digits: &[u8]) -> Option<[u8; 16]>
 
 /// The stamp whose file with this ending has the name.
 fn stamp_in(name: &[u8], ending: &[u8]) -> Option<[u8; 16]>
-    ensures some { IfSome result (λ stamp. IsStamp stamp × (name.now ≡ file_name stamp ending.now)) }
-    ensures none { IfNone result ((stamp : List ℕ) → IsStamp stamp → name.now ≡ file_name stamp ending.now → ⊥) }
+    ensures some { IfSome result (λ stamp. IsStamp stamp × (name.now ≡ stamp_file_name stamp ending.now)) }
+    ensures none { IfNone result ((stamp : List ℕ) → IsStamp stamp → name.now ≡ stamp_file_name stamp ending.now → ⊥) }
 {
     match name.strip_suffix(ending) {
         Some(digits) => stamp_of(digits),

@@ -4,7 +4,7 @@ ghost use Rattle.std.specs.Prelude.{IfErr, IfOk};
 ghost use Rattle.move_msg.specs.Records.{SpellsRecord};
 ghost use Rattle.game_status.specs.Entries.{HasEntry, game_told};
 ghost use Rattle.game_status.specs.Listings.{listing_of};
-ghost use Rattle.game_status.specs.Sides.{HasSide, IsOfStamp, LacksSide};
+ghost use Rattle.game_status.specs.Sides.{HasGameAndRecord, IsOfStamp, LacksSide};
 ghost use Rattle.game_status.specs.Inside.Decoding.{AreSides, IsNoRecordOf, IsNoSide};
 
 use crate::entry::{Entry, EntryFault, read_entry};
@@ -75,7 +75,7 @@ pub(crate) fn read_side<D: Disk>(
     folder: &Folder<'_>,
     stamp: Stamp,
 ) -> Result<Result<Side, EntryFault>, AllocError>
-    ensures side { IfOk result (λ r. IfOk r (λ s. HasSide (D.facts disk.now) (listing_of folder.now) stamp.0 (game_told s.game) s.kept)) }
+    ensures side { IfOk result (λ r. IfOk r (λ s. HasGameAndRecord (D.facts disk.now) (listing_of folder.now) stamp.0 (game_told s.game) s.kept)) }
     ensures fault { IfOk result (λ r. IfErr r (LacksSide (D.facts disk.now) (listing_of folder.now) stamp.0)) }
 {
     match read_entry(alloc, disk, folder, stamp)? {

@@ -7,8 +7,8 @@ ghost use Rattle.hex.specs.Hex.{encode_lower};
 ghost use Rattle.move_msg.specs.Records.{record_fault_name};
 ghost use Rattle.record_audit.specs.Findings.{refused_record};
 ghost use Rattle.game_status.specs.Comparisons.{compared_words};
-ghost use Rattle.game_status.specs.Entries.{fault_words};
-ghost use Rattle.game_status.specs.Statuses.{fault_line, kept_words, line_of_one, line_of_two, other_fault_line, told_by};
+ghost use Rattle.game_status.specs.Entries.{listed_fault_words};
+ghost use Rattle.game_status.specs.Statuses.{fault_line, game_told_by, kept_words, line_of_one, line_of_two, other_fault_line};
 
 use crate::comparing::{Compared, mark_of, mark_of_two};
 use crate::entry::EntryFault;
@@ -101,7 +101,7 @@ pub fn add_refused_record(line: &mut LineWords, fault: RecordFault)
 /// Adds what is at fault.
 fn add_fault(line: &mut LineWords, fault: EntryFault)
     requires { length line.old ≤ 200 }
-    ensures { line.new ≡ line.old ++ fault_words fault }
+    ensures { line.new ≡ line.old ++ listed_fault_words fault }
 {
     match fault {
         EntryFault::NoGame => line.add("refused NoGame"),
@@ -177,7 +177,7 @@ pub(crate) fn other_fault_line(stamp: &[u8; 16], fault: EntryFault) -> LineWords
 
 /// What is told of a game of which this is found.
 pub(crate) fn told_by(stamp: &[u8; 16], look: &Look) -> GameTold
-    ensures { result ≡ told_by stamp.now look.now }
+    ensures { result ≡ game_told_by stamp.now look.now }
 {
     match look {
         Look::One(side) => GameTold::new(line_of_one(stamp, side), mark_of(&side.kept)),

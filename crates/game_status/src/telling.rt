@@ -5,9 +5,9 @@ ghost use Rattle.std.specs.Io.KnownBytes.{Appends};
 ghost use Rattle.move_msg.specs.TextLines.{ended};
 ghost use Rattle.system_io.specs.Outputs.{WritesFront};
 ghost use Rattle.line_teller.specs.ToldLines.{HasFailed, HasFront, cut_words};
-ghost use Rattle.game_status.specs.Tellings.{CutsGame, GamesTo, TellsNoMore, WritesGame, are_well, counts_words, differ_words, sums_of, sums_words};
+ghost use Rattle.game_status.specs.Tellings.{CutsToldGame, GamesTo, TellsNoMoreGames, WritesGame, are_well, counts_words, differ_words, sums_of, sums_words};
 ghost use Rattle.game_status.specs.declared.telling.GameTold.{GameTold};
-ghost use Rattle.game_status.specs.Inside.Counting.{AddsMark, AreFew, CutsSome, TellsEach, TellsSome};
+ghost use Rattle.game_status.specs.Inside.Counting.{AddsMark, CanCountOneMore, CutsSome, TellsEach, TellsSome};
 
 use line_teller::{LineWords, TellFault, tell_cut};
 use std::alloc::AllocError;
@@ -72,7 +72,7 @@ impl Sums {
 
     /// One more was told, which is counted so.
     fn with(self, mark: Mark) -> Sums
-        requires { AreFew self }
+        requires { CanCountOneMore self }
         ensures { AddsMark self mark result }
     {
         let games = self.games + 1;
@@ -113,7 +113,7 @@ pub trait GameTeller {
     /// before.
     fn tell(&mut self, stamp: &[u8; 16]) -> Result<GameTold, AllocError>
         ensures told { IfOk result (tells self.old stamp.now) }
-        ensures same { TellsNoMore (tells self.old) (tells self.new) };
+        ensures same { TellsNoMoreGames (tells self.old) (tells self.new) };
 }
 
 /// Writes the line of the game with this stamp, and returns how the game is counted. Nothing of the line is written where memory is
@@ -125,9 +125,9 @@ fn tell_game<T: GameTeller, W: Output>(
 ) -> Result<Mark, TellFault>
     ensures told { IfOk result (WritesGame (T.tells teller.old stamp.now) (W.contents out.old) (W.contents out.new)) }
     ensures memory { IsErrOf result TellFault.OutOfMemory → W.contents out.new ≡ W.contents out.old }
-    ensures front { IsErrOf result TellFault.Io → CutsGame (T.tells teller.old stamp.now) (W.contents out.old) (W.contents out.new) }
+    ensures front { IsErrOf result TellFault.Io → CutsToldGame (T.tells teller.old stamp.now) (W.contents out.old) (W.contents out.new) }
     ensures cause { IsErrOf result TellFault.Io → HasFailed W.facts }
-    ensures same { TellsNoMore (T.tells teller.old) (T.tells teller.new) }
+    ensures same { TellsNoMoreGames (T.tells teller.old) (T.tells teller.new) }
 {
     let Ok(GameTold { words, mark }) = teller.tell(stamp) else {
         return Err(TellFault::OutOfMemory);
