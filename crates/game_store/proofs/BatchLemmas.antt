@@ -6,7 +6,7 @@ use Rattle.std.specs.Str.{bytes_eq}
 use Rattle.sqlite.specs.Effect.{Database}
 use Rattle.sqlite.specs.State.{State}
 use Rattle.game_store.specs.declared.entry.Entry.{Entry}
-use Rattle.game_store.specs.Games.{Games, game_of, with_entry, with_all}
+use Rattle.game_store.specs.Games.{Games, entry_game, with_entry, with_all}
 use Rattle.game_store.specs.Rows.{AreApart, Numbers, games_in}
 use Rattle.game_store.specs.Batches.{Becomes, HasRows, PutsRow}
 use Rattle.game_store.proofs.PutLemmas.{put_rows}
@@ -23,6 +23,6 @@ becomes_more numbers apart entries i e number within is has whole low few old mi
     let games : Games = games_in (old.trees 0) in
     record {
       has = record { schema = put.schema; sound = put.sound; rows = rows.0 };
-      games = λ s. rows.1 s ∙ ap (cond (bytes_eq e.stamp s) (Some (game_of e))) (before.games s)
+      games = λ s. rows.1 s ∙ ap (cond (bytes_eq e.stamp s) (Some (entry_game e))) (before.games s)
           ∙ ap (λ (f : Games). f s) (sym (ap (with_all games) all ∙ fold-append with_entry games (take i entries) (e ∷ [])));
     }

@@ -13,7 +13,7 @@ use Rattle.game_store.specs.declared.memory.Slot.{Slot}
 use Rattle.game_store.specs.declared.memory.Text.{Text}
 use Rattle.game_store.specs.Games.{Game}
 use Rattle.game_store.specs.Slots.{Slots, game_at, game_of_text}
-use Rattle.game_store.specs.Listing.{Listed, ListsGames, listed, listed_if}
+use Rattle.game_store.specs.Listing.{Listed, ListsGames, listed_games, listed_if}
 use Rattle.game_store.proofs.SlotLemmas.{is_at_same, one_stamp}
 
 abbrev stamps : List Listed → List (List ℕ)
@@ -26,17 +26,17 @@ unlike k q less true is =
     absurd cc
 
 -- a stamp below all others is not among them
-absent_if : (k q : List ℕ) (o : Option Text) (es : Slots) → slice_cmp nat_cmp k q ≡ Less → lookup (bytes_eq k) (listed es) ≡ None → lookup (bytes_eq k) (listed_if q o ++ listed es) ≡ None
+absent_if : (k q : List ℕ) (o : Option Text) (es : Slots) → slice_cmp nat_cmp k q ≡ Less → lookup (bytes_eq k) (listed_games es) ≡ None → lookup (bytes_eq k) (listed_if q o ++ listed_games es) ≡ None
 absent_if k q None es less rest = rest
 absent_if k q (Some t) es less rest = rw (unlike k q less (bytes_eq k q) refl) rest
 
-absent : (k : List ℕ) (es : Slots) → AllByRecursion (λ q. slice_cmp nat_cmp k q ≡ Less) (keys_of es) → lookup (bytes_eq k) (listed es) ≡ None
+absent : (k : List ℕ) (es : Slots) → AllByRecursion (λ q. slice_cmp nat_cmp k q ≡ Less) (keys_of es) → lookup (bytes_eq k) (listed_games es) ≡ None
 absent k [] all = refl
 absent k (e ∷ es) all = absent_if k e.0 e.1.text es all.0 (absent k es all.1)
 
-found_if : (stamp k : List ℕ) (o : Option Text) (es : Slots) → AllByRecursion (λ q. slice_cmp nat_cmp k q ≡ Less) (keys_of es) → lookup (bytes_eq stamp) (listed es) ≡ game_at es stamp
-    → (b : Bool) → bytes_eq stamp k ≡ b → lookup (bytes_eq stamp) (listed_if k o ++ listed es) ≡ cond b (option_map game_of_text o) (game_at es stamp)
-found_if stamp k None es above rest true is = ap (λ a. lookup (bytes_eq a) (listed es)) (one_stamp stamp k is) ∙ absent k es above
+found_if : (stamp k : List ℕ) (o : Option Text) (es : Slots) → AllByRecursion (λ q. slice_cmp nat_cmp k q ≡ Less) (keys_of es) → lookup (bytes_eq stamp) (listed_games es) ≡ game_at es stamp
+    → (b : Bool) → bytes_eq stamp k ≡ b → lookup (bytes_eq stamp) (listed_if k o ++ listed_games es) ≡ cond b (option_map game_of_text o) (game_at es stamp)
+found_if stamp k None es above rest true is = ap (λ a. lookup (bytes_eq a) (listed_games es)) (one_stamp stamp k is) ∙ absent k es above
 found_if stamp k (Some t) es above rest true is = rw is refl
 found_if stamp k None es above rest false is = rest
 found_if stamp k (Some t) es above rest false is = rw is rest
@@ -46,7 +46,7 @@ push : (b : Bool) (s : Slot) (o : Option Slot) → option_and_then (λ (x : Slot
 push true s o = refl
 push false s o = refl
 
-found : (es : Slots) → IsStrictlySortedBy (slice_cmp nat_cmp) (keys_of es) → (stamp : List ℕ) → lookup (bytes_eq stamp) (listed es) ≡ game_at es stamp
+found : (es : Slots) → IsStrictlySortedBy (slice_cmp nat_cmp) (keys_of es) → (stamp : List ℕ) → lookup (bytes_eq stamp) (listed_games es) ≡ game_at es stamp
 unfolding IsStrictlySortedBy
 found [] sorted stamp = refl
 found (e ∷ es) sorted stamp =
@@ -54,25 +54,25 @@ found (e ∷ es) sorted stamp =
     ∙ sym (ap (λ b. option_and_then (λ (x : Slot). option_map game_of_text x.text) (cond b (Some e.1) (lookup (λ q. is_at (slice_cmp nat_cmp stamp) q) es))) (is_at_same stamp e.0)
     ∙ push (bytes_eq stamp e.0) e.1 (lookup (λ q. is_at (slice_cmp nat_cmp stamp) q) es))
 
-below_if : (k q : List ℕ) (o : Option Text) (es : Slots) → slice_cmp nat_cmp k q ≡ Less → AllByRecursion (λ p. slice_cmp nat_cmp k p ≡ Less) (stamps (listed es))
-    → AllByRecursion (λ p. slice_cmp nat_cmp k p ≡ Less) (stamps (listed_if q o ++ listed es))
+below_if : (k q : List ℕ) (o : Option Text) (es : Slots) → slice_cmp nat_cmp k q ≡ Less → AllByRecursion (λ p. slice_cmp nat_cmp k p ≡ Less) (stamps (listed_games es))
+    → AllByRecursion (λ p. slice_cmp nat_cmp k p ≡ Less) (stamps (listed_if q o ++ listed_games es))
 below_if k q None es less rest = rest
 below_if k q (Some t) es less rest = (less, rest)
 
-below : (k : List ℕ) (es : Slots) → AllByRecursion (λ q. slice_cmp nat_cmp k q ≡ Less) (keys_of es) → AllByRecursion (λ q. slice_cmp nat_cmp k q ≡ Less) (stamps (listed es))
+below : (k : List ℕ) (es : Slots) → AllByRecursion (λ q. slice_cmp nat_cmp k q ≡ Less) (keys_of es) → AllByRecursion (λ q. slice_cmp nat_cmp k q ≡ Less) (stamps (listed_games es))
 below k [] all = tt
 below k (e ∷ es) all = below_if k e.0 e.1.text es all.0 (below k es all.1)
 
-rising_if : (k : List ℕ) (o : Option Text) (es : Slots) → AllByRecursion (λ q. slice_cmp nat_cmp k q ≡ Less) (stamps (listed es)) → IsStrictlySortedBy (slice_cmp nat_cmp) (stamps (listed es))
-    → IsStrictlySortedBy (slice_cmp nat_cmp) (stamps (listed_if k o ++ listed es))
+rising_if : (k : List ℕ) (o : Option Text) (es : Slots) → AllByRecursion (λ q. slice_cmp nat_cmp k q ≡ Less) (stamps (listed_games es)) → IsStrictlySortedBy (slice_cmp nat_cmp) (stamps (listed_games es))
+    → IsStrictlySortedBy (slice_cmp nat_cmp) (stamps (listed_if k o ++ listed_games es))
 unfolding IsStrictlySortedBy
 rising_if k None es above rest = rest
 rising_if k (Some t) es above rest = (above, rest)
 
-rising : (es : Slots) → IsStrictlySortedBy (slice_cmp nat_cmp) (keys_of es) → IsStrictlySortedBy (slice_cmp nat_cmp) (stamps (listed es))
+rising : (es : Slots) → IsStrictlySortedBy (slice_cmp nat_cmp) (keys_of es) → IsStrictlySortedBy (slice_cmp nat_cmp) (stamps (listed_games es))
 unfolding IsStrictlySortedBy
 rising [] sorted = tt
 rising (e ∷ es) sorted = rising_if e.0 e.1.text es (below e.0 es sorted.0) (rising es sorted.1)
 
-pub lists : (es : Slots) → IsStrictlySortedBy (slice_cmp nat_cmp) (keys_of es) → ListsGames (listed es) (game_at es)
+pub lists : (es : Slots) → IsStrictlySortedBy (slice_cmp nat_cmp) (keys_of es) → ListsGames (listed_games es) (game_at es)
 lists es sorted = record { found = found es sorted; rising = rising es sorted }

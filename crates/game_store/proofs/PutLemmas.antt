@@ -19,8 +19,8 @@ use Rattle.sqlite_rules.specs.Edit.{without_all, id_in}
 use Rattle.sqlite_rules.specs.Calls.{ids_of}
 use Rattle.sqlite_rules.specs.Keys.{conflicts}
 use Rattle.game_store.specs.declared.entry.Entry.{Entry}
-use Rattle.game_store.specs.Games.{game_of, with_entry}
-use Rattle.game_store.specs.Rows.{HasPut, IsRow, AreRows, AreApart, Numbers, game_in, games_in, is_of, stored, table}
+use Rattle.game_store.specs.Games.{entry_game, with_entry}
+use Rattle.game_store.specs.Rows.{HasPut, IsRow, AreRows, AreApart, Numbers, game_in, games_in, is_stamp_value, stored_row, table}
 use Rattle.std.proofs.lemmas.Int.{ints}
 use Rattle.game_store.proofs.SlotLemmas.{one_stamp, own_stamp}
 
@@ -47,13 +47,13 @@ first_part false h = h
 
 module _ (numbers : Numbers) (apart : AreApart numbers) (number : ℕ) (e : Entry) (has : numbers e.stamp ≡ Some number) (whole : length e.stamp ≡ 16) (low : number < 2 ^ 32) (few : e.count < 2 ^ 32) where
   abbrev new : Row
-  new = stored number e
+  new = stored_row number e
 
-  is_row : IsRow numbers (stored number e)
+  is_row : IsRow numbers (stored_row number e)
   is_row = record { stamp = e.stamp; number = number; count = e.count; text = e.record.items; numbered = has; whole = whole; low = low; few = few; id_is = refl; stamp_is = refl; count_is = refl; text_is = refl }
 
   -- a row of the game has its number
-  numbered : (r : Row) (s : List ℕ) → IsRow numbers r → s ≡ e.stamp → is_of s (column r 2) ≡ true → rowid r ≡ Int (pos number)
+  numbered : (r : Row) (s : List ℕ) → IsRow numbers r → s ≡ e.stamp → is_stamp_value s (column r 2) ≡ true → rowid r ≡ Int (pos number)
   numbered r s row is of =
       let said : bytes_eq row.stamp s ≡ true = rw row.stamp_is at of in
       let same : row.stamp ≡ e.stamp = one_stamp row.stamp s said ∙ is in
@@ -61,11 +61,11 @@ module _ (numbers : Numbers) (apart : AreApart numbers) (number : ℕ) (e : Entr
       row.id_is ∙ ap (λ k. Int (pos k)) cc
 
   -- and a row with its number is of the game
-  other : (r : Row) (s : List ℕ) → IsRow numbers r → (bytes_eq e.stamp s ≡ false) → value_cmp (rowid r) (Int (pos number)) ≡ Equal → is_of s (column r 2) ≡ false
+  other : (r : Row) (s : List ℕ) → IsRow numbers r → (bytes_eq e.stamp s ≡ false) → value_cmp (rowid r) (Int (pos number)) ≡ Equal → is_stamp_value s (column r 2) ≡ false
   other r s row unlike tied =
       let n : row.number ≡ number = same_id row.number number (rw row.id_is at tied) in
       let same : row.stamp ≡ e.stamp = apart row.stamp e.stamp number (row.numbered ∙ ap (λ k. Some k) n) has in
-      ap (is_of s) row.stamp_is ∙ ap (λ a. bytes_eq a s) same ∙ unlike
+      ap (is_stamp_value s) row.stamp_is ∙ ap (λ a. bytes_eq a s) same ∙ unlike
 
   -- ---- the rows without those of the number
 
@@ -79,7 +79,7 @@ module _ (numbers : Numbers) (apart : AreApart numbers) (number : ℕ) (e : Entr
 
   stays : (s : List ℕ) (r : Row) (rows : List Row) → games_in (without_rowid (pos number) rows) s ≡ games_in rows s → is_eq (value_cmp (rowid r) (Int (pos number))) ≡ false
       → games_in (without_rowid (pos number) (r ∷ rows)) s ≡ games_in (r ∷ rows) s
-  stays s r rows tail apart_of = rw apart_of (ap (cond (is_of s (column r 2)) (Some (game_in r))) tail)
+  stays s r rows tail apart_of = rw apart_of (ap (cond (is_stamp_value s (column r 2)) (Some (game_in r))) tail)
 
   one_less : (s : List ℕ) → bytes_eq e.stamp s ≡ false → (r : Row) (rows : List Row) → IsRow numbers r → games_in (without_rowid (pos number) rows) s ≡ games_in rows s
       → (o : Ordering) → value_cmp (rowid r) (Int (pos number)) ≡ o → games_in (without_rowid (pos number) (r ∷ rows)) s ≡ games_in (r ∷ rows) s
@@ -104,7 +104,7 @@ module _ (numbers : Numbers) (apart : AreApart numbers) (number : ℕ) (e : Entr
 
   games_by : (s : List ℕ) → bytes_eq e.stamp s ≡ false → (r : Row) (rows : List Row) → IsRow numbers r → games_in (put_row new rows) s ≡ games_in rows s
       → (o : Ordering) → value_cmp (rowid r) (Int (pos number)) ≡ o → games_in (match_ordering o (r ∷ put_row new rows) (new ∷ rows) (new ∷ r ∷ rows)) s ≡ games_in (r ∷ rows) s
-  games_by s unlike r rows row tail Less tied = ap (cond (is_of s (column r 2)) (Some (game_in r))) tail
+  games_by s unlike r rows row tail Less tied = ap (cond (is_stamp_value s (column r 2)) (Some (game_in r))) tail
   games_by s unlike r rows row tail Equal tied = rw (unlike, other r s row unlike tied) refl
   games_by s unlike r rows row tail Greater tied = rw unlike refl
 
@@ -112,22 +112,22 @@ module _ (numbers : Numbers) (apart : AreApart numbers) (number : ℕ) (e : Entr
   games_put s unlike [] all = rw unlike refl
   games_put s unlike (r ∷ rows) all = games_by s unlike r rows all.0 (games_put s unlike rows all.1) (value_cmp (rowid r) (Int (pos number))) refl
 
-  first_here : (s : List ℕ) → s ≡ e.stamp → (more : List Row) → games_in (new ∷ more) s ≡ Some (game_of e)
-  first_here s is more = ap (λ b. cond b (Some (game_of e)) (games_in more s)) (ap (bytes_eq e.stamp) is ∙ own_stamp e.stamp)
+  first_here : (s : List ℕ) → s ≡ e.stamp → (more : List Row) → games_in (new ∷ more) s ≡ Some (entry_game e)
+  first_here s is more = ap (λ b. cond b (Some (entry_game e)) (games_in more s)) (ap (bytes_eq e.stamp) is ∙ own_stamp e.stamp)
 
-  skips : (s : List ℕ) → s ≡ e.stamp → (r : Row) → IsRow numbers r → value_cmp (rowid r) (Int (pos number)) ≡ Less → (b : Bool) → is_of s (column r 2) ≡ b → b ≡ false
+  skips : (s : List ℕ) → s ≡ e.stamp → (r : Row) → IsRow numbers r → value_cmp (rowid r) (Int (pos number)) ≡ Less → (b : Bool) → is_stamp_value s (column r 2) ≡ b → b ≡ false
   skips s is r row low false of = refl
   skips s is r row low true of =
       let tied : Less ≡ Equal = sym low ∙ ap (λ v. value_cmp v (Int (pos number))) (numbered r s row is of) ∙ tied_itself value_cmp_total (Int (pos number)) in
       absurd cc
 
-  own_by : (s : List ℕ) → s ≡ e.stamp → (r : Row) (rows : List Row) → IsRow numbers r → games_in (put_row new rows) s ≡ Some (game_of e)
-      → (o : Ordering) → value_cmp (rowid r) (Int (pos number)) ≡ o → games_in (match_ordering o (r ∷ put_row new rows) (new ∷ rows) (new ∷ r ∷ rows)) s ≡ Some (game_of e)
-  own_by s is r rows row tail Less low = ap (λ b. cond b (Some (game_in r)) (games_in (put_row new rows) s)) (skips s is r row low (is_of s (column r 2)) refl) ∙ tail
+  own_by : (s : List ℕ) → s ≡ e.stamp → (r : Row) (rows : List Row) → IsRow numbers r → games_in (put_row new rows) s ≡ Some (entry_game e)
+      → (o : Ordering) → value_cmp (rowid r) (Int (pos number)) ≡ o → games_in (match_ordering o (r ∷ put_row new rows) (new ∷ rows) (new ∷ r ∷ rows)) s ≡ Some (entry_game e)
+  own_by s is r rows row tail Less low = ap (λ b. cond b (Some (game_in r)) (games_in (put_row new rows) s)) (skips s is r row low (is_stamp_value s (column r 2)) refl) ∙ tail
   own_by s is r rows row tail Equal tied = first_here s is rows
   own_by s is r rows row tail Greater tied = first_here s is (r ∷ rows)
 
-  own_put : (s : List ℕ) → s ≡ e.stamp → (rows : List Row) → AreRows numbers rows → games_in (put_row new rows) s ≡ Some (game_of e)
+  own_put : (s : List ℕ) → s ≡ e.stamp → (rows : List Row) → AreRows numbers rows → games_in (put_row new rows) s ≡ Some (entry_game e)
   own_put s is [] all = first_here s is []
   own_put s is (r ∷ rows) all = own_by s is r rows all.0 (own_put s is rows all.1) (value_cmp (rowid r) (Int (pos number))) refl
 
@@ -150,7 +150,7 @@ module _ (numbers : Numbers) (apart : AreApart numbers) (number : ℕ) (e : Entr
   found_id : (r : Row) → IsRow numbers r → conflicts None [] table new r ≡ true → id_in (rowid r) ≡ pos number
   found_id r row met = ap id_in row.id_is ∙ ap pos (equal_ids _ row.number number (first_part _ (rw row.id_is at met)))
 
-  pub put_rows : (old now : List Row) → AreRows numbers old → HasPut (stored number e) old now → AreRows numbers now × ((s : List ℕ) → games_in now s ≡ with_entry (games_in old) e s)
+  pub put_rows : (old now : List Row) → AreRows numbers old → HasPut (stored_row number e) old now → AreRows numbers now × ((s : List ℕ) → games_in now s ≡ with_entry (games_in old) e s)
   put_rows old now all put =
       let ids = λ (x : Row) (has : Has put.found x).
       let it = put.are.sound x has in

@@ -22,7 +22,7 @@ use Rattle.sqlite.specs.State.{State, mode_of, Writes, Executes, Shown, IsUnchan
 use Rattle.sqlite.specs.Clock.{timed}
 use Rattle.sqlite_catalog.specs.Listing.{IsSound}
 use Rattle.sqlite.proofs.Callers.{IsPlain, command_of, statement_of, runs_as, reads_as, never_commits}
-use Rattle.game_store.specs.Rows.{table, game_schema, no_schema, create_text, list_text, shown}
+use Rattle.game_store.specs.Rows.{table, game_schema, no_schema, create_text, list_text, list_row}
 
 abbrev query : Query
 query = record {
@@ -83,16 +83,16 @@ creates old new count has h =
 pub list_commits_nothing : (s : State) (db : Trees) → s.now.schema ≡ game_schema → ¬ CommitsShowing list_text [] s db
 list_commits_nothing s db has = never_commits list_text [] s db (subst (λ sc. IsPlain (understood sc list_text)) (sym has) list_plain)
 
-outputs : (rows : List Row) → map (λ (o : Output). o.1) (map (output query) (flat_map (λ r. ([] ∷ r ∷ []) ∷ []) rows)) ≡ map shown rows
+outputs : (rows : List Row) → map (λ (o : Output). o.1) (map (output query) (flat_map (λ r. ([] ∷ r ∷ []) ∷ []) rows)) ≡ map list_row rows
 outputs [] = refl
-outputs (r ∷ rows) = ap (λ more. shown r ∷ more) (outputs rows)
+outputs (r ∷ rows) = ap (λ more. list_row r ∷ more) (outputs rows)
 
-pub lists : (old new : State) (rows : List Row) → old.now.schema ≡ game_schema → Shown list_text [] old new rows → IsPermutation (map shown (old.now.trees 0)) rows
+pub lists : (old new : State) (rows : List Row) → old.now.schema ≡ game_schema → Shown list_text [] old new rows → IsPermutation (map list_row (old.now.trees 0)) rows
 lists old new rows has h =
     let got = (reads_as list_text [] old new game_schema has _ list_is.0 list_plain list_is.1 rows h).answer in
     let a : IsAnswer query (overlay old.now.trees []) [] rows = got Null in
     let kept : a.kept ≡ map (output query) (flat_map (λ r. ([] ∷ r ∷ []) ∷ []) (old.now.trees 0)) = a.distinct ∙ ap (map (output query)) a.grouped in
-    let all : map (λ (o : Output). o.1) a.kept ≡ map shown (old.now.trees 0) = ap (map (λ (o : Output). o.1)) kept ∙ outputs (old.now.trees 0) in
+    let all : map (λ (o : Output). o.1) a.kept ≡ map list_row (old.now.trees 0) = ap (map (λ (o : Output). o.1)) kept ∙ outputs (old.now.trees 0) in
     let given : rows ≡ map (λ (o : Output). o.1) a.ordered = a.shown in
     subst (λ xs. IsPermutation xs rows) all (subst (IsPermutation (map (λ (o : Output). o.1) a.kept)) (sym given) (IsPermutation-map (λ (o : Output). o.1) a.kept a.ordered a.same))
 

@@ -27,7 +27,7 @@ use Rattle.sqlite.specs.Rows.{Written, Task, TriesEach, Tries, Clears, Puts, Jud
 use Rattle.sqlite.specs.Effect.{Database, IsDatabase}
 use Rattle.sqlite.specs.State.{State, mode_of, Executes}
 use Rattle.game_store.specs.declared.entry.Entry.{Entry}
-use Rattle.game_store.specs.Rows.{HasPut, table, game_schema, given, put_text, stored}
+use Rattle.game_store.specs.Rows.{HasPut, table, game_schema, put_parameters, put_text, stored_row}
 
 abbrev terms : List Term
 terms = col 0 0 ∷ lit Null ∷ col 0 1 ∷ col 0 2 ∷ col 0 3 ∷ []
@@ -59,7 +59,7 @@ went (inr on) = on
 same_value : {B E : Type 0} {a b : B} → ◌≡◌ {A = Result B E} (Ok a) (Ok b) → a ≡ b
 same_value e = cc
 
-again : (id : ℕ) (e : Entry) → cast_row table (stored id e) ≡ stored id e
+again : (id : ℕ) (e : Entry) → cast_row table (stored_row id e) ≡ stored_row id e
 again id e =
     let row = λ (a b c : Value). a ∷ b ∷ Blob e.stamp ∷ c ∷ Blob e.record.items ∷ [] in
     ap (λ a. row a (cast Integer Null) (cast Integer (Int (pos e.count)))) (cast_int (pos id))
@@ -68,7 +68,7 @@ again id e =
 
 -- the row as it is stored is what a write makes of it
 fixed : (top : ℤ) (rows : List Row) (id : ℕ) (e : Entry)
-    → with_rowid (rowids_for table top) rows (cast_row table (mended Replace table (stored id e))) ≡ stored id e
+    → with_rowid (rowids_for table top) rows (cast_row table (mended Replace table (stored_row id e))) ≡ stored_row id e
 fixed top rows id e = ap (with_rowid (rowids_for table top) rows) (again id e)
 
 module _ (limit : Option ℕ) (params : Row) (id : ℕ) (e : Entry) where
@@ -76,7 +76,7 @@ module _ (limit : Option ℕ) (params : Row) (id : ℕ) (e : Entry) where
   task = record { limit = limit; keys = Enforced; schema = game_schema; table = table; params = params }
 
   abbrev row : Row
-  row = stored id e
+  row = stored_row id e
 
   placed : (db : Trees) (out : Written) → Puts task row db (Ok out) → out.trees 0 ≡ put_row row (db 0)
   placed db out h =
@@ -99,10 +99,10 @@ module _ (limit : Option ℕ) (params : Row) (id : ℕ) (e : Entry) where
   met db out (inl none) = absurd (let e = none.1 in cc)
   met db out (inr it) = judged db out it.0 it.2
 
-pub puts : (old new : State) (id : ℕ) (e : Entry) (n : ℕ) → old.now.schema ≡ game_schema → Executes put_text (given id e) old new (Ok n)
-    → (new.now.schema ≡ game_schema) × IsDatabase new.now × HasPut (stored id e) (old.now.trees 0) (new.now.trees 0)
+pub puts : (old new : State) (id : ℕ) (e : Entry) (n : ℕ) → old.now.schema ≡ game_schema → Executes put_text (put_parameters id e) old new (Ok n)
+    → (new.now.schema ≡ game_schema) × IsDatabase new.now × HasPut (stored_row id e) (old.now.trees 0) (new.now.trees 0)
 puts old new id e n has h =
-    let params = given id e in
+    let params = put_parameters id e in
     let db = old.now.trees in
     let command = InsertOr 0 Replace (Values terms 5) [] in
     let w = runs_as put_text params old new game_schema has command put_is put_plain n h in
@@ -115,7 +115,7 @@ puts old new id e n has h =
     let counted = went tried.2 in
     let trees : done.0.trees ≡ tried.0.0.trees = ap (λ (it : Written). it.trees) (same_value counted.2) ∙ same_value counted.1 in
     let task : Task = record { limit = old.step_limit; keys = Enforced; schema = game_schema; table = table; params = params } in
-    let row = stored id e in
+    let row = stored_row id e in
     let tries = subst (λ rows. TriesEach task Replace [] rows (count_of counter.0) (nothing db) (Ok tried.0)) values.1.1 tried.1 in
     let one = went tries in
     let last : tried.0.0.trees ≡ one.0.trees = ap (λ (p : Written × ℤ). p.0.trees) (same_value one.2) in

@@ -6,7 +6,7 @@ use Rattle.sqlite.specs.State.{State}
 use Rattle.sqlite_catalog.specs.Listing.{IsSound}
 use Rattle.game_store.specs.declared.entry.Entry.{Entry}
 use Rattle.game_store.specs.Games.{with_all}
-use Rattle.game_store.specs.Rows.{AreRows, HasPut, Numbers, game_schema, games_in, stored}
+use Rattle.game_store.specs.Rows.{AreRows, HasPut, Numbers, game_schema, games_in, stored_row}
 
 -- the database has the table of the games alone, and rows of games under their numbers
 pub record HasRows (numbers : Numbers) (db : Database) : Type 0 where
@@ -31,4 +31,4 @@ AreOfBatch numbers entries old trees = HasRows numbers old → (db : Database) �
 pub record PutsRow (number : ℕ) (e : Entry) (old new : State) : Type 0 where
   pub schema : new.now.schema ≡ game_schema
   pub sound : IsSound game_schema new.now.trees
-  pub put : HasPut (stored number e) (old.now.trees 0) (new.now.trees 0)
+  pub put : HasPut (stored_row number e) (old.now.trees 0) (new.now.trees 0)

@@ -12,12 +12,12 @@ pub record Game : Type 0 where
 abbrev pub Games : Type 0
 Games = List ℕ → Option Game
 
-abbrev pub game_of : Entry → Game
-game_of e = record { count = e.count; bytes = e.record.items }
+abbrev pub entry_game : Entry → Game
+entry_game e = record { count = e.count; bytes = e.record.items }
 
 -- the games, with this entry in place of what was kept of its game
 abbrev pub with_entry : Games → Entry → Games
-with_entry games e stamp = if bytes_eq e.stamp stamp then Some (game_of e) else games stamp
+with_entry games e stamp = if bytes_eq e.stamp stamp then Some (entry_game e) else games stamp
 
 -- the games, with each entry put in turn
 abbrev pub with_all : Games → List Entry → Games

@@ -27,6 +27,6 @@ listed_if stamp None = []
 listed_if stamp (Some t) = (stamp, game_of_text t) ∷ []
 
 -- the games in memory that have records
-abbrev pub listed : Slots → List Listed
-listed [] = []
-listed (e ∷ es) = listed_if e.0 e.1.text ++ listed es
+abbrev pub listed_games : Slots → List Listed
+listed_games [] = []
+listed_games (e ∷ es) = listed_if e.0 e.1.text ++ listed_games es

@@ -51,15 +51,15 @@ no_schema = record { tables = []; indexes = []; views = [] }
 -- ---- the rows
 
 -- a row is its number, NULL in place of its column, and the other columns
-abbrev pub stored : ℕ → Entry → Row
-stored number e = Int (pos number) ∷ Null ∷ Bytes e.stamp ∷ Int (pos e.count) ∷ Bytes e.record.items ∷ []
+abbrev pub stored_row : ℕ → Entry → Row
+stored_row number e = Int (pos number) ∷ Null ∷ Bytes e.stamp ∷ Int (pos e.count) ∷ Bytes e.record.items ∷ []
 
-abbrev pub is_of : List ℕ → Value → Bool
-is_of stamp Null = false
-is_of stamp (Int n) = false
-is_of stamp (Real x) = false
-is_of stamp (Text t) = false
-is_of stamp (Bytes b) = bytes_eq b stamp
+abbrev pub is_stamp_value : List ℕ → Value → Bool
+is_stamp_value stamp Null = false
+is_stamp_value stamp (Int n) = false
+is_stamp_value stamp (Real x) = false
+is_stamp_value stamp (Text t) = false
+is_stamp_value stamp (Bytes b) = bytes_eq b stamp
 
 abbrev pub number_in : Value → ℕ
 number_in Null = 0
@@ -75,7 +75,7 @@ game_in r = record { count = number_in (column r 3); bytes = bytes (column r 4) 
 -- what the rows say of each game
 abbrev pub games_in : List Row → Games
 games_in [] stamp = None
-games_in (r ∷ rows) stamp = if is_of stamp (column r 2) then Some (game_in r) else games_in rows stamp
+games_in (r ∷ rows) stamp = if is_stamp_value stamp (column r 2) then Some (game_in r) else games_in rows stamp
 
 -- the numbers of games, by their stamps
 abbrev pub Numbers : Type 0
@@ -112,15 +112,15 @@ abbrev pub list_text : List ℕ
 list_text = codes "SELECT id, stamp, count, record FROM game ORDER BY id"
 
 -- a row as the list shows it
-abbrev pub shown : Row → Row
-shown r = rowid r ∷ column r 2 ∷ column r 3 ∷ column r 4 ∷ []
+abbrev pub list_row : Row → Row
+list_row r = rowid r ∷ column r 2 ∷ column r 3 ∷ column r 4 ∷ []
 
 abbrev pub put_text : List ℕ
 put_text = codes "INSERT OR REPLACE INTO game (id, stamp, count, record) VALUES (?1, ?2, ?3, ?4)"
 
 -- the parameters of a put
-abbrev pub given : ℕ → Entry → Row
-given number e = Int (pos number) ∷ Bytes e.stamp ∷ Int (pos e.count) ∷ Bytes e.record.items ∷ []
+abbrev pub put_parameters : ℕ → Entry → Row
+put_parameters number e = Int (pos number) ∷ Bytes e.stamp ∷ Int (pos e.count) ∷ Bytes e.record.items ∷ []
 
 -- the rows, with this one in place of those with its number
 pub record HasPut (new : Row) (old now : List Row) : Type 0 where

@@ -11,8 +11,8 @@ use Rattle.std.specs.Coded.{Coded, code_by, coded×, coded_ℕ, coded_list}
 use Rattle.game_store.specs.contracts.memory.Slot as slot
 use Rattle.sqlite_catalog.specs.Listing.{IsSound}
 use Rattle.game_store.specs.declared.entry.Entry.{Entry}
-use Rattle.game_store.specs.Games.{Games, game_of, with_all}
-use Rattle.game_store.specs.Rows.{AreRows, Numbers, game_schema, games_in, is_of, no_schema, shown}
+use Rattle.game_store.specs.Games.{Games, entry_game, with_all}
+use Rattle.game_store.specs.Rows.{AreRows, Numbers, game_schema, games_in, is_stamp_value, list_row, no_schema}
 use Rattle.game_store.specs.Slots.{Slots, Takes, game_at, number_at}
 use Rattle.game_store.specs.Batches.{HasRows}
 
@@ -30,7 +30,7 @@ HoldsGames db games =
 -- ---- reading
 
 -- the columns of a row that is listed are those of an entry, under a number
-pub record Tells (r : Row) (number : ℕ) (e : Entry) : Type 0 where
+pub record TellsEntry (r : Row) (number : ℕ) (e : Entry) : Type 0 where
   pub low : number < 2 ^ 32
   pub few : e.count < 2 ^ 32
   pub whole : length e.stamp ≡ 16
@@ -43,25 +43,25 @@ pub record Tells (r : Row) (number : ℕ) (e : Entry) : Type 0 where
 pub record TakesRow (r : Row) (old new : Slots) : Type 0 where
   pub number : ℕ
   pub entry : Entry
-  pub told : Tells r number entry
+  pub told : TellsEntry r number entry
   pub taken : Takes number entry old new
 
 -- memory has what this row that was listed tells
 pub record HasRow (slots : Slots) (r : Row) : Type 0 where
   pub number : ℕ
   pub entry : Entry
-  pub told : Tells r number entry
+  pub told : TellsEntry r number entry
   pub numbered : number_at slots entry.stamp ≡ Some number
-  pub kept : game_at slots entry.stamp ≡ Some (game_of entry)
+  pub kept : game_at slots entry.stamp ≡ Some (entry_game entry)
 
 -- memory has what these rows tell, and no other game
 pub record HasRead (rows : List Row) (slots : Slots) : Type 0 where
   pub each : All (HasRow slots) rows
-  pub only : (stamp : List ℕ) → All (λ (r : Row). is_of stamp (column r 1) ≡ false) rows → number_at slots stamp ≡ None
+  pub only : (stamp : List ℕ) → All (λ (r : Row). is_stamp_value stamp (column r 1) ≡ false) rows → number_at slots stamp ≡ None
 
 -- all rows of the table of the games were read, and nothing changed
 abbrev pub ReadsRows : List Row → State → State → Type 0
-ReadsRows rows old new = IsPermutation (map shown (old.now.trees 0)) rows × IsUnchanged old new
+ReadsRows rows old new = IsPermutation (map list_row (old.now.trees 0)) rows × IsUnchanged old new
 
 -- memory has the games of a sound database, and nothing changed
 abbrev pub ReadsGames : Slots → State → State → Type 0
@@ -108,7 +108,7 @@ abbrev pub shelf_code : {S : Type 0} → Coded S → Coded (Shelf S)
 shelf_code {S} store = code_by (Held S × Slots) (coded× (held_code store) slots_code) (λ s. (s.conn, s.slots)) (λ p. record { conn = p.0; slots = p.1 }) (λ _. refl)
 
 -- no transaction is open, and memory has the games that are committed
-pub record IsKept {S : Type 0} (g : Ghosts S) (conn : Held S) (slots : Slots) : Type 0 where
+pub record HasCommittedGames {S : Type 0} (g : Ghosts S) (conn : Held S) (slots : Slots) : Type 0 where
   pub outside : conn.in_transaction ≡ false
   pub mirrors : HasCleanDisk (state g conn) → IsTrue (state g conn).is_open → Mirrors slots (state g conn).committed
 

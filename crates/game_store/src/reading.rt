@@ -9,7 +9,7 @@ ghost use Rattle.sqlite_catalog.specs.Listing.{IsSound};
 ghost use Rattle.game_store.specs.Moments.{WhereTrusted};
 ghost use Rattle.game_store.specs.Rows.{create_text, game_schema, no_schema};
 ghost use Rattle.game_store.specs.Slots.{game_at};
-ghost use Rattle.game_store.specs.Shelves.{HasRead, HoldsGames, IsReady, KeepsCommitted, MakesTable, Mirrors, ReadsGames, ReadsRows, TakesRow, Tells};
+ghost use Rattle.game_store.specs.Shelves.{HasRead, HoldsGames, IsReady, KeepsCommitted, MakesTable, Mirrors, ReadsGames, ReadsRows, TakesRow, TellsEntry};
 
 use crate::entry::Entry;
 use crate::fault::{OUT_OF_MEMORY, StoreFault, UNCOMMITTED};
@@ -74,7 +74,7 @@ fn stamp_of(row: &Row) -> Result<[u8; 16], StoreFault>
 
 /// The number of a row, and its record with its stamp.
 fn told_by(row: &Row) -> Result<(u32, Entry), StoreFault>
-    ensures { IfOk result (λ told. Tells row.now told.0 told.1) }
+    ensures { IfOk result (λ told. TellsEntry row.now told.0 told.1) }
 {
     let number: u32 = row.get(0).map_err(fault_of)?;
     let stamp = stamp_of(row)?;

@@ -23,7 +23,7 @@ pub struct Store<S: Alter> {
 }
 
 impl<S: Alter> Model for Store<S> {
-    ghost use Rattle.game_store.specs.Shelves.{IsKept, Shelf, shelf_code};
+    ghost use Rattle.game_store.specs.Shelves.{HasCommittedGames, Shelf, shelf_code};
 
     ghost Value = { Shelf S };
 
@@ -31,7 +31,7 @@ impl<S: Alter> Model for Store<S> {
 
     ghost view = { λ s. record { conn = s.conn; slots = s.memory } };
 
-    ghost invariant = { λ s. IsKept S.Store s.conn s.memory };
+    ghost invariant = { λ s. HasCommittedGames S.Store s.conn s.memory };
 }
 
 impl<S: Alter + Drop> Drop for Store<S> {

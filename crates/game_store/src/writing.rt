@@ -4,7 +4,7 @@ ghost use Rattle.std.specs.Prelude.{◌≡◌, ◌<◌, ◌^◌, false, length, 
 ghost use Rattle.sqlite.specs.State.{ExecutesInside, HasCleanDisk, KeepsCommit, Survives};
 ghost use Rattle.sqlite.specs.Held.{state};
 ghost use Rattle.game_store.specs.Moments.{InTransaction, WhereTrusted};
-ghost use Rattle.game_store.specs.Rows.{game_schema, given, put_text};
+ghost use Rattle.game_store.specs.Rows.{game_schema, put_parameters, put_text};
 ghost use Rattle.game_store.specs.Slots.{HaveNumbers, number_at};
 ghost use Rattle.game_store.specs.Batches.{AreOfBatch, PutsBatch, PutsRow};
 
@@ -20,7 +20,7 @@ fn run_put<S: Alter>(
 ) -> Result<usize, Error>
     ensures fits { (number < 2 ^ 32) × (entry.now.count < 2 ^ 32) × (length entry.now.stamp ≡ 16) }
     ensures same_reference { tx.new.conn.ghost_name ≡ tx.old.conn.ghost_name }
-    ensures runs { InTransaction (λ old new. ExecutesInside 0 put_text (given number entry.now) old new result) (state S.Store tx.old.conn.now) (state S.Store tx.new.conn.now) }
+    ensures runs { InTransaction (λ old new. ExecutesInside 0 put_text (put_parameters number entry.now) old new result) (state S.Store tx.old.conn.now) (state S.Store tx.new.conn.now) }
     ensures survives { Survives (state S.Store tx.old.conn.now) (state S.Store tx.new.conn.now) (λ _. ⊥) }
 {
     let stamp: &[u8] = &entry.stamp;
