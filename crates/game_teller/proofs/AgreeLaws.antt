@@ -21,7 +21,7 @@ use Rattle.system_io.specs.LineReaders.{ReadsLine}
 use Rattle.game_teller.specs.declared.lines.Stop.{Stop}
 use Rattle.game_teller.specs.declared.lines.Stop.TheVariants as stop
 use Rattle.game_teller.specs.Plies.{ply_words, stop_words}
-use Rattle.game_teller.specs.Followings.{Follows, FollowsTo, NotBegun, Open, Ruled, Stopped, StopsAt, TellsPlies, TellsPly}
+use Rattle.game_teller.specs.Followings.{Follows, FollowsTo, NotBegun, Open, Ruled, Stopped, StopsAfter, TellsPlies, TellsPly}
 use Rattle.game_teller.specs.Agreements.{AgreesIfKnown, AgreesWithGame, EndsWithLine, IsCutShort, IsLastLine}
 
 -- the last of some lines
@@ -123,7 +123,7 @@ module _ (one : HasOneMove) where
         let one_out : o ≡ outcome.Illegal place = one_outcome rules all o (outcome.Illegal place) h there in
         (told, stop_words (stop.Illegal place), wrote, subst (λ x. IsLastLine rules all x (stop_words (stop.Illegal place))) (sym one_out) (illegal_line all place))
 
-    by_stop : (now after : Option (List ℕ)) (moves all : List Moves) (told : List (List ℕ)) (o : GameOutcome) (why : Stop) (rest : List ℕ) (more : List Moves) → now ≡ Some rest → AreMoves (lines_in rest) more → all ≡ moves ++ more → StopsAt rules Stops now after moves why
+    by_stop : (now after : Option (List ℕ)) (moves all : List Moves) (told : List (List ℕ)) (o : GameOutcome) (why : Stop) (rest : List ℕ) (more : List Moves) → now ≡ Some rest → AreMoves (lines_in rest) more → all ≡ moves ++ more → StopsAfter rules Stops now after moves why
         → Appends old new (text_of (told ++ stop_words why ∷ [])) → IsOutcome rules all o → EndsWithLine old new (IsLastLine rules all o) ⊎ EndsWithLine old new IsCutShort
     by_stop now after moves all told o (stop.NotAMove place) rest more here left is (at, (line, read, bad)) wrote h =
         let next = read_one rest after line (subst (λ x. ReadsLine x after line) here read) in

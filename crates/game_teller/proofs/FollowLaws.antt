@@ -30,7 +30,7 @@ use Rattle.game_teller.specs.declared.following.Course.{Course}
 use Rattle.game_teller.specs.declared.lines.Stop.{Stop}
 use Rattle.game_teller.specs.declared.lines.Stop.TheVariants as stop
 use Rattle.game_teller.specs.Plies.{ply_words, stop_words}
-use Rattle.game_teller.specs.Followings.{AtBegin, AtPly, AtStop, CutsGame, Follows, FollowsTo, HasFollowed, NotBegun, Open, Ruled, Stopped, StopsAt, TellsPlies, TellsPly}
+use Rattle.game_teller.specs.Followings.{AtBegin, AtPly, AtStop, CutsGame, Follows, FollowsTo, HasFollowed, NotBegun, Open, Ruled, Stopped, StopsAfter, TellsPlies, TellsPly}
 use Rattle.game_teller.specs.Inside.Steps.{HasBegun, HasTurned, IsNoTurn, PutsPly, StepCuts, stop_by}
 
 -- no ply before the one after a further move has a verdict
@@ -172,7 +172,7 @@ module _ (rules : Rules) where
     all_read mid new h end same = Open now h.moves h.told h.has h.going end (subst (λ o. Appends old o (text_of h.told)) (sym same) h.written) refl
 
     -- why no more is told was written
-    stopped : (next mid new : Option (List ℕ)) (h : FollowedSoFar count left now old mid s) (why : Stop) → StopsAt rules Stops now next h.moves why → Appends mid new (ended (stop_words why)) → Follows rules Stops left old new false
+    stopped : (next mid new : Option (List ℕ)) (h : FollowedSoFar count left now old mid s) (why : Stop) → StopsAfter rules Stops now next h.moves why → Appends mid new (ended (stop_words why)) → Follows rules Stops left old new false
     stopped next mid new h why stops wrote = Stopped now next h.moves h.told h.has h.going why stops (more_lines old mid new h.told (stop_words why) h.written wrote) refl
 
     illegal_at : (mid : Option (List ℕ)) (h : FollowedSoFar count left now old mid s) (m : Moves) → position_after s.position m ≡ None → IsOutcome rules (h.moves ++ m ∷ []) (outcome.Illegal (length h.moves))
@@ -191,7 +191,7 @@ module _ (rules : Rules) where
     next_position : (mid : Option (List ℕ)) (h : FollowedSoFar count left now old mid s) (m : Moves) (p : Parts) → position_after s.position m ≡ Some p → position_after_all rules.start (h.moves ++ m ∷ []) ≡ Some p
     next_position mid h m p is = goes_on rules.start h.moves m ∙ ap (option_and_then (λ q. position_after q m)) h.at.position ∙ is
 
-    stops_at : (tables : Tables) → rules.tables ≡ tables → (next mid : Option (List ℕ)) (h : FollowedSoFar count left now old mid s) (line : List ℕ) (why : Stop) → ReadsLine now next line → IsNoTurn tables s.position count line why → StopsAt rules Stops now next h.moves why
+    stops_at : (tables : Tables) → rules.tables ≡ tables → (next mid : Option (List ℕ)) (h : FollowedSoFar count left now old mid s) (line : List ℕ) (why : Stop) → ReadsLine now next line → IsNoTurn tables s.position count line why → StopsAfter rules Stops now next h.moves why
     stops_at tables same next mid h line (stop.NotAMove place) read (is, bad) = (is ∙ sym h.count_is, (line, read, bad))
     stops_at tables same next mid h line (stop.Illegal place) read (is, (m, spelled, none)) =
         let here : place ≡ length h.moves = is ∙ sym h.count_is in
@@ -199,7 +199,7 @@ module _ (rules : Rules) where
     stops_at tables same next mid h line stop.Unread read bad = absurd bad
     stops_at tables same next mid h line stop.OutOfMemory read (m, p, spelled, is, lists) = inr (line, m, p, read, spelled, next_position mid h m p is, subst (λ t. ListsMovesForVerdict t p) (sym same) lists)
 
-    stops_by_fault : (next mid : Option (List ℕ)) (h : FollowedSoFar count left now old mid s) (fault : ReadFault) → Stops fault → StopsAt rules Stops now next h.moves (stop_by fault)
+    stops_by_fault : (next mid : Option (List ℕ)) (h : FollowedSoFar count left now old mid s) (fault : ReadFault) → Stops fault → StopsAfter rules Stops now next h.moves (stop_by fault)
     stops_by_fault next mid h read.Unreadable is = inl is
     stops_by_fault next mid h read.OutOfMemory is = inl is
 
@@ -246,7 +246,7 @@ module _ (rules : Rules) where
 
 -- ---- another reason for a failure
 
-stops_so : (rules : Rules) (Now Stops : ReadFault → Type 0) → ((fault : ReadFault) → Now fault → Stops fault) → (now after : Option (List ℕ)) (moves : List Moves) (why : Stop) → StopsAt rules Now now after moves why → StopsAt rules Stops now after moves why
+stops_so : (rules : Rules) (Now Stops : ReadFault → Type 0) → ((fault : ReadFault) → Now fault → Stops fault) → (now after : Option (List ℕ)) (moves : List Moves) (why : Stop) → StopsAfter rules Now now after moves why → StopsAfter rules Stops now after moves why
 stops_so rules Now Stops back now after moves (stop.NotAMove place) h = h
 stops_so rules Now Stops back now after moves (stop.Illegal place) h = h
 stops_so rules Now Stops back now after moves stop.Unread (inl h) = inl (back read.Unreadable h)

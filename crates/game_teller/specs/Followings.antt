@@ -46,11 +46,11 @@ pub record HasFollowed (rules : Rules) (left now : Option (List ℕ)) (moves : L
 
 -- why no more is told after these moves: the next line is no move; or its move isn't legal; or the input fails, or 2^64 - 1 moves were
 -- read; or memory was refused, for reading or for the verdict after the next move
-abbrev pub StopsAt : Rules → (ReadFault → Type 0) → Option (List ℕ) → Option (List ℕ) → List Moves → Stop → Type 0
-StopsAt rules Stops now after moves (stop.NotAMove place) = (place ≡ length moves) × ((line : List ℕ) × ReadsLine now after line × ((m : Moves) → SpellsMove line m → ⊥))
-StopsAt rules Stops now after moves (stop.Illegal place) = (place ≡ length moves) × ((line : List ℕ) × (m : Moves) × ReadsLine now after line × SpellsMove line m × IsOutcome rules (moves ++ m ∷ []) (outcome.Illegal place))
-StopsAt rules Stops now after moves stop.Unread = Stops read.Unreadable ⊎ (2 ^ 64 - 1 ≤ length moves)
-StopsAt rules Stops now after moves stop.OutOfMemory =
+abbrev pub StopsAfter : Rules → (ReadFault → Type 0) → Option (List ℕ) → Option (List ℕ) → List Moves → Stop → Type 0
+StopsAfter rules Stops now after moves (stop.NotAMove place) = (place ≡ length moves) × ((line : List ℕ) × ReadsLine now after line × ((m : Moves) → SpellsMove line m → ⊥))
+StopsAfter rules Stops now after moves (stop.Illegal place) = (place ≡ length moves) × ((line : List ℕ) × (m : Moves) × ReadsLine now after line × SpellsMove line m × IsOutcome rules (moves ++ m ∷ []) (outcome.Illegal place))
+StopsAfter rules Stops now after moves stop.Unread = Stops read.Unreadable ⊎ (2 ^ 64 - 1 ≤ length moves)
+StopsAfter rules Stops now after moves stop.OutOfMemory =
     Stops read.OutOfMemory ⊎ ((line : List ℕ) × (m : Moves) × (p : Parts) × ReadsLine now after line × SpellsMove line m × (position_after_all rules.start (moves ++ m ∷ []) ≡ Some p) × ListsMovesForVerdict rules.tables p)
 
 -- The moves that were read come to a verdict, and no more is read; or the input has ended, and they come to none; or no more is told of
@@ -58,7 +58,7 @@ StopsAt rules Stops now after moves stop.OutOfMemory =
 pub data Follows (rules : Rules) (Stops : ReadFault → Type 0) (left old new : Option (List ℕ)) (done : Bool) : Type 0 where
   Ruled : (now : Option (List ℕ)) (moves : List Moves) (told : List (List ℕ)) → HasFollowed rules left now moves told → (verdict : Verdict) → IsOutcome rules moves (outcome.Ruled (length moves) verdict) → Appends old new (text_of told) → done ≡ true → Follows rules Stops left old new done
   Open : (now : Option (List ℕ)) (moves : List Moves) (told : List (List ℕ)) → HasFollowed rules left now moves told → IsOutcome rules moves outcome.Going → IsAtEnd now → Appends old new (text_of told) → done ≡ true → Follows rules Stops left old new done
-  Stopped : (now after : Option (List ℕ)) (moves : List Moves) (told : List (List ℕ)) → HasFollowed rules left now moves told → IsOutcome rules moves outcome.Going → (why : Stop) → StopsAt rules Stops now after moves why → Appends old new (text_of (told ++ stop_words why ∷ [])) → done ≡ false → Follows rules Stops left old new done
+  Stopped : (now after : Option (List ℕ)) (moves : List Moves) (told : List (List ℕ)) → HasFollowed rules left now moves told → IsOutcome rules moves outcome.Going → (why : Stop) → StopsAfter rules Stops now after moves why → Appends old new (text_of (told ++ stop_words why ∷ [])) → done ≡ false → Follows rules Stops left old new done
   NotBegun : ListsMovesForVerdict rules.tables rules.start → Appends old new (ended (stop_words stop.OutOfMemory)) → done ≡ false → Follows rules Stops left old new done
 
 -- What a writer that failed leaves: the lines of the plies so far, of the last of which a front, where no ply before it has a verdict; or
@@ -66,7 +66,7 @@ pub data Follows (rules : Rules) (Stops : ReadFault → Type 0) (left old new : 
 -- refused for the start.
 pub data CutsGame (rules : Rules) (Stops : ReadFault → Type 0) (left old new : Option (List ℕ)) : Type 0 where
   AtPly : (now : Option (List ℕ)) (moves : List Moves) (told : List (List ℕ)) (last : List ℕ) → HasFollowed rules left now moves (told ++ last ∷ []) → IsUnruled rules moves (length moves) → CutsAfter told last old new → CutsGame rules Stops left old new
-  AtStop : (now after : Option (List ℕ)) (moves : List Moves) (told : List (List ℕ)) → HasFollowed rules left now moves told → IsOutcome rules moves outcome.Going → (why : Stop) → StopsAt rules Stops now after moves why → CutsAfter told (stop_words why) old new → CutsGame rules Stops left old new
+  AtStop : (now after : Option (List ℕ)) (moves : List Moves) (told : List (List ℕ)) → HasFollowed rules left now moves told → IsOutcome rules moves outcome.Going → (why : Stop) → StopsAfter rules Stops now after moves why → CutsAfter told (stop_words why) old new → CutsGame rules Stops left old new
   AtBegin : ListsMovesForVerdict rules.tables rules.start → HasFront old new (ended (stop_words stop.OutOfMemory)) → CutsGame rules Stops left old new
 
 -- the game is told; or the writer failed on the way

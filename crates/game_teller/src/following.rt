@@ -10,7 +10,7 @@ ghost use Rattle.line_teller.specs.ToldLines.{HasFailed, TellsInTurn, stops_by};
 ghost use Rattle.system_io.specs.declared.reading.ReadFault.{ReadFault};
 ghost use Rattle.game_teller.specs.Agreements.{AgreesIfKnown};
 ghost use Rattle.game_teller.specs.Followings.{FollowsInTurn, FollowsTo, rules_by};
-ghost use Rattle.game_teller.specs.Inside.Steps.{CutsPly, HasBegun, IsNoNext, LineCuts, LineSteps, PutsPly, StepCuts, Steps, Turns, stop_by};
+ghost use Rattle.game_teller.specs.Inside.Steps.{CutsPly, HasBegun, IsNoNext, LineCuts, LineSteps, PutsPly, StepCuts, StepsByLine, TurnsByLine, stop_by};
 
 use crate::lines::{Stop, put_ply_now, put_stop};
 use board_core::{Position, Verdict};
@@ -72,7 +72,7 @@ fn stop_by(fault: ReadFault) -> Stop
 impl<'a> Course<'a> {
     /// Plays the move of a line, and judges the ply that it leads to.
     fn turn(&mut self, number: usize, line: &[u8]) -> Result<(), Stop>
-        ensures turns { Turns self.old.set.tables number self.old.standing line.now self.new.standing result }
+        ensures turns { TurnsByLine self.old.set.tables number self.old.standing line.now self.new.standing result }
         ensures set { self.new.set ≡ self.old.set }
         ensures delay { self.new.delay ≡ self.old.delay }
     {
@@ -148,7 +148,7 @@ impl<'a> Course<'a> {
         requires more { number < 2 ^ 64 - 1 }
         // No line is awaited before what was told has gone out.
         requires gone { (W.facts out.old).gone }
-        ensures steps { IfOk result (Steps (L.facts reader.old) (L.facts reader.new).left self.old number self.new.standing (W.contents out.old) (W.contents out.new)) }
+        ensures steps { IfOk result (StepsByLine (L.facts reader.old) (L.facts reader.new).left self.old number self.new.standing (W.contents out.old) (W.contents out.new)) }
         ensures front { OnErr result (StepCuts (L.facts reader.old) (L.facts reader.new).left self.old number self.new.standing (W.contents out.old) (W.contents out.new)) }
         ensures cause { OnErr result (HasFailed W.facts) }
         ensures gone { IfOk result (λ step. (v : Option Verdict) → step ≡ Step.Told v → (W.facts out.new).gone) }

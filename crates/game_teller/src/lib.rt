@@ -5,7 +5,7 @@
 //! carries the `Standing` of judge_core from ply to ply, so that each position is judged once. `lines` has the lines, `following`
 //! the run.
 //!
-//! Definitions: `Plies`, `Followings` (`TellsPlies`, `StopsAt`, `Follows`), over `IsOutcome` of judge_core; `Agreements`. Its cases stand
+//! Definitions: `Plies`, `Followings` (`TellsPlies`, `StopsAfter`, `Follows`), over `IsOutcome` of judge_core; `Agreements`. Its cases stand
 //! in `follow.txt` of `rows`.
 //!
 //! - CLAIM: `follow_game`, clause `follows`: each ply to the first verdict, to the input's end or to the first line that gives no

@@ -42,9 +42,9 @@ HasTurned tables old line new =
     (m : Moves) × (p : Parts) × SpellsMove line m × (position_after old.position m ≡ Some p)
     × ((rules : Rules) (moves : List Moves) → rules.tables ≡ tables → IsAt rules moves old → IsAt rules (moves ++ m ∷ []) new)
 
-abbrev pub Turns : {T : Type 0} → Tables → ℕ → Reached → List ℕ → Reached → Result T Stop → Type 0
-Turns tables number old line new (Ok x) = HasTurned tables old line new
-Turns tables number old line new (Err why) = IsNoTurn tables old.position number line why
+abbrev pub TurnsByLine : {T : Type 0} → Tables → ℕ → Reached → List ℕ → Reached → Result T Stop → Type 0
+TurnsByLine tables number old line new (Ok x) = HasTurned tables old line new
+TurnsByLine tables number old line new (Err why) = IsNoTurn tables old.position number line why
 
 -- a verdict stands there by this delay
 abbrev pub HasVerdict : ℕ → Reached → Option Verdict → Type 0
@@ -70,10 +70,10 @@ stop_by read.Unreadable = stop.Unread
 stop_by read.OutOfMemory = stop.OutOfMemory
 
 -- what came of the next line of an input, by the tables and the delay of the game that is followed
-abbrev pub Steps : LineFacts → Option (List ℕ) → Course → ℕ → Reached → Option (List ℕ) → Option (List ℕ) → Step → Type 0
-Steps input now old number new out out' (step.Told verdict) = (line : List ℕ) × ReadsLine input.left now line × HasTurned old.set.tables old.standing line new × PutsPly old.delay (number + 1) new out out' verdict
-Steps input now old number new out out' step.Ended = IsAtEnd input.left × (out' ≡ out)
-Steps input now old number new out out' step.Stopped =
+abbrev pub StepsByLine : LineFacts → Option (List ℕ) → Course → ℕ → Reached → Option (List ℕ) → Option (List ℕ) → Step → Type 0
+StepsByLine input now old number new out out' (step.Told verdict) = (line : List ℕ) × ReadsLine input.left now line × HasTurned old.set.tables old.standing line new × PutsPly old.delay (number + 1) new out out' verdict
+StepsByLine input now old number new out out' step.Ended = IsAtEnd input.left × (out' ≡ out)
+StepsByLine input now old number new out out' step.Stopped =
     ((line : List ℕ) × (why : Stop) × ReadsLine input.left now line × IsNoTurn old.set.tables old.standing.position number line why × Appends out out' (ended (stop_words why)))
     ⊎ ((fault : ReadFault) × stops_by input fault × Appends out out' (ended (stop_words (stop_by fault))))
 
