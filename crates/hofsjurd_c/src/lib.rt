@@ -35,7 +35,7 @@ ghost use Rattle.probe_api.specs.declared.asking.Question.TheVariants.{Wdl, Dtz,
 ghost use Rattle.probe_api.specs.Adding.{Adds};
 ghost use Rattle.probe_api.specs.Batches.{TellsBoards};
 ghost use Rattle.probe_api.specs.Moves.{PutsMovesOfBoard, PutsMovesOfText};
-ghost use Rattle.probe_api.specs.Names.{status_name, verdict_name};
+ghost use Rattle.probe_api.specs.Names.{numbered_verdict_name, status_name};
 ghost use Rattle.probe_api.specs.Plays.{TellsMoveNumbers, TellsMoveText};
 ghost use Rattle.probe_api.specs.Replies.{TellsBoard, TellsText, refused, told, verdict_number};
 ghost use Rattle.probe_api.specs.Texts.{PutsText};
@@ -409,7 +409,7 @@ pub extern "C" fn hofsjurd_status_name(status: u32, room: &mut [u8]) -> usize
 /// Writes the name of a verdict by its number, 1 to 7, and `open` for 0.
 #[unsafe(no_mangle)]
 pub extern "C" fn hofsjurd_verdict_name(number: u32, room: &mut [u8]) -> usize
-    ensures { PutsText (verdict_name number) room.old result room.new }
+    ensures { PutsText (numbered_verdict_name number) room.old result room.new }
 {
     probe_api::put_text(probe_api::verdict_name(number).as_bytes(), room)
 }
