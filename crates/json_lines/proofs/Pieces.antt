@@ -17,7 +17,7 @@ use Rattle.json.proofs.Printed.Tokens.{print_from-append, tokens-print}
 use Rattle.json.proofs.Printed.Strings.{escape_byte_plain}
 use Rattle.json.proofs.Printed.Trees.{value-json_tokens}
 use Rattle.json_lines.specs.declared.members.Member.{Member}
-use Rattle.json_lines.specs.Inside.Members.{Writes, ended_by, members_of, open_items, open_tokens, value_json}
+use Rattle.json_lines.specs.Inside.Members.{Writes, members_of, open_items, open_tokens, value_ends_behind, value_json}
 use Rattle.json_lines.specs.Objects.{followed_by, json_text}
 
 -- ---- printing
@@ -46,7 +46,7 @@ no_text later = refl
 -- ---- what ends
 
 mutual
-  pub ended_json : (later : Bool) (j : Json) → ended_by later (json_tokens j) ≡ true
+  pub ended_json : (later : Bool) (j : Json) → value_ends_behind later (json_tokens j) ≡ true
   ended_json later null = refl
   ended_json later (boolean b) = refl
   ended_json later (number s) = refl
@@ -54,11 +54,11 @@ mutual
   ended_json later (array js) = ended_items false js
   ended_json later (object ms) = ended_members false ms
 
-  ended_items : (later : Bool) (js : Items) → ended_by later (items_tokens js) ≡ true
+  ended_items : (later : Bool) (js : Items) → value_ends_behind later (items_tokens js) ≡ true
   ended_items later no_items = refl
   ended_items later (item j js) = fold-append _ later (json_tokens j) (items_tokens js) ∙ ended_items _ js
 
-  ended_members : (later : Bool) (ms : Members) → ended_by later (members_tokens ms) ≡ true
+  ended_members : (later : Bool) (ms : Members) → value_ends_behind later (members_tokens ms) ≡ true
   ended_members later no_members = refl
   ended_members later (member k j ms) = fold-append _ false (json_tokens j) (members_tokens ms) ∙ ended_members _ ms
 
@@ -70,7 +70,7 @@ writes_nothing later old = record { text = subst (Appends old old) (sym (no_text
 pub writes_one : (later : Bool) (t : Token) (old new : Option (List ℕ)) → IsPrintable t → Appends old new (separator later t ++ token_text t) → Writes later (t ∷ []) old new
 writes_one later t old new h text = record { text = subst (Appends old new) (sym (one_text later t)) text; printable = one_printable t h }
 
-pub writes_both : (later : Bool) (ts us : List Token) (old mid new : Option (List ℕ)) → Writes later ts old mid → Writes (ended_by later ts) us mid new → Writes later (ts ++ us) old new
+pub writes_both : (later : Bool) (ts us : List Token) (old mid new : Option (List ℕ)) → Writes later ts old mid → Writes (value_ends_behind later ts) us mid new → Writes later (ts ++ us) old new
 writes_both later ts us old mid new a b = record {
   text = subst (Appends old new) (sym (print_from-append later ts us)) (Appends-trans old mid new _ _ a.text b.text);
   printable = both_printable ts us a.printable b.printable;
@@ -121,9 +121,9 @@ pub parts_are : (front rest : List ℕ) (old mid new : Option (List ℕ)) → Ap
 parts_are front rest old mid new a b = subst (Appends old new) (sym (flat_map-append escape_byte front rest)) (Appends-trans old mid new _ _ a b)
 
 -- behind members a comma stands
-pub ended_open : (k : List ℕ) (j : Json) (later : Bool) (ms : Members) → ended_by later (open_tokens (member k j ms)) ≡ true
-ended_open k j later no_members = ap (λ ts. ended_by false ts) (append-nil (json_tokens j)) ∙ ended_json false j
-ended_open k j later (member l i ms) = fold-append _ false (json_tokens j) (open_tokens (member l i ms)) ∙ ended_open l i (ended_by false (json_tokens j)) ms
+pub ended_open : (k : List ℕ) (j : Json) (later : Bool) (ms : Members) → value_ends_behind later (open_tokens (member k j ms)) ≡ true
+ended_open k j later no_members = ap (λ ts. value_ends_behind false ts) (append-nil (json_tokens j)) ∙ ended_json false j
+ended_open k j later (member l i ms) = fold-append _ false (json_tokens j) (open_tokens (member l i ms)) ∙ ended_open l i (value_ends_behind false (json_tokens j)) ms
 
 -- ---- members and items in two parts
 

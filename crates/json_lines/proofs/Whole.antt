@@ -8,7 +8,7 @@ use Rattle.board_core.specs.declared.parts.Parts.{Parts}
 use Rattle.board_core.specs.declared.verdict.Verdict.{Verdict}
 use Rattle.judge_core.specs.declared.fault.ProbeFault.{ProbeFault}
 use Rattle.judge_core.specs.declared.probed.Probed.{Probed}
-use Rattle.judge_core.specs.Words.{fault_words}
+use Rattle.judge_core.specs.Words.{probe_fault_words}
 use Rattle.json.specs.Token.{begin_array, begin_object, end_array, end_object, key}
 use Rattle.json.specs.Json.{Json, array, object, string, Items, Members, no_members, member, document}
 use Rattle.json.specs.Tree.{depth, items_depth, json_tokens, members_depth}
@@ -16,8 +16,8 @@ use Rattle.json_lines.specs.declared.members.Member.{Member}
 use Rattle.json_lines.specs.declared.told.JsonLine.{JsonLine}
 use Rattle.json_lines.specs.declared.told.JsonLine.TheVariants as line
 use Rattle.json_lines.specs.declared.told.MoveTold.{MoveTold}
-use Rattle.json_lines.specs.Inside.Members.{Writes, ended_by, members_of, open_items, open_tokens, value_json}
-use Rattle.json_lines.specs.Objects.{error_members, fault_members, first_fault, followed_by, json_text, line_json, move_json, move_members, moves_items, moves_members, number_or_null, position_members, verdict_or_null}
+use Rattle.json_lines.specs.Inside.Members.{Writes, members_of, open_items, open_tokens, value_ends_behind, value_json}
+use Rattle.json_lines.specs.Objects.{error_members, fault_members, first_probe_fault, followed_by, json_text, line_json, move_json, move_members, moves_items, moves_members, number_or_null, position_members, verdict_or_null}
 use Rattle.json_lines.proofs.Pieces.{closed_items, closed_members, ended_json, ended_open, open_followed, reads_back, writes_both, writes_more, writes_nothing, writes_one}
 
 -- ---- braces and brackets
@@ -32,7 +32,7 @@ end_list_written old new h false = writes_one false end_array old new tt h
 
 -- ---- objects
 
-ended_some : (later : Bool) (all : List Member) → 0 < length all → ended_by later (open_tokens (members_of all)) ≡ true
+ended_some : (later : Bool) (all : List Member) → 0 < length all → value_ends_behind later (open_tokens (members_of all)) ≡ true
 ended_some later [] h = absurd (omega (arith, h))
 ended_some later (m ∷ ms) h = ended_open m.name.now (value_json m.value) later (members_of ms)
 
@@ -79,12 +79,12 @@ alone_written k i j a b c d same begins one ends =
     object_written false (member k j no_members) a c d tt (writes_both false (begin_object ∷ []) (open_tokens (member k j no_members)) a b c begins (one_open false k j b c it)) ends
 
 -- why a value is missing, where none is and where one is
-pub no_error : (probed : Probed) (o : Option ProbeFault) (a : Option (List ℕ)) → o ≡ first_fault probed.wdl probed.dtz → o ≡ None → Writes true (open_tokens (error_members probed)) a a
+pub no_error : (probed : Probed) (o : Option ProbeFault) (a : Option (List ℕ)) → o ≡ first_probe_fault probed.wdl probed.dtz → o ≡ None → Writes true (open_tokens (error_members probed)) a a
 no_error probed o a is none = subst (λ x. Writes true (open_tokens (fault_members x)) a a) (sym none ∙ is) (writes_nothing true a)
 
-pub one_error : (probed : Probed) (o : Option ProbeFault) (fault : ProbeFault) (a b : Option (List ℕ)) → o ≡ first_fault probed.wdl probed.dtz → o ≡ Some fault → Writes true (key (codes "error") ∷ json_tokens (string (fault_words fault))) a b
+pub one_error : (probed : Probed) (o : Option ProbeFault) (fault : ProbeFault) (a b : Option (List ℕ)) → o ≡ first_probe_fault probed.wdl probed.dtz → o ≡ Some fault → Writes true (key (codes "error") ∷ json_tokens (string (probe_fault_words fault))) a b
     → Writes true (open_tokens (error_members probed)) a b
-one_error probed o fault a b is some h = subst (λ x. Writes true (open_tokens (fault_members x)) a b) (sym some ∙ is) (one_open true (codes "error") (string (fault_words fault)) a b h)
+one_error probed o fault a b is some h = subst (λ x. Writes true (open_tokens (fault_members x)) a b) (sym some ∙ is) (one_open true (codes "error") (string (probe_fault_words fault)) a b h)
 
 -- the members of the position after a move, each as it is told
 abbrev pub after_base : (fen wdl dtz category zeroing checkmate stalemate : Json) → Members
@@ -141,14 +141,14 @@ flat_position p probed verdict =
     let w = flat_number probed.wdl in
     let d = flat_number probed.dtz in
     let v = flat_verdict verdict in
-    let e = flat_fault (first_fault probed.wdl probed.dtz) in
+    let e = flat_fault (first_probe_fault probed.wdl probed.dtz) in
     omega (arith, w, d, v, e)
 
 flat_move : (t : MoveTold) → members_depth (move_members t) ≡ 0
 flat_move t =
     let w = flat_number t.probed.wdl in
     let d = flat_number t.probed.dtz in
-    let e = flat_fault (first_fault t.probed.wdl t.probed.dtz) in
+    let e = flat_fault (first_probe_fault t.probed.wdl t.probed.dtz) in
     omega (arith, w, d, e)
 
 moves_depth : (ts : List MoveTold) → items_depth (moves_items ts) ≤ 1

@@ -53,10 +53,10 @@ is_man test None = false
 is_man test (Some man) = test man.kind
 
 -- such a man stands on one of the 64 squares
-abbrev pub stands : (ℕ → Kind → Bool) → Parts → Bool
-stands test p = list_any (λ s. is_man (test s) (man_at p.men s)) (range_with_len 0 64)
+abbrev pub stands_anywhere : (ℕ → Kind → Bool) → Parts → Bool
+stands_anywhere test p = list_any (λ s. is_man (test s) (man_at p.men s)) (range_with_len 0 64)
 
 -- no pawn, rook or queen; and then at most three men, or no knight and all bishops on squares of one colour
 unfoldable pub is_insufficient : Parts → Bool
 is_insufficient p =
-    not (stands pawn_or_major p) && (nat_le (count_of_men p) 3 || (not (stands knight p) && not (stands light_bishop p && stands dark_bishop p)))
+    not (stands_anywhere pawn_or_major p) && (nat_le (count_of_men p) 3 || (not (stands_anywhere knight p) && not (stands_anywhere light_bishop p && stands_anywhere dark_bishop p)))

@@ -10,14 +10,14 @@ use Rattle.board_core.specs.Verdicts.{verdict_name}
 use Rattle.fen_text.specs.declared.fault.FenFault.{FenFault}
 use Rattle.fen_text.specs.declared.fault.FenFault.TheVariants as fen
 use Rattle.fen_text.specs.Coordinates.{move_text}
-use Rattle.fen_text.specs.Fen.{fault_name}
+use Rattle.fen_text.specs.Fen.{fen_fault_name}
 use Rattle.fen_text.specs.Written.{fen_of}
 use Rattle.judge_core.specs.declared.fault.ProbeFault.{ProbeFault}
 use Rattle.judge_core.specs.declared.probed.Probed.{Probed}
 use Rattle.judge_core.specs.declared.root_move.BoardState.{BoardState}
 use Rattle.judge_core.specs.declared.root_move.BoardState.TheVariants.{Open, Check, Checkmate, Stalemate}
 use Rattle.judge_core.specs.Root.{is_checkmate, state_of, zeroes_clock}
-use Rattle.judge_core.specs.Words.{fault_words}
+use Rattle.judge_core.specs.Words.{probe_fault_words}
 use Rattle.json.specs.Json.{Json, null, boolean, number, string, array, object, Items, no_items, item, Members, no_members, member}
 use Rattle.json.specs.Print.{print}
 use Rattle.json.specs.Tree.{json_tokens}
@@ -72,17 +72,17 @@ category_of Checkmate wdl = codes "loss"
 category_of Stalemate wdl = codes "draw"
 
 -- why a value is missing, the WDL value's fault first
-abbrev pub first_fault : Result ℤ ProbeFault → Result ℤ ProbeFault → Option ProbeFault
-first_fault (Ok wdl) (Ok dtz) = None
-first_fault (Ok wdl) (Err fault) = Some fault
-first_fault (Err fault) dtz = Some fault
+abbrev pub first_probe_fault : Result ℤ ProbeFault → Result ℤ ProbeFault → Option ProbeFault
+first_probe_fault (Ok wdl) (Ok dtz) = None
+first_probe_fault (Ok wdl) (Err fault) = Some fault
+first_probe_fault (Err fault) dtz = Some fault
 
 abbrev pub fault_members : Option ProbeFault → Members
 fault_members None = no_members
-fault_members (Some fault) = member (codes "error") (string (fault_words fault)) no_members
+fault_members (Some fault) = member (codes "error") (string (probe_fault_words fault)) no_members
 
 abbrev pub error_members : Probed → Members
-error_members probed = fault_members (first_fault probed.wdl probed.dtz)
+error_members probed = fault_members (first_probe_fault probed.wdl probed.dtz)
 
 -- ---- objects
 
@@ -129,12 +129,12 @@ moves_members ts = member (codes "moves") (array (moves_items ts)) no_members
 -- why a text is no position
 abbrev pub fen_error : FenFault → List ℕ
 fen_error (fen.BadPosition fault) = codes "FEN BadPosition " ++ position_fault_name fault
-fen_error fen.FieldCount = codes "FEN " ++ fault_name fen.FieldCount
-fen_error fen.BadPlacement = codes "FEN " ++ fault_name fen.BadPlacement
-fen_error fen.BadSide = codes "FEN " ++ fault_name fen.BadSide
-fen_error fen.BadCastlingText = codes "FEN " ++ fault_name fen.BadCastlingText
-fen_error fen.BadSquare = codes "FEN " ++ fault_name fen.BadSquare
-fen_error fen.BadNumber = codes "FEN " ++ fault_name fen.BadNumber
+fen_error fen.FieldCount = codes "FEN " ++ fen_fault_name fen.FieldCount
+fen_error fen.BadPlacement = codes "FEN " ++ fen_fault_name fen.BadPlacement
+fen_error fen.BadSide = codes "FEN " ++ fen_fault_name fen.BadSide
+fen_error fen.BadCastlingText = codes "FEN " ++ fen_fault_name fen.BadCastlingText
+fen_error fen.BadSquare = codes "FEN " ++ fen_fault_name fen.BadSquare
+fen_error fen.BadNumber = codes "FEN " ++ fen_fault_name fen.BadNumber
 
 abbrev pub fault_json : FenFault → Json
 fault_json fault = object (member (codes "error") (string (fen_error fault)) no_members)

@@ -26,8 +26,8 @@ pub record IsPositionTold (ask : Ask) (tables : Tables) (p : Parts) (t : Positio
   pub verdict : t.columns.verdict ≡ ruling tables p
 
 -- the legal moves by value, none where the position is out of scope
-abbrev pub AreMoves : Ask → Tables → Parts → List RootMove → Type 0
-AreMoves ask tables p moves = ((is_out_of_scope p ≡ true) × (moves ≡ [])) ⊎ ((is_out_of_scope p ≡ false) × IsRanked ask tables p moves)
+abbrev pub AreRootMoves : Ask → Tables → Parts → List RootMove → Type 0
+AreRootMoves ask tables p moves = ((is_out_of_scope p ≡ true) × (moves ≡ [])) ⊎ ((is_out_of_scope p ≡ false) × IsRanked ask tables p moves)
 
 -- a side that is mated has lost, and needs no table
 abbrev pub mated : Probed
@@ -53,7 +53,7 @@ AreMovesTold ask tables p (m ∷ ms) (t ∷ ts) = IsMoveTold ask tables p m t ×
 -- all legal moves, the best first
 pub record IsRootTold (ask : Ask) (tables : Tables) (p : Parts) (ts : List MoveTold) : Type 0 where
   pub moves : List RootMove
-  pub are : AreMoves ask tables p moves
+  pub are : AreRootMoves ask tables p moves
   pub told : AreMovesTold ask tables p moves ts
 
 -- the line of a position, with its moves or without

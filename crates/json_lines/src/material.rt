@@ -2,7 +2,7 @@
 
 ghost use Rattle.std.specs.Prelude.{◌≡◌};
 ghost use Rattle.json_lines.specs.Inside.Sought.{test_of};
-ghost use Rattle.json_lines.specs.Material.{is_insufficient, is_light, is_man, stands};
+ghost use Rattle.json_lines.specs.Material.{is_insufficient, is_light, is_man, stands_anywhere};
 
 use board_core::{Kind, Piece, Position, Square};
 
@@ -51,7 +51,7 @@ fn is_sought_man(sought: Sought, square: Square, man: Option<Piece>) -> bool
 
 /// Whether one of these is on the board.
 fn stands(position: &Position, sought: Sought) -> bool
-    ensures { result ≡ stands (test_of sought) position.now }
+    ensures { result ≡ stands_anywhere (test_of sought) position.now }
 {
     let mut found = false;
     for number in 0..64 {

@@ -7,9 +7,9 @@ ghost use Rattle.json.specs.Token.{begin_array, begin_object, end_array, end_obj
 ghost use Rattle.json.specs.Tree.{json_tokens};
 ghost use Rattle.json_lines.specs.Inside.Members.{Writes, members_of, open_items, open_tokens, value_json};
 ghost use Rattle.fen_text.specs.Coordinates.{move_text};
-ghost use Rattle.judge_core.specs.Words.{fault_words};
+ghost use Rattle.judge_core.specs.Words.{probe_fault_words};
 ghost use Rattle.place_index.specs.Material.{men_of, name_of};
-ghost use Rattle.json_lines.specs.Objects.{after_members, category, category_of, error_members, fault_json, fen_error, first_fault, followed_by, is_stalemate, json_text, line_json, move_json, move_members, moves_items, number_or_null, position_json, position_members, root_json, verdict_or_null};
+ghost use Rattle.json_lines.specs.Objects.{after_members, category, category_of, error_members, fault_json, fen_error, first_probe_fault, followed_by, is_stalemate, json_text, line_json, move_json, move_members, moves_items, number_or_null, position_json, position_members, root_json, verdict_or_null};
 
 use crate::material::is_insufficient;
 use crate::members::{Member, Value, put_comma, put_key, put_member, put_members};
@@ -87,7 +87,7 @@ fn is_stalemate(state: BoardState) -> bool
 
 /// Why a value is missing, the WDL value's fault first.
 fn first_fault(probed: &Probed) -> Option<ProbeFault>
-    ensures { result ≡ first_fault probed.now.wdl probed.now.dtz }
+    ensures { result ≡ first_probe_fault probed.now.wdl probed.now.dtz }
 {
     match (probed.wdl, probed.dtz) {
         (Err(fault), _) => Some(fault),
@@ -114,7 +114,7 @@ fn put_fault_of_table<W: Write>(
 
 /// Writes a fault as a member.
 fn put_fault<W: Write>(out: &mut W, fault: ProbeFault) -> Result<(), WriteFault>
-    ensures { OnOk result (Writes true (key (codes "error") ∷ json_tokens (string (fault_words fault))) (W.contents out.old) (W.contents out.new)) }
+    ensures { OnOk result (Writes true (key (codes "error") ∷ json_tokens (string (probe_fault_words fault))) (W.contents out.old) (W.contents out.new)) }
 {
     match fault {
         ProbeFault::NotCovered(material) => put_fault_of_table(out, "NotCovered ", material),

@@ -12,8 +12,8 @@ use Rattle.json_lines.specs.declared.members.Value.TheVariants as value
 use Rattle.json_lines.specs.declared.members.Member.{Member}
 
 -- a value behind these tokens ends, or one begins
-abbrev pub ended_by : Bool → List Token → Bool
-ended_by later ts = fold (λ _ t. ends t) later ts
+abbrev pub value_ends_behind : Bool → List Token → Bool
+value_ends_behind later ts = fold (λ _ t. ends t) later ts
 
 -- the text of these tokens was written, with a comma before it where a value stands before and the first begins one
 pub record Writes (later : Bool) (ts : List Token) (old new : Option (List ℕ)) : Type 0 where
