@@ -16,7 +16,7 @@ use Rattle.judge_core.specs.Ends.{has_no_move}
 use Rattle.judge_core.specs.Probing.{wdl_of}
 use Rattle.judge_core.specs.Ruling.{end_of, is_out_of_scope, ruling, ruling_by}
 use Rattle.judge_core.specs.Tables.{Tables}
-use Rattle.judge_core.specs.Probed.{IsProbed, number_of, numbered}
+use Rattle.judge_core.specs.Probed.{IsProbed, numbered, wdl_number}
 use Rattle.judge_core.specs.Values.{Reading}
 use Rattle.judge_core.proofs.Reaching.{few_men}
 
@@ -30,13 +30,13 @@ is_probe (Ok x) reading outside scope e = (scope, sym e)
 is_probe (Err (NotCovered key)) reading outside scope e = (scope, sym e)
 is_probe (Err (Damaged key)) reading outside scope e = (scope, sym e)
 
-pub is_numbered : (value : Reading) → numbered (as_probe (λ x. x) value) ≡ as_probe number_of value
+pub is_numbered : (value : Reading) → numbered (as_probe (λ x. x) value) ≡ as_probe wdl_number value
 is_numbered (Ok v) = refl
 is_numbered (Err fault) = refl
 
 module _ (tables : Tables) (p : Parts) where
   pub probed_by : (value : Reading) (reach : Reach) (probed : Probed) → is_out_of_scope p ≡ false → value ≡ wdl_of tables p → reach ≡ dtz_of tables p
-      → probed.wdl ≡ as_probe number_of value → probed.dtz ≡ as_probe (λ n. n) (signed_in reach) → IsProbed tables p probed
+      → probed.wdl ≡ as_probe wdl_number value → probed.dtz ≡ as_probe (λ n. n) (signed_in reach) → IsProbed tables p probed
   probed_by value reach probed scope ev er ew ed = record {
     wdl = as_probe (λ x. x) value;
     dtz = as_probe (λ x. x) (signed_in reach);

@@ -13,10 +13,10 @@ use Rattle.judge_core.specs.declared.fault.ValueFault.{ValueFault}
 use Rattle.judge_core.specs.declared.found.Weighed.{Weighed}
 use Rattle.judge_core.specs.declared.wdl.Wdl.{Wdl}
 use Rattle.judge_core.specs.declared.wdl.Wdl.TheVariants.{Loss, BlessedLoss, Draw, CursedWin, Win as Best}
-use Rattle.judge_core.specs.Values.{Reading, opposite, turned, is_same, outcome_of}
+use Rattle.judge_core.specs.Values.{Reading, opposite, opposite_reading, is_same, outcome_of}
 use Rattle.judge_core.specs.Tables.{Tables}
 use Rattle.judge_core.specs.Asked.{asked}
-use Rattle.judge_core.specs.Probing.{after, wdl_where, worth}
+use Rattle.judge_core.specs.Probing.{values_after, wdl_where, worth}
 use Rattle.judge_core.specs.Distances.{is_won, is_value, is_pawn_step, is_by_capture, pawns_reach_where, zeroing, towards}
 use Rattle.judge_core.specs.Determined.{IsDetermined, IsByCapture, IsByPawnMove}
 use Rattle.judge_core.specs.Inside.Determined.{extreme_value, extreme_weighed, in_both, value_in_both, pawns_reach_in_both, is_reached, zeroing_distance, agreed_distance}
@@ -63,11 +63,11 @@ module _ (v : Wdl) (say : Parts → Reading) (p : Parts) (t : Move → Bool) whe
           here false eb e = one_later m ms (rest e)
 
 module _ (tables : Tables) (p : Parts) (position : IsPosition p) (v : Wdl) where
-  determined_next : (q : Parts) → IsPosition q → is_value v (turned (value_in_both tables (opposite v) q)) ≡ true → IsDetermined tables q (opposite v)
+  determined_next : (q : Parts) → IsPosition q → is_value v (opposite_reading (value_in_both tables (opposite v) q)) ≡ true → IsDetermined tables q (opposite v)
   unfolding value_in_both
   determined_next q after e = from_turned (in_both (opposite v) (extreme_value tables true q) (extreme_value tables false q)) refl e
     where
-      from_turned : (r : Reading) → in_both (opposite v) (extreme_value tables true q) (extreme_value tables false q) ≡ r → is_value v (turned r) ≡ true → IsDetermined tables q (opposite v)
+      from_turned : (r : Reading) → in_both (opposite v) (extreme_value tables true q) (extreme_value tables false q) ≡ r → is_value v (opposite_reading r) ≡ true → IsDetermined tables q (opposite v)
       from_turned (Err fault) er e = absurd (false≢true e)
       from_turned (Ok z) er e =
           let parts = in_both-ok (opposite v) (extreme_value tables true q) (extreme_value tables false q) z er in
@@ -79,8 +79,8 @@ module _ (tables : Tables) (p : Parts) (position : IsPosition p) (v : Wdl) where
   unfolding pawns_reach_where
   by_pawn_move e =
       let parts = unless_ok _ _ true e in
-      let any : list_any (is_value v) (after (value_in_both tables (opposite v)) p (filter (is_pawn_step p) (legal_moves p))) ≡ true = reached_of _ _ e in
-      let say : Parts → Reading = λ q. turned (value_in_both tables (opposite v) q) in
+      let any : list_any (is_value v) (values_after (value_in_both tables (opposite v)) p (filter (is_pawn_step p) (legal_moves p))) ≡ true = reached_of _ _ e in
+      let say : Parts → Reading = λ q. opposite_reading (value_in_both tables (opposite v) q) in
       let found = found_among v say p (is_pawn_step p) (legal_moves p) any in
       record {
         step = found.step;
@@ -89,7 +89,7 @@ module _ (tables : Tables) (p : Parts) (position : IsPosition p) (v : Wdl) where
         next = found.next;
         leads = found.leads;
         value = determined_next found.next (still p found.next found.step position found.leads) found.has;
-        whole = λ own completes. (all_reached v say (λ q. turned (wdl_where own q)) p (is_pawn_step p) (λ m q t a. both_reach tables own completes v q (still p q m position a)) (legal_moves p) parts.0).0;
+        whole = λ own completes. (all_reached v say (λ q. opposite_reading (wdl_where own q)) p (is_pawn_step p) (λ m q t a. both_reach tables own completes v q (still p q m position a)) (legal_moves p) parts.0).0;
       }
 
 -- ---- the distance

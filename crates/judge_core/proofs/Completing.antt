@@ -17,15 +17,15 @@ use Rattle.place_index.specs.declared.man.Man.{Man}
 use Rattle.table_file.specs.declared.kind.TableKind.TheVariants.{Wdl}
 use Rattle.table_file.specs.declared.parts.Part.{Part}
 use Rattle.table_file.specs.declared.size_record.Coding.TheVariants.{Single}
-use Rattle.table_file.specs.Files.{sides_of, is_symmetric}
+use Rattle.table_file.specs.Files.{side_count, is_symmetric}
 use Rattle.place_index.specs.Index.{index_of}
 use Rattle.table_file.specs.Expansion.{expansion, expanded_part, entry_at}
-use Rattle.table_file.specs.Tables.{Contents, part_for, part_of, place_of, shape_in, lengths_of, blocks_of}
+use Rattle.table_file.specs.Tables.{Contents, part_for, part_of, part_place, shape_in, lengths_of, blocks_of}
 use Rattle.judge_core.specs.declared.wdl.Wdl.{Wdl as Value}
 use Rattle.judge_core.specs.declared.wdl.Wdl.TheVariants.{Draw}
 use Rattle.judge_core.specs.LookUp.{material_of, placed_of, is_exchanged, placement}
 use Rattle.judge_core.specs.Values.{of_points}
-use Rattle.judge_core.specs.Tables.{Tables, table_at, table_value, value_of, value_in, value_or_damaged, entry_in, entry_of}
+use Rattle.judge_core.specs.Tables.{Tables, table_at, table_value, value_of, value_in, value_or_damaged, entry_in, placed_entry}
 use Rattle.judge_core.specs.Determined.{Completes}
 use Rattle.judge_core.specs.DeterminedLaws.{CompletionsExist, DeterminedValueIsOne, DeterminedDistanceIsOne}
 use Rattle.judge_core.proofs.TwoSteps.{known_key}
@@ -61,8 +61,8 @@ placed_few key p = step (is_exchanged key p)
     step true = lead_few key _
     step false = lead_few key _
 
-few_places : (key : ℕ) (side : Side) (f : ℕ) → f ≤ 3 → place_of (part_for (filler key) side f) < 8
-unfolding sides_of is_symmetric filler
+few_places : (key : ℕ) (side : Side) (f : ℕ) → f ≤ 3 → part_place (part_for (filler key) side f) < 8
+unfolding side_count is_symmetric filler
 few_places key side f few = step (has_pawns key) (is_symmetric key) side
   where
     step : (pawns same : Bool) (side : Side) → cond pawns f 0 * cond same 1 2 + side_number side % cond same 1 2 < 8
@@ -79,15 +79,15 @@ part_there : (key : ℕ) (side : Side) (f : ℕ) → f ≤ 3 → part_of (part_f
 unfolding filler
 part_there key side f few =
     let below = few_places key side f few in
-    slice_get-get_or (replicate 8 blank) (place_of (part_for (filler key) side f)) blank below
-    ∙ ap (λ (x : Part). Some x) (get_or-replicate 8 (place_of (part_for (filler key) side f)) blank blank below)
+    slice_get-get_or (replicate 8 blank) (part_place (part_for (filler key) side f)) blank below
+    ∙ ap (λ (x : Part). Some x) (get_or-replicate 8 (part_place (part_for (filler key) side f)) blank blank below)
 
 entry_two : (key : ℕ) (placed : Placement) → placed.file ≤ 3 → entry_in (filler key) placed ≡ Some 2
 unfolding entry_in expansion blank
 entry_two key placed few =
     let part = part_for (filler key) placed.side placed.file in
     let there = part_there key placed.side placed.file few in
-    ap (λ (o : Option Part). entry_of (shape_in o) part placed) there
+    ap (λ (o : Option Part). placed_entry (shape_in o) part placed) there
     ∙ ap (λ (o : Option Part). entry_at (expanded_part o (lengths_of part) (blocks_of part)) (index_of blank.shape placed.men)) there
 
 drawn : (key : ℕ) (p : Parts) → value_in (Some (filler key)) key p ≡ Ok Draw

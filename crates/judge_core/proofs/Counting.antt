@@ -11,9 +11,9 @@ use Rattle.judge_core.specs.declared.fault.ValueFault.{ValueFault}
 use Rattle.judge_core.specs.declared.counts.Counts.{Counts}
 use Rattle.judge_core.specs.declared.counts.Steps.{Steps}
 use Rattle.judge_core.specs.declared.wdl.Wdl.{Wdl}
-use Rattle.judge_core.specs.Values.{Reading, turned}
+use Rattle.judge_core.specs.Values.{Reading, opposite_reading}
 use Rattle.judge_core.specs.Asked.{asked, fault_in, first_fault, unless, with_answer}
-use Rattle.judge_core.specs.Distances.{Reach, is_value, is_pawn_step, pawns_reach_where, is_quiet, move_counts, count_in, lesser, is_odd, by_quiet_moves, by_counts}
+use Rattle.judge_core.specs.Distances.{Reach, is_value, is_pawn_step, pawns_reach_where, is_quiet, move_counts, known_count, lesser, is_odd, by_quiet_moves, by_counts}
 use Rattle.judge_core.specs.Inside.Counts.{no_steps, with_reading, steps_result, no_counts, with_count, counts_result, AreWithin}
 use Rattle.judge_core.proofs.Asking.{faults_more, faults_in-is, with_all}
 use Rattle.judge_core.proofs.Quiet.{no_steps_listed}
@@ -36,11 +36,11 @@ steps-is : (v : Wdl) (s : Steps) (rs : List Reading) → fold (with_reading v) s
 steps-is v s [] = ap (λ (b : Bool). record { faults = s.faults; reached = b }) (sym (or-false s.reached))
 steps-is v s (r ∷ rs) = steps-is v (with_reading v s r) rs ∙ ap (λ (b : Bool). record { faults = faults_more (with_answer s.faults r) rs; reached = b }) (or-assoc s.reached (is_value v r) (list_any (is_value v) rs))
 
-pub steps_result-is : (value : Parts → Reading) (p : Parts) (v : Wdl) (steps : Steps) (moves : List Move) (r : Result Bool ValueFault) → moves ≡ legal_moves p → steps ≡ with_all (with_reading v) no_steps (λ q. turned (value q)) (is_pawn_step p) p moves → r ≡ steps_result steps → r ≡ pawns_reach_where value p v
+pub steps_result-is : (value : Parts → Reading) (p : Parts) (v : Wdl) (steps : Steps) (moves : List Move) (r : Result Bool ValueFault) → moves ≡ legal_moves p → steps ≡ with_all (with_reading v) no_steps (λ q. opposite_reading (value q)) (is_pawn_step p) p moves → r ≡ steps_result steps → r ≡ pawns_reach_where value p v
 unfolding pawns_reach_where
 steps_result-is value p v steps moves r e f g =
-    let rs = asked (λ q. turned (value q)) p (filter (is_pawn_step p) (legal_moves p)) in
-    let h : steps ≡ fold (with_reading v) no_steps rs = f ∙ ap (λ ms. with_all (with_reading v) no_steps (λ q. turned (value q)) (is_pawn_step p) p ms) e in
+    let rs = asked (λ q. opposite_reading (value q)) p (filter (is_pawn_step p) (legal_moves p)) in
+    let h : steps ≡ fold (with_reading v) no_steps rs = f ∙ ap (λ ms. with_all (with_reading v) no_steps (λ q. opposite_reading (value q)) (is_pawn_step p) p ms) e in
     g ∙ ap steps_result (h ∙ steps-is v no_steps rs) ∙ ap (λ (x : Faults). unless (first_fault x) (Ok (list_any (is_value v) rs))) (sym (faults_in-is rs))
 
 -- ---- quiet moves
@@ -49,8 +49,8 @@ steps_result-is value p v steps moves r e f g =
 abbrev counts_more : Counts → List (Result (Option ℕ) ValueFault) → Counts
 counts_more c cs = record {
   faults = faults_more c.faults cs;
-  least = fold lesser c.least (filter_map count_in cs);
-  greatest = fold max c.greatest (filter_map count_in cs);
+  least = fold lesser c.least (filter_map known_count cs);
+  greatest = fold max c.greatest (filter_map known_count cs);
   odd = c.odd || list_any is_odd cs;
 }
 
@@ -58,8 +58,8 @@ counts-is : (c : Counts) (cs : List (Result (Option ℕ) ValueFault)) → fold w
 counts-is c [] = ap (λ (b : Bool). record { faults = c.faults; least = c.least; greatest = c.greatest; odd = b }) (sym (or-false c.odd))
 counts-is c (Ok None ∷ cs) = counts-is (with_count c (Ok None)) cs ∙ ap (λ (b : Bool). record {
   faults = faults_more c.faults cs;
-  least = fold lesser c.least (filter_map count_in cs);
-  greatest = fold max c.greatest (filter_map count_in cs);
+  least = fold lesser c.least (filter_map known_count cs);
+  greatest = fold max c.greatest (filter_map known_count cs);
   odd = b;
 }) (or-true c.odd (list_any is_odd cs))
   where
@@ -89,4 +89,4 @@ within-count n c c' (Err fault) w b e = rw e w
 -- without a pawn no pawn move comes anywhere
 pub no_pawns_reach : (value : Parts → Reading) (p : Parts) (v : Wdl) → ((s : ℕ) → s < 64 → is_pawn_of p.side (man_at p.men s) ≡ false) → Ok false ≡ pawns_reach_where value p v
 unfolding pawns_reach_where
-no_pawns_reach value p v none = ap (λ ms. let rs = asked (λ q. turned (value q)) p ms in unless (fault_in rs) (Ok (list_any (is_value v) rs))) (sym (no_steps_listed p none))
+no_pawns_reach value p v none = ap (λ ms. let rs = asked (λ q. opposite_reading (value q)) p ms in unless (fault_in rs) (Ok (list_any (is_value v) rs))) (sym (no_steps_listed p none))

@@ -17,8 +17,8 @@ use Rattle.table_file.specs.declared.outcome.Outcome.{Outcome}
 use Rattle.table_file.specs.Files.{side_of}
 use Rattle.table_file.specs.Distances.{distance}
 use Rattle.judge_core.specs.declared.blocks.BlockKey.{BlockKey}
-use Rattle.judge_core.specs.Blocks.{part_at}
-use Rattle.judge_core.specs.Tables.{Tables, slot, table_at, part_asked, entry_of, entry_in}
+use Rattle.judge_core.specs.Blocks.{keyed_part}
+use Rattle.judge_core.specs.Tables.{Tables, slot, table_at, part_asked, placed_entry, entry_in}
 use Rattle.judge_core.specs.Distances.{distance_of, distance_in}
 use Rattle.judge_core.specs.Inside.Placing.{IsPartFor}
 
@@ -38,7 +38,7 @@ same_side White = refl
 same_side Black = refl
 
 -- a key names the part
-pub part_named : (tables : Tables) (kind : TableKind) (placed : Placement) (part : PartAt) (key : BlockKey) → IsPartFor tables kind placed part → key.slot ≡ slot kind placed.material → key.side ≡ side_number placed.side → key.file ≡ placed.file → part_at tables key ≡ Some part
+pub part_named : (tables : Tables) (kind : TableKind) (placed : Placement) (part : PartAt) (key : BlockKey) → IsPartFor tables kind placed part → key.slot ≡ slot kind placed.material → key.side ≡ side_number placed.side → key.file ≡ placed.file → keyed_part tables key ≡ Some part
 part_named tables kind placed part key for es side file =
     ap (option_map (λ (t : Contents). part_for t (side_of key.side) key.file)) (ap (λ (n : ℕ). get_or tables n None) es ∙ for.on)
     ∙ ap (λ (s : Side). Some (part_for part.table s key.file)) (ap side_of side ∙ same_side placed.side)
@@ -51,13 +51,13 @@ module _ (part : PartAt) (placed : Placement) (is : part ≡ part_asked part.tab
   pub an_entry : (l : Layout) (i : ℕ) (o : Option ℕ) → shape_of part ≡ Some l → i ≡ index_of l placed.men → o ≡ entry_at (expansion part) i → o ≡ entry_in part.table placed
   unfolding entry_in
   an_entry l i o shape at e =
-      e ∙ ap (entry_at (expansion part)) at ∙ ap (λ (s : Option Layout). entry_of s part placed) (sym shape) ∙ ap (λ (x : PartAt). entry_of (shape_of x) x placed) is
+      e ∙ ap (entry_at (expansion part)) at ∙ ap (λ (s : Option Layout). placed_entry s part placed) (sym shape) ∙ ap (λ (x : PartAt). placed_entry (shape_of x) x placed) is
 
   pub a_distance : (outcome : Outcome) (value : ℕ) (o : Option ℕ) → Some value ≡ entry_in part.table placed → ((i : ℕ) → entry_at (expansion part) i ≡ Some value → distance part i outcome ≡ o) → o ≡ distance_in part.table placed outcome
   unfolding entry_in distance_in
   a_distance outcome value o e told = by_shape (shape_of (part_asked part.table placed)) e (subst (λ (x : PartAt). (i : ℕ) → entry_at (expansion x) i ≡ Some value → distance x i outcome ≡ o) is told)
     where
-      by_shape : (s : Option Layout) → Some value ≡ entry_of s (part_asked part.table placed) placed → ((i : ℕ) → entry_at (expansion (part_asked part.table placed)) i ≡ Some value → distance (part_asked part.table placed) i outcome ≡ o) → o ≡ distance_of s (part_asked part.table placed) placed outcome
+      by_shape : (s : Option Layout) → Some value ≡ placed_entry s (part_asked part.table placed) placed → ((i : ℕ) → entry_at (expansion (part_asked part.table placed)) i ≡ Some value → distance (part_asked part.table placed) i outcome ≡ o) → o ≡ distance_of s (part_asked part.table placed) placed outcome
       by_shape None h at = absurd cc
       by_shape (Some l) h at = sym (at (index_of l placed.men) (sym h))
 
@@ -70,7 +70,7 @@ pub no_distance : (t : Contents) (placed : Placement) (outcome : Outcome) → No
 unfolding entry_in distance_in
 no_distance t placed outcome e = by_shape (shape_of (part_asked t placed)) e
   where
-    by_shape : (s : Option Layout) → None ≡ entry_of s (part_asked t placed) placed → None ≡ distance_of s (part_asked t placed) placed outcome
+    by_shape : (s : Option Layout) → None ≡ placed_entry s (part_asked t placed) placed → None ≡ distance_of s (part_asked t placed) placed outcome
     by_shape None h = refl
     by_shape (Some l) h = sym (no_distance_at (part_asked t placed) (index_of l placed.men) outcome (sym h))
 

@@ -22,8 +22,8 @@ use Rattle.judge_core.specs.Asked.{fault_in, unless}
 use Rattle.judge_core.specs.Probing.{weighed_by, wdl_of, worth}
 use Rattle.board_core.specs.Castling.{has_any_right}
 use Rattle.judge_core.specs.Ruling.{is_out_of_scope}
-use Rattle.judge_core.specs.Distances.{Reach, is_won, zeroing, towards, is_by_capture, pawns_reach, unless_reached, least, greatest, is_odd, won_in, by_counts, by_quiet_moves, distance_in, by_table, by_material, stored, by_own_table, by_moves, by_outcome, by_weighed, dtz_by, dtz_of}
-use Rattle.judge_core.specs.FiveRules.{IsWeighed, IsDecided, IsLeft, IsOwnTable, IsLeftToMoves, IsDistance, counts_after, DistanceByFiveRules}
+use Rattle.judge_core.specs.Distances.{Reach, is_won, zeroing, towards, is_by_capture, pawns_reach, unless_reached, least, greatest_count, is_odd, won_in, by_counts, by_quiet_moves, distance_in, by_table, by_material, stored_distance, by_own_table, by_moves, by_outcome, by_weighed, dtz_by, dtz_of}
+use Rattle.judge_core.specs.FiveRules.{IsWeighed, IsDecided, IsLeftToTables, IsOwnTable, IsLeftToMoves, IsDistance, counts_after, DistanceByFiveRules}
 use Rattle.judge_core.specs.FiveRules.IsDistance.{unknown, bare, drawn, capture, pawn_unknown, pawn, no_table, no_number, stored as by_number, move_unknown, no_winner, won, no_loser, lost}
 use Rattle.judge_core.proofs.LookUp.{material_found}
 use Rattle.judge_core.proofs.TwoSteps.{in_scope}
@@ -36,11 +36,11 @@ module _ (tables : Tables) (reach : Parts → Reach) (p : Parts) where
     by_least w None e = no_winner left whole w e
     by_least w (Some n) e = won left whole w e
 
-    by_greatest : IsFalse (is_won outcome) → (b : Bool) → list_any is_odd (counts_after reach p outcome) ≡ b → IsDistance tables reach p (if b then Err (Damaged key) else Ok (Loss (greatest (zeroing outcome) (counts_after reach p outcome))))
+    by_greatest : IsFalse (is_won outcome) → (b : Bool) → list_any is_odd (counts_after reach p outcome) ≡ b → IsDistance tables reach p (if b then Err (Damaged key) else Ok (Loss (greatest_count (zeroing outcome) (counts_after reach p outcome))))
     by_greatest l true e = no_loser left whole l e
     by_greatest l false e = lost left whole l e
 
-    by_numbers : (b : Bool) → is_won outcome ≡ b → IsDistance tables reach p (if b then won_in key (least (counts_after reach p outcome)) else if list_any is_odd (counts_after reach p outcome) then Err (Damaged key) else Ok (Loss (greatest (zeroing outcome) (counts_after reach p outcome))))
+    by_numbers : (b : Bool) → is_won outcome ≡ b → IsDistance tables reach p (if b then won_in key (least (counts_after reach p outcome)) else if list_any is_odd (counts_after reach p outcome) then Err (Damaged key) else Ok (Loss (greatest_count (zeroing outcome) (counts_after reach p outcome))))
     by_numbers true e = by_least e (least (counts_after reach p outcome)) refl
     by_numbers false e = by_greatest e (list_any is_odd (counts_after reach p outcome)) refl
 
@@ -52,12 +52,12 @@ module _ (tables : Tables) (reach : Parts → Reach) (p : Parts) where
   unfolding by_quiet_moves
   by_moves_left key outcome left = by_fault key outcome left (fault_in (counts_after reach p outcome)) refl
 
-  module _ (w : Weighed) (outcome : Outcome) (left : IsLeft tables p w outcome) (key : ℕ) (m : material_of p ≡ Some key) where
-    by_found : (t : Contents) → IsOwnTable tables p key t true → (n : Option ℕ) → distance_in t (placed_of key p) outcome ≡ n → IsDistance tables reach p (stored key outcome n)
+  module _ (w : Weighed) (outcome : Outcome) (left : IsLeftToTables tables p w outcome) (key : ℕ) (m : material_of p ≡ Some key) where
+    by_found : (t : Contents) → IsOwnTable tables p key t true → (n : Option ℕ) → distance_in t (placed_of key p) outcome ≡ n → IsDistance tables reach p (stored_distance key outcome n)
     by_found t own None e = no_number left own e
     by_found t own (Some n) e = by_number left own e
 
-    by_side : (t : Contents) → table_at tables Dtz key ≡ Some t → (b : Bool) → stores (part_asked t (placed_of key p)) ≡ b → IsDistance tables reach p (if b then stored key outcome (distance_in t (placed_of key p) outcome) else by_quiet_moves key outcome reach p)
+    by_side : (t : Contents) → table_at tables Dtz key ≡ Some t → (b : Bool) → stores (part_asked t (placed_of key p)) ≡ b → IsDistance tables reach p (if b then stored_distance key outcome (distance_in t (placed_of key p) outcome) else by_quiet_moves key outcome reach p)
     by_side t at true e = by_found t (record { material = m; table = at; stored = e }) (distance_in t (placed_of key p) outcome) refl
     by_side t at false e = by_moves_left key outcome (record { w = w; left = left; t = t; own = record { material = m; table = at; stored = e } })
 
@@ -66,7 +66,7 @@ module _ (tables : Tables) (reach : Parts → Reach) (p : Parts) where
     by_there (Some t) e = by_side t e (stores (part_asked t (placed_of key p))) refl
 
   module _ (covered : 2 < count_of_men p → (key : ℕ) × (material_of p ≡ Some key)) where
-    by_own : (w : Weighed) (outcome : Outcome) → IsLeft tables p w outcome → IsDistance tables reach p (by_own_table tables reach p outcome)
+    by_own : (w : Weighed) (outcome : Outcome) → IsLeftToTables tables p w outcome → IsDistance tables reach p (by_own_table tables reach p outcome)
     unfolding by_own_table
     by_own w outcome left = by_key (material_of p) refl
       where
@@ -121,7 +121,7 @@ module _ (tables : Tables) (reach : Parts → Reach) (p : Parts) where
   unfolding by_moves
   reached_is w outcome r wins e = rw (wins, e) refl
 
-  own_is : (w : Weighed) (outcome : Outcome) → IsLeft tables p w outcome → dtz_by tables reach p ≡ by_own_table tables reach p outcome
+  own_is : (w : Weighed) (outcome : Outcome) → IsLeftToTables tables p w outcome → dtz_by tables reach p ≡ by_own_table tables reach p outcome
   unfolding by_moves
   own_is w outcome left = kept_is w outcome left.decided left.no_capture ∙ by_outcome_kind (is_won outcome) refl
     where
@@ -133,7 +133,7 @@ module _ (tables : Tables) (reach : Parts → Reach) (p : Parts) where
   unfolding by_own_table
   table_is outcome key o m e = rw (m, e) refl
 
-  stored_is : (w : Weighed) (outcome : Outcome) (key : ℕ) (t : Contents) (n : Option ℕ) → IsLeft tables p w outcome → IsOwnTable tables p key t true → distance_in t (placed_of key p) outcome ≡ n → dtz_by tables reach p ≡ stored key outcome n
+  stored_is : (w : Weighed) (outcome : Outcome) (key : ℕ) (t : Contents) (n : Option ℕ) → IsLeftToTables tables p w outcome → IsOwnTable tables p key t true → distance_in t (placed_of key p) outcome ≡ n → dtz_by tables reach p ≡ stored_distance key outcome n
   stored_is w outcome key t n left own e = own_is w outcome left ∙ table_is outcome key (Some t) own.material own.table ∙ rw (own.stored, e) refl
 
   pub moves_are : (outcome : Outcome) (key : ℕ) (f : Option ValueFault) → IsLeftToMoves tables p outcome key → fault_in (counts_after reach p outcome) ≡ f → dtz_by tables reach p ≡ unless f (by_counts key outcome (counts_after reach p outcome))

@@ -9,7 +9,7 @@ use Rattle.board_core.specs.declared.parts.Parts.{Parts}
 use Rattle.board_core.specs.declared.moves.Move.{Move}
 use Rattle.board_core.specs.declared.verdict.Verdict.{Verdict}
 use Rattle.board_core.specs.ComputedMoves.{position_after}
-use Rattle.board_core.specs.Verdicts.{code_of}
+use Rattle.board_core.specs.Verdicts.{verdict_code}
 use Rattle.judge_core.specs.Games.{Rules, position_after_all, judged_after, is_end, is_judged, has_stood, verdict_by, verdict_after, IsFirst}
 use Rattle.judge_core.specs.Laws.{IsRuledAt, IsLeastRuled}
 use Rattle.judge_core.proofs.StoodPlies.{judged_so, none_stood}
@@ -17,7 +17,7 @@ use Rattle.judge_core.proofs.StoodPlies.{judged_so, none_stood}
 -- ---- the verdict at a ply
 
 so_judged : (o : Option Verdict) (v : Verdict) → o ≡ Some v → is_judged o v ≡ true
-so_judged o v e = ap (λ x. is_judged x v) e ∙ eq-eqb (code_of v) (code_of v) refl
+so_judged o v e = ap (λ x. is_judged x v) e ∙ eq-eqb (verdict_code v) (verdict_code v) refl
 
 module _ (r : Rules) (ms : List Move) (v : Verdict) where
   -- the ruling so many plies before the last one

@@ -16,12 +16,12 @@ use Rattle.judge_core.specs.declared.fault.ValueFault.TheVariants.{NotCovered, D
 use Rattle.judge_core.specs.declared.found.Weighed.{Weighed}
 use Rattle.judge_core.specs.declared.wdl.Wdl.{Wdl}
 use Rattle.judge_core.specs.declared.wdl.Wdl.TheVariants.{Draw}
-use Rattle.judge_core.specs.Values.{Reading, turned, outcome_of}
+use Rattle.judge_core.specs.Values.{Reading, opposite_reading, outcome_of}
 use Rattle.judge_core.specs.LookUp.{material_of, placed_of}
 use Rattle.judge_core.specs.Tables.{Tables, table_at, table_value, part_asked}
-use Rattle.judge_core.specs.Asked.{asked, first, not_covered, fault_of, fault_in, unless}
-use Rattle.judge_core.specs.Probing.{after, greatest, value_or_loss, is_forced, weighed_where, weighed_by, wdl_by_weighed, wdl_where, wdl_of, worth, worth_in}
-use Rattle.judge_core.specs.Distances.{Reach, is_won, is_value, is_quiet, is_pawn_step, is_by_capture, counted, move_counts, by_counts, by_quiet_moves, by_table, by_material, by_own_table, pawns_reach_where, unless_reached, by_moves, by_outcome, by_weighed, zeroing, towards, dtz_by, dtz_to, dtz_of}
+use Rattle.judge_core.specs.Asked.{asked, first, not_covered, missing_or_damaged, fault_in, unless}
+use Rattle.judge_core.specs.Probing.{values_after, greatest_value, value_or_loss, is_forced, weighed_where, weighed_by, wdl_by_weighed, wdl_where, wdl_of, worth, worth_in}
+use Rattle.judge_core.specs.Distances.{Reach, is_won, is_value, is_quiet, is_pawn_step, is_by_capture, distance_before, move_counts, by_counts, by_quiet_moves, by_table, by_material, by_own_table, pawns_reach_where, unless_reached, by_moves, by_outcome, by_weighed, zeroing, towards, dtz_by, dtz_to, dtz_of}
 use Rattle.judge_core.specs.Ends.{is_mate}
 use Rattle.judge_core.specs.Determined.{Completes, IsCompletion, IsCompletedBy}
 use Rattle.judge_core.proofs.Captures.{falls}
@@ -42,7 +42,7 @@ no_fault_more (Ok x) rs e = ((x, refl), e)
 no_fault_more (Err (NotCovered key)) rs e = absurd (cc)
 no_fault_more (Err (Damaged key)) rs e = absurd (by_first (first not_covered rs) e)
   where
-    by_first : (o : Option ℕ) → fault_of o (Some key) ≡ None → ⊥
+    by_first : (o : Option ℕ) → missing_or_damaged o (Some key) ≡ None → ⊥
     by_first None e = cc
     by_first (Some k) e = cc
 
@@ -83,15 +83,15 @@ module _ {X : Type 0} (say say' : Parts → Result X ValueFault) (p : Parts) (t 
 
 -- ---- values
 
-keeps-turned : (r s : Reading) → Keeps r s → Keeps (turned r) (turned s)
+keeps-turned : (r s : Reading) → Keeps r s → Keeps (opposite_reading r) (opposite_reading s)
 keeps-turned (Ok u) s k x e = rw (k u refl) e
 keeps-turned (Err fault) s k x e = absurd (cc)
 
 -- what is weighed, by the readings after captures and by the own table's
 abbrev made : Parts → List Reading → List Reading → List Reading → Reading → Result Weighed ValueFault
 made p all others passants own = unless (fault_in (all ++ own ∷ [])) (Ok (record {
-  capture = greatest others;
-  passant = greatest passants;
+  capture = greatest_value others;
+  passant = greatest_value passants;
   own = value_or_loss own;
   forced = is_forced p;
 }))
@@ -102,13 +102,13 @@ made_same p all all' others others' passants passants' own own' a b c d = rw (a,
 pub weighed_kept : (f g own own' : Parts → Reading) (p : Parts) → ((m : Move) (q : Parts) → is_capture p m ≡ true → position_after p m ≡ Some q → Keeps (f q) (g q)) → Keeps (own p) (own' p) → Keeps (weighed_where own f p) (weighed_where own' g p)
 unfolding weighed_where
 weighed_kept f g own own' p h k w e =
-    let say : Parts → Reading = λ q. turned (f q) in
-    let say' : Parts → Reading = λ q. turned (g q) in
+    let say : Parts → Reading = λ q. opposite_reading (f q) in
+    let say' : Parts → Reading = λ q. opposite_reading (g q) in
     let after_each = λ (m : Move) (q : Parts) (c : is_capture p m ≡ true) (a : position_after p m ≡ Some q). keeps-turned (f q) (g q) (h m q c a) in
-    let there = last_there (after f p (legal_captures p)) (own p) (unless_ok _ _ w e).0 in
-    let all : after f p (legal_captures p) ≡ after g p (legal_captures p) = kept_all say say' p (is_capture p) after_each (legal_moves p) there.0 in
-    let other : after f p (filter (λ m. not (is_en_passant p m)) (legal_captures p)) ≡ after g p (filter (λ m. not (is_en_passant p m)) (legal_captures p)) = kept_some say say' p (is_capture p) after_each (λ m. not (is_en_passant p m)) (legal_moves p) there.0 in
-    let passant : after f p (filter (is_en_passant p) (legal_captures p)) ≡ after g p (filter (is_en_passant p) (legal_captures p)) = kept_some say say' p (is_capture p) after_each (is_en_passant p) (legal_moves p) there.0 in
+    let there = last_there (values_after f p (legal_captures p)) (own p) (unless_ok _ _ w e).0 in
+    let all : values_after f p (legal_captures p) ≡ values_after g p (legal_captures p) = kept_all say say' p (is_capture p) after_each (legal_moves p) there.0 in
+    let other : values_after f p (filter (λ m. not (is_en_passant p m)) (legal_captures p)) ≡ values_after g p (filter (λ m. not (is_en_passant p m)) (legal_captures p)) = kept_some say say' p (is_capture p) after_each (λ m. not (is_en_passant p m)) (legal_moves p) there.0 in
+    let passant : values_after f p (filter (is_en_passant p) (legal_captures p)) ≡ values_after g p (filter (is_en_passant p) (legal_captures p)) = kept_some say say' p (is_capture p) after_each (is_en_passant p) (legal_moves p) there.0 in
     let same : own p ≡ own' p = there.1.1 ∙ sym (k there.1.0 there.1.1) in
     made_same p _ _ _ _ _ _ _ _ all other passant same ∙ e
 
@@ -157,7 +157,7 @@ value_is more p = refl
 
 -- ---- distances
 
-counted_kept : (won : Bool) (r s : Reach) → Keeps r s → Keeps (counted won r) (counted won s)
+counted_kept : (won : Bool) (r s : Reach) → Keeps r s → Keeps (distance_before won r) (distance_before won s)
 counted_kept won (Ok d) s k x e = rw (k d refl) e
 counted_kept won (Err fault) s k x e = absurd (cc)
 
@@ -165,7 +165,7 @@ count_kept : (outcome : Outcome) (f g : Parts → Reach) (q : Parts) → Keeps (
 unfolding move_counts
 count_kept outcome f g q k = step (is_won outcome && is_mate q)
   where
-    step : (b : Bool) → Keeps (cond b (Ok (Some 1)) (counted (is_won outcome) (f q))) (cond b (Ok (Some 1)) (counted (is_won outcome) (g q)))
+    step : (b : Bool) → Keeps (cond b (Ok (Some 1)) (distance_before (is_won outcome) (f q))) (cond b (Ok (Some 1)) (distance_before (is_won outcome) (g q)))
     step true = λ x e. e
     step false = counted_kept (is_won outcome) (f q) (g q) k
 
@@ -196,8 +196,8 @@ module _ (f g : Parts → Reach) (p : Parts) (h : (m : Move) (q : Parts) → is_
     pawns_kept : (v : Wdl) → Keeps (pawns_reach_where (wdl_of tables) p v) (pawns_reach_where (wdl_of more) p v)
     unfolding pawns_reach_where
     pawns_kept v b e =
-        let steps : after (wdl_of tables) p (filter (is_pawn_step p) (legal_moves p)) ≡ after (wdl_of more) p (filter (is_pawn_step p) (legal_moves p)) =
-        kept_all (λ q. turned (wdl_of tables q)) (λ q. turned (wdl_of more q)) p (is_pawn_step p)
+        let steps : values_after (wdl_of tables) p (filter (is_pawn_step p) (legal_moves p)) ≡ values_after (wdl_of more) p (filter (is_pawn_step p) (legal_moves p)) =
+        kept_all (λ q. opposite_reading (wdl_of tables q)) (λ q. opposite_reading (wdl_of more q)) p (is_pawn_step p)
         (λ m q t a. keeps-turned (wdl_of tables q) (wdl_of more q) (λ x ex. value_is more q ∙ strict_value tables (table_value more) c.values q (still p q m position a) x ex)) (legal_moves p) (unless_ok _ _ b e).0 in
         ap (λ (rs : List Reading). unless (fault_in rs) (Ok (list_any (is_value v) rs))) (sym steps) ∙ e
 

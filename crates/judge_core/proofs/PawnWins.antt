@@ -8,10 +8,10 @@ use Rattle.board_core.specs.Position.{IsPosition}
 use Rattle.board_core.specs.ComputedMoves.{position_after, legal_moves}
 use Rattle.judge_core.specs.declared.wdl.Wdl.{Wdl}
 use Rattle.judge_core.specs.declared.wdl.Wdl.TheVariants.{Loss, BlessedLoss, Draw, CursedWin, Win}
-use Rattle.judge_core.specs.Values.{Reading, opposite, turned, is_same}
+use Rattle.judge_core.specs.Values.{Reading, opposite, opposite_reading, is_same}
 use Rattle.judge_core.specs.Tables.{Tables}
 use Rattle.judge_core.specs.Asked.{asked, fault_in}
-use Rattle.judge_core.specs.Probing.{after, wdl_of}
+use Rattle.judge_core.specs.Probing.{values_after, wdl_of}
 use Rattle.judge_core.specs.Distances.{is_value, is_pawn_step, pawns_reach_where}
 use Rattle.judge_core.specs.Determined.{IsByPawnMove}
 use Rattle.judge_core.specs.Inside.Determined.{extreme, extreme_value, in_both, value_in_both, pawns_reach_in_both}
@@ -64,7 +64,7 @@ module _ (f g h : Parts → Reading) (p : Parts) (t : Move → Bool) (each : (q 
           let both = each q one.0.0 other.0.0 one.0.1 other.0.1 in
           rw (eb, eo, both.1) (rest one.1 other.1)
 
-turned-ok : (r : Reading) (x : Wdl) → turned r ≡ Ok x → (y : Wdl) × (r ≡ Ok y) × (opposite y ≡ x)
+turned-ok : (r : Reading) (x : Wdl) → opposite_reading r ≡ Ok x → (y : Wdl) × (r ≡ Ok y) × (opposite y ≡ x)
 turned-ok (Ok y) x e = (y, refl, cc)
 turned-ok (Err fault) x e = absurd (cc)
 
@@ -95,16 +95,16 @@ module _ (tables : Tables) (p : Parts) (position : IsPosition p) (v : Wdl) (by :
   pub reached_in_both : pawns_reach_in_both tables p v ≡ Ok true
   unfolding pawns_reach_where value_in_both
   reached_in_both =
-      let f : Parts → Reading = λ q. turned (extreme_value tables true q) in
-      let g : Parts → Reading = λ q. turned (extreme_value tables false q) in
-      let h : Parts → Reading = λ q. turned (in_both (opposite v) (extreme_value tables true q) (extreme_value tables false q)) in
+      let f : Parts → Reading = λ q. opposite_reading (extreme_value tables true q) in
+      let g : Parts → Reading = λ q. opposite_reading (extreme_value tables false q) in
+      let h : Parts → Reading = λ q. opposite_reading (in_both (opposite v) (extreme_value tables true q) (extreme_value tables false q)) in
       let none =
       both_there f g h p (is_pawn_step p)
       (λ q x y ex ey. (
       let a = turned-ok (extreme_value tables true q) x ex in
       let b = turned-ok (extreme_value tables false q) y ey in
       let z = in_both-there (opposite v) (extreme_value tables true q) (extreme_value tables false q) a.0 b.0 a.1 b.1 in
-      (opposite z.0, ap turned z.1)))
+      (opposite z.0, ap opposite_reading z.1)))
       (legal_moves p) (by.whole (extreme tables true) (extreme-completes tables true)) (by.whole (extreme tables false) (extreme-completes tables false)) in
       let here : in_both (opposite v) (extreme_value tables true by.next) (extreme_value tables false by.next) ≡ Ok (opposite v) = rw (in_each true, in_each false, is_same-refl (opposite v)) refl in
       let any =
@@ -117,7 +117,7 @@ module _ (tables : Tables) (p : Parts) (position : IsPosition p) (v : Wdl) (by :
   pub reached_in_set : pawns_reach_where (wdl_of tables) p v ≡ Ok false → ⊥
   unfolding pawns_reach_where
   reached_in_set e =
-      let say : Parts → Reading = λ q. turned (wdl_of tables q) in
+      let say : Parts → Reading = λ q. opposite_reading (wdl_of tables q) in
       let parts = unless_ok _ _ false e in
       let any =
       reached_by v say p (is_pawn_step p) by.step by.next by.pawn by.leads
@@ -127,6 +127,6 @@ module _ (tables : Tables) (p : Parts) (position : IsPosition p) (v : Wdl) (by :
       let same : Ok it.0 ≡ Ok (opposite v) = sym kept ∙ in_each true in
       back x it.0 it.2 (cc)))
       (legal_moves p) by.legal parts.0 in
-      let not_any : Ok (list_any (is_value v) (after (wdl_of tables) p (filter (is_pawn_step p) (legal_moves p)))) ≡ Ok false = parts.1 in
-      let off : list_any (is_value v) (after (wdl_of tables) p (filter (is_pawn_step p) (legal_moves p))) ≡ false = cc in
+      let not_any : Ok (list_any (is_value v) (values_after (wdl_of tables) p (filter (is_pawn_step p) (legal_moves p)))) ≡ Ok false = parts.1 in
+      let off : list_any (is_value v) (values_after (wdl_of tables) p (filter (is_pawn_step p) (legal_moves p))) ≡ false = cc in
       absurd (false≢true (sym off ∙ any))

@@ -18,7 +18,7 @@ use Rattle.judge_core.specs.LookUp.{material_of, placed_of}
 use Rattle.judge_core.specs.Tables.{Tables, table_at, part_asked}
 use Rattle.judge_core.specs.Ends.{is_mate}
 use Rattle.judge_core.specs.Probing.{weighed_by, wdl_of}
-use Rattle.judge_core.specs.Distances.{Reach, is_won, zeroing, towards, counted, move_counts, by_quiet_moves, distance_in, stored, by_own_table, pawns_reach, unless_reached, by_moves, by_weighed, dtz_by, dtz_to}
+use Rattle.judge_core.specs.Distances.{Reach, is_won, zeroing, towards, distance_before, move_counts, by_quiet_moves, distance_in, stored_distance, by_own_table, pawns_reach, unless_reached, by_moves, by_weighed, dtz_by, dtz_to}
 use Rattle.judge_core.specs.Inside.Determined.{distance_in_both, or_agreed_distance, reach_after}
 
 -- what is equal to the one is equal to the other
@@ -31,7 +31,7 @@ pub mate_counts : (outcome : Outcome) (reach : Parts → Reach) (q : Parts) → 
 unfolding move_counts
 mate_counts outcome reach q w m = rw (w, m) refl
 
-pub other_counts : (outcome : Outcome) (reach : Parts → Reach) (q : Parts) (won : Bool) (r : Reach) (n : Result (Option ℕ) ValueFault) → won ≡ is_won outcome → (won ≡ true → is_mate q ≡ false) → r ≡ reach q → n ≡ counted won r → n ≡ move_counts outcome reach q
+pub other_counts : (outcome : Outcome) (reach : Parts → Reach) (q : Parts) (won : Bool) (r : Reach) (n : Result (Option ℕ) ValueFault) → won ≡ is_won outcome → (won ≡ true → is_mate q ≡ false) → r ≡ reach q → n ≡ distance_before won r → n ≡ move_counts outcome reach q
 unfolding move_counts
 other_counts outcome reach q true r n w no_mate er en = en ∙ rw (← w, no_mate refl, ← er) refl
 other_counts outcome reach q false r n w no_mate er en = en ∙ rw (← w, ← er) refl
@@ -52,9 +52,9 @@ module _ (tables : Tables) (reach : Parts → Reach) (p : Parts) (outcome : Outc
       stored_side : stores (part_asked t (placed_of key p)) ≡ b
       stored_side = ap (λ (x : Placement). stores (part_asked t x)) (sym ep) ∙ sym eb
 
-      pub stored_own : (n : Option ℕ) (r : Reach) → b ≡ true → n ≡ distance_in t placed outcome → r ≡ stored key outcome n → r ≡ by_own_table tables reach p outcome
+      pub stored_own : (n : Option ℕ) (r : Reach) → b ≡ true → n ≡ distance_in t placed outcome → r ≡ stored_distance key outcome n → r ≡ by_own_table tables reach p outcome
       unfolding by_own_table
-      stored_own n r yes' en er = er ∙ ap (stored key outcome) (en ∙ ap (λ (x : Placement). distance_in t x outcome) ep) ∙ rw (m, at, stored_side, yes') refl
+      stored_own n r yes' en er = er ∙ ap (stored_distance key outcome) (en ∙ ap (λ (x : Placement). distance_in t x outcome) ep) ∙ rw (m, at, stored_side, yes') refl
 
       pub quiet_own : b ≡ false → by_quiet_moves key outcome reach p ≡ by_own_table tables reach p outcome
       unfolding by_own_table

@@ -13,21 +13,21 @@ use Rattle.judge_core.specs.declared.fault.ValueFault.{ValueFault}
 use Rattle.judge_core.specs.declared.fault.ValueFault.TheVariants.{NotCovered, Damaged}
 use Rattle.judge_core.specs.declared.found.Found.{Found}
 use Rattle.judge_core.specs.declared.found.Weighed.{Weighed}
-use Rattle.judge_core.specs.Values.{Reading, turned, greater}
+use Rattle.judge_core.specs.Values.{Reading, opposite_reading, greater}
 use Rattle.judge_core.specs.Tables.{Tables, table_value}
 use Rattle.judge_core.specs.Asked.{faults_in, first_fault, unless}
-use Rattle.judge_core.specs.Probing.{after, greatest, value_or_loss, is_forced, weighed_by, weighed_where}
+use Rattle.judge_core.specs.Probing.{values_after, greatest_value, value_or_loss, is_forced, weighed_by, weighed_where}
 use Rattle.judge_core.specs.declared.fault.Faults.{Faults}
 use Rattle.judge_core.proofs.Asking.{asked-append, faults-append, faults_more}
-use Rattle.judge_core.specs.Inside.Found.{lands_empty, found_in, nothing_found, found_with, closed}
+use Rattle.judge_core.specs.Inside.Found.{lands_empty, found_by_captures, nothing_found, found_with, closed}
 use Rattle.judge_core.proofs.Captures.{passants, others}
 
-greatest-append : (xs ys : List Reading) → greatest (xs ++ ys) ≡ fold greater (greatest xs) (filter_map result_ok ys)
+greatest-append : (xs ys : List Reading) → greatest_value (xs ++ ys) ≡ fold greater (greatest_value xs) (filter_map result_ok ys)
 greatest-append xs ys = ap (fold greater Loss) (filter_map-append result_ok xs ys) ∙ fold-append greater Loss (filter_map result_ok xs) (filter_map result_ok ys)
 
 -- the readings of the moves that pass a test, with one move more
-more : (value : Parts → Reading) (p : Parts) (test : Move → Bool) (ms : List Move) (m : Move) → after value p (filter test (ms ++ m ∷ [])) ≡ after value p (filter test ms) ++ after value p (filter test (m ∷ []))
-more value p test ms m = ap (after value p) (filter-append test ms (m ∷ [])) ∙ asked-append (λ q. turned (value q)) p (filter test ms) (filter test (m ∷ []))
+more : (value : Parts → Reading) (p : Parts) (test : Move → Bool) (ms : List Move) (m : Move) → values_after value p (filter test (ms ++ m ∷ [])) ≡ values_after value p (filter test ms) ++ values_after value p (filter test (m ∷ []))
+more value p test ms m = ap (values_after value p) (filter-append test ms (m ∷ [])) ∙ asked-append (λ q. opposite_reading (value q)) p (filter test ms) (filter test (m ∷ []))
 
 -- what has been found, with this reading more where there is one
 abbrev pub joined : Found → Option Reading → Bool → Found
@@ -36,26 +36,26 @@ joined f (Some r) passant = found_with f r passant
 
 module _ (value : Parts → Reading) (p : Parts) (ms : List Move) (m : Move) where
   abbrev pub reading : Option Reading
-  reading = option_map (λ q. turned (value q)) (position_after p m)
+  reading = option_map (λ q. opposite_reading (value q)) (position_after p m)
 
   abbrev goes_to_man : Move → Bool
   goes_to_man x = not (lands_empty p x)
 
   -- the three parts, each with one move more
-  parts : found_in value p (ms ++ m ∷ []) ≡ record {
-    faults = faults_more (faults_in (after value p ms)) (after value p (m ∷ []));
-    capture = fold greater (greatest (after value p (filter goes_to_man ms))) (filter_map result_ok (after value p (filter goes_to_man (m ∷ []))));
-    passant = fold greater (greatest (after value p (filter (lands_empty p) ms))) (filter_map result_ok (after value p (filter (lands_empty p) (m ∷ []))));
+  parts : found_by_captures value p (ms ++ m ∷ []) ≡ record {
+    faults = faults_more (faults_in (values_after value p ms)) (values_after value p (m ∷ []));
+    capture = fold greater (greatest_value (values_after value p (filter goes_to_man ms))) (filter_map result_ok (values_after value p (filter goes_to_man (m ∷ []))));
+    passant = fold greater (greatest_value (values_after value p (filter (lands_empty p) ms))) (filter_map result_ok (values_after value p (filter (lands_empty p) (m ∷ []))));
   }
-  unfolding found_in
+  unfolding found_by_captures
   parts =
-      let a = ap (λ (rs : List Reading). faults_in rs) (asked-append (λ q. turned (value q)) p ms (m ∷ [])) ∙ faults-append (after value p ms) (after value p (m ∷ [])) in
-      let c = ap greatest (more value p goes_to_man ms m) ∙ greatest-append (after value p (filter goes_to_man ms)) (after value p (filter goes_to_man (m ∷ []))) in
-      let d = ap greatest (more value p (lands_empty p) ms m) ∙ greatest-append (after value p (filter (lands_empty p) ms)) (after value p (filter (lands_empty p) (m ∷ []))) in
+      let a = ap (λ (rs : List Reading). faults_in rs) (asked-append (λ q. opposite_reading (value q)) p ms (m ∷ [])) ∙ faults-append (values_after value p ms) (values_after value p (m ∷ [])) in
+      let c = ap greatest_value (more value p goes_to_man ms m) ∙ greatest-append (values_after value p (filter goes_to_man ms)) (values_after value p (filter goes_to_man (m ∷ []))) in
+      let d = ap greatest_value (more value p (lands_empty p) ms m) ∙ greatest-append (values_after value p (filter (lands_empty p) ms)) (values_after value p (filter (lands_empty p) (m ∷ []))) in
       cc
 
-  by_case : (b : Bool) (o : Option Reading) → lands_empty p m ≡ b → reading ≡ o → found_in value p (ms ++ m ∷ []) ≡ joined (found_in value p ms) o b
-  unfolding found_in
+  by_case : (b : Bool) (o : Option Reading) → lands_empty p m ≡ b → reading ≡ o → found_by_captures value p (ms ++ m ∷ []) ≡ joined (found_by_captures value p ms) o b
+  unfolding found_by_captures
   by_case true None eb eo = parts ∙ simp (eb, eo)
   by_case true (Some (Ok v)) eb eo = parts ∙ simp (eb, eo)
   by_case true (Some (Err (NotCovered k))) eb eo = parts ∙ simp (eb, eo)
@@ -65,11 +65,11 @@ module _ (value : Parts → Reading) (p : Parts) (ms : List Move) (m : Move) whe
   by_case false (Some (Err (NotCovered k))) eb eo = parts ∙ simp (eb, eo)
   by_case false (Some (Err (Damaged k))) eb eo = parts ∙ simp (eb, eo)
 
-  pub found-step : found_in value p (ms ++ m ∷ []) ≡ joined (found_in value p ms) reading (lands_empty p m)
+  pub found-step : found_by_captures value p (ms ++ m ∷ []) ≡ joined (found_by_captures value p ms) reading (lands_empty p m)
   found-step = by_case (lands_empty p m) reading refl refl
 
-pub found-nothing : (value : Parts → Reading) (p : Parts) → nothing_found ≡ found_in value p []
-unfolding found_in
+pub found-nothing : (value : Parts → Reading) (p : Parts) → nothing_found ≡ found_by_captures value p []
+unfolding found_by_captures
 found-nothing value p = refl
 
 -- ---- a walk over the captures
@@ -77,7 +77,7 @@ found-nothing value p = refl
 -- so much has been found up to the last capture, and what comes after it is still to come
 pub record Walked (value : Parts → Reading) (p : Parts) (found : Found) (last : Option Move) : Type 0 where
   pub done : List Move
-  pub so_far : found ≡ found_in value p done
+  pub so_far : found ≡ found_by_captures value p done
   pub whole : done ++ captures_after p last ≡ legal_captures p
 
 all_come : (moves : List Move) → filter (is_later None) moves ≡ moves
@@ -93,7 +93,7 @@ walk-begins value p found e = record {
 }
 
 pub walk-goes_on : (value : Parts → Reading) (p q : Parts) (found found' : Found) (last : Option Move) (m : Move) (r : Reading) (passant : Bool) → Walked value p found last → captures_after p last ≡ m ∷ captures_after p (Some m)
-    → position_after p m ≡ Some q → r ≡ turned (value q) → passant ≡ lands_empty p m → found' ≡ found_with found r passant → Walked value p found' (Some m)
+    → position_after p m ≡ Some q → r ≡ opposite_reading (value q) → passant ≡ lands_empty p m → found' ≡ found_with found r passant → Walked value p found' (Some m)
 walk-goes_on value p q found found' last m r passant w next e er ep g = record {
   done = w.done ++ m ∷ [];
   so_far = rw (found-step value p w.done m, e, ← w.so_far, ← er, ← ep) g;
@@ -126,23 +126,23 @@ pub fewer_left : (last : Option Move) (m : Move) → ((l : Move) → last ≡ So
 fewer_left None m later below = omega (arith, below)
 fewer_left (Some l) m later below = omega (arith, later l refl, below)
 
-pub walk-ends : (value : Parts → Reading) (p : Parts) (found : Found) (last : Option Move) → Walked value p found last → captures_after p last ≡ [] → found ≡ found_in value p (legal_captures p)
-walk-ends value p found last w none = w.so_far ∙ ap (found_in value p) (sym (append-nil w.done) ∙ ap (λ ms. w.done ++ ms) (sym none) ∙ w.whole)
+pub walk-ends : (value : Parts → Reading) (p : Parts) (found : Found) (last : Option Move) → Walked value p found last → captures_after p last ≡ [] → found ≡ found_by_captures value p (legal_captures p)
+walk-ends value p found last w none = w.so_far ∙ ap (found_by_captures value p) (sym (append-nil w.done) ∙ ap (λ ms. w.done ++ ms) (sym none) ∙ w.whole)
 
 -- a position without captures
-pub no_captures : (value : Parts → Reading) (p : Parts) (found : Found) → found ≡ nothing_found → captures_after p None ≡ [] → found ≡ found_in value p (legal_captures p)
+pub no_captures : (value : Parts → Reading) (p : Parts) (found : Found) → found ≡ nothing_found → captures_after p None ≡ [] → found ≡ found_by_captures value p (legal_captures p)
 no_captures value p found e none = walk-ends value p found None (walk-begins value p found e) none
 
-pub with_own_where : (said : Parts → Reading) (value : Parts → Reading) (p : Parts) (found : Found) (own : Reading) (b : Bool) (w : Result Weighed ValueFault) → found ≡ found_in value p (legal_captures p) → own ≡ said p → b ≡ is_forced p → w ≡ closed found own b → w ≡ weighed_where said value p
-unfolding found_in weighed_where
+pub with_own_where : (said : Parts → Reading) (value : Parts → Reading) (p : Parts) (found : Found) (own : Reading) (b : Bool) (w : Result Weighed ValueFault) → found ≡ found_by_captures value p (legal_captures p) → own ≡ said p → b ≡ is_forced p → w ≡ closed found own b → w ≡ weighed_where said value p
+unfolding found_by_captures weighed_where
 with_own_where said value p found own b w f o i c =
     c ∙ rw (f, o, i, passants p, others p) (ap (λ (x : Faults). unless (first_fault x) (Ok (record {
-      capture = greatest (after value p (filter (λ m. not (is_en_passant p m)) (legal_captures p)));
-      passant = greatest (after value p (filter (is_en_passant p) (legal_captures p)));
+      capture = greatest_value (values_after value p (filter (λ m. not (is_en_passant p m)) (legal_captures p)));
+      passant = greatest_value (values_after value p (filter (is_en_passant p) (legal_captures p)));
       own = value_or_loss (said p);
       forced = is_forced p;
-    }))) (sym (faults-append (after value p (legal_captures p)) (said p ∷ []))))
+    }))) (sym (faults-append (values_after value p (legal_captures p)) (said p ∷ []))))
 
-pub with_own : (tables : Tables) (value : Parts → Reading) (p : Parts) (found : Found) (own : Reading) (b : Bool) (w : Result Weighed ValueFault) → found ≡ found_in value p (legal_captures p) → own ≡ table_value tables p → b ≡ is_forced p → w ≡ closed found own b → w ≡ weighed_by tables value p
+pub with_own : (tables : Tables) (value : Parts → Reading) (p : Parts) (found : Found) (own : Reading) (b : Bool) (w : Result Weighed ValueFault) → found ≡ found_by_captures value p (legal_captures p) → own ≡ table_value tables p → b ≡ is_forced p → w ≡ closed found own b → w ≡ weighed_by tables value p
 unfolding weighed_by
 with_own tables value p found own b w f o i c = with_own_where (table_value tables) value p found own b w f o i c

@@ -11,9 +11,9 @@ use Rattle.judge_core.specs.declared.fault.ValueFault.TheVariants.{NotCovered, D
 use Rattle.judge_core.specs.declared.found.Weighed.{Weighed}
 use Rattle.judge_core.specs.declared.wdl.Wdl.{Wdl}
 use Rattle.judge_core.specs.declared.wdl.Wdl.TheVariants.{Loss, BlessedLoss, Draw, CursedWin, Win}
-use Rattle.judge_core.specs.Values.{Reading, points, opposite, greater, turned}
+use Rattle.judge_core.specs.Values.{Reading, points, opposite, greater, opposite_reading}
 use Rattle.judge_core.specs.Asked.{faults_in, first_fault, unless}
-use Rattle.judge_core.specs.Probing.{after, value_or_loss, weighed_where, worth, worth_in, wdl_by_weighed}
+use Rattle.judge_core.specs.Probing.{values_after, value_or_loss, weighed_where, worth, worth_in, wdl_by_weighed}
 
 -- ---- values
 
@@ -77,7 +77,7 @@ pub at_most-refl : (r : Reading) → AtMost r r
 at_most-refl (Ok v) = omega arith
 at_most-refl (Err fault) = refl
 
-pub at_most-turned : (r s : Reading) → AtMost r s → AtMost (turned s) (turned r)
+pub at_most-turned : (r s : Reading) → AtMost r s → AtMost (opposite_reading s) (opposite_reading r)
 at_most-turned (Ok u) (Ok v) h = (let eu = opposite_points u in let ev = opposite_points v in omega (arith, eu, ev, h))
 at_most-turned (Ok u) (Err fault) h = absurd h
 at_most-turned (Err fault) (Ok v) h = absurd h
@@ -146,24 +146,24 @@ unless_rises (Some x) None a b e h = cc
 unless_rises (Some x) (Some y) a b e h = (let same : x ≡ y = cc in same)
 
 -- by the own tables, and by the values after captures
-module _ (f g : Parts → Reading) (p : Parts) (h : (m : Move) (q : Parts) → is_capture p m ≡ true → position_after p m ≡ Some q → AtMost (turned (f q)) (turned (g q))) where
-  one_rises : (m : Move) (o : Option Parts) → is_capture p m ≡ true → position_after p m ≡ o → (ms : List Move) → Rises (after f p ms) (after g p ms) → Rises (after f p (m ∷ ms)) (after g p (m ∷ ms))
+module _ (f g : Parts → Reading) (p : Parts) (h : (m : Move) (q : Parts) → is_capture p m ≡ true → position_after p m ≡ Some q → AtMost (opposite_reading (f q)) (opposite_reading (g q))) where
+  one_rises : (m : Move) (o : Option Parts) → is_capture p m ≡ true → position_after p m ≡ o → (ms : List Move) → Rises (values_after f p ms) (values_after g p ms) → Rises (values_after f p (m ∷ ms)) (values_after g p (m ∷ ms))
   one_rises m None c e ms rest = rw e rest
   one_rises m (Some q) c e ms rest = rw e (h m q c e, rest)
 
-  rises_all : (ms : List Move) → Rises (after f p (filter (is_capture p) ms)) (after g p (filter (is_capture p) ms))
+  rises_all : (ms : List Move) → Rises (values_after f p (filter (is_capture p) ms)) (values_after g p (filter (is_capture p) ms))
   rises_all [] = tt
   rises_all (m ∷ ms) = step (rises_all ms) (is_capture p m) refl
     where
-      step : Rises (after f p (filter (is_capture p) ms)) (after g p (filter (is_capture p) ms)) → (b : Bool) → is_capture p m ≡ b → Rises (after f p (filter (is_capture p) (m ∷ ms))) (after g p (filter (is_capture p) (m ∷ ms)))
+      step : Rises (values_after f p (filter (is_capture p) ms)) (values_after g p (filter (is_capture p) ms)) → (b : Bool) → is_capture p m ≡ b → Rises (values_after f p (filter (is_capture p) (m ∷ ms))) (values_after g p (filter (is_capture p) (m ∷ ms)))
       step rest true e = rw e (one_rises m (position_after p m) e refl (filter (is_capture p) ms) rest)
       step rest false e = rw e rest
 
-  rises_some : (test : Move → Bool) (ms : List Move) → Rises (after f p (filter test (filter (is_capture p) ms))) (after g p (filter test (filter (is_capture p) ms)))
+  rises_some : (test : Move → Bool) (ms : List Move) → Rises (values_after f p (filter test (filter (is_capture p) ms))) (values_after g p (filter test (filter (is_capture p) ms)))
   rises_some test [] = tt
   rises_some test (m ∷ ms) = step (rises_some test ms) (is_capture p m) (test m) refl refl
     where
-      step : Rises (after f p (filter test (filter (is_capture p) ms))) (after g p (filter test (filter (is_capture p) ms))) → (b t : Bool) → is_capture p m ≡ b → test m ≡ t → Rises (after f p (filter test (filter (is_capture p) (m ∷ ms)))) (after g p (filter test (filter (is_capture p) (m ∷ ms))))
+      step : Rises (values_after f p (filter test (filter (is_capture p) ms))) (values_after g p (filter test (filter (is_capture p) ms))) → (b t : Bool) → is_capture p m ≡ b → test m ≡ t → Rises (values_after f p (filter test (filter (is_capture p) (m ∷ ms)))) (values_after g p (filter test (filter (is_capture p) (m ∷ ms))))
       step rest true true e et = rw (e, et) (one_rises m (position_after p m) e refl (filter test (filter (is_capture p) ms)) rest)
       step rest true false e et = rw (e, et) rest
       step rest false t e et = rw e rest

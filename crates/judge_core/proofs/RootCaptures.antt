@@ -14,10 +14,10 @@ use Rattle.judge_core.specs.declared.found.Weighed.{Weighed}
 use Rattle.judge_core.specs.declared.root_move.RootMove.{RootMove}
 use Rattle.judge_core.specs.declared.wdl.Wdl.{Wdl}
 use Rattle.judge_core.specs.declared.wdl.Wdl.TheVariants.{Loss, Draw}
-use Rattle.judge_core.specs.Values.{Reading, points, greater, turned}
+use Rattle.judge_core.specs.Values.{Reading, points, greater, opposite_reading}
 use Rattle.judge_core.specs.Tables.{Tables, table_value}
 use Rattle.judge_core.specs.Asked.{asked, fault_in, unless}
-use Rattle.judge_core.specs.Probing.{after, greatest, value_or_loss, is_forced, are_en_passant, weighed_by, weighed_where, worth, worth_in, wdl_of}
+use Rattle.judge_core.specs.Probing.{values_after, greatest_value, value_or_loss, is_forced, are_en_passant, weighed_by, weighed_where, worth, worth_in, wdl_of}
 use Rattle.judge_core.specs.Root.{effect_of, captures, is_checkmate, root_move_by, root_move_at, root_moves_by}
 use Rattle.judge_core.specs.RootLaws.{NoCaptureIsBetter}
 use Rattle.judge_core.proofs.Captures.{falls, passant_is_capture}
@@ -130,18 +130,18 @@ forced_move p m e has = by_list (legal_moves p) e has
     by_list [] e has = absurd (none_there m has)
     by_list (x ∷ xs) e has = all_are (is_en_passant p) (x ∷ xs) m e has
 
-module _ (tables : Tables) (p : Parts) (m : Move) (q : Parts) (u : Wdl) (has : Contains (legal_moves p) m) (takes : is_capture p m ≡ true) (eq : position_after p m ≡ Some q) (eu : turned (wdl_of tables q) ≡ Ok u) where
+module _ (tables : Tables) (p : Parts) (m : Move) (q : Parts) (u : Wdl) (has : Contains (legal_moves p) m) (takes : is_capture p m ≡ true) (eq : position_after p m ≡ Some q) (eu : opposite_reading (wdl_of tables q) ≡ Ok u) where
   abbrev value_after : Parts → Reading
-  value_after = λ x. turned (wdl_of tables x)
+  value_after = λ x. opposite_reading (wdl_of tables x)
 
-  passant_most : is_en_passant p m ≡ true → points u ≤ points (greatest (after (wdl_of tables) p (filter (is_en_passant p) (legal_captures p))))
+  passant_most : is_en_passant p m ≡ true → points u ≤ points (greatest_value (values_after (wdl_of tables) p (filter (is_en_passant p) (legal_captures p))))
   passant_most e = among value_after p Loss (filter (is_en_passant p) (legal_captures p)) m q u (passes_there (is_en_passant p) (legal_captures p) m (passes_there (is_capture p) (legal_moves p) m has takes) e) eq eu
 
-  other_most : is_en_passant p m ≡ false → points u ≤ points (greatest (after (wdl_of tables) p (filter (λ x. not (is_en_passant p x)) (legal_captures p))))
+  other_most : is_en_passant p m ≡ false → points u ≤ points (greatest_value (values_after (wdl_of tables) p (filter (λ x. not (is_en_passant p x)) (legal_captures p))))
   other_most e = among value_after p Loss (filter (λ x. not (is_en_passant p x)) (legal_captures p)) m q u (passes_there (λ x. not (is_en_passant p x)) (legal_captures p) m (passes_there (is_capture p) (legal_moves p) m has takes) (ap not e)) eq eu
 
-  worth_most : (w : Weighed) → w.capture ≡ greatest (after (wdl_of tables) p (filter (λ x. not (is_en_passant p x)) (legal_captures p)))
-      → w.passant ≡ greatest (after (wdl_of tables) p (filter (is_en_passant p) (legal_captures p))) → w.forced ≡ is_forced p → points u ≤ points (worth w)
+  worth_most : (w : Weighed) → w.capture ≡ greatest_value (values_after (wdl_of tables) p (filter (λ x. not (is_en_passant p x)) (legal_captures p)))
+      → w.passant ≡ greatest_value (values_after (wdl_of tables) p (filter (is_en_passant p) (legal_captures p))) → w.forced ≡ is_forced p → points u ≤ points (worth w)
   worth_most w ec ep ef = by_forced w.forced refl
     where
       left : points w.capture ≤ points (greater w.capture w.passant)
@@ -166,7 +166,7 @@ module _ (tables : Tables) (p : Parts) (m : Move) (q : Parts) (u : Wdl) (has : C
   weighed_most (Some fault) w v most e = absurd cc
 
 module _ (tables : Tables) (p : Parts) (position : IsPosition p) where
-  whole_value : (m : Move) (q : Parts) (u v : Wdl) → Contains (legal_moves p) m → is_capture p m ≡ true → position_after p m ≡ Some q → turned (wdl_of tables q) ≡ Ok u → wdl_of tables p ≡ Ok v → points u ≤ points v
+  whole_value : (m : Move) (q : Parts) (u v : Wdl) → Contains (legal_moves p) m → is_capture p m ≡ true → position_after p m ≡ Some q → opposite_reading (wdl_of tables q) ≡ Ok u → wdl_of tables p ≡ Ok v → points u ≤ points v
   unfolding weighed_by weighed_where
   whole_value m q u v has takes eq eu ev =
       let men = men_of_position q (still p q m position eq) in
@@ -174,12 +174,12 @@ module _ (tables : Tables) (p : Parts) (position : IsPosition p) where
       let many : 2 < count_of_men p = omega (arith, men, less) in
       let rule = sym (ap (λ b. cond b (Ok Draw) (worth_in (weighed_by tables (wdl_of tables) p))) (lt-leb (count_of_men p) 2 many)) ∙ sym (meets_rule tables p position) ∙ ev in
       let w : Weighed = record {
-        capture = greatest (after (wdl_of tables) p (filter (λ x. not (is_en_passant p x)) (legal_captures p)));
-        passant = greatest (after (wdl_of tables) p (filter (is_en_passant p) (legal_captures p)));
+        capture = greatest_value (values_after (wdl_of tables) p (filter (λ x. not (is_en_passant p x)) (legal_captures p)));
+        passant = greatest_value (values_after (wdl_of tables) p (filter (is_en_passant p) (legal_captures p)));
         own = value_or_loss (table_value tables p);
         forced = is_forced p;
       } in
-      weighed_most tables p m q u has takes eq eu (fault_in (after (wdl_of tables) p (legal_captures p) ++ table_value tables p ∷ [])) w v (worth_most tables p m q u has takes eq eu w refl refl refl) rule
+      weighed_most tables p m q u has takes eq eu (fault_in (values_after (wdl_of tables) p (legal_captures p) ++ table_value tables p ∷ [])) w v (worth_most tables p m q u has takes eq eu w refl refl refl) rule
 
   of_move : (r : RootMove) (m : Move) (u v : Wdl) (o : Option Parts) → position_after p m ≡ o → Contains (legal_moves p) m → option_map (root_move_by (wdl_of tables) (dtz_of tables) p m) o ≡ Some r
       → captures r.effect ≡ true → is_checkmate r.state ≡ false → r.wdl ≡ Ok u → wdl_of tables p ≡ Ok v → points u ≤ points v

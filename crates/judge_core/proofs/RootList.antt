@@ -9,7 +9,7 @@ use Rattle.board_core.specs.ComputedMoves.{legal_moves}
 use Rattle.judge_core.specs.declared.root_move.RootMove.{RootMove}
 use Rattle.judge_core.specs.Values.{Reading}
 use Rattle.judge_core.specs.Distances.{Reach}
-use Rattle.judge_core.specs.Root.{IsRootBy, rank, rank_cmp, root_move_at, root_moves_by}
+use Rattle.judge_core.specs.Root.{IsRootBy, move_rank, rank_cmp, root_move_at, root_moves_by}
 
 module _ (value : Parts → Reading) (reach : Parts → Reach) (p : Parts) where
   -- those of these moves
@@ -37,9 +37,9 @@ module _ (value : Parts → Reading) (reach : Parts → Reach) (p : Parts) where
   root-all ms i found end e so_far = so_far ∙ ap listed (take_all i ms end ∙ e)
 
 -- the list, sorted
-pub is_root : (value : Parts → Reading) (reach : Parts → Reach) (p : Parts) (ms sorted : List RootMove) → ms ≡ root_moves_by value reach p → IsPermutation ms sorted → IsSortedByKey rank rank_cmp sorted → IsStableByKey rank rank_cmp ms sorted → IsRootBy value reach p sorted
+pub is_root : (value : Parts → Reading) (reach : Parts → Reach) (p : Parts) (ms sorted : List RootMove) → ms ≡ root_moves_by value reach p → IsPermutation ms sorted → IsSortedByKey move_rank rank_cmp sorted → IsStableByKey move_rank rank_cmp ms sorted → IsRootBy value reach p sorted
 is_root value reach p ms sorted e all best stable = record {
   all = subst (λ xs. IsPermutation xs sorted) e all;
   best_first = best;
-  stable = subst (λ xs. IsStableByKey rank rank_cmp xs sorted) e stable;
+  stable = subst (λ xs. IsStableByKey move_rank rank_cmp xs sorted) e stable;
 }

@@ -19,7 +19,7 @@ use Rattle.judge_core.specs.declared.wdl.Wdl.{Wdl}
 use Rattle.judge_core.specs.declared.wdl.Wdl.TheVariants.{Loss, BlessedLoss, Draw, CursedWin, Win}
 use Rattle.judge_core.specs.Values.{Reading, points, of_points}
 use Rattle.judge_core.specs.Tables.{Tables}
-use Rattle.judge_core.specs.Root.{IsRoot, root_moves, rank, rank_cmp, below_win, distance_or_most}
+use Rattle.judge_core.specs.Root.{IsRoot, root_moves, move_rank, rank_cmp, below_win, distance_or_most}
 use Rattle.std.specs.List.Sorted.{IsSortedByKey}
 use Rattle.judge_core.specs.DeterminedLaws.{FirstDeterminedMoveIsBest, FirstDeterminedMoveWinsWithinRule}
 use Rattle.judge_core.specs.RootLaws.{IsWithinRule, FirstMoveIsBest, FirstMoveWinsWithinRule, FirstMoveKeepsTheValue}
@@ -28,13 +28,13 @@ rank_total : IsTotalOrder rank_cmp
 rank_total = then_total (on_total (λ (r : ℕ × ℤ). r.0) nat_cmp_total) (on_total (λ (r : ℕ × ℤ). r.1) int_cmp_total)
 
 -- no move of a sorted list ranks before the first one
-least_of_sorted : (first : RootMove) (rest : List RootMove) (m : RootMove) → IsSortedByKey rank rank_cmp (first ∷ rest) → Contains (first ∷ rest) m → is_lt (rank_cmp (rank m) (rank first)) ≡ false
+least_of_sorted : (first : RootMove) (rest : List RootMove) (m : RootMove) → IsSortedByKey move_rank rank_cmp (first ∷ rest) → Contains (first ∷ rest) m → is_lt (rank_cmp (move_rank m) (move_rank first)) ≡ false
 least_of_sorted first rest m sorted at =
-    subst (λ (x : RootMove). is_lt (rank_cmp (rank x) (rank first)) ≡ false) at.2
-    (sorted_far (λ a b. is_lt (rank_cmp (rank a) (rank b))) (ranks_by rank_total rank) (first ∷ rest) sorted 0 at.0 m (omega arith) at.1)
+    subst (λ (x : RootMove). is_lt (rank_cmp (move_rank x) (move_rank first)) ≡ false) at.2
+    (sorted_far (λ a b. is_lt (rank_cmp (move_rank a) (move_rank b))) (ranks_by rank_total move_rank) (first ∷ rest) sorted 0 at.0 m (omega arith) at.1)
 
 -- no root move does
-first_is_least : (tables : Tables) (p : Parts) (first : RootMove) (rest : List RootMove) (m : RootMove) → IsRoot tables p (first ∷ rest) → Contains (root_moves tables p) m → is_lt (rank_cmp (rank m) (rank first)) ≡ false
+first_is_least : (tables : Tables) (p : Parts) (first : RootMove) (rest : List RootMove) (m : RootMove) → IsRoot tables p (first ∷ rest) → Contains (root_moves tables p) m → is_lt (rank_cmp (move_rank m) (move_rank first)) ≡ false
 first_is_least tables p first rest m root has = least_of_sorted first rest m root.best_first (Contains-permutation (root_moves tables p) (first ∷ rest) m root.all has)
 
 not_below : (a b : ℕ) (o : Ordering) → is_lt (ordering_then (nat_cmp a b) o) ≡ false → b ≤ a
@@ -57,7 +57,7 @@ at_least (Ok u) v h = (u, refl, (let four = below_five v in omega (arith, h, fou
 at_least (Err fault) v h = absurd (omega (arith, h))
 
 -- of two moves the one that doesn't rank after the other has a value where that has one, and it is as good
-as_good : (first m : RootMove) (v : Wdl) → is_lt (rank_cmp (rank m) (rank first)) ≡ false → m.wdl ≡ Ok v → (u : Wdl) × (first.wdl ≡ Ok u) × (points v ≤ points u)
+as_good : (first m : RootMove) (v : Wdl) → is_lt (rank_cmp (move_rank m) (move_rank first)) ≡ false → m.wdl ≡ Ok v → (u : Wdl) × (first.wdl ≡ Ok u) × (points v ≤ points u)
 as_good first m v least e =
     let low = not_below (below_win m.wdl) (below_win first.wdl) _ least in
     at_least first.wdl v (subst (λ (r : Reading). below_win first.wdl ≤ below_win r) e low)
@@ -113,7 +113,7 @@ win_from r h = (let u = at_least r Win h in u.1 ∙ ap (λ (v : Wdl). Ok v) (bes
 both_win : (a b : Reading) (x y : ℤ) → a ≡ Ok Win → b ≡ Ok Win → is_lt (ordering_then (nat_cmp (below_win a) (below_win b)) (int_cmp x y)) ≡ false → is_lt (int_cmp x y) ≡ false
 both_win a b x y ea eb h = rw (ea, eb) at h
 
-as_near : (p : Parts) (first m : RootMove) → is_lt (rank_cmp (rank m) (rank first)) ≡ false → (within : IsWithinRule p m) → (distance : ℤ) × (first.wdl ≡ Ok Win) × (first.dtz ≡ Ok distance) × (distance ≤ℤ pos within.distance)
+as_near : (p : Parts) (first m : RootMove) → is_lt (rank_cmp (move_rank m) (move_rank first)) ≡ false → (within : IsWithinRule p m) → (distance : ℤ) × (first.wdl ≡ Ok Win) × (first.dtz ≡ Ok distance) × (distance ≤ℤ pos within.distance)
 as_near p first m least within =
     let low = not_below (below_win m.wdl) (below_win first.wdl) _ least in
     let won = win_from first.wdl (subst (λ (r : Reading). below_win first.wdl ≤ below_win r) within.won low) in

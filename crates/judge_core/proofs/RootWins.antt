@@ -14,9 +14,9 @@ use Rattle.judge_core.specs.Asked.{asked, fault_in, unless}
 use Rattle.judge_core.specs.Probing.{wdl_of}
 use Rattle.judge_core.specs.Answers.{signed_in}
 use Rattle.judge_core.specs.Ends.{has_no_move, is_mate}
-use Rattle.judge_core.specs.Distances.{Reach, is_won, is_quiet, moves_pawn, counted, move_counts, count_in, lesser, least, won_in, by_counts, dtz_of}
+use Rattle.judge_core.specs.Distances.{Reach, is_won, is_quiet, moves_pawn, distance_before, move_counts, known_count, lesser, least, won_in, by_counts, dtz_of}
 use Rattle.judge_core.specs.FiveRules.{counts_after}
-use Rattle.judge_core.specs.Root.{effect_of, zeroes_clock, state_of, state_by, is_checkmate, before, root_move_by, root_move_at, root_moves_by, root_moves}
+use Rattle.judge_core.specs.Root.{effect_of, zeroes_clock, state_of, state_by, is_checkmate, reach_one_ply_before, root_move_by, root_move_at, root_moves_by, root_moves}
 use Rattle.judge_core.specs.RootLaws.{plies_won, quiet_win, NearestWinIsTheDistance}
 use Rattle.judge_core.proofs.Captures.{passant_is_capture}
 use Rattle.judge_core.proofs.Effects.{effect_by}
@@ -47,7 +47,7 @@ unfolding state_of
 mated q = mate_by (is_in_check q.men q.side) (has_no_move (legal_moves q))
 
 -- the plies of a win before a move are one more than those after it
-one_more_won : (r : Reach) → count_in (counted true r) ≡ plies_won (signed_in (before r))
+one_more_won : (r : Reach) → known_count (distance_before true r) ≡ plies_won (signed_in (reach_one_ply_before r))
 one_more_won (Ok Draw) = refl
 one_more_won (Ok (Win n)) = lost_is_none n
   where
@@ -60,11 +60,11 @@ one_more_won (Ok (Loss n)) = won_is_some n
 one_more_won (Err fault) = refl
 
 module _ (tables : Tables) (p : Parts) (outcome : Outcome) (wins : is_won outcome ≡ true) where
-  counts_alike : (mate : Bool) (r : Reach) → count_in (if true && mate then Ok (Some 1) else counted true r) ≡ plies_won (signed_in (if mate then Ok (Win 1) else before r))
+  counts_alike : (mate : Bool) (r : Reach) → known_count (if true && mate then Ok (Some 1) else distance_before true r) ≡ plies_won (signed_in (if mate then Ok (Win 1) else reach_one_ply_before r))
   counts_alike true r = refl
   counts_alike false r = one_more_won r
 
-  quiet_alike : (m : Move) (q : Parts) → is_quiet p m ≡ true → count_in (move_counts outcome (dtz_of tables) q) ≡ quiet_win (root_move_by (wdl_of tables) (dtz_of tables) p m q)
+  quiet_alike : (m : Move) (q : Parts) → is_quiet p m ≡ true → known_count (move_counts outcome (dtz_of tables) q) ≡ quiet_win (root_move_by (wdl_of tables) (dtz_of tables) p m q)
   unfolding move_counts
   quiet_alike m q e = rw (zeroes_unless_quiet p m, e, mated q, wins) (counts_alike (is_mate q) (dtz_of tables q))
 
@@ -74,15 +74,15 @@ module _ (tables : Tables) (p : Parts) (outcome : Outcome) (wins : is_won outcom
   head_alike : {X Y : Type 0} (f : X → Option ℕ) (g : Y → Option ℕ) (x : X) (y : Y) (xs : List X) (ys : List Y) → f x ≡ g y → filter_map f xs ≡ filter_map g ys → filter_map f (x ∷ xs) ≡ filter_map g (y ∷ ys)
   head_alike f g x y xs ys e rest = rw (e, rest) refl
 
-  wins_alike : (ms : List Move) → filter_map count_in (asked (move_counts outcome (dtz_of tables)) p (filter (is_quiet p) ms)) ≡ filter_map quiet_win (filter_map (root_move_at (wdl_of tables) (dtz_of tables) p) ms)
+  wins_alike : (ms : List Move) → filter_map known_count (asked (move_counts outcome (dtz_of tables)) p (filter (is_quiet p) ms)) ≡ filter_map quiet_win (filter_map (root_move_at (wdl_of tables) (dtz_of tables) p) ms)
   wins_alike [] = refl
   wins_alike (m ∷ ms) = step (wins_alike ms) (is_quiet p m) (position_after p m) refl refl
     where
-      step : filter_map count_in (asked (move_counts outcome (dtz_of tables)) p (filter (is_quiet p) ms)) ≡ filter_map quiet_win (filter_map (root_move_at (wdl_of tables) (dtz_of tables) p) ms) → (b : Bool) (o : Option Parts) → is_quiet p m ≡ b → position_after p m ≡ o → filter_map count_in (asked (move_counts outcome (dtz_of tables)) p (filter (is_quiet p) (m ∷ ms))) ≡ filter_map quiet_win (filter_map (root_move_at (wdl_of tables) (dtz_of tables) p) (m ∷ ms))
+      step : filter_map known_count (asked (move_counts outcome (dtz_of tables)) p (filter (is_quiet p) ms)) ≡ filter_map quiet_win (filter_map (root_move_at (wdl_of tables) (dtz_of tables) p) ms) → (b : Bool) (o : Option Parts) → is_quiet p m ≡ b → position_after p m ≡ o → filter_map known_count (asked (move_counts outcome (dtz_of tables)) p (filter (is_quiet p) (m ∷ ms))) ≡ filter_map quiet_win (filter_map (root_move_at (wdl_of tables) (dtz_of tables) p) (m ∷ ms))
       step rest true None eb eo = rw (eb, eo) rest
       step rest false None eb eo = rw (eb, eo) rest
       step rest true (Some q) eb eo =
-          rw (eb, eo) (head_alike count_in quiet_win (move_counts outcome (dtz_of tables) q) (root_move_by (wdl_of tables) (dtz_of tables) p m q) (asked (move_counts outcome (dtz_of tables)) p (filter (is_quiet p) ms)) (filter_map (root_move_at (wdl_of tables) (dtz_of tables) p) ms) (quiet_alike m q eb) rest)
+          rw (eb, eo) (head_alike known_count quiet_win (move_counts outcome (dtz_of tables) q) (root_move_by (wdl_of tables) (dtz_of tables) p m q) (asked (move_counts outcome (dtz_of tables)) p (filter (is_quiet p) ms)) (filter_map (root_move_at (wdl_of tables) (dtz_of tables) p) ms) (quiet_alike m q eb) rest)
       step rest false (Some q) eb eo = rw (eb, eo, other_alike m q eb) rest
 
   least_alike : least (counts_after (dtz_of tables) p outcome) ≡ fold lesser None (filter_map quiet_win (root_moves tables p))

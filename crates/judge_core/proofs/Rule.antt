@@ -12,33 +12,33 @@ use Rattle.board_core.proofs.Preserved.{IsPosition-play}
 use Rattle.judge_core.specs.declared.wdl.Wdl.TheVariants.{Draw}
 use Rattle.judge_core.specs.declared.fault.ValueFault.{ValueFault}
 use Rattle.judge_core.specs.declared.found.Weighed.{Weighed}
-use Rattle.judge_core.specs.Values.{Reading, turned}
+use Rattle.judge_core.specs.Values.{Reading, opposite_reading}
 use Rattle.judge_core.specs.Tables.{Tables, table_value}
-use Rattle.judge_core.specs.Probing.{after, weighed_where, weighed_by, wdl_by_weighed, wdl_by, wdl_to, wdl_where, wdl_of, worth_in}
+use Rattle.judge_core.specs.Probing.{values_after, weighed_where, weighed_by, wdl_by_weighed, wdl_by, wdl_to, wdl_where, wdl_of, worth_in}
 use Rattle.judge_core.proofs.Captures.{falls}
 
 -- two ways to tell a value agree after each capture
 abbrev pub Agree : (Parts → Reading) → (Parts → Reading) → Parts → Type 0
 Agree f g p = (m : Move) (q : Parts) → is_capture p m ≡ true → position_after p m ≡ Some q → f q ≡ g q
 
-same_reading : (f g : Parts → Reading) (o : Option Parts) → ((q : Parts) → o ≡ Some q → f q ≡ g q) → option_map (λ q. turned (f q)) o ≡ option_map (λ q. turned (g q)) o
+same_reading : (f g : Parts → Reading) (o : Option Parts) → ((q : Parts) → o ≡ Some q → f q ≡ g q) → option_map (λ q. opposite_reading (f q)) o ≡ option_map (λ q. opposite_reading (g q)) o
 same_reading f g None h = refl
-same_reading f g (Some q) h = ap (λ (r : Reading). Some (turned r)) (h q refl)
+same_reading f g (Some q) h = ap (λ (r : Reading). Some (opposite_reading r)) (h q refl)
 
 module _ (f g : Parts → Reading) (p : Parts) (agree : Agree f g p) where
-  same_all : (ms : List Move) → after f p (filter (is_capture p) ms) ≡ after g p (filter (is_capture p) ms)
+  same_all : (ms : List Move) → values_after f p (filter (is_capture p) ms) ≡ values_after g p (filter (is_capture p) ms)
   same_all [] = refl
   same_all (m ∷ ms) = step (same_all ms) (is_capture p m) refl
     where
-      step : after f p (filter (is_capture p) ms) ≡ after g p (filter (is_capture p) ms) → (b : Bool) → is_capture p m ≡ b → after f p (filter (is_capture p) (m ∷ ms)) ≡ after g p (filter (is_capture p) (m ∷ ms))
+      step : values_after f p (filter (is_capture p) ms) ≡ values_after g p (filter (is_capture p) ms) → (b : Bool) → is_capture p m ≡ b → values_after f p (filter (is_capture p) (m ∷ ms)) ≡ values_after g p (filter (is_capture p) (m ∷ ms))
       step rest true e = rw (e, same_reading f g (position_after p m) (λ q. agree m q e), rest) refl
       step rest false e = rw e rest
 
-  same_some : (test : Move → Bool) (ms : List Move) → after f p (filter test (filter (is_capture p) ms)) ≡ after g p (filter test (filter (is_capture p) ms))
+  same_some : (test : Move → Bool) (ms : List Move) → values_after f p (filter test (filter (is_capture p) ms)) ≡ values_after g p (filter test (filter (is_capture p) ms))
   same_some test [] = refl
   same_some test (m ∷ ms) = step (same_some test ms) (is_capture p m) (test m) refl refl
     where
-      step : after f p (filter test (filter (is_capture p) ms)) ≡ after g p (filter test (filter (is_capture p) ms)) → (b t : Bool) → is_capture p m ≡ b → test m ≡ t → after f p (filter test (filter (is_capture p) (m ∷ ms))) ≡ after g p (filter test (filter (is_capture p) (m ∷ ms)))
+      step : values_after f p (filter test (filter (is_capture p) ms)) ≡ values_after g p (filter test (filter (is_capture p) ms)) → (b t : Bool) → is_capture p m ≡ b → test m ≡ t → values_after f p (filter test (filter (is_capture p) (m ∷ ms))) ≡ values_after g p (filter test (filter (is_capture p) (m ∷ ms)))
       step rest true true e et = rw (e, et, same_reading f g (position_after p m) (λ q. agree m q e), rest) refl
       step rest true false e et = rw (e, et) rest
       step rest false t e et = rw e rest

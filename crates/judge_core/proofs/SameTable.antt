@@ -32,7 +32,7 @@ use Rattle.place_index.specs.Material.{count_of, pieces_of}
 use Rattle.place_index.specs.Shape.{lead_code, black_leads}
 use Rattle.place_index.specs.Pawns.{pawn_square, pawn_numbers_of}
 use Rattle.place_index.specs.Turning.{lead_pawn, lead_file}
-use Rattle.place_index.specs.Placed.{is_black, kind_code, code_of, men_from, men_on}
+use Rattle.place_index.specs.Placed.{is_black, kind_code, code_of_man, men_from, men_on}
 use Rattle.table_file.specs.Files.{is_symmetric}
 use Rattle.judge_core.specs.LookUp.{is_named, is_material, material_of, placement, placed_of}
 use Rattle.judge_core.specs.Distances.{moves_pawn, is_quiet}
@@ -47,7 +47,7 @@ not_pawn : (b : Bool) → not b ≡ true → b ≡ false
 not_pawn true e = cc
 not_pawn false e = refl
 
-module _ (T : Man → Bool) (blind : (piece : Piece) (s : ℕ) → is_pawn piece.kind ≡ false → T (man (code_of piece) s) ≡ false) where
+module _ (T : Man → Bool) (blind : (piece : Piece) (s : ℕ) → is_pawn piece.kind ≡ false → T (man (code_of_man piece) s) ≡ false) where
   passed_over : (k : ℕ) (o : Option Piece) (board : List (Option Piece)) → is_no_pawn o ≡ true → list_any T (men_from k (o ∷ board)) ≡ list_any T (men_from (suc k) board)
   unfolding men_from
   passed_over k None board e = refl
@@ -58,7 +58,7 @@ module _ (T : Man → Bool) (blind : (piece : Piece) (s : ℕ) → is_pawn piece
   one_square k [] i x a b = refl
   one_square k (o ∷ board) zero x a b = passed_over k x board b ∙ sym (passed_over k o board a)
   one_square k (None ∷ board) (suc i) x a b = one_square (suc k) board i x a b
-  one_square k (Some piece ∷ board) (suc i) x a b = ap (λ r. T (man (code_of piece) k) || r) (one_square (suc k) board i x a b)
+  one_square k (Some piece ∷ board) (suc i) x a b = ap (λ r. T (man (code_of_man piece) k) || r) (one_square (suc k) board i x a b)
 
   same_any : (board : List (Option Piece)) (from to : ℕ) → from ≢ to → is_no_pawn (man_at board from) ≡ true → man_at board to ≡ None → list_any T (men_on (carried board from to (man_at board from))) ≡ list_any T (men_on board)
   same_any board from to apart a b =
@@ -160,7 +160,7 @@ list_any-map T f (x ∷ xs) = ap (λ r. T (f x) || r) (list_any-map T f xs)
 -- how much a man counts, by a test of codes
 abbrev counts : (ℕ → Bool) → Option Piece → ℕ
 counts f None = 0
-counts f (Some piece) = cond (f (code_of piece)) 1 0
+counts f (Some piece) = cond (f (code_of_man piece)) 1 0
 
 count_on : (f : ℕ → Bool) (k : ℕ) (board : List (Option Piece)) → count_by f (codes_of (men_from k board)) ≡ sum_by (counts f) board
 unfolding men_from
@@ -170,8 +170,8 @@ count_on f k (None ∷ board) =
     let e : sum_by (counts f) (None ∷ board) ≡ 0 + sum_by (counts f) board = sum_by-cons (counts f) None board in
     omega (arith, rest, e)
 count_on f k (Some piece ∷ board) =
-    sum_by-cons (λ c. cond (f c) 1 0) (code_of piece) (codes_of (men_from (suc k) board))
-    ∙ ap (λ n. cond (f (code_of piece)) 1 0 + n) (count_on f (suc k) board)
+    sum_by-cons (λ c. cond (f c) 1 0) (code_of_man piece) (codes_of (men_from (suc k) board))
+    ∙ ap (λ n. cond (f (code_of_man piece)) 1 0 + n) (count_on f (suc k) board)
     ∙ sym (sum_by-cons (counts f) (Some piece) board)
 
 -- as many of each code
@@ -287,7 +287,7 @@ module _ (p q : Parts) (m : Move) (position : IsPosition p) (quiet : IsQuietAfte
   codes_exchanged : SameCodes (codes_of (exchanged (men_on q.men))) (codes_of (exchanged (men_on p.men)))
   codes_exchanged f = count_exchanged f (men_on q.men) ∙ codes_kept (λ c. f (other_side c)) ∙ sym (count_exchanged f (men_on p.men))
 
-  any_kept : (T : Man → Bool) → ((piece : Piece) (s : ℕ) → is_pawn piece.kind ≡ false → T (man (code_of piece) s) ≡ false) → list_any T (men_on q.men) ≡ list_any T (men_on p.men)
+  any_kept : (T : Man → Bool) → ((piece : Piece) (s : ℕ) → is_pawn piece.kind ≡ false → T (man (code_of_man piece) s) ≡ false) → list_any T (men_on q.men) ≡ list_any T (men_on p.men)
   any_kept T blind = rw quiet.men (same_any T blind p.men m.from m.to quiet.apart quiet.no_pawn quiet.empty)
 
   pawns_kept : SamePawns (men_on q.men) (men_on p.men)

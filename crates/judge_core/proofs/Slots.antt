@@ -9,7 +9,7 @@ use Rattle.table_file.specs.declared.kind.TableKind.TheVariants.{Wdl, Dtz}
 use Rattle.table_file.specs.Tables.{Contents}
 use Rattle.judge_core.specs.Tables.{Tables, Holding, AreFiled, slot, men_of_slot, largest_of}
 use Rattle.judge_core.specs.declared.shelf.Shelf.TheInside.{Inside}
-use Rattle.judge_core.specs.Inside.Kept.{IsKept, table_in, tables_in}
+use Rattle.judge_core.specs.Inside.Kept.{IsSoundSet, table_in, tables_in}
 use Rattle.judge_core.specs.declared.table_slot.TableSlot.{TableSlot}
 use Rattle.judge_core.specs.declared.table_slot.TableSlot.TheVariants.{Empty, Own}
 
@@ -52,7 +52,7 @@ still_filed tables t filed lt below kind key u key_below e = elim (cases_eq (slo
 
 -- ---- the whole of what a shelf keeps
 
-pub new_kept : (a : Inside) (n : ℕ) → n ≡ 290 → tables_in a.tables.items ≡ replicate n None → 1 ≤ a.cache → a.cache ≤ 4096 → IsKept a
+pub new_kept : (a : Inside) (n : ℕ) → n ≡ 290 → tables_in a.tables.items ≡ replicate n None → 1 ≤ a.cache → a.cache ≤ 4096 → IsSoundSet a
 new_kept a n full e some most = record {
   slots = sym (length-map a.tables.items table_in) ∙ ap length e ∙ length-replicate {A = Option Contents} n None ∙ full;
   filed = (let P : Tables → Type 0 = AreFiled in subst P (sym e) (none_filed n));
@@ -61,7 +61,7 @@ new_kept a n full e some most = record {
 }
 
 -- b's slots are a's with this table in its slot
-pub more_kept : (a b : Inside) (t : Contents) (k : ℕ) → IsKept a → k ≡ slot t.kind t.material → k < 290 → t.material < 145 → b.tables.items ≡ set a.tables.items k (Own t) → b.cache ≡ a.cache → IsKept b
+pub more_kept : (a b : Inside) (t : Contents) (k : ℕ) → IsSoundSet a → k ≡ slot t.kind t.material → k < 290 → t.material < 145 → b.tables.items ≡ set a.tables.items k (Own t) → b.cache ≡ a.cache → IsSoundSet b
 more_kept a b t k kept is lt below e g = record {
   slots = ap length e ∙ length-set a.tables.items k (Own t) ∙ kept.slots;
   filed = (
@@ -79,7 +79,7 @@ more_kept a b t k kept is lt below e g = record {
 pub shared_same : (slots : List TableSlot) (k : ℕ) (between kept : TableSlot) → table_in kept ≡ table_in (get_or slots k Empty) → tables_in (set (set slots k between) k kept) ≡ tables_in slots
 shared_same slots k between kept same = ap tables_in (set-set slots k between kept) ∙ map-set_same table_in slots k kept Empty same
 
-pub still_kept : (a b : Inside) (k : ℕ) (between kept : TableSlot) → IsKept a → b.tables.items ≡ set (set a.tables.items k between) k kept → table_in kept ≡ table_in (get_or a.tables.items k Empty) → b.cache ≡ a.cache → IsKept b
+pub still_kept : (a b : Inside) (k : ℕ) (between kept : TableSlot) → IsSoundSet a → b.tables.items ≡ set (set a.tables.items k between) k kept → table_in kept ≡ table_in (get_or a.tables.items k Empty) → b.cache ≡ a.cache → IsSoundSet b
 still_kept a b k between kept whole e same g = record {
   slots = ap length e ∙ length-set (set a.tables.items k between) k kept ∙ length-set a.tables.items k between ∙ whole.slots;
   filed = (let P : Tables → Type 0 = AreFiled in subst P (sym (ap tables_in e ∙ shared_same a.tables.items k between kept same)) whole.filed);
@@ -100,7 +100,7 @@ module _ (tables : Tables) (slots : List TableSlot) (n : ℕ) (so_far : tables_i
   pub shared_all : length tables ≤ n → tables_in slots ≡ tables
   shared_all end = so_far ∙ take_all n tables end
 
-pub shared_kept : (a b : Inside) → IsKept a → tables_in b.tables.items ≡ tables_in a.tables.items → 1 ≤ b.cache → b.cache ≤ 4096 → IsKept b
+pub shared_kept : (a b : Inside) → IsSoundSet a → tables_in b.tables.items ≡ tables_in a.tables.items → 1 ≤ b.cache → b.cache ≤ 4096 → IsSoundSet b
 shared_kept a b kept e some most = record {
   slots = sym (length-map b.tables.items table_in) ∙ ap length e ∙ length-map a.tables.items table_in ∙ kept.slots;
   filed = (let P : Tables → Type 0 = AreFiled in subst P (sym e) kept.filed);
@@ -109,7 +109,7 @@ shared_kept a b kept e some most = record {
 }
 
 -- there are 290
-pub slot_count : (a : Inside) (h : Holding) → IsKept a → record { tables = tables_in a.tables.items; cache = a.cache } ≡ h → length h.tables ≡ 290
+pub slot_count : (a : Inside) (h : Holding) → IsSoundSet a → record { tables = tables_in a.tables.items; cache = a.cache } ≡ h → length h.tables ≡ 290
 slot_count a h kept e = sym (ap (λ (x : Holding). length x.tables) e) ∙ length-map a.tables.items table_in ∙ kept.slots
 
 pub at_slot : (a b : TableKind) (j k n : ℕ) → n ≡ slot a j → a ≡ b → j ≡ k → n ≡ slot b k

@@ -9,7 +9,7 @@ use Rattle.board_core.specs.declared.moves.Move.{Move}
 use Rattle.board_core.specs.ComputedMoves.{position_after}
 use Rattle.board_core.specs.declared.verdict.Verdict.{Verdict}
 use Rattle.board_core.specs.declared.verdict.Verdict.TheVariants.{WhiteMates, BlackMates, Stalemate, TableDraw, TableWhite, TableBlack, Stopped}
-use Rattle.board_core.specs.Verdicts.{code_of}
+use Rattle.board_core.specs.Verdicts.{verdict_code}
 use Rattle.judge_core.specs.Ruling.{ruling}
 use Rattle.board_core.specs.Delays.{most_delay}
 use Rattle.judge_core.specs.Games.{judged_after, Rules, is_end, is_judged, has_stood, verdict_by, verdict_after}
@@ -28,7 +28,7 @@ verdict_coded (suc (suc (suc (suc (suc zero))))) = TableWhite
 verdict_coded (suc (suc (suc (suc (suc (suc zero)))))) = TableBlack
 verdict_coded (suc (suc (suc (suc (suc (suc (suc n))))))) = Stopped
 
-verdict_back : (v : Verdict) → verdict_coded (code_of v) ≡ v
+verdict_back : (v : Verdict) → verdict_coded (verdict_code v) ≡ v
 verdict_back WhiteMates = refl
 verdict_back BlackMates = refl
 verdict_back Stalemate = refl
@@ -37,7 +37,7 @@ verdict_back TableWhite = refl
 verdict_back TableBlack = refl
 verdict_back Stopped = refl
 
-pub same_verdict : (v w : Verdict) → code_of v ≡ code_of w → v ≡ w
+pub same_verdict : (v w : Verdict) → verdict_code v ≡ verdict_code w → v ≡ w
 same_verdict v w e = sym (verdict_back v) ∙ ap verdict_coded e ∙ verdict_back w
 
 pub judged_so : (o : Option Verdict) (v : Verdict) → is_judged o v ≡ true → o ≡ Some v

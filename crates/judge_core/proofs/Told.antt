@@ -14,7 +14,7 @@ use Rattle.judge_core.specs.Tables.{Tables}
 use Rattle.judge_core.specs.Probing.{wdl_of}
 use Rattle.judge_core.specs.Distances.{Reach, dtz_by, dtz_to, dtz_of}
 use Rattle.judge_core.specs.Answers.{as_probe, signed_in}
-use Rattle.judge_core.specs.Probed.{number_of}
+use Rattle.judge_core.specs.Probed.{wdl_number}
 use Rattle.judge_core.specs.Root.{IsRootBy, IsInScope}
 use Rattle.judge_core.specs.Ruling.{is_out_of_scope}
 use Rattle.judge_core.specs.Determined.{IsDeterminedWdl, IsDeterminedDtz, AreDetermined, IsDeterminedRoot}
@@ -78,7 +78,7 @@ module _ (tables : Tables) (p : Parts) where
     }
 
     pub both_inside : (value : Reading) (reach : Reach) (probed : Probed) → is_out_of_scope p ≡ false → value ≡ determined_value tables p → reach ≡ determined_reach tables p
-        → probed.wdl ≡ as_probe number_of value → probed.dtz ≡ as_probe (λ n. n) (signed_in reach) → AreDetermined tables p probed
+        → probed.wdl ≡ as_probe wdl_number value → probed.dtz ≡ as_probe (λ n. n) (signed_in reach) → AreDetermined tables p probed
     both_inside value reach probed inside ev er ew ed = record {
       wdl = as_probe (λ x. x) value;
       dtz = as_probe (λ x. x) (signed_in reach);

@@ -13,10 +13,10 @@ use Rattle.judge_core.specs.declared.fault.ValueFault.{ValueFault}
 use Rattle.judge_core.specs.declared.found.Weighed.{Weighed}
 use Rattle.judge_core.specs.declared.wdl.Wdl.{Wdl}
 use Rattle.judge_core.specs.declared.wdl.Wdl.TheVariants.{Loss, BlessedLoss, Draw, CursedWin, Win as Best}
-use Rattle.judge_core.specs.Values.{Reading, points, opposite, turned, greater, is_same, is_below, is_winning, outcome_of}
+use Rattle.judge_core.specs.Values.{Reading, points, opposite, opposite_reading, greater, is_same, is_below, is_winning, outcome_of}
 use Rattle.judge_core.specs.Tables.{Tables, table_value}
 use Rattle.judge_core.specs.Asked.{asked, fault_in, unless}
-use Rattle.judge_core.specs.Probing.{after, weighed_where, weighed_by, wdl_where, wdl_of, worth}
+use Rattle.judge_core.specs.Probing.{values_after, weighed_where, weighed_by, wdl_where, wdl_of, worth}
 use Rattle.judge_core.specs.Distances.{Reach, is_won, is_value, is_pawn_step, is_by_capture, pawns_reach_where, unless_reached, by_own_table, by_moves, by_outcome, by_weighed, zeroing, towards, dtz_by, dtz_to, dtz_of}
 use Rattle.judge_core.specs.Determined.{IsCompletion, IsCompletedBy, IsDetermined, IsDeterminedDistance, IsDeterminedReading}
 use Rattle.judge_core.specs.Inside.Determined.{extreme_value, extreme_weighed, agreed, or_agreed, in_both, value_in_both, pawns_reach_in_both, is_reached, zeroing_distance, agreed_distance, distance_in_both, determined_value, is_won_here}
@@ -266,11 +266,11 @@ opposite-twice CursedWin = refl
 opposite-twice Best = refl
 
 -- what a pawn move reaches in both, it reaches in every completion
-pub both_reach : (tables : Tables) (own : Parts → Reading) → IsCompletion tables own → (v : Wdl) (q : Parts) → IsPosition q → Reaches v (turned (value_in_both tables (opposite v) q)) (turned (wdl_where own q))
+pub both_reach : (tables : Tables) (own : Parts → Reading) → IsCompletion tables own → (v : Wdl) (q : Parts) → IsPosition q → Reaches v (opposite_reading (value_in_both tables (opposite v) q)) (opposite_reading (wdl_where own q))
 unfolding value_in_both
 both_reach tables own completes v q position x e = from_turned (in_both (opposite v) (extreme_value tables true q) (extreme_value tables false q)) refl e
   where
-    from_turned : (r : Reading) → in_both (opposite v) (extreme_value tables true q) (extreme_value tables false q) ≡ r → turned r ≡ Ok x → (y : Wdl) × (turned (wdl_where own q) ≡ Ok y) × (is_value v (Ok x) ≡ true → is_value v (Ok y) ≡ true)
+    from_turned : (r : Reading) → in_both (opposite v) (extreme_value tables true q) (extreme_value tables false q) ≡ r → opposite_reading r ≡ Ok x → (y : Wdl) × (opposite_reading (wdl_where own q) ≡ Ok y) × (is_value v (Ok x) ≡ true → is_value v (Ok y) ≡ true)
     from_turned (Err fault) er e = absurd (cc)
     from_turned (Ok z) er e =
         let parts = in_both-ok (opposite v) (extreme_value tables true q) (extreme_value tables false q) z er in
@@ -279,7 +279,7 @@ both_reach tables own completes v q position x e = from_turned (in_both (opposit
         (subst (λ r. IsBound (is_won_here false (count_of_men q)) (wdl_where own q) r) parts.3 (value_bound tables own completes false q position)) in
         let turn : opposite z ≡ x = cc in (
           opposite it.0,
-          ap turned it.1,
+          ap opposite_reading it.1,
           λ is. (
               let ex : x ≡ v = is_same-true x v is in
               let ez : z ≡ opposite v = sym (opposite-twice z) ∙ ap opposite (turn ∙ ex) in
@@ -289,15 +289,15 @@ both_reach tables own completes v q position x e = from_turned (in_both (opposit
         )
 
 module _ (tables more : Tables) (c : IsCompletedBy tables more) (v : Wdl) where
-  reach_more : (q : Parts) → IsPosition q → Reaches v (turned (value_in_both tables (opposite v) q)) (turned (wdl_of more q))
-  reach_more q position = subst (λ r. Reaches v (turned (value_in_both tables (opposite v) q)) (turned r)) (sym (value_is more q)) (both_reach tables (table_value more) c.values v q position)
+  reach_more : (q : Parts) → IsPosition q → Reaches v (opposite_reading (value_in_both tables (opposite v) q)) (opposite_reading (wdl_of more q))
+  reach_more q position = subst (λ r. Reaches v (opposite_reading (value_in_both tables (opposite v) q)) (opposite_reading r)) (sym (value_is more q)) (both_reach tables (table_value more) c.values v q position)
 
   pub pawns_between : (p : Parts) → IsPosition p → pawns_reach_in_both tables p v ≡ Ok true → pawns_reach_where (wdl_of more) p v ≡ Ok true
   unfolding pawns_reach_where
   pawns_between p position e =
       let parts = unless_ok _ _ true e in
-      let any : list_any (is_value v) (after (value_in_both tables (opposite v)) p (filter (is_pawn_step p) (legal_moves p))) ≡ true = reached_of _ _ e in
-      let all = all_reached v (λ q. turned (value_in_both tables (opposite v) q)) (λ q. turned (wdl_of more q)) p (is_pawn_step p) (λ m q t a. reach_more q (still p q m position a)) (legal_moves p) parts.0 in
+      let any : list_any (is_value v) (values_after (value_in_both tables (opposite v)) p (filter (is_pawn_step p) (legal_moves p))) ≡ true = reached_of _ _ e in
+      let all = all_reached v (λ q. opposite_reading (value_in_both tables (opposite v) q)) (λ q. opposite_reading (wdl_of more q)) p (is_pawn_step p) (λ m q t a. reach_more q (still p q m position a)) (legal_moves p) parts.0 in
       rw (all.0, all.1 any) refl
 
 -- ---- the distance

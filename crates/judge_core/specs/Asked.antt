@@ -32,13 +32,13 @@ abbrev pub faults_in : {X : Type 0} → List (Result X ValueFault) → Faults
 faults_in rs = record { not_covered = first not_covered rs; damaged = first damaged rs }
 
 -- a missing table comes before a damaged one
-abbrev pub fault_of : Option ℕ → Option ℕ → Option ValueFault
-fault_of (Some key) other = Some (NotCovered key)
-fault_of None (Some key) = Some (Damaged key)
-fault_of None None = None
+abbrev pub missing_or_damaged : Option ℕ → Option ℕ → Option ValueFault
+missing_or_damaged (Some key) other = Some (NotCovered key)
+missing_or_damaged None (Some key) = Some (Damaged key)
+missing_or_damaged None None = None
 
 abbrev pub first_fault : Faults → Option ValueFault
-first_fault f = fault_of f.not_covered f.damaged
+first_fault f = missing_or_damaged f.not_covered f.damaged
 
 -- the fault of a list: the first table that is missing, or else the first that is damaged
 abbrev pub fault_in : {X : Type 0} → List (Result X ValueFault) → Option ValueFault

@@ -2,31 +2,31 @@
 use Rattle.std.specs.Prelude.{◌≡◌, ℕ, ◌≤◌, List, [], length, Option, None, Some, option_map, slice_index_or, Contains}
 use Rattle.table_file.specs.Files.{side_of}
 use Rattle.table_file.specs.Tables.{PartAt, part_for}
-use Rattle.table_file.specs.Expansion.{values_of}
+use Rattle.table_file.specs.Expansion.{part_block_values}
 use Rattle.judge_core.specs.declared.blocks.BlockKey.{BlockKey}
 use Rattle.judge_core.specs.declared.blocks.Blocks.{Blocks}
 use Rattle.judge_core.specs.Tables.{Tables, Holding}
 
 -- the part of a table that the key names
-abbrev pub part_at : Tables → BlockKey → Option PartAt
-part_at tables key = option_map (λ t. part_for t (side_of key.side) key.file) (slice_index_or tables key.slot None)
+abbrev pub keyed_part : Tables → BlockKey → Option PartAt
+keyed_part tables key = option_map (λ t. part_for t (side_of key.side) key.file) (slice_index_or tables key.slot None)
 
 -- the values of the block that the key names
 abbrev pub block_at : Tables → BlockKey → Option (List ℕ)
-block_at tables key = option_map (λ part. values_of part key.block) (part_at tables key)
+block_at tables key = option_map (λ part. part_block_values part key.block) (keyed_part tables key)
 
 -- these are the values of that block
-abbrev pub IsRight : Tables → BlockKey → List ℕ → Type 0
-IsRight tables key values = block_at tables key ≡ Some values
+abbrev pub AreBlockValues : Tables → BlockKey → List ℕ → Type 0
+AreBlockValues tables key values = block_at tables key ≡ Some values
 
 -- Each kept block has the values of the block that its key names, and as many may be kept as the set is for.
 pub record AreRight (h : Holding) (b : Blocks) : Type 0 where
   pub cap : b.kept.cap ≡ h.cache
   pub places : 1 ≤ length b.asked.items
-  pub right : (kept : _) → Contains b.kept.entries kept → IsRight h.tables kept.0 kept.1.items
+  pub right : (kept : _) → Contains b.kept.entries kept → AreBlockValues h.tables kept.0 kept.1.items
 
 -- none is kept yet
-pub record IsNew (most : ℕ) (b : Blocks) : Type 0 where
+pub record HasNoBlocks (most : ℕ) (b : Blocks) : Type 0 where
   pub cap : b.kept.cap ≡ most
   pub places : 1 ≤ length b.asked.items
   pub none : b.kept.entries ≡ []

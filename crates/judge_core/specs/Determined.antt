@@ -25,7 +25,7 @@ use Rattle.judge_core.specs.Values.{Reading, is_winning, opposite, outcome_of}
 use Rattle.judge_core.specs.LookUp.{material_of, placed_of}
 use Rattle.judge_core.specs.Tables.{Tables, table_at, table_value, part_asked}
 use Rattle.judge_core.specs.Asked.{fault_in}
-use Rattle.judge_core.specs.Probing.{after, weighed_where, weighed_by, wdl_where, wdl_of, worth}
+use Rattle.judge_core.specs.Probing.{values_after, weighed_where, weighed_by, wdl_where, wdl_of, worth}
 use Rattle.judge_core.specs.Distances.{Reach, is_by_capture, is_pawn_step, is_quiet, is_won, pawns_reach, by_quiet_moves, towards, zeroing, dtz_to, dtz_of}
 use Rattle.judge_core.specs.Answers.{IsProbe, ListsMoves, signed_in}
 use Rattle.judge_core.specs.Probed.{numbered}
@@ -77,7 +77,7 @@ pub record IsByPawnMove (tables : Tables) (p : Parts) (v : Wdl) : Type 0 where
   pub value : IsDetermined tables next (opposite v)
   pub whole :
       (own : Parts → Reading) → IsCompletion tables own
-      → fault_in (after (wdl_where own) p (filter (is_pawn_step p) (legal_moves p))) ≡ None
+      → fault_in (values_after (wdl_where own) p (filter (is_pawn_step p) (legal_moves p))) ≡ None
 
 -- The value is determined, and a draw, by a capture, or a win by a pawn move: then this is the distance.
 pub data IsDistanceByValue (tables : Tables) (p : Parts) (d : Distance) : Type 0 where

@@ -26,7 +26,7 @@ use Rattle.judge_core.specs.LookUp.{material_of, placed_of}
 use Rattle.judge_core.specs.Tables.{Tables, table_at, part_asked}
 use Rattle.judge_core.specs.Asked.{asked, fault_in, unless}
 use Rattle.table_file.specs.Distances.{stores, distance}
-use Rattle.judge_core.specs.Probing.{after, weighed_by, wdl_of, worth}
+use Rattle.judge_core.specs.Probing.{values_after, weighed_by, wdl_of, worth}
 use Rattle.judge_core.specs.Ends.{is_mate}
 
 -- a distance, or which table is missing or damaged
@@ -90,7 +90,7 @@ is_value v (Err fault) = false
 -- such moves are needed, promotions among them
 unfoldable pub pawns_reach_where : (Parts → Reading) → Parts → Wdl → Result Bool ValueFault
 pawns_reach_where value p v =
-    let steps = after value p (filter (is_pawn_step p) (legal_moves p)) in
+    let steps = values_after value p (filter (is_pawn_step p) (legal_moves p)) in
     unless (fault_in steps) (Ok (list_any (is_value v) steps))
 
 -- ... by the tables of a set
@@ -104,25 +104,25 @@ unfoldable pub is_quiet : Parts → Move → Bool
 is_quiet p m = not (moves_pawn p m) && not (is_capture p m)
 
 -- One ply more than the distance after a move, where the side that moved has there what it had before; else none.
-abbrev pub one_more : Bool → Distance → Option ℕ
-one_more true Draw = None
-one_more true (Win n) = None
-one_more true (Loss n) = Some (n + 1)
-one_more false Draw = None
-one_more false (Win n) = Some (n + 1)
-one_more false (Loss n) = None
+abbrev pub one_ply_more : Bool → Distance → Option ℕ
+one_ply_more true Draw = None
+one_ply_more true (Win n) = None
+one_ply_more true (Loss n) = Some (n + 1)
+one_ply_more false Draw = None
+one_ply_more false (Win n) = Some (n + 1)
+one_ply_more false (Loss n) = None
 
-abbrev pub counted : Bool → Reach → Result (Option ℕ) ValueFault
-counted won (Ok d) = Ok (one_more won d)
-counted won (Err fault) = Err fault
+abbrev pub distance_before : Bool → Reach → Result (Option ℕ) ValueFault
+distance_before won (Ok d) = Ok (one_ply_more won d)
+distance_before won (Err fault) = Err fault
 
 -- the distance before a move, from the position after it; after a mating move none is needed where the side to move wins
 unfoldable pub move_counts : Outcome → (Parts → Reach) → Parts → Result (Option ℕ) ValueFault
-move_counts outcome reach q = if is_won outcome && is_mate q then Ok (Some 1) else counted (is_won outcome) (reach q)
+move_counts outcome reach q = if is_won outcome && is_mate q then Ok (Some 1) else distance_before (is_won outcome) (reach q)
 
-abbrev pub count_in : Result (Option ℕ) ValueFault → Option ℕ
-count_in (Ok n) = n
-count_in (Err fault) = None
+abbrev pub known_count : Result (Option ℕ) ValueFault → Option ℕ
+known_count (Ok n) = n
+known_count (Err fault) = None
 
 abbrev pub lesser : Option ℕ → ℕ → Option ℕ
 lesser None n = Some n
@@ -130,11 +130,11 @@ lesser (Some m) n = Some (min m n)
 
 -- the least of the numbers, if there is one
 abbrev pub least : List (Result (Option ℕ) ValueFault) → Option ℕ
-least counts = fold lesser None (filter_map count_in counts)
+least counts = fold lesser None (filter_map known_count counts)
 
 -- the greatest of the numbers and this one
-abbrev pub greatest : ℕ → List (Result (Option ℕ) ValueFault) → ℕ
-greatest n counts = fold max n (filter_map count_in counts)
+abbrev pub greatest_count : ℕ → List (Result (Option ℕ) ValueFault) → ℕ
+greatest_count n counts = fold max n (filter_map known_count counts)
 
 -- a move that doesn't keep what the side to move has
 abbrev pub is_odd : Result (Option ℕ) ValueFault → Bool
@@ -152,7 +152,7 @@ abbrev pub by_counts : ℕ → Outcome → List (Result (Option ℕ) ValueFault)
 by_counts key outcome counts =
     if is_won outcome then won_in key (least counts)
     else if list_any is_odd counts then Err (Damaged key)
-    else Ok (Loss (greatest (zeroing outcome) counts))
+    else Ok (Loss (greatest_count (zeroing outcome) counts))
 
 -- from the positions after the quiet moves, whose distances `reach` gives; where these are impossible, the table with this
 -- key contradicts itself
@@ -171,16 +171,16 @@ distance_of (Some shape) part placed outcome = distance part (index_of shape pla
 unfoldable pub distance_in : Contents → Placement → Outcome → Option ℕ
 distance_in t placed outcome = distance_of (shape_of (part_asked t placed)) (part_asked t placed) placed outcome
 
-abbrev pub stored : ℕ → Outcome → Option ℕ → Reach
-stored key outcome None = Err (Damaged key)
-stored key outcome (Some n) = Ok (towards outcome (zeroing outcome + n))
+abbrev pub stored_distance : ℕ → Outcome → Option ℕ → Reach
+stored_distance key outcome None = Err (Damaged key)
+stored_distance key outcome (Some n) = Ok (towards outcome (zeroing outcome + n))
 
 -- what the table stores, where it stores the side to move
 abbrev pub by_table : Option Contents → ℕ → (Parts → Reach) → Parts → Outcome → Reach
 by_table None key reach p outcome = Err (NotCovered key)
 by_table (Some t) key reach p outcome =
     if stores (part_asked t (placed_of key p))
-    then stored key outcome (distance_in t (placed_of key p) outcome)
+    then stored_distance key outcome (distance_in t (placed_of key p) outcome)
     else by_quiet_moves key outcome reach p
 
 abbrev pub by_material : Tables → Option ℕ → (Parts → Reach) → Parts → Outcome → Reach

@@ -19,7 +19,7 @@ use Rattle.judge_core.specs.Tables.{Tables, AreFiled, table_at, part_asked}
 use Rattle.judge_core.specs.Asked.{asked, fault_in}
 use Rattle.judge_core.specs.Probing.{weighed_by, wdl_of, worth}
 use Rattle.judge_core.specs.Ruling.{is_out_of_scope}
-use Rattle.judge_core.specs.Distances.{Reach, is_won, zeroing, towards, is_by_capture, pawns_reach, is_quiet, move_counts, least, greatest, is_odd, distance_in, dtz_of}
+use Rattle.judge_core.specs.Distances.{Reach, is_won, zeroing, towards, is_by_capture, pawns_reach, is_quiet, move_counts, least, greatest_count, is_odd, distance_in, dtz_of}
 
 -- more than two men, and what captures and the own table say of them
 pub record IsWeighed (tables : Tables) (p : Parts) (w : Result Weighed ValueFault) : Type 0 where
@@ -32,7 +32,7 @@ pub record IsDecided (tables : Tables) (p : Parts) (w : Weighed) (outcome : Outc
   pub decided : outcome_of (worth w) ≡ Some outcome
 
 -- neither a capture nor, for a win, a pawn move gives the distance
-pub record IsLeft (tables : Tables) (p : Parts) (w : Weighed) (outcome : Outcome) : Type 0 where
+pub record IsLeftToTables (tables : Tables) (p : Parts) (w : Weighed) (outcome : Outcome) : Type 0 where
   pub decided : IsDecided tables p w outcome
   pub no_capture : IsFalse (is_by_capture w)
   pub no_pawn : IsTrue (is_won outcome) → pawns_reach tables p (worth w) ≡ Ok false
@@ -50,7 +50,7 @@ counts_after reach p outcome = asked (move_counts outcome reach) p (filter (is_q
 -- no capture, pawn move or number of the own table gives the distance, and the table has the other side
 pub record IsLeftToMoves (tables : Tables) (p : Parts) (outcome : Outcome) (key : ℕ) : Type 0 where
   pub w : Weighed
-  pub left : IsLeft tables p w outcome
+  pub left : IsLeftToTables tables p w outcome
   pub t : Contents
   pub own : IsOwnTable tables p key t false
 
@@ -65,16 +65,16 @@ pub data IsDistance (tables : Tables) (reach : Parts → Reach) (p : Parts) : Re
   pawn_unknown : {w : Weighed} {outcome : Outcome} {fault : ValueFault} → IsDecided tables p w outcome → IsFalse (is_by_capture w) → IsTrue (is_won outcome) → pawns_reach tables p (worth w) ≡ Err fault → IsDistance tables reach p (Err fault)
   pawn : {w : Weighed} {outcome : Outcome} → IsDecided tables p w outcome → IsFalse (is_by_capture w) → IsTrue (is_won outcome) → pawns_reach tables p (worth w) ≡ Ok true → IsDistance tables reach p (Ok (towards outcome (zeroing outcome)))
   -- 4. The number of the own table, where it stores the side to move, counted from a capture or a pawn move.
-  no_table : {w : Weighed} {outcome : Outcome} {key : ℕ} → IsLeft tables p w outcome → material_of p ≡ Some key → table_at tables Dtz key ≡ None → IsDistance tables reach p (Err (NotCovered key))
-  no_number : {w : Weighed} {outcome : Outcome} {key : ℕ} {t : Contents} → IsLeft tables p w outcome → IsOwnTable tables p key t true → distance_in t (placed_of key p) outcome ≡ None → IsDistance tables reach p (Err (Damaged key))
-  stored : {w : Weighed} {outcome : Outcome} {key n : ℕ} {t : Contents} → IsLeft tables p w outcome → IsOwnTable tables p key t true → distance_in t (placed_of key p) outcome ≡ Some n → IsDistance tables reach p (Ok (towards outcome (zeroing outcome + n)))
+  no_table : {w : Weighed} {outcome : Outcome} {key : ℕ} → IsLeftToTables tables p w outcome → material_of p ≡ Some key → table_at tables Dtz key ≡ None → IsDistance tables reach p (Err (NotCovered key))
+  no_number : {w : Weighed} {outcome : Outcome} {key : ℕ} {t : Contents} → IsLeftToTables tables p w outcome → IsOwnTable tables p key t true → distance_in t (placed_of key p) outcome ≡ None → IsDistance tables reach p (Err (Damaged key))
+  stored : {w : Weighed} {outcome : Outcome} {key n : ℕ} {t : Contents} → IsLeftToTables tables p w outcome → IsOwnTable tables p key t true → distance_in t (placed_of key p) outcome ≡ Some n → IsDistance tables reach p (Ok (towards outcome (zeroing outcome + n)))
   -- 5. The moves that neither take a man nor move a pawn. For a win it is the least of their numbers, and there must be
   --    one. For a loss it is the greatest, at least that of a capture, and each move must lose.
   move_unknown : {outcome : Outcome} {key : ℕ} {fault : ValueFault} → IsLeftToMoves tables p outcome key → fault_in (counts_after reach p outcome) ≡ Some fault → IsDistance tables reach p (Err fault)
   no_winner : {outcome : Outcome} {key : ℕ} → IsLeftToMoves tables p outcome key → fault_in (counts_after reach p outcome) ≡ None → IsTrue (is_won outcome) → least (counts_after reach p outcome) ≡ None → IsDistance tables reach p (Err (Damaged key))
   won : {outcome : Outcome} {key n : ℕ} → IsLeftToMoves tables p outcome key → fault_in (counts_after reach p outcome) ≡ None → IsTrue (is_won outcome) → least (counts_after reach p outcome) ≡ Some n → IsDistance tables reach p (Ok (Win n))
   no_loser : {outcome : Outcome} {key : ℕ} → IsLeftToMoves tables p outcome key → fault_in (counts_after reach p outcome) ≡ None → IsFalse (is_won outcome) → IsTrue (list_any is_odd (counts_after reach p outcome)) → IsDistance tables reach p (Err (Damaged key))
-  lost : {outcome : Outcome} {key : ℕ} → IsLeftToMoves tables p outcome key → fault_in (counts_after reach p outcome) ≡ None → IsFalse (is_won outcome) → IsFalse (list_any is_odd (counts_after reach p outcome)) → IsDistance tables reach p (Ok (Loss (greatest (zeroing outcome) (counts_after reach p outcome))))
+  lost : {outcome : Outcome} {key : ℕ} → IsLeftToMoves tables p outcome key → fault_in (counts_after reach p outcome) ≡ None → IsFalse (is_won outcome) → IsFalse (list_any is_odd (counts_after reach p outcome)) → IsDistance tables reach p (Ok (Loss (greatest_count (zeroing outcome) (counts_after reach p outcome))))
 
 -- The distance of a position in scope is the one that the five rules give, where `dtz_of` gives the others.
 abbrev pub DistanceByFiveRules : Type 0

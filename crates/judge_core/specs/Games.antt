@@ -7,7 +7,7 @@ use Rattle.board_core.specs.declared.moves.Move.{Move}
 use Rattle.board_core.specs.declared.verdict.Verdict.{Verdict}
 use Rattle.board_core.specs.declared.verdict.Verdict.TheVariants.{WhiteMates, BlackMates, Stalemate, TableDraw, TableWhite, TableBlack, Stopped}
 use Rattle.board_core.specs.ComputedMoves.{position_after}
-use Rattle.board_core.specs.Verdicts.{code_of}
+use Rattle.board_core.specs.Verdicts.{verdict_code}
 use Rattle.judge_core.specs.declared.game.GameOutcome.{GameOutcome}
 use Rattle.judge_core.specs.declared.game.GameOutcome.TheVariants.{Ruled, Illegal, Going}
 use Rattle.judge_core.specs.Tables.{Tables}
@@ -39,7 +39,7 @@ is_end Stopped = false
 
 abbrev pub is_judged : Option Verdict → Verdict → Bool
 is_judged None v = false
-is_judged (Some w) v = code_of w == code_of v
+is_judged (Some w) v = verdict_code w == verdict_code v
 
 -- the n plies before the last one of these moves have this ruling too
 unfoldable pub has_stood : Rules → List Move → Verdict → ℕ → Bool

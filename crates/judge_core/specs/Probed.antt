@@ -14,12 +14,12 @@ use Rattle.judge_core.specs.Tables.{Tables}
 use Rattle.judge_core.specs.Values.{points}
 
 -- from -2 for a loss to 2 for a win
-abbrev pub number_of : Wdl → ℤ
-number_of v = pos (points v) -ℤ pos 2
+abbrev pub wdl_number : Wdl → ℤ
+wdl_number v = pos (points v) -ℤ pos 2
 
 -- a number, or why there is none
 abbrev pub numbered : Result Wdl ProbeFault → Result ℤ ProbeFault
-numbered (Ok v) = Ok (number_of v)
+numbered (Ok v) = Ok (wdl_number v)
 numbered (Err fault) = Err fault
 
 -- what both probes answer where memory is not refused

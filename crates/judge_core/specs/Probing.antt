@@ -10,20 +10,20 @@ use Rattle.judge_core.specs.declared.wdl.Wdl.{Wdl}
 use Rattle.judge_core.specs.declared.wdl.Wdl.TheVariants.{Loss, Draw}
 use Rattle.judge_core.specs.declared.fault.ValueFault.{ValueFault}
 use Rattle.judge_core.specs.declared.found.Weighed.{Weighed}
-use Rattle.judge_core.specs.Values.{Reading, turned, greater}
+use Rattle.judge_core.specs.Values.{Reading, opposite_reading, greater}
 use Rattle.judge_core.specs.Tables.{Tables, table_value}
 use Rattle.judge_core.specs.Asked.{asked, fault_in, unless}
 
 -- ---- lists of values
 
 -- the values of the positions after these moves for the side that makes them, where `value` gives those of positions
-abbrev pub after : (Parts → Reading) → Parts → List Move → List Reading
-after value p moves = asked (λ q. turned (value q)) p moves
+abbrev pub values_after : (Parts → Reading) → Parts → List Move → List Reading
+values_after value p moves = asked (λ q. opposite_reading (value q)) p moves
 
 -- The greatest value of a list. Without one it is a loss, which is as good as less than every value: nothing below asks
 -- more than whether it is greater than another one.
-abbrev pub greatest : List Reading → Wdl
-greatest rs = fold greater Loss (filter_map result_ok rs)
+abbrev pub greatest_value : List Reading → Wdl
+greatest_value rs = fold greater Loss (filter_map result_ok rs)
 
 -- ---- one position
 
@@ -43,9 +43,9 @@ value_or_loss (Err fault) = Loss
 -- Captures come in the order of moves, the own table last. `own` gives what the own tables of positions say.
 unfoldable pub weighed_where : (Parts → Reading) → (Parts → Reading) → Parts → Result Weighed ValueFault
 weighed_where own value p =
-    unless (fault_in (after value p (legal_captures p) ++ own p ∷ [])) (Ok (record {
-      capture = greatest (after value p (filter (λ m. not (is_en_passant p m)) (legal_captures p)));
-      passant = greatest (after value p (filter (is_en_passant p) (legal_captures p)));
+    unless (fault_in (values_after value p (legal_captures p) ++ own p ∷ [])) (Ok (record {
+      capture = greatest_value (values_after value p (filter (λ m. not (is_en_passant p m)) (legal_captures p)));
+      passant = greatest_value (values_after value p (filter (is_en_passant p) (legal_captures p)));
       own = value_or_loss (own p);
       forced = is_forced p;
     }))

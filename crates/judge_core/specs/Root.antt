@@ -18,7 +18,7 @@ use Rattle.judge_core.specs.declared.distance.Distance.TheVariants.{Draw, Win, L
 use Rattle.judge_core.specs.declared.wdl.Wdl.TheVariants.{Win as Won}
 use Rattle.judge_core.specs.declared.fault.ValueFault.{ValueFault}
 use Rattle.table_file.specs.declared.outcome.Outcome.{Outcome}
-use Rattle.judge_core.specs.Values.{Reading, points, outcome_of, turned}
+use Rattle.judge_core.specs.Values.{Reading, points, outcome_of, opposite_reading}
 use Rattle.judge_core.specs.Tables.{Tables}
 use Rattle.judge_core.specs.Probing.{wdl_of}
 use Rattle.judge_core.specs.Distances.{Reach, moves_pawn, zeroing, towards, dtz_of}
@@ -71,7 +71,7 @@ is_checkmate Stalemate = false
 -- The value of a move for the side that makes it, from how the position after it stands, and its value there. A mating move
 -- wins, and needs no table.
 abbrev pub value_before : BoardState → Reading → Reading
-value_before state reading = if is_checkmate state then Ok Won else turned reading
+value_before state reading = if is_checkmate state then Ok Won else opposite_reading reading
 
 -- a capture or a pawn move: one ply, and 100 more where the rule of fifty moves comes before the end; none at a draw
 abbrev pub zeroing_of : Option Outcome → Distance
@@ -88,17 +88,17 @@ one_ply_before Draw = Draw
 one_ply_before (Win n) = Loss (n + 1)
 one_ply_before (Loss n) = Win (n + 1)
 
-abbrev pub before : Reach → Reach
-before (Ok d) = Ok (one_ply_before d)
-before (Err fault) = Err fault
+abbrev pub reach_one_ply_before : Reach → Reach
+reach_one_ply_before (Ok d) = Ok (one_ply_before d)
+reach_one_ply_before (Err fault) = Err fault
 
 -- The distance from before a move for the side that makes it: 1 for a mating move, the value's for a move that sets the clock
 -- to 0, else one ply more than after it.
 abbrev pub reach_before : BoardState → Bool → Reading → Reach → Reach
 reach_before state zeroes reading reach =
     if is_checkmate state then Ok (Win 1)
-    else if zeroes then zeroed (turned reading)
-    else before reach
+    else if zeroes then zeroed (opposite_reading reading)
+    else reach_one_ply_before reach
 
 -- a move with all that is told of it, where this position is the one after it, and these give values and distances
 abbrev pub root_move_by : (Parts → Reading) → (Parts → Reach) → Parts → Move → Parts → RootMove
@@ -135,8 +135,8 @@ distance_or_most (Err fault) = pos 2147483647
 
 -- By what moves are ordered: the better value first, and then the lower distance. Both a near win and a far loss have a low
 -- one, since a loss has it below 0.
-abbrev pub rank : RootMove → ℕ × ℤ
-rank m = (below_win m.wdl, distance_or_most m.dtz)
+abbrev pub move_rank : RootMove → ℕ × ℤ
+move_rank m = (below_win m.wdl, distance_or_most m.dtz)
 
 abbrev pub rank_cmp : ℕ × ℤ → ℕ × ℤ → Ordering
 rank_cmp a b = ordering_then (nat_cmp a.0 b.0) (int_cmp a.1 b.1)
@@ -144,8 +144,8 @@ rank_cmp a b = ordering_then (nat_cmp a.0 b.0) (int_cmp a.1 b.1)
 -- all legal moves, the best first; moves of one rank stay in the order of moves
 pub record IsRootBy (value : Parts → Reading) (reach : Parts → Reach) (p : Parts) (moves : List RootMove) : Type 0 where
   pub all : IsPermutation (root_moves_by value reach p) moves
-  pub best_first : IsSortedByKey rank rank_cmp moves
-  pub stable : IsStableByKey rank rank_cmp (root_moves_by value reach p) moves
+  pub best_first : IsSortedByKey move_rank rank_cmp moves
+  pub stable : IsStableByKey move_rank rank_cmp (root_moves_by value reach p) moves
 
 -- ... by the tables of a set
 abbrev pub IsRoot : Tables → Parts → List RootMove → Type 0

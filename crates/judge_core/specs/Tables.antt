@@ -56,13 +56,13 @@ largest_of tables = fold max 0 (map men_of_slot tables)
 abbrev pub part_asked : Contents → Placement → PartAt
 part_asked t placed = part_for t placed.side placed.file
 
-abbrev pub entry_of : Option Layout → PartAt → Placement → Option ℕ
-entry_of None part placed = None
-entry_of (Some shape) part placed = entry_at (expansion part) (index_of shape placed.men)
+abbrev pub placed_entry : Option Layout → PartAt → Placement → Option ℕ
+placed_entry None part placed = None
+placed_entry (Some shape) part placed = entry_at (expansion part) (index_of shape placed.men)
 
 -- the entry of the expanded table at the index of placed men, if there is one
 unfoldable pub entry_in : Contents → Placement → Option ℕ
-entry_in t placed = entry_of (shape_of (part_asked t placed)) (part_asked t placed) placed
+entry_in t placed = placed_entry (shape_of (part_asked t placed)) (part_asked t placed) placed
 
 abbrev pub value_or_damaged : ℕ → Option Value → Reading
 value_or_damaged key None = Err (Damaged key)

@@ -57,6 +57,6 @@ greater a b = if nat_lt (points a) (points b) then b else a
 abbrev pub Reading : Type 0
 Reading = Result Wdl ValueFault
 
-abbrev pub turned : Reading → Reading
-turned (Ok v) = Ok (opposite v)
-turned (Err fault) = Err fault
+abbrev pub opposite_reading : Reading → Reading
+opposite_reading (Ok v) = Ok (opposite v)
+opposite_reading (Err fault) = Err fault

@@ -11,11 +11,11 @@ use Rattle.judge_core.specs.declared.fault.ProbeFault.TheVariants as probe
 use Rattle.judge_core.specs.Answers.{probe_fault_name}
 
 -- a fault's name, and that of the table that is missing or damaged
-abbrev pub fault_words : ProbeFault → List ℕ
-fault_words probe.OutOfScope = probe_fault_name probe.OutOfScope
-fault_words (probe.NotCovered key) = probe_fault_name (probe.NotCovered key) ++ codes " " ++ name_of (men_of key)
-fault_words (probe.Damaged key) = probe_fault_name (probe.Damaged key) ++ codes " " ++ name_of (men_of key)
-fault_words probe.OutOfMemory = probe_fault_name probe.OutOfMemory
+abbrev pub probe_fault_words : ProbeFault → List ℕ
+probe_fault_words probe.OutOfScope = probe_fault_name probe.OutOfScope
+probe_fault_words (probe.NotCovered key) = probe_fault_name (probe.NotCovered key) ++ codes " " ++ name_of (men_of key)
+probe_fault_words (probe.Damaged key) = probe_fault_name (probe.Damaged key) ++ codes " " ++ name_of (men_of key)
+probe_fault_words probe.OutOfMemory = probe_fault_name probe.OutOfMemory
 
 -- the verdict's name, or that the game goes on
 abbrev pub verdict_words : Option Verdict → List ℕ
@@ -25,7 +25,7 @@ verdict_words (Some v) = verdict_name v
 -- a number, or why there is none
 unfoldable pub column_words : Result ℤ ProbeFault → List ℕ
 column_words (Ok number) = signed_decimal number
-column_words (Err fault) = codes "refused " ++ fault_words fault
+column_words (Err fault) = codes "refused " ++ probe_fault_words fault
 
 -- both probes and the verdict, with a tab between
 abbrev pub columns_words : Result ℤ ProbeFault → Result ℤ ProbeFault → Option Verdict → List ℕ

@@ -6,7 +6,7 @@ ghost use Rattle.judge_core.specs.Answers.{ListsMoves, as_probe, signed_in};
 ghost use Rattle.judge_core.specs.declared.fault.ProbeFault.TheVariants.{OutOfScope};
 ghost use Rattle.judge_core.specs.Distances.{plies, dtz_of};
 ghost use Rattle.judge_core.specs.Ends.{has_no_move};
-ghost use Rattle.judge_core.specs.Probed.{IsProbed, number_of};
+ghost use Rattle.judge_core.specs.Probed.{IsProbed, wdl_number};
 ghost use Rattle.judge_core.specs.Probing.{wdl_of};
 ghost use Rattle.judge_core.specs.Ruling.{end_of, is_out_of_scope, ruling, ruling_by};
 ghost use Rattle.judge_core.specs.Tables.{AreFiled};
@@ -36,7 +36,7 @@ pub(crate) struct Readings {
 
 /// The number that a WDL probe returns for this value, or its fault.
 pub(crate) fn number_in(value: &Result<Wdl, ValueFault>) -> Result<i32, ProbeFault>
-    ensures { result ≡ as_probe number_of value.now }
+    ensures { result ≡ as_probe wdl_number value.now }
 {
     match value {
         Ok(value) => Ok(i32::from(value.number())),
@@ -85,7 +85,7 @@ impl Readings {
     /// Both as numbers, or why there is none.
     fn probed(&self) -> Probed
         requires { IfOk self.now.dtz (λ d. plies d ≤ 1000000) }
-        ensures wdl { result.wdl ≡ as_probe number_of self.now.wdl }
+        ensures wdl { result.wdl ≡ as_probe wdl_number self.now.wdl }
         ensures dtz { result.dtz ≡ as_probe (λ n. n) (signed_in self.now.dtz) }
     {
         Probed {
@@ -98,7 +98,7 @@ impl Readings {
     pub(crate) fn columns_telling(&self, position: &Position, told: &Readings) -> Columns
         requires own { IfOk self.now.dtz (λ d. plies d ≤ 1000000) }
         requires told { IfOk told.now.dtz (λ d. plies d ≤ 1000000) }
-        ensures wdl { result.probed.wdl ≡ as_probe number_of told.now.wdl }
+        ensures wdl { result.probed.wdl ≡ as_probe wdl_number told.now.wdl }
         ensures dtz { result.probed.dtz ≡ as_probe (λ n. n) (signed_in told.now.dtz) }
         ensures verdict { result.verdict ≡ if has_no_move (legal_moves position.now) then Some (end_of position.now) else ruling_by position.now self.now.wdl self.now.dtz }
     {
@@ -111,7 +111,7 @@ impl Readings {
     /// The three columns of a position in scope that has these readings.
     fn columns(&self, position: &Position) -> Columns
         requires { IfOk self.now.dtz (λ d. plies d ≤ 1000000) }
-        ensures wdl { result.probed.wdl ≡ as_probe number_of self.now.wdl }
+        ensures wdl { result.probed.wdl ≡ as_probe wdl_number self.now.wdl }
         ensures dtz { result.probed.dtz ≡ as_probe (λ n. n) (signed_in self.now.dtz) }
         ensures verdict { result.verdict ≡ if has_no_move (legal_moves position.now) then Some (end_of position.now) else ruling_by position.now self.now.wdl self.now.dtz }
     {

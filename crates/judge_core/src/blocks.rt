@@ -1,7 +1,7 @@
 //! Decoded blocks.
 
 ghost use Rattle.std.specs.Prelude.{◌≡◌, ◌<◌, ◌≤◌, ◌*◌, length, IfOk};
-ghost use Rattle.judge_core.specs.Blocks.{IsNew};
+ghost use Rattle.judge_core.specs.Blocks.{HasNoBlocks};
 
 use lru::LruCache;
 use std::alloc::{AllocError, Global};
@@ -67,7 +67,7 @@ impl Blocks {
     pub(crate) fn new(alloc: Global, most: usize) -> Result<Blocks, AllocError>
         requires some { 1 ≤ most }
         requires few { most ≤ 4096 }
-        ensures { IfOk result (λ blocks. IsNew most blocks) }
+        ensures { IfOk result (λ blocks. HasNoBlocks most blocks) }
     {
         let key = BlockKey {
             slot: 0,

@@ -9,7 +9,7 @@ ghost use Rattle.std.specs.Prelude.{◌≡◌, ◌≢◌, true, false};
 ghost use Rattle.board_core.specs.ComputedMoves.{legal_captures};
 ghost use Rattle.judge_core.specs.Determined.{IsDeterminedWdl};
 ghost use Rattle.judge_core.specs.Inside.Determined.{is_won_here, fill, in_stead, extreme, extreme_value, extreme_weighed, agreed, value_of_both, or_agreed, in_both, value_in_both, determined_value, value_as, step_value_as};
-ghost use Rattle.judge_core.specs.Inside.Found.{found_in};
+ghost use Rattle.judge_core.specs.Inside.Found.{found_by_captures};
 
 use crate::ask::Ask;
 use crate::fault::{ProbeFault, ValueFault};
@@ -101,7 +101,7 @@ impl<'a> Set<'a> {
     /// choice of tables.
     #[cycle(extreme)]
     fn search_extreme(&mut self, alloc: Global, probe: &Probe<'_>, odd_wins: bool) -> Found
-        ensures is { result ≡ found_in (extreme_value self.old.tables odd_wins) probe.now (legal_captures probe.now) }
+        ensures is { result ≡ found_by_captures (extreme_value self.old.tables odd_wins) probe.now (legal_captures probe.now) }
         ensures unchanged { self.new ≡ self.old }
     {
         let position = probe.position();

@@ -1,7 +1,7 @@
 //! Distances to the next move that sets the halfmove clock to 0.
 
 ghost use Rattle.std.specs.Prelude.{◌≡◌, ◌≤◌, IfOk};
-ghost use Rattle.judge_core.specs.Distances.{plies, signed, is_won, zeroing, towards, counted, one_more};
+ghost use Rattle.judge_core.specs.Distances.{plies, signed, is_won, zeroing, towards, distance_before, one_ply_more};
 
 use crate::fault::ValueFault;
 use table_file::Outcome;
@@ -43,7 +43,7 @@ impl Distance {
     /// One ply more, where the side that moved has after its move what it had before.
     fn one_more(self, won: bool) -> Option<u32>
         requires { plies self ≤ 1000000 }
-        ensures { result ≡ one_more won self }
+        ensures { result ≡ one_ply_more won self }
     {
         match (won, self) {
             (true, Distance::Loss(plies)) | (false, Distance::Win(plies)) => Some(plies + 1),
@@ -91,7 +91,7 @@ pub(crate) fn counted(
     reach: &Result<Distance, ValueFault>,
 ) -> Result<Option<u32>, ValueFault>
     requires { IfOk reach.now (λ d. plies d ≤ 1000000) }
-    ensures { result ≡ counted won reach.now }
+    ensures { result ≡ distance_before won reach.now }
 {
     match reach {
         Ok(distance) => Ok(distance.one_more(won)),

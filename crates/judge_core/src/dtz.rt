@@ -2,7 +2,7 @@
 
 ghost use Rattle.std.specs.Prelude.{◌≡◌, ◌≤◌, ◌+◌, IfOk, IfSome, OnErr, Some, Err};
 ghost use Rattle.judge_core.specs.Tables.{AreFiled};
-ghost use Rattle.judge_core.specs.Distances.{plies, pawns_reach_where, move_counts, by_quiet_moves, stored, by_own_table, by_moves, by_weighed, dtz_by, dtz_of};
+ghost use Rattle.judge_core.specs.Distances.{plies, pawns_reach_where, move_counts, by_quiet_moves, stored_distance, by_own_table, by_moves, by_weighed, dtz_by, dtz_of};
 ghost use Rattle.judge_core.specs.Ruling.{is_out_of_scope};
 ghost use Rattle.judge_core.specs.Answers.{IsLeftOpen, IsProbe, ListsMoves, as_probe, signed_in};
 ghost use Rattle.judge_core.specs.declared.fault.ProbeFault.TheVariants.{OutOfMemory};
@@ -38,7 +38,7 @@ pub(crate) enum Beyond {
 /// The distance that follows from what the table stores.
 fn stored(material: Material, outcome: Outcome, number: Option<u32>) -> Result<Distance, ValueFault>
     requires { IfSome number (λ n. n ≤ 131070) }
-    ensures is { result ≡ stored material outcome number }
+    ensures is { result ≡ stored_distance material outcome number }
     ensures within { IfOk result (λ d. plies d ≤ 131171) }
 {
     match number {

@@ -6,7 +6,7 @@ ghost use Rattle.judge_core.specs.Probing.{is_forced, weighed_by, wdl_of};
 ghost use Rattle.judge_core.specs.Ruling.{is_out_of_scope};
 ghost use Rattle.judge_core.specs.Answers.{IsProbe, as_probe};
 ghost use Rattle.judge_core.specs.declared.fault.ProbeFault.TheVariants.{OutOfMemory};
-ghost use Rattle.judge_core.specs.Inside.Found.{found_in};
+ghost use Rattle.judge_core.specs.Inside.Found.{found_by_captures};
 ghost use Rattle.judge_core.specs.Tables.{table_value};
 
 use crate::fault::{ProbeFault, ValueFault};
@@ -71,7 +71,7 @@ impl<'a> Set<'a> {
     #[inline(never)]
     #[cycle(wdl)]
     fn search_captures(&mut self, alloc: Global, probe: &Probe<'_>) -> Found
-        ensures is { result ≡ found_in (wdl_of self.old.tables) probe.now (legal_captures probe.now) }
+        ensures is { result ≡ found_by_captures (wdl_of self.old.tables) probe.now (legal_captures probe.now) }
         ensures unchanged { self.new ≡ self.old }
     {
         let position = probe.position();
@@ -90,7 +90,7 @@ impl<'a> Set<'a> {
     /// The values after the captures of the position.
     #[cycle(wdl)]
     fn found_in_captures(&mut self, alloc: Global, probe: &Probe<'_>) -> Found
-        ensures is { result ≡ found_in (wdl_of self.old.tables) probe.now (legal_captures probe.now) }
+        ensures is { result ≡ found_by_captures (wdl_of self.old.tables) probe.now (legal_captures probe.now) }
         ensures unchanged { self.new ≡ self.old }
     {
         if probe.position().may_capture() {

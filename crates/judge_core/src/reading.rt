@@ -4,7 +4,7 @@ ghost use Rattle.std.specs.Prelude.{◌≡◌, ◌<◌, ◌≤◌, Some, IfSome,
 ghost use Rattle.place_index.specs.Placed.{side_number};
 ghost use Rattle.table_file.specs.declared.kind.TableKind.TheVariants.{Dtz};
 ghost use Rattle.table_file.specs.Expansion.{expansion, real_blocks, IsSpot, IsRealSpot, IsPast};
-ghost use Rattle.judge_core.specs.Blocks.{AreRight, IsRight, part_at};
+ghost use Rattle.judge_core.specs.Blocks.{AreBlockValues, AreRight, keyed_part};
 ghost use Rattle.judge_core.specs.Distances.{distance_in};
 ghost use Rattle.judge_core.specs.Inside.Placing.{IsPartFor, IsPlaceIn, IsOwnPlace, IsValueAt};
 ghost use Rattle.judge_core.specs.Tables.{entry_in, slot, table_value, value_or_damaged};
@@ -119,7 +119,7 @@ impl<'a> Shelf<'a> {
         offset: u32,
     ) -> Option<Option<u16>>
         requires right { AreRight self.now blocks.old }
-        requires on { part_at self.now.tables key.now ≡ Some part.now }
+        requires on { keyed_part self.now.tables key.now ≡ Some part.now }
         ensures found { IfSome result (IsValueAt part.now key.now.block offset) }
         ensures right { AreRight self.now blocks.new }
     {
@@ -131,7 +131,7 @@ impl<'a> Shelf<'a> {
     /// Keeps the values of a block, where there is memory for it.
     fn keep(&self, blocks: &mut Blocks, key: BlockKey, values: Vec<u16>)
         requires right { AreRight self.now blocks.old }
-        requires these { IsRight self.now.tables key values.items }
+        requires these { AreBlockValues self.now.tables key values.items }
         ensures { AreRight self.now blocks.new }
     {
         let _ = self;
@@ -149,7 +149,7 @@ impl<'a> Shelf<'a> {
         offset: u32,
     ) -> Option<u16>
         requires right { AreRight self.now blocks.old }
-        requires on { part_at self.now.tables key ≡ Some part.now }
+        requires on { keyed_part self.now.tables key ≡ Some part.now }
         requires real { key.block < real_blocks part.now }
         ensures found { IsValueAt part.now key.block offset result }
         ensures right { AreRight self.now blocks.new }

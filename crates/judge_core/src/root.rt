@@ -6,7 +6,7 @@ ghost use Rattle.judge_core.specs.Answers.{signed_in};
 ghost use Rattle.judge_core.specs.Determined.{IsDeterminedRoot};
 ghost use Rattle.judge_core.specs.Distances.{plies};
 ghost use Rattle.judge_core.specs.Inside.Determined.{reach_as, value_as};
-ghost use Rattle.judge_core.specs.Root.{IsInScope, IsRootBy, IsRootInScope, before, effect_of, reach_before, root_move_by, root_move_at, root_moves_by, state_of, value_before, zeroed};
+ghost use Rattle.judge_core.specs.Root.{IsInScope, IsRootBy, IsRootInScope, reach_one_ply_before, effect_of, reach_before, root_move_by, root_move_at, root_moves_by, state_of, value_before, zeroed};
 ghost use Rattle.judge_core.specs.Ruling.{is_out_of_scope};
 ghost use Rattle.judge_core.specs.Tables.{AreFiled};
 
@@ -38,7 +38,7 @@ fn zeroed(value: &Result<Wdl, ValueFault>) -> Result<Distance, ValueFault>
 /// The distance from before a move that neither takes a man nor moves a pawn, from the one after it.
 fn before(reach: &Result<Distance, ValueFault>) -> Result<Distance, ValueFault>
     requires { IfOk reach.now (λ d. plies d ≤ 131174) }
-    ensures is { result ≡ before reach.now }
+    ensures is { result ≡ reach_one_ply_before reach.now }
     ensures within { IfOk result (λ d. plies d ≤ 131175) }
 {
     match reach {

@@ -4,8 +4,8 @@ ghost use Rattle.std.specs.Prelude.{◌≡◌, Some};
 ghost use Rattle.board_core.specs.declared.parts.Parts.{Parts};
 ghost use Rattle.board_core.specs.ComputedMoves.{position_after};
 ghost use Rattle.judge_core.specs.Answers.{as_probe};
-ghost use Rattle.judge_core.specs.Probed.{number_of};
-ghost use Rattle.judge_core.specs.Root.{effect_of, state_by, state_of, zeroes_clock, captures, is_checkmate, below_win, distance_or_most, rank};
+ghost use Rattle.judge_core.specs.Probed.{wdl_number};
+ghost use Rattle.judge_core.specs.Root.{effect_of, state_by, state_of, zeroes_clock, captures, is_checkmate, below_win, distance_or_most, move_rank};
 
 use crate::answering::number_in;
 use crate::fault::ValueFault;
@@ -156,14 +156,14 @@ impl RootMove {
     /// By what moves are ordered, the best first: the value, then the distance. Both a near win and a far loss have a
     /// low distance. A move without a value comes last, and one without a distance after those of its value.
     pub(crate) fn rank(&self) -> (u8, i32)
-        ensures { result ≡ rank self.now }
+        ensures { result ≡ move_rank self.now }
     {
         (below_win(&self.wdl), distance_or_most(&self.dtz))
     }
 
     /// Its value and its distance as numbers, as probes give them.
     pub fn probed(&self) -> Probed
-        ensures wdl { result.wdl ≡ as_probe number_of self.now.wdl }
+        ensures wdl { result.wdl ≡ as_probe wdl_number self.now.wdl }
         ensures dtz { result.dtz ≡ as_probe (λ n. n) self.now.dtz }
     {
         Probed {

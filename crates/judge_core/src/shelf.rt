@@ -31,11 +31,11 @@ impl<'a> Model for Shelf<'a> {
 
     ghost Value = { Holding };
 
-    ghost use Rattle.judge_core.specs.Inside.Kept.{holding_of, IsKept};
+    ghost use Rattle.judge_core.specs.Inside.Kept.{holding_of, IsSoundSet};
 
     ghost view = { holding_of };
 
-    ghost invariant = { IsKept };
+    ghost invariant = { IsSoundSet };
 }
 
 /// The slot of a kind and a material.

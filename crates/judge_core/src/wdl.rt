@@ -1,7 +1,7 @@
 //! The five values of the tables.
 
 ghost use Rattle.std.specs.Prelude.{◌≡◌, ◌≤◌, ◌-ℤ◌, pos};
-ghost use Rattle.judge_core.specs.Values.{points, of_points, opposite, is_winning, is_below, is_same, outcome_of, greater, turned};
+ghost use Rattle.judge_core.specs.Values.{points, of_points, opposite, is_winning, is_below, is_same, outcome_of, greater, opposite_reading};
 
 use crate::fault::ValueFault;
 use table_file::Outcome;
@@ -118,7 +118,7 @@ impl Wdl {
 
 /// A reading, as the other side sees it.
 pub(crate) fn turned(reading: Result<Wdl, ValueFault>) -> Result<Wdl, ValueFault>
-    ensures { result ≡ turned reading }
+    ensures { result ≡ opposite_reading reading }
 {
     match reading {
         Ok(value) => Ok(value.opposite()),

@@ -10,18 +10,18 @@ use Rattle.judge_core.specs.declared.found.Found.{Found}
 use Rattle.judge_core.specs.declared.found.Weighed.{Weighed}
 use Rattle.judge_core.specs.Values.{Reading, greater}
 use Rattle.judge_core.specs.Asked.{faults_in, first_fault, unless, no_faults, with_fault, with_answer}
-use Rattle.judge_core.specs.Probing.{after, greatest, value_or_loss}
+use Rattle.judge_core.specs.Probing.{greatest_value, value_or_loss, values_after}
 
 -- a move that goes to an empty square; a capture that does is en passant
 unfoldable pub lands_empty : Parts → Move → Bool
 lands_empty p m = is_none (man_at p.men m.to)
 
 -- what these captures give
-unfoldable pub found_in : (Parts → Reading) → Parts → List Move → Found
-found_in value p moves = record {
-  faults = faults_in (after value p moves);
-  capture = greatest (after value p (filter (λ m. not (lands_empty p m)) moves));
-  passant = greatest (after value p (filter (lands_empty p) moves));
+unfoldable pub found_by_captures : (Parts → Reading) → Parts → List Move → Found
+found_by_captures value p moves = record {
+  faults = faults_in (values_after value p moves);
+  capture = greatest_value (values_after value p (filter (λ m. not (lands_empty p m)) moves));
+  passant = greatest_value (values_after value p (filter (lands_empty p) moves));
 }
 
 -- before the first of them

@@ -18,7 +18,7 @@ tables_in slots = map table_in slots
 abbrev pub holding_of : Inside → Holding
 holding_of a = record { tables = tables_in a.tables.items; cache = a.cache }
 
-pub record IsKept (a : Inside) : Type 0 where
+pub record IsSoundSet (a : Inside) : Type 0 where
   pub slots : length a.tables.items ≡ 290
   pub filed : AreFiled (tables_in a.tables.items)
   pub some : 1 ≤ a.cache

@@ -13,7 +13,7 @@ use Rattle.judge_core.specs.declared.probe.Probe.TheInside.{Inside}
 use Rattle.judge_core.specs.declared.reading.OwnPlace.{OwnPlace}
 use Rattle.judge_core.specs.declared.reading.PlaceInPart.{PlaceInPart}
 use Rattle.judge_core.specs.declared.reading.PlaceInPart.TheVariants.{Known, InBlock}
-use Rattle.judge_core.specs.Blocks.{part_at}
+use Rattle.judge_core.specs.Blocks.{keyed_part}
 use Rattle.judge_core.specs.LookUp.{material_of, placed_of}
 use Rattle.judge_core.specs.Tables.{Tables, table_at, part_asked, entry_in}
 
@@ -52,7 +52,7 @@ IsValueAt part block offset value = (index : ℕ) → IsSpot part index (At bloc
 
 -- the block that the key names, and what it has at the offset
 pub record IsInBlock (tables : Tables) (placed : Placement) (part : PartAt) (key : BlockKey) (offset : ℕ) : Type 0 where
-  pub on : part_at tables key ≡ Some part
+  pub on : keyed_part tables key ≡ Some part
   pub real : key.block < real_blocks part
   pub is : (value : Option ℕ) → IsValueAt part key.block offset value → value ≡ entry_in part.table placed
 

@@ -1,10 +1,10 @@
 use Rattle.std.proofs.Common.{◌≡◌, ◌∙◌, sym, ap, ◌+◌, refl, arith}
 use Rattle.board_core.specs.ComputedMoves.{count_of_men}
-use Rattle.judge_core.specs.Values.{turned}
+use Rattle.judge_core.specs.Values.{opposite_reading}
 use Rattle.judge_core.specs.Probing.{is_forced}
 use Rattle.judge_core.specs.Inside.Determined.{extreme, extreme_value, extreme_weighed}
 use Rattle.judge_core.specs.Tables.{Holding}
-use Rattle.judge_core.specs.Inside.Found.{found_in}
+use Rattle.judge_core.specs.Inside.Found.{found_by_captures}
 use Rattle.board_core.specs.ComputedMoves.{legal_captures}
 use Rattle.judge_core.proofs.Captures.{is_captured, falls}
 use Rattle.judge_core.proofs.Readings.{walk-begins, walk-goes_on, walk-passes, walk-ends, next_legal, next_illegal, fewer_left, with_own_where}
@@ -32,7 +32,7 @@ search_extreme-captures-preserved t c =
       | search_extreme-in-Some-play w ↦ (
         let e = rw p at (sym c.play.ensures.computed ∙ w.in-Some-play.is) in
             let after = w.wdl_extreme-reading.ensures.is ∙ ap (λ (h : Holding). extreme_value h.tables c.args.odd_wins w.in-Some-play.after) tables in
-            walk-goes_on _ _ _ _ _ _ _ _ _ c.captures-2.invariant.0 (next_legal _ _ _ _ next e) e (w.turned.ensures ∙ ap turned after) (rw p at w.lands_empty.ensures) (w.found-is ∙ w.with-found.ensures),
+            walk-goes_on _ _ _ _ _ _ _ _ _ c.captures-2.invariant.0 (next_legal _ _ _ _ next e) e (w.turned.ensures ∙ ap opposite_reading after) (rw p at w.lands_empty.ensures) (w.found-is ∙ w.with-found.ensures),
         w.self-is ∙ w.wdl_extreme-reading.ensures.unchanged ∙ tables,
       )
       | search_extreme-in_default-play w ↦ (
@@ -57,5 +57,5 @@ search_extreme-returns-clause-is t c = walk-ends _ _ _ _ c.captures-2.invariant.
 
 pub weigh_extreme-returns-clause-is : goal.weigh_extreme-returns-clause-is
 weigh_extreme-returns-clause-is t c =
-    let found = c.search_extreme-found.ensures.is ∙ ap (λ (h : Holding). found_in (extreme_value h.tables c.args.odd_wins) c.args.probe.now (legal_captures c.args.probe.now)) c.extreme-own.ensures.unchanged in
+    let found = c.search_extreme-found.ensures.is ∙ ap (λ (h : Holding). found_by_captures (extreme_value h.tables c.args.odd_wins) c.args.probe.now (legal_captures c.args.probe.now)) c.extreme-own.ensures.unchanged in
     with_own_where (extreme c.args.self.now.tables c.args.odd_wins) _ c.args.probe.now _ _ _ _ found c.extreme-own.ensures.is (c.is_forced.ensures ∙ ap is_forced c.position.ensures.is) c.close.ensures

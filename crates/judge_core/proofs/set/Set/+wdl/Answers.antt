@@ -1,6 +1,6 @@
 use Rattle.std.proofs.Common.{◌≡◌, ◌∙◌, sym, ap, ◌+◌, refl, arith}
 use Rattle.board_core.specs.ComputedMoves.{count_of_men}
-use Rattle.judge_core.specs.Values.{turned}
+use Rattle.judge_core.specs.Values.{opposite_reading}
 use Rattle.judge_core.specs.Probing.{is_forced, weighed_by, wdl_of}
 use Rattle.judge_core.specs.Tables.{Holding}
 use Rattle.judge_core.proofs.Captures.{is_captured, falls}
@@ -29,7 +29,7 @@ search_captures-captures-preserved t c =
       | search_captures-in-Some-play w ↦ (
         let e = rw p at (sym c.play.ensures.computed ∙ w.in-Some-play.is) in
             let after = w.wdl_of-reading.ensures.is ∙ ap (λ (h : Holding). wdl_of h.tables w.in-Some-play.after) tables in
-            walk-goes_on _ _ _ _ _ _ _ _ _ c.captures-2.invariant.0 (next_legal _ _ _ _ next e) e (w.turned.ensures ∙ ap turned after) (rw p at w.lands_empty.ensures) (w.found-is ∙ w.with-found.ensures),
+            walk-goes_on _ _ _ _ _ _ _ _ _ c.captures-2.invariant.0 (next_legal _ _ _ _ next e) e (w.turned.ensures ∙ ap opposite_reading after) (rw p at w.lands_empty.ensures) (w.found-is ∙ w.with-found.ensures),
         w.self-is ∙ w.wdl_of-reading.ensures.unchanged ∙ tables,
       )
       | search_captures-in_default-play w ↦ (
