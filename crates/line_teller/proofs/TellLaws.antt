@@ -17,7 +17,7 @@ use Rattle.system_io.specs.declared.reading.ReadFault.{ReadFault}
 use Rattle.system_io.specs.declared.reading.ReadFault.TheVariants as read
 use Rattle.line_teller.specs.declared.told_lines.Step.{Step}
 use Rattle.line_teller.specs.declared.told_lines.Step.TheVariants as step
-use Rattle.line_teller.specs.ToldLines.{AllTold, AreRead, AtAnswer, AtRefusal, AtStop, Between, CutsRead, HasFront, StepCut, TellsNoMore, TellsRead, AsksInTurn, AsksOne, MayWait, TellsInTurn, CutOff, CutShort, HasTold, IsCut, LineTold, ReadAll, StepTells, TellsLines, TextCutShort, WantsMemory, WritesRead, WritesText, WritesTold, all_told, cut_words, refused_files, refused_memory, stops_by, words_told}
+use Rattle.line_teller.specs.ToldLines.{AllTold, AreRead, AtAnswer, AtRefusal, AtStop, Between, CutsRead, HasFront, StepCut, TellsNoMore, TellsRead, AsksInTurn, AsksOne, MayWait, TellsInTurn, CutOff, CutShort, HasTold, IsReadingCut, LineTold, ReadAll, StepTells, TellsLines, TextCutShort, WantsMemory, WritesRead, WritesText, WritesTold, all_told, cut_words, refused_files, refused_memory, stops_by, words_told}
 
 pub are_read_more : (a b c : Option (List ℕ)) (lines : List (List ℕ)) (line : List ℕ) → AreRead a lines b → ReadsLine b c line → AreRead a (lines ++ line ∷ []) c
 unfolding AreRead
@@ -78,22 +78,22 @@ still_stops old new fails room read.Unreadable h = fails h
 still_stops old new fails room read.OutOfMemory h = room h
 
 -- why no more is read, with whatever was told before
-cut_after : (Now Fails : ReadFault → Type 0) (told : List LineTold) (words : List ℕ) → ((fault : ReadFault) → Now fault → Fails fault) → IsCut Now [] words → IsCut Fails told words
+cut_after : (Now Fails : ReadFault → Type 0) (told : List LineTold) (words : List ℕ) → ((fault : ReadFault) → Now fault → Fails fault) → IsReadingCut Now [] words → IsReadingCut Fails told words
 cut_after Now Fails told words back (inl (is, inl fails)) = inl (is, inl (back read.Unreadable fails))
 cut_after Now Fails told words back (inl (is, inr many)) = absurd (omega (arith, many))
 cut_after Now Fails told words back (inr (is, room)) = inr (is, back read.OutOfMemory room)
 
 pub told_cut : (Tells : List ℕ → LineTold → Type 0) (TakesMemory : List ℕ → Type 0) (Now Fails : ReadFault → Type 0) (count : ℕ) (input now next old mid new : Option (List ℕ)) (done : Bool) → ToldSoFar Tells count input now old mid done → ((fault : ReadFault) → Now fault → Fails fault)
-    → ((line : List ℕ) × ReadsLine now next line × TakesMemory line × Appends mid new (ended refused_memory)) ⊎ ((words : List ℕ) × IsCut Now [] words × Appends mid new (ended words)) → WritesRead Tells TakesMemory Fails input old new false
+    → ((line : List ℕ) × ReadsLine now next line × TakesMemory line × Appends mid new (ended refused_memory)) ⊎ ((words : List ℕ) × IsReadingCut Now [] words × Appends mid new (ended words)) → WritesRead Tells TakesMemory Fails input old new false
 told_cut Tells TakesMemory Now Fails count input now next old mid new done h back (inl (line, read, takes, wrote)) = WantsMemory h.told now next line h.has read takes (more_lines old mid new (words_told h.told) refused_memory h.written wrote) refl
 told_cut Tells TakesMemory Now Fails count input now next old mid new done h back (inr (words, is, wrote)) = CutShort h.told now words h.has (cut_after Now Fails h.told words back is) (more_lines old mid new (words_told h.told) words h.written wrote) refl
 
 -- the line that says why no more is read was written
-pub step_cut : (Tells : List ℕ → LineTold → Type 0) (TakesMemory : List ℕ → Type 0) (input : LineFacts) (left old new : Option (List ℕ)) (s : Step) (words : List ℕ) → s ≡ step.Cut → IsCut (stops_by input) [] words → Appends old new (ended words) → StepTells Tells TakesMemory input left old new s
+pub step_cut : (Tells : List ℕ → LineTold → Type 0) (TakesMemory : List ℕ → Type 0) (input : LineFacts) (left old new : Option (List ℕ)) (s : Step) (words : List ℕ) → s ≡ step.Cut → IsReadingCut (stops_by input) [] words → Appends old new (ended words) → StepTells Tells TakesMemory input left old new s
 step_cut Tells TakesMemory input left old new s words e is wrote = subst (StepTells Tells TakesMemory input left old new) (sym e) (inr (words, is, wrote))
 
 -- what a reader's fault says stops the input, and is told by its words
-pub cut_by : (input : LineFacts) (fault : ReadFault) → stops_by input fault → IsCut (stops_by input) [] (cut_words fault)
+pub cut_by : (input : LineFacts) (fault : ReadFault) → stops_by input fault → IsReadingCut (stops_by input) [] (cut_words fault)
 cut_by input read.Unreadable fails = inl (refl, inl fails)
 cut_by input read.OutOfMemory room = inr (refl, room)
 
@@ -148,18 +148,18 @@ module _ {L W : Type 0} (lines : L → LineFacts) (outs : W → OutputFacts) (co
   pub asks_all : (reader now : L) (out at waiting new : W) → AsksInTurn lines outs contents reader out now at → Keeps (contents at) (contents waiting) → contents new ≡ contents waiting → TellsInTurn lines outs contents reader out new
   asks_all reader now out at waiting new asked keeps same = record { now = now; at = at; asked = asked; rest = inl (subst (Keeps (contents at)) (sym same) keeps) }
 
-  why : (Now : ReadFault → Type 0) (words : List ℕ) → IsCut Now [] words → (words ≡ refused_files) ⊎ (words ≡ refused_memory)
+  why : (Now : ReadFault → Type 0) (words : List ℕ) → IsReadingCut Now [] words → (words ≡ refused_files) ⊎ (words ≡ refused_memory)
   why Now words (inl (is, cause)) = inl is
   why Now words (inr (is, room)) = inr is
 
   pub asks_cut : (reader now next : L) (out at waiting new : W) (TakesMemory : List ℕ → Type 0) (Now : ReadFault → Type 0) → AsksInTurn lines outs contents reader out now at → Keeps (contents at) (contents waiting)
-      → ((line : List ℕ) × ReadsLine (lines now).left (lines next).left line × TakesMemory line × Appends (contents waiting) (contents new) (ended refused_memory)) ⊎ ((words : List ℕ) × IsCut Now [] words × Appends (contents waiting) (contents new) (ended words)) → TellsInTurn lines outs contents reader out new
+      → ((line : List ℕ) × ReadsLine (lines now).left (lines next).left line × TakesMemory line × Appends (contents waiting) (contents new) (ended refused_memory)) ⊎ ((words : List ℕ) × IsReadingCut Now [] words × Appends (contents waiting) (contents new) (ended words)) → TellsInTurn lines outs contents reader out new
   asks_cut reader now next out at waiting new TakesMemory Now asked keeps (inl (line, read, takes, wrote)) = record { now = now; at = at; asked = asked; rest = inr (refused_memory, inr refl, kept_then (contents at) (contents waiting) (contents new) (ended refused_memory) keeps wrote) }
   asks_cut reader now next out at waiting new TakesMemory Now asked keeps (inr (words, is, wrote)) = record { now = now; at = at; asked = asked; rest = inr (words, why Now words is, kept_then (contents at) (contents waiting) (contents new) (ended words) keeps wrote) }
 
 -- ---- another reason for a failure
 
-stops_for : (Now Fails : ReadFault → Type 0) (told : List LineTold) (words : List ℕ) → ((fault : ReadFault) → Now fault → Fails fault) → IsCut Now told words → IsCut Fails told words
+stops_for : (Now Fails : ReadFault → Type 0) (told : List LineTold) (words : List ℕ) → ((fault : ReadFault) → Now fault → Fails fault) → IsReadingCut Now told words → IsReadingCut Fails told words
 stops_for Now Fails told words back (inl (e, inl fails)) = inl (e, inl (back read.Unreadable fails))
 stops_for Now Fails told words back (inl (e, inr many)) = inl (e, inr many)
 stops_for Now Fails told words back (inr (e, room)) = inr (e, back read.OutOfMemory room)

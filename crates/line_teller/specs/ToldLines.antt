@@ -106,14 +106,14 @@ stops_by input read.Unreadable = input.fails
 stops_by input read.OutOfMemory = input.takes_memory
 
 -- why no more is read: the input fails, or 2^64 - 1 lines were read; or memory for the next line was refused
-abbrev pub IsCut : (ReadFault → Type 0) → List LineTold → List ℕ → Type 0
-IsCut Fails told words = ((words ≡ refused_files) × (Fails read.Unreadable ⊎ (2 ^ 64 - 1 ≤ length told))) ⊎ ((words ≡ refused_memory) × Fails read.OutOfMemory)
+abbrev pub IsReadingCut : (ReadFault → Type 0) → List LineTold → List ℕ → Type 0
+IsReadingCut Fails told words = ((words ≡ refused_files) × (Fails read.Unreadable ⊎ (2 ^ 64 - 1 ≤ length told))) ⊎ ((words ≡ refused_memory) × Fails read.OutOfMemory)
 
 -- all lines to the input's end were told; or those until memory was refused for one that was read; or those until no more was read
 pub data WritesRead (Tells : List ℕ → LineTold → Type 0) (TakesMemory : List ℕ → Type 0) (Fails : ReadFault → Type 0) (input old new : Option (List ℕ)) (done : Bool) : Type 0 where
   ReadAll : (told : List LineTold) (now : Option (List ℕ)) → HasTold Tells input now told → IsAtEnd now → Appends old new (text_of (words_told told)) → done ≡ all_told told → WritesRead Tells TakesMemory Fails input old new done
   WantsMemory : (told : List LineTold) (now after : Option (List ℕ)) (line : List ℕ) → HasTold Tells input now told → ReadsLine now after line → TakesMemory line → Appends old new (text_of (words_told told ++ refused_memory ∷ [])) → done ≡ false → WritesRead Tells TakesMemory Fails input old new done
-  CutShort : (told : List LineTold) (now : Option (List ℕ)) (words : List ℕ) → HasTold Tells input now told → IsCut Fails told words → Appends old new (text_of (words_told told ++ words ∷ [])) → done ≡ false → WritesRead Tells TakesMemory Fails input old new done
+  CutShort : (told : List LineTold) (now : Option (List ℕ)) (words : List ℕ) → HasTold Tells input now told → IsReadingCut Fails told words → Appends old new (text_of (words_told told ++ words ∷ [])) → done ≡ false → WritesRead Tells TakesMemory Fails input old new done
 
 -- What a writer that failed leaves: all that was told is written whole, and it can't go out; or the lines before, and a front of what is
 -- told of the line that was read last, of the refusal of memory for it, or of the line that says why no more is read.
@@ -121,7 +121,7 @@ pub data CutsRead (Tells : List ℕ → LineTold → Type 0) (TakesMemory : List
   Between : (told : List LineTold) (now : Option (List ℕ)) → HasTold Tells input now told → Appends old new (text_of (words_told told)) → CutsRead Tells TakesMemory Fails input old new
   AtAnswer : (told : List LineTold) (now after : Option (List ℕ)) (line : List ℕ) → HasTold Tells input now told → ReadsLine now after line → (last : LineTold) → Tells line last → CutsAfter (words_told told) last.words old new → CutsRead Tells TakesMemory Fails input old new
   AtRefusal : (told : List LineTold) (now after : Option (List ℕ)) (line : List ℕ) → HasTold Tells input now told → ReadsLine now after line → TakesMemory line → CutsAfter (words_told told) refused_memory old new → CutsRead Tells TakesMemory Fails input old new
-  AtStop : (told : List LineTold) (now : Option (List ℕ)) (words : List ℕ) → HasTold Tells input now told → IsCut Fails told words → CutsAfter (words_told told) words old new → CutsRead Tells TakesMemory Fails input old new
+  AtStop : (told : List LineTold) (now : Option (List ℕ)) (words : List ℕ) → HasTold Tells input now told → IsReadingCut Fails told words → CutsAfter (words_told told) words old new → CutsRead Tells TakesMemory Fails input old new
 
 -- the lines were told, up to where no more is told; or the writer failed on the way
 abbrev pub TellsRead : (List ℕ → LineTold → Type 0) → (List ℕ → Type 0) → (ReadFault → Type 0) → Option (List ℕ) → Option (List ℕ) → Option (List ℕ) → Result Bool WriteFault → Type 0
@@ -140,7 +140,7 @@ StepTells Tells TakesMemory input left old new (step.Told done) = (line : List �
 StepTells Tells TakesMemory input left old new step.Ended = IsAtEnd input.left × (new ≡ old)
 StepTells Tells TakesMemory input left old new step.Cut =
     ((line : List ℕ) × ReadsLine input.left left line × TakesMemory line × Appends old new (ended refused_memory))
-    ⊎ ((words : List ℕ) × IsCut (stops_by input) [] words × Appends old new (ended words))
+    ⊎ ((words : List ℕ) × IsReadingCut (stops_by input) [] words × Appends old new (ended words))
 
 -- what a writer that failed leaves of a line that was read
 abbrev pub LineCut : (LineTold → Type 0) → Type 0 → Option (List ℕ) → Option (List ℕ) → Type 0
@@ -150,7 +150,7 @@ LineCut IsTold TakesMemory old new = CutsTold IsTold old new ⊎ (TakesMemory ×
 abbrev pub StepCut : (List ℕ → LineTold → Type 0) → (List ℕ → Type 0) → LineFacts → Option (List ℕ) → Option (List ℕ) → Option (List ℕ) → Type 0
 StepCut Tells TakesMemory input left old new =
     ((line : List ℕ) × ReadsLine input.left left line × LineCut (Tells line) (TakesMemory line) old new)
-    ⊎ ((words : List ℕ) × IsCut (stops_by input) [] words × HasFront old new (ended words))
+    ⊎ ((words : List ℕ) × IsReadingCut (stops_by input) [] words × HasFront old new (ended words))
 
 -- ---- the same over the whole text
 
@@ -158,7 +158,7 @@ StepCut Tells TakesMemory input left old new =
 pub data WritesText (Tells : List ℕ → LineTold → Type 0) (TakesMemory : List ℕ → Type 0) (Fails : ReadFault → Type 0) (text : List ℕ) (old new : Option (List ℕ)) (done : Bool) : Type 0 where
   AllTold : (told : List LineTold) → TellsLines Tells (lines_in text) told → Appends old new (text_of (words_told told)) → done ≡ all_told told → WritesText Tells TakesMemory Fails text old new done
   CutOff : (front : List (List ℕ)) (line : List ℕ) (rest : List (List ℕ)) → lines_in text ≡ front ++ line ∷ rest → TakesMemory line → (told : List LineTold) → TellsLines Tells front told → Appends old new (text_of (words_told told ++ refused_memory ∷ [])) → done ≡ false → WritesText Tells TakesMemory Fails text old new done
-  TextCutShort : (front rest : List (List ℕ)) → lines_in text ≡ front ++ rest → (told : List LineTold) → TellsLines Tells front told → (words : List ℕ) → IsCut Fails told words → Appends old new (text_of (words_told told ++ words ∷ [])) → done ≡ false → WritesText Tells TakesMemory Fails text old new done
+  TextCutShort : (front rest : List (List ℕ)) → lines_in text ≡ front ++ rest → (told : List LineTold) → TellsLines Tells front told → (words : List ℕ) → IsReadingCut Fails told words → Appends old new (text_of (words_told told ++ words ∷ [])) → done ≡ false → WritesText Tells TakesMemory Fails text old new done
 
 -- so it is where the input tells its bytes
 abbrev pub WritesIfKnown : (List ℕ → LineTold → Type 0) → (List ℕ → Type 0) → LineFacts → Option (List ℕ) → Option (List ℕ) → Bool → Type 0
