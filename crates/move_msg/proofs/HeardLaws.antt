@@ -11,7 +11,7 @@ use Rattle.board_core.specs.declared.piece.Promotion.TheVariants.{Queen, Rook, B
 use Rattle.board_core.specs.declared.moves.Move.{Move as Moves}
 use Rattle.board_core.specs.declared.verdict.Verdict.{Verdict as Verdicts}
 use Rattle.board_core.specs.declared.verdict.Verdict.TheVariants as verdict
-use Rattle.board_core.specs.Verdicts.{code_of}
+use Rattle.board_core.specs.Verdicts.{verdict_code}
 use Rattle.move_msg.specs.declared.stamp.Stamp.{Stamp}
 use Rattle.move_msg.specs.declared.who.Who.{Who}
 use Rattle.move_msg.specs.declared.who.Who.TheVariants as who
@@ -26,25 +26,25 @@ use Rattle.move_msg.specs.declared.coding.Fields.{Fields}
 use Rattle.move_msg.specs.Numbers.{most_moves, most_wanted}
 use Rattle.move_msg.specs.Senders.{who_number, sender_number}
 use Rattle.move_msg.specs.Words.{SpellsWord, promotion_number, word_of}
-use Rattle.move_msg.specs.Messages.{no_tag, SpellsMessage, IsInRange, IsFirstMessageFault, HasHead, HasKind, version_of, kind_of, stamp_in, sender_of, number_of, word_in}
+use Rattle.move_msg.specs.Messages.{no_tag, SpellsMessage, IsInRange, IsFirstMessageFault, HasHead, HasKind, version_of, message_kind, stamp_in, sender_of, message_number, word_in}
 use Rattle.move_msg.specs.Inside.Layouts.{HasFields, fields_at, kind_number, version_number}
-use Rattle.move_msg.specs.Heard.{arbiters, numbered, promotions, verdicts, who_with, verdict_with, promotion_with, move_with, given, move_heard, relayed_heard, ack_heard, verdict_heard, fetch_heard, reader_of, heard_by, heard_in, length_fault}
+use Rattle.move_msg.specs.Heard.{arbiters, first_numbered, promotions, verdicts, who_with, verdict_with, promotion_with, move_with, found_where, move_heard, relayed_heard, ack_heard, verdict_heard, fetch_heard, reader_of, heard_by, heard_in, length_fault}
 use Rattle.move_msg.proofs.MessageLaws.{IsBytes, IsBytes-drop, IsBytes-take, IsKind, laid_out, found, no_fault, one_fault, one_of_five}
 
 -- what is found by a number has it
-numbered_at : {A : Type 0} (number : A → ℕ) (x : A) (all : List A) (n : ℕ) (y : A) → ((numbered number all n ≡ Some y) → number y ≡ n) → (b : Bool) → (number x == n) ≡ b → cond b (Some x) (numbered number all n) ≡ Some y → number y ≡ n
+numbered_at : {A : Type 0} (number : A → ℕ) (x : A) (all : List A) (n : ℕ) (y : A) → ((first_numbered number all n ≡ Some y) → number y ≡ n) → (b : Bool) → (number x == n) ≡ b → cond b (Some x) (first_numbered number all n) ≡ Some y → number y ≡ n
 numbered_at number x all n y rest true is e = let same : x ≡ y = cc in sym (ap number same) ∙ eqb-true _ _ is
 numbered_at number x all n y rest false is e = rest e
 
-found_has : {A : Type 0} (number : A → ℕ) (all : List A) (n : ℕ) (y : A) → numbered number all n ≡ Some y → number y ≡ n
+found_has : {A : Type 0} (number : A → ℕ) (all : List A) (n : ℕ) (y : A) → first_numbered number all n ≡ Some y → number y ≡ n
 found_has number [] n y e = absurd cc
 found_has number (x ∷ all) n y e = numbered_at number x all n y (found_has number all n y) (number x == n) refl e
 
 who_has : (n : ℕ) (a : Who) → who_with n ≡ Some a → who_number a ≡ n
 who_has n a e = found_has who_number arbiters n a e
 
-verdict_coded : (n : ℕ) (v : Verdicts) → verdict_with n ≡ Some v → code_of v ≡ n
-verdict_coded n v e = found_has code_of verdicts n v e
+verdict_coded : (n : ℕ) (v : Verdicts) → verdict_with n ≡ Some v → verdict_code v ≡ n
+verdict_coded n v e = found_has verdict_code verdicts n v e
 
 promotion_has : (n : ℕ) (p : Option Promotion) → promotion_with n ≡ Some p → promotion_number p ≡ n
 promotion_has n p e = found_has promotion_number promotions n p e
@@ -53,7 +53,7 @@ who_back : (a : Who) → who_with (who_number a) ≡ Some a
 who_back who.A = refl
 who_back who.B = refl
 
-verdict_back : (v : Verdicts) → verdict_with (code_of v) ≡ Some v
+verdict_back : (v : Verdicts) → verdict_with (verdict_code v) ≡ Some v
 verdict_back verdict.WhiteMates = refl
 verdict_back verdict.BlackMates = refl
 verdict_back verdict.Stalemate = refl
@@ -70,12 +70,12 @@ promotion_back (Some Bishop) = refl
 promotion_back (Some Knight) = refl
 
 -- tests and what they let through
-kept : {A : Type 0} (b : Bool) (o : Option A) (x : A) → given b o ≡ Some x → (b ≡ true) × (o ≡ Some x)
+kept : {A : Type 0} (b : Bool) (o : Option A) (x : A) → found_where b o ≡ Some x → (b ≡ true) × (o ≡ Some x)
 kept true o x e = (refl, e)
 kept false o x e = absurd cc
 
-let_through : {A : Type 0} (b : Bool) (o : Option A) (x : A) → b ≡ true → o ≡ Some x → given b o ≡ Some x
-let_through b o x test is = ap (λ (t : Bool). given t o) test ∙ is
+let_through : {A : Type 0} (b : Bool) (o : Option A) (x : A) → b ≡ true → o ≡ Some x → found_where b o ≡ Some x
+let_through b o x test is = ap (λ (t : Bool). found_where t o) test ∙ is
 
 mapped : {A B : Type 0} (f : A → B) (o : Option A) (y : B) → option_map f o ≡ Some y → (x : A) × (o ≡ Some x) × (y ≡ f x)
 mapped f None y e = absurd cc
@@ -165,7 +165,7 @@ fetch_has s a n w m e =
     (record { in_range = (at_most n most_moves tests.0, at_most 1 w wanted.0, at_most w most_wanted wanted.1); version = refl; kind = refl; stamp = refl; sender = who_has a q.0 q.1; number = refl; word = refl })
 
 -- a message is heard where its fields stand
-heard_back : (m : Message) → IsInRange m → heard_by (reader_of (version_of m) (kind_of m)) (stamp_in m) (sender_number (sender_of m)) (number_of m) (word_in m) ≡ Ok m
+heard_back : (m : Message) → IsInRange m → heard_by (reader_of (version_of m) (message_kind m)) (stamp_in m) (sender_number (sender_of m)) (message_number m) (word_in m) ≡ Ok m
 unfolding reader_of
 heard_back (Move s Source n m) h = ap (λ (o : Option Moves). ok_or (option_map (Move s Source n) o) BadField) (word_back m h.1.from_board h.1.to_board)
 heard_back (Move s (Arbiter a) n m) h =
@@ -175,7 +175,7 @@ heard_back (Ack s a n) h =
     ap (λ (o : Option Message). ok_or o BadField) (let_through _ _ _ (and_true _ _ (few n most_moves h) refl) (ap (option_map (λ who. Ack s who n)) (who_back a)))
 heard_back (Verdict s a n v) h =
     ap (λ (o : Option Message). ok_or o BadField) (let_through _ _ _ (few n most_moves h)
-    (ap (option_and_then (λ who. option_map (Verdict s who n) (verdict_with (code_of v)))) (who_back a) ∙ ap (option_map (Verdict s a n)) (verdict_back v)))
+    (ap (option_and_then (λ who. option_map (Verdict s who n) (verdict_with (verdict_code v)))) (who_back a) ∙ ap (option_map (Verdict s a n)) (verdict_back v)))
 heard_back (Fetch s a n w) h =
     ap (λ (o : Option Message). ok_or o BadField)
     (let_through _ _ _ (and_true _ _ (few n most_moves h.0) (and_true _ _ (few 1 w h.1) (few w most_wanted h.2))) (ap (option_map (λ who. Fetch s who n w)) (who_back a)))
@@ -204,12 +204,12 @@ has_head x y v h = ap (λ (n : ℕ). head_test n y v) h.0 ∙ ap (λ (n : ℕ). 
 pub heard : (t : List ℕ) (m : Message) → SpellsMessage t m → heard_in t ≡ Ok m
 heard t m h =
     let p = laid_out t m h in
-    let f = made (stamp_in m) (sender_number (sender_of m)) (number_of m) (word_in m) in
+    let f = made (stamp_in m) (sender_number (sender_of m)) (message_number m) (word_in m) in
     let v = version_of m in
     let known_version : (v ≡ 1) ⊎ (v ≡ 2) = subst (λ (x : ℕ). (x ≡ 1) ⊎ (x ≡ 2)) p.version p.head.2 in
     is_whole t
-    ∙ whole_is (length_fault t) _ 27 _ 83 _ 65 _ v _ (kind_of m) _ f p.len p.head.0 p.head.1 p.version p.kind p.fields
-    ∙ ap (λ (b : Bool). cond b (heard_by (reader_of v (kind_of m)) f.stamp f.sender f.number f.word) (Err BadHead)) (known v known_version)
+    ∙ whole_is (length_fault t) _ 27 _ 83 _ 65 _ v _ (message_kind m) _ f p.len p.head.0 p.head.1 p.version p.kind p.fields
+    ∙ ap (λ (b : Bool). cond b (heard_by (reader_of v (message_kind m)) f.stamp f.sender f.number f.word) (Err BadHead)) (known v known_version)
     ∙ heard_back m h.in_range
 
 pub one_heard : (t : List ℕ) (m n : Message) → SpellsMessage t m → SpellsMessage t n → m ≡ n
@@ -218,7 +218,7 @@ one_heard t m n h l = let a = heard t m h in let b = heard t n l in cc
 pub one_message : (t : List ℕ) (m n : Message) → SpellsMessage t m → SpellsMessage t n → m ≡ n
 one_message = one_heard
 
-pub same_verdict : (v w : Verdicts) → code_of v ≡ code_of w → v ≡ w
+pub same_verdict : (v w : Verdicts) → verdict_code v ≡ verdict_code w → v ≡ w
 same_verdict v w e = let all : ◌≡◌ {A = Option Verdicts} (Some v) (Some w) = sym (verdict_back v) ∙ ap verdict_with e ∙ verdict_back w in cc
 
 -- a version and a kind that are read, or are none

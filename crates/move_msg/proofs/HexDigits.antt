@@ -4,7 +4,7 @@ use Rattle.std.specs.Prelude.{◌==◌}
 use Rattle.std.proofs.lemmas.Bool.{agree_below_at, eq-eqb}
 use Rattle.hex.specs.Hex.{decode_sized, encode_lower, encode_with, lower_digits}
 use Rattle.hex.proofs.HexLemmas.{decode_of-encode_lower, decode_sized-twice, length-encode_with}
-use Rattle.move_msg.specs.Inside.Cut.{Lacks}
+use Rattle.move_msg.specs.Inside.Cut.{LacksByte}
 
 -- sixty-four lower-case digits are read as the bytes that they are written for
 pub decoded : (text d : List ℕ) → length d ≡ 32 → ((i : ℕ) → slice_index d i < 256) → text ≡ encode_lower d → decode_sized text 32 ≡ Ok d
@@ -21,7 +21,7 @@ no_feed_at n e same = let f = sym (eq-eqb _ _ same) ∙ e in cc
 no_feed : (n : ℕ) → n < 16 → slice_index lower_digits n ≢ 10
 no_feed n lt = no_feed_at n (agree_below_at (λ k. slice_index lower_digits k == 10) (λ k. false) 16 n refl lt)
 
-pub digits_lack : (d : List ℕ) → ((i : ℕ) → slice_index d i < 256) → Lacks 10 (encode_lower d)
+pub digits_lack : (d : List ℕ) → ((i : ℕ) → slice_index d i < 256) → LacksByte 10 (encode_lower d)
 unfolding encode_with
 digits_lack [] fits = tt
 digits_lack (b ∷ rest) fits =

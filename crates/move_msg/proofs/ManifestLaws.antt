@@ -5,7 +5,7 @@ use Rattle.std.proofs.Common.{subst}
 use Rattle.hex.specs.Hex.{encode_lower, decode_of}
 use Rattle.hex.specs.declared.error.FromHexError.{FromHexError}
 use Rattle.hex.proofs.HexLemmas.{decode_of-encode_lower}
-use Rattle.move_msg.specs.Inside.Cut.{Lacks}
+use Rattle.move_msg.specs.Inside.Cut.{LacksByte}
 use Rattle.move_msg.specs.TableNames.{IsFileName}
 use Rattle.move_msg.specs.Manifests.{Entry, IsEntry, IsAfter, IsBefore, AreOfFiles, AreRising, AreEntries, SpellsManifest, IsFirstBadLine, HasFirstLine, entry_text, line_text, lines_text}
 use Rattle.move_msg.proofs.CutBytes.{cut_one_way, lacks_append, is_there, tail_same}
@@ -16,7 +16,7 @@ use Rattle.std.specs.Prelude.{◌==◌, nat_lt, IsAscii, IsUtf8}
 use Rattle.move_msg.specs.TableNames.{man_place, are_men_from, IsTableName}
 use Rattle.move_msg.proofs.HexDigits.{digits_lack, digits_long}
 
-name_lacks : (name : List ℕ) → IsFileName name → Lacks 10 name
+name_lacks : (name : List ℕ) → IsFileName name → LacksByte 10 name
 name_lacks name h =
     let table = table_lacks 10 refl (λ e. absurd (omega arith)) (λ e. absurd (omega arith)) h.table h.is_table in
     elim h.ending [
@@ -25,7 +25,7 @@ name_lacks name h =
     ]
 
 -- a line feed stands only at the end of a line
-pub entry_lacks : (e : Entry) → IsEntry e → Lacks 10 (entry_text e)
+pub entry_lacks : (e : Entry) → IsEntry e → LacksByte 10 (entry_text e)
 unfolding entry_text
 entry_lacks e h = lacks_append 10 (encode_lower e.digest) _ (digits_lack e.digest h.bytes) ((λ x. absurd (omega arith)), ((λ x. absurd (omega arith)), name_lacks e.name h.file))
 
@@ -33,11 +33,11 @@ line_parts : (e : Entry) (rest : List ℕ) → line_text e ++ rest ≡ entry_tex
 line_parts e rest = append_assoc (entry_text e) (10 ∷ []) rest
 
 -- the first line feed ends the first line
-pub line_by : (e : Entry) → IsEntry e → (bytes text rest after : List ℕ) → bytes ≡ text ++ 10 ∷ rest → Lacks 10 text → bytes ≡ line_text e ++ after → (text ≡ entry_text e) × (rest ≡ after)
+pub line_by : (e : Entry) → IsEntry e → (bytes text rest after : List ℕ) → bytes ≡ text ++ 10 ∷ rest → LacksByte 10 text → bytes ≡ line_text e ++ after → (text ≡ entry_text e) × (rest ≡ after)
 line_by e h bytes text rest after cut lacks line =
     cut_one_way 10 text rest (entry_text e) after lacks (entry_lacks e h) (sym cut ∙ line ∙ line_parts e after)
 
-pub line_there : (e : Entry) (bytes rest : List ℕ) → bytes ≡ line_text e ++ rest → Lacks 10 bytes → ⊥
+pub line_there : (e : Entry) (bytes rest : List ℕ) → bytes ≡ line_text e ++ rest → LacksByte 10 bytes → ⊥
 line_there e bytes rest line lacks = is_there 10 (entry_text e) rest (rw (line ∙ line_parts e rest) at lacks)
 
 pub line_joined : (e : Entry) (bytes text rest : List ℕ) → bytes ≡ text ++ 10 ∷ rest → text ≡ entry_text e → bytes ≡ line_text e ++ rest

@@ -18,8 +18,8 @@ use Rattle.move_msg.specs.declared.coding.MessageKind.{MessageKind}
 use Rattle.move_msg.specs.declared.coding.MessageKind.TheVariants as kind
 use Rattle.move_msg.specs.declared.coding.Fields.{Fields}
 use Rattle.move_msg.specs.Senders.{who_number, sender_number}
-use Rattle.board_core.specs.Verdicts.{code_of}
-use Rattle.move_msg.specs.Messages.{no_tag, SpellsMessage, IsInRange, IsFirstMessageFault, HasHead, HasKind, frame, version_by, version_of, kind_of, stamp_in, sender_of, number_of, word_in}
+use Rattle.board_core.specs.Verdicts.{verdict_code}
+use Rattle.move_msg.specs.Messages.{no_tag, SpellsMessage, IsInRange, IsFirstMessageFault, HasHead, HasKind, frame, version_by, version_of, message_kind, stamp_in, sender_of, message_number, word_in}
 use Rattle.move_msg.specs.Inside.Layouts.{HasFields, fields_at, kind_number, version_number}
 use Rattle.board_core.specs.declared.moves.Move.{Move as Moves}
 use Rattle.move_msg.specs.Numbers.{most_moves, most_wanted}
@@ -107,7 +107,7 @@ head_back : (v k : ℕ) (s : List ℕ) (a n w : ℕ) → (slice_index (frame v k
 unfolding frame
 head_back v k s a n w = (refl, refl, refl, refl)
 
-pub code_below : (v : Verdicts) → code_of v ≤ 7
+pub code_below : (v : Verdicts) → verdict_code v ≤ 7
 code_below verdict.WhiteMates = omega arith
 code_below verdict.BlackMates = omega arith
 code_below verdict.Stalemate = omega arith
@@ -116,7 +116,7 @@ code_below verdict.TableWhite = omega arith
 code_below verdict.TableBlack = omega arith
 code_below verdict.Stopped = omega arith
 
-pub code_above : (v : Verdicts) → 1 ≤ code_of v
+pub code_above : (v : Verdicts) → 1 ≤ verdict_code v
 code_above verdict.WhiteMates = omega arith
 code_above verdict.BlackMates = omega arith
 code_above verdict.Stalemate = omega arith
@@ -125,7 +125,7 @@ code_above verdict.TableWhite = omega arith
 code_above verdict.TableBlack = omega arith
 code_above verdict.Stopped = omega arith
 
-below : (m : Message) → IsInRange m → (number_of m < 2 ^ 32) × (word_in m < 2 ^ 16)
+below : (m : Message) → IsInRange m → (message_number m < 2 ^ 32) × (word_in m < 2 ^ 16)
 below (Move stamp sender number m) h = (h.0, let b = word_below _ m h.1 in omega arith)
 below (Ack stamp a count) h = (omega arith, omega arith)
 below (Verdict stamp a ply v) h = (omega arith, let b = code_below v in omega arith)
@@ -135,7 +135,7 @@ below (Fetch stamp a number wanted) h = (let b = h.0 in omega arith, let b = h.2
 abbrev pub IsKind : ℕ → ℕ → Type 0
 IsKind version kind = ((version ≡ 1) × (1 ≤ kind) × (kind ≤ 3)) ⊎ ((version ≡ 2) × ((kind ≡ 1) ⊎ (kind ≡ 4)))
 
-kind_below : (m : Message) → IsKind (version_of m) (kind_of m)
+kind_below : (m : Message) → IsKind (version_of m) (message_kind m)
 kind_below (Move stamp Source number m) = inl (refl, omega arith, omega arith)
 kind_below (Move stamp (Arbiter a) number m) = inr (refl, inl refl)
 kind_below (Ack stamp a count) = inl (refl, omega arith, omega arith)
@@ -161,18 +161,18 @@ pub record IsLaidOut (t : List ℕ) (m : Message) : Type 0 where
   pub len : length t ≡ 27
   pub head : HasHead t
   pub version : slice_index t 2 ≡ version_of m
-  pub kind : slice_index t 3 ≡ kind_of m
-  pub fields : fields_at t ≡ made (stamp_in m).0 (sender_number (sender_of m)) (number_of m) (word_in m)
+  pub kind : slice_index t 3 ≡ message_kind m
+  pub fields : fields_at t ≡ made (stamp_in m).0 (sender_number (sender_of m)) (message_number m) (word_in m)
 
 pub laid_out : (t : List ℕ) (m : Message) → SpellsMessage t m → IsLaidOut t m
 laid_out t m h =
     let b = below m h.in_range in
     let s = (stamp_in m).0 in
     let a = sender_number (sender_of m) in
-    let heads = head_back (version_of m) (kind_of m) s a (number_of m) (word_in m) in
+    let heads = head_back (version_of m) (message_kind m) s a (message_number m) (word_in m) in
     let version : slice_index t 2 ≡ version_of m = ap (λ (x : List ℕ). slice_index x 2) h.text ∙ heads.2 in
     record {
-      len = ap length h.text ∙ length-frame (version_of m) (kind_of m) s a (number_of m) (word_in m) h.stamp;
+      len = ap length h.text ∙ length-frame (version_of m) (message_kind m) s a (message_number m) (word_in m) h.stamp;
       head = (
         ap (λ (x : List ℕ). slice_index x 0) h.text ∙ heads.0,
         ap (λ (x : List ℕ). slice_index x 1) h.text ∙ heads.1,
@@ -180,7 +180,7 @@ laid_out t m h =
       );
       version = version;
       kind = ap (λ (x : List ℕ). slice_index x 3) h.text ∙ heads.3;
-      fields = ap fields_at h.text ∙ fields_back (version_of m) (kind_of m) s a (number_of m) (word_in m) h.stamp b.0 b.1;
+      fields = ap fields_at h.text ∙ fields_back (version_of m) (message_kind m) s a (message_number m) (word_in m) h.stamp b.0 b.1;
     }
 
 -- its fields are those that its kind has
@@ -271,7 +271,7 @@ ack_spelled t s a sender count number len is same few text =
       text = text ∙ frame_is _ _ _ _ _ _ _ _ _ _ _ _ refl refl refl is same refl;
     }
 
-pub verdict_spelled : (t : List ℕ) (s : Stamp) (a : Who) (v : Verdicts) (sender ply number code : ℕ) → length s.0 ≡ 16 → sender ≡ who_number a → number ≡ ply → number ≤ most_moves → code ≡ code_of v → t ≡ frame 1 3 s.0 sender number code → SpellsMessage t (Verdict s a ply v)
+pub verdict_spelled : (t : List ℕ) (s : Stamp) (a : Who) (v : Verdicts) (sender ply number code : ℕ) → length s.0 ≡ 16 → sender ≡ who_number a → number ≡ ply → number ≤ most_moves → code ≡ verdict_code v → t ≡ frame 1 3 s.0 sender number code → SpellsMessage t (Verdict s a ply v)
 verdict_spelled t s a v sender ply number code len is same few coded text =
     record {
       in_range = subst (λ (x : ℕ). x ≤ most_moves) same few;

@@ -6,7 +6,7 @@ use Rattle.std.proofs.lemmas.List.{take_at, drop_at, take-append-drop, drop-drop
 use Rattle.std.proofs.lemmas.Nat.{be_bytes_4, from_be_bytes-to_be_bytes_4}
 use Rattle.board_core.specs.declared.moves.Move.{Move}
 use Rattle.board_core.specs.declared.verdict.Verdict.{Verdict}
-use Rattle.board_core.specs.Verdicts.{code_of}
+use Rattle.board_core.specs.Verdicts.{verdict_code}
 use Rattle.move_msg.specs.declared.record_bytes.Record.{Record}
 use Rattle.move_msg.specs.declared.record_bytes.RecordFault.{RecordFault}
 use Rattle.move_msg.specs.declared.record_bytes.RecordFault.TheVariants.{BadLength, BadHead, BadField, OutOfMemory}
@@ -14,7 +14,7 @@ use Rattle.move_msg.specs.declared.record_bytes.Header.{Header}
 use Rattle.move_msg.specs.Heard.{verdict_with}
 use Rattle.move_msg.specs.Inside.Layouts.{header_at}
 use Rattle.move_msg.specs.Numbers.{most_moves}
-use Rattle.move_msg.specs.Records.{SpellsRecord, SpellsBody, SpellsMoves, WritesRecord, IsRecord, HasFront, HasRecordHead, HasRecordLayout, IsFirstRecordFault, body_in, body_text, code_or_none, count_at, delay_in, old_frame, record_frame, verdict_at, words_at}
+use Rattle.move_msg.specs.Records.{SpellsRecord, SpellsBody, SpellsMoves, WritesRecord, IsRecord, HasRecordFront, HasRecordHead, HasRecordLayout, IsFirstRecordFault, body_in, body_text, code_or_none, body_count, delay_in, old_frame, record_frame, body_verdict, words_at}
 use Rattle.move_msg.proofs.MessageLaws.{IsBytes, IsBytes-drop, IsBytes-take, code_below, code_above}
 use Rattle.move_msg.proofs.HeardLaws.{same_verdict}
 use Rattle.move_msg.proofs.WordsLaws.{one_list, one_text, words_length}
@@ -51,32 +51,32 @@ pub record IsReadAs (t : List ℕ) (r : Record) : Type 0 where
   pub layout : HasRecordLayout t
   pub stamp : take 16 (drop 3 t) ≡ r.stamp.0
   pub delay : delay_in t ≡ r.delay
-  pub verdict : verdict_at (body_in t) ≡ code_or_none r.verdict
+  pub verdict : body_verdict (body_in t) ≡ code_or_none r.verdict
   pub words : SpellsMoves (words_at (body_in t)) r.moves
 
-pub count_read : (t : List ℕ) (ms : List Move) → HasRecordLayout t → SpellsMoves (words_at (body_in t)) ms → (count_at (body_in t) ≡ length ms) × (length ms ≤ most_moves)
+pub count_read : (t : List ℕ) (ms : List Move) → HasRecordLayout t → SpellsMoves (words_at (body_in t)) ms → (body_count (body_in t) ≡ length ms) × (length ms ≤ most_moves)
 count_read t ms l words =
     let two = words_length (words_at (body_in t)) ms words in
     let exact = l.exact in
     let few = l.counts.2 in
-    let same : count_at (body_in t) ≡ length ms = omega (arith, length-drop 5 (body_in t)) in
+    let same : body_count (body_in t) ≡ length ms = omega (arith, length-drop 5 (body_in t)) in
     (same, omega arith)
 
 -- a body by its parts
-is_body : (b : List ℕ) → IsBytes b → 5 ≤ length b → b ≡ body_text (verdict_at b) (count_at b) (words_at b)
+is_body : (b : List ℕ) → IsBytes b → 5 ≤ length b → b ≡ body_text (body_verdict b) (body_count b) (words_at b)
 unfolding body_text
 is_body b fits long =
     let count : to_be_bytes w32 (from_be_bytes w32 (take 4 (drop 1 b))) ≡ take 4 (drop 1 b) =
     be_bytes_4 (take 4 (drop 1 b)) _ (omega (arith, length-take 4 (drop 1 b), length-drop 1 b))
     (IsBytes-take 4 (drop 1 b) (IsBytes-drop 1 b fits)) refl in
-    let after1 : drop 1 b ≡ to_be_bytes w32 (count_at b) ++ drop 5 b =
+    let after1 : drop 1 b ≡ to_be_bytes w32 (body_count b) ++ drop 5 b =
     sym (take-append-drop 4 (drop 1 b)) ∙ ap₂ (λ (x y : List ℕ). x ++ y) (sym count) (drop-drop 4 1 b) in
     drop-cons b 0 0 (omega arith) ∙ ap (λ (x : List ℕ). slice_index b 0 ∷ x) after1
 
 record HasBody (b : List ℕ) (r : Record) : Type 0 where
   long : 5 ≤ length b
-  verdict : verdict_at b ≡ code_or_none r.verdict
-  count : count_at b ≡ length r.moves
+  verdict : body_verdict b ≡ code_or_none r.verdict
+  count : body_count b ≡ length r.moves
   size : length b ≡ 5 + 2 * length r.moves
   words : SpellsMoves (words_at b) r.moves
 
@@ -167,7 +167,7 @@ read_back t r h =
     body_read t r h.body h.in_range (framed t r h.body h.in_range.2 h.text) (has_body h.body r h.in_range.1 h.rest)
 
 -- bytes by their frame
-is_old : (t : List ℕ) → HasFront t → slice_index t 2 ≡ 1 → t ≡ old_frame (take 16 (drop 3 t)) (drop 19 t)
+is_old : (t : List ℕ) → HasRecordFront t → slice_index t 2 ≡ 1 → t ≡ old_frame (take 16 (drop 3 t)) (drop 19 t)
 unfolding old_frame
 is_old t f one =
     let long = f.long in
@@ -178,7 +178,7 @@ is_old t f one =
     ∙ cons_is _ _ _ _ f.head.1 (d 2 (omega arith)
     ∙ cons_is _ _ _ _ one tail))
 
-is_new : (t : List ℕ) → HasFront t → slice_index t 2 ≡ 2 → t ≡ record_frame (take 16 (drop 3 t)) (slice_index t 19) (drop 20 t)
+is_new : (t : List ℕ) → HasRecordFront t → slice_index t 2 ≡ 2 → t ≡ record_frame (take 16 (drop 3 t)) (slice_index t 19) (drop 20 t)
 unfolding record_frame
 is_new t f two =
     let long = f.long in
@@ -194,7 +194,7 @@ record IsCut (t : List ℕ) (r : Record) : Type 0 where
   text : (t ≡ record_frame r.stamp.0 r.delay (body_in t)) ⊎ ((r.delay ≡ 0) × (t ≡ old_frame r.stamp.0 (body_in t)))
   fits : IsBytes (body_in t)
 
-cut_by : (t : List ℕ) (r : Record) → IsBytes t → HasFront t → take 16 (drop 3 t) ≡ r.stamp.0 → delay_in t ≡ r.delay → (slice_index t 2 ≡ 1) ⊎ (slice_index t 2 ≡ 2) → IsCut t r
+cut_by : (t : List ℕ) (r : Record) → IsBytes t → HasRecordFront t → take 16 (drop 3 t) ≡ r.stamp.0 → delay_in t ≡ r.delay → (slice_index t 2 ≡ 1) ⊎ (slice_index t 2 ≡ 2) → IsCut t r
 cut_by t r fits f stamp delay (inl one) =
     record {
       text = inr (sym delay ∙ old_delay t one, is_old t f one ∙ ap₂ old_frame stamp (sym (old_body t one)));
@@ -328,12 +328,12 @@ verdict_coded (suc (suc (suc (suc (suc (suc zero)))))) few = (verdict_with 6, re
 verdict_coded (suc (suc (suc (suc (suc (suc (suc zero))))))) few = (verdict_with 7, refl)
 verdict_coded (suc (suc (suc (suc (suc (suc (suc (suc n)))))))) few = absurd (omega arith)
 
-none_kept : (code : ℕ) (v : Option Verdict) → code_or_none v ≡ code → ((w : Verdict) → code ≡ code_of w → ◌≡◌ {A = Option Verdict} None (Some w)) → ◌≡◌ {A = ℕ} 0 code
+none_kept : (code : ℕ) (v : Option Verdict) → code_or_none v ≡ code → ((w : Verdict) → code ≡ verdict_code w → ◌≡◌ {A = Option Verdict} None (Some w)) → ◌≡◌ {A = ℕ} 0 code
 none_kept code None is only = is
 none_kept code (Some v) is only = let none = only v (sym is) in absurd cc
 
 -- what is found by a code has it
-pub code_kept : (found : Option Verdict) (code : ℕ) → code ≤ 7 → IfSome found (λ v. code ≡ code_of v) → ((v : Verdict) → code ≡ code_of v → found ≡ Some v) → code_or_none found ≡ code
+pub code_kept : (found : Option Verdict) (code : ℕ) → code ≤ 7 → IfSome found (λ v. code ≡ verdict_code v) → ((v : Verdict) → code ≡ verdict_code v → found ≡ Some v) → code_or_none found ≡ code
 code_kept (Some v) code few some only = sym some
 code_kept None code few some only = let v = verdict_coded code few in none_kept code v.0 v.1 only
 

@@ -4,7 +4,7 @@ use Rattle.std.proofs.lemmas.List.{take_at, drop_at, length-append, take_all}
 use Rattle.move_msg.specs.declared.message.Message.{Message}
 use Rattle.move_msg.specs.declared.message.MessageFault.{MessageFault}
 use Rattle.move_msg.specs.Messages.{SpellsMessage, IsFirstMessageFault}
-use Rattle.move_msg.specs.Streams.{Answer, AnswersFor, BeginsBy, Call, End, EndsSo, AfterMessage, Cut, AtFault, Feed, IsRun, SpellsStream, end_at, message_in, messages_in, nothing_fed, taken_in}
+use Rattle.move_msg.specs.Streams.{StreamAnswer, AnswersFor, BeginsBy, StreamCall, End, EndsSo, AfterMessage, Cut, AtFault, Feed, IsRunOfCalls, SpellsStream, end_at, message_in, messages_in, nothing_fed, taken_in}
 use Rattle.move_msg.proofs.MessageLaws.{laid_out, no_fault, one_fault}
 use Rattle.move_msg.proofs.HeardLaws.{one_message}
 
@@ -83,21 +83,21 @@ pub record ReadsTo (t : List ℕ) (ms : List Message) (new : Feed) : Type 0 wher
   pub messages : BeginsBy t ms rest
   pub left : IsLeft rest new
 
-reads_one : (bytes : List ℕ) (answer : Answer) (next new : Feed) (calls : List Call) → AnswersFor bytes answer next → IsRun next calls new →
-    ((s : Feed) → s.fault ≡ None → length s.held < 27 → IsRun s calls new → ReadsTo (s.held ++ taken_in calls) (messages_in calls) new) →
+reads_one : (bytes : List ℕ) (answer : StreamAnswer) (next new : Feed) (calls : List StreamCall) → AnswersFor bytes answer next → IsRunOfCalls next calls new →
+    ((s : Feed) → s.fault ≡ None → length s.held < 27 → IsRunOfCalls s calls new → ReadsTo (s.held ++ taken_in calls) (messages_in calls) new) →
     ReadsTo (bytes ++ taken_in calls) (message_in answer ++ messages_in calls) new
 reads_one bytes None next new calls h run on =
     let short : length next.held < 27 = subst (λ (s : Feed). length s.held < 27) (sym h.1) h.0 in
     subst (λ (s : Feed). ReadsTo (s.held ++ taken_in calls) (messages_in calls) new) h.1 (on next (ap (λ (s : Feed). s.fault) h.1) short run)
 reads_one bytes (Some (Ok m)) next new calls h run on =
-    let r = on nothing_fed refl (omega arith) (subst (λ (s : Feed). IsRun s calls new) h.2 run) in
+    let r = on nothing_fed refl (omega arith) (subst (λ (s : Feed). IsRunOfCalls s calls new) h.2 run) in
     record { rest = r.rest; messages = (bytes, taken_in calls, refl, h.1, r.messages); left = r.left }
 reads_one bytes (Some (Err e)) next new [] h run on =
     record { rest = bytes; messages = append-nil bytes; left = inr (e, h.0, h.1, run ∙ h.2) }
 reads_one bytes (Some (Err e)) next new (call ∷ calls) h run on =
     let bad : Some e ≡ None = sym (ap (λ (s : Feed). s.fault) h.2) ∙ run.1 in absurd cc
 
-pub reads : (calls : List Call) (old new : Feed) → old.fault ≡ None → length old.held < 27 → IsRun old calls new → ReadsTo (old.held ++ taken_in calls) (messages_in calls) new
+pub reads : (calls : List StreamCall) (old new : Feed) → old.fault ≡ None → length old.held < 27 → IsRunOfCalls old calls new → ReadsTo (old.held ++ taken_in calls) (messages_in calls) new
 reads [] old new going short run =
     record { rest = old.held; messages = append-nil old.held; left = inl (short, run ∙ feed_is _ _ _ _ refl going) }
 reads (call ∷ calls) old new going short run =
@@ -115,7 +115,7 @@ same_left rest new end (inl h) (inr l) = absurd (let short = h.0 in let long = l
 same_left rest new end (inr h) (inl l) = absurd (let long = h.1 in let short = l.0 in omega arith)
 same_left rest new end (inr h) (inr l) = h.3 ∙ ap (λ (e : MessageFault). faulty e) (one_fault rest h.0 l.0 h.2 l.2) ∙ sym l.3
 
-pub pieces : (calls others : List Call) (new end : Feed) → IsRun nothing_fed calls new → IsRun nothing_fed others end → taken_in calls ≡ taken_in others → (messages_in calls ≡ messages_in others) × (new ≡ end)
+pub pieces : (calls others : List StreamCall) (new end : Feed) → IsRunOfCalls nothing_fed calls new → IsRunOfCalls nothing_fed others end → taken_in calls ≡ taken_in others → (messages_in calls ≡ messages_in others) × (new ≡ end)
 pieces calls others new end h l e =
     let p = reads calls nothing_fed new refl (omega arith) h in
     let q = reads others nothing_fed end refl (omega arith) l in
@@ -133,7 +133,7 @@ left_ends rest new (inr h) =
     let long : 27 ≤ length rest = let len = h.1 in omega arith in
     subst (λ (s : Feed). EndsSo rest (end_at s.held s.fault)) (sym h.3) (long, subst (λ (t : List ℕ). IsFirstMessageFault t h.0) (sym (all_27 rest h.1)) h.2)
 
-pub reads_stream : (calls : List Call) (new : Feed) → IsRun nothing_fed calls new → SpellsStream (taken_in calls) (messages_in calls) (end_at new.held new.fault)
+pub reads_stream : (calls : List StreamCall) (new : Feed) → IsRunOfCalls nothing_fed calls new → SpellsStream (taken_in calls) (messages_in calls) (end_at new.held new.fault)
 reads_stream calls new h =
     let p = reads calls nothing_fed new refl (omega arith) h in
     record { rest = p.rest; messages = p.messages; ending = left_ends p.rest new p.left }

@@ -1,7 +1,7 @@
 -- The names of table files.
 use Rattle.std.proofs.Common.{◌≡◌, ◌≢◌, ◌<◌, ◌≤◌, ◌+◌, ◌++◌, ◌⊎◌, ℕ, Bool, true, false, cond, List, [], ◌∷◌, length, drop, get_or, refl, sym, ap, ◌∙◌, arith, inl, inr}
 use Rattle.std.specs.Prelude.{◌==◌, ◌&&◌, nat_le, nat_lt, codes}
-use Rattle.move_msg.specs.Inside.Cut.{Lacks}
+use Rattle.move_msg.specs.Inside.Cut.{LacksByte}
 use Rattle.move_msg.specs.TableNames.{man_place, are_men_from, IsTableName, IsFileName}
 use Rattle.std.proofs.lemmas.Bool.{lt-leb, le-leb, lt-ltb}
 use Rattle.std.proofs.lemmas.List.{drop_more, drop_all}
@@ -15,7 +15,7 @@ five : (place : ℕ) → place ≡ 5 → nat_lt place 5 ≡ true → ⊥
 five place e t = let f = sym t ∙ ap (λ n. nat_lt n 5) e in cc
 
 -- what is no man is not among them
-pub men_lack : (byte : ℕ) → man_place byte ≡ 5 → (least : ℕ) (men : List ℕ) → are_men_from least men ≡ true → Lacks byte men
+pub men_lack : (byte : ℕ) → man_place byte ≡ 5 → (least : ℕ) (men : List ℕ) → are_men_from least men ≡ true → LacksByte byte men
 unfolding are_men_from
 men_lack byte none least [] e = tt
 men_lack byte none least (letter ∷ others) e =
@@ -23,17 +23,17 @@ men_lack byte none least (letter ∷ others) e =
     let b = both _ _ a.1 in
     ((λ same. five (man_place letter) (ap man_place same ∙ none) b.0), men_lack byte none (man_place letter) others b.1)
 
-pub table_lacks : (byte : ℕ) → man_place byte ≡ 5 → 75 ≢ byte → 118 ≢ byte → (name : List ℕ) → IsTableName name → Lacks byte name
+pub table_lacks : (byte : ℕ) → man_place byte ≡ 5 → 75 ≢ byte → 118 ≢ byte → (name : List ℕ) → IsTableName name → LacksByte byte name
 table_lacks byte none no_king no_v name t =
     rw t.text (no_king, lacks_append byte t.first _ (men_lack byte none 0 t.first t.first_men) (no_v, (no_king, men_lack byte none 0 t.second t.second_men)))
 
 -- the first v parts the two sides of a name
-pub named_by : (name first second : List ℕ) → name ≡ first ++ 118 ∷ second → Lacks 118 first → (h : IsTableName name) → (first ≡ 75 ∷ h.first) × (second ≡ 75 ∷ h.second)
+pub named_by : (name first second : List ℕ) → name ≡ first ++ 118 ∷ second → LacksByte 118 first → (h : IsTableName name) → (first ≡ 75 ∷ h.first) × (second ≡ 75 ∷ h.second)
 named_by name first second e lacks h =
     cut_one_way 118 first second (75 ∷ h.first) (75 ∷ h.second) lacks ((λ same. absurd (omega arith)), men_lack 118 refl 0 h.first h.first_men) (sym e ∙ h.text)
 
 -- the first point parts a file's name from its ending
-pub filed_by : (name table ending : List ℕ) → name ≡ table ++ 46 ∷ ending → Lacks 46 table → (h : IsFileName name) → (table ≡ h.table) × ((ending ≡ codes "rtbw") ⊎ (ending ≡ codes "rtbz"))
+pub filed_by : (name table ending : List ℕ) → name ≡ table ++ 46 ∷ ending → LacksByte 46 table → (h : IsFileName name) → (table ≡ h.table) × ((ending ≡ codes "rtbw") ⊎ (ending ≡ codes "rtbz"))
 filed_by name table ending e lacks h =
     let none = table_lacks 46 refl (λ same. absurd (omega arith)) (λ same. absurd (omega arith)) h.table h.is_table in
     elim h.ending [

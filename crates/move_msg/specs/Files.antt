@@ -13,8 +13,8 @@ pub record File : Type 0 where
   pub name : List ℕ
   pub bytes : List ℕ
 
-abbrev pub file_of : NamedFile → File
-file_of f = record { name = f.name.bytes; bytes = f.bytes.items }
+abbrev pub table_file_of : NamedFile → File
+table_file_of f = record { name = f.name.bytes; bytes = f.bytes.items }
 
 -- each has the name of a table's file
 abbrev pub AreNamed : List File → Type 0

@@ -8,7 +8,7 @@ use Rattle.board_core.specs.declared.piece.Promotion.TheVariants.{Queen, Rook, B
 use Rattle.board_core.specs.declared.moves.Move.{Move as Moves}
 use Rattle.board_core.specs.declared.verdict.Verdict.{Verdict as Verdicts}
 use Rattle.board_core.specs.declared.verdict.Verdict.TheVariants as verdict
-use Rattle.board_core.specs.Verdicts.{code_of}
+use Rattle.board_core.specs.Verdicts.{verdict_code}
 use Rattle.move_msg.specs.declared.stamp.Stamp.{Stamp}
 use Rattle.move_msg.specs.declared.who.Who.{Who}
 use Rattle.move_msg.specs.declared.who.Who.TheVariants as who
@@ -23,8 +23,8 @@ use Rattle.move_msg.specs.Senders.{who_number}
 use Rattle.move_msg.specs.Words.{promotion_number}
 
 -- the first of these that has the number
-abbrev pub numbered : {A : Type 0} → (A → ℕ) → List A → ℕ → Option A
-numbered number all n = find (λ x. number x == n) all
+abbrev pub first_numbered : {A : Type 0} → (A → ℕ) → List A → ℕ → Option A
+first_numbered number all n = find (λ x. number x == n) all
 
 abbrev pub arbiters : List Who
 arbiters = who.A ∷ who.B ∷ []
@@ -37,25 +37,25 @@ abbrev pub promotions : List (Option Promotion)
 promotions = None ∷ Some Queen ∷ Some Rook ∷ Some Bishop ∷ Some Knight ∷ []
 
 abbrev pub who_with : ℕ → Option Who
-who_with number = numbered who_number arbiters number
+who_with number = first_numbered who_number arbiters number
 
 abbrev pub verdict_with : ℕ → Option Verdicts
-verdict_with code = numbered code_of verdicts code
+verdict_with code = first_numbered verdict_code verdicts code
 
 abbrev pub promotion_with : ℕ → Option (Option Promotion)
-promotion_with number = numbered promotion_number promotions number
+promotion_with number = first_numbered promotion_number promotions number
 
 -- the move that a word stands for
 unfoldable pub move_with : ℕ → Option Moves
 move_with word = option_map (λ p. record { from = word % 64; to = word / 64 % 64; promotion = p }) (promotion_with (word / 4096))
 
 -- what was found, where the test holds
-abbrev pub given : {A : Type 0} → Bool → Option A → Option A
-given test found = if test then found else None
+abbrev pub found_where : {A : Type 0} → Bool → Option A → Option A
+found_where test found = if test then found else None
 
 -- the messages of each kind by stamp, sender, number and word
 abbrev pub move_heard : Stamp → ℕ → ℕ → ℕ → Option Message
-move_heard stamp sender number word = given (sender == 0) (option_map (Move stamp Source number) (move_with word))
+move_heard stamp sender number word = found_where (sender == 0) (option_map (Move stamp Source number) (move_with word))
 
 abbrev pub relayed_heard : Stamp → ℕ → ℕ → ℕ → Option Message
 relayed_heard stamp sender number word =
@@ -63,16 +63,16 @@ relayed_heard stamp sender number word =
 
 abbrev pub ack_heard : Stamp → ℕ → ℕ → ℕ → Option Message
 ack_heard stamp sender number word =
-    given (nat_le number most_moves && word == 0) (option_map (λ who. Ack stamp who number) (who_with sender))
+    found_where (nat_le number most_moves && word == 0) (option_map (λ who. Ack stamp who number) (who_with sender))
 
 abbrev pub verdict_heard : Stamp → ℕ → ℕ → ℕ → Option Message
 verdict_heard stamp sender number word =
-    given (nat_le number most_moves)
+    found_where (nat_le number most_moves)
     (option_and_then (λ who. option_map (Verdict stamp who number) (verdict_with word)) (who_with sender))
 
 abbrev pub fetch_heard : Stamp → ℕ → ℕ → ℕ → Option Message
 fetch_heard stamp sender number word =
-    given (nat_le number most_moves && (nat_le 1 word && nat_le word most_wanted))
+    found_where (nat_le number most_moves && (nat_le 1 word && nat_le word most_wanted))
     (option_map (λ who. Fetch stamp who number word) (who_with sender))
 
 -- how the fields of this version and kind are read
@@ -88,8 +88,8 @@ heard_by None stamp sender number word = Err BadKind
 heard_by (Some reader) stamp sender number word = ok_or (reader stamp sender number word) BadField
 
 -- S, A and a version
-abbrev pub begins_well : List ℕ → Bool
-begins_well t = slice_index t 0 == 83 && (slice_index t 1 == 65 && (slice_index t 2 == 1 || slice_index t 2 == 2))
+abbrev pub begins_as_message : List ℕ → Bool
+begins_as_message t = slice_index t 0 == 83 && (slice_index t 1 == 65 && (slice_index t 2 == 1 || slice_index t 2 == 2))
 
 abbrev pub heard_there : List ℕ → Result Message MessageFault
 heard_there t =
@@ -101,4 +101,4 @@ length_fault t = if bytes_eq t no_tag then NoTag else BadLength
 
 -- the message that the bytes encode, or their first fault
 unfoldable pub heard_in : List ℕ → Result Message MessageFault
-heard_in t = if length t == 27 then (if begins_well t then heard_there t else Err BadHead) else Err (length_fault t)
+heard_in t = if length t == 27 then (if begins_as_message t then heard_there t else Err BadHead) else Err (length_fault t)

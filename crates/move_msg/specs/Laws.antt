@@ -7,11 +7,11 @@ use Rattle.move_msg.specs.Words.{SpellsWord}
 use Rattle.move_msg.specs.Messages.{SpellsMessage}
 use Rattle.move_msg.specs.Records.{SpellsRecord}
 use Rattle.move_msg.specs.Manifests.{Entry, IsFirstBadLine, SpellsManifest}
-use Rattle.move_msg.specs.Streams.{Call, End, Feed, IsRun, SpellsStream, end_at, messages_in, nothing_fed, taken_in}
+use Rattle.move_msg.specs.Streams.{End, Feed, IsRunOfCalls, SpellsStream, StreamCall, end_at, messages_in, nothing_fed, taken_in}
 
 -- a word stands for one move at most
-abbrev pub HasOneMove : Type 0
-HasOneMove = (w : ℕ) (m n : Move) → SpellsWord w m → SpellsWord w n → m ≡ n
+abbrev pub WordHasOneMove : Type 0
+WordHasOneMove = (w : ℕ) (m n : Move) → SpellsWord w m → SpellsWord w n → m ≡ n
 
 -- bytes spell one message at most, and a message has one spelling at most
 abbrev pub HasOneMessage : Type 0
@@ -35,12 +35,12 @@ HasOneReading = (t : List ℕ) (ms ns : List Message) (e f : End) → SpellsStre
 
 -- the messages that are answered, and what is held or met at last, are those of the bytes taken
 abbrev pub ReadsItsStream : Type 0
-ReadsItsStream = (calls : List Call) (new : Feed) → IsRun nothing_fed calls new
+ReadsItsStream = (calls : List StreamCall) (new : Feed) → IsRunOfCalls nothing_fed calls new
     → SpellsStream (taken_in calls) (messages_in calls) (end_at new.held new.fault)
 
 -- in whatever pieces the same bytes come, the same messages are answered, and the same is left
 abbrev pub PiecesDoNotMatter : Type 0
-PiecesDoNotMatter = (calls others : List Call) (new end : Feed) → IsRun nothing_fed calls new → IsRun nothing_fed others end
+PiecesDoNotMatter = (calls others : List StreamCall) (new end : Feed) → IsRunOfCalls nothing_fed calls new → IsRunOfCalls nothing_fed others end
     → taken_in calls ≡ taken_in others → (messages_in calls ≡ messages_in others) × (new ≡ end)
 
 -- bytes are one manifest at most

@@ -16,8 +16,8 @@ move_words sender number m = codes "Move " ++ decimal sender ++ codes " " ++ dec
 abbrev pub ack_words : ℕ → ℕ → List ℕ
 ack_words sender count = codes "Ack " ++ decimal sender ++ codes " " ++ decimal count
 
-abbrev pub verdict_words : ℕ → ℕ → Verdicts → List ℕ
-verdict_words sender ply verdict = codes "Verdict " ++ decimal sender ++ codes " " ++ decimal ply ++ codes " " ++ verdict_name verdict
+abbrev pub verdict_message_words : ℕ → ℕ → Verdicts → List ℕ
+verdict_message_words sender ply verdict = codes "Verdict " ++ decimal sender ++ codes " " ++ decimal ply ++ codes " " ++ verdict_name verdict
 
 abbrev pub fetch_words : ℕ → ℕ → ℕ → List ℕ
 fetch_words sender number wanted = codes "Fetch " ++ decimal sender ++ codes " " ++ decimal number ++ codes " " ++ decimal wanted
@@ -26,5 +26,5 @@ fetch_words sender number wanted = codes "Fetch " ++ decimal sender ++ codes " "
 unfoldable pub message_words : Message → List ℕ
 message_words (Move stamp sender number m) = move_words (sender_number sender) number m
 message_words (Ack stamp who count) = ack_words (who_number who) count
-message_words (Verdict stamp who ply verdict) = verdict_words (who_number who) ply verdict
+message_words (Verdict stamp who ply verdict) = verdict_message_words (who_number who) ply verdict
 message_words (Fetch stamp who number wanted) = fetch_words (who_number who) number wanted

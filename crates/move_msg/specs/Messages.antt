@@ -12,7 +12,7 @@ use Rattle.move_msg.specs.declared.message.MessageFault.TheVariants.{NoTag, BadL
 use Rattle.move_msg.specs.Words.{SpellsWord, word_of}
 use Rattle.move_msg.specs.Numbers.{most_moves, most_wanted}
 use Rattle.move_msg.specs.Senders.{sender_number}
-use Rattle.board_core.specs.Verdicts.{code_of}
+use Rattle.board_core.specs.Verdicts.{verdict_code}
 
 -- whose message it is
 abbrev pub sender_of : Message → Sender
@@ -44,22 +44,22 @@ version_of (Verdict stamp who ply verdict) = 1
 version_of (Fetch stamp who number wanted) = 2
 
 -- a kind, the number and the word
-abbrev pub kind_of : Message → ℕ
-kind_of (Move stamp sender number m) = 1
-kind_of (Ack stamp who count) = 2
-kind_of (Verdict stamp who ply verdict) = 3
-kind_of (Fetch stamp who number wanted) = 4
+abbrev pub message_kind : Message → ℕ
+message_kind (Move stamp sender number m) = 1
+message_kind (Ack stamp who count) = 2
+message_kind (Verdict stamp who ply verdict) = 3
+message_kind (Fetch stamp who number wanted) = 4
 
-abbrev pub number_of : Message → ℕ
-number_of (Move stamp sender number m) = number
-number_of (Ack stamp who count) = count
-number_of (Verdict stamp who ply verdict) = ply
-number_of (Fetch stamp who number wanted) = number
+abbrev pub message_number : Message → ℕ
+message_number (Move stamp sender number m) = number
+message_number (Ack stamp who count) = count
+message_number (Verdict stamp who ply verdict) = ply
+message_number (Fetch stamp who number wanted) = number
 
 abbrev pub word_in : Message → ℕ
 word_in (Move stamp sender number m) = word_of m
 word_in (Ack stamp who count) = 0
-word_in (Verdict stamp who ply verdict) = code_of verdict
+word_in (Verdict stamp who ply verdict) = verdict_code verdict
 word_in (Fetch stamp who number wanted) = wanted
 
 -- what a message may have as its number and its word
@@ -76,7 +76,7 @@ frame version kind stamp sender number word =
     83 ∷ 65 ∷ version ∷ kind ∷ stamp ++ (sender ∷ to_be_bytes w32 number ++ to_be_bytes w16 word)
 
 abbrev pub message_text : Message → List ℕ
-message_text m = frame (version_of m) (kind_of m) (stamp_in m).0 (sender_number (sender_of m)) (number_of m) (word_in m)
+message_text m = frame (version_of m) (message_kind m) (stamp_in m).0 (sender_number (sender_of m)) (message_number m) (word_in m)
 
 -- the bytes are those of the message
 pub record SpellsMessage (t : List ℕ) (m : Message) : Type 0 where
@@ -107,9 +107,9 @@ IsFirstMessageFault t BadKind = (length t ≡ 27) × HasHead t × (HasKind t →
 IsFirstMessageFault t BadField = (length t ≡ 27) × HasHead t × HasKind t × ((m : Message) → SpellsMessage t m → ⊥)
 
 -- the names of the faults
-abbrev pub fault_name : MessageFault → List ℕ
-fault_name NoTag = codes "NoTag"
-fault_name BadLength = codes "BadLength"
-fault_name BadHead = codes "BadHead"
-fault_name BadKind = codes "BadKind"
-fault_name BadField = codes "BadField"
+abbrev pub message_fault_name : MessageFault → List ℕ
+message_fault_name NoTag = codes "NoTag"
+message_fault_name BadLength = codes "BadLength"
+message_fault_name BadHead = codes "BadHead"
+message_fault_name BadKind = codes "BadKind"
+message_fault_name BadField = codes "BadField"

@@ -3,7 +3,7 @@ use Rattle.std.specs.Prelude.{◌≡◌, ◌≤◌, ◌<◌, ◌+◌, ◌*◌, �
 use Rattle.std.specs.Int.{w16, w32, to_be_bytes, from_be_bytes}
 use Rattle.board_core.specs.declared.moves.Move.{Move}
 use Rattle.board_core.specs.declared.verdict.Verdict.{Verdict}
-use Rattle.board_core.specs.Verdicts.{code_of}
+use Rattle.board_core.specs.Verdicts.{verdict_code}
 use Rattle.move_msg.specs.declared.record_bytes.RecordFault.{RecordFault}
 use Rattle.move_msg.specs.declared.record_bytes.RecordFault.TheVariants.{BadLength, BadHead, BadField, OutOfMemory}
 use Rattle.move_msg.specs.declared.record_bytes.Record.{Record}
@@ -23,7 +23,7 @@ AppendsMoves old new ms = (words : List ℕ) × SpellsMoves words ms × (new ≡
 -- 0 is no verdict
 abbrev pub code_or_none : Option Verdict → ℕ
 code_or_none None = 0
-code_or_none (Some verdict) = code_of verdict
+code_or_none (Some verdict) = verdict_code verdict
 
 -- the code of the verdict, the number of moves and their words
 unfoldable pub body_text : ℕ → ℕ → List ℕ → List ℕ
@@ -82,32 +82,32 @@ abbrev pub body_in : List ℕ → List ℕ
 body_in t = if slice_index t 2 == 1 then drop 19 t else drop 20 t
 
 -- in a body the code of the verdict, the number of moves and their words
-abbrev pub verdict_at : List ℕ → ℕ
-verdict_at body = slice_index body 0
+abbrev pub body_verdict : List ℕ → ℕ
+body_verdict body = slice_index body 0
 
-abbrev pub count_at : List ℕ → ℕ
-count_at body = from_be_bytes w32 (take 4 (drop 1 body))
+abbrev pub body_count : List ℕ → ℕ
+body_count body = from_be_bytes w32 (take 4 (drop 1 body))
 
 abbrev pub words_at : List ℕ → List ℕ
 words_at body = drop 5 body
 
 -- the head, and as many bytes as stand before the words: 24 in version 1, 25 in version 2
-pub record HasFront (t : List ℕ) : Type 0 where
+pub record HasRecordFront (t : List ℕ) : Type 0 where
   pub long : 24 ≤ length t
   pub head : HasRecordHead t
   pub body : 5 ≤ length (body_in t)
 
 -- delay, code and number are in their ranges
 abbrev pub HasCounts : List ℕ → Type 0
-HasCounts t = (delay_in t ≤ most_delay) × (verdict_at (body_in t) ≤ 7) × (count_at (body_in t) ≤ most_moves)
+HasCounts t = (delay_in t ≤ most_delay) × (body_verdict (body_in t) ≤ 7) × (body_count (body_in t) ≤ most_moves)
 
 -- there are two bytes for each move
 abbrev pub HasRoom : List ℕ → Type 0
-HasRoom t = length (body_in t) ≡ 5 + 2 * count_at (body_in t)
+HasRoom t = length (body_in t) ≡ 5 + 2 * body_count (body_in t)
 
 -- all but the words is well formed; the words are not examined
 pub record HasRecordLayout (t : List ℕ) : Type 0 where
-  pub front : HasFront t
+  pub front : HasRecordFront t
   pub counts : HasCounts t
   pub exact : HasRoom t
 
@@ -117,9 +117,9 @@ abbrev pub IsFirstRecordFault : List ℕ → RecordFault → Type 0
 IsFirstRecordFault t BadLength =
     (length t < 24)
     ⊎ ((24 ≤ length t) × HasRecordHead t × (length (body_in t) < 5))
-    ⊎ (HasFront t × HasCounts t × (HasRoom t → ⊥))
+    ⊎ (HasRecordFront t × HasCounts t × (HasRoom t → ⊥))
 IsFirstRecordFault t BadHead = (24 ≤ length t) × (HasRecordHead t → ⊥)
-IsFirstRecordFault t BadField = (HasFront t × (HasCounts t → ⊥)) ⊎ (HasRecordLayout t × ((r : Record) → SpellsRecord t r → ⊥))
+IsFirstRecordFault t BadField = (HasRecordFront t × (HasCounts t → ⊥)) ⊎ (HasRecordLayout t × ((r : Record) → SpellsRecord t r → ⊥))
 IsFirstRecordFault t OutOfMemory = ⊥
 
 -- the names of the faults

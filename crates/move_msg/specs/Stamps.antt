@@ -17,9 +17,9 @@ delay_byte zero = []
 delay_byte (suc n) = suc n ∷ []
 
 -- name, line feed, the start's text, line feed, manifest, delay
-abbrev pub stamped : List ℕ → List ℕ → List ℕ → ℕ → List ℕ
-stamped name start manifest delay = name ++ 10 ∷ [] ++ start ++ 10 ∷ [] ++ manifest ++ delay_byte delay
+abbrev pub stamp_text : List ℕ → List ℕ → List ℕ → ℕ → List ℕ
+stamp_text name start manifest delay = name ++ 10 ∷ [] ++ start ++ 10 ∷ [] ++ manifest ++ delay_byte delay
 
 -- the digest is that of FIPS 180-4
 abbrev pub stamp_of : List ℕ → List ℕ → List ℕ → ℕ → List ℕ
-stamp_of name start manifest delay = take 16 (sha256 (stamped name start manifest delay))
+stamp_of name start manifest delay = take 16 (sha256 (stamp_text name start manifest delay))

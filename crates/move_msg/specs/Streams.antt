@@ -40,43 +40,43 @@ pub record Feed : Type 0 where
 abbrev pub nothing_fed : Feed
 nothing_fed = record { held = []; fault = None }
 
-abbrev pub Answer : Type 0
-Answer = Option (Result Message MessageFault)
+abbrev pub StreamAnswer : Type 0
+StreamAnswer = Option (Result Message MessageFault)
 
 -- what is answered where the bytes of a message so far are these, and what is held then
-abbrev pub AnswersFor : List ℕ → Answer → Feed → Type 0
+abbrev pub AnswersFor : List ℕ → StreamAnswer → Feed → Type 0
 AnswersFor t None new = (length t < 27) × (new ≡ record { held = t; fault = None })
 AnswersFor t (Some (Ok m)) new = (length t ≡ 27) × SpellsMessage t m × (new ≡ nothing_fed)
 AnswersFor t (Some (Err e)) new = (length t ≡ 27) × IsFirstMessageFault t e × (new ≡ record { held = []; fault = Some e })
 
 -- before any fault, of a piece: how many bytes are taken, all unless they end a message, and what is answered for the
 -- bytes held followed by those taken
-pub record Feeds (old : Feed) (piece : List ℕ) (answered : ℕ × Answer) (new : Feed) : Type 0 where
+pub record Feeds (old : Feed) (piece : List ℕ) (answered : ℕ × StreamAnswer) (new : Feed) : Type 0 where
   pub some : answered.0 ≤ length piece
   pub all : answered.1 ≡ None → answered.0 ≡ length piece
   pub answer : AnswersFor (old.held ++ take answered.0 piece) answered.1 new
 
 -- a call: the bytes that it took, and what it answered
-pub record Call : Type 0 where
+pub record StreamCall : Type 0 where
   pub taken : List ℕ
-  pub answer : Answer
+  pub answer : StreamAnswer
 
-abbrev pub message_in : Answer → List Message
+abbrev pub message_in : StreamAnswer → List Message
 message_in None = []
 message_in (Some (Ok m)) = m ∷ []
 message_in (Some (Err e)) = []
 
 -- all bytes that were taken, and all messages that were answered
-abbrev pub taken_in : List Call → List ℕ
+abbrev pub taken_in : List StreamCall → List ℕ
 taken_in [] = []
 taken_in (call ∷ calls) = call.taken ++ taken_in calls
 
-abbrev pub messages_in : List Call → List Message
+abbrev pub messages_in : List StreamCall → List Message
 messages_in [] = []
 messages_in (call ∷ calls) = message_in call.answer ++ messages_in calls
 
 -- calls one after the other, up to the one that meets a fault
-abbrev pub IsRun : Feed → List Call → Feed → Type 0
-IsRun old [] new = new ≡ old
-IsRun old (call ∷ calls) new =
-    (next : Feed) × (old.fault ≡ None) × AnswersFor (old.held ++ call.taken) call.answer next × IsRun next calls new
+abbrev pub IsRunOfCalls : Feed → List StreamCall → Feed → Type 0
+IsRunOfCalls old [] new = new ≡ old
+IsRunOfCalls old (call ∷ calls) new =
+    (next : Feed) × (old.fault ≡ None) × AnswersFor (old.held ++ call.taken) call.answer next × IsRunOfCalls next calls new

@@ -1,10 +1,10 @@
 //! Laws over the definitions alone, for the layers above.
 
-ghost use Rattle.move_msg.specs.Laws.{HasOneMove, HasOneMessage, HasOneSpelling, HasOneRecord, HasOneRecordSpelling, HasOneReading, HasOneManifest, HasOneBadLine, ReadsItsStream, PiecesDoNotMatter};
+ghost use Rattle.move_msg.specs.Laws.{WordHasOneMove, HasOneMessage, HasOneSpelling, HasOneRecord, HasOneRecordSpelling, HasOneReading, HasOneManifest, HasOneBadLine, ReadsItsStream, PiecesDoNotMatter};
 
 /// A word stands for one move at most.
 pub fn one_move()
-    ensures { HasOneMove }
+    ensures { WordHasOneMove }
 {}
 
 /// Bytes encode one message at most.

@@ -5,7 +5,7 @@ ghost use Rattle.hex.specs.Hex.{encode_lower};
 ghost use Rattle.move_msg.specs.declared.manifest.ManifestFault.{ManifestFault};
 ghost use Rattle.move_msg.specs.declared.manifest.ManifestFault.TheVariants.{BadLine, OutOfMemory};
 ghost use Rattle.move_msg.specs.Manifests.{Entry, AreEntries, IsEntry, IsAfter, IsBefore, IsFirstBadLine, HasFirstLine, SpellsManifest, entry_of, entry_text, line_text};
-ghost use Rattle.move_msg.specs.Files.{AreFiles, entries_of, entry_for, file_of};
+ghost use Rattle.move_msg.specs.Files.{AreFiles, entries_of, entry_for, table_file_of};
 ghost use Rattle.move_msg.specs.TableNames.{IsFileName};
 
 use crate::files::{NamedFile, file_digest};
@@ -199,8 +199,8 @@ pub fn manifest_write(alloc: Global, lines: &[Line]) -> Result<Vec<u8>, AllocErr
 /// The bytes of the manifest of these files. The caller ensures that their names are names of table files, each after
 /// the one before in byte order. The error comes only where memory is refused.
 pub fn manifest_of(alloc: Global, files: &[NamedFile]) -> Result<Vec<u8>, AllocError>
-    requires { AreFiles (map file_of files.now) }
-    ensures { IfOk result (λ bytes. SpellsManifest bytes.items (entries_of (map file_of files.now))) }
+    requires { AreFiles (map table_file_of files.now) }
+    ensures { IfOk result (λ bytes. SpellsManifest bytes.items (entries_of (map table_file_of files.now))) }
 {
     let mut lines = Vec::new(alloc);
     for file in files {

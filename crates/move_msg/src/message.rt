@@ -1,7 +1,7 @@
 //! What a message says.
 
 ghost use Rattle.std.specs.Prelude.{◌≡◌};
-ghost use Rattle.move_msg.specs.Messages.{fault_name, sender_of, stamp_in};
+ghost use Rattle.move_msg.specs.Messages.{message_fault_name, sender_of, stamp_in};
 
 use crate::count::{Count, Wanted};
 use crate::stamp::Stamp;
@@ -117,7 +117,7 @@ pub enum MessageFault {
 impl MessageFault {
     /// The name of the fault, for printing.
     pub fn name(self) -> &'static str
-        ensures { result.now ≡ fault_name self }
+        ensures { result.now ≡ message_fault_name self }
     {
         match self {
             MessageFault::NoTag => "NoTag",

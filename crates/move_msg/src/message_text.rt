@@ -2,7 +2,7 @@
 
 ghost use Rattle.std.specs.Prelude.{Some};
 ghost use Rattle.std.specs.Fmt.{DisplaysOnOk};
-ghost use Rattle.move_msg.specs.MessageWords.{ack_words, fetch_words, move_words, verdict_words};
+ghost use Rattle.move_msg.specs.MessageWords.{ack_words, fetch_words, move_words, verdict_message_words};
 ghost use Rattle.move_msg.specs.Senders.{sender_number, who_number};
 
 use crate::count::{Count, Wanted};
@@ -43,7 +43,7 @@ fn fmt_verdict<W: fmt::Write>(
     ply: Count,
     verdict: Verdict,
 ) -> fmt::Result
-    ensures { DisplaysOnOk W.Write.write_str_gives f.old result (Some (verdict_words (who_number who) ply verdict)) f.new }
+    ensures { DisplaysOnOk W.Write.write_str_gives f.old result (Some (verdict_message_words (who_number who) ply verdict)) f.new }
 {
     let sender = who.number();
     let ply = ply.number();

@@ -4,7 +4,7 @@ ghost use Rattle.std.specs.Prelude.{◌≡◌, ◌↔◌, IfSome, IfNone, IsTrue
 ghost use Rattle.std.specs.List.{list_all};
 ghost use Rattle.sha2.specs.Sha256.{sha256};
 ghost use Rattle.fen_text.specs.Written.{fen_of};
-ghost use Rattle.move_msg.specs.Stamps.{IsGameName, is_printable, stamped, stamp_of};
+ghost use Rattle.move_msg.specs.Stamps.{IsGameName, is_printable, stamp_text, stamp_of};
 
 use board_core::Position;
 use fen_text::write;
@@ -34,7 +34,7 @@ const LINE_FEED: &str = "\n";
 
 /// The SHA-256 digest (FIPS 180-4) of name, line feed, start, line feed, manifest and delay.
 fn digest(name: &[u8], start: &[u8], manifest: &[u8], delay: u8) -> [u8; 32]
-    ensures { result ≡ sha256 (stamped name.now start.now manifest.now delay) }
+    ensures { result ≡ sha256 (stamp_text name.now start.now manifest.now delay) }
 {
     let mut hasher = Sha256::new();
     hasher.update(name);

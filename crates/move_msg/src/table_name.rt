@@ -2,7 +2,7 @@
 
 ghost use Rattle.std.specs.Prelude.{◌≡◌, ◌⊎◌, ◌++◌, ◌∷◌, ◌↔◌, codes, ◌==◌, ℕ, List, position, IsTrue, IfSome, IfNone};
 ghost use Rattle.move_msg.specs.TableNames.{man_place, are_men_from, are_paired, IsTableName, IsFileName};
-ghost use Rattle.move_msg.specs.Inside.Cut.{Lacks};
+ghost use Rattle.move_msg.specs.Inside.Cut.{LacksByte};
 
 /// The place of a man's letter in the order of names, 0 to 4; 5 where it is none.
 fn man_place(letter: u8) -> u8
@@ -69,8 +69,8 @@ fn place_of(bytes: &[u8], byte: u8) -> Option<usize>
 
 /// The bytes before the first place of this one, and those after it.
 pub(crate) fn cut(bytes: &[u8], byte: u8) -> Option<(&[u8], &[u8])>
-    ensures some { IfSome result (λ parts. (bytes.now ≡ parts.0.now ++ byte ∷ parts.1.now) × Lacks byte parts.0.now) }
-    ensures none { IfNone result (Lacks byte bytes.now) }
+    ensures some { IfSome result (λ parts. (bytes.now ≡ parts.0.now ++ byte ∷ parts.1.now) × LacksByte byte parts.0.now) }
+    ensures none { IfNone result (LacksByte byte bytes.now) }
 {
     let Some(at) = place_of(bytes, byte) else {
         return None;

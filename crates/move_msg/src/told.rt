@@ -1,7 +1,7 @@
 //! Manifests that were read.
 
 ghost use Rattle.std.specs.Prelude.{◌≡◌, Some, IfOk};
-ghost use Rattle.move_msg.specs.ToldManifests.{Told, Tells};
+ghost use Rattle.move_msg.specs.ToldManifests.{ToldManifest, TellsManifest};
 ghost use Rattle.move_msg.specs.ToldBy.{told_by};
 
 use crate::manifest::{Line, ManifestFault, manifest_read};
@@ -21,7 +21,7 @@ pub enum Manifest {
 impl Manifest {
     /// Reads a manifest. The error comes only where memory is refused.
     pub fn of(alloc: Global, text: &[u8]) -> Result<Manifest, AllocError>
-        ensures { IfOk result (λ manifest. (told : Told) × Tells text.now told × (told_by manifest ≡ Some told)) }
+        ensures { IfOk result (λ manifest. (told : ToldManifest) × TellsManifest text.now told × (told_by manifest ≡ Some told)) }
     {
         match manifest_read(alloc, text) {
             Ok(lines) => Ok(Manifest::Lines(lines)),

@@ -6,9 +6,9 @@ use Rattle.move_msg.specs.declared.coding.MessageKind.TheVariants as kind
 use Rattle.move_msg.specs.declared.coding.Fields.{Fields}
 use Rattle.move_msg.specs.declared.record_bytes.Header.{Header}
 use Rattle.move_msg.specs.declared.message.Message.{Message}
-use Rattle.move_msg.specs.Messages.{IsInRange, version_of, kind_of, stamp_in, sender_of, number_of, word_in}
+use Rattle.move_msg.specs.Messages.{IsInRange, version_of, message_kind, stamp_in, sender_of, message_number, word_in}
 use Rattle.move_msg.specs.Senders.{sender_number}
-use Rattle.move_msg.specs.Records.{body_in, count_at, delay_in, verdict_at}
+use Rattle.move_msg.specs.Records.{body_count, body_in, body_verdict, delay_in}
 
 abbrev pub kind_number : MessageKind → ℕ
 kind_number kind.Move = 1
@@ -37,10 +37,10 @@ fields_at t = record {
 pub record HasFields (k : MessageKind) (f : Fields) (m : Message) : Type 0 where
   pub in_range : IsInRange m
   pub version : version_of m ≡ version_number k
-  pub kind : kind_of m ≡ kind_number k
+  pub kind : message_kind m ≡ kind_number k
   pub stamp : stamp_in m ≡ f.stamp
   pub sender : sender_number (sender_of m) ≡ f.sender
-  pub number : number_of m ≡ f.number
+  pub number : message_number m ≡ f.number
   pub word : word_in m ≡ f.word
 
 -- stamp, delay, code of the verdict and number of moves of a record
@@ -48,6 +48,6 @@ unfoldable pub header_at : List ℕ → Header
 header_at t = record {
   stamp = record { 0 = take 16 (drop 3 t) };
   delay = delay_in t;
-  code = verdict_at (body_in t);
-  count = count_at (body_in t);
+  code = body_verdict (body_in t);
+  count = body_count (body_in t);
 }
