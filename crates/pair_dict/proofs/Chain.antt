@@ -5,13 +5,13 @@ use Rattle.pair_dict.specs.declared.fault.DictFault.{DictFault}
 use Rattle.pair_dict.specs.declared.fault.DictFault.TheVariants.{Truncated, BadCode, BadSymbol, OutOfMemory}
 use Rattle.pair_dict.specs.Symbols.{have_values}
 use Rattle.pair_dict.specs.Codes.{Pairing}
-use Rattle.pair_dict.specs.Reading.{◌>>=◌, words, falls, lengths_at, lowest_at, count_at, symbols_at, layout_at, with_values, dictionary_at, Fails}
+use Rattle.pair_dict.specs.Reading.{◌>>=◌, words, falls, lengths_at, lowest_at, count_at, symbols_at, layout_at, with_values, dictionary_at, FailsInDict}
 
 then_values : (bytes : List ℕ) (r : Result (Pairing × ℕ) DictFault) → layout_at bytes ≡ r → dictionary_at bytes ≡ (r >>= λ x. with_values x)
 unfolding dictionary_at
 then_values bytes r e = ap (λ (s : Result (Pairing × ℕ) DictFault). s >>= λ x. with_values x) e
 
-pub layout_fails : (bytes : List ℕ) (e : DictFault) → layout_at bytes ≡ Err e → Fails e (dictionary_at bytes)
+pub layout_fails : (bytes : List ℕ) (e : DictFault) → layout_at bytes ≡ Err e → FailsInDict e (dictionary_at bytes)
 layout_fails bytes Truncated h = then_values bytes (Err Truncated) h
 layout_fails bytes BadCode h = then_values bytes (Err BadCode) h
 layout_fails bytes BadSymbol h = then_values bytes (Err BadSymbol) h

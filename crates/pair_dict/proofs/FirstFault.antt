@@ -9,8 +9,8 @@ use Rattle.pair_dict.specs.declared.fault.DictFault.TheVariants.{Truncated, BadC
 use Rattle.pair_dict.specs.Symbols.{AllHaveValues, have_values}
 use Rattle.pair_dict.specs.Codes.{Pairing}
 use Rattle.pair_dict.specs.Reading.{◌>>=◌, words, falls, lengths_at, lowest_at, count_at, symbols_at, layout_at, with_values, dictionary_at}
-use Rattle.pair_dict.specs.FirstFault.{AreLengths, HasLengths, lowest_size, HasLowest, HasCount, HasSymbols, IsFirstFault, FirstFaultIsTold}
-use Rattle.pair_dict.specs.FirstFault.IsFirstFault.{no_lengths, bad_lengths, no_lowest, rising_lowest, no_count, bad_count, no_symbols, bad_symbols}
+use Rattle.pair_dict.specs.FirstFault.{AreLengths, HasLengths, lowest_size, HasLowest, HasCount, HasSymbols, IsFirstDictFault, FirstFaultIsTold}
+use Rattle.pair_dict.specs.FirstFault.IsFirstDictFault.{no_lengths, bad_lengths, no_lowest, rising_lowest, no_count, bad_count, no_symbols, bad_symbols}
 use Rattle.pair_dict.proofs.ValueCounts.{all_have, have_all}
 use Rattle.pair_dict.proofs.Spelled.{lengths_read, lowest_read, count_read, lengths_are, lowest_are, count_is, symbols_are}
 
@@ -20,7 +20,7 @@ failed e = Err e
 -- what is told of bytes whose reading has this result
 abbrev Told : {A : Type 0} → List ℕ → Result A DictFault → Type 0
 Told bytes (Ok x) = Unit {0}
-Told bytes (Err e) = IsFirstFault bytes e
+Told bytes (Err e) = IsFirstDictFault bytes e
 
 then_told : {A B : Type 0} (bytes : List ℕ) (r : Result A DictFault) (f : A → Result B DictFault) → Told bytes r → ((x : A) → r ≡ Ok x → Told bytes (f x)) → Told bytes (r >>= f)
 then_told bytes (Ok x) f told more = more x refl
@@ -126,7 +126,7 @@ module _ (whole : List ℕ) where
   -- a layout tells a fault, or has symbols
   abbrev Laid : Result (Pairing × ℕ) DictFault → Type 0
   Laid (Ok x) = HasSymbols whole x.0.symbols
-  Laid (Err e) = IsFirstFault whole e
+  Laid (Err e) = IsFirstDictFault whole e
 
   then_laid : {A : Type 0} (r : Result A DictFault) (f : A → Result (Pairing × ℕ) DictFault) → Told whole r → ((x : A) → r ≡ Ok x → Laid (f x)) → Laid (r >>= f)
   then_laid (Ok x) f told more = more x refl
@@ -268,7 +268,7 @@ module _ (whole : List ℕ) where
       let read = after_count h.count h.behind c ∙ then_is (symbols_at h.count h.behind) (λ s. made l w (h.count, h.behind) s) symbols there in
       no_values (layout_at whole) (record { least = l.0.1; lowest = w.0; symbols = symbols }, 4 + 2 * ((l.0.0 + 1) - l.0.1) + 3 * h.count + h.count % 2) read none
 
-  first_is_told : (fault : DictFault) → IsFirstFault whole fault → dictionary_at whole ≡ Err fault
+  first_is_told : (fault : DictFault) → IsFirstDictFault whole fault → dictionary_at whole ≡ Err fault
   first_is_told fault (no_lengths lt) = dictionary_fails Truncated (starts ∙ then_fails (lengths_at whole) (λ l. from_lengths l) Truncated (short_lengths whole lt))
   first_is_told fault (bad_lengths {greatest = greatest} {least = least} {rest = rest} e bad) = dictionary_fails BadCode (starts ∙ then_fails (lengths_at whole) (λ l. from_lengths l) BadCode (ap lengths_at e ∙ bad_lengths_fail greatest least rest bad))
   first_is_told fault (no_lowest {greatest = greatest} {least = least} {rest = rest} lengths lt) =

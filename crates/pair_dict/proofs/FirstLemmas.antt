@@ -5,21 +5,21 @@ use Rattle.std.proofs.lemmas.Bool.{cases_lt, cases_eq, lt-ltb, le-ltb}
 use Rattle.std.proofs.lemmas.Nat.{shr-shr, pow-add, pow_pos}
 use Rattle.std.proofs.Math.Nat.{le-div_iff_mul-le, div-lt_iff_lt-mul, add-mul-div_left, mul_comm, mul-le-mul_right}
 use Rattle.pair_dict.specs.Codes.{bases, bits, code_from}
-use Rattle.pair_dict.specs.Inside.Windows.{IsWindow, IsFirst, AreFirsts, AreLong, firsts_in, lowest_in}
+use Rattle.pair_dict.specs.Inside.Windows.{IsWindow, IsLeastWithPrefix, AreFirsts, AreLong, firsts_in, lowest_in}
 use Rattle.pair_dict.specs.declared.codes.CodeLength.{CodeLength}
 use Rattle.pair_dict.specs.declared.codes.CodeSearch.{CodeSearch}
 use Rattle.pair_dict.proofs.WordLemmas.{base_last, length-bases}
 use Rattle.pair_dict.proofs.CodeLemmas.{code_next}
 
-first_zero : (n : ℕ) → IsFirst n 0 0
+first_zero : (n : ℕ) → IsLeastWithPrefix n 0 0
 first_zero n = record { possible = λ lt. omega arith; impossible = λ le. absurd (omega (arith, le, pow_pos n)) }
 
-pub firsts_start : (least : ℕ) (xs firsts : List ℕ) → ((k : ℕ) → get_or firsts k 0 ≡ 0) → (k : ℕ) → length xs ≤ k + 1 → IsFirst (least + k) (get_or (bases xs) k 0) (get_or firsts k 0)
+pub firsts_start : (least : ℕ) (xs firsts : List ℕ) → ((k : ℕ) → get_or firsts k 0 ≡ 0) → (k : ℕ) → length xs ≤ k + 1 → IsLeastWithPrefix (least + k) (get_or (bases xs) k 0) (get_or firsts k 0)
 firsts_start least xs firsts none k le = rw (none k, base_last xs k le) (first_zero (least + k))
 
-pub firsts_more : (least : ℕ) (xs firsts : List ℕ) (j v : ℕ) → j < length xs → length firsts ≡ length xs → IsFirst (least + j) (get_or (bases xs) j 0) v
-    → ((k : ℕ) → j + 1 ≤ k → k < length xs → IsFirst (least + k) (get_or (bases xs) k 0) (get_or firsts k 0))
-    → (k : ℕ) → j ≤ k → k < length xs → IsFirst (least + k) (get_or (bases xs) k 0) (get_or (set firsts j v) k 0)
+pub firsts_more : (least : ℕ) (xs firsts : List ℕ) (j v : ℕ) → j < length xs → length firsts ≡ length xs → IsLeastWithPrefix (least + j) (get_or (bases xs) j 0) v
+    → ((k : ℕ) → j + 1 ≤ k → k < length xs → IsLeastWithPrefix (least + k) (get_or (bases xs) k 0) (get_or firsts k 0))
+    → (k : ℕ) → j ≤ k → k < length xs → IsLeastWithPrefix (least + k) (get_or (bases xs) k 0) (get_or (set firsts j v) k 0)
 firsts_more least xs firsts j v lt len first rest k le k-lt =
     elim (cases_eq k j) [
       | inl same ↦ rw (same, get_or-set_same firsts j v 0 (omega (arith, len))) first
@@ -40,7 +40,7 @@ front_bits block at word n is few within =
     let e : 32 + (32 - n) ≡ 64 - n = omega arith in
     shr-shr word 32 (32 - n) ∙ ap (λ (k : ℕ). word / 2 ^ k) e ∙ is n (omega arith) within
 
-module _ (n base first front : ℕ) (is : IsFirst n base first) (few : n ≤ 32) (small : front < 2 ^ 32) where
+module _ (n base first front : ℕ) (is : IsLeastWithPrefix n base first) (few : n ≤ 32) (small : front < 2 ^ 32) where
   -- the front's first n bits are at least the base
   pub first_reached : first ≤ front → base ≤ front / 2 ^ (32 - n)
   first_reached le =
@@ -76,7 +76,7 @@ pub record IsReached (block : List ℕ) (at n base first front low : ℕ) : Type
   pub reached : base ≤ bits block at n
   pub symbol : low + (front - first) / 2 ^ (32 - n) ≡ (low + bits block at n) - base
 
-pub reached_at : (block : List ℕ) (at word n base first low : ℕ) → IsFirst n base first → IsWindow block at word → word < 2 ^ 64 → n ≤ 32 → at + n ≤ 8 * length block → first ≤ word / 2 ^ 32 → IsReached block at n base first (word / 2 ^ 32) low
+pub reached_at : (block : List ℕ) (at word n base first low : ℕ) → IsLeastWithPrefix n base first → IsWindow block at word → word < 2 ^ 64 → n ≤ 32 → at + n ≤ 8 * length block → first ≤ word / 2 ^ 32 → IsReached block at n base first (word / 2 ^ 32) low
 reached_at block at word n base first low is window small few fits le =
     let bits-is = front_bits block at word n window few fits in
     let front = front_below word small in
@@ -84,7 +84,7 @@ reached_at block at word n base first low is window small few fits le =
     let above = rw bits-is at (above_base n base first (word / 2 ^ 32) is few front le) in
     record { reached = reached; symbol = omega (arith, above, reached) }
 
-pub missed_at : (block : List ℕ) (at word n base first : ℕ) → IsFirst n base first → IsWindow block at word → word < 2 ^ 64 → n ≤ 32 → at + n ≤ 8 * length block → word / 2 ^ 32 < first → bits block at n < base
+pub missed_at : (block : List ℕ) (at word n base first : ℕ) → IsLeastWithPrefix n base first → IsWindow block at word → word < 2 ^ 64 → n ≤ 32 → at + n ≤ 8 * length block → word / 2 ^ 32 < first → bits block at n < base
 missed_at block at word n base first is window small few fits lt =
     rw (front_bits block at word n window few fits) at (first_missed n base first (word / 2 ^ 32) is few (front_below word small) lt)
 

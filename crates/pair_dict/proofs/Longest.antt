@@ -7,7 +7,7 @@ use Rattle.std.proofs.lemmas.Nat.{shr-shr, field_of, mod_below, pow_pos}
 use Rattle.pair_dict.specs.Symbols.{symbol_count, values_of}
 use Rattle.pair_dict.specs.Inside.Counts.{AreCounts}
 use Rattle.pair_dict.specs.Codes.{Pairing, bases, number_of, bits, below, IsCode, code_from, code_at}
-use Rattle.pair_dict.specs.Blocks.{Begins, HaveValues, IsBlock, BlockIsComputed, BlockBeginsWithValues, then_values, values_from, block_values}
+use Rattle.pair_dict.specs.Blocks.{BeginsWithCodes, HaveValues, IsBlock, BlockIsComputed, BlockBeginsWithValues, then_values, values_from, block_values}
 use Rattle.pair_dict.proofs.CodeLemmas.{code_too_long, code_found, code_longer, code_none, below_yes, below_no}
 use Rattle.pair_dict.proofs.BlockValues.{values_from_code, values_from_none}
 use Rattle.pair_dict.proofs.WordLemmas.{length-bases}
@@ -67,7 +67,7 @@ unfolding symbols_from next_symbols
 next_at d block most p s n e = ap (λ o. next_symbols o (λ m. symbols_from d block most (p + m))) e
 
 -- no list of symbols whose codes begin the block is longer
-pub longest_from : (d : Pairing) (block : List ℕ) → 1 ≤ d.least → (most p : ℕ) (others : List ℕ) → 8 * length block ≤ p + most → Begins d block p others → length others ≤ length (symbols_from d block most p)
+pub longest_from : (d : Pairing) (block : List ℕ) → 1 ≤ d.least → (most p : ℕ) (others : List ℕ) → 8 * length block ≤ p + most → BeginsWithCodes d block p others → length others ≤ length (symbols_from d block most p)
 longest_from d block some most p [] enough begins = omega arith
 longest_from d block some zero p (s ∷ ss) enough (n, fits, code, rest) = absurd (omega (arith, code.shortest))
 longest_from d block some (suc most) p (s ∷ ss) enough (n, fits, code, rest) =
@@ -152,14 +152,14 @@ module _ (d : Pairing) (block : List ℕ) (p : ℕ) where
       let start : d.least + 0 ≡ d.least = add-zero d.least in
       sound_from (length d.lowest) 0 s n (omega arith) (λ m ge lt. absurd (omega arith)) (rw start e)
 
-begins_at : (d : Pairing) (block : List ℕ) (p : ℕ) (rest : ℕ → List ℕ) (o : Option (ℕ × ℕ)) → code_at d block p ≡ o → ((n : ℕ) → Begins d block (p + n) (rest n)) → Begins d block p (next_symbols o rest)
+begins_at : (d : Pairing) (block : List ℕ) (p : ℕ) (rest : ℕ → List ℕ) (o : Option (ℕ × ℕ)) → code_at d block p ≡ o → ((n : ℕ) → BeginsWithCodes d block (p + n) (rest n)) → BeginsWithCodes d block p (next_symbols o rest)
 unfolding next_symbols
 begins_at d block p rest None e begins = tt
 begins_at d block p rest (Some code) e begins =
     let f = code_sound d block p code.0 code.1 e in
     (code.1, f.within, f.code, begins code.1)
 
-pub begins_from : (d : Pairing) (block : List ℕ) (most p : ℕ) → Begins d block p (symbols_from d block most p)
+pub begins_from : (d : Pairing) (block : List ℕ) (most p : ℕ) → BeginsWithCodes d block p (symbols_from d block most p)
 unfolding symbols_from
 begins_from d block zero p = tt
 begins_from d block (suc most) p = begins_at d block p (λ n. symbols_from d block most (p + n)) (code_at d block p) refl (λ n. begins_from d block most (p + n))
@@ -195,7 +195,7 @@ nothing [] le = refl
 nothing (x ∷ xs) le = absurd (omega arith)
 
 -- a list of symbols that is as long as the computed one is that one
-unique_from : (d : Pairing) (block : List ℕ) → 1 ≤ d.least → (most p : ℕ) (ss : List ℕ) → 8 * length block ≤ p + most → Begins d block p ss → length (symbols_from d block most p) ≤ length ss → ss ≡ symbols_from d block most p
+unique_from : (d : Pairing) (block : List ℕ) → 1 ≤ d.least → (most p : ℕ) (ss : List ℕ) → 8 * length block ≤ p + most → BeginsWithCodes d block p ss → length (symbols_from d block most p) ≤ length ss → ss ≡ symbols_from d block most p
 unique_from d block some zero p [] enough begins le = nothing (symbols_from d block zero p) le
 unique_from d block some zero p (s ∷ ss) enough (n, fits, code, rest) le = absurd (omega (arith, code.shortest))
 unique_from d block some (suc most) p [] enough begins le = nothing (symbols_from d block (suc most) p) le
@@ -221,7 +221,7 @@ pub block_computed : (d : Pairing) (counts : List ℕ) (block : List ℕ) → Ar
 block_computed d counts block h some vs = (only_block d counts block h some vs, λ e. rw e (block_law d counts block h some))
 
 -- codes that begin the block give its first values
-front_from : (d : Pairing) (counts : List ℕ) (h : AreCounts d.symbols counts) (block : List ℕ) → 1 ≤ d.least → (most p : ℕ) (ss vs : List ℕ) → 8 * length block ≤ p + most → Begins d block p ss → HaveValues d ss vs
+front_from : (d : Pairing) (counts : List ℕ) (h : AreCounts d.symbols counts) (block : List ℕ) → 1 ≤ d.least → (most p : ℕ) (ss vs : List ℕ) → 8 * length block ≤ p + most → BeginsWithCodes d block p ss → HaveValues d ss vs
     → (rest : List ℕ) × (values_from d block most p ≡ vs ++ rest)
 front_from d counts h block some most p [] vs enough begins none = (values_from d block most p, rw none refl)
 front_from d counts h block some zero p (s ∷ ss) vs enough (n, fits, code, begins) have = absurd (omega (arith, code.shortest))

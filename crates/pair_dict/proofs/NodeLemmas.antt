@@ -2,33 +2,33 @@
 use Rattle.std.proofs.Common.{◌≡◌, ◌≢◌, ℕ, ◌+◌, ◌-◌, ◌<◌, List, ◌++◌, length, get_or, set, take, refl, sym, ap, subst, ◌∙◌, inl, inr, arith}
 use Rattle.std.proofs.lemmas.List.{length-append, length-set, length-map, get_or-map, get_or_append_left, get_or-append_right, get_or-set_same, get_or-set_other, get_or_read, get_or_default, take-append-le, take_all, take_more, take_more_set, map-set}
 use Rattle.std.proofs.lemmas.Bool.{cases_lt, cases_eq}
-use Rattle.pair_dict.specs.Symbols.{symbol_count, left, right, HasValues, leaf, pair, values_of}
+use Rattle.pair_dict.specs.Symbols.{symbol_count, left, right, HasSymbolValues, leaf, pair, values_of}
 use Rattle.pair_dict.specs.Inside.Counts.{AreCounts, AreSettled, KeepsKnown}
-use Rattle.pair_dict.specs.Inside.Nodes.{parts_of, AreEqual, IsPair, AreParts, IsNode, AreNodes, AreKnownNodes, Joins, counts_in}
+use Rattle.pair_dict.specs.Inside.Nodes.{node_parts, AreEqual, IsPair, AreNodeParts, IsNode, AreNodes, AreKnownNodes, Joins, counts_in}
 use Rattle.pair_dict.specs.declared.nodes.Node.{Node}
 use Rattle.pair_dict.specs.declared.nodes.Parts.{Parts}
 use Rattle.pair_dict.specs.declared.nodes.Parts.TheVariants.{Equal, Pair}
 use Rattle.pair_dict.proofs.Settling.{counted_values}
 use Rattle.pair_dict.proofs.SymbolValues.{length-values_of, values_of_has, pair_at}
 
-node_is : (symbols : List ℕ) (s : ℕ) (node : Node) (parts : Parts) → parts_of node ≡ parts → AreParts symbols s parts → IsNode symbols s node
-node_is symbols s node parts e are = subst (λ (p : Parts). AreParts symbols s p) (sym e) are
+node_is : (symbols : List ℕ) (s : ℕ) (node : Node) (parts : Parts) → node_parts node ≡ parts → AreNodeParts symbols s parts → IsNode symbols s node
+node_is symbols s node parts e are = subst (λ (p : Parts). AreNodeParts symbols s p) (sym e) are
 
-parts_are : (symbols : List ℕ) (s : ℕ) (node : Node) (parts : Parts) → parts_of node ≡ parts → IsNode symbols s node → AreParts symbols s parts
-parts_are symbols s node parts e is = subst (λ (p : Parts). AreParts symbols s p) e is
+parts_are : (symbols : List ℕ) (s : ℕ) (node : Node) (parts : Parts) → node_parts node ≡ parts → IsNode symbols s node → AreNodeParts symbols s parts
+parts_are symbols s node parts e is = subst (λ (p : Parts). AreNodeParts symbols s p) e is
 
 -- ---- making a node
 
 abbrev none : Node
 none = record { packed = 0 }
 
-leaf_equal : {symbols : List ℕ} {s : ℕ} {vs : List ℕ} (value : ℕ) → right symbols s ≡ 4095 → value ≡ left symbols s → HasValues symbols s vs → (i : ℕ) → i < length vs → get_or vs i 0 ≡ value
+leaf_equal : {symbols : List ℕ} {s : ℕ} {vs : List ℕ} (value : ℕ) → right symbols s ≡ 4095 → value ≡ left symbols s → HasSymbolValues symbols s vs → (i : ℕ) → i < length vs → get_or vs i 0 ≡ value
 leaf_equal value e is (leaf lt e-2) i within =
     let none : i ≡ 0 = omega arith in
     rw none (sym is)
 leaf_equal value e is (pair lt ne a b e-2) i within = absurd (ne e)
 
-pair_equal : {symbols : List ℕ} {s : ℕ} {vs : List ℕ} (value : ℕ) → right symbols s ≢ 4095 → AreEqual symbols (left symbols s) value → AreEqual symbols (right symbols s) value → HasValues symbols s vs → (i : ℕ) → i < length vs → get_or vs i 0 ≡ value
+pair_equal : {symbols : List ℕ} {s : ℕ} {vs : List ℕ} (value : ℕ) → right symbols s ≢ 4095 → AreEqual symbols (left symbols s) value → AreEqual symbols (right symbols s) value → HasSymbolValues symbols s vs → (i : ℕ) → i < length vs → get_or vs i 0 ≡ value
 pair_equal value ne one two (leaf lt e) i within = absurd (ne e)
 pair_equal value ne one two (pair {xs = xs} {ys = ys} lt not_leaf a b e) i within =
     let more = length-append xs ys in
@@ -39,11 +39,11 @@ pair_equal value ne one two (pair {xs = xs} {ys = ys} lt not_leaf a b e) i withi
     ])
 
 -- the node of a leaf
-pub leaf_node : (symbols : List ℕ) (s value : ℕ) (node : Node) → parts_of node ≡ Equal value → right symbols s ≡ 4095 → value ≡ left symbols s → IsNode symbols s node
+pub leaf_node : (symbols : List ℕ) (s value : ℕ) (node : Node) → node_parts node ≡ Equal value → right symbols s ≡ 4095 → value ≡ left symbols s → IsNode symbols s node
 leaf_node symbols s value node e is_leaf is = node_is symbols s node (Equal value) e (λ vs has. leaf_equal value is_leaf is has)
 
 -- the node of a pair both of whose symbols have this value alone
-pub joins_equal : (nodes : List Node) (a b skipped value : ℕ) (node : Node) → a < length nodes → b < length nodes → parts_of (get_or nodes a none) ≡ Equal value → parts_of (get_or nodes b none) ≡ Equal value → parts_of node ≡ Equal value
+pub joins_equal : (nodes : List Node) (a b skipped value : ℕ) (node : Node) → a < length nodes → b < length nodes → node_parts (get_or nodes a none) ≡ Equal value → node_parts (get_or nodes b none) ≡ Equal value → node_parts node ≡ Equal value
     → Joins nodes a b skipped node
 joins_equal nodes a b skipped value node a-lt b-lt one two e symbols s other ne left-is right-is first second many =
     let x : IsNode symbols a (get_or nodes a none) = rw (get_or_default nodes a none other a-lt) first in
@@ -53,7 +53,7 @@ joins_equal nodes a b skipped value node a-lt b-lt one two e symbols s other ne 
     node_is symbols s node (Equal value) e (λ vs has. pair_equal value ne (rw left-is at left-equal) (rw right-is at right-equal) has)
 
 -- the node of any pair
-pub joins_pair : (nodes : List Node) (a b skipped : ℕ) (node : Node) → parts_of node ≡ Pair a b skipped → Joins nodes a b skipped node
+pub joins_pair : (nodes : List Node) (a b skipped : ℕ) (node : Node) → node_parts node ≡ Pair a b skipped → Joins nodes a b skipped node
 joins_pair nodes a b skipped node e symbols s other ne left-is right-is first second many =
     node_is symbols s node (Pair a b skipped) e (record { is_pair = ne; left_is = left-is; right_is = right-is; many = many })
 
@@ -97,13 +97,13 @@ module _ (symbols counts : List ℕ) (h : AreCounts symbols counts) (nodes : Lis
   here = rw (get_or_read nodes s node (omega (arith, are.lengths, lt)) read node) (are.each s node lt)
 
   -- all values are equal
-  pub value_equal : (value i : ℕ) → Equal value ≡ parts_of node → i < get_or counts s 0 → value ≡ get_or (values_of symbols s) i 0
+  pub value_equal : (value i : ℕ) → Equal value ≡ node_parts node → i < get_or counts s 0 → value ≡ get_or (values_of symbols s) i 0
   value_equal value i e within =
       let equal : AreEqual symbols s value = parts_are symbols s node (Equal value) (sym e) here in
       sym (equal (values_of symbols s) (values_of_has symbols counts h s lt) i (omega (arith, within, length-values_of symbols counts h s lt)))
 
   -- the values of two symbols
-  pub pair_here : (a b skipped : ℕ) → Pair a b skipped ≡ parts_of node → IsPair symbols s a b skipped
+  pub pair_here : (a b skipped : ℕ) → Pair a b skipped ≡ node_parts node → IsPair symbols s a b skipped
   pair_here a b skipped e = parts_are symbols s node (Pair a b skipped) (sym e) here
 
   pub skipped_is : (a b skipped : ℕ) → IsPair symbols s a b skipped → skipped ≡ get_or counts a 0

@@ -7,8 +7,8 @@ use Rattle.std.proofs.Math.Nat.{mod-eq_of_lt, add_comm, mul-add-mod_self_right, 
 use Rattle.pair_dict.specs.Symbols.{symbol_count, values_of}
 use Rattle.pair_dict.specs.Inside.Counts.{AreCounts}
 use Rattle.pair_dict.specs.Codes.{Pairing, IsCode, bases, bits}
-use Rattle.pair_dict.specs.Inside.Windows.{Shows, IsFirst, AreFirsts}
-use Rattle.pair_dict.specs.Inside.Runs.{run_values, run_bits, IsLeft, IsSkip, IsRunAt, IsRun, IsRunOf, IsCodeRun, IsTop, AreJoined, AreWithin}
+use Rattle.pair_dict.specs.Inside.Windows.{Shows, IsLeastWithPrefix, AreFirsts}
+use Rattle.pair_dict.specs.Inside.Runs.{run_values, run_bits, IsLeft, IsSkip, IsRunAt, IsRun, IsRunOf, IsCodeRun, IsTop, AreJoined, AreRunsWithin}
 use Rattle.pair_dict.specs.declared.window.BitBuffer.{BitBuffer}
 use Rattle.pair_dict.specs.declared.runs.CodeRun.{CodeRun}
 use Rattle.pair_dict.proofs.Longest.{code_complete}
@@ -114,7 +114,7 @@ code_within code top n few small before =
     let under : code * w < 2 ^ n * w = omega (arith, below, small, split_32 n few) in
     (below, rw (shl-shr code (32 - n)) at ((div-lt_iff_lt-mul {k = w} {x = code * w} {y = 2 ^ n} (pow_pos (32 - n))).1 under))
 
-code_base : (n base first code : ℕ) → IsFirst n base first → n ≤ 32 → code < 2 ^ n → first / 2 ^ (32 - n) ≤ code → first / 2 ^ (32 - n) ≡ base
+code_base : (n base first code : ℕ) → IsLeastWithPrefix n base first → n ≤ 32 → code < 2 ^ n → first / 2 ^ (32 - n) ≤ code → first / 2 ^ (32 - n) ≡ base
 code_base n base first code is few high from =
     elim (cases_lt base (2 ^ n)) [
       | inl lt ↦ ap (λ (x : ℕ). x / 2 ^ (32 - n)) (is.possible lt) ∙ shl-shr base (32 - n)
@@ -141,7 +141,7 @@ is_code d firsts i top code low are is-top lt few from before low-is known =
           let j = m - d.least in
           let m-is : d.least + j ≡ m = omega arith in
           let up : 32 - m ≡ (32 - n) + (n - m) = omega arith in
-          let is-first : IsFirst m (get_or (bases d.lowest) j 0) (get_or firsts j 0) = rw m-is at (are.each j (omega (arith, are.lengths))) in
+          let is-first : IsLeastWithPrefix m (get_or (bases d.lowest) j 0) (get_or firsts j 0) = rw m-is at (are.each j (omega (arith, are.lengths))) in
           let missed = first_missed m (get_or (bases d.lowest) j 0) (get_or firsts j 0) (code * 2 ^ (32 - n)) is-first (omega arith) (omega (arith, within.0, is-top.few)) (omega (arith, within.0, is-top.below j (omega arith))) in
           let same : code * 2 ^ (32 - n) / 2 ^ (32 - m) ≡ code / 2 ^ (n - m) =
           ap (λ (x : ℕ). code * 2 ^ (32 - n) / 2 ^ x) up ∙ sym (shr-shr (code * 2 ^ (32 - n)) (32 - n) (n - m)) ∙ ap (λ (x : ℕ). x / 2 ^ (n - m)) (shl-shr code (32 - n)) in
@@ -245,7 +245,7 @@ joined_more d runs width front place run all front-lt place-is within next w f o
     ]
 
 -- runs of fewer bits stay as they are
-pub within_put : (runs : List CodeRun) (width n spare behind most place : ℕ) (run : CodeRun) → behind ≡ 2 ^ spare → 1 ≤ n → n + spare ≡ width → 2 ^ width ≤ place → AreWithin runs behind most → AreWithin (set runs place run) behind most
+pub within_put : (runs : List CodeRun) (width n spare behind most place : ℕ) (run : CodeRun) → behind ≡ 2 ^ spare → 1 ≤ n → n + spare ≡ width → 2 ^ width ≤ place → AreRunsWithin runs behind most → AreRunsWithin (set runs place run) behind most
 within_put runs width n spare behind most place run behind-is some sum far h rest lt other =
     let more : 2 ^ (spare + 1) ≤ 2 ^ width = pow-le-pow_right {n = 2} (omega arith) (omega arith) in
     let twice : 2 ^ (spare + 1) ≡ 2 ^ spare * 2 = pow-add 2 spare 1 in

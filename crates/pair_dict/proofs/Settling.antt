@@ -3,21 +3,21 @@ use Rattle.std.proofs.Common.{◌≡◌, ◌≢◌, ℕ, ◌+◌, ◌<◌, ◌�
 use Rattle.std.specs.Prelude.{◌⊎◌}
 use Rattle.std.proofs.lemmas.List.{length-append, length-set, get_or-set_same, get_or-set_other, set-get_or, take-append-le, take_all}
 use Rattle.std.proofs.lemmas.Bool.{cases_eq}
-use Rattle.pair_dict.specs.Symbols.{symbol_count, left, right, HasValues, leaf, pair}
+use Rattle.pair_dict.specs.Symbols.{symbol_count, left, right, HasSymbolValues, leaf, pair}
 use Rattle.pair_dict.specs.Inside.Counts.{AreCounts, AreSettled, KeepsKnown}
 
 -- a symbol with values is one of the symbols
-pub has_known : {symbols : List ℕ} {s : ℕ} {vs : List ℕ} → HasValues symbols s vs → s < symbol_count symbols
+pub has_known : {symbols : List ℕ} {s : ℕ} {vs : List ℕ} → HasSymbolValues symbols s vs → s < symbol_count symbols
 has_known (leaf lt e) = lt
 has_known (pair lt ne a b e) = lt
 
 -- and has a value at least
-pub has_some : {symbols : List ℕ} {s : ℕ} {vs : List ℕ} → HasValues symbols s vs → 1 ≤ length vs
+pub has_some : {symbols : List ℕ} {s : ℕ} {vs : List ℕ} → HasSymbolValues symbols s vs → 1 ≤ length vs
 has_some (leaf lt e) = omega arith
 has_some (pair {xs = xs} {ys = ys} lt ne a b e) = omega (arith, ap length e, length-append xs ys, has_some a)
 
 -- a count that is known is the number of values
-pub counted_values : {symbols : List ℕ} {s : ℕ} {vs : List ℕ} (counts : List ℕ) → AreSettled symbols counts → get_or counts s 0 ≢ 0 → HasValues symbols s vs → length vs ≡ get_or counts s 0
+pub counted_values : {symbols : List ℕ} {s : ℕ} {vs : List ℕ} (counts : List ℕ) → AreSettled symbols counts → get_or counts s 0 ≢ 0 → HasSymbolValues symbols s vs → length vs ≡ get_or counts s 0
 counted_values counts h ne (leaf lt e) =
     elim (h.each _ lt ne) [
       | inl one ↦ sym one.one
@@ -144,7 +144,7 @@ put_pair symbols old one two s a b n lt ne a-is b-is a-lt b-lt kept a-some kept-
 -- ---- symbols without values, or with too many
 
 -- a reference at or above the number of symbols has no values
-pub no_reference : {symbols : List ℕ} {s : ℕ} {vs : List ℕ} → right symbols s ≢ 4095 → (symbol_count symbols ≤ left symbols s) ⊎ (symbol_count symbols ≤ right symbols s) → HasValues symbols s vs → ⊥
+pub no_reference : {symbols : List ℕ} {s : ℕ} {vs : List ℕ} → right symbols s ≢ 4095 → (symbol_count symbols ≤ left symbols s) ⊎ (symbol_count symbols ≤ right symbols s) → HasSymbolValues symbols s vs → ⊥
 no_reference ne past (leaf lt e) = ne e
 no_reference ne past (pair lt not_leaf a b e) =
     elim past [
@@ -152,16 +152,16 @@ no_reference ne past (pair lt not_leaf a b e) =
       | inr r ↦ absurd (omega (arith, r, has_known b))
     ]
 
-pub more_left : {symbols : List ℕ} {s : ℕ} {vs : List ℕ} (most : ℕ) → right symbols s ≢ 4095 → ((xs : List ℕ) → HasValues symbols (left symbols s) xs → most < length xs) → HasValues symbols s vs → most + 1 < length vs
+pub more_left : {symbols : List ℕ} {s : ℕ} {vs : List ℕ} (most : ℕ) → right symbols s ≢ 4095 → ((xs : List ℕ) → HasSymbolValues symbols (left symbols s) xs → most < length xs) → HasSymbolValues symbols s vs → most + 1 < length vs
 more_left most ne more (leaf lt e) = absurd (ne e)
 more_left most ne more (pair {xs = xs} {ys = ys} lt not_leaf a b e) = omega (arith, ap length e, length-append xs ys, more xs a, has_some b)
 
-pub more_right : {symbols : List ℕ} {s : ℕ} {vs : List ℕ} (most : ℕ) → right symbols s ≢ 4095 → ((xs : List ℕ) → HasValues symbols (right symbols s) xs → most < length xs) → HasValues symbols s vs → most + 1 < length vs
+pub more_right : {symbols : List ℕ} {s : ℕ} {vs : List ℕ} (most : ℕ) → right symbols s ≢ 4095 → ((xs : List ℕ) → HasSymbolValues symbols (right symbols s) xs → most < length xs) → HasSymbolValues symbols s vs → most + 1 < length vs
 more_right most ne more (leaf lt e) = absurd (ne e)
 more_right most ne more (pair {xs = xs} {ys = ys} lt not_leaf a b e) = omega (arith, ap length e, length-append xs ys, more ys b, has_some a)
 
 pub too_many : {symbols : List ℕ} {s : ℕ} {vs : List ℕ} (counts : List ℕ) → AreSettled symbols counts → right symbols s ≢ 4095 → get_or counts (left symbols s) 0 ≢ 0 → get_or counts (right symbols s) 0 ≢ 0
-    → 256 < get_or counts (left symbols s) 0 + get_or counts (right symbols s) 0 → HasValues symbols s vs → 256 < length vs
+    → 256 < get_or counts (left symbols s) 0 + get_or counts (right symbols s) 0 → HasSymbolValues symbols s vs → 256 < length vs
 too_many counts h ne l r lt (leaf known e) = absurd (ne e)
 too_many counts h ne l r lt (pair {xs = xs} {ys = ys} known not_leaf a b e) =
     omega (arith, ap length e, length-append xs ys, counted_values counts h l a, counted_values counts h r b)

@@ -2,7 +2,7 @@
 use Rattle.std.proofs.Common.{◌≡◌, ◌≢◌, ℕ, zero, suc, ◌+◌, ◌-◌, ◌<◌, ◌≤◌, cond, eqb, List, [], ◌∷◌, ◌++◌, length, get_or, refl, sym, ap, ◌∙◌, inl, inr, arith}
 use Rattle.std.proofs.lemmas.List.{length-append, get_or_append_left, get_or-append_right, get_or_read}
 use Rattle.std.proofs.lemmas.Bool.{eq-eqb, ne_eqb}
-use Rattle.pair_dict.specs.Symbols.{symbol_count, left, right, HasValues, leaf, pair, AllHaveValues, values_to, values_of, ValuesAreUnique, ValuesAreComputed}
+use Rattle.pair_dict.specs.Symbols.{symbol_count, left, right, HasSymbolValues, leaf, pair, AllHaveValues, values_to, values_of, ValuesAreUnique, ValuesAreComputed}
 use Rattle.pair_dict.proofs.Settling.{has_some}
 use Rattle.pair_dict.specs.Inside.Counts.{IsPairCount, AreCounts}
 
@@ -40,7 +40,7 @@ module _ (symbols : List ℕ) (counts : List ℕ) (h : AreCounts symbols counts)
             ap length (level_pair symbols k s two.is_pair) ∙ length-append (values_to symbols k (left symbols s)) (values_to symbols k (right symbols s)) ∙ omega (arith, a, b, two.both)
       ]
 
-  has : (k s : ℕ) → s < symbol_count symbols → get_or counts s 0 ≤ k → HasValues symbols s (values_to symbols k s)
+  has : (k s : ℕ) → s < symbol_count symbols → get_or counts s 0 ≤ k → HasSymbolValues symbols s (values_to symbols k s)
   has zero s lt le = absurd (omega (arith, h.some s lt))
   has (suc k) s lt le =
       elim (h.each s lt) [
@@ -55,7 +55,7 @@ module _ (symbols : List ℕ) (counts : List ℕ) (h : AreCounts symbols counts)
   unfolding values_of
   length-values_of s lt = counted 256 s lt (h.few s lt)
 
-  pub values_of_has : (s : ℕ) → s < symbol_count symbols → HasValues symbols s (values_of symbols s)
+  pub values_of_has : (s : ℕ) → s < symbol_count symbols → HasSymbolValues symbols s (values_of symbols s)
   unfolding values_of
   values_of_has s lt = has 256 s lt (h.few s lt)
 
@@ -134,7 +134,7 @@ pub all_have : (symbols : List ℕ) (counts : List ℕ) → AreCounts symbols co
 all_have symbols counts h s lt = (values_of symbols s, values_of_has symbols counts h s lt, omega (arith, length-values_of symbols counts h s lt, h.few s lt))
 
 -- any values down to a depth are the computed ones
-only_values : (symbols : List ℕ) (k s : ℕ) (vs : List ℕ) → HasValues symbols s vs → length vs ≤ k → vs ≡ values_to symbols k s
+only_values : (symbols : List ℕ) (k s : ℕ) (vs : List ℕ) → HasSymbolValues symbols s vs → length vs ≤ k → vs ≡ values_to symbols k s
 only_values symbols zero s vs h le = absurd (omega (arith, has_some h))
 only_values symbols (suc k) s vs (leaf lt e) le = sym (level_leaf symbols k s e)
 only_values symbols (suc k) s vs (pair {xs = xs} {ys = ys} lt ne a b e) le =
@@ -148,7 +148,7 @@ unfolding values_of
 computed_values symbols s vs h le = only_values symbols 256 s vs h le
 
 -- a symbol has one list of values at most
-pub same_values : {symbols : List ℕ} {s : ℕ} {xs ys : List ℕ} → HasValues symbols s xs → HasValues symbols s ys → xs ≡ ys
+pub same_values : {symbols : List ℕ} {s : ℕ} {xs ys : List ℕ} → HasSymbolValues symbols s xs → HasSymbolValues symbols s ys → xs ≡ ys
 same_values (leaf lt e) (leaf lt-2 e-2) = refl
 same_values (leaf lt e) (pair lt-2 ne a b f) = absurd (ne e)
 same_values (pair lt ne a b e) (leaf lt-2 e-2) = absurd (ne e-2)

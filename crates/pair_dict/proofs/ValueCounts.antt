@@ -3,14 +3,14 @@ use Rattle.std.proofs.Common.{◌≡◌, ◌≢◌, ℕ, zero, suc, ◌+◌, ◌
 use Rattle.std.proofs.lemmas.Bool.{cases_lt, ltb-true, lt-ltb, le-leb, leb-true, eq-eqb, ne_eqb, eqb-true, and_parts}
 use Rattle.std.proofs.lemmas.List.{length-append}
 use Rattle.pair_dict.proofs.Settling.{has_some}
-use Rattle.pair_dict.specs.Symbols.{symbol_count, left, right, HasValues, leaf, pair, AllHaveValues, added, count_to, is_at_most_256, have_values_to, have_values, ValuesAreTested}
+use Rattle.pair_dict.specs.Symbols.{symbol_count, left, right, HasSymbolValues, leaf, pair, AllHaveValues, added, count_to, is_at_most_256, have_values_to, have_values, ValuesAreTested}
 
 level : (symbols : List ℕ) (k s : ℕ) → count_to symbols (suc k) s ≡ cond (ltb s (symbol_count symbols)) (cond (eqb (right symbols s) 4095) (Some 1) (added (count_to symbols k (left symbols s)) (count_to symbols k (right symbols s)))) None
 unfolding count_to
 level symbols k s = refl
 
 -- values are counted, where the depth is enough
-counted : (symbols : List ℕ) (k s : ℕ) (vs : List ℕ) → HasValues symbols s vs → length vs ≤ k → count_to symbols k s ≡ Some (length vs)
+counted : (symbols : List ℕ) (k s : ℕ) (vs : List ℕ) → HasSymbolValues symbols s vs → length vs ≤ k → count_to symbols k s ≡ Some (length vs)
 counted symbols zero s vs h le = absurd (omega (arith, has_some h))
 counted symbols (suc k) s vs (leaf lt e) le = level symbols k s ∙ rw (lt-ltb s (symbol_count symbols) lt, eq-eqb (right symbols s) 4095 e) refl
 counted symbols (suc k) s vs (pair {xs = xs} {ys = ys} lt ne a b e) le =
@@ -22,7 +22,7 @@ counted symbols (suc k) s vs (pair {xs = xs} {ys = ys} lt ne a b e) le =
     level symbols k s ∙ rw (lt-ltb s (symbol_count symbols) lt, ne_eqb (right symbols s) 4095 ne, one, two) (ap (λ (n : ℕ). Some n) sum-is)
 
 abbrev Has : List ℕ → ℕ → ℕ → Type 0
-Has symbols s n = (vs : List ℕ) × HasValues symbols s vs × (length vs ≡ n)
+Has symbols s n = (vs : List ℕ) × HasSymbolValues symbols s vs × (length vs ≡ n)
 
 not_equal : (a b : ℕ) → eqb a b ≡ false → a ≢ b
 not_equal a b e = λ same. absurd (let one = eq-eqb a b same in cc)
@@ -60,7 +60,7 @@ from_all : (symbols : List ℕ) (k n : ℕ) → ((s : ℕ) → s < n → is_at_m
 from_all symbols k zero h = refl
 from_all symbols k (suc n) h = rw (h n (omega arith), from_all symbols k n (λ s lt. h s (omega arith))) refl
 
-small_has : (symbols : List ℕ) (s : ℕ) (o : Option ℕ) → count_to symbols 256 s ≡ o → is_at_most_256 o ≡ true → (vs : List ℕ) × HasValues symbols s vs × (length vs ≤ 256)
+small_has : (symbols : List ℕ) (s : ℕ) (o : Option ℕ) → count_to symbols 256 s ≡ o → is_at_most_256 o ≡ true → (vs : List ℕ) × HasSymbolValues symbols s vs × (length vs ≤ 256)
 small_has symbols s None e small = absurd cc
 small_has symbols s (Some n) e small =
     let h = found symbols 256 s n e in
@@ -81,7 +81,7 @@ not_true true h = absurd (h refl)
 not_true false h = refl
 
 -- a symbol that has more values than 256, or none
-pub one_without : (symbols : List ℕ) (s : ℕ) → s < symbol_count symbols → ((vs : List ℕ) → HasValues symbols s vs → 256 < length vs) → have_values symbols ≡ false
+pub one_without : (symbols : List ℕ) (s : ℕ) → s < symbol_count symbols → ((vs : List ℕ) → HasSymbolValues symbols s vs → 256 < length vs) → have_values symbols ≡ false
 one_without symbols s lt more = not_true (have_values symbols) (λ yes.
     let h = all_have symbols yes s lt in
     absurd (omega (arith, h.2, more h.0 h.1)))

@@ -1,24 +1,24 @@
 -- A block of bytes as a list of values (Syzygy table format, the values of a block).
 use Rattle.std.specs.Prelude.{◌≡◌, ℕ, zero, suc, ◌+◌, ◌*◌, ◌≤◌, ◌↔◌, List, [], ◌∷◌, ◌++◌, length, Option, Some, None}
-use Rattle.pair_dict.specs.Symbols.{HasValues, values_of}
+use Rattle.pair_dict.specs.Symbols.{HasSymbolValues, values_of}
 use Rattle.pair_dict.specs.Codes.{Pairing, bits, IsCode, code_at}
 
 -- From bit p on the block begins with the codes of these symbols, each wholly within the block.
-abbrev pub Begins : Pairing → List ℕ → ℕ → List ℕ → Type 0
-Begins d block p [] = Unit {0}
-Begins d block p (s ∷ ss) =
-    (n : ℕ) × (p + n ≤ 8 * length block) × IsCode d n (bits block p n) s × Begins d block (p + n) ss
+abbrev pub BeginsWithCodes : Pairing → List ℕ → ℕ → List ℕ → Type 0
+BeginsWithCodes d block p [] = Unit {0}
+BeginsWithCodes d block p (s ∷ ss) =
+    (n : ℕ) × (p + n ≤ 8 * length block) × IsCode d n (bits block p n) s × BeginsWithCodes d block (p + n) ss
 
 -- the values of symbols, joined
 abbrev pub HaveValues : Pairing → List ℕ → List ℕ → Type 0
 HaveValues d [] vs = vs ≡ []
 HaveValues d (s ∷ ss) vs =
-    (xs : List ℕ) × (ys : List ℕ) × HasValues d.symbols s xs × HaveValues d ss ys × (vs ≡ xs ++ ys)
+    (xs : List ℕ) × (ys : List ℕ) × HasSymbolValues d.symbols s xs × HaveValues d ss ys × (vs ≡ xs ++ ys)
 
 -- the symbols of a block: the longest list whose codes begin it
 pub record AreSymbols (d : Pairing) (block ss : List ℕ) : Type 0 where
-  pub begins : Begins d block 0 ss
-  pub longest : (others : List ℕ) → Begins d block 0 others → length others ≤ length ss
+  pub begins : BeginsWithCodes d block 0 ss
+  pub longest : (others : List ℕ) → BeginsWithCodes d block 0 others → length others ≤ length ss
 
 -- the values of a block, before a block's length cuts them
 abbrev pub IsBlock : Pairing → List ℕ → List ℕ → Type 0
@@ -49,4 +49,4 @@ BlockIsComputed d block = (vs : List ℕ) → (IsBlock d block vs ↔ (vs ≡ bl
 -- A block that begins with the codes of symbols begins with their values, whatever follows.
 abbrev pub BlockBeginsWithValues : Pairing → List ℕ → Type 0
 BlockBeginsWithValues d block =
-    (ss vs : List ℕ) → Begins d block 0 ss → HaveValues d ss vs → (rest : List ℕ) × (block_values d block ≡ vs ++ rest)
+    (ss vs : List ℕ) → BeginsWithCodes d block 0 ss → HaveValues d ss vs → (rest : List ℕ) × (block_values d block ≡ vs ++ rest)

@@ -53,16 +53,16 @@ pub record HasSymbols (bytes symbols : List ℕ) : Type 0 where
   pub whole : length symbols ≡ 3 * count
   pub filled : count % 2 ≤ length rest
 
-pub data IsFirstFault (bytes : List ℕ) : DictFault → Type 0 where
-  no_lengths : length bytes < 2 → IsFirstFault bytes Truncated
-  bad_lengths : {greatest least : ℕ} {rest : List ℕ} → bytes ≡ greatest ∷ least ∷ rest → (AreLengths greatest least → ⊥) → IsFirstFault bytes BadCode
-  no_lowest : {greatest least : ℕ} {rest : List ℕ} → HasLengths bytes greatest least rest → length rest < lowest_size greatest least → IsFirstFault bytes Truncated
-  rising_lowest : {greatest least : ℕ} {behind : List ℕ} (lowest rest : List ℕ) → HasLengths bytes greatest least behind → behind ≡ lowest ++ rest → length lowest ≡ lowest_size greatest least → falls (words lowest) ≡ false → IsFirstFault bytes BadCode
-  no_count : {rest : List ℕ} → HasLowest bytes rest → length rest < 2 → IsFirstFault bytes Truncated
-  bad_count : {behind : List ℕ} (low high : ℕ) (rest : List ℕ) → HasLowest bytes behind → behind ≡ low ∷ high ∷ rest → (low + 256 * high < 1) ⊎ (4095 < low + 256 * high) → IsFirstFault bytes BadSymbol
-  no_symbols : {count : ℕ} {rest : List ℕ} → HasCount bytes count rest → length rest < 3 * count + count % 2 → IsFirstFault bytes Truncated
-  bad_symbols : {symbols : List ℕ} → HasSymbols bytes symbols → (AllHaveValues symbols → ⊥) → IsFirstFault bytes BadSymbol
+pub data IsFirstDictFault (bytes : List ℕ) : DictFault → Type 0 where
+  no_lengths : length bytes < 2 → IsFirstDictFault bytes Truncated
+  bad_lengths : {greatest least : ℕ} {rest : List ℕ} → bytes ≡ greatest ∷ least ∷ rest → (AreLengths greatest least → ⊥) → IsFirstDictFault bytes BadCode
+  no_lowest : {greatest least : ℕ} {rest : List ℕ} → HasLengths bytes greatest least rest → length rest < lowest_size greatest least → IsFirstDictFault bytes Truncated
+  rising_lowest : {greatest least : ℕ} {behind : List ℕ} (lowest rest : List ℕ) → HasLengths bytes greatest least behind → behind ≡ lowest ++ rest → length lowest ≡ lowest_size greatest least → falls (words lowest) ≡ false → IsFirstDictFault bytes BadCode
+  no_count : {rest : List ℕ} → HasLowest bytes rest → length rest < 2 → IsFirstDictFault bytes Truncated
+  bad_count : {behind : List ℕ} (low high : ℕ) (rest : List ℕ) → HasLowest bytes behind → behind ≡ low ∷ high ∷ rest → (low + 256 * high < 1) ⊎ (4095 < low + 256 * high) → IsFirstDictFault bytes BadSymbol
+  no_symbols : {count : ℕ} {rest : List ℕ} → HasCount bytes count rest → length rest < 3 * count + count % 2 → IsFirstDictFault bytes Truncated
+  bad_symbols : {symbols : List ℕ} → HasSymbols bytes symbols → (AllHaveValues symbols → ⊥) → IsFirstDictFault bytes BadSymbol
 
 -- Reading reports the first fault, and there is one only where it reports it.
 abbrev pub FirstFaultIsTold : Type 0
-FirstFaultIsTold = (bytes : List ℕ) (fault : DictFault) → (dictionary_at bytes ≡ Err fault) ↔ IsFirstFault bytes fault
+FirstFaultIsTold = (bytes : List ℕ) (fault : DictFault) → (dictionary_at bytes ≡ Err fault) ↔ IsFirstDictFault bytes fault

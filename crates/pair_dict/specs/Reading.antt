@@ -79,12 +79,12 @@ Reads view (Ok x) read = read ≡ Ok (view x)
 Reads view (Err e) read = read ≡ Err e
 
 -- The same, unless memory ran out.
-abbrev pub Fails : {Y : Type 0} → DictFault → Result Y DictFault → Type 0
-Fails Truncated read = read ≡ Err Truncated
-Fails BadCode read = read ≡ Err BadCode
-Fails BadSymbol read = read ≡ Err BadSymbol
-Fails OutOfMemory read = Unit {0}
+abbrev pub FailsInDict : {Y : Type 0} → DictFault → Result Y DictFault → Type 0
+FailsInDict Truncated read = read ≡ Err Truncated
+FailsInDict BadCode read = read ≡ Err BadCode
+FailsInDict BadSymbol read = read ≡ Err BadSymbol
+FailsInDict OutOfMemory read = Unit {0}
 
-abbrev pub Gives : {X Y : Type 0} → (X → Y) → Result X DictFault → Result Y DictFault → Type 0
-Gives view (Ok x) read = read ≡ Ok (view x)
-Gives view (Err e) read = Fails e read
+abbrev pub GivesFromDict : {X Y : Type 0} → (X → Y) → Result X DictFault → Result Y DictFault → Type 0
+GivesFromDict view (Ok x) read = read ≡ Ok (view x)
+GivesFromDict view (Err e) read = FailsInDict e read

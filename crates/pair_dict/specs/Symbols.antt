@@ -14,19 +14,19 @@ right symbols s = slice_index symbols (3 * s + 1) / 16 + 16 * slice_index symbol
 
 -- The values of a symbol. A leaf has one value. A pair has the values of its left symbol, followed
 -- by those of its right one. No other rule gives values, so a symbol that leads back to itself has none.
-pub data HasValues (symbols : List ℕ) : ℕ → List ℕ → Type 0 where
+pub data HasSymbolValues (symbols : List ℕ) : ℕ → List ℕ → Type 0 where
   leaf :
       {s : ℕ} → s < symbol_count symbols → right symbols s ≡ 4095
-      → HasValues symbols s (left symbols s ∷ [])
+      → HasSymbolValues symbols s (left symbols s ∷ [])
   pair :
       {s : ℕ} {xs ys zs : List ℕ} → s < symbol_count symbols → right symbols s ≢ 4095
-      → HasValues symbols (left symbols s) xs → HasValues symbols (right symbols s) ys → zs ≡ xs ++ ys
-      → HasValues symbols s zs
+      → HasSymbolValues symbols (left symbols s) xs → HasSymbolValues symbols (right symbols s) ys → zs ≡ xs ++ ys
+      → HasSymbolValues symbols s zs
 
 -- each symbol has values, at most 256
 abbrev pub AllHaveValues : List ℕ → Type 0
 AllHaveValues symbols =
-    (s : ℕ) → s < symbol_count symbols → (vs : List ℕ) × HasValues symbols s vs × (length vs ≤ 256)
+    (s : ℕ) → s < symbol_count symbols → (vs : List ℕ) × HasSymbolValues symbols s vs × (length vs ≤ 256)
 
 -- ---- the same, computed
 
@@ -80,9 +80,9 @@ ValuesAreTested = (symbols : List ℕ) → (IsTrue (have_values symbols) ↔ All
 -- A symbol has one list of values at most.
 abbrev pub ValuesAreUnique : Type 0
 ValuesAreUnique =
-    (symbols : List ℕ) (s : ℕ) (xs ys : List ℕ) → HasValues symbols s xs → HasValues symbols s ys → xs ≡ ys
+    (symbols : List ℕ) (s : ℕ) (xs ys : List ℕ) → HasSymbolValues symbols s xs → HasSymbolValues symbols s ys → xs ≡ ys
 
 -- Values of a symbol, at most 256, are the computed ones.
 abbrev pub ValuesAreComputed : Type 0
 ValuesAreComputed =
-    (symbols : List ℕ) (s : ℕ) (vs : List ℕ) → HasValues symbols s vs → length vs ≤ 256 → vs ≡ values_of symbols s
+    (symbols : List ℕ) (s : ℕ) (vs : List ℕ) → HasSymbolValues symbols s vs → length vs ≤ 256 → vs ≡ values_of symbols s

@@ -3,7 +3,7 @@
 ghost use Rattle.std.specs.Prelude.{◌≡◌, ◌+◌, ◌*◌, ◌/◌, ◌%◌, ◌^◌, ◌<◌, ◌≤◌, List, ℕ, length, slice_index, true, nat_lt, IfOk, IfSome, if◌then◌else◌};
 ghost use Rattle.pair_dict.specs.Codes.{bases, code_from};
 ghost use Rattle.pair_dict.specs.Reading.{falls, words};
-ghost use Rattle.pair_dict.specs.Inside.Windows.{AreFirsts, AreLong, IsFirst, IsSound, firsts_in, lowest_in};
+ghost use Rattle.pair_dict.specs.Inside.Windows.{AreFirsts, AreLong, IsLeastWithPrefix, IsSoundCode, firsts_in, lowest_in};
 
 use crate::two_bytes::word_of;
 use crate::window::{room_at, window};
@@ -13,7 +13,7 @@ use std::alloc::{AllocError, Global};
 #[inline]
 fn first_of(length: u32, base: u64) -> u64
     requires { length ≤ 32 }
-    ensures { IsFirst length base result }
+    ensures { IsLeastWithPrefix length base result }
 {
     if base < 1 << length {
         base << (32 - length)
@@ -157,7 +157,7 @@ pub(crate) fn code_in(
     requires firsts { AreFirsts search.now.least (lowest_in codes.now) (firsts_in codes.now) }
     requires long { AreLong (firsts_in codes.now) search.now }
     ensures is { result ≡ code_from limit block.now at search.now.least (bases (lowest_in codes.now)) (lowest_in codes.now) }
-    ensures sound { IfSome result (λ code. IsSound limit block.now at code) }
+    ensures sound { IfSome result (λ code. IsSoundCode limit block.now at code) }
 {
     let front = window(block, at) >> 32;
     for i in search.start(front)..codes.len() {

@@ -1,7 +1,7 @@
 //! How many values each symbol stands for.
 
 ghost use Rattle.std.specs.Prelude.{◌≡◌, ◌≢◌, ◌<◌, ◌≤◌, ◌⊎◌, List, ℕ, length, slice_index, true, false, IfOk, IfErr, OnOk, OnErr};
-ghost use Rattle.pair_dict.specs.Symbols.{symbol_count, HasValues, have_values};
+ghost use Rattle.pair_dict.specs.Symbols.{symbol_count, HasSymbolValues, have_values};
 ghost use Rattle.pair_dict.specs.Inside.Counts.{AreCounts, AreSettled, KeepsKnown};
 ghost use Rattle.pair_dict.specs.Inside.Nodes.{AreNodes, AreKnownNodes, Joins, counts_in};
 ghost use Rattle.pair_dict.specs.declared.fault.DictFault.TheVariants.{BadSymbol, OutOfMemory};
@@ -47,7 +47,7 @@ fn settle(
     ensures kept { OnOk result (KeepsKnown counts.old counts.new) }
     ensures counted { OnOk result (slice_index counts.new symbol ≢ 0) }
     ensures fault { IfErr result (λ e. e ≡ BadSymbol) }
-    ensures none { OnErr result ((vs : List ℕ) → HasValues symbols.now symbol vs → most < length vs) }
+    ensures none { OnErr result ((vs : List ℕ) → HasSymbolValues symbols.now symbol vs → most < length vs) }
 {
     if counts[symbol] != 0 {
         return Ok(());
@@ -78,7 +78,7 @@ fn count(
     ensures kept { OnOk result (KeepsKnown counts.old counts.new) }
     ensures counted { OnOk result (slice_index counts.new symbol ≢ 0) }
     ensures fault { IfErr result (λ e. e ≡ BadSymbol) }
-    ensures none { OnErr result ((vs : List ℕ) → HasValues symbols.now symbol vs → most < length vs) }
+    ensures none { OnErr result ((vs : List ℕ) → HasSymbolValues symbols.now symbol vs → most < length vs) }
 {
     if most == 0 {
         return Err(DictFault::BadSymbol);

@@ -4,12 +4,12 @@ ghost use Rattle.std.specs.Prelude.{◌≡◌, ℕ, List, ◌+◌, ◌*◌, ◌<
 ghost use Rattle.pair_dict.specs.Symbols.{symbol_count, values_of, AllHaveValues};
 ghost use Rattle.pair_dict.specs.Codes.{code_at};
 ghost use Rattle.pair_dict.specs.Inside.Counts.{AreCounts};
-ghost use Rattle.pair_dict.specs.Inside.Layouts.{pairing_in, IsLayout};
+ghost use Rattle.pair_dict.specs.Inside.Layouts.{pairing_in, IsDictLayout};
 ghost use Rattle.pair_dict.specs.Inside.Nodes.{AreNodes};
-ghost use Rattle.pair_dict.specs.Inside.Tables.{AreTables};
-ghost use Rattle.pair_dict.specs.Inside.Windows.{IsSound, Shows};
+ghost use Rattle.pair_dict.specs.Inside.Tables.{AreCodeTables};
+ghost use Rattle.pair_dict.specs.Inside.Windows.{IsSoundCode, Shows};
 ghost use Rattle.pair_dict.specs.Inside.Runs.{run_values, run_bits, sum_values, sum_bits, IsLeft, IsRunAt, IsFurther};
-ghost use Rattle.pair_dict.specs.Reading.{Gives, layout_at, dictionary_at};
+ghost use Rattle.pair_dict.specs.Reading.{GivesFromDict, layout_at, dictionary_at};
 ghost use Rattle.pair_dict.specs.declared.fault.DictFault.TheVariants.{OutOfMemory};
 ghost use Rattle.pair_dict.specs.Blocks.{block_values, BlockIsComputed, BlockBeginsWithValues};
 
@@ -49,11 +49,11 @@ impl<'a> Model for Dictionary<'a> {
 
     ghost Value = { Pairing };
 
-    ghost use Rattle.pair_dict.specs.Inside.Kept.{pairing_of, IsKept};
+    ghost use Rattle.pair_dict.specs.Inside.Kept.{kept_pairing, IsSoundDictionary};
 
-    ghost view = { pairing_of };
+    ghost view = { kept_pairing };
 
-    ghost invariant = { IsKept };
+    ghost invariant = { IsSoundDictionary };
 }
 
 /// What codes are found by.
@@ -71,11 +71,11 @@ fn code_tables(
     counts: &[u16],
     most_bits: u32,
 ) -> Result<CodeTables, AllocError>
-    requires layout { IsLayout layout.now }
+    requires layout { IsDictLayout layout.now }
     requires counts { AreCounts layout.now.symbols.now counts.now }
     requires some { 1 ≤ most_bits }
     requires few { most_bits ≤ 13 }
-    ensures { IfOk result (λ t. AreTables layout.now t) }
+    ensures { IfOk result (λ t. AreCodeTables layout.now t) }
 {
     let firsts = firsts_of(alloc, layout.least, layout.lowest)?;
     let run_width = run_width(counts.len(), most_bits);
@@ -105,7 +105,7 @@ impl<'a> Dictionary<'a> {
     ) -> Result<(Dictionary<'a>, usize), DictFault>
         requires some { 1 ≤ most_bits }
         requires few { most_bits ≤ 13 }
-        ensures is { Gives (λ x. (x.0, x.1)) result (dictionary_at bytes.now) }
+        ensures is { GivesFromDict (λ x. (x.0, x.1)) result (dictionary_at bytes.now) }
         ensures values { IfOk result (λ x. AllHaveValues x.0.symbols) }
         ensures fits { IfOk result (λ x. x.1 ≤ length bytes.now) }
         ensures memory { IfErr result (λ e. e ≡ OutOfMemory → IsOk (layout_at bytes.now)) }
@@ -123,7 +123,7 @@ impl<'a> Dictionary<'a> {
         settled: Settled,
         most_bits: u32,
     ) -> Result<Dictionary<'a>, AllocError>
-        requires layout { IsLayout layout.now }
+        requires layout { IsDictLayout layout.now }
         requires counts { AreCounts layout.now.symbols.now settled.counts.items }
         requires nodes { AreNodes layout.now.symbols.now settled.nodes.items }
         requires some { 1 ≤ most_bits }
@@ -157,7 +157,7 @@ impl<'a> Dictionary<'a> {
     fn code_at(&self, block: &[u8], at: usize) -> Option<(usize, u32)>
         requires at { at ≤ 8 * length block.now }
         ensures is { result ≡ code_at self.now block.now at }
-        ensures sound { IfSome result (λ code. IsSound (symbol_count self.now.symbols) block.now at code) }
+        ensures sound { IfSome result (λ code. IsSoundCode (symbol_count self.now.symbols) block.now at code) }
     {
         code_in(self.nodes.len(), block, at, &self.codes, &self.search)
     }

@@ -102,13 +102,13 @@ pub(crate) struct Layout<'a> {
 }
 
 impl<'a> Layout<'a> {
-    ghost use Rattle.pair_dict.specs.Inside.Layouts.{pairing_in, IsLayout};
+    ghost use Rattle.pair_dict.specs.Inside.Layouts.{pairing_in, IsDictLayout};
 
     /// The layout at the front of the bytes.
     #[tactic(auto, unfolding(crate::specs::Reading::layout_at))]
     pub(crate) fn read(bytes: &'a [u8]) -> Result<Layout<'a>, DictFault>
         ensures is { Reads pairing_in result (layout_at bytes.now) }
-        ensures sound { IfOk result IsLayout }
+        ensures sound { IfOk result IsDictLayout }
         ensures fits { IfOk result (λ layout. layout.taken ≤ length bytes.now) }
     {
         let ((greatest, least), rest) = lengths_of(bytes)?;

@@ -8,7 +8,7 @@
 //! Words of Stockfish: a symbol's pair is `btree`, its count `symlen` (one less), the least and greatest code length `minSymLen`
 //! and `maxSymLen`, first symbol and base `lowestSym` and `base64`; `Dictionary::read` is `set_sizes`.
 //!
-//! Definitions, in reading order: `Symbols` (`HasValues`: the least relation; a symbol in a cycle has none), `Codes` (`IsCode`),
+//! Definitions, in reading order: `Symbols` (`HasSymbolValues`: the least relation; a symbol in a cycle has none), `Codes` (`IsCode`),
 //! `Blocks` (`block_values`), `Beginnings`, `Reading` (`SpellsDictionary`), `FirstFault`. Its cases stand in `dictionaries.txt`
 //! of `rows`: the worked dictionary, chains of 256 and 257 values, codes of 32 bits, bases that no code can have.
 //!

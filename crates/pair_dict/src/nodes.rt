@@ -1,7 +1,7 @@
 //! Symbols as they are kept for going down to one of their values.
 
 ghost use Rattle.std.specs.Prelude.{◌≡◌, ◌<◌, IsTrue};
-ghost use Rattle.pair_dict.specs.Inside.Nodes.{parts_of, HaveOneValue};
+ghost use Rattle.pair_dict.specs.Inside.Nodes.{node_parts, HaveOneValue};
 ghost use Rattle.pair_dict.specs.declared.nodes.Parts.TheVariants.{Equal, Pair};
 
 /// What the values of a symbol are.
@@ -33,7 +33,7 @@ impl Node {
     /// The node of a symbol whose values are all equal to this one.
     pub(crate) fn equal(value: u16) -> Node
         requires { value < 4096 }
-        ensures { parts_of result ≡ Equal value }
+        ensures { node_parts result ≡ Equal value }
     {
         Node {
             packed: value as u32 + 4096 * EQUAL,
@@ -45,7 +45,7 @@ impl Node {
         requires left { left < 4096 }
         requires right { right < 4095 }
         requires skipped { skipped < 256 }
-        ensures { parts_of result ≡ Pair left right skipped }
+        ensures { node_parts result ≡ Pair left right skipped }
     {
         Node {
             packed: left as u32 + 4096 * right as u32 + 16777216 * skipped as u32,
@@ -63,7 +63,7 @@ impl Node {
     /// What the values are.
     #[inline]
     pub(crate) fn parts(self) -> Parts
-        ensures { result ≡ parts_of self }
+        ensures { result ≡ node_parts self }
     {
         let left = (self.packed % 4096) as u16;
         let right = self.packed / 4096 % 4096;

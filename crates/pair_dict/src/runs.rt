@@ -6,7 +6,7 @@ ghost use Rattle.pair_dict.specs.Inside.Counts.{AreCounts};
 ghost use Rattle.pair_dict.specs.Reading.{words};
 ghost use Rattle.pair_dict.specs.Inside.Layouts.{pairing_in};
 ghost use Rattle.pair_dict.specs.Inside.Windows.{AreFirsts};
-ghost use Rattle.pair_dict.specs.Inside.Runs.{run_values, run_bits, sum_values, sum_bits, IsCodeRun, IsRunOf, IsTop, AreJoined, AreRuns, IsWithin, AreWithin};
+ghost use Rattle.pair_dict.specs.Inside.Runs.{run_values, run_bits, sum_values, sum_bits, IsCodeRun, IsRunOf, IsTop, AreJoined, AreRuns, IsRunWithin, AreRunsWithin};
 
 use crate::layout::Layout;
 use crate::two_bytes::word_of;
@@ -179,7 +179,7 @@ const MANY_RUNS: usize = 16;
 #[inline]
 fn are_within(runs: &[CodeRun], behind: usize, most: usize) -> bool
     requires { 2 * behind ≤ length runs.now }
-    ensures { IsTrue result → AreWithin runs.now behind most }
+    ensures { IsTrue result → AreRunsWithin runs.now behind most }
 {
     if behind < MANY_RUNS {
         return false;
@@ -204,7 +204,7 @@ fn run_behind(
     requires some { 1 ≤ place }
     requires known { place < length runs.now }
     requires joined { AreJoined (pairing_in layout.now).0 runs.now }
-    requires fits { IsTrue fits → IsWithin runs.now place most }
+    requires fits { IsTrue fits → IsRunWithin runs.now place most }
     ensures is { IsRunOf (pairing_in layout.now).0 place result }
     ensures few { run_values result ≤ most }
 {

@@ -2,7 +2,7 @@
 
 ghost use Rattle.std.specs.Prelude.{◌<◌};
 ghost use Rattle.pair_dict.specs.Symbols.{symbol_count};
-ghost use Rattle.pair_dict.specs.Inside.Counts.{IsSymbol, IsShort};
+ghost use Rattle.pair_dict.specs.Inside.Counts.{IsSymbol, IsShortSymbol};
 
 use crate::two_bytes::word_at;
 
@@ -24,7 +24,7 @@ pub(crate) enum Symbol {
 pub(crate) fn symbol_at(symbols: &[u8], symbol: usize) -> Symbol
     requires { symbol < symbol_count symbols.now }
     ensures is { IsSymbol symbols.now symbol result }
-    ensures few { IsShort result }
+    ensures few { IsShortSymbol result }
 {
     let left = word_at(symbols, 3 * symbol) % 4096;
     let right = word_at(symbols, 3 * symbol + 1) / 16;

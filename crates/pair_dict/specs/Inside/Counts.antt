@@ -10,9 +10,9 @@ IsSymbol symbols s (Leaf value) = (right symbols s ≡ 4095) × (value ≡ left 
 IsSymbol symbols s (Pair a b) = (right symbols s ≢ 4095) × (a ≡ left symbols s) × (b ≡ right symbols s)
 
 -- numbers of twelve bits
-abbrev pub IsShort : Symbol → Type 0
-IsShort (Leaf value) = value < 4096
-IsShort (Pair a b) = (a < 4096) × (b < 4096)
+abbrev pub IsShortSymbol : Symbol → Type 0
+IsShortSymbol (Leaf value) = value < 4096
+IsShortSymbol (Pair a b) = (a < 4096) × (b < 4096)
 
 -- a leaf has one value
 pub record IsLeafCount (symbols counts : List ℕ) (s : ℕ) : Type 0 where

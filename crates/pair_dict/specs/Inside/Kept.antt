@@ -7,10 +7,10 @@ use Rattle.pair_dict.specs.Inside.Windows.{AreFirsts, AreLong, firsts_in, lowest
 use Rattle.pair_dict.specs.Inside.Runs.{AreRuns}
 use Rattle.pair_dict.specs.declared.dictionary.Dictionary.TheInside.{Inside}
 
-abbrev pub pairing_of : Inside → Pairing
-pairing_of a = record { least = a.search.least; lowest = lowest_in a.codes.items; symbols = a.symbols.now }
+abbrev pub kept_pairing : Inside → Pairing
+kept_pairing a = record { least = a.search.least; lowest = lowest_in a.codes.items; symbols = a.symbols.now }
 
-pub record IsKept (a : Inside) : Type 0 where
+pub record IsSoundDictionary (a : Inside) : Type 0 where
   pub least : 1 ≤ a.search.least
   pub some : 1 ≤ length a.codes.items
   pub greatest : a.search.least + length a.codes.items ≤ 33
@@ -21,4 +21,4 @@ pub record IsKept (a : Inside) : Type 0 where
   pub some_bits : 1 ≤ a.search.run_width
   pub few_bits : a.search.run_width ≤ 13
   pub all_runs : length a.runs.items ≡ 2 ^ a.search.run_width
-  pub runs : AreRuns (pairing_of a) a.search.run_width a.runs.items
+  pub runs : AreRuns (kept_pairing a) a.search.run_width a.runs.items

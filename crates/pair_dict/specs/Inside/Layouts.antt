@@ -8,7 +8,7 @@ use Rattle.pair_dict.specs.declared.layout.Layout.{Layout}
 abbrev pub pairing_in : Layout → Pairing × ℕ
 pairing_in a = (record { least = a.least; lowest = words a.lowest.now; symbols = a.symbols.now }, a.taken)
 
-pub record IsLayout (a : Layout) : Type 0 where
+pub record IsDictLayout (a : Layout) : Type 0 where
   pub least : 1 ≤ a.least
   pub some : 1 ≤ length (words a.lowest.now)
   pub greatest : a.least + length (words a.lowest.now) ≤ 33

@@ -1,25 +1,25 @@
 -- Symbols as they are kept for going down to one of their values.
 use Rattle.std.specs.Prelude.{◌≡◌, ◌≢◌, ℕ, ◌+◌, ◌/◌, ◌%◌, ◌<◌, ◌==◌, List, length, slice_index, map, if◌then◌else◌}
 use Rattle.std.proofs.Common.{get_or}
-use Rattle.pair_dict.specs.Symbols.{symbol_count, left, right, HasValues}
+use Rattle.pair_dict.specs.Symbols.{symbol_count, left, right, HasSymbolValues}
 use Rattle.pair_dict.specs.declared.nodes.Node.{Node}
 use Rattle.pair_dict.specs.declared.nodes.Parts.{Parts}
 use Rattle.pair_dict.specs.declared.nodes.Parts.TheVariants.{Equal, Pair}
 
 -- what the bits of a node say
-abbrev pub parts_of : Node → Parts
-parts_of node =
+abbrev pub node_parts : Node → Parts
+node_parts node =
     if node.packed / 4096 % 4096 == 4095
     then Equal (node.packed % 4096)
     else Pair (node.packed % 4096) (node.packed / 4096 % 4096) (node.packed / 16777216)
 
 -- all values of a symbol are equal to this one
 abbrev pub AreEqual : List ℕ → ℕ → ℕ → Type 0
-AreEqual symbols s value = (vs : List ℕ) → HasValues symbols s vs → (i : ℕ) → i < length vs → slice_index vs i ≡ value
+AreEqual symbols s value = (vs : List ℕ) → HasSymbolValues symbols s vs → (i : ℕ) → i < length vs → slice_index vs i ≡ value
 
 -- a symbol has so many values
 abbrev pub HasMany : List ℕ → ℕ → ℕ → Type 0
-HasMany symbols s n = (vs : List ℕ) → HasValues symbols s vs → length vs ≡ n
+HasMany symbols s n = (vs : List ℕ) → HasSymbolValues symbols s vs → length vs ≡ n
 
 -- the two symbols of a pair, and how many values the left one has
 pub record IsPair (symbols : List ℕ) (s a b skipped : ℕ) : Type 0 where
@@ -29,12 +29,12 @@ pub record IsPair (symbols : List ℕ) (s a b skipped : ℕ) : Type 0 where
   pub many : HasMany symbols a skipped
 
 -- what the values of a symbol are
-abbrev pub AreParts : List ℕ → ℕ → Parts → Type 0
-AreParts symbols s (Equal value) = AreEqual symbols s value
-AreParts symbols s (Pair a b skipped) = IsPair symbols s a b skipped
+abbrev pub AreNodeParts : List ℕ → ℕ → Parts → Type 0
+AreNodeParts symbols s (Equal value) = AreEqual symbols s value
+AreNodeParts symbols s (Pair a b skipped) = IsPair symbols s a b skipped
 
 abbrev pub IsNode : List ℕ → ℕ → Node → Type 0
-IsNode symbols s node = AreParts symbols s (parts_of node)
+IsNode symbols s node = AreNodeParts symbols s (node_parts node)
 
 -- the nodes of all symbols
 pub record AreNodes (symbols : List ℕ) (nodes : List Node) : Type 0 where
@@ -55,7 +55,7 @@ pub record AreKnownNodes (symbols counts : List ℕ) (nodes : List Node) : Type 
 
 -- all values of two symbols are equal to one
 abbrev pub HaveOneValue : Node → Node → Type 0
-HaveOneValue first second = (value : ℕ) × (parts_of first ≡ Equal value) × (parts_of second ≡ Equal value)
+HaveOneValue first second = (value : ℕ) × (node_parts first ≡ Equal value) × (node_parts second ≡ Equal value)
 
 -- a node is that of the pair of two symbols with these nodes, the left one with so many values
 abbrev pub Joins : List Node → ℕ → ℕ → ℕ → Node → Type 0

@@ -73,11 +73,11 @@ abbrev pub IsRunOf : Pairing → ℕ → CodeRun → Type 0
 IsRunOf d place run = (width front : ℕ) → width ≤ 64 → front < 2 ^ width → place ≡ 2 ^ width + front → IsRun d width front run
 
 -- the run at a place has at most so many values, and so has each of as many runs as the number of their first place
-abbrev pub IsWithin : List CodeRun → ℕ → ℕ → Type 0
-IsWithin runs place most = (other : CodeRun) → run_values (get_or runs place other) ≤ most
+abbrev pub IsRunWithin : List CodeRun → ℕ → ℕ → Type 0
+IsRunWithin runs place most = (other : CodeRun) → run_values (get_or runs place other) ≤ most
 
-abbrev pub AreWithin : List CodeRun → ℕ → ℕ → Type 0
-AreWithin runs behind most = (rest : ℕ) → rest < behind → IsWithin runs (behind + rest) most
+abbrev pub AreRunsWithin : List CodeRun → ℕ → ℕ → Type 0
+AreRunsWithin runs behind most = (rest : ℕ) → rest < behind → IsRunWithin runs (behind + rest) most
 
 -- ---- while a block is gone through
 

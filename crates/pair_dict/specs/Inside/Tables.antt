@@ -7,7 +7,7 @@ use Rattle.pair_dict.specs.Inside.Runs.{AreRuns}
 use Rattle.pair_dict.specs.declared.layout.Layout.{Layout}
 use Rattle.pair_dict.specs.declared.dictionary.CodeTables.{CodeTables}
 
-pub record AreTables (a : Layout) (t : CodeTables) : Type 0 where
+pub record AreCodeTables (a : Layout) (t : CodeTables) : Type 0 where
   pub least : t.search.least ≡ a.least
   pub lowest : lowest_in t.codes.items ≡ words a.lowest.now
   pub firsts : AreFirsts a.least (words a.lowest.now) (firsts_in t.codes.items)

@@ -21,14 +21,14 @@ pub record Shows (block : List ℕ) (p : ℕ) (b : BitBuffer) : Type 0 where
   pub same : (n : ℕ) → n ≤ b.held → b.bits / 2 ^ (64 - n) ≡ bits block p n
 
 -- the least number of 32 bits whose first n bits are at least the base, or 2^32 where n bits are never
-pub record IsFirst (n base first : ℕ) : Type 0 where
+pub record IsLeastWithPrefix (n base first : ℕ) : Type 0 where
   pub possible : base < 2 ^ n → first ≡ base * 2 ^ (32 - n)
   pub impossible : 2 ^ n ≤ base → first ≡ 2 ^ 32
 
 -- the first number of each length from the least on
 pub record AreFirsts (least : ℕ) (lowest firsts : List ℕ) : Type 0 where
   pub lengths : length firsts ≡ length lowest
-  pub each : (i : ℕ) → i < length lowest → IsFirst (least + i) (slice_index (bases lowest) i) (slice_index firsts i)
+  pub each : (i : ℕ) → i < length lowest → IsLeastWithPrefix (least + i) (slice_index (bases lowest) i) (slice_index firsts i)
 
 -- the first numbers of code lengths, and their lowest symbols
 abbrev pub firsts_in : List CodeLength → List ℕ
@@ -43,7 +43,7 @@ pub record AreLong (firsts : List ℕ) (long : CodeSearch) : Type 0 where
   pub above : (i : ℕ) → i < long.from → long.first ≤ slice_index firsts i
 
 -- a code that was read: a known symbol, a bit at least, and all of it in the block
-pub record IsSound (limit : ℕ) (block : List ℕ) (p : ℕ) (code : ℕ × ℕ) : Type 0 where
+pub record IsSoundCode (limit : ℕ) (block : List ℕ) (p : ℕ) (code : ℕ × ℕ) : Type 0 where
   pub known : code.0 < limit
   pub some : 1 ≤ code.1
   pub short : code.1 ≤ 32

@@ -1,7 +1,7 @@
 use Rattle.std.proofs.Common.{◌≡◌, ◌≤◌, ◌<◌, ◌-◌, ◌+◌, ℕ, get_or, length}
 use Rattle.pair_dict.specs.Codes.{bases}
 use Rattle.pair_dict.specs.Reading.{words}
-use Rattle.pair_dict.specs.Inside.Windows.{IsFirst}
+use Rattle.pair_dict.specs.Inside.Windows.{IsLeastWithPrefix}
 use Rattle.pair_dict.proofs.codes.firsts_of.Given as goal
 
 abbrev pub invariant-down : goal.invariant-down
@@ -11,7 +11,7 @@ invariant-down l =
       within : l.i ≤ length (words l.lowest);
       base_is : l.base ≡ get_or (bases (words l.lowest)) (l.i - 1) 0;
       low : l.base ≤ get_or (words l.lowest) (l.i - 1) 0;
-      done : (k : ℕ) → l.i ≤ k + 1 → k < length (words l.lowest) → IsFirst (l.least + k) (get_or (bases (words l.lowest)) k 0) (get_or l.firsts.items k 0);
+      done : (k : ℕ) → l.i ≤ k + 1 → k < length (words l.lowest) → IsLeastWithPrefix (l.least + k) (get_or (bases (words l.lowest)) k 0) (get_or l.firsts.items k 0);
     }
 
 abbrev pub decreases-down : goal.decreases-down
