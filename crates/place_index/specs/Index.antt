@@ -5,10 +5,10 @@ use Rattle.place_index.specs.Square.{rank}
 use Rattle.place_index.specs.Material.{pieces_of}
 use Rattle.place_index.specs.Men.{codes_of, stands, squares_of, square_of}
 use Rattle.place_index.specs.Three.{three_number}
-use Rattle.place_index.specs.Kings.{apart, kings_number}
+use Rattle.place_index.specs.Kings.{kings_apart, kings_number}
 use Rattle.place_index.specs.Pawns.{pawn_square, pawn_numbers_of, pawns_number}
 use Rattle.place_index.specs.Others.{free_set_number}
-use Rattle.place_index.specs.Shape.{Layout, HasGoodPieces, HasGoodOrder, has_pawns, has_unique, lead_code, lead_men, is_pawn, other_groups, factors_of, size_of}
+use Rattle.place_index.specs.Shape.{Layout, HasGoodPieces, HasGoodOrder, has_pawns, has_unique, lead_code, lead_men, is_pawn_code, other_groups, factors_of, size_of}
 use Rattle.place_index.specs.Turning.{turned, lead_file}
 use Rattle.place_index.specs.declared.group.Group.{Group}
 use Rattle.place_index.specs.declared.man.Man.{Man}
@@ -36,7 +36,7 @@ squares_of_all men codes = flat_map (squares_of men) codes
 
 -- pawns begin on the second rank
 abbrev pub first_square : ℕ → ℕ
-first_square c = cond (is_pawn c) 8 0
+first_square c = cond (is_pawn_code c) 8 0
 
 -- The groups after those of the earlier codes, each among the squares that earlier men leave free.
 unfoldable pub other_numbers : List ℕ → List Man → List Group → List ℕ
@@ -70,8 +70,8 @@ pub record IsPlacement (key : ℕ) (men : List Man) : Type 0 where
   pub material : IsPermutation (codes_of men) (pieces_of key)
   pub alone : AreAlone men
   pub board : (c s : ℕ) → stands men c s ≡ true → s < 64
-  pub pawns : (c s : ℕ) → is_pawn c ≡ true → stands men c s ≡ true → (1 ≤ rank s) × (rank s ≤ 6)
-  pub kings : (a b : ℕ) → stands men 6 a ≡ true → stands men 14 b ≡ true → IsTrue (apart a b)
+  pub pawns : (c s : ℕ) → is_pawn_code c ≡ true → stands men c s ≡ true → (1 ≤ rank s) × (rank s ≤ 6)
+  pub kings : (a b : ℕ) → stands men 6 a ≡ true → stands men 14 b ≡ true → IsTrue (kings_apart a b)
 
 -- a shape: what a table file may say
 pub record IsShape (l : Layout) : Type 0 where

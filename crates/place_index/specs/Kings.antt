@@ -9,8 +9,8 @@ abbrev pub far : ℕ → ℕ → Bool
 far a b = nat_lt (a + 1) b || nat_lt (b + 1) a
 
 -- neither on one square nor on touching ones
-abbrev pub apart : ℕ → ℕ → Bool
-apart a b = far (file a) (file b) || far (rank a) (rank b)
+abbrev pub kings_apart : ℕ → ℕ → Bool
+kings_apart a b = far (file a) (file b) || far (rank a) (rank b)
 
 -- Two kings after the turning: the first in the triangle and, if it is on the diagonal, the second not above it.
 pub record AreTurnedKings (a b : ℕ) : Type 0 where
@@ -19,7 +19,7 @@ pub record AreTurnedKings (a b : ℕ) : Type 0 where
   pub left : file a < 4
   pub under0 : rank a ≤ file a
   pub under1 : file a ≡ rank a → rank b ≤ file b
-  pub apart : IsTrue (apart a b)
+  pub apart : IsTrue (kings_apart a b)
 
 -- 1 where both are on the diagonal, else 0
 abbrev pub both_on : ℕ → ℕ → ℕ
@@ -35,7 +35,7 @@ abbrev pub kings_place : ℕ → ℕ → ℕ
 kings_place a b = (both_on a b * 10 + triangle_number a) * 64 + b
 
 abbrev pub kings_test : ℕ → ℕ → ℕ → Bool
-kings_test a b both = apart a b && (not (on_diagonal a) || not (nat_lt (file b) (rank b))) && (both == both_on a b)
+kings_test a b both = kings_apart a b && (not (on_diagonal a) || not (nat_lt (file b) (rank b))) && (both == both_on a b)
 
 -- whether two turned kings have this place
 abbrev pub is_kings_place : ℕ → Bool

@@ -26,9 +26,9 @@ abbrev pub IsWithin : ℕ → ℕ → List ℕ → Type 0
 IsWithin first last [] = Unit {0}
 IsWithin first last (s ∷ squares) = (first ≤ s) × (s < last) × IsWithin first last squares
 
-abbrev pub IsFree : List ℕ → List ℕ → Type 0
-IsFree earlier [] = Unit {0}
-IsFree earlier (s ∷ squares) = (standing earlier s ≡ 0) × IsFree earlier squares
+abbrev pub AreFreeSquares : List ℕ → List ℕ → Type 0
+AreFreeSquares earlier [] = Unit {0}
+AreFreeSquares earlier (s ∷ squares) = (standing earlier s ≡ 0) × AreFreeSquares earlier squares
 
 -- The earlier men stand from `first` on and before `last`, each on a square of its own.
 pub record AreEarlier (first last : ℕ) (earlier : List ℕ) : Type 0 where
@@ -39,7 +39,7 @@ pub record AreEarlier (first last : ℕ) (earlier : List ℕ) : Type 0 where
 pub record IsFreeSet (first last : ℕ) (earlier squares : List ℕ) : Type 0 where
   pub falling : IsFallingBelow last squares
   pub within : IsWithin first last squares
-  pub free : IsFree earlier squares
+  pub free : AreFreeSquares earlier squares
 
 -- Below the count of such sets; a later set has a greater number; and a number is that of one set.
 abbrev pub FreeSetsAreNumbered : Type 0

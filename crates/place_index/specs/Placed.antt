@@ -29,14 +29,14 @@ kind_code Queen = 5
 kind_code King = 6
 
 -- the piece code of a man: 1 to 6 for white's P N B R Q K, 9 to 14 for black's
-abbrev pub code_of : Piece → ℕ
-code_of p = cond (is_black p.side) (kind_code p.kind + 8) (kind_code p.kind)
+abbrev pub code_of_man : Piece → ℕ
+code_of_man p = cond (is_black p.side) (kind_code p.kind + 8) (kind_code p.kind)
 
 -- the men of a board in order of square, its first square being s
 unfoldable pub men_from : ℕ → List (Option Piece) → List Man
 men_from s [] = []
 men_from s (None ∷ rest) = men_from (suc s) rest
-men_from s (Some piece ∷ rest) = man (code_of piece) s ∷ men_from (suc s) rest
+men_from s (Some piece ∷ rest) = man (code_of_man piece) s ∷ men_from (suc s) rest
 
 abbrev pub men_on : List (Option Piece) → List Man
 men_on board = men_from 0 board

@@ -48,12 +48,12 @@ other_pawns key = cond (black_leads key) (white_pawns key) (black_pawns key)
 
 -- ---- the leading group
 
-abbrev pub is_king : ℕ → Bool
-is_king c = c == 6 || c == 14
+abbrev pub is_king_code : ℕ → Bool
+is_king_code c = c == 6 || c == 14
 
 -- some piece other than a king occurs once
 unfoldable pub has_unique : ℕ → Bool
-has_unique key = list_any (λ c. not (is_king c) && count_of (pieces_of key) c == 1) (pieces_of key)
+has_unique key = list_any (λ c. not (is_king_code c) && count_of (pieces_of key) c == 1) (pieces_of key)
 
 -- how many men lead: the leading pawns, or three, or the two kings
 unfoldable pub lead_men : ℕ → ℕ
@@ -98,14 +98,14 @@ abbrev pub group : ℕ → ℕ → Group
 group code men = record { code = code; men = men }
 
 -- a piece before some runs: it joins a run of its own kind, or begins one
-abbrev pub joined : ℕ → List Group → List Group
-joined x [] = group x 1 ∷ []
-joined x (g ∷ rest) = cond (x == g.code) (group x (g.men + 1) ∷ rest) (group x 1 ∷ g ∷ rest)
+abbrev pub joined_to_groups : ℕ → List Group → List Group
+joined_to_groups x [] = group x 1 ∷ []
+joined_to_groups x (g ∷ rest) = cond (x == g.code) (group x (g.men + 1) ∷ rest) (group x 1 ∷ g ∷ rest)
 
 -- the runs of equal pieces
 unfoldable pub runs : List ℕ → List Group
 runs [] = []
-runs (x ∷ rest) = joined x (runs rest)
+runs (x ∷ rest) = joined_to_groups x (runs rest)
 
 -- the groups after the leading one
 abbrev pub other_groups : ℕ → List ℕ → List Group
@@ -127,9 +127,9 @@ upto zero = []
 upto (suc n) = upto n ++ n ∷ []
 
 -- the places that nibbles give: to the leading group, and to the other pawns where there are any
-abbrev pub given : ℕ → Option ℕ → List ℕ
-given order (Some second) = order ∷ second ∷ []
-given order None = order ∷ []
+abbrev pub places_given : ℕ → Option ℕ → List ℕ
+places_given order (Some second) = order ∷ second ∷ []
+places_given order None = order ∷ []
 
 -- the second nibble, which is read where both sides have pawns
 abbrev pub second_of : Layout → Option ℕ
@@ -143,12 +143,12 @@ unfoldable pub places : List ℕ → ℕ → List ℕ
 places taken n = taken ++ filter (is_free taken) (upto n)
 
 abbrev pub places_of : Layout → List ℕ
-places_of l = places (given l.order (second_of l)) (length (groups_of l))
+places_of l = places (places_given l.order (second_of l)) (length (groups_of l))
 
 -- ---- the sizes
 
-abbrev pub is_pawn : ℕ → Bool
-is_pawn c = c == 1 || c == 9
+abbrev pub is_pawn_code : ℕ → Bool
+is_pawn_code c = c == 1 || c == 9
 
 -- how many placements the leading group has
 unfoldable pub lead_size : ℕ → ℕ → ℕ
@@ -158,17 +158,17 @@ lead_size key file = cond (has_pawns key) (pawns_size file (lead_pawns key - 1))
 -- ones; all others have the squares that the men of earlier groups leave.
 unfoldable pub other_sizes : ℕ → ℕ → List Group → List ℕ
 other_sizes lead free [] = []
-other_sizes lead free (g ∷ rest) = choose (cond (is_pawn g.code) (48 - lead) free) g.men ∷ other_sizes lead (free - g.men) rest
+other_sizes lead free (g ∷ rest) = choose (cond (is_pawn_code g.code) (48 - lead) free) g.men ∷ other_sizes lead (free - g.men) rest
 
-abbrev pub sizes_of : Layout → List ℕ
-sizes_of l = lead_size l.material l.file ∷ other_sizes (lead_men l.material) (64 - lead_men l.material) (other_groups l.material l.pieces)
+abbrev pub group_sizes : Layout → List ℕ
+group_sizes l = lead_size l.material l.file ∷ other_sizes (lead_men l.material) (64 - lead_men l.material) (other_groups l.material l.pieces)
 
 unfoldable pub product : List ℕ → ℕ
 product [] = 1
 product (s ∷ rest) = s * product rest
 
 abbrev pub size_of : Layout → ℕ
-size_of l = product (sizes_of l)
+size_of l = product (group_sizes l)
 
 -- ---- the factors
 
@@ -180,7 +180,7 @@ factor_at (p ∷ places) (s ∷ sizes) place = cond (nat_lt p place) s 1 * facto
 
 -- the factor of each group
 abbrev pub factors_of : Layout → List ℕ
-factors_of l = map (factor_at (places_of l) (sizes_of l)) (places_of l)
+factors_of l = map (factor_at (places_of l) (group_sizes l)) (places_of l)
 
 -- the greatest size of the 145 tables, that of KQRvKB
 abbrev pub greatest_size : ℕ

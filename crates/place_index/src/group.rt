@@ -3,7 +3,7 @@ ghost use Rattle.place_index.specs.Index.{first_square};
 ghost use Rattle.place_index.specs.Material.{count_of, pieces_of};
 ghost use Rattle.place_index.specs.Men.{squares_of};
 ghost use Rattle.place_index.specs.Others.{free_set_number};
-ghost use Rattle.place_index.specs.Shape.{group, is_pawn, runs};
+ghost use Rattle.place_index.specs.Shape.{group, is_pawn_code, runs};
 
 use crate::indexing::Turned;
 use crate::numbers::{free_number, free_set_number};
@@ -33,7 +33,7 @@ impl Group {
     /// lead have the 48 squares of pawns less those of the leading ones.
     pub(crate) fn squares(&self, lead: u8, free: u8) -> u8
         requires { lead ≤ 3 }
-        ensures { result ≡ cond (is_pawn self.now.code) (48 - lead) free }
+        ensures { result ≡ cond (is_pawn_code self.now.code) (48 - lead) free }
     {
         if self.code.is_pawn() { 48 - lead } else { free }
     }

@@ -2,7 +2,7 @@ ghost use Rattle.std.specs.Prelude.{◌≡◌, ◌+◌, ◌<◌, ◌≤◌, ◌�
 ghost use Rattle.place_index.specs.Material.{Men, IsTable, TablesAreNumbered, name_at, name_of, men_of, white_pawns, black_pawns, pieces_of, count_of, tally_of};
 ghost use Rattle.place_index.specs.Shape.{lead_men, lead_code, other_code, other_pawns, black_leads, both_have_pawns};
 ghost use Rattle.place_index.specs.Inside.Groups.{leading_code};
-ghost use Rattle.place_index.specs.Inside.NameKeys.{key_by_name, rank_of, pair_of, triple_of};
+ghost use Rattle.place_index.specs.Inside.NameKeys.{key_by_name, letter_place, pair_of, triple_of};
 
 use crate::piece_code::PieceCode;
 use crate::tables::{
@@ -35,7 +35,7 @@ impl Model for Material {
 
 /// The place of a letter among Q R B N P, the last one for any other byte.
 fn rank(letter: u8) -> u8
-    ensures is { result ≡ rank_of letter }
+    ensures is { result ≡ letter_place letter }
     ensures few { result ≤ 4 }
 {
     match letter {

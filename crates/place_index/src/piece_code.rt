@@ -3,8 +3,8 @@
 ghost use Rattle.std.specs.Prelude.{◌≡◌, ◌<◌, ◌↔◌, IsSome, IfSome};
 ghost use Rattle.place_index.specs.Material.{IsPieceCode};
 ghost use Rattle.place_index.specs.Men.{other_side};
-ghost use Rattle.place_index.specs.Placed.{code_of};
-ghost use Rattle.place_index.specs.Shape.{is_pawn};
+ghost use Rattle.place_index.specs.Placed.{code_of_man};
+ghost use Rattle.place_index.specs.Shape.{is_pawn_code};
 
 use board_core::{Kind, Piece, Side};
 use std::marker::Model;
@@ -63,7 +63,7 @@ impl PieceCode {
 
     /// The code of a man, white's being the first side's.
     pub fn of(piece: Piece) -> PieceCode
-        ensures { result ≡ code_of piece }
+        ensures { result ≡ code_of_man piece }
     {
         let code = match piece.kind {
             Kind::Pawn => 1u8,
@@ -99,7 +99,7 @@ impl PieceCode {
 
     /// Whether it is a pawn of either side.
     pub fn is_pawn(self) -> bool
-        ensures { result ≡ is_pawn self }
+        ensures { result ≡ is_pawn_code self }
     {
         self == PieceCode::WHITE_PAWN || self == PieceCode::BLACK_PAWN
     }

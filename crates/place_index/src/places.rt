@@ -2,14 +2,14 @@
 
 ghost use Rattle.std.specs.Prelude.{◌≡◌, ◌≤◌, ◌<◌, not, length, map};
 ghost use Rattle.std.specs.Option.{ForSome};
-ghost use Rattle.place_index.specs.Shape.{given, is_free, places, factor_at};
+ghost use Rattle.place_index.specs.Shape.{places_given, is_free, places, factor_at};
 
 use crate::sizes::Sizes;
 use arrayvec::ArrayVec;
 
 /// Whether a nibble gives this place.
 fn is_given(order: u8, second: Option<u8>, place: u8) -> bool
-    ensures { result ≡ not (is_free (given order second) place) }
+    ensures { result ≡ not (is_free (places_given order second) place) }
 {
     match second {
         Some(other) => order == place || other == place,
@@ -19,7 +19,7 @@ fn is_given(order: u8, second: Option<u8>, place: u8) -> bool
 
 /// The places that the nibbles give.
 fn given_places(order: u8, second: Option<u8>) -> ArrayVec<u8, 5>
-    ensures { result.items ≡ given order second }
+    ensures { result.items ≡ places_given order second }
 {
     let mut places = ArrayVec::<u8, 5>::new();
     places.push(order);
@@ -34,7 +34,7 @@ pub(crate) fn places(groups: usize, order: u8, second: Option<u8>) -> ArrayVec<u
     requires groups { groups ≤ 5 }
     requires order { order < groups }
     requires second { ForSome second (λ s. (s < groups) × (s ≡ order → ⊥)) }
-    ensures is { result.items ≡ places (given order second) groups }
+    ensures is { result.items ≡ places (places_given order second) groups }
     ensures len { length result.items ≡ groups }
 {
     let mut places = given_places(order, second);

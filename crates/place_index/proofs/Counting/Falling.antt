@@ -3,7 +3,7 @@ use Rattle.std.proofs.Common.{◌≡◌, ◌≢◌, ℕ, zero, suc, ◌+◌, ◌
 use Rattle.std.proofs.lemmas.Bool.{cases_lt, cases_eq, cases_Bool, eq-eqb, ne_eqb}
 use Rattle.place_index.specs.Choose.{IsFallingBelow}
 use Rattle.place_index.specs.Men.{falling}
-use Rattle.place_index.specs.Others.{standing, IsWithin, IsFree}
+use Rattle.place_index.specs.Others.{standing, IsWithin, AreFreeSquares}
 
 pub below_more : (n : ℕ) (xs : List ℕ) → IsFallingBelow n xs → IsFallingBelow (suc n) xs
 below_more n [] f = tt
@@ -37,7 +37,7 @@ falling_within first last test (suc n) all =
       | inr f ↦ rw (falling_miss test n f) (falling_within first last test n (λ s lt. all s (omega (arith, lt))))
     ]
 
-pub falling_free : (earlier : List ℕ) (test : ℕ → Bool) (n : ℕ) → ((s : ℕ) → s < n → test s ≡ true → standing earlier s ≡ 0) → IsFree earlier (falling test n)
+pub falling_free : (earlier : List ℕ) (test : ℕ → Bool) (n : ℕ) → ((s : ℕ) → s < n → test s ≡ true → standing earlier s ≡ 0) → AreFreeSquares earlier (falling test n)
 falling_free earlier test zero all = rw (falling_none test) tt
 falling_free earlier test (suc n) all =
     elim (cases_Bool (test n)) [

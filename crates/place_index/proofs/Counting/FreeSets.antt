@@ -4,7 +4,7 @@ use Rattle.std.proofs.lemmas.List.{length-map}
 use Rattle.std.proofs.lemmas.Bool.{cases_order, lt-ltb, le-ltb, eq-eqb, ne_eqb}
 use Rattle.place_index.specs.Square.{before}
 use Rattle.place_index.specs.Choose.{choose, IsFallingBelow, IsLater}
-use Rattle.place_index.specs.Others.{taken, standing, free_number, free_set_number, IsWithin, IsFree, AreEarlier, IsFreeSet, FreeSetsAreNumbered}
+use Rattle.place_index.specs.Others.{taken, standing, free_number, free_set_number, IsWithin, AreFreeSquares, AreEarlier, IsFreeSet, FreeSetsAreNumbered}
 use Rattle.place_index.proofs.Counting.SetNumbers.{number_below, later_is_greater}
 use Rattle.place_index.proofs.Counting.Orders.{later_head, later_more, never_later, later_nil, nil_later, later_total}
 
@@ -79,7 +79,7 @@ free_below first last earlier h s from free lt =
 -- ---- sets of them
 
 falling_free : (first last : ℕ) (earlier : List ℕ) → AreEarlier first last earlier → (t : ℕ) (xs : List ℕ)
-    → IsFallingBelow t xs → IsWithin first last xs → IsFree earlier xs → (n : ℕ) → ((s : ℕ) → first ≤ s → standing earlier s ≡ 0 → s < t → free_number first earlier s < n) → IsFallingBelow n (map (free_number first earlier) xs)
+    → IsFallingBelow t xs → IsWithin first last xs → AreFreeSquares earlier xs → (n : ℕ) → ((s : ℕ) → first ≤ s → standing earlier s ≡ 0 → s < t → free_number first earlier s < n) → IsFallingBelow n (map (free_number first earlier) xs)
 falling_free first last earlier h t [] fall within free n top = tt
 falling_free first last earlier h t (x ∷ xs) fall within free n top =
     (top x within.0 free.0 fall.0, falling_free first last earlier h x xs fall.1 within.2 free.1 (free_number first earlier x) (λ s a b c. free_later first last earlier h s x a b c))
@@ -94,7 +94,7 @@ free_set_below first last earlier h xs f =
     let e : choose (last - first - length earlier) (length (map (free_number first earlier) xs)) ≡ choose (last - first - length earlier) (length xs) = ap (choose (last - first - length earlier)) (length-map xs (free_number first earlier)) in
     omega (arith, n, e)
 
-mapped_later : (first last : ℕ) (earlier : List ℕ) → AreEarlier first last earlier → (xs ys : List ℕ) → IsWithin first last xs → IsFree earlier xs → IsLater xs ys
+mapped_later : (first last : ℕ) (earlier : List ℕ) → AreEarlier first last earlier → (xs ys : List ℕ) → IsWithin first last xs → AreFreeSquares earlier xs → IsLater xs ys
     → IsLater (map (free_number first earlier) xs) (map (free_number first earlier) ys)
 mapped_later first last earlier h [] [] within free later = absurd (never_later later)
 mapped_later first last earlier h [] (y ∷ ys) within free later = absurd (later_nil _ later)

@@ -3,7 +3,7 @@ use Rattle.std.proofs.Common.{◌≡◌, ◌≢◌, ℕ, zero, suc, ◌+◌, ◌
 use Rattle.std.specs.Prelude.{nat_lt, filter, Option, Some, None}
 use Rattle.std.proofs.lemmas.Bool.{cases_lt, cases_eq, cases_Bool, eq-eqb, ne_eqb, lt-ltb, le-ltb, false≢true}
 use Rattle.std.proofs.lemmas.Nat.{mul-add-lt, same_from_place}
-use Rattle.place_index.specs.Shape.{product, factor_at, given, is_free, upto, places, Layout, HasGoodOrder, places_of, second_of, both_have_pawns, groups_of}
+use Rattle.place_index.specs.Shape.{product, factor_at, places_given, is_free, upto, places, Layout, HasGoodOrder, places_of, second_of, both_have_pawns, groups_of}
 use Rattle.place_index.specs.Index.{sum_of_products}
 use Rattle.place_index.proofs.Shapes.Products.{product_cons, product_nil, factor_below, factor_above, factor_none}
 
@@ -232,20 +232,20 @@ unfolding upto
 upto_distinct zero = tt
 upto_distinct (suc n) = distinct_push n (upto n) (upto_distinct n) (upto_under n)
 
-order_taken : (order : ℕ) (second : Option ℕ) → is_free (given order second) order ≡ false
+order_taken : (order : ℕ) (second : Option ℕ) → is_free (places_given order second) order ≡ false
 order_taken order None = rw (eq-eqb order order refl) refl
 order_taken order (Some second) = rw (eq-eqb order order refl) refl
 
-second_taken : (order second : ℕ) → is_free (given order (Some second)) second ≡ false
+second_taken : (order second : ℕ) → is_free (places_given order (Some second)) second ≡ false
 second_taken order second = elim (cases_Bool (eqb order second)) [ inl t ↦ rw t refl | inr f ↦ rw (f, eq-eqb second second refl) refl ]
 
-places_distinct : (order : ℕ) (second : Option ℕ) (n : ℕ) → ((s : ℕ) → second ≡ Some s → s ≢ order) → AreDistinct (places (given order second) n)
+places_distinct : (order : ℕ) (second : Option ℕ) (n : ℕ) → ((s : ℕ) → second ≡ Some s → s ≢ order) → AreDistinct (places (places_given order second) n)
 unfolding places
 places_distinct order None n ne = (apart_filter _ order (upto n) (order_taken order None), distinct_filter _ (upto n) (upto_distinct n))
 places_distinct order (Some second) n ne =
     ((ne second refl, apart_filter _ order (upto n) (order_taken order (Some second))), (apart_filter _ second (upto n) (second_taken order second), distinct_filter _ (upto n) (upto_distinct n)))
 
-places_under : (order : ℕ) (second : Option ℕ) (n : ℕ) → order < n → ((s : ℕ) → second ≡ Some s → s < n) → AreUnder n (places (given order second) n)
+places_under : (order : ℕ) (second : Option ℕ) (n : ℕ) → order < n → ((s : ℕ) → second ≡ Some s → s < n) → AreUnder n (places (places_given order second) n)
 unfolding places
 places_under order None n lt few = (lt, under_filter _ n (upto n) (upto_under n))
 places_under order (Some second) n lt few = (lt, (few second refl, under_filter _ n (upto n) (upto_under n)))

@@ -7,7 +7,7 @@ use Rattle.place_index.specs.Men.{squares_of, square_of}
 use Rattle.place_index.specs.Three.{three_number}
 use Rattle.place_index.specs.Kings.{kings_number}
 use Rattle.place_index.specs.Pawns.{pawn_number, pawn_square, pawn_numbers_of, pawns_before, pawns_number}
-use Rattle.place_index.specs.Shape.{Layout, has_pawns, has_unique, lead_code, lead_men, lead_size, other_sizes, other_groups, sizes_of, places_of, factors_of, factor_at, runs, groups_of, size_of, is_pawn, second_of}
+use Rattle.place_index.specs.Shape.{Layout, has_pawns, has_unique, lead_code, lead_men, lead_size, other_sizes, other_groups, group_sizes, places_of, factors_of, factor_at, runs, groups_of, size_of, is_pawn_code, second_of}
 use Rattle.place_index.specs.Turning.{turned, turned_pawns, turned_pieces, lead_file}
 use Rattle.place_index.specs.Index.{lead_codes, lead_number, lead_pawns_number, squares_of_all, other_numbers, numbers_of, sum_of_products, index_of, IsPlacement, IsShape, IndicesAreOne}
 use Rattle.place_index.specs.declared.man.Man.{Man}
@@ -98,7 +98,7 @@ others_size : (l : Layout) (men : List Man) → IsShape l → has_pawns l.materi
 others_size l men s pawned a =
     omega (arith, ap length a.numbers, numbers_size l.material men (lead_code l.material) a.placed (lead_is_pawn l.material), lead_count l.material, lead_by_pawns l.material pawned)
 
-pawns_case_below : (l : Layout) (men : List Man) → IsShape l → has_pawns l.material ≡ true → ArePawns l.material men (lead_code l.material) l.file → AreBelow (sizes_of l) (numbers_of l men)
+pawns_case_below : (l : Layout) (men : List Man) → IsShape l → has_pawns l.material ≡ true → ArePawns l.material men (lead_code l.material) l.file → AreBelow (group_sizes l) (numbers_of l men)
 pawns_case_below l men s pawned a =
     let key = l.material in
     let h = settled l.material men a.placed in
@@ -153,7 +153,7 @@ pub record LeadsThree (l : Layout) : Type 1 where
   pub codes : lead_codes l ≡ a ∷ b ∷ c ∷ []
   pub groups : other_groups l.material l.pieces ≡ runs tail
   pub grouped : AreGrouped l.pieces (a ∷ b ∷ c ∷ []) tail
-  pub afterwards : AllGroups (λ c. is_pawn c ≡ false) (runs tail)
+  pub afterwards : AllGroups (λ c. is_pawn_code c ≡ false) (runs tail)
 
 pub leads_three : (l : Layout) → IsShape l → has_pawns l.material ≡ false → has_unique l.material ≡ true → LeadsThree l
 leads_three l s plain unique =
@@ -183,7 +183,7 @@ leads_three l s plain unique =
       codes = codes_by_pieces l plain ∙ ap (λ n. take n l.pieces) lead ∙ ap (take 3) p.4;
       groups = ap (λ n. runs (drop n l.pieces)) lead ∙ ap runs tail-is;
       grouped = subst (λ xs. AreGrouped xs (p.0 ∷ p.1 ∷ p.2 ∷ []) p.3) (sym p.4) (three_grouped p.0 p.1 p.2 p.3 (subst IsSided p.4 (sided l.pieces s.pieces.side_by_side)) different);
-      afterwards = subst (λ xs. AllGroups (λ c. is_pawn c ≡ false) (runs xs)) tail-is (plain_tail l.material 3 l.pieces (no_pawns_are l.material plain) (same_counts l s));
+      afterwards = subst (λ xs. AllGroups (λ c. is_pawn_code c ≡ false) (runs xs)) tail-is (plain_tail l.material 3 l.pieces (no_pawns_are l.material plain) (same_counts l s));
     }
 
 three_are : (l : Layout) (men : List Man) → IsShape l → (t : LeadsThree l) → IsPlacement l.material men → AreThree l.material (turned l men) t.a t.b t.c
@@ -208,7 +208,7 @@ three_number_is l men t u =
 three_squares : (men : List Man) (a b c s0 s1 s2 : ℕ) → IsAlone men a s0 → IsAlone men b s1 → IsAlone men c s2 → squares_of_all men (a ∷ b ∷ c ∷ []) ≡ s0 ∷ s1 ∷ s2 ∷ []
 three_squares men a b c s0 s1 s2 x y z = rw (squares_of_alone men a s0 x, squares_of_alone men b s1 y, squares_of_alone men c s2 z) refl
 
-three_case_below : (l : Layout) (men : List Man) → IsShape l → (t : LeadsThree l) → AreThree l.material men t.a t.b t.c → AreBelow (sizes_of l) (numbers_of l men)
+three_case_below : (l : Layout) (men : List Man) → IsShape l → (t : LeadsThree l) → AreThree l.material men t.a t.b t.c → AreBelow (group_sizes l) (numbers_of l men)
 three_case_below l men s t u =
     let h = settled l.material men u.placed in
     let lead : lead_men l.material ≡ 3 = lead_others l.material t.plain ∙ ap (λ u. cond {A = ℕ} u 3 2) t.unique in
@@ -258,7 +258,7 @@ pub record LeadKings (l : Layout) : Type 1 where
   pub codes : lead_codes l ≡ a ∷ b ∷ []
   pub groups : other_groups l.material l.pieces ≡ runs tail
   pub grouped : AreGrouped l.pieces (a ∷ b ∷ []) tail
-  pub afterwards : AllGroups (λ c. is_pawn c ≡ false) (runs tail)
+  pub afterwards : AllGroups (λ c. is_pawn_code c ≡ false) (runs tail)
 
 king_counts : (key a b : ℕ) → key < 145 → ((a ≡ 6) × (b ≡ 14)) ⊎ ((a ≡ 14) × (b ≡ 6)) → (count_of (pieces_of key) a ≡ 1) × (count_of (pieces_of key) b ≡ 1)
 king_counts key a b lt kings =
@@ -292,7 +292,7 @@ lead_kings l s plain common =
       codes = codes_by_pieces l plain ∙ ap (λ n. take n l.pieces) lead ∙ ap (take 2) p.3;
       groups = ap (λ n. runs (drop n l.pieces)) lead ∙ ap runs tail-is;
       grouped = subst (λ xs. AreGrouped xs (p.0 ∷ p.1 ∷ []) p.2) (sym p.3) (two_grouped p.0 p.1 p.2 (subst IsSided p.3 (sided l.pieces s.pieces.side_by_side)) different);
-      afterwards = subst (λ xs. AllGroups (λ c. is_pawn c ≡ false) (runs xs)) tail-is (plain_tail l.material 2 l.pieces (no_pawns_are l.material plain) (same_counts l s));
+      afterwards = subst (λ xs. AllGroups (λ c. is_pawn_code c ≡ false) (runs xs)) tail-is (plain_tail l.material 2 l.pieces (no_pawns_are l.material plain) (same_counts l s));
     }
 
 pub two_are : (l : Layout) (men : List Man) → IsShape l → (t : LeadKings l) → IsPlacement l.material men → AreTwo l.material (turned l men) t.a t.b
@@ -314,7 +314,7 @@ kings_number_is l men t u =
 two_squares : (men : List Man) (a b s0 s1 : ℕ) → IsAlone men a s0 → IsAlone men b s1 → squares_of_all men (a ∷ b ∷ []) ≡ s0 ∷ s1 ∷ []
 two_squares men a b s0 s1 x y = rw (squares_of_alone men a s0 x, squares_of_alone men b s1 y) refl
 
-kings_case_below : (l : Layout) (men : List Man) → IsShape l → (t : LeadKings l) → AreTwo l.material men t.a t.b → AreBelow (sizes_of l) (numbers_of l men)
+kings_case_below : (l : Layout) (men : List Man) → IsShape l → (t : LeadKings l) → AreTwo l.material men t.a t.b → AreBelow (group_sizes l) (numbers_of l men)
 kings_case_below l men s t u =
     let h = settled l.material men u.placed in
     let lead : lead_men l.material ≡ 2 = lead_others l.material t.plain ∙ ap (λ u. cond {A = ℕ} u 3 2) t.common in
@@ -355,7 +355,7 @@ turned_placement l men s p file =
       ]
     ]
 
-pub all_below : (l : Layout) (men : List Man) → IsShape l → IsPlacement l.material men → lead_file l.material men ≡ l.file → AreBelow (sizes_of l) (numbers_of l (turned l men))
+pub all_below : (l : Layout) (men : List Man) → IsShape l → IsPlacement l.material men → lead_file l.material men ≡ l.file → AreBelow (group_sizes l) (numbers_of l (turned l men))
 all_below l men s p file =
     elim (cases_Bool (has_pawns l.material)) [
       | inl pawned ↦ pawns_case_below l (turned l men) s pawned (pawns_are l men s pawned p file)
@@ -387,10 +387,10 @@ places_size l s = placed_length l.order (second_of l) (length (groups_of l)) s.o
     let b = second_is l.material l.second x is in
     (omega (arith, b.1, (s.order.second b.0).0), λ same. (s.order.second b.0).1 (b.1 ∙ same)))
 
-places_length : (l : Layout) → IsShape l → length (places_of l) ≡ length (sizes_of l)
+places_length : (l : Layout) → IsShape l → length (places_of l) ≡ length (group_sizes l)
 places_length l s = places_size l s ∙ ap suc (sym (sizes_length (lead_men l.material) (64 - lead_men l.material) (other_groups l.material l.pieces)))
 
-index_sum : (l : Layout) (men : List Man) → index_of l men ≡ sum_of_products (numbers_of l (turned l men)) (map (factor_at (places_of l) (sizes_of l)) (places_of l))
+index_sum : (l : Layout) (men : List Man) → index_of l men ≡ sum_of_products (numbers_of l (turned l men)) (map (factor_at (places_of l) (group_sizes l)) (places_of l))
 unfolding index_of
 index_sum l men = refl
 
@@ -402,10 +402,10 @@ numbers_length codes men (g ∷ gs) = ap suc (numbers_length (g.code ∷ codes) 
 pub products_length : (l : Layout) (men : List Man) → IsShape l → length (numbers_of l men) ≡ length (factors_of l)
 products_length l men s =
     ap length (numbers_are l men) ∙ ap suc (numbers_length (lead_codes l) men (other_groups l.material l.pieces)) ∙ sym (places_size l s)
-    ∙ sym (length-map (places_of l) (factor_at (places_of l) (sizes_of l)))
+    ∙ sym (length-map (places_of l) (factor_at (places_of l) (group_sizes l)))
 
 pub factors_size : (l : Layout) → IsShape l → length (factors_of l) ≡ length (groups_of l)
-factors_size l s = length-map (places_of l) (factor_at (places_of l) (sizes_of l)) ∙ places_size l s
+factors_size l s = length-map (places_of l) (factor_at (places_of l) (group_sizes l)) ∙ places_size l s
 
 pub index_products : (l : Layout) (men : List Man) → sum_of_products (numbers_of l (turned l men)) (factors_of l) ≡ index_of l men
 unfolding index_of
@@ -413,13 +413,13 @@ index_products l men = refl
 
 pub index_below : (l : Layout) (men : List Man) → IsShape l → IsPlacement l.material men → lead_file l.material men ≡ l.file → index_of l men < size_of l
 index_below l men s p file =
-    omega (arith, index_sum l men, sum_below (places_of l) (sizes_of l) (numbers_of l (turned l men)) (length (groups_of l)) (places_length l s) (layout_distinct l s.order) (layout_under l s.order) (all_below l men s p file))
+    omega (arith, index_sum l men, sum_below (places_of l) (group_sizes l) (numbers_of l (turned l men)) (length (groups_of l)) (places_length l s) (layout_distinct l s.order) (layout_under l s.order) (all_below l men s p file))
 
 index_one : (l : Layout) (one other : List Man) → IsShape l → IsPlacement l.material one → IsPlacement l.material other → lead_file l.material one ≡ l.file → lead_file l.material other ≡ l.file
     → index_of l one ≡ index_of l other → (c : ℕ) → squares_of (turned l one) c ≡ squares_of (turned l other) c
 index_one l one other s p q fp fq e =
     all_one l one other s p q fp fq
-    (sum_one (places_of l) (sizes_of l) (numbers_of l (turned l one)) (numbers_of l (turned l other)) (length (groups_of l)) (places_length l s) (layout_distinct l s.order) (layout_under l s.order)
+    (sum_one (places_of l) (group_sizes l) (numbers_of l (turned l one)) (numbers_of l (turned l other)) (length (groups_of l)) (places_length l s) (layout_distinct l s.order) (layout_under l s.order)
     (all_below l one s p fp) (all_below l other s q fq) (sym (index_sum l one) ∙ e ∙ index_sum l other))
 
 pub indices_are_one : IndicesAreOne

@@ -4,9 +4,9 @@ use Rattle.std.proofs.lemmas.Bool.{cases_Bool}
 use Rattle.place_index.specs.Material.{pieces_of, count_of}
 use Rattle.place_index.specs.Choose.{choose, IsFallingBelow}
 use Rattle.place_index.specs.Men.{stands, squares_of}
-use Rattle.place_index.specs.Kings.{apart}
-use Rattle.place_index.specs.Others.{standing, free_set_number, IsWithin, IsFree, AreEarlier, IsFreeSet}
-use Rattle.place_index.specs.Shape.{is_pawn, other_sizes}
+use Rattle.place_index.specs.Kings.{kings_apart}
+use Rattle.place_index.specs.Others.{standing, free_set_number, IsWithin, AreFreeSquares, AreEarlier, IsFreeSet}
+use Rattle.place_index.specs.Shape.{is_pawn_code, other_sizes}
 use Rattle.place_index.specs.Index.{squares_of_all, other_numbers}
 use Rattle.place_index.specs.declared.group.Group.{Group}
 use Rattle.place_index.specs.declared.man.Man.{Man}
@@ -20,8 +20,8 @@ pub record IsSettled (key : ℕ) (men : List Man) : Type 0 where
   pub board : (c s : ℕ) → stands men c s ≡ true → s < 64
   pub once : (c d s : ℕ) → stands men c s ≡ true → stands men d s ≡ true → c ≡ d
   pub counts : (c : ℕ) → length (squares_of men c) ≡ count_of (pieces_of key) c
-  pub pawns : (c s : ℕ) → is_pawn c ≡ true → stands men c s ≡ true → (8 ≤ s) × (s < 56)
-  pub kings : (a b : ℕ) → stands men 6 a ≡ true → stands men 14 b ≡ true → IsTrue (apart a b)
+  pub pawns : (c s : ℕ) → is_pawn_code c ≡ true → stands men c s ≡ true → (8 ≤ s) × (s < 56)
+  pub kings : (a b : ℕ) → stands men 6 a ≡ true → stands men 14 b ≡ true → IsTrue (kings_apart a b)
 
 -- ---- squares of one code
 
@@ -33,7 +33,7 @@ pub squares_within : (first last : ℕ) (men : List Man) (c : ℕ) → ((s : ℕ
 unfolding squares_of
 squares_within first last men c all = falling_within first last (stands men c) 64 all
 
-squares_free : (earlier : List ℕ) (men : List Man) (c : ℕ) → ((s : ℕ) → s < 64 → stands men c s ≡ true → standing earlier s ≡ 0) → IsFree earlier (squares_of men c)
+squares_free : (earlier : List ℕ) (men : List Man) (c : ℕ) → ((s : ℕ) → s < 64 → stands men c s ≡ true → standing earlier s ≡ 0) → AreFreeSquares earlier (squares_of men c)
 unfolding squares_of
 squares_free earlier men c all = falling_free earlier (stands men c) 64 all
 
@@ -114,13 +114,13 @@ is_free_set key men codes c h a = record {
 one_code : (first last : ℕ) (men : List Man) (c : ℕ) → IsWithin first last (squares_of men c) → IsWithin first last (squares_of_all men (c ∷ []))
 one_code first last men c w = within_append first last (squares_of men c) [] w tt
 
-pub are_earlier_pawns : (key : ℕ) (men : List Man) (c : ℕ) → IsSettled key men → is_pawn c ≡ true → AreEarlier 8 56 (squares_of_all men (c ∷ []))
+pub are_earlier_pawns : (key : ℕ) (men : List Man) (c : ℕ) → IsSettled key men → is_pawn_code c ≡ true → AreEarlier 8 56 (squares_of_all men (c ∷ []))
 are_earlier_pawns key men c h pawn = record {
   once = λ s. earlier_once key men (c ∷ []) s h (tt, tt);
   within = one_code 8 56 men c (squares_within 8 56 men c (λ s lt is. h.pawns c s pawn is));
 }
 
-pub is_free_pawn_set : (key : ℕ) (men : List Man) (codes : List ℕ) (c : ℕ) → IsSettled key men → IsApart c codes → is_pawn c ≡ true → IsFreeSet 8 56 (squares_of_all men codes) (squares_of men c)
+pub is_free_pawn_set : (key : ℕ) (men : List Man) (codes : List ℕ) (c : ℕ) → IsSettled key men → IsApart c codes → is_pawn_code c ≡ true → IsFreeSet 8 56 (squares_of_all men codes) (squares_of men c)
 is_free_pawn_set key men codes c h a pawn = record {
   falling = falls_within 8 56 64 (squares_of men c) (squares_fall men c) (squares_within 8 56 men c (λ s lt is. h.pawns c s pawn is));
   within = squares_within 8 56 men c (λ s lt is. h.pawns c s pawn is);
@@ -129,20 +129,20 @@ is_free_pawn_set key men codes c h a pawn = record {
 
 -- ---- the numbers of groups without pawns
 
-sizes_cons : (lead free : ℕ) (g : Group) (gs : List Group) → is_pawn g.code ≡ false → other_sizes lead free (g ∷ gs) ≡ choose free g.men ∷ other_sizes lead (free - g.men) gs
+sizes_cons : (lead free : ℕ) (g : Group) (gs : List Group) → is_pawn_code g.code ≡ false → other_sizes lead free (g ∷ gs) ≡ choose free g.men ∷ other_sizes lead (free - g.men) gs
 unfolding other_sizes
 sizes_cons lead free g gs e = rw e refl
 
-sizes_pawns : (lead free : ℕ) (g : Group) (gs : List Group) → is_pawn g.code ≡ true → other_sizes lead free (g ∷ gs) ≡ choose (48 - lead) g.men ∷ other_sizes lead (free - g.men) gs
+sizes_pawns : (lead free : ℕ) (g : Group) (gs : List Group) → is_pawn_code g.code ≡ true → other_sizes lead free (g ∷ gs) ≡ choose (48 - lead) g.men ∷ other_sizes lead (free - g.men) gs
 unfolding other_sizes
 sizes_pawns lead free g gs e = rw e refl
 
-pub numbers_cons : (earlier : List ℕ) (men : List Man) (g : Group) (gs : List Group) → is_pawn g.code ≡ false
+pub numbers_cons : (earlier : List ℕ) (men : List Man) (g : Group) (gs : List Group) → is_pawn_code g.code ≡ false
     → other_numbers earlier men (g ∷ gs) ≡ free_set_number 0 (squares_of_all men earlier) (squares_of men g.code) ∷ other_numbers (g.code ∷ earlier) men gs
 unfolding other_numbers
 numbers_cons earlier men g gs e = ap (λ b. free_set_number (cond {A = ℕ} b 8 0) (squares_of_all men earlier) (squares_of men g.code) ∷ other_numbers (g.code ∷ earlier) men gs) e
 
-pub numbers_pawns : (earlier : List ℕ) (men : List Man) (g : Group) (gs : List Group) → is_pawn g.code ≡ true
+pub numbers_pawns : (earlier : List ℕ) (men : List Man) (g : Group) (gs : List Group) → is_pawn_code g.code ≡ true
     → other_numbers earlier men (g ∷ gs) ≡ free_set_number 8 (squares_of_all men earlier) (squares_of men g.code) ∷ other_numbers (g.code ∷ earlier) men gs
 unfolding other_numbers
 numbers_pawns earlier men g gs e = ap (λ b. free_set_number (cond {A = ℕ} b 8 0) (squares_of_all men earlier) (squares_of men g.code) ∷ other_numbers (g.code ∷ earlier) men gs) e
@@ -161,7 +161,7 @@ group_size : (key : ℕ) (men : List Man) (pieces : List ℕ) (g : Group) → Is
 group_size key men pieces g h same is = h.counts g.code ∙ sym (same g.code) ∙ sym is
 
 pub numbers_below : (key lead free : ℕ) (men : List Man) (pieces earlier : List ℕ) (gs : List Group) → IsSettled key men → ((c : ℕ) → count_of pieces c ≡ count_of (pieces_of key) c)
-    → AreGroups pieces earlier gs → AreDistinct earlier → AllGroups (λ c. is_pawn c ≡ false) gs → free ≡ 64 - length (squares_of_all men earlier)
+    → AreGroups pieces earlier gs → AreDistinct earlier → AllGroups (λ c. is_pawn_code c ≡ false) gs → free ≡ 64 - length (squares_of_all men earlier)
     → AreBelow (other_sizes lead free gs) (other_numbers earlier men gs)
 numbers_below key lead free men pieces earlier [] h same a d plain is = rw (sizes_nil lead free, numbers_nil earlier men) tt
 numbers_below key lead free men pieces earlier (g ∷ gs) h same a d plain is =
@@ -176,7 +176,7 @@ same_lists : (x y : ℕ) (xs ys : List ℕ) → x ∷ xs ≡ y ∷ ys → (x ≡
 same_lists x y xs ys e = (cc, cc)
 
 pub numbers_one : (key : ℕ) (one other : List Man) (pieces earlier : List ℕ) (gs : List Group) → IsSettled key one → IsSettled key other
-    → AreGroups pieces earlier gs → AreDistinct earlier → AllGroups (λ c. is_pawn c ≡ false) gs → squares_of_all one earlier ≡ squares_of_all other earlier
+    → AreGroups pieces earlier gs → AreDistinct earlier → AllGroups (λ c. is_pawn_code c ≡ false) gs → squares_of_all one earlier ≡ squares_of_all other earlier
     → other_numbers earlier one gs ≡ other_numbers earlier other gs → AllGroups (λ c. squares_of one c ≡ squares_of other c) gs
 numbers_one key one other pieces earlier [] h k a d plain same e = tt
 numbers_one key one other pieces earlier (g ∷ gs) h k a d plain same e =
@@ -194,15 +194,15 @@ numbers_one key one other pieces earlier (g ∷ gs) h k a d plain same e =
 
 abbrev pub PawnsFirst : ℕ → List Group → Type 0
 PawnsFirst c [] = Unit {0}
-PawnsFirst c (g ∷ gs) = (is_pawn g.code ≡ true → is_pawn c ≡ true) × AllGroups (λ c. is_pawn c ≡ false) gs
+PawnsFirst c (g ∷ gs) = (is_pawn_code g.code ≡ true → is_pawn_code c ≡ true) × AllGroups (λ c. is_pawn_code c ≡ false) gs
 
 pub pawn_numbers_below : (key lead free c : ℕ) (men : List Man) (pieces : List ℕ) (gs : List Group) → IsSettled key men → ((c : ℕ) → count_of pieces c ≡ count_of (pieces_of key) c)
-    → AreGroups pieces (c ∷ []) gs → is_pawn c ≡ true → PawnsFirst c gs → lead ≡ length (squares_of men c) → free ≡ 64 - lead
+    → AreGroups pieces (c ∷ []) gs → is_pawn_code c ≡ true → PawnsFirst c gs → lead ≡ length (squares_of men c) → free ≡ 64 - lead
     → AreBelow (other_sizes lead free gs) (other_numbers (c ∷ []) men gs)
 pawn_numbers_below key lead free c men pieces [] h same a pawn first lead-is free-is = rw (sizes_nil lead free, numbers_nil (c ∷ []) men) tt
 pawn_numbers_below key lead free c men pieces (g ∷ gs) h same a pawn first lead-is free-is =
     let all : length (squares_of_all men (c ∷ [])) ≡ length (squares_of men c) = omega (arith, length-append (squares_of men c) []) in
-    elim (cases_Bool (is_pawn g.code)) [
+    elim (cases_Bool (is_pawn_code g.code)) [
       | inr plain ↦ numbers_below key lead free men pieces (c ∷ []) (g ∷ gs) h same a (tt, tt) (plain, first.1) (omega (arith, free-is, lead-is, all))
       | inl other ↦
           let size = group_size key men pieces g h same a.0 in
@@ -217,12 +217,12 @@ pawn_numbers_below key lead free c men pieces (g ∷ gs) h same a pawn first lea
     ]
 
 pub pawn_numbers_one : (key c : ℕ) (one other : List Man) (pieces : List ℕ) (gs : List Group) → IsSettled key one → IsSettled key other
-    → AreGroups pieces (c ∷ []) gs → is_pawn c ≡ true → PawnsFirst c gs → squares_of one c ≡ squares_of other c
+    → AreGroups pieces (c ∷ []) gs → is_pawn_code c ≡ true → PawnsFirst c gs → squares_of one c ≡ squares_of other c
     → other_numbers (c ∷ []) one gs ≡ other_numbers (c ∷ []) other gs → AllGroups (λ c. squares_of one c ≡ squares_of other c) gs
 pawn_numbers_one key c one other pieces [] h k a pawn first same e = tt
 pawn_numbers_one key c one other pieces (g ∷ gs) h k a pawn first same e =
     let all : squares_of_all one (c ∷ []) ≡ squares_of_all other (c ∷ []) = ap (λ l. l ++ []) same in
-    elim (cases_Bool (is_pawn g.code)) [
+    elim (cases_Bool (is_pawn_code g.code)) [
       | inr plain ↦ numbers_one key one other pieces (c ∷ []) (g ∷ gs) h k a (tt, tt) (plain, first.1) all e
       | inl pawns ↦
           let parts = same_lists _ _ _ _ (sym (numbers_pawns (c ∷ []) one g gs pawns) ∙ e ∙ numbers_pawns (c ∷ []) other g gs pawns) in

@@ -19,9 +19,9 @@ use Rattle.board_core.specs.Side.{other}
 use Rattle.board_core.specs.Sides.{IsOccupied}
 use Rattle.place_index.specs.Square.{file, rank, bottom_top}
 use Rattle.place_index.specs.Men.{man, codes_of, stands, other_side, exchanged}
-use Rattle.place_index.specs.Kings.{apart}
+use Rattle.place_index.specs.Kings.{kings_apart}
 use Rattle.place_index.specs.Index.{AreAlone, IsPlacement}
-use Rattle.place_index.specs.Placed.{is_black, kind_code, code_of, men_from, men_on, IsNamed}
+use Rattle.place_index.specs.Placed.{is_black, kind_code, code_of_man, men_from, men_on, IsNamed}
 use Rattle.place_index.specs.declared.man.Man.{Man}
 use Rattle.place_index.proofs.Turns.Board.{stands_nil, stands_here, stands_later, stands_cases, bottom_top_mirrors}
 use Rattle.place_index.proofs.Turns.TurnedPieces.{apart_back}
@@ -34,13 +34,13 @@ pub record IsManOn (board : List (Option Piece)) (k c s : ℕ) : Type 0 where
   pub after : k ≤ s
   pub within : s < k + length board
   pub at : slice_index_or board (s - k) None ≡ Some piece
-  pub code : code_of piece ≡ c
+  pub code : code_of_man piece ≡ c
 
 pub men_none : (k : ℕ) (rest : List (Option Piece)) → men_from k (None ∷ rest) ≡ men_from (suc k) rest
 unfolding men_from
 men_none k rest = refl
 
-pub men_some : (k : ℕ) (piece : Piece) (rest : List (Option Piece)) → men_from k (Some piece ∷ rest) ≡ man (code_of piece) k ∷ men_from (suc k) rest
+pub men_some : (k : ℕ) (piece : Piece) (rest : List (Option Piece)) → men_from k (Some piece ∷ rest) ≡ man (code_of_man piece) k ∷ men_from (suc k) rest
 unfolding men_from
 men_some k piece rest = refl
 
@@ -57,7 +57,7 @@ pub man_on : (board : List (Option Piece)) (k c s : ℕ) → stands (men_from k 
 man_on [] k c s h = absurd (false≢true (sym (stands_nil c s) ∙ sym (ap (λ l. stands l c s) (men_nil k)) ∙ h))
 man_on (None ∷ board) k c s h = later_man None board k c s (man_on board (suc k) c s (sym (ap (λ l. stands l c s) (men_none k board)) ∙ h))
 man_on (Some piece ∷ board) k c s h =
-    elim (stands_cases (man (code_of piece) k) (men_from (suc k) board) c s (sym (ap (λ l. stands l c s) (men_some k piece board)) ∙ h)) [
+    elim (stands_cases (man (code_of_man piece) k) (men_from (suc k) board) c s (sym (ap (λ l. stands l c s) (men_some k piece board)) ∙ h)) [
       | inl first ↦
           let e : s - k ≡ 0 = omega (arith, first.1) in
           record { piece = piece; after = omega (arith, first.1); within = omega (arith, first.1); at = ap (λ i. slice_index_or (Some piece ∷ board) i None) e; code = first.0 }
@@ -103,7 +103,7 @@ pub record Has (board : List (Option Piece)) (c s : ℕ) : Type 0 where
   pub piece : Piece
   pub on_board : s < 64
   pub at : man_at board s ≡ Some piece
-  pub code : code_of piece ≡ c
+  pub code : code_of_man piece ≡ c
 
 pub has : (board : List (Option Piece)) (c s : ℕ) → length board ≡ 64 → stands (men_on board) c s ≡ true → Has board c s
 has board c s len h =
@@ -162,7 +162,7 @@ unfolding side_code
 code_black White kind e = absurd (omega (arith, e, (kind_range kind).1))
 code_black Black kind e = (refl, kind_king kind (omega (arith, e)))
 
-code_is : (piece : Piece) → code_of piece ≡ side_code piece.side piece.kind
+code_is : (piece : Piece) → code_of_man piece ≡ side_code piece.side piece.kind
 unfolding side_code
 code_is piece = refl
 
@@ -171,7 +171,7 @@ unfolding men_from
 codes_from k [] = refl
 codes_from k (None ∷ board) = codes_from (suc k) board
 codes_from k (Some piece ∷ board) =
-    and_from (ltb (code_of piece) 16) (list_all (λ c. ltb c 16) (codes_of (men_from (suc k) board))) (lt-ltb (code_of piece) 16 (rw (code_is piece) (code_range piece.side piece.kind)))
+    and_from (ltb (code_of_man piece) 16) (list_all (λ c. ltb c 16) (codes_of (men_from (suc k) board))) (lt-ltb (code_of_man piece) 16 (rw (code_is piece) (code_range piece.side piece.kind)))
     (codes_from (suc k) board)
 
 -- the codes of men on a board are all small
@@ -186,7 +186,7 @@ made piece side kind e f = ap (λ s. Some (record { side = s; kind = piece.kind 
 pub record Stood (board : List (Option Piece)) : Type 0 where
   pub squares : length board ≡ 64
   pub pawns : (s : ℕ) (side : Side) → s < 64 → man_at board s ≡ Some (record { side = side; kind = Pawn }) → (1 ≤ rank s) × (rank s ≤ 6)
-  pub kings : (a b : ℕ) → a < 64 → b < 64 → man_at board a ≡ Some (record { side = White; kind = King }) → man_at board b ≡ Some (record { side = Black; kind = King }) → IsTrue (apart a b)
+  pub kings : (a b : ℕ) → a < 64 → b < 64 → man_at board a ≡ Some (record { side = White; kind = King }) → man_at board b ≡ Some (record { side = Black; kind = King }) → IsTrue (kings_apart a b)
 
 near : (a b : ℕ) → nat_lt (a + 1) b || nat_lt (b + 1) a ≡ false → (a ≤ b + 1) × (b ≤ a + 1)
 near a b e =
@@ -227,7 +227,7 @@ unfolding colour
 stood p q = record {
   squares = q.squares;
   pawns = λ s side lt at. let r = q.pawns s side lt at in (omega (arith, r.0), omega (arith, r.1));
-  kings = λ a b la lb wa kb. elim (cases_Bool (apart a b)) [
+  kings = λ a b la lb wa kb. elim (cases_Bool (kings_apart a b)) [
     | inl is ↦ is
     | inr isnt ↦
         let both = or_false _ _ isnt in
@@ -328,8 +328,8 @@ placement_of_exchanged key board q named = record {
       let d = code_black m.piece.side m.piece.kind (elim (other_is v.before 6 (omega (arith, sm, im)) v.code) [ inl e ↦ absurd (omega (arith, e.1)) | inr e ↦ omega (arith, e.0, e.1, im) ]) in
       let l = code_white n.piece.side n.piece.kind (elim (other_is w.before 14 (omega (arith, sn, in1)) w.code) [ inl e ↦ omega (arith, e.1, in1) | inr e ↦ absurd (omega (arith, e.0, e.1, sn, in1)) ]) in
       let far-apart = q.kings w.from v.from n.on_board m.on_board (n.at ∙ made n.piece White King l.0 l.1) (m.at ∙ made m.piece Black King d.0 d.1) in
-      let moved : apart (bottom_top v.from) (bottom_top w.from) ≡ true = bottom_top_mirrors.apart v.from w.from m.on_board n.on_board ∙ sym (apart_back v.from w.from m.on_board n.on_board) ∙ far-apart in
-      subst (λ y. apart a y ≡ true) w.square (subst (λ x. apart x (bottom_top w.from) ≡ true) v.square moved);
+      let moved : kings_apart (bottom_top v.from) (bottom_top w.from) ≡ true = bottom_top_mirrors.apart v.from w.from m.on_board n.on_board ∙ sym (apart_back v.from w.from m.on_board n.on_board) ∙ far-apart in
+      subst (λ y. kings_apart a y ≡ true) w.square (subst (λ x. kings_apart x (bottom_top w.from) ≡ true) v.square moved);
 }
 
 -- ---- the sweep
@@ -389,16 +389,16 @@ swept_to board next set square items len w lt here first =
     skip_to board next square at.0 (omega (arith, lt, len)) (λ u a b. none_of (man_at board u) (λ t. zero_one _ (first u b) ((w.rest u (omega (arith, lt, b)) a).1 t)))
 
 pub swept_item : (board : List (Option Piece)) (next set square : ℕ) (items : List Man) (piece : Piece) → length board ≡ 64 → IsSwept board next set items → square < 64 → bit_at set square ≡ 1 → ((s : ℕ) → s < square → bit_at set s ≡ 0)
-    → man_at board square ≡ Some piece → items ++ man (code_of piece) square ∷ men_from (square + 1) (drop (square + 1) board) ≡ men_on board
+    → man_at board square ≡ Some piece → items ++ man (code_of_man piece) square ∷ men_from (square + 1) (drop (square + 1) board) ≡ men_on board
 swept_item board next set square items piece len w lt here first e =
     let up : suc square ≡ square + 1 = omega arith in
-    let split : men_from square (drop square board) ≡ man (code_of piece) square ∷ men_from (square + 1) (drop (square + 1) board) =
+    let split : men_from square (drop square board) ≡ man (code_of_man piece) square ∷ men_from (square + 1) (drop (square + 1) board) =
     ap (men_from square) (drop_more board square None (omega (arith, lt, len)) ∙ ap (λ x. x ∷ drop (square + 1) board) e) ∙ men_some square piece (drop (square + 1) board)
-    ∙ ap (λ n. man (code_of piece) square ∷ men_from n (drop (square + 1) board)) up in
+    ∙ ap (λ n. man (code_of_man piece) square ∷ men_from n (drop (square + 1) board)) up in
     ap (λ l. items ++ l) (sym (swept_to board next set square items len w lt here first ∙ split)) ∙ w.is
 
 pub swept_next : (board : List (Option Piece)) (next set square set2 : ℕ) (items more : List Man) (piece : Piece) → length board ≡ 64 → IsSwept board next set items → square < 64 → bit_at set square ≡ 1 → ((s : ℕ) → s < square → bit_at set s ≡ 0)
-    → bit_at set2 square ≡ 0 → ((s : ℕ) → s < 64 → s ≢ square → bit_at set2 s ≡ bit_at set s) → man_at board square ≡ Some piece → more ≡ items ++ man (code_of piece) square ∷ [] → IsSwept board (square + 1) set2 more
+    → bit_at set2 square ≡ 0 → ((s : ℕ) → s < 64 → s ≢ square → bit_at set2 s ≡ bit_at set s) → man_at board square ≡ Some piece → more ≡ items ++ man (code_of_man piece) square ∷ [] → IsSwept board (square + 1) set2 more
 swept_next board next set square set2 items more piece len w lt here first gone kept e m =
     let at = swept_here board next set square items w lt here in
     record {
@@ -411,7 +411,7 @@ swept_next board next set square set2 items more piece len w lt here first gone 
           let same = kept s below (λ x. omega (arith, x, le)) in
           let r = w.rest s below (omega (arith, le, at.0)) in
           ((λ t. r.0 (sym same ∙ t)), (λ t. same ∙ r.1 t));
-      is = ap (λ l. l ++ men_from (square + 1) (drop (square + 1) board)) m ∙ append_assoc items (man (code_of piece) square ∷ []) (men_from (square + 1) (drop (square + 1) board))
+      is = ap (λ l. l ++ men_from (square + 1) (drop (square + 1) board)) m ∙ append_assoc items (man (code_of_man piece) square ∷ []) (men_from (square + 1) (drop (square + 1) board))
           ∙ swept_item board next set square items piece len w lt here first e;
     }
 

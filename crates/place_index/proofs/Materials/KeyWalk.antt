@@ -4,7 +4,7 @@ use Rattle.std.specs.Prelude.{slice_index_or, not, nat_lt, ◌==◌, ◌&&◌, �
 use Rattle.std.specs.List.{list_any}
 use Rattle.std.proofs.lemmas.Bool.{and_parts}
 use Rattle.place_index.specs.Material.{Men, tables, alone, men_of, pieces_of, count_of}
-use Rattle.place_index.specs.Shape.{is_king}
+use Rattle.place_index.specs.Shape.{is_king_code}
 
 -- A test of each key and its men. The list of the tables is made once, and not once a key.
 
@@ -66,7 +66,7 @@ unfoldable pub other_pawns_in : List ℕ → ℕ
 other_pawns_in ps = cond (black_leads_in ps) (white_in ps) (black_in ps)
 
 unfoldable pub unique_in : List ℕ → Bool
-unique_in ps = list_any (λ c. not (is_king c) && count_of ps c == 1) ps
+unique_in ps = list_any (λ c. not (is_king_code c) && count_of ps c == 1) ps
 
 unfoldable pub lead_men_in : List ℕ → ℕ
 lead_men_in ps = cond (pawns_in ps) (lead_pawns_in ps) (cond (unique_in ps) 3 2)

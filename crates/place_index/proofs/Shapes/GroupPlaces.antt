@@ -4,7 +4,7 @@ use Rattle.std.specs.Prelude.{filter, ◌||◌}
 use Rattle.std.specs.List.{list_any}
 use Rattle.std.specs.Option.{ForSome}
 use Rattle.std.proofs.lemmas.Bool.{cases_lt, cases_Bool, eq-eqb, eqb-true, lt-ltb, le-ltb, not-true, not-false, or_cases, false≢true}
-use Rattle.place_index.specs.Shape.{given, is_free, upto, places}
+use Rattle.place_index.specs.Shape.{places_given, is_free, upto, places}
 
 pub upto_next : (n : ℕ) → upto (n + 1) ≡ upto n ++ n ∷ []
 unfolding upto
@@ -39,7 +39,7 @@ ahead_some (Some a) p = ahead a p
 
 -- The given places stand first, then the free ones below p.
 pub record IsPlaced (order : ℕ) (second : Option ℕ) (p : ℕ) (items : List ℕ) : Type 0 where
-  pub is : items ≡ given order second ++ filter (is_free (given order second)) (upto p)
+  pub is : items ≡ places_given order second ++ filter (is_free (places_given order second)) (upto p)
   pub size : length items ≡ p + (ahead order p + ahead_some second p)
 
 ahead_none : (a : ℕ) → ahead a 0 ≡ 1
@@ -48,7 +48,7 @@ ahead_none a = rw (le-ltb a 0 (least a)) refl
     least : (a : ℕ) → 0 ≤ a
     least a = omega arith
 
-pub placed_none : (order : ℕ) (second : Option ℕ) → IsPlaced order second 0 (given order second)
+pub placed_none : (order : ℕ) (second : Option ℕ) → IsPlaced order second 0 (places_given order second)
 unfolding upto ahead_some
 placed_none order None = record { is = refl; size = omega (arith, ahead_none order) }
 placed_none order (Some second) = record { is = refl; size = omega (arith, ahead_none order, ahead_none second) }
@@ -75,7 +75,7 @@ ahead_here p = rw (lt-ltb p (p + 1) (one_up p), le-ltb p p (same p)) refl
     same : (n : ℕ) → n ≤ n
     same n = omega arith
 
-pub free_order : (order : ℕ) (second : Option ℕ) (p : ℕ) → is_free (given order second) p ≡ true → order ≢ p
+pub free_order : (order : ℕ) (second : Option ℕ) (p : ℕ) → is_free (places_given order second) p ≡ true → order ≢ p
 free_order order None p free e = false≢true (sym (not-true _ free) ∙ taken)
   where
     taken : list_any (λ q. eqb q p) (order ∷ []) ≡ true
@@ -85,28 +85,28 @@ free_order order (Some second) p free e = false≢true (sym (not-true _ free) �
     taken : list_any (λ q. eqb q p) (order ∷ second ∷ []) ≡ true
     taken = rw (eq-eqb order p e) refl
 
-pub free_second : (order second p : ℕ) → is_free (given order (Some second)) p ≡ true → second ≢ p
+pub free_second : (order second p : ℕ) → is_free (places_given order (Some second)) p ≡ true → second ≢ p
 free_second order second p free e = false≢true (sym (not-true _ free) ∙ taken (eqb order p))
   where
     taken : (b : Bool) → (b || (eqb second p || false)) ≡ true
     taken true = refl
     taken false = rw (eq-eqb second p e) refl
 
-ahead_some_same : (order : ℕ) (second : Option ℕ) (p : ℕ) → is_free (given order second) p ≡ true → ahead_some second (p + 1) ≡ ahead_some second p
+ahead_some_same : (order : ℕ) (second : Option ℕ) (p : ℕ) → is_free (places_given order second) p ≡ true → ahead_some second (p + 1) ≡ ahead_some second p
 unfolding ahead_some
 ahead_some_same order None p free = refl
 ahead_some_same order (Some second) p free = ahead_same second p (free_second order second p free)
 
-pub placed_free : (order : ℕ) (second : Option ℕ) (p : ℕ) (items : List ℕ) → IsPlaced order second p items → is_free (given order second) p ≡ true → IsPlaced order second (p + 1) (items ++ p ∷ [])
+pub placed_free : (order : ℕ) (second : Option ℕ) (p : ℕ) (items : List ℕ) → IsPlaced order second p items → is_free (places_given order second) p ≡ true → IsPlaced order second (p + 1) (items ++ p ∷ [])
 placed_free order second p items s free =
     record {
-      is = ap (λ l. l ++ p ∷ []) s.is ∙ append_assoc (given order second) (filter (is_free (given order second)) (upto p)) (p ∷ [])
-          ∙ ap (λ l. given order second ++ l) (sym (keeps (is_free (given order second)) (upto p) p free))
-          ∙ ap (λ l. given order second ++ filter (is_free (given order second)) l) (sym (upto_next p));
+      is = ap (λ l. l ++ p ∷ []) s.is ∙ append_assoc (places_given order second) (filter (is_free (places_given order second)) (upto p)) (p ∷ [])
+          ∙ ap (λ l. places_given order second ++ l) (sym (keeps (is_free (places_given order second)) (upto p) p free))
+          ∙ ap (λ l. places_given order second ++ filter (is_free (places_given order second)) l) (sym (upto_next p));
       size = omega (arith, length-append items (p ∷ []), s.size, ahead_same order p (free_order order second p free), ahead_some_same order second p free);
     }
 
-taken_size : (order : ℕ) (second : Option ℕ) (p : ℕ) → ForSome second (λ s. s ≡ order → ⊥) → is_free (given order second) p ≡ false → ahead order p + ahead_some second p ≡ 1 + (ahead order (p + 1) + ahead_some second (p + 1))
+taken_size : (order : ℕ) (second : Option ℕ) (p : ℕ) → ForSome second (λ s. s ≡ order → ⊥) → is_free (places_given order second) p ≡ false → ahead order p + ahead_some second p ≡ 1 + (ahead order (p + 1) + ahead_some second (p + 1))
 unfolding ahead_some
 taken_size order None p apart taken =
     elim (or_cases (eqb order p) false (not-false _ taken)) [
@@ -126,18 +126,18 @@ taken_size order (Some second) p apart taken =
       ]
     ]
 
-pub placed_taken : (order : ℕ) (second : Option ℕ) (p : ℕ) (items : List ℕ) → ForSome second (λ s. s ≡ order → ⊥) → IsPlaced order second p items → is_free (given order second) p ≡ false → IsPlaced order second (p + 1) items
+pub placed_taken : (order : ℕ) (second : Option ℕ) (p : ℕ) (items : List ℕ) → ForSome second (λ s. s ≡ order → ⊥) → IsPlaced order second p items → is_free (places_given order second) p ≡ false → IsPlaced order second (p + 1) items
 placed_taken order second p items apart s taken =
     record {
-      is = s.is ∙ ap (λ l. given order second ++ l) (sym (drops (is_free (given order second)) (upto p) p taken))
-          ∙ ap (λ l. given order second ++ filter (is_free (given order second)) l) (sym (upto_next p));
+      is = s.is ∙ ap (λ l. places_given order second ++ l) (sym (drops (is_free (places_given order second)) (upto p) p taken))
+          ∙ ap (λ l. places_given order second ++ filter (is_free (places_given order second)) l) (sym (upto_next p));
       size = omega (arith, s.size, taken_size order second p apart taken);
     }
 
 -- all places are given out
-pub placed_all : (order : ℕ) (second : Option ℕ) (n p : ℕ) (items : List ℕ) → IsPlaced order second p items → p ≡ n → items ≡ places (given order second) n
+pub placed_all : (order : ℕ) (second : Option ℕ) (n p : ℕ) (items : List ℕ) → IsPlaced order second p items → p ≡ n → items ≡ places (places_given order second) n
 unfolding places
-placed_all order second n p items s e = s.is ∙ ap (λ m. given order second ++ filter (is_free (given order second)) (upto m)) e
+placed_all order second n p items s e = s.is ∙ ap (λ m. places_given order second ++ filter (is_free (places_given order second)) (upto m)) e
 
 ahead_past : (a n : ℕ) → a < n → ahead a n ≡ 0
 ahead_past a n lt = rw (lt-ltb a n lt) refl
@@ -167,7 +167,7 @@ both_most a b p n aa bb apart pa pb within =
     ]
 
 pub placed_room : (order : ℕ) (second : Option ℕ) (p n : ℕ) (items : List ℕ) → order < n → ForSome second (λ s. (s < n) × (s ≡ order → ⊥)) → IsPlaced order second p items
-    → is_free (given order second) p ≡ true → p < n → length items < n
+    → is_free (places_given order second) p ≡ true → p < n → length items < n
 unfolding ahead_some
 placed_room order None p n items first others s free within = omega (arith, s.size, ahead_most order p n first (free_order order None p free) within)
 placed_room order (Some second) p n items first others s free within =
@@ -175,16 +175,16 @@ placed_room order (Some second) p n items first others s free within =
 
 -- the places by walking up to n
 walked : (order : ℕ) (second : Option ℕ) (p : ℕ) → ForSome second (λ s. s ≡ order → ⊥) → (items : List ℕ) × IsPlaced order second p items
-walked order second zero apart = (given order second, placed_none order second)
+walked order second zero apart = (places_given order second, placed_none order second)
 walked order second (suc p) apart =
     let rest = walked order second p apart in
     let e : p + 1 ≡ suc p = omega arith in
-    elim (cases_Bool (is_free (given order second) p)) [
+    elim (cases_Bool (is_free (places_given order second) p)) [
       | inl free ↦ (rest.0 ++ p ∷ [], subst (λ n. IsPlaced order second n (rest.0 ++ p ∷ [])) e (placed_free order second p rest.0 rest.1 free))
       | inr taken ↦ (rest.0, subst (λ n. IsPlaced order second n rest.0) e (placed_taken order second p rest.0 apart rest.1 taken))
     ]
 
-pub placed_length : (order : ℕ) (second : Option ℕ) (n : ℕ) → order < n → ForSome second (λ s. (s < n) × (s ≡ order → ⊥)) → length (places (given order second) n) ≡ n
+pub placed_length : (order : ℕ) (second : Option ℕ) (n : ℕ) → order < n → ForSome second (λ s. (s < n) × (s ≡ order → ⊥)) → length (places (places_given order second) n) ≡ n
 placed_length order second n first others =
     let w = walked order second n (λ s is. (others s is).1) in
     ap length (sym (placed_all order second n n w.0 w.1 refl)) ∙ placed_size order second n n w.0 first others w.1 refl

@@ -2,7 +2,7 @@
 use Rattle.std.proofs.Common.{◌≡◌, ◌≢◌, ℕ, zero, suc, ◌<◌, ◌≤◌, ◌⊎◌, eqb, List, [], ◌∷◌, length, drop, get_or, refl, sym, ap, ◌∙◌, subst, inl, inr, arith}
 use Rattle.std.proofs.lemmas.Bool.{cases_lt, cases_eq, cases_Bool, eq-eqb, ne_eqb}
 use Rattle.place_index.specs.Material.{count_of}
-use Rattle.place_index.specs.Shape.{joined, runs, IsSideBySide}
+use Rattle.place_index.specs.Shape.{joined_to_groups, runs, IsSideBySide}
 use Rattle.place_index.specs.declared.group.Group.{Group}
 use Rattle.place_index.proofs.Materials.Arranging.{count_nil, count_hit, count_miss}
 use Rattle.place_index.proofs.Indices.Factors.{IsApart}
@@ -25,11 +25,11 @@ pub groups_map : (P Q : ℕ → Type 0) (gs : List Group) → ((x : ℕ) → P x
 groups_map P Q [] f a = tt
 groups_map P Q (g ∷ gs) f a = (f g.code a.0, groups_map P Q gs f a.1)
 
-joined_all : (P : ℕ → Type 0) (x : ℕ) (gs : List Group) → P x → AllGroups P gs → AllGroups P (joined x gs)
+joined_all : (P : ℕ → Type 0) (x : ℕ) (gs : List Group) → P x → AllGroups P gs → AllGroups P (joined_to_groups x gs)
 joined_all P x [] p a = (p, tt)
 joined_all P x (g ∷ gs) p a = elim (cases_Bool (eqb x g.code)) [ inl t ↦ rw t (p, a.1) | inr f ↦ rw f (p, a) ]
 
-all_joined : (P : ℕ → Type 0) (x : ℕ) (gs : List Group) → AllGroups P (joined x gs) → P x × AllGroups P gs
+all_joined : (P : ℕ → Type 0) (x : ℕ) (gs : List Group) → AllGroups P (joined_to_groups x gs) → P x × AllGroups P gs
 all_joined P x [] a = (a.0, tt)
 all_joined P x (g ∷ gs) a =
     elim (cases_eq x g.code) [
@@ -116,7 +116,7 @@ abbrev pub begins : ℕ → List Group → Type 0
 begins x [] = ⊥
 begins x (g ∷ gs) = g.code ≡ x
 
-joined_begins : (x : ℕ) (gs : List Group) → begins x (joined x gs)
+joined_begins : (x : ℕ) (gs : List Group) → begins x (joined_to_groups x gs)
 joined_begins x [] = refl
 joined_begins x (g ∷ gs) = elim (cases_Bool (eqb x g.code)) [ inl t ↦ rw t refl | inr f ↦ rw f refl ]
 
@@ -124,13 +124,13 @@ pub runs_begin : (x : ℕ) (xs : List ℕ) → begins x (runs (x ∷ xs))
 unfolding runs
 runs_begin x xs = joined_begins x (runs xs)
 
-goes_on : (x : ℕ) (xs : List ℕ) (gs : List Group) → begins x gs → AreRuns xs gs → AreRuns (x ∷ xs) (joined x gs)
+goes_on : (x : ℕ) (xs : List ℕ) (gs : List Group) → begins x gs → AreRuns xs gs → AreRuns (x ∷ xs) (joined_to_groups x gs)
 goes_on x xs [] b r = absurd b
 goes_on x xs (g ∷ gs) b r =
     let others = rw b at r.1 in
     rw (eq-eqb x g.code (sym b)) (omega (arith, r.0, ap (count_of xs) b, count_hit x xs), others, more_runs x xs gs others r.2)
 
-starts_new : (x : ℕ) (xs : List ℕ) (gs : List Group) → count_of xs x ≡ 0 → AllGroups (λ c. c ≢ x) gs → AreRuns xs gs → AreRuns (x ∷ xs) (joined x gs)
+starts_new : (x : ℕ) (xs : List ℕ) (gs : List Group) → count_of xs x ≡ 0 → AllGroups (λ c. c ≢ x) gs → AreRuns xs gs → AreRuns (x ∷ xs) (joined_to_groups x gs)
 starts_new x xs [] none a r = (omega (arith, none, count_hit x xs), tt, tt)
 starts_new x xs (g ∷ gs) none a r =
     rw (ne_eqb x g.code (λ e. a.0 (sym e))) (omega (arith, none, count_hit x xs), a, more_runs x xs (g ∷ gs) a r)

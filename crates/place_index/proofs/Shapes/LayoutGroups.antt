@@ -3,7 +3,7 @@ use Rattle.std.proofs.Common.{◌≡◌, ◌≢◌, ℕ, zero, suc, ◌+◌, ◌
 use Rattle.std.specs.Prelude.{◌&&◌}
 use Rattle.std.proofs.lemmas.Bool.{cases_Bool, eqb-true, or_cases, not-false, false≢true}
 use Rattle.place_index.specs.Material.{pieces_of, count_of, white_pawns, black_pawns}
-use Rattle.place_index.specs.Shape.{HasGoodPieces, runs, has_pawns, black_leads, lead_code, other_code, lead_pawns, other_pawns, lead_men, is_pawn}
+use Rattle.place_index.specs.Shape.{HasGoodPieces, runs, has_pawns, black_leads, lead_code, other_code, lead_pawns, other_pawns, lead_men, is_pawn_code}
 use Rattle.place_index.specs.declared.group.Group.{Group}
 use Rattle.place_index.proofs.Materials.Arranging.{count_cons, count_nil, count_hit, count_miss, count_append, count_arranged}
 use Rattle.place_index.proofs.Shapes.Beginning.{lead_by_pawns}
@@ -17,7 +17,7 @@ use Rattle.place_index.proofs.Turns.TurnedPieces.{HasNoPawns}
 
 -- ---- the material
 
-pub pawn_codes : (c : ℕ) → is_pawn c ≡ true → (c ≡ 1) ⊎ (c ≡ 9)
+pub pawn_codes : (c : ℕ) → is_pawn_code c ≡ true → (c ≡ 1) ⊎ (c ≡ 9)
 pawn_codes c h =
     elim (or_cases (eqb c 1) (eqb c 9) h) [
       | inl one ↦ inl (eqb-true c 1 one)
@@ -32,7 +32,7 @@ no_pawns_are key none c pawn =
       | inr e ↦ rw e (omega (arith, sum))
     ]
 
-pub lead_is_pawn : (key : ℕ) → is_pawn (lead_code key) ≡ true
+pub lead_is_pawn : (key : ℕ) → is_pawn_code (lead_code key) ≡ true
 unfolding lead_code
 lead_is_pawn key = elim (cases_Bool (black_leads key)) [ inl t ↦ rw t refl | inr f ↦ rw f refl ]
 
@@ -44,7 +44,7 @@ other_count : (key : ℕ) → count_of (pieces_of key) (other_code key) ≡ othe
 unfolding other_code other_pawns
 other_count key = elim (cases_Bool (black_leads key)) [ inl t ↦ rw t refl | inr f ↦ rw f refl ]
 
-other_pawn : (key c : ℕ) → is_pawn c ≡ true → c ≢ lead_code key → c ≡ other_code key
+other_pawn : (key c : ℕ) → is_pawn_code c ≡ true → c ≢ lead_code key → c ≡ other_code key
 unfolding lead_code other_code
 other_pawn key c pawn ne =
     elim (cases_Bool (black_leads key)) [
@@ -168,10 +168,10 @@ two_grouped a b tail s h = record {
 -- ---- no pawns after these
 
 pub plain_groups : (key : ℕ) (pieces lead tail : List ℕ) → HasNoPawns key → ((c : ℕ) → count_of pieces c ≡ count_of (pieces_of key) c) → ((d : ℕ) → 1 ≤ count_of tail d → count_of pieces d ≡ count_of tail d)
-    → AllGroups (λ c. is_pawn c ≡ false) (runs tail)
+    → AllGroups (λ c. is_pawn_code c ≡ false) (runs tail)
 plain_groups key pieces lead tail none same more =
-    runs_all (λ c. is_pawn c ≡ false) tail (all_found (λ c. is_pawn c ≡ false) tail (λ d some.
-    elim (cases_Bool (is_pawn d)) [
+    runs_all (λ c. is_pawn_code c ≡ false) tail (all_found (λ c. is_pawn_code c ≡ false) tail (λ d some.
+    elim (cases_Bool (is_pawn_code d)) [
       | inl pawn ↦ absurd (omega (arith, some, more d some, same d, none d pawn))
       | inr plain ↦ plain
     ]))
@@ -180,10 +180,10 @@ plain_groups key pieces lead tail none same more =
 pub tail_less : (n : ℕ) (pieces : List ℕ) (d : ℕ) → count_of (drop n pieces) d ≤ count_of pieces d
 tail_less n pieces d = omega (arith, count_parts n pieces d)
 
-pub plain_tail : (key n : ℕ) (pieces : List ℕ) → HasNoPawns key → ((c : ℕ) → count_of pieces c ≡ count_of (pieces_of key) c) → AllGroups (λ c. is_pawn c ≡ false) (runs (drop n pieces))
+pub plain_tail : (key n : ℕ) (pieces : List ℕ) → HasNoPawns key → ((c : ℕ) → count_of pieces c ≡ count_of (pieces_of key) c) → AllGroups (λ c. is_pawn_code c ≡ false) (runs (drop n pieces))
 plain_tail key n pieces none same =
-    runs_all (λ c. is_pawn c ≡ false) (drop n pieces) (all_found (λ c. is_pawn c ≡ false) (drop n pieces) (λ d some.
-    elim (cases_Bool (is_pawn d)) [
+    runs_all (λ c. is_pawn_code c ≡ false) (drop n pieces) (all_found (λ c. is_pawn_code c ≡ false) (drop n pieces) (λ d some.
+    elim (cases_Bool (is_pawn_code d)) [
       | inl pawn ↦ absurd (omega (arith, some, tail_less n pieces d, same d, none d pawn))
       | inr plain ↦ plain
     ]))
@@ -224,14 +224,14 @@ pub record ArePawnGroups (key : ℕ) (pieces : List ℕ) : Type 1 where
   pub first : PawnsFirst (lead_code key) (runs (drop (lead_men key) pieces))
 
 rest_plain : (key : ℕ) (pieces tail : List ℕ) (gs : List Group) → AreRuns tail gs → AllGroups (λ d. (d ≢ lead_code key) × (1 ≤ count_of pieces d)) gs
-    → ((d : ℕ) → is_pawn d ≡ true → d ≢ lead_code key → 1 ≤ count_of pieces d → begins d gs) → PawnsFirst (lead_code key) gs
+    → ((d : ℕ) → is_pawn_code d ≡ true → d ≢ lead_code key → 1 ≤ count_of pieces d → begins d gs) → PawnsFirst (lead_code key) gs
 rest_plain key pieces tail [] r a f = tt
 rest_plain key pieces tail (g ∷ gs) r a f = ((λ _. lead_is_pawn key), plain gs a.1 r.1)
   where
-    plain : (hs : List Group) → AllGroups (λ d. (d ≢ lead_code key) × (1 ≤ count_of pieces d)) hs → AllGroups (λ d. d ≢ g.code) hs → AllGroups (λ d. is_pawn d ≡ false) hs
+    plain : (hs : List Group) → AllGroups (λ d. (d ≢ lead_code key) × (1 ≤ count_of pieces d)) hs → AllGroups (λ d. d ≢ g.code) hs → AllGroups (λ d. is_pawn_code d ≡ false) hs
     plain [] x y = tt
     plain (h ∷ hs) x y = (
-      elim (cases_Bool (is_pawn h.code)) [
+      elim (cases_Bool (is_pawn_code h.code)) [
         | inl pawn ↦ absurd (y.0 (sym (f h.code pawn x.0.0 x.0.1)))
         | inr isnt ↦ isnt
       ],
@@ -292,7 +292,7 @@ pawn_groups key pieces lt pawned good =
         all_append P (take (lead_men key) pieces) tail (all_map (λ x. x ≡ lead_code key) P (take (lead_men key) pieces) (λ x e. subst P (sym e) lead.0) front) (all_runs P tail gs) in
         all_at P c pieces (subst (AllOf P) (take_and_drop (lead_men key) pieces) all) some
 
-    begin : (d : ℕ) → is_pawn d ≡ true → d ≢ lead_code key → 1 ≤ count_of pieces d → (xs : List ℕ) → drop (lead_men key) pieces ≡ xs → begins d (runs xs)
+    begin : (d : ℕ) → is_pawn_code d ≡ true → d ≢ lead_code key → 1 ≤ count_of pieces d → (xs : List ℕ) → drop (lead_men key) pieces ≡ xs → begins d (runs xs)
     begin d pawn ne some [] e =
         let away : count_of (take (lead_men key) pieces) d ≡ 0 = count_apart d (take (lead_men key) pieces) (all_map (λ x. x ≡ lead_code key) (λ x. x ≢ d) (take (lead_men key) pieces) (λ x p f. ne (sym f ∙ p)) front) in
         absurd (omega (arith, some, count_parts (lead_men key) pieces d, away, ap (λ l. count_of l d) e, count_nil d))

@@ -4,7 +4,7 @@ use Rattle.std.specs.Prelude.{sum_by}
 use Rattle.std.proofs.lemmas.Bool.{cases_lt, cases_eq, eq-eqb, ne_eqb}
 use Rattle.std.proofs.lemmas.List.{drop_more, drop_all, append-nil}
 use Rattle.std.proofs.lemmas.List.Sums.{sum_by-cons}
-use Rattle.place_index.specs.Shape.{group, runs, joined}
+use Rattle.place_index.specs.Shape.{group, runs, joined_to_groups}
 use Rattle.place_index.specs.declared.group.Group.{Group}
 
 -- ---- forward, with how many equal pieces were before
@@ -48,7 +48,7 @@ record Starts (x : ℕ) (gs : List Group) : Type 0 where
   rest : List Group
   is : gs ≡ group x men ∷ rest
 
-starts_joined : (x : ℕ) (gs : List Group) → Starts x (joined x gs)
+starts_joined : (x : ℕ) (gs : List Group) → Starts x (joined_to_groups x gs)
 starts_joined x [] = record { men = 1; rest = []; is = refl }
 starts_joined x (g ∷ rest) =
     elim (cases_eq x g.code) [
@@ -73,18 +73,18 @@ forward before (x ∷ y ∷ rest) =
           let more : first.men + (before + 1) ≡ first.men + 1 + before = omega arith in
           goes_on before x y rest e ∙ forward (before + 1) (y ∷ rest) ∙ ap (raised (before + 1)) first.is
           ∙ ap (λ n. group y n ∷ first.rest) more ∙ ap (λ z. group z (first.men + 1 + before) ∷ first.rest) (sym e)
-          ∙ sym (ap (raised before) (ap (joined x) first.is ∙ join x y first.men first.rest e))
+          ∙ sym (ap (raised before) (ap (joined_to_groups x) first.is ∙ join x y first.men first.rest e))
       | inr ne ↦
           let more : before + 1 ≡ 1 + before = omega arith in
           stops before x y rest ne ∙ ap (λ l. group x (before + 1) ∷ l) (forward 0 (y ∷ rest) ∙ raised_none (runs (y ∷ rest)) ∙ first.is)
           ∙ ap (λ n. group x n ∷ group y first.men ∷ first.rest) more
-          ∙ sym (ap (raised before) (ap (joined x) first.is ∙ begin x y first.men first.rest ne))
+          ∙ sym (ap (raised before) (ap (joined_to_groups x) first.is ∙ begin x y first.men first.rest ne))
     ]
   where
-    join : (x y men : ℕ) (rest : List Group) → x ≡ y → joined x (group y men ∷ rest) ≡ group x (men + 1) ∷ rest
+    join : (x y men : ℕ) (rest : List Group) → x ≡ y → joined_to_groups x (group y men ∷ rest) ≡ group x (men + 1) ∷ rest
     join x y men rest e = rw (eq-eqb x y e) refl
 
-    begin : (x y men : ℕ) (rest : List Group) → x ≢ y → joined x (group y men ∷ rest) ≡ group x 1 ∷ group y men ∷ rest
+    begin : (x y men : ℕ) (rest : List Group) → x ≢ y → joined_to_groups x (group y men ∷ rest) ≡ group x 1 ∷ group y men ∷ rest
     begin x y men rest ne = rw (ne_eqb x y ne) refl
 
 pub runs_forward : (xs : List ℕ) → runs_from 0 xs ≡ runs xs

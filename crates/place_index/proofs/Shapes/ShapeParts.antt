@@ -2,7 +2,7 @@
 use Rattle.std.proofs.Common.{◌≡◌, ℕ, ◌-◌, ◌<◌, ◌≤◌, List, ◌∷◌, length, take, drop, slice_index, ap, ◌∙◌, arith, length-drop}
 use Rattle.std.specs.Prelude.{sum_by}
 use Rattle.std.proofs.lemmas.List.{take_rest}
-use Rattle.place_index.specs.Shape.{layout, HasGoodPieces, group, groups_of, other_groups, lead_men, lead_size, other_sizes, sizes_of}
+use Rattle.place_index.specs.Shape.{layout, HasGoodPieces, group, groups_of, other_groups, lead_men, lead_size, other_sizes, group_sizes}
 use Rattle.place_index.specs.declared.group.Group.{Group}
 use Rattle.place_index.proofs.Shapes.Greatest.{good_length, rest_men}
 use Rattle.place_index.proofs.Materials.MenTables.{men_most}
@@ -16,7 +16,7 @@ pub made_length : (slice : List Group) → length (take (length slice - 1) (drop
 made_length slice = ap length (take_rest slice 1) ∙ length-drop 1 slice
 
 pub made_sizes : (key lead order second file first : ℕ) (pieces : List ℕ) (slice : List Group) (sizes : List ℕ) → lead ≡ lead_men key → slice ≡ groups_of (layout key pieces order second file)
-    → first ≡ lead_size key file → sizes ≡ first ∷ other_sizes lead (64 - lead) (take (length slice - 1) (drop 1 slice)) → sizes ≡ sizes_of (layout key pieces order second file)
+    → first ≡ lead_size key file → sizes ≡ first ∷ other_sizes lead (64 - lead) (take (length slice - 1) (drop 1 slice)) → sizes ≡ group_sizes (layout key pieces order second file)
 made_sizes key lead order second file first pieces slice sizes lead-is slice-is first-is is =
     is ∙ ap (λ f. f ∷ other_sizes lead (64 - lead) (take (length slice - 1) (drop 1 slice))) first-is
     ∙ ap (λ l. lead_size key file ∷ other_sizes l (64 - l) (take (length slice - 1) (drop 1 slice))) lead-is

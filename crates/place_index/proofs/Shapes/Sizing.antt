@@ -6,7 +6,7 @@ use Rattle.std.proofs.lemmas.List.{drop_more, drop_all, append-nil}
 use Rattle.std.proofs.lemmas.List.Sums.{sum_by-cons, sum_by_more, sum_by_more_le}
 use Rattle.std.proofs.Math.Nat.{mul-le-mul_right, mul-le-mul_left}
 use Rattle.place_index.specs.Choose.{choose}
-use Rattle.place_index.specs.Shape.{product, other_sizes, is_pawn}
+use Rattle.place_index.specs.Shape.{product, other_sizes, is_pawn_code}
 use Rattle.place_index.specs.declared.group.Group.{Group}
 use Rattle.place_index.proofs.Counting.Choosing.{choose_none, choose_step, choose_some, choose_falling, falling, falling_none, falling_step}
 use Rattle.place_index.proofs.Shapes.Products.{product_cons, product_nil}
@@ -15,7 +15,7 @@ abbrev pub men : Group → ℕ
 men g = g.men
 
 abbrev pub squares_of : ℕ → ℕ → Group → ℕ
-squares_of lead free g = cond (is_pawn g.code) (48 - lead) free
+squares_of lead free g = cond (is_pawn_code g.code) (48 - lead) free
 
 pub other_cons : (lead free : ℕ) (g : Group) (rest : List Group) → other_sizes lead free (g ∷ rest) ≡ choose (squares_of lead free g) g.men ∷ other_sizes lead (free - g.men) rest
 unfolding other_sizes
@@ -27,7 +27,7 @@ other_nil lead free = refl
 
 pub squares_most : (lead free : ℕ) (g : Group) → 48 - lead ≤ free → squares_of lead free g ≤ free
 squares_most lead free g le =
-    elim (cases_Bool (is_pawn g.code)) [
+    elim (cases_Bool (is_pawn_code g.code)) [
       | inl t ↦ rw t le
       | inr f ↦ rw f (same free)
     ]
@@ -37,7 +37,7 @@ squares_most lead free g le =
 
 squares_least : (lead free : ℕ) (g : Group) → 48 - lead ≤ free → 48 - lead ≤ squares_of lead free g
 squares_least lead free g le =
-    elim (cases_Bool (is_pawn g.code)) [
+    elim (cases_Bool (is_pawn_code g.code)) [
       | inl t ↦ rw t (same (48 - lead))
       | inr f ↦ rw f le
     ]

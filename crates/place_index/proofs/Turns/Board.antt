@@ -7,9 +7,9 @@ use Rattle.place_index.specs.Square.{rank, left_right, bottom_top, across}
 use Rattle.place_index.specs.Material.{count_of, pieces_of}
 use Rattle.place_index.specs.Men.{man, codes_of, stands, falling, squares_of, moved}
 use Rattle.place_index.specs.Inside.ShortLists.{inserted}
-use Rattle.place_index.specs.Kings.{apart}
+use Rattle.place_index.specs.Kings.{kings_apart}
 use Rattle.place_index.specs.Choose.{IsFallingBelow}
-use Rattle.place_index.specs.Shape.{is_pawn}
+use Rattle.place_index.specs.Shape.{is_pawn_code}
 use Rattle.place_index.specs.Index.{AreAlone, IsPlacement}
 use Rattle.place_index.specs.declared.man.Man.{Man}
 use Rattle.place_index.proofs.Materials.Arranging.{count_nil, count_hit, count_miss, count_arranged}
@@ -148,7 +148,7 @@ settled key men p = record {
 pub record IsMirroring (f : ℕ → ℕ) : Type 0 where
   pub stays : (s : ℕ) → s < 64 → f s < 64
   pub back : (s : ℕ) → s < 64 → f (f s) ≡ s
-  pub apart : (a b : ℕ) → a < 64 → b < 64 → apart (f a) (f b) ≡ apart a b
+  pub apart : (a b : ℕ) → a < 64 → b < 64 → kings_apart (f a) (f b) ≡ kings_apart a b
 
 same_square : (f : ℕ → ℕ) → IsMirroring f → (s t : ℕ) → s < 64 → t < 64 → eqb (f s) t ≡ eqb s (f t)
 same_square f m s t ls lt =
@@ -184,7 +184,7 @@ codes_moved : (f : ℕ → ℕ) (men : List Man) → codes_of (moved f men) ≡ 
 codes_moved f [] = refl
 codes_moved f (x ∷ men) = ap (λ l. x.code ∷ l) (codes_moved f men)
 
-pub moved_placement : (f : ℕ → ℕ) (key : ℕ) (men : List Man) → IsMirroring f → ((c s : ℕ) → is_pawn c ≡ true → stands men c s ≡ true → (1 ≤ rank (f s)) × (rank (f s) ≤ 6)) → IsPlacement key men
+pub moved_placement : (f : ℕ → ℕ) (key : ℕ) (men : List Man) → IsMirroring f → ((c s : ℕ) → is_pawn_code c ≡ true → stands men c s ≡ true → (1 ≤ rank (f s)) × (rank (f s) ≤ 6)) → IsPlacement key men
     → IsPlacement key (moved f men)
 moved_placement f key men m pawns p =
     let board = moved_board f men m p.board in
@@ -204,21 +204,21 @@ moved_placement f key men m pawns p =
 
 -- ---- the three mirrorings
 
-apart_pair : (f : ℕ → ℕ) → (((i : ℕ) → i < 4096 → apart (f (i / 64)) (f (i % 64)) ≡ apart (i / 64) (i % 64))) → (a b : ℕ) → a < 64 → b < 64 → apart (f a) (f b) ≡ apart a b
+apart_pair : (f : ℕ → ℕ) → (((i : ℕ) → i < 4096 → kings_apart (f (i / 64)) (f (i % 64)) ≡ kings_apart (i / 64) (i % 64))) → (a b : ℕ) → a < 64 → b < 64 → kings_apart (f a) (f b) ≡ kings_apart a b
 apart_pair f all a b la lb =
     let x : (a * 64 + b) / 64 ≡ a = omega arith in
     let y : (a * 64 + b) % 64 ≡ b = omega arith in
     let h = all (a * 64 + b) (omega arith) in
     rw (x, y) at h
 
-left_right_apart : (i : ℕ) → i < 4096 → apart (left_right (i / 64)) (left_right (i % 64)) ≡ apart (i / 64) (i % 64)
-left_right_apart i lt = agree_below_at (λ i. apart (left_right (i / 64)) (left_right (i % 64))) (λ i. apart (i / 64) (i % 64)) 4096 i refl lt
+left_right_apart : (i : ℕ) → i < 4096 → kings_apart (left_right (i / 64)) (left_right (i % 64)) ≡ kings_apart (i / 64) (i % 64)
+left_right_apart i lt = agree_below_at (λ i. kings_apart (left_right (i / 64)) (left_right (i % 64))) (λ i. kings_apart (i / 64) (i % 64)) 4096 i refl lt
 
-bottom_top_apart : (i : ℕ) → i < 4096 → apart (bottom_top (i / 64)) (bottom_top (i % 64)) ≡ apart (i / 64) (i % 64)
-bottom_top_apart i lt = agree_below_at (λ i. apart (bottom_top (i / 64)) (bottom_top (i % 64))) (λ i. apart (i / 64) (i % 64)) 4096 i refl lt
+bottom_top_apart : (i : ℕ) → i < 4096 → kings_apart (bottom_top (i / 64)) (bottom_top (i % 64)) ≡ kings_apart (i / 64) (i % 64)
+bottom_top_apart i lt = agree_below_at (λ i. kings_apart (bottom_top (i / 64)) (bottom_top (i % 64))) (λ i. kings_apart (i / 64) (i % 64)) 4096 i refl lt
 
-across_apart : (i : ℕ) → i < 4096 → apart (across (i / 64)) (across (i % 64)) ≡ apart (i / 64) (i % 64)
-across_apart i lt = agree_below_at (λ i. apart (across (i / 64)) (across (i % 64))) (λ i. apart (i / 64) (i % 64)) 4096 i refl lt
+across_apart : (i : ℕ) → i < 4096 → kings_apart (across (i / 64)) (across (i % 64)) ≡ kings_apart (i / 64) (i % 64)
+across_apart i lt = agree_below_at (λ i. kings_apart (across (i / 64)) (across (i % 64))) (λ i. kings_apart (i / 64) (i % 64)) 4096 i refl lt
 
 pub left_right_mirrors : IsMirroring left_right
 left_right_mirrors = record { stays = λ s lt. omega arith; back = λ s lt. omega arith; apart = apart_pair left_right left_right_apart }

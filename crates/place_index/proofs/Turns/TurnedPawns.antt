@@ -8,7 +8,7 @@ use Rattle.place_index.specs.Material.{count_of, pieces_of}
 use Rattle.place_index.specs.Men.{codes_of, stands, falling, squares_of, moved}
 use Rattle.place_index.specs.Inside.ShortLists.{inserted}
 use Rattle.place_index.specs.Pawns.{pawn_number, pawn_square, pawn_numbers_of, AreTurnedPawns}
-use Rattle.place_index.specs.Shape.{has_pawns, is_pawn, lead_code}
+use Rattle.place_index.specs.Shape.{has_pawns, is_pawn_code, lead_code}
 use Rattle.place_index.specs.Turning.{lead_pawn, leftward, turned_pawns, lead_file}
 use Rattle.place_index.specs.Inside.Turns.{lead_square}
 use Rattle.place_index.specs.Index.{AreAlone, IsPlacement}
@@ -114,12 +114,12 @@ numbers_counted (m ∷ men) c a range =
       | inr ne ↦ omega (arith, ap length (numbers_still m men c ne), rest, count_miss m.code (codes_of men) c ne)
     ]
 
-pub numbers_size : (key : ℕ) (men : List Man) (c : ℕ) → IsPlacement key men → is_pawn c ≡ true → length (pawn_numbers_of men c) ≡ count_of (pieces_of key) c
+pub numbers_size : (key : ℕ) (men : List Man) (c : ℕ) → IsPlacement key men → is_pawn_code c ≡ true → length (pawn_numbers_of men c) ≡ count_of (pieces_of key) c
 numbers_size key men c p pawn =
     numbers_counted men c p.alone (λ s h. (settled key men p).pawns c s pawn h) ∙ count_arranged (codes_of men) (pieces_of key) c p.material
 
 -- equal numbers are equal squares
-pub squares_by_numbers : (key : ℕ) (one other : List Man) (c : ℕ) → IsSettled key one → IsSettled key other → is_pawn c ≡ true → pawn_numbers_of one c ≡ pawn_numbers_of other c → squares_of one c ≡ squares_of other c
+pub squares_by_numbers : (key : ℕ) (one other : List Man) (c : ℕ) → IsSettled key one → IsSettled key other → is_pawn_code c ≡ true → pawn_numbers_of one c ≡ pawn_numbers_of other c → squares_of one c ≡ squares_of other c
 squares_by_numbers key one other c h k pawn e =
     squares_same one other c (λ s lt. at s (cases_lt s 8) (cases_lt s 56))
   where
@@ -225,7 +225,7 @@ rank_opposite s lt = omega arith
 back_rank : (s : ℕ) → s < 64 → (1 ≤ rank s) × (rank s ≤ 6) → (1 ≤ rank (left_right s)) × (rank (left_right s) ≤ 6)
 back_rank s lt r = subst (λ k. (1 ≤ k) × (k ≤ 6)) (sym (rank_opposite s lt)) r
 
-mirrored_rank : (key : ℕ) (men : List Man) → IsPlacement key men → (c s : ℕ) → is_pawn c ≡ true → stands men c s ≡ true → (1 ≤ rank (left_right s)) × (rank (left_right s) ≤ 6)
+mirrored_rank : (key : ℕ) (men : List Man) → IsPlacement key men → (c s : ℕ) → is_pawn_code c ≡ true → stands men c s ≡ true → (1 ≤ rank (left_right s)) × (rank (left_right s) ≤ 6)
 mirrored_rank key men p c s pawn h = back_rank s (p.board c s h) (p.pawns c s pawn h)
 
 even_lead : (n : ℕ) → n < 48 → 4 ≤ file (pawn_square n) → n % 2 ≡ 0
@@ -266,7 +266,7 @@ mirrored_file : (n : ℕ) → n < 48 → n % 2 ≡ 0 → file (pawn_square (n + 
 mirrored_file n lt even =
     ap file (ap pawn_square (sym (mate_even n even)) ∙ sym (mate_square n lt)) ∙ file_opposite (pawn_square n) (omega (arith, (square_range n lt).1))
 
-pub turned_leading_pawns : (key : ℕ) (men : List Man) → has_pawns key ≡ true → is_pawn (lead_code key) ≡ true → 1 ≤ count_of (pieces_of key) (lead_code key) → IsPlacement key men
+pub turned_leading_pawns : (key : ℕ) (men : List Man) → has_pawns key ≡ true → is_pawn_code (lead_code key) ≡ true → 1 ≤ count_of (pieces_of key) (lead_code key) → IsPlacement key men
     → ArePawns key (turned_pawns key men) (lead_code key) (lead_file key men)
 turned_leading_pawns key men pawned pawn some p =
     let c = lead_code key in

@@ -6,9 +6,9 @@ use Rattle.place_index.specs.Square.{file, rank, on_diagonal, left_right, bottom
 use Rattle.place_index.specs.Men.{stands, squares_of, square_of, moved}
 use Rattle.place_index.specs.Turning.{leftward, downward, under, is_above, to_left, to_bottom, turned_pieces}
 use Rattle.place_index.specs.Three.{IsTurnedThree}
-use Rattle.place_index.specs.Kings.{apart, AreTurnedKings}
+use Rattle.place_index.specs.Kings.{kings_apart, AreTurnedKings}
 use Rattle.place_index.specs.Material.{count_of, pieces_of}
-use Rattle.place_index.specs.Shape.{is_pawn}
+use Rattle.place_index.specs.Shape.{is_pawn_code}
 use Rattle.place_index.specs.Index.{IsPlacement}
 use Rattle.place_index.specs.declared.man.Man.{Man}
 use Rattle.place_index.proofs.Counting.Falling.{falling_empty}
@@ -29,7 +29,7 @@ stands_nowhere key men c s h none is =
     false≢true (sym (falling_empty (stands men c) 64 s (empty_list (squares_of men c) (h.counts c ∙ none)) (h.board c s is)) ∙ is)
 
 abbrev pub HasNoPawns : ℕ → Type 0
-HasNoPawns key = (c : ℕ) → is_pawn c ≡ true → count_of (pieces_of key) c ≡ 0
+HasNoPawns key = (c : ℕ) → is_pawn_code c ≡ true → count_of (pieces_of key) c ≡ 0
 
 plain_moved : (f : ℕ → ℕ) (key : ℕ) (men : List Man) → IsMirroring f → HasNoPawns key → IsPlacement key men → IsPlacement key (moved f men)
 plain_moved f key men m none p = moved_placement f key men m (λ c s pawn h. absurd (stands_nowhere key men c s (settled key men p) (none c pawn) h)) p
@@ -296,10 +296,10 @@ pub record AreTwo (key : ℕ) (men : List Man) (a b : ℕ) : Type 0 where
   pub second : IsAlone men b s1
   pub turned : AreTurnedKings s0 s1
 
-apart_other : (i : ℕ) → i < 4096 → apart (i % 64) (i / 64) ≡ apart (i / 64) (i % 64)
-apart_other i lt = agree_below_at (λ i. apart (i % 64) (i / 64)) (λ i. apart (i / 64) (i % 64)) 4096 i refl lt
+apart_other : (i : ℕ) → i < 4096 → kings_apart (i % 64) (i / 64) ≡ kings_apart (i / 64) (i % 64)
+apart_other i lt = agree_below_at (λ i. kings_apart (i % 64) (i / 64)) (λ i. kings_apart (i / 64) (i % 64)) 4096 i refl lt
 
-pub apart_back : (a b : ℕ) → a < 64 → b < 64 → apart b a ≡ apart a b
+pub apart_back : (a b : ℕ) → a < 64 → b < 64 → kings_apart b a ≡ kings_apart a b
 apart_back a b la lb =
     let x : (a * 64 + b) / 64 ≡ a = omega arith in
     let y : (a * 64 + b) % 64 ≡ b = omega arith in

@@ -2,8 +2,8 @@
 use Rattle.std.specs.Prelude.{ℕ, ◌+◌, ◌*◌, List, [], ◌∷◌, length, slice_index, cond, ◌==◌}
 
 -- the place of a letter among Q R B N P
-abbrev pub rank_of : ℕ → ℕ
-rank_of b = cond (b == 81) 0 (cond (b == 82) 1 (cond (b == 66) 2 (cond (b == 78) 3 4)))
+abbrev pub letter_place : ℕ → ℕ
+letter_place b = cond (b == 81) 0 (cond (b == 82) 1 (cond (b == 66) 2 (cond (b == 78) 3 4)))
 
 -- the place of two letters among QQ, QR, .., PP
 abbrev pub pair_of : ℕ → ℕ → ℕ
@@ -15,7 +15,7 @@ triple_of i j k = slice_index (0 ∷ 10 ∷ 16 ∷ 19 ∷ 20 ∷ []) i + pair_of
 
 -- the rank of the letter at an index
 abbrev pub rank_at : List ℕ → ℕ → ℕ
-rank_at name i = rank_of (slice_index name i)
+rank_at name i = letter_place (slice_index name i)
 
 unfoldable pub key_by_name : List ℕ → ℕ
 key_by_name name =
