@@ -16,7 +16,7 @@ use Rattle.board_core.specs.Sets.{is_in, kind_or, man_by, man_on, men_shown, sho
 use Rattle.board_core.specs.Sides.{squares_where}
 use Rattle.board_core.proofs.SetBits.{bit_of, squares_where_bit}
 use Rattle.probe_api.specs.Afters.{BoardShowsItsPosition, board_of, is_kind, passed_number, rights_number, side_number}
-use Rattle.probe_api.specs.Boards.{passed_on, rights_on, sets_on, side_to_move}
+use Rattle.probe_api.specs.Boards.{rights_on, sets_on, side_to_move, square_or_none}
 
 -- ---- men
 
@@ -97,7 +97,7 @@ rights_told false false true false = refl
 rights_told false false false true = refl
 rights_told false false false false = refl
 
-passed_of_board : (p : Parts) → HasValidEnPassant p → (o : Option ℕ) → p.en_passant ≡ o → passed_on (passed_number o) ≡ o
+passed_of_board : (p : Parts) → HasValidEnPassant p → (o : Option ℕ) → p.en_passant ≡ o → square_or_none (passed_number o) ≡ o
 passed_of_board p valid None e = refl
 passed_of_board p valid (Some s) e = rw (lt-ltb s 64 (low p.side (valid s e).rank)) refl
   where

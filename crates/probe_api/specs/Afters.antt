@@ -68,14 +68,14 @@ abbrev pub BoardShowsItsPosition : Type 0
 BoardShowsItsPosition = (p : Parts) → IsPosition p → shown (board_of p) ≡ p
 
 -- a move that these numbers are is legal in the position or not
-pub record IsAfter (p : Parts) (m : Move) (status : ℕ) (new : Board) : Type 0 where
+pub record IsAfterMove (p : Parts) (m : Move) (status : ℕ) (new : Board) : Type 0 where
   pub legal : (q : Parts) → position_after p m ≡ Some q → (status ≡ 0) × (new ≡ board_of q)
   pub illegal : position_after p m ≡ None → status ≡ 86
 
 -- what playing a move on a board comes to: the board of the position after it; or the first fault of what the board shows, 85 where the
 -- numbers are no move, 86 where it isn't legal, in this order, and then the room stays as it was
 pub record TellsAfter (board : Board) (numbers : PlainMove) (old : Board) (status : ℕ) (new : Board) : Type 0 where
-  pub move : (m : Move) → IsPosition (shown board) → IsMoveOf numbers m → IsAfter (shown board) m status new
+  pub move : (m : Move) → IsPosition (shown board) → IsMoveOf numbers m → IsAfterMove (shown board) m status new
   pub none : IsPosition (shown board) → ((m : Move) → IsMoveOf numbers m → ⊥) → status ≡ 85
   pub fault : (fault : PositionFault) → IsFirstFault (shown board) fault → status ≡ position_status fault
   pub one : IsPosition (shown board) ⊎ ((fault : PositionFault) × IsFirstFault (shown board) fault)

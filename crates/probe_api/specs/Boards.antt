@@ -30,11 +30,11 @@ passed_when true n = Some n
 passed_when false n = None
 
 -- a square of the board, or none
-abbrev pub passed_on : ℕ → Option ℕ
-passed_on n = passed_when (nat_lt n 64) n
+abbrev pub square_or_none : ℕ → Option ℕ
+square_or_none n = passed_when (nat_lt n 64) n
 
 abbrev pub state_on : Board → State
-state_on b = record { side = side_to_move b.side; rights = rights_on b.rights; en_passant = passed_on b.passed; halfmove = b.halfmove; fullmove = b.fullmove }
+state_on b = record { side = side_to_move b.side; rights = rights_on b.rights; en_passant = square_or_none b.passed; halfmove = b.halfmove; fullmove = b.fullmove }
 
 -- the parts that a board shows
 abbrev pub shown : Board → Parts

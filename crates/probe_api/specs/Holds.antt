@@ -16,11 +16,11 @@ abbrev pub NamesNone : List ℕ → Type 0
 NamesNone name = (m : Men) → IsTable m → name_of m ≡ name → ⊥
 
 -- 0 for a WDL table, and every other number for a DTZ table
-abbrev pub kind_of : ℕ → TableKind
-kind_of n = if n == 0 then Wdl else Dtz
+abbrev pub numbered_kind : ℕ → TableKind
+numbered_kind n = if n == 0 then Wdl else Dtz
 
 -- whether the table of a kind that a text names is there; status 64 where it names none
 pub record TellsHas (tables : Tables) (kind : ℕ) (name : List ℕ) (reply : Reply) : Type 0 where
-  pub named : (key : ℕ) → key < 145 → name_of (men_of key) ≡ name → reply ≡ told (has_number tables (kind_of kind) key)
+  pub named : (key : ℕ) → key < 145 → name_of (men_of key) ≡ name → reply ≡ told (has_number tables (numbered_kind kind) key)
   pub none : NamesNone name → reply ≡ refused 64
   pub one : ((key : ℕ) × (key < 145) × (name_of (men_of key) ≡ name)) ⊎ NamesNone name

@@ -26,14 +26,14 @@ pub record IsMoveOf (numbers : PlainMove) (m : Move) : Type 0 where
   pub is : m ≡ record { from = numbers.from; to = numbers.to; promotion = promotion_at numbers.promotion }
 
 -- the count, where there is room for so many, and otherwise a status that tells how many there are
-abbrev pub counted : Bool → ℕ → Reply
-counted true n = told (pos n)
-counted false n = short (pos n)
+abbrev pub count_reply : Bool → ℕ → Reply
+count_reply true n = told (pos n)
+count_reply false n = short (pos n)
 
 -- the legal moves of a position are put at the front of the room, in order of from, to and promotion, where it has a place for each;
 -- otherwise, and where memory for a list was refused, the room stays as it was
 pub record PutsMoves (p : Parts) (old : List PlainMove) (reply : Reply) (new : List PlainMove) : Type 0 where
-  pub count : reply ≢ refused 5 → reply ≡ counted (nat_le (length (legal_moves p)) (length old)) (length (legal_moves p))
+  pub count : reply ≢ refused 5 → reply ≡ count_reply (nat_le (length (legal_moves p)) (length old)) (length (legal_moves p))
   pub written : reply.status ≡ 0 → new ≡ map plain_of (legal_moves p) ++ drop (length (legal_moves p)) old
   pub kept : reply.status ≢ 0 → new ≡ old
 

@@ -4,7 +4,7 @@ use Rattle.board_core.specs.Position.{fault_name as position_name}
 use Rattle.board_core.specs.Verdicts.{verdict_name as name_of_verdict}
 use Rattle.board_core.specs.declared.position.PositionFault.TheVariants.{BadKings, TooManyMen, PawnOnEdge, BadCastling, BadEnPassant, OpponentInCheck, BadCounter}
 use Rattle.board_core.specs.declared.verdict.Verdict.TheVariants.{WhiteMates, BlackMates, Stalemate, TableDraw, TableWhite, TableBlack, Stopped}
-use Rattle.fen_text.specs.Fen.{fault_name as text_name}
+use Rattle.fen_text.specs.Fen.{fen_fault_name as text_name}
 use Rattle.fen_text.specs.declared.fault.FenFault.TheVariants.{FieldCount, BadPlacement, BadSide, BadCastlingText, BadSquare, BadNumber}
 use Rattle.table_file.specs.Faults.{table_fault_name}
 use Rattle.table_file.specs.declared.fault.TableFault.TheVariants.{BadName, BadSize, BadMagic, BadFlags, BadPieces, BadOrder, Truncated, BadExponent, BadCode, BadSymbol, BadSparse}
@@ -41,5 +41,5 @@ verdict_names =
     (5, name_of_verdict TableWhite) ∷ (6, name_of_verdict TableBlack) ∷ (7, name_of_verdict Stopped) ∷ []
 
 -- the name of a verdict by its number, and nothing where none has it
-unfoldable pub verdict_name : ℕ → List ℕ
-verdict_name n = name_in verdict_names n
+unfoldable pub numbered_verdict_name : ℕ → List ℕ
+numbered_verdict_name n = name_in verdict_names n

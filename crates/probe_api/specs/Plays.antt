@@ -50,14 +50,14 @@ pub record Begins (tables : Tables) (text : List ℕ) (delay : ℕ) (begun : Res
   pub one : delay ≤ most_delay → ((p : Parts) × IsPosition p × SpellsPosition text p) ⊎ ((fault : FenFault) × IsFirstFenFault text fault)
 
 -- a game goes on by its move, whatever it was
-abbrev pub GoesOn : Tables → Move → Play → Play → Type 0
-GoesOn tables m old new =
+abbrev pub GoesOnByMove : Tables → Move → Play → Play → Type 0
+GoesOnByMove tables m old new =
     (rules : Rules) (moves : List Move) → rules.tables ≡ tables → IsPlayed rules moves old → IsPlayed rules (moves ++ m ∷ []) new
 
 -- what telling a game its next move comes to. A game that has a verdict takes none, then one that isn't legal is refused, and then
 -- memory may be refused; each leaves the game as it was
 pub record TellsMove (tables : Tables) (m : Move) (old : Play) (reply : Reply) (new : Play) : Type 0 where
-  pub played : reply.status ≡ 0 → GoesOn tables m old new
+  pub played : reply.status ≡ 0 → GoesOnByMove tables m old new
   pub verdict : reply.status ≡ 0 → reply ≡ told (pos (verdict_number new.verdict))
   pub over : IsSome old.verdict → reply ≡ refused 84
   pub illegal : old.verdict ≡ None → position_after old.standing.position m ≡ None → reply ≡ refused 86

@@ -7,7 +7,7 @@ use Rattle.board_core.specs.declared.parts.Parts.{Parts}
 use Rattle.board_core.specs.declared.position.PositionFault.{PositionFault}
 use Rattle.board_core.specs.declared.position.PositionFault.TheVariants.{BadKings, TooManyMen, PawnOnEdge, BadCastling, BadEnPassant, OpponentInCheck, BadCounter}
 use Rattle.board_core.specs.declared.verdict.Verdict.{Verdict}
-use Rattle.board_core.specs.Verdicts.{code_of}
+use Rattle.board_core.specs.Verdicts.{verdict_code}
 use Rattle.board_core.specs.Position.{IsPosition, IsFirstFault}
 use Rattle.fen_text.specs.Fen.{SpellsPosition, IsFirstFenFault}
 use Rattle.fen_text.specs.declared.fault.FenFault.{FenFault}
@@ -51,7 +51,7 @@ probe_reply (Err NoMemory) = refused 5
 -- a verdict's number, as in messages, and 0 where the game goes on
 abbrev pub verdict_number : Option Verdict → ℕ
 verdict_number None = 0
-verdict_number (Some verdict) = code_of verdict
+verdict_number (Some verdict) = verdict_code verdict
 
 abbrev pub position_status : PositionFault → ℕ
 position_status BadKings = 32

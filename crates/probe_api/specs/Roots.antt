@@ -13,12 +13,12 @@ use Rattle.judge_core.specs.declared.root_move.RootMove.{RootMove}
 use Rattle.judge_core.specs.declared.ask.Ask.{Ask}
 use Rattle.judge_core.specs.Answers.{as_probe}
 use Rattle.judge_core.specs.Ask.{IsRanked}
-use Rattle.judge_core.specs.Probed.{number_of}
+use Rattle.judge_core.specs.Probed.{wdl_number}
 use Rattle.judge_core.specs.Root.{state_of}
 use Rattle.judge_core.specs.Ruling.{is_out_of_scope}
 use Rattle.judge_core.specs.Tables.{Tables}
 use Rattle.probe_api.specs.Boards.{shown}
-use Rattle.probe_api.specs.Moves.{plain_of, counted}
+use Rattle.probe_api.specs.Moves.{plain_of, count_reply}
 use Rattle.probe_api.specs.Replies.{told, refused, fen_status, position_status, probe_reply}
 use Rattle.probe_api.specs.declared.board.Board.{Board}
 use Rattle.probe_api.specs.declared.reply.Reply.{Reply}
@@ -42,13 +42,13 @@ plain_root m = record {
   played = plain_of m.played;
   effect = effect_number m.effect;
   state = state_number m.state;
-  wdl = probe_reply (as_probe number_of m.wdl);
+  wdl = probe_reply (as_probe wdl_number m.wdl);
   dtz = probe_reply (as_probe (λ n. n) m.dtz);
 }
 
 -- these moves are put at the front of the room where it has a place for each, and their number is told
 pub record ArePutFirst (moves : List RootMove) (old : List PlainRootMove) (reply : Reply) (new : List PlainRootMove) : Type 0 where
-  pub count : reply ≡ counted (nat_le (length moves) (length old)) (length moves)
+  pub count : reply ≡ count_reply (nat_le (length moves) (length old)) (length moves)
   pub written : reply.status ≡ 0 → new ≡ map plain_root moves ++ drop (length moves) old
 
 -- the legal moves of a position in scope are put at the front of the room, the best first; where the room is too short, the position

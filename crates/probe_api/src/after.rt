@@ -2,7 +2,7 @@
 
 ghost use Rattle.std.specs.Prelude.{◌≡◌, ◌≢◌};
 ghost use Rattle.board_core.specs.Sides.{squares_where};
-ghost use Rattle.probe_api.specs.Afters.{BoardShowsItsPosition, IsAfter, TellsAfter, board_of, passed_number, rights_number, side_number};
+ghost use Rattle.probe_api.specs.Afters.{BoardShowsItsPosition, IsAfterMove, TellsAfter, board_of, passed_number, rights_number, side_number};
 ghost use Rattle.probe_api.specs.Inside.{shows};
 
 use crate::board::{Board, position_on};
@@ -96,7 +96,7 @@ impl Board {
 
 /// The board after a move that is legal in the position. The status is 86 where it isn't, and the room stays as it was.
 fn after_move(position: &Position, m: &Move, room: &mut Board) -> u32
-    ensures is { IsAfter position.now m.now result room.new }
+    ensures is { IsAfterMove position.now m.now result room.new }
     ensures kept { result ≢ 0 → room.new ≡ room.old }
 {
     match position.play(*m) {

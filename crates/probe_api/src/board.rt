@@ -3,7 +3,7 @@
 ghost use Rattle.std.specs.Prelude.{◌≡◌, Ok, Err, IfOk, IfErr};
 ghost use Rattle.board_core.specs.declared.position.PositionFault.{PositionFault};
 ghost use Rattle.board_core.specs.Position.{IsFirstFault, IsPosition};
-ghost use Rattle.probe_api.specs.Boards.{sets_on, state_on, side_to_move, rights_on, passed_on, shown};
+ghost use Rattle.probe_api.specs.Boards.{sets_on, state_on, side_to_move, rights_on, square_or_none, shown};
 
 use board_core::{Bitboard, Position, PositionFault, Rights, Sets, Side, Square, State};
 
@@ -82,7 +82,7 @@ fn rights_on(rights: u8) -> Rights
 }
 
 fn passed_on(passed: u8) -> Option<Square>
-    ensures { result ≡ passed_on passed }
+    ensures { result ≡ square_or_none passed }
 {
     if passed < 64 {
         Some(Square::at(passed))

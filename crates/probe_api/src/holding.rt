@@ -2,7 +2,7 @@
 
 ghost use Rattle.std.specs.Prelude.{◌≡◌, pos};
 ghost use Rattle.judge_core.specs.Tables.{largest_of};
-ghost use Rattle.probe_api.specs.Holds.{TellsHas, has_number, kind_of};
+ghost use Rattle.probe_api.specs.Holds.{TellsHas, has_number, numbered_kind};
 ghost use Rattle.probe_api.specs.Replies.{told};
 
 use crate::reply::Reply;
@@ -12,7 +12,7 @@ use table_file::TableKind;
 
 /// 0 for a WDL table, and every other number for a DTZ table.
 fn kind_of(number: u8) -> TableKind
-    ensures { result ≡ kind_of number }
+    ensures { result ≡ numbered_kind number }
 {
     if number == 0 {
         TableKind::Wdl

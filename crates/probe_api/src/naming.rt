@@ -1,7 +1,7 @@
 //! The names of statuses and of verdicts, and the version.
 
 ghost use Rattle.std.specs.Prelude.{◌≡◌};
-ghost use Rattle.probe_api.specs.Names.{name_in, refusal_names, status_name, verdict_name};
+ghost use Rattle.probe_api.specs.Names.{name_in, numbered_verdict_name, refusal_names, status_name};
 ghost use Rattle.probe_api.specs.Version.{version};
 
 /// The name of the fault of a table file, or of what a set, a buffer or a game refuses; nothing where no such status has this number.
@@ -63,9 +63,9 @@ pub fn status_name(status: u32) -> &'static str
 }
 
 /// The name of a verdict by its number, 1 to 7, and `open` for 0; nothing for any other.
-#[tactic(auto, unfolding(crate::specs::Names::verdict_name))]
+#[tactic(auto, unfolding(crate::specs::Names::numbered_verdict_name))]
 pub fn verdict_name(number: u32) -> &'static str
-    ensures { result.now ≡ verdict_name number }
+    ensures { result.now ≡ numbered_verdict_name number }
 {
     match number {
         0 => "open",
