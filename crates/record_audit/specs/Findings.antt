@@ -13,7 +13,7 @@ use Rattle.move_msg.specs.declared.stamp.Stamp.{Stamp}
 use Rattle.move_msg.specs.Records.{IsFirstRecordFault, SpellsRecord, record_fault_name}
 use Rattle.arbiter_core.specs.declared.fault.OpenFault.TheVariants as opening
 use Rattle.arbiter_core.specs.Opens.{IsBadKept, IsOfGame, IsResumed, at_end}
-use Rattle.arbiter_core.specs.Recording.{Recorded, count_of}
+use Rattle.arbiter_core.specs.Recording.{Recorded, move_count}
 use Rattle.arbiter_server.specs.ServedLines.{heard_words, verdict_or_none}
 use Rattle.record_audit.specs.declared.auditing.Auditor.{Auditor}
 use Rattle.record_audit.specs.declared.auditing.Audited.{Audited}
@@ -35,20 +35,20 @@ abbrev pub StopsAt : Rules → List Move → ℕ → Type 0
 StopsAt rules moves place = IsIllegalAt rules moves place ⊎ ((verdict : Verdict) × IsFirst rules moves place verdict × (place < length moves))
 
 -- all moves are legal in turn, no ply before the last has a verdict, and the last has this one
-abbrev pub EndsWith : Rules → List Move → Option Verdict → Type 0
-EndsWith rules moves verdict = (outcome : GameOutcome) × IsOutcome rules moves outcome × (at_end outcome (length moves) ≡ Some verdict)
+abbrev pub EndsWithVerdict : Rules → List Move → Option Verdict → Type 0
+EndsWithVerdict rules moves verdict = (outcome : GameOutcome) × IsOutcome rules moves outcome × (at_end outcome (length moves) ≡ Some verdict)
 
 -- what is found: an arbiter of the game resumes from the bytes; or why it refuses them at its opening
 abbrev pub IsFound : Rules → Stamp → List ℕ → Finding → Type 0
 IsFound rules stamp bytes (found.Whole count verdict) =
-    (kept : Recorded) × IsResumed rules stamp bytes kept × (count ≡ count_of kept) × (verdict ≡ kept.verdict)
+    (kept : Recorded) × IsResumed rules stamp bytes kept × (count ≡ move_count kept) × (verdict ≡ kept.verdict)
 IsFound rules stamp bytes (found.BadRecord fault) = IsBadKept rules stamp bytes opening.BadRecord × IsFirstRecordFault bytes fault
 IsFound rules stamp bytes found.OtherStamp = IsBadKept rules stamp bytes opening.OtherStamp
 IsFound rules stamp bytes (found.BadMoves place) =
     IsBadKept rules stamp bytes opening.BadRecord × ((r : Records) × SpellsRecord bytes r × IsOfGame rules stamp r × StopsAt rules r.moves place)
 IsFound rules stamp bytes (found.BadVerdict verdict) =
     IsBadKept rules stamp bytes opening.BadRecord
-    × ((r : Records) × SpellsRecord bytes r × IsOfGame rules stamp r × EndsWith rules r.moves verdict × (r.verdict ≢ verdict))
+    × ((r : Records) × SpellsRecord bytes r × IsOfGame rules stamp r × EndsWithVerdict rules r.moves verdict × (r.verdict ≢ verdict))
 
 abbrev pub is_whole : Finding → Bool
 is_whole (found.Whole count verdict) = true
