@@ -6,7 +6,7 @@ use Rattle.board_core.specs.declared.moves.Move.{Move as Moves}
 use Rattle.fen_text.specs.Cuts.{cut_at}
 use Rattle.relay_world.specs.declared.event.Event.{Event}
 use Rattle.relay_world.specs.declared.schedule.Schedule.{Schedule}
-use Rattle.relay_world.specs.Texts.{IsNameLine, IsStartLine, IsMovesLine, AreEvents, SpellsSchedule, NeedsLine, IsBadEvent, IsFirstBadLine, HasMoves, TakesForFirst, TakesMemory}
+use Rattle.relay_world.specs.Texts.{IsNameLine, IsStartLine, IsMovesLine, AreEvents, SpellsSchedule, NeedsLine, IsBadEvent, IsFirstBadScheduleLine, HasAnyMove, TakesForFirst, ScheduleTakesMemory}
 use Rattle.relay_world.proofs.Reading.{has_piece}
 
 -- ---- none in a schedule
@@ -54,7 +54,7 @@ good_text k name start moves (line ∷ lines) s name_is start_is moves_are event
     (good_line AreMoves 3 k (IsBadEvent 4 k) moves line lines (s.moves.items, moves_are)
     (good_events 4 k (line ∷ lines) s.events.items events_are)))
 
-pub spells_none : (text : List ℕ) (k : ℕ) (s : Schedule) → IsFirstBadLine text k → SpellsSchedule text s → ⊥
+pub spells_none : (text : List ℕ) (k : ℕ) (s : Schedule) → IsFirstBadScheduleLine text k → SpellsSchedule text s → ⊥
 spells_none text k s bad spells =
     good_text k spells.name spells.start spells.moves spells.events s spells.name_is spells.start_is spells.moves_are spells.events_are
     (subst (λ lines. NeedsLine IsName 1 k (FromStart k) lines) spells.lines bad)
@@ -91,7 +91,7 @@ one_line IsGood number j k J K (line ∷ next ∷ lines) one a b =
       ]
     ]
 
-pub one_first : (text : List ℕ) (j k : ℕ) → IsFirstBadLine text j → IsFirstBadLine text k → j ≡ k
+pub one_first : (text : List ℕ) (j k : ℕ) → IsFirstBadScheduleLine text j → IsFirstBadScheduleLine text k → j ≡ k
 one_first text j k =
     one_line IsName 1 j k (FromStart j) (FromStart k) (cut_at 10 text) (λ later.
     one_line IsStart 2 j k (FromMoves j) (FromMoves k) later (λ later.
@@ -127,7 +127,7 @@ past_line IsGood number k least Later line (next ∷ lines) some good late bad =
     ]
 
 -- where the first two lines are good, none before the third is at fault
-pub third_or_later : (text one rest two more name : List ℕ) (start : Parts) → cut_at 10 text ≡ one ∷ cut_at 10 rest → IsNameLine one name → cut_at 10 rest ≡ two ∷ cut_at 10 more → IsStartLine two start → (k : ℕ) → IsFirstBadLine text k → 3 ≤ k
+pub third_or_later : (text one rest two more name : List ℕ) (start : Parts) → cut_at 10 text ≡ one ∷ cut_at 10 rest → IsNameLine one name → cut_at 10 rest ≡ two ∷ cut_at 10 more → IsStartLine two start → (k : ℕ) → IsFirstBadScheduleLine text k → 3 ≤ k
 third_or_later text one rest two more name start a n b s k bad =
     past_line IsName 1 k 3 (FromStart k) one (cut_at 10 rest) (has_piece 10 rest) (name, n)
     (λ bad. past_line IsStart 2 k 3 (FromMoves k) two (cut_at 10 more) (has_piece 10 more) (start, s)
@@ -137,7 +137,7 @@ third_or_later text one rest two more name start a n b s k bad =
 
 -- where the first two lines are good, and what is told next takes memory
 pub takes_memory : (text one rest two more three last name : List ℕ) (start : Parts) → cut_at 10 text ≡ one ∷ cut_at 10 rest → IsNameLine one name → cut_at 10 rest ≡ two ∷ cut_at 10 more → IsStartLine two start → cut_at 10 more ≡ three ∷ cut_at 10 last
-    → HasMoves three ⊎ (((tells : List Moves) × IsMovesLine three tells) × (TakesForFirst (cut_at 10 last) ⊎ ((tells : List Event) × AreEvents (cut_at 10 last) tells))) → TakesMemory text
+    → HasAnyMove three ⊎ (((tells : List Moves) × IsMovesLine three tells) × (TakesForFirst (cut_at 10 last) ⊎ ((tells : List Event) × AreEvents (cut_at 10 last) tells))) → ScheduleTakesMemory text
 takes_memory text one rest two more three last name start a n b s d takes = record {
   name = one;
   start = two;

@@ -7,10 +7,10 @@ use Rattle.judge_core.proofs.Plies.{goes_on}
 use Rattle.board_core.specs.declared.moves.Move.{Move as Moves}
 use Rattle.board_core.specs.declared.verdict.Verdict.{Verdict as Ruling}
 use Rattle.judge_core.specs.Games.{Rules, IsFirst, IsUnruled, position_after_all}
-use Rattle.arbiter_core.specs.Recording.{Recorded, reaches, count_of}
+use Rattle.arbiter_core.specs.Recording.{Recorded, reaches, move_count}
 use Rattle.arbiter_core.proofs.Reach.{step_to, reach_within, unruled_below}
 use Rattle.relay_world.specs.declared.event.Event.{Event}
-use Rattle.relay_world.specs.Worlds.{Judged, World, happens, after, worlds, first_world}
+use Rattle.relay_world.specs.Worlds.{Judged, World, happens, world_after_all, worlds, first_world}
 use Rattle.relay_world.specs.Headline.{IsFrontOf, IsFaithful, IsRecordOf, IsOneVerdict, Agree, IsRight}
 use Rattle.relay_world.specs.Runs.{AreWorlds}
 use Rattle.relay_world.proofs.Steps.{start_legal, all_at}
@@ -41,14 +41,14 @@ if_front : (r : Rules) (game : List Moves) (o : Option Recorded) → IfSome o (I
 if_front r game None h = tt
 if_front r game (Some kept) h = front_of r game kept h
 
-agree_at : (r : Rules) (game : List Moves) (x y : Option Recorded) → IfSome x (λ one. IfSome y (Agree r game one)) → (one other : Recorded) (v w : Ruling) → x ≡ Some one → y ≡ Some other → one.verdict ≡ Some v → other.verdict ≡ Some w → (count_of one ≡ count_of other) × (v ≡ w)
+agree_at : (r : Rules) (game : List Moves) (x y : Option Recorded) → IfSome x (λ one. IfSome y (Agree r game one)) → (one other : Recorded) (v w : Ruling) → x ≡ Some one → y ≡ Some other → one.verdict ≡ Some v → other.verdict ≡ Some w → (move_count one ≡ move_count other) × (v ≡ w)
 agree_at r game None y h one other v w e f p q = absurd cc
 agree_at r game (Some x) None h one other v w e f p q = absurd cc
 agree_at r game (Some x) (Some y) h one other v w e f p q =
     let a : x ≡ one = cc in
     let b : y ≡ other = cc in
     let z : IsOneVerdict r game x y v w = h v w (ap (λ (k : Recorded). k.verdict) a ∙ p) (ap (λ (k : Recorded). k.verdict) b ∙ q) in
-    (ap count_of (sym a) ∙ z.ply ∙ ap count_of b, z.verdict)
+    (ap move_count (sym a) ∙ z.ply ∙ ap move_count b, z.verdict)
 
 pub faithful_of : (game : Judged) (world : World) → IsRight game world → IsFaithful game world
 faithful_of game world h = record {
@@ -80,11 +80,11 @@ each_of game world (e ∷ events) zero event old new p q r =
 each_of game world (e ∷ events) (suc i) event old new p q r = each_of game (happens game world e) events i event old new p q r
 
 -- the world at a place is the one after so many events
-pub at_of : (game : Judged) (world : World) (early late : List Event) → slice_get (worlds game world (early ++ late)) (length early) ≡ Some (after game world early)
+pub at_of : (game : Judged) (world : World) (early late : List Event) → slice_get (worlds game world (early ++ late)) (length early) ≡ Some (world_after_all game world early)
 at_of game world [] late = first_of game world late
 at_of game world (e ∷ early) late = at_of game (happens game world e) early late
 
-pub last_of : (game : Judged) (world : World) (events : List Event) → slice_get (worlds game world events) (length events) ≡ Some (after game world events)
+pub last_of : (game : Judged) (world : World) (events : List Event) → slice_get (worlds game world events) (length events) ≡ Some (world_after_all game world events)
 last_of game world [] = refl
 last_of game world (e ∷ events) = last_of game (happens game world e) events
 

@@ -18,14 +18,14 @@ use Rattle.arbiter_core.specs.declared.fault.DeliverFault.{DeliverFault}
 use Rattle.arbiter_core.specs.declared.fault.DeliverFault.TheVariants.{IllegalMove, KeeperFailed, OutOfMemory, Stranger, TooFarAhead, TooLong, Down as IsDown}
 use Rattle.arbiter_core.specs.declared.keeper.Keep.{Keep}
 use Rattle.arbiter_core.specs.declared.keeper.Keep.TheVariants.{Good, FailsOld, FailsNew}
-use Rattle.arbiter_core.specs.Recording.{Recorded, Window, advance, count_of}
+use Rattle.arbiter_core.specs.Recording.{Recorded, Window, advance, move_count}
 use Rattle.arbiter_core.specs.Answering.{Identity, Answer, Refuses, Sends, Puts, answer_heard, answer_to, answer_to_move, puts, told_now, waits_too}
 use Rattle.arbiter_core.specs.Memory.{Memory, memory_facts}
 use Rattle.arbiter_core.specs.Setups.{SetupView, rules_at}
 use Rattle.arbiter_core.specs.Views.{View, spelled_as}
-use Rattle.arbiter_core.specs.Delivers.{Answers, Told, answer_at, answer_of, heard, in_game, moment, RefusesOrSends, PutsIfAny, Unchanged, Lands, IsSpelled, IsWritten}
-use Rattle.relay_world.specs.Worlds.{Side, Life, Closed, Down, Running, answer_to_datagram, answered, hears, hears_at}
-use Rattle.relay_world.specs.Inside.Seats.{IsDelivered, IsStarved, PlaceIs, PlaceView, SeatIs, SeatView, Open, Stands, Steps, TakesAt, TakesMemory, seat}
+use Rattle.arbiter_core.specs.Delivers.{ReturnsAnswer, Told, answer_at, answer_of, heard, in_game, moment, RefusesOrSends, PutsIfAny, Unchanged, Lands, IsSpelled, IsWritten}
+use Rattle.relay_world.specs.Worlds.{Side, SideLife, Closed, Down, Running, answer_to_datagram, answered, hears, hears_at}
+use Rattle.relay_world.specs.Inside.Seats.{IsDelivered, IsStarved, PlaceIs, PlaceView, SeatIs, SeatView, Open, StandsForSide, Steps, TakesAt, AnswerTakesMemory, seat}
 use Rattle.relay_world.specs.Runs.{KeptIs}
 
 -- what was sent, where a refusal sends nothing
@@ -93,7 +93,7 @@ running me setup v new k kn keep (Puts next outputs later) told up s m e kept r 
       sent = ap sent_in l.0;
     })
 
-pub delivered_steps : (me : Identity) (setup : SetupView) (v new : View) (old k kn : Memory) (side : Side) (keep : Keep) (heard : Result Message DeliverFault) (told : Told) → Stands me setup (Open v) old side → k.kept ≡ old.kept → k.keep ≡ keep → Answers memory_facts (moment v k) (answer_of v heard) told (moment new kn) → told ≢ Err OutOfMemory → Steps me setup (Open new) kn (sent_in told) (hears keep side (λ kept window. answer_heard (rules_at setup) me kept window heard))
+pub delivered_steps : (me : Identity) (setup : SetupView) (v new : View) (old k kn : Memory) (side : Side) (keep : Keep) (heard : Result Message DeliverFault) (told : Told) → StandsForSide me setup (Open v) old side → k.kept ≡ old.kept → k.keep ≡ keep → ReturnsAnswer memory_facts (moment v k) (answer_of v heard) told (moment new kn) → told ≢ Err OutOfMemory → Steps me setup (Open new) kn (sent_in told) (hears keep side (λ kept window. answer_heard (rules_at setup) me kept window heard))
 delivered_steps me setup v new old k kn side keep heard told h ke e answers n = by_cases v.is_down refl
   where
     by_cases : (b : Bool) → v.is_down ≡ b → Steps me setup (Open new) kn (sent_in told) (hears keep side (λ kept window. answer_heard (rules_at setup) me kept window heard))
@@ -109,7 +109,7 @@ delivered_steps me setup v new old k kn side keep heard told h ke e answers n = 
         } in
         subst (Steps me setup (Open new) kn (sent_in told)) (sym (still_down side.kept side.life life)) at
       where
-        still_down : (kept : Option Recorded) (life : Life) → life ≡ Down → hears_at keep kept life (λ one window. answer_heard (rules_at setup) me one window heard) ≡ (record { kept = kept; life = life }, [])
+        still_down : (kept : Option Recorded) (life : SideLife) → life ≡ Down → hears_at keep kept life (λ one window. answer_heard (rules_at setup) me one window heard) ≡ (record { kept = kept; life = life }, [])
         still_down None life e = refl
         still_down (Some x) Down e = refl
         still_down (Some x) Closed e = refl
@@ -126,10 +126,10 @@ delivered_steps me setup v new old k kn side keep heard told h ke e answers n = 
         rw (run.0, run.1) (running me setup v new k kn keep (answer_heard (rules_at setup) me v.kept v.window heard) told d s m e kept (subst (RefusesOrSends v k kn new told) is answers.answered) (subst (PutsIfAny memory_facts v k kn new told) is answers.put) n)
 
 -- a seat with an open arbiter
-pub delivered_seat : (datagram : List ℕ) (v new : View) (k kn : Memory) (told : Told) → Answers memory_facts (moment v k) (answer_at v datagram) told (moment new kn) → told ≢ Err OutOfMemory → IsDelivered k.keep datagram (seat (Open v) k) (seat (Open new) kn) (sent_in told)
+pub delivered_seat : (datagram : List ℕ) (v new : View) (k kn : Memory) (told : Told) → ReturnsAnswer memory_facts (moment v k) (answer_at v datagram) told (moment new kn) → told ≢ Err OutOfMemory → IsDelivered k.keep datagram (seat (Open v) k) (seat (Open new) kn) (sent_in told)
 delivered_seat datagram v new k kn told answers n me setup side stands =
     let same : heard v.me.stamp datagram ≡ heard me.stamp datagram = ap (λ (i : Identity). heard i.stamp datagram) stands.place_is.1 in
-    delivered_steps me setup v new k k kn side k.keep (heard me.stamp datagram) told stands refl refl (subst (λ (s : Result Message DeliverFault). Answers memory_facts (moment v k) (answer_of v s) told (moment new kn)) same answers) n
+    delivered_steps me setup v new k k kn side k.keep (heard me.stamp datagram) told stands refl refl (subst (λ (s : Result Message DeliverFault). ReturnsAnswer memory_facts (moment v k) (answer_of v s) told (moment new kn)) same answers) n
 
 -- the outcome of the next put is set first
 pub set_first : (keep : Keep) (datagram : List ℕ) (place : PlaceView) (old k : Memory) (late : SeatView) (outputs : List Message) → k.kept ≡ old.kept → k.keep ≡ keep → IsDelivered k.keep datagram (seat place k) late outputs → IsDelivered keep datagram (seat place old) late outputs
@@ -138,7 +138,7 @@ set_first keep datagram place old k late outputs kept is h me setup side stands 
     (h me setup side (record { place_is = stands.place_is; kept = subst (λ (x : Option (List ℕ)). KeptIs me.stamp setup.delay x side.kept) (sym kept) stands.kept }))
 
 -- a closed seat hears nothing
-pub shut_steps : (me : Identity) (setup : SetupView) (place : PlaceView) (old k : Memory) (side : Side) (keep : Keep) (respond : Recorded → Window → Answer) → Stands me setup place old side → k.kept ≡ old.kept → side.life ≡ Closed → Steps me setup place k [] (hears keep side respond)
+pub shut_steps : (me : Identity) (setup : SetupView) (place : PlaceView) (old k : Memory) (side : Side) (keep : Keep) (respond : Recorded → Window → Answer) → StandsForSide me setup place old side → k.kept ≡ old.kept → side.life ≡ Closed → Steps me setup place k [] (hears keep side respond)
 shut_steps me setup place old k side keep respond h ke life =
     subst (Steps me setup place k []) (sym (still_shut side.kept side.life life)) (record {
       stands = record {
@@ -148,7 +148,7 @@ shut_steps me setup place old k side keep respond h ke life =
       sent = refl;
     })
   where
-    still_shut : (kept : Option Recorded) (life : Life) → life ≡ Closed → hears_at keep kept life respond ≡ (record { kept = kept; life = life }, [])
+    still_shut : (kept : Option Recorded) (life : SideLife) → life ≡ Closed → hears_at keep kept life respond ≡ (record { kept = kept; life = life }, [])
     still_shut None life e = refl
     still_shut (Some x) Down e = refl
     still_shut (Some x) Closed e = refl
@@ -164,7 +164,7 @@ IsNoWant (Puts next outputs window) = Unit {0}
 
 move_no_want : (r : Rules) (me : Identity) (old : Recorded) (window : Window) (number : ℕ) (m : Moves) → IsNoWant (answer_to_move r me old window number m)
 move_no_want r me old window number m =
-    let k : ℕ = count_of old in
+    let k : ℕ = move_count old in
     let a5 : Answer = puts me old window (advance r old.moves m window) in
     let a4 : Answer = cond (is_none (position_after_all r.start (old.moves ++ m ∷ []))) (Refuses IllegalMove) a5 in
     let a3 : Answer = cond (nat_lt k number) (Sends (Ack me.stamp me.who k ∷ []) (waits_too window (number - (k + 1)) m)) a4 in
@@ -196,7 +196,7 @@ not_other : (told : Told) (fault : DeliverFault) → told ≡ Err OutOfMemory �
 not_other told fault e f = cc
 
 -- what is told for want of memory is told where memory is taken, and all is as before
-want_at : (v new : View) (k kn : Memory) (a : Answer) (told : Told) → IsNoWant a → told ≡ Err OutOfMemory → RefusesOrSends v k kn new told a → PutsIfAny memory_facts v k kn new told a → TakesMemory a × (new ≡ v) × (kn ≡ k)
+want_at : (v new : View) (k kn : Memory) (a : Answer) (told : Told) → IsNoWant a → told ≡ Err OutOfMemory → RefusesOrSends v k kn new told a → PutsIfAny memory_facts v k kn new told a → AnswerTakesMemory a × (new ≡ v) × (kn ≡ k)
 want_at v new k kn (Refuses fault) told w e r p = absurd (w (not_other told fault e r.answer))
 want_at v new k kn (Sends outputs window) told w e (inl r) p = absurd (not_ok told outputs e r.answer)
 want_at v new k kn (Sends outputs window) told w e (inr r) p = (r.0, r.1.arbiter, r.1.keeper)
@@ -211,7 +211,7 @@ want_at v new k kn (Puts next outputs window) told w e r (inr q) = absurd (lande
     landed FailsOld l = failed l.0
     landed FailsNew l = failed l.0
 
-pub starved_seat : (datagram : List ℕ) (v new : View) (k kn : Memory) (told : Told) → Answers memory_facts (moment v k) (answer_at v datagram) told (moment new kn) → told ≡ Err OutOfMemory → IsStarved datagram (seat (Open v) k) (seat (Open new) kn)
+pub starved_seat : (datagram : List ℕ) (v new : View) (k kn : Memory) (told : Told) → ReturnsAnswer memory_facts (moment v k) (answer_at v datagram) told (moment new kn) → told ≡ Err OutOfMemory → IsStarved datagram (seat (Open v) k) (seat (Open new) kn)
 starved_seat datagram v new k kn told answers e me setup side stands = by_cases v.is_down refl
   where
     respond : Recorded → Window → Answer

@@ -17,25 +17,25 @@ use Rattle.board_core.specs.Position.{IsPosition}
 use Rattle.place_index.specs.Covered.{FewMenHaveTables}
 use Rattle.table_file.specs.declared.kind.TableKind.TheVariants.{Wdl}
 use Rattle.table_file.specs.Tables.{Contents}
-use Rattle.judge_core.specs.Asked.{fault_in, fault_of, first, not_covered, unless}
+use Rattle.judge_core.specs.Asked.{fault_in, first, missing_or_damaged, not_covered, unless}
 use Rattle.judge_core.specs.Distances.{dtz_of}
 use Rattle.judge_core.specs.Ends.{has_no_move}
 use Rattle.judge_core.specs.Games.{Rules, is_end, judged_after, position_after_all, verdict_after}
 use Rattle.judge_core.specs.Laws.{FirstVerdictInWords, IsLeastRuled, IsRuledAt}
 use Rattle.judge_core.specs.LookUp.{material_of}
-use Rattle.judge_core.specs.Probing.{after, weighed_by, weighed_where, wdl_of}
+use Rattle.judge_core.specs.Probing.{values_after, weighed_by, weighed_where, wdl_of}
 use Rattle.judge_core.specs.Ruling.{end_of, is_out_of_scope, mate_of, ruling, ruling_by}
 use Rattle.judge_core.specs.Tables.{Tables, slot, table_at, table_value, value_in, value_of}
 use Rattle.judge_core.specs.Values.{Reading}
 use Rattle.judge_core.proofs.LookUp.{material_found}
 use Rattle.judge_core.proofs.Rule.{bare, still, weighed}
 use Rattle.move_msg.specs.declared.who.Who.{Who}
-use Rattle.arbiter_core.specs.Recording.{Recorded, count_of}
+use Rattle.arbiter_core.specs.Recording.{Recorded, move_count}
 use Rattle.arbiter_core.proofs.Reach.{reach_within}
 use Rattle.relay_world.specs.declared.fault.WorldFault.{WorldFault}
 use Rattle.relay_world.specs.declared.event.Event.{Event}
 use Rattle.relay_world.specs.Gathering.{tables_of, tables_from}
-use Rattle.relay_world.specs.Laws.{Keeps}
+use Rattle.relay_world.specs.Laws.{KeepsAfter}
 use Rattle.relay_world.specs.NoTables.{EndsAt, checkmate, stalemate, bare_kings, HasBareKings, HasNoTable, IsBareKings, IsCheckmate, IsFirstEnd, IsStalemate}
 use Rattle.relay_world.specs.Worlds.{Judged}
 use Rattle.relay_world.proofs.Steps.{count_at, first_from, start_legal}
@@ -56,7 +56,7 @@ first_some (r ∷ rs) p key = by_first (not_covered r) (first not_covered (rs ++
     by_first None rest h = h
     by_first (Some k) rest h = (k, refl)
 
-missing : (rs : List Reading) (p : Parts) (key : ℕ) → (k : ℕ) × (fault_in (rs ++ no_table key p ∷ []) ≡ fault_of (Some k) None)
+missing : (rs : List Reading) (p : Parts) (key : ℕ) → (k : ℕ) × (fault_in (rs ++ no_table key p ∷ []) ≡ missing_or_damaged (Some k) None)
 missing rs p key =
     let f = first_some rs p key in
     (f.0, rw f.1 refl)
@@ -73,10 +73,10 @@ no_value : (tables : Tables) (p : Parts) (key : ℕ) → HasNoTable tables → m
 unfolding table_value
 no_value tables p key none m = ap (λ o. value_of tables o p) m ∙ rw (none Wdl key) refl
 
-not_weighed : (tables : Tables) (value : Parts → Reading) (p : Parts) (key : ℕ) → table_value tables p ≡ no_table key p → (k : ℕ) × (weighed_by tables value p ≡ unless (fault_of (Some k) None) (weighed_by tables value p))
+not_weighed : (tables : Tables) (value : Parts → Reading) (p : Parts) (key : ℕ) → table_value tables p ≡ no_table key p → (k : ℕ) × (weighed_by tables value p ≡ unless (missing_or_damaged (Some k) None) (weighed_by tables value p))
 unfolding weighed_by weighed_where
 not_weighed tables value p key e =
-    let f = missing (after value p (legal_captures p)) p key in
+    let f = missing (values_after value p (legal_captures p)) p key in
     (f.0, rw (e, f.1) refl)
 
 unknown : FewMenHaveTables → (tables : Tables) (p : Parts) → HasNoTable tables → IsPosition p → is_out_of_scope p ≡ false → 2 < count_of_men p → (k : ℕ) × (wdl_of tables p ≡ no_table k p)
@@ -84,7 +84,7 @@ unknown few tables p none position scope many =
     let found = few.0 p position (omega (arith, many)) (few_enough p scope) in
     let m : material_of p ≡ Some found.0 = sym (material_found p found.0 found.1 found.2) in
     let w = not_weighed tables (wdl_of tables) p found.0 (no_value tables p found.0 none m) in
-    (w.0, sym (weighed tables p (unless (fault_of (Some w.0) None) (weighed_by tables (wdl_of tables) p)) position many (sym w.1)))
+    (w.0, sym (weighed tables p (unless (missing_or_damaged (Some w.0) None) (weighed_by tables (wdl_of tables) p)) position many (sym w.1)))
 
 -- ---- the ruling on a position
 
@@ -239,23 +239,23 @@ module _ (few : FewMenHaveTables) (r : Rules) (none : HasNoTable r.tables) (posi
   from_end k v (stalemate {p = p} s t e) = record { ruling = rules_at k p v s (stuck t e); holds = inl (subst (λ x. is_end x ≡ true) (sym e) refl) }
   from_end k v (bare_kings long held e) = rw e (record { ruling = bare_rules k (held k (omega arith) (omega arith)); holds = inr (long, λ j a b. bare_rules j (held j a b)) })
 
-pub first_end : FirstVerdictInWords → FewMenHaveTables → (game : Judged) (events : List Event) (who : Who) (kept : Recorded) (v : Ruling) → IsPosition game.rules.start → HasNoTable game.rules.tables → Keeps game events who kept → (kept.verdict ≡ Some v → IsFirstEnd game.rules game.moves (count_of kept) v) × (IsFirstEnd game.rules game.moves (count_of kept) v → kept.verdict ≡ Some v)
+pub first_end : FirstVerdictInWords → FewMenHaveTables → (game : Judged) (events : List Event) (who : Who) (kept : Recorded) (v : Ruling) → IsPosition game.rules.start → HasNoTable game.rules.tables → KeepsAfter game events who kept → (kept.verdict ≡ Some v → IsFirstEnd game.rules game.moves (move_count kept) v) × (IsFirstEnd game.rules game.moves (move_count kept) v → kept.verdict ≡ Some v)
 first_end words few game events who kept v position none e =
     let r : Rules = game.rules in
     let h = kept_is game events who kept e in
     let c = count_at r game.moves kept h in (
-      (λ is. (let l = (words r game.moves (count_of kept) v).0 (first_from r game.moves kept v h is) in record {
-        ends = to_end few r none position game.moves (count_of kept) v l.ruled;
+      (λ is. (let l = (words r game.moves (move_count kept) v).0 (first_from r game.moves kept v h is) in record {
+        ends = to_end few r none position game.moves (move_count kept) v l.ruled;
         first = λ k other lt end. l.least k other lt (from_end few r none position game.moves k other end);
       })),
       (λ f.
-          let l : IsLeastRuled r game.moves (count_of kept) v = record {
+          let l : IsLeastRuled r game.moves (move_count kept) v = record {
             within = subst (λ n. n ≤ length game.moves) (sym c) (reach_within r game.moves h.ply h.reached);
             legal = subst (λ n. IsSome (position_after_all r.start (take n game.moves))) (sym c) (start_legal r game.moves h.ply h.reached);
-            ruled = from_end few r none position game.moves (count_of kept) v f.ends;
+            ruled = from_end few r none position game.moves (move_count kept) v f.ends;
             least = λ k other lt ruled. f.first k other lt (to_end few r none position game.moves k other ruled);
           } in
-          ap (λ (k : Recorded). k.verdict) h.is ∙ ap (λ n. verdict_after r (take n game.moves)) (sym c) ∙ ((words r game.moves (count_of kept) v).1 l).ruled),
+          ap (λ (k : Recorded). k.verdict) h.is ∙ ap (λ n. verdict_after r (take n game.moves)) (sym c) ∙ ((words r game.moves (move_count kept) v).1 l).ruled),
     )
 
 -- ---- no files are no table

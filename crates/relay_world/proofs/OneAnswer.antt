@@ -20,8 +20,8 @@ use Rattle.relay_world.specs.declared.event.Event.{Event}
 use Rattle.relay_world.specs.declared.fault.WorldFault.{WorldFault}
 use Rattle.relay_world.specs.declared.world.State.{State}
 use Rattle.relay_world.specs.Gathering.{IsManifestOf}
-use Rattle.relay_world.specs.Runs.{GameView, KeptIs, Runs, SideView, Tells, TellsSide, WorldView, judged_by}
-use Rattle.relay_world.specs.Worlds.{Judged, Side, World, after, first_world}
+use Rattle.relay_world.specs.Runs.{GameView, KeptIs, Runs, SideView, TellsSide, TellsWorld, WorldView, judged_by}
+use Rattle.relay_world.specs.Worlds.{Judged, Side, World, first_world, world_after_all}
 use Rattle.relay_world.proofs.Faithful.{last_of, one_list}
 
 -- ---- one manifest
@@ -118,7 +118,7 @@ one_side stamp delay told other side f g = made told.state other.state told.byte
     made : (s t : State) (a b : Option (List ℕ)) → s ≡ t → a ≡ b → ◌≡◌ {A = SideView} (record { state = s; bytes = a }) (record { state = t; bytes = b })
     made s t a b e d = cc
 
-one_told : (game : Judged) (told other : WorldView) (world : World) → Tells game told world → Tells game other world → told ≡ other
+one_told : (game : Judged) (told other : WorldView) (world : World) → TellsWorld game told world → TellsWorld game other world → told ≡ other
 one_told game told other world f g =
     made told.a other.a told.b other.b told.log other.log (one_side game.stamp game.rules.delay told.a other.a world.a f.a g.a) (one_side game.stamp game.rules.delay told.b other.b world.b f.b g.b) (f.log ∙ sym g.log)
   where
@@ -126,18 +126,18 @@ one_told game told other world f g =
     made a c b d l m e h i = cc
 
 tells_after : (given : GameView) (files : List File) (events : List Event) (told : WorldView) (tables : Tables) (manifest : List ℕ) → (h : Runs given files events told) → h.tables ≡ tables → h.manifest ≡ manifest
-    → let game = judged_by given tables manifest in Tells game told (after game (first_world game) events)
+    → let game = judged_by given tables manifest in TellsWorld game told (world_after_all game (first_world game) events)
 tells_after given files events told tables manifest h e f =
     let own : Judged = judged_by given h.tables h.manifest in
     let game : Judged = judged_by given tables manifest in
     let same : own ≡ game = ap (λ t. judged_by given t h.manifest) e ∙ ap (judged_by given tables) f in
-    let at : slice_get h.worlds (length events) ≡ Some (after own (first_world own) events) = ap (λ (ws : List World). slice_get ws (length events)) (one_list own events h.worlds h.are) ∙ last_of own (first_world own) events in
-    subst (λ (g : Judged). Tells g told (after g (first_world g) events)) same (h.last (after own (first_world own) events) at)
+    let at : slice_get h.worlds (length events) ≡ Some (world_after_all own (first_world own) events) = ap (λ (ws : List World). slice_get ws (length events)) (one_list own events h.worlds h.are) ∙ last_of own (first_world own) events in
+    subst (λ (g : Judged). TellsWorld g told (world_after_all g (first_world g) events)) same (h.last (world_after_all own (first_world own) events) at)
 
 pub runs_tell_one : (given : GameView) (files : List File) (events : List Event) (told other : WorldView) → Runs given files events told → Runs given files events other → told ≡ other
 runs_tell_one given files events told other f g =
     let game : Judged = judged_by given g.tables g.manifest in
-    one_told game told other (after game (first_world game) events)
+    one_told game told other (world_after_all game (first_world game) events)
     (tells_after given files events told g.tables g.manifest f (one_ok f.tables g.tables (sym f.gathered ∙ g.gathered)) (one_manifest files f.manifest g.manifest f.listed g.listed))
     (tells_after given files events other g.tables g.manifest g refl refl)
   where

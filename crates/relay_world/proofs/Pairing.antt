@@ -11,7 +11,7 @@ use Rattle.arbiter_core.specs.Memory.{Memory}
 use Rattle.arbiter_core.specs.Opens.{IsWhole}
 use Rattle.arbiter_core.specs.Setups.{SetupView}
 use Rattle.relay_world.specs.Headline.{IsRecordOf}
-use Rattle.relay_world.specs.Worlds.{Side, World, Judged, identity, turned}
+use Rattle.relay_world.specs.Worlds.{Side, World, Judged, identity, with_side}
 use Rattle.relay_world.specs.Inside.Seats.{PlaceView, Steps}
 use Rattle.relay_world.specs.Inside.Pairs.{IsWorld}
 use Rattle.arbiter_core.proofs.Reach.{reach_front, reach_within}
@@ -37,10 +37,10 @@ whole_of r game (Some kept) h =
 
 module _ (game : Judged) (a b : SetupView) where
   -- the seat of A changes, and messages are sent
-  pub turned_a : (stamp : Stamp) (p q p2 : PlaceView) (k l k2 : Memory) (log log2 outputs : List Message) (world : World) (late : Side × List Message) → IsWorld game a b stamp p k q l log world → Steps (identity game A) a p2 k2 outputs late → log2 ≡ log ++ outputs → IsWorld game a b stamp p2 k2 q l log2 (turned world A late)
+  pub turned_a : (stamp : Stamp) (p q p2 : PlaceView) (k l k2 : Memory) (log log2 outputs : List Message) (world : World) (late : Side × List Message) → IsWorld game a b stamp p k q l log world → Steps (identity game A) a p2 k2 outputs late → log2 ≡ log ++ outputs → IsWorld game a b stamp p2 k2 q l log2 (with_side world A late)
   turned_a stamp p q p2 k l k2 log log2 outputs world late h s e =
       record { stamp_is = h.stamp_is; a_stands = s.stands; b_stands = h.b_stands; log_is = e ∙ ap (λ (xs : List Message). xs ++ outputs) h.log_is ∙ ap (λ (xs : List Message). world.log ++ xs) s.sent }
 
-  pub turned_b : (stamp : Stamp) (p q q2 : PlaceView) (k l l2 : Memory) (log log2 outputs : List Message) (world : World) (late : Side × List Message) → IsWorld game a b stamp p k q l log world → Steps (identity game B) b q2 l2 outputs late → log2 ≡ log ++ outputs → IsWorld game a b stamp p k q2 l2 log2 (turned world B late)
+  pub turned_b : (stamp : Stamp) (p q q2 : PlaceView) (k l l2 : Memory) (log log2 outputs : List Message) (world : World) (late : Side × List Message) → IsWorld game a b stamp p k q l log world → Steps (identity game B) b q2 l2 outputs late → log2 ≡ log ++ outputs → IsWorld game a b stamp p k q2 l2 log2 (with_side world B late)
   turned_b stamp p q q2 k l l2 log log2 outputs world late h s e =
       record { stamp_is = h.stamp_is; a_stands = h.a_stands; b_stands = s.stands; log_is = e ∙ ap (λ (xs : List Message). xs ++ outputs) h.log_is ∙ ap (λ (xs : List Message). world.log ++ xs) s.sent }

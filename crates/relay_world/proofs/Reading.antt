@@ -12,7 +12,7 @@ use Rattle.move_msg.specs.Numbers.{most_moves}
 use Rattle.arbiter_core.specs.declared.keeper.Keep.{Keep}
 use Rattle.relay_world.specs.declared.event.Event.{Event}
 use Rattle.relay_world.specs.declared.event.Event.TheVariants.{Deliver, Noise, Restart, Ask}
-use Rattle.relay_world.specs.Texts.{AreEvents, BeginsByMove, IsBadEvent, IsEvent, IsEventLine, IsFirstBadLine, IsMovesLine, IsNameLine, IsStartLine, NeedsLine, SpellsBytes, SpellsPlace, TakesForFirst, TakesForLine, keep_word, who_word}
+use Rattle.relay_world.specs.Texts.{AreEvents, BeginsByMove, IsBadEvent, IsEvent, IsEventLine, IsFirstBadScheduleLine, IsMovesLine, IsNameLine, IsStartLine, NeedsLine, SpellsBytes, SpellsPlace, TakesForFirst, TakesForLine, keep_word, who_word}
 
 pub has_piece : (byte : ℕ) (t : List ℕ) → 1 ≤ length (cut_at byte t)
 has_piece byte t = is_cut (λ b. b == byte) t
@@ -220,18 +220,18 @@ IsSomeStart line = (start : Parts) × IsStartLine line start
 abbrev pub IsSomeMoves : List ℕ → Type 0
 IsSomeMoves line = (moves : List Moves) × IsMovesLine line moves
 
-pub bad_second : (text one rest two more : List ℕ) → cut_at 10 text ≡ one ∷ cut_at 10 rest → IsSomeName one → cut_at 10 rest ≡ two ∷ cut_at 10 more → (IsSomeStart two → ⊥) → IsFirstBadLine text 2
+pub bad_second : (text one rest two more : List ℕ) → cut_at 10 text ≡ one ∷ cut_at 10 rest → IsSomeName one → cut_at 10 rest ≡ two ∷ cut_at 10 more → (IsSomeStart two → ⊥) → IsFirstBadScheduleLine text 2
 bad_second text one rest two more a n b never =
     needs_later IsSomeName 1 2 (NeedsLine IsSomeStart 2 2 (NeedsLine IsSomeMoves 3 2 (IsBadEvent 4 2))) one rest (cut_at 10 text) a n
     (needs_good IsSomeStart 2 2 (NeedsLine IsSomeMoves 3 2 (IsBadEvent 4 2)) two more (cut_at 10 rest) b refl never)
 
-pub bad_third : (text one rest two more three last : List ℕ) → cut_at 10 text ≡ one ∷ cut_at 10 rest → IsSomeName one → cut_at 10 rest ≡ two ∷ cut_at 10 more → IsSomeStart two → cut_at 10 more ≡ three ∷ cut_at 10 last → (IsSomeMoves three → ⊥) → IsFirstBadLine text 3
+pub bad_third : (text one rest two more three last : List ℕ) → cut_at 10 text ≡ one ∷ cut_at 10 rest → IsSomeName one → cut_at 10 rest ≡ two ∷ cut_at 10 more → IsSomeStart two → cut_at 10 more ≡ three ∷ cut_at 10 last → (IsSomeMoves three → ⊥) → IsFirstBadScheduleLine text 3
 bad_third text one rest two more three last a n b s d never =
     needs_later IsSomeName 1 3 (NeedsLine IsSomeStart 2 3 (NeedsLine IsSomeMoves 3 3 (IsBadEvent 4 3))) one rest (cut_at 10 text) a n
     (needs_later IsSomeStart 2 3 (NeedsLine IsSomeMoves 3 3 (IsBadEvent 4 3)) two more (cut_at 10 rest) b s
     (needs_good IsSomeMoves 3 3 (IsBadEvent 4 3) three last (cut_at 10 more) d refl never))
 
-pub bad_later : (k : ℕ) (text one rest two more three last : List ℕ) → cut_at 10 text ≡ one ∷ cut_at 10 rest → IsSomeName one → cut_at 10 rest ≡ two ∷ cut_at 10 more → IsSomeStart two → cut_at 10 more ≡ three ∷ cut_at 10 last → IsSomeMoves three → IsBadEvent 4 k (cut_at 10 last) → IsFirstBadLine text k
+pub bad_later : (k : ℕ) (text one rest two more three last : List ℕ) → cut_at 10 text ≡ one ∷ cut_at 10 rest → IsSomeName one → cut_at 10 rest ≡ two ∷ cut_at 10 more → IsSomeStart two → cut_at 10 more ≡ three ∷ cut_at 10 last → IsSomeMoves three → IsBadEvent 4 k (cut_at 10 last) → IsFirstBadScheduleLine text k
 bad_later k text one rest two more three last a n b s d m bad =
     needs_later IsSomeName 1 k (NeedsLine IsSomeStart 2 k (NeedsLine IsSomeMoves 3 k (IsBadEvent 4 k))) one rest (cut_at 10 text) a n
     (needs_later IsSomeStart 2 k (NeedsLine IsSomeMoves 3 k (IsBadEvent 4 k)) two more (cut_at 10 rest) b s

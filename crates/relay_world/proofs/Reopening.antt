@@ -20,13 +20,13 @@ use Rattle.arbiter_core.specs.Memory.{Memory, memory_facts}
 use Rattle.arbiter_core.specs.Setups.{SetupView, rules_at, IsIdentity}
 use Rattle.arbiter_core.specs.Views.{View, spelled_as}
 use Rattle.arbiter_core.specs.Delivers.{IsSpelled, IsWritten}
-use Rattle.arbiter_core.specs.Opens.{Told, Opens, OpensOver, FirstLands, Resumes, IsResumed, IsWhole, running, first_record}
+use Rattle.arbiter_core.specs.Opens.{OpenResult, Opens, OpensOver, FirstLands, Resumes, IsResumed, IsWhole, running, first_record}
 use Rattle.arbiter_core.proofs.Opened.{from_whole}
 use Rattle.relay_world.specs.declared.seat.Place.{Place}
 use Rattle.relay_world.specs.declared.seat.Place.TheVariants as place
-use Rattle.relay_world.specs.Worlds.{Side, opened, restarted}
-use Rattle.relay_world.specs.Inside.Seats.{PlaceIs, PlaceView, Shut, Open, IsOpen, Stands}
-use Rattle.relay_world.specs.Inside.Fields.{place_of, setup_in}
+use Rattle.relay_world.specs.Worlds.{Side, opened_side, restarted}
+use Rattle.relay_world.specs.Inside.Seats.{PlaceIs, PlaceView, Shut, Open, IsOpen, StandsForSide}
+use Rattle.relay_world.specs.Inside.Fields.{place_view, setup_in}
 use Rattle.relay_world.specs.Runs.{KeptIs}
 
 abbrev stamp_from : List ℕ → Stamp
@@ -61,12 +61,12 @@ one_whole rules stamp bytes one other f g =
     made ms ns v w e d = cc
 
 -- what an opening leaves: an arbiter, or the setup
-abbrev pub Reopens : Identity → SetupView → Memory → Side → Told → Type 0
-Reopens me setup kn late (Ok v) = Stands me setup (Open v) kn late
-Reopens me setup kn late (Err fault) = (s : SetupView) → s ≡ setup → Stands me setup (Shut s) kn late
+abbrev pub Reopens : Identity → SetupView → Memory → Side → OpenResult → Type 0
+Reopens me setup kn late (Ok v) = StandsForSide me setup (Open v) kn late
+Reopens me setup kn late (Err fault) = (s : SetupView) → s ≡ setup → StandsForSide me setup (Shut s) kn late
 
 module _ (me : Identity) (setup : SetupView) (kn : Memory) where
-  runs : (kept : Recorded) → IsWritten me.stamp setup.delay kept kn.kept → Stands me setup (Open (running setup me kept)) kn (restarted (rules_at setup) Good (Some kept))
+  runs : (kept : Recorded) → IsWritten me.stamp setup.delay kept kn.kept → StandsForSide me setup (Open (running setup me kept)) kn (restarted (rules_at setup) Good (Some kept))
   runs kept h =
       let v : View = running setup me kept in
       let late : Side = restarted (rules_at setup) Good (Some kept) in
@@ -78,17 +78,17 @@ module _ (me : Identity) (setup : SetupView) (kn : Memory) where
   written before e (inl same) h = absurd (subst (IsSpelled me.stamp setup.delay (first_record (rules_at setup))) (same ∙ e) h)
   written before e (inr w) h = w
 
-  first_put : (keep : Keep) (before : Option (List ℕ)) (told : Told) → before ≡ None → (kn.kept ≡ before) ⊎ IsWritten me.stamp setup.delay (first_record (rules_at setup)) kn.kept → FirstLands keep setup me before kn.kept told → Reopens me setup kn (opened keep (first_record (rules_at setup))) told
-  first_put Good before told e w l = subst (Reopens me setup kn (opened Good (first_record (rules_at setup)))) (sym l.0) (runs (first_record (rules_at setup)) (written before e w l.1))
-  first_put FailsOld before told e w l = subst (Reopens me setup kn (opened FailsOld (first_record (rules_at setup)))) (sym l.0) (λ s is. record { place_is = (is, refl); kept = l.1 ∙ e })
-  first_put FailsNew before told e w l = subst (Reopens me setup kn (opened FailsNew (first_record (rules_at setup)))) (sym l.0) (λ s is. record { place_is = (is, refl); kept = written before e w l.1 })
+  first_put : (keep : Keep) (before : Option (List ℕ)) (told : OpenResult) → before ≡ None → (kn.kept ≡ before) ⊎ IsWritten me.stamp setup.delay (first_record (rules_at setup)) kn.kept → FirstLands keep setup me before kn.kept told → Reopens me setup kn (opened_side keep (first_record (rules_at setup))) told
+  first_put Good before told e w l = subst (Reopens me setup kn (opened_side Good (first_record (rules_at setup)))) (sym l.0) (runs (first_record (rules_at setup)) (written before e w l.1))
+  first_put FailsOld before told e w l = subst (Reopens me setup kn (opened_side FailsOld (first_record (rules_at setup)))) (sym l.0) (λ s is. record { place_is = (is, refl); kept = l.1 ∙ e })
+  first_put FailsNew before told e w l = subst (Reopens me setup kn (opened_side FailsNew (first_record (rules_at setup)))) (sym l.0) (λ s is. record { place_is = (is, refl); kept = written before e w l.1 })
 
-  over_bytes : (keep : Keep) (bytes : List ℕ) (old : Recorded) (told : Told) → WritesRecord bytes (spelled_as me.stamp setup.delay old) → IsResumed (rules_at setup) me.stamp bytes old → kn.kept ≡ Some bytes → told ≢ Err OutOfMemory → Resumes setup me bytes told → Reopens me setup kn (restarted (rules_at setup) keep (Some old)) told
+  over_bytes : (keep : Keep) (bytes : List ℕ) (old : Recorded) (told : OpenResult) → WritesRecord bytes (spelled_as me.stamp setup.delay old) → IsResumed (rules_at setup) me.stamp bytes old → kn.kept ≡ Some bytes → told ≢ Err OutOfMemory → Resumes setup me bytes told → Reopens me setup kn (restarted (rules_at setup) keep (Some old)) told
   over_bytes keep bytes old (Ok v) w h still n r =
       let same : v.kept ≡ old = one_whole (rules_at setup) me.stamp bytes v.kept old r.1 h in
       let is : v ≡ running setup me old = r.0 ∙ ap (running setup me) same in
       let spelled : IsWritten me.stamp setup.delay old kn.kept = subst (IsWritten me.stamp setup.delay old) (sym still) w in
-      subst (λ (x : View). Stands me setup (Open x) kn (restarted (rules_at setup) Good (Some old))) (sym is) (runs old spelled)
+      subst (λ (x : View). StandsForSide me setup (Open x) kn (restarted (rules_at setup) Good (Some old))) (sym is) (runs old spelled)
   over_bytes keep bytes old (Err BadRecord) w h still n (inl r) = absurd (r (spelled_as me.stamp setup.delay old) h.0)
   over_bytes keep bytes old (Err BadRecord) w h still n (inr r) = absurd (r.3 old h)
   over_bytes keep bytes old (Err OtherStamp) w h still n r =
@@ -98,14 +98,14 @@ module _ (me : Identity) (setup : SetupView) (kn : Memory) where
   over_bytes keep bytes old (Err BadSetup) w h still n r = absurd r
   over_bytes keep bytes old (Err KeeperFailed) w h still n r = absurd r
 
-pub reopened : (me : Identity) (setup : SetupView) (place : PlaceView) (old k kn : Memory) (side : Side) (keep : Keep) (told : Told) → IsIdentity setup me → IfSome side.kept (IsWhole (rules_at setup)) → Stands me setup place old side → k.kept ≡ old.kept → k.keep ≡ keep → (i : Identity) × IsIdentity setup i × Opens memory_facts setup i k kn told → told ≢ Err OutOfMemory → Reopens me setup kn (restarted (rules_at setup) keep side.kept) told
+pub reopened : (me : Identity) (setup : SetupView) (place : PlaceView) (old k kn : Memory) (side : Side) (keep : Keep) (told : OpenResult) → IsIdentity setup me → IfSome side.kept (IsWhole (rules_at setup)) → StandsForSide me setup place old side → k.kept ≡ old.kept → k.keep ≡ keep → (i : Identity) × IsIdentity setup i × Opens memory_facts setup i k kn told → told ≢ Err OutOfMemory → Reopens me setup kn (restarted (rules_at setup) keep side.kept) told
 reopened me setup place old k kn side keep told is whole h ke kk o n =
     by_opens (subst (λ (i : Identity). Opens memory_facts setup i k kn told) (one_identity setup o.0 me o.1 is) o.2)
   where
     by_kept : (kept : Option Recorded) (bytes : Option (List ℕ)) → k.kept ≡ bytes → KeptIs me.stamp setup.delay bytes kept → IfSome kept (IsWhole (rules_at setup)) → OpensOver memory_facts setup me bytes k kn told → Reopens me setup kn (restarted (rules_at setup) keep kept) told
     by_kept None None e f w q =
         let same : q.keep ≡ keep = sym q.stated ∙ kk in
-        subst (λ (x : Keep). Reopens me setup kn (opened x (first_record (rules_at setup))) told) same (first_put me setup kn q.keep k.kept told e q.written q.lands)
+        subst (λ (x : Keep). Reopens me setup kn (opened_side x (first_record (rules_at setup))) told) same (first_put me setup kn q.keep k.kept told e q.written q.lands)
     by_kept None (Some bytes) e f w q = absurd cc
     by_kept (Some kept) None e f w q = absurd f
     by_kept (Some kept) (Some bytes) e f w q = over_bytes me setup kn keep bytes kept told f (is_spelled bytes (spelled_as me.stamp setup.delay kept) f, w) (q.0 ∙ e) n q.1
@@ -115,6 +115,6 @@ reopened me setup place old k kn side keep told is whole h ke kk o n =
     by_opens (inr (inl g)) = absurd (n g.answer)
     by_opens (inr (inr q)) = by_kept side.kept k.kept refl (subst (λ (x : Option (List ℕ)). KeptIs me.stamp setup.delay x side.kept) (sym ke) h.kept) whole q
 
-pub setup_of : (me : Identity) (setup : SetupView) (p : Place) (side : Side) → PlaceIs me setup (place_of p) side → setup_in p ≡ setup
+pub setup_of : (me : Identity) (setup : SetupView) (p : Place) (side : Side) → PlaceIs me setup (place_view p) side → setup_in p ≡ setup
 setup_of me setup (place.Shut s) side h = h.0
 setup_of me setup (place.Open v) side h = h.0

@@ -18,14 +18,14 @@ use Rattle.judge_core.specs.Games.{Rules, verdict_after}
 use Rattle.arbiter_core.specs.declared.fault.DeliverFault.TheVariants.{IllegalMove, TooFarAhead, TooLong}
 use Rattle.arbiter_core.specs.declared.keeper.Keep.{Keep}
 use Rattle.arbiter_core.specs.declared.keeper.Keep.TheVariants.{Good, FailsOld, FailsNew}
-use Rattle.arbiter_core.specs.Recording.{Recorded, Window, count_of, reaches, last_ply, advance}
+use Rattle.arbiter_core.specs.Recording.{Recorded, Window, move_count, reaches, last_ply, advance}
 use Rattle.arbiter_core.specs.Answering.{Identity, waits_too, told_now, Answer, Refuses, Sends, puts, answer_to_move, answer_to}
 use Rattle.arbiter_core.proofs.Reach.{step_of, reach_below, last_reached}
 use Rattle.relay_world.specs.declared.event.Event.{Event}
 use Rattle.relay_world.specs.declared.event.Event.TheVariants.{Deliver, Noise, Restart, Ask}
-use Rattle.relay_world.specs.Worlds.{Life, Closed, Down, Running, Side, World, Judged, identity, side_of, turned, answered, hears_at, delivered, happens, first_world, after}
+use Rattle.relay_world.specs.Worlds.{SideLife, Closed, Down, Running, Side, World, Judged, identity, side_in, with_side, answered, hears_at, delivered, happens, first_world, world_after_all}
 use Rattle.relay_world.specs.Headline.{IsRecordOf, kept_count}
-use Rattle.relay_world.specs.InOrder.{is_running, is_same, is_move, brings, brought, RunsThrough}
+use Rattle.relay_world.specs.InOrder.{is_running, is_same_arbiter, is_move_message, brings, brought, RunsThrough}
 use Rattle.relay_world.proofs.Steps.{SideHolds, all_at, moved, count_at, Holds, Goes, happens_goes, side_at}
 use Rattle.relay_world.proofs.Schedules.{grows_at, holds_after}
 
@@ -37,9 +37,9 @@ not_none (Some x) e = refl
 not_none None e = cc
 
 -- the move whose turn it is, where the game goes on
-turn_of : (r : Rules) (game : List Moves) (me : Identity) (old : Recorded) (window : Window) (word : Moves) → IsRecordOf r game old → reaches r game (suc (count_of old)) ≡ true → length game ≤ 4096 → slice_get game (count_of old) ≡ Some word → answer_to_move r me old window (count_of old) word ≡ puts me old window (advance r old.moves word window)
+turn_of : (r : Rules) (game : List Moves) (me : Identity) (old : Recorded) (window : Window) (word : Moves) → IsRecordOf r game old → reaches r game (suc (move_count old)) ≡ true → length game ≤ 4096 → slice_get game (move_count old) ≡ Some word → answer_to_move r me old window (move_count old) word ≡ puts me old window (advance r old.moves word window)
 turn_of r game me old window word h go short e =
-    let k : ℕ = count_of old in
+    let k : ℕ = move_count old in
     let c = count_at r game old h in
     let s = step_of r game k go in
     let within : k < length game = s.within in
@@ -68,7 +68,7 @@ put_landed FailsOld me old window next e = cc
 put_landed FailsNew me old window next e = cc
 
 -- a side that runs hears the move number n, where the lesser of n and the last ply is kept already
-one_more : (r : Rules) (game : List Moves) (me : Identity) (keep : Keep) (kept : Option Recorded) (life : Life) (stamp : Stamp) (sender : Sender) (n : ℕ) (word : Moves) → SideHolds r game (record { kept = kept; life = life }) → slice_get game n ≡ Some word → length game ≤ 4096
+one_more : (r : Rules) (game : List Moves) (me : Identity) (keep : Keep) (kept : Option Recorded) (life : SideLife) (stamp : Stamp) (sender : Sender) (n : ℕ) (word : Moves) → SideHolds r game (record { kept = kept; life = life }) → slice_get game n ≡ Some word → length game ≤ 4096
     → let late = hears_at keep kept life (λ old window. answer_to r me old window (Move stamp sender n word)) in
     is_running life ≡ true → is_running late.0.life ≡ true → kept_count kept ≤ kept_count late.0.kept → min n (last_ply r game) ≤ kept_count kept → min (n + 1) (last_ply r game) ≤ kept_count late.0.kept
 unfolding answer_to
@@ -78,7 +78,7 @@ one_more r game me keep None (Running window) stamp sender n word h e short a b 
 one_more r game me keep (Some old) Closed stamp sender n word h e short a b g low = cc
 one_more r game me keep (Some old) Down stamp sender n word h e short a b g low = cc
 one_more r game me keep (Some old) (Running window) stamp sender n word h e short a b g low =
-    let k : ℕ = count_of old in
+    let k : ℕ = move_count old in
     let last : ℕ = last_ply r game in
     let late : Side × List Message = answered keep old window (answer_to_move r me old window n word) in
     ⊎_elim
@@ -94,25 +94,25 @@ one_more r game me keep (Some old) (Running window) stamp sender n word h e shor
     let runs : is_running (answered keep old window (puts me old window next)).0.life ≡ true = subst (λ x. is_running (answered keep old window x).0.life ≡ true) is b in
     let landed : late.0.kept ≡ Some next = ap (λ x. (answered keep old window x).0.kept) is ∙ put_landed keep me old window next runs in
     let m = moved r game old window word h.kept e2 h.waits in
-    let up : k < count_of next = m.further go in
-    let c : kept_count late.0.kept ≡ count_of next = ap kept_count landed in
+    let up : k < move_count next = m.further go in
+    let c : kept_count late.0.kept ≡ move_count next = ap kept_count landed in
     omega arith)
     (λ (over : last ≤ k). omega arith)
     (cases_lt k last))
     (cases_lt n k)
 
 -- the side that a turn is of
-pub turned_side : (world : World) (who : Who) (late : Side × List Message) → side_of (turned world who late) who ≡ late.0
+pub turned_side : (world : World) (who : Who) (late : Side × List Message) → side_in (with_side world who late) who ≡ late.0
 turned_side world A late = refl
 turned_side world B late = refl
 
-same_is : (who to : Who) → is_same who to ≡ true → to ≡ who
+same_is : (who to : Who) → is_same_arbiter who to ≡ true → to ≡ who
 same_is A A e = refl
 same_is B B e = refl
 same_is A B e = cc
 same_is B A e = cc
 
-move_is : (n : ℕ) (o : Option Message) → is_move n o ≡ true → (stamp : Stamp) × ((sender : Sender) × ((m : Moves) × (o ≡ Some (Move stamp sender n m))))
+move_is : (n : ℕ) (o : Option Message) → is_move_message n o ≡ true → (stamp : Stamp) × ((sender : Sender) × ((m : Moves) × (o ≡ Some (Move stamp sender n m))))
 move_is n (Some (Move stamp sender number m)) e = (stamp, (sender, (m, ap (λ j. Some (Move stamp sender j m)) (eqb-true number n e))))
 move_is n (Some (Ack stamp who count)) e = cc
 move_is n (Some (Verdict stamp who ply v)) e = cc
@@ -120,8 +120,8 @@ move_is n (Some (Fetch stamp who number wanted)) e = cc
 move_is n None e = cc
 
 pub rises : (game : Judged) (world : World) (who : Who) (event : Event) (n : ℕ) → Holds game world → length game.moves ≤ 4096 → brings world who n event ≡ true
-    → is_running (side_of world who).life ≡ true → is_running (side_of (happens game world event) who).life ≡ true
-    → min n (last_ply game.rules game.moves) ≤ kept_count (side_of world who).kept → min (n + 1) (last_ply game.rules game.moves) ≤ kept_count (side_of (happens game world event) who).kept
+    → is_running (side_in world who).life ≡ true → is_running (side_in (happens game world event) who).life ≡ true
+    → min n (last_ply game.rules game.moves) ≤ kept_count (side_in world who).kept → min (n + 1) (last_ply game.rules game.moves) ≤ kept_count (side_in (happens game world event) who).kept
 unfolding happens
 rises game world who (Deliver to index keep) n h short br a b low =
     let p = and_parts _ _ br in
@@ -130,24 +130,24 @@ rises game world who (Deliver to index keep) n h short br a b low =
     let step : Goes game world (happens game world (Deliver to index keep)) = happens_goes game world (Deliver to index keep) h in
     let g = grows_at game _ _ who step in
     let sound : slice_get game.moves n ≡ Some m.1.1.0 = all_at _ world.log index _ h.log m.1.1.1 in
-    let late : Side × List Message = hears_at keep (side_of world who).kept (side_of world who).life (λ old window. answer_to game.rules (identity game who) old window (Move m.0 m.1.0 n m.1.1.0)) in
-    let is : side_of (happens game world (Deliver to index keep)) who ≡ late.0 =
-    ap (λ o. side_of (delivered game world to keep o) who) m.1.1.1
-    ∙ ap (λ (w : Who). side_of (delivered game world w keep (Some (Move m.0 m.1.0 n m.1.1.0))) who) t
+    let late : Side × List Message = hears_at keep (side_in world who).kept (side_in world who).life (λ old window. answer_to game.rules (identity game who) old window (Move m.0 m.1.0 n m.1.1.0)) in
+    let is : side_in (happens game world (Deliver to index keep)) who ≡ late.0 =
+    ap (λ o. side_in (delivered game world to keep o) who) m.1.1.1
+    ∙ ap (λ (w : Who). side_in (delivered game world w keep (Some (Move m.0 m.1.0 n m.1.1.0))) who) t
     ∙ turned_side world who late in
     let runs : is_running late.0.life ≡ true = subst (λ (s : Side). is_running s.life ≡ true) is b in
-    let grown : kept_count (side_of world who).kept ≤ kept_count late.0.kept = subst (λ (s : Side). kept_count (side_of world who).kept ≤ kept_count s.kept) is g.count in
+    let grown : kept_count (side_in world who).kept ≤ kept_count late.0.kept = subst (λ (s : Side). kept_count (side_in world who).kept ≤ kept_count s.kept) is g.count in
     subst (λ (s : Side). min (n + 1) (last_ply game.rules game.moves) ≤ kept_count s.kept) (sym is)
     (one_more game.rules game.moves (identity game who) keep _ _ m.0 m.1.0 n m.1.1.0 (side_at game world who h) sound short a runs grown low)
 rises game world who (Noise to bytes keep) n h short br a b low = cc
 rises game world who (Restart to keep) n h short br a b low = cc
 rises game world who (Ask to) n h short br a b low = cc
 
-starts : (game : Judged) (world : World) (who : Who) (events : List Event) → RunsThrough game world who events → is_running (side_of world who).life ≡ true
+starts : (game : Judged) (world : World) (who : Who) (events : List Event) → RunsThrough game world who events → is_running (side_in world who).life ≡ true
 starts game world who [] h = h
 starts game world who (e ∷ events) h = h.0
 
-pub rising : (game : Judged) (world : World) (who : Who) (events : List Event) (n : ℕ) → Holds game world → length game.moves ≤ 4096 → RunsThrough game world who events → min n (last_ply game.rules game.moves) ≤ kept_count (side_of world who).kept → min (brought game world who events n) (last_ply game.rules game.moves) ≤ kept_count (side_of (after game world events) who).kept
+pub rising : (game : Judged) (world : World) (who : Who) (events : List Event) (n : ℕ) → Holds game world → length game.moves ≤ 4096 → RunsThrough game world who events → min n (last_ply game.rules game.moves) ≤ kept_count (side_in world who).kept → min (brought game world who events n) (last_ply game.rules game.moves) ≤ kept_count (side_in (world_after_all game world events) who).kept
 rising game world who [] n h short runs low = low
 rising game world who (event ∷ events) n h short runs low =
     let step = happens_goes game world event h in
@@ -160,5 +160,5 @@ rising game world who (event ∷ events) n h short runs low =
     rw no (rising game (happens game world event) who events n step.holds short runs.1 (omega arith)))
     (cases_Bool (brings world who n event))
 
-pub rising_from : (game : Judged) (early late : List Event) (who : Who) → length game.moves ≤ 4096 → RunsThrough game (after game (first_world game) early) who late → min (brought game (after game (first_world game) early) who late 0) (last_ply game.rules game.moves) ≤ kept_count (side_of (after game (after game (first_world game) early) late) who).kept
+pub rising_from : (game : Judged) (early late : List Event) (who : Who) → length game.moves ≤ 4096 → RunsThrough game (world_after_all game (first_world game) early) who late → min (brought game (world_after_all game (first_world game) early) who late 0) (last_ply game.rules game.moves) ≤ kept_count (side_in (world_after_all game (world_after_all game (first_world game) early) late) who).kept
 rising_from game early late who short runs = rising game _ who late 0 (holds_after game early) short runs (omega arith)

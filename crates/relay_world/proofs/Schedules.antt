@@ -12,11 +12,11 @@ use Rattle.move_msg.specs.declared.message.Message.TheVariants.{Move, Ack, Verdi
 use Rattle.judge_core.specs.Games.{IsFirst}
 use Rattle.arbiter_core.specs.Recording.{Recorded}
 use Rattle.relay_world.specs.declared.event.Event.{Event}
-use Rattle.relay_world.specs.Worlds.{World, Judged, side_of, happens, first_world, after, worlds}
+use Rattle.relay_world.specs.Worlds.{World, Judged, side_in, happens, first_world, world_after_all, worlds}
 use Rattle.relay_world.specs.Headline.{IsRight, kept_count}
 use Rattle.relay_world.proofs.Steps.{Grows, all_at, Holds, Goes, happens_goes, first_holds, run_goes, right_of}
 
-pub after_append : (game : Judged) (world : World) (early late : List Event) → after game world (early ++ late) ≡ after game (after game world early) late
+pub after_append : (game : Judged) (world : World) (early late : List Event) → world_after_all game world (early ++ late) ≡ world_after_all game (world_after_all game world early) late
 after_append game world [] late = refl
 after_append game world (e ∷ early) late = after_append game (happens game world e) early late
 
@@ -27,35 +27,35 @@ worlds_right game world (e ∷ events) h = (right_of game world h, worlds_right 
 pub first_is_right : (game : Judged) (events : List Event) → AllByRecursion (IsRight game) (worlds game (first_world game) events)
 first_is_right game events = worlds_right game (first_world game) events (first_holds game)
 
-pub holds_after : (game : Judged) (events : List Event) → Holds game (after game (first_world game) events)
+pub holds_after : (game : Judged) (events : List Event) → Holds game (world_after_all game (first_world game) events)
 holds_after game events = (run_goes game (first_world game) events (first_holds game)).holds
 
-pub later : (game : Judged) (early late : List Event) → Goes game (after game (first_world game) early) (after game (first_world game) (early ++ late))
+pub later : (game : Judged) (early late : List Event) → Goes game (world_after_all game (first_world game) early) (world_after_all game (first_world game) (early ++ late))
 later game early late =
     rw (after_append game (first_world game) early late)
-    (run_goes game (after game (first_world game) early) late (holds_after game early))
+    (run_goes game (world_after_all game (first_world game) early) late (holds_after game early))
 
-pub grows_at : (game : Judged) (early late : World) (who : Who) → Goes game early late → Grows (side_of early who).kept (side_of late who).kept
+pub grows_at : (game : Judged) (early late : World) (who : Who) → Goes game early late → Grows (side_in early who).kept (side_in late who).kept
 grows_at game early late A g = g.a
 grows_at game early late B g = g.b
 
-pub counts : (game : Judged) (early late : List Event) (who : Who) → kept_count (side_of (after game (first_world game) early) who).kept ≤ kept_count (side_of (after game (first_world game) (early ++ late)) who).kept
+pub counts : (game : Judged) (early late : List Event) (who : Who) → kept_count (side_in (world_after_all game (first_world game) early) who).kept ≤ kept_count (side_in (world_after_all game (first_world game) (early ++ late)) who).kept
 counts game early late who = (grows_at game _ _ who (later game early late)).count
 
-ack_at : (game : Judged) (world : World) (i : ℕ) (stamp : Stamp) (who : Who) (n : ℕ) → Holds game world → slice_get world.log i ≡ Some (Ack stamp who n) → n ≤ kept_count (side_of world who).kept
+ack_at : (game : Judged) (world : World) (i : ℕ) (stamp : Stamp) (who : Who) (n : ℕ) → Holds game world → slice_get world.log i ≡ Some (Ack stamp who n) → n ≤ kept_count (side_in world who).kept
 ack_at game world i stamp A n h e = all_at _ world.log i _ h.log e
 ack_at game world i stamp B n h e = all_at _ world.log i _ h.log e
 
-pub acks : (game : Judged) (early late : List Event) (i : ℕ) (stamp : Stamp) (who : Who) (n : ℕ) → slice_get (after game (first_world game) early).log i ≡ Some (Ack stamp who n) → n ≤ kept_count (side_of (after game (first_world game) (early ++ late)) who).kept
+pub acks : (game : Judged) (early late : List Event) (i : ℕ) (stamp : Stamp) (who : Who) (n : ℕ) → slice_get (world_after_all game (first_world game) early).log i ≡ Some (Ack stamp who n) → n ≤ kept_count (side_in (world_after_all game (first_world game) (early ++ late)) who).kept
 acks game early late i stamp who n e =
     let g = later game early late in
     ack_at game _ i stamp who n g.holds (g.log i _ e)
 
-pub verdicts : (game : Judged) (events : List Event) (i : ℕ) (stamp : Stamp) (who : Who) (ply : ℕ) (v : Ruling) → slice_get (after game (first_world game) events).log i ≡ Some (Verdict stamp who ply v) → IsFirst game.rules game.moves ply v
+pub verdicts : (game : Judged) (events : List Event) (i : ℕ) (stamp : Stamp) (who : Who) (ply : ℕ) (v : Ruling) → slice_get (world_after_all game (first_world game) events).log i ≡ Some (Verdict stamp who ply v) → IsFirst game.rules game.moves ply v
 verdicts game events i stamp who ply v e = all_at _ _ i _ (holds_after game events).log e
 
-pub stay : (game : Judged) (early late : List Event) (who : Who) (kept : Recorded) (v : Ruling) → (side_of (after game (first_world game) early) who).kept ≡ Some kept → kept.verdict ≡ Some v → (side_of (after game (first_world game) (early ++ late)) who).kept ≡ Some kept
+pub stay : (game : Judged) (early late : List Event) (who : Who) (kept : Recorded) (v : Ruling) → (side_in (world_after_all game (first_world game) early) who).kept ≡ Some kept → kept.verdict ≡ Some v → (side_in (world_after_all game (first_world game) (early ++ late)) who).kept ≡ Some kept
 stay game early late who kept v e s = (grows_at game _ _ who (later game early late)).verdict kept v e s
 
-pub moves_are : (game : Judged) (events : List Event) (i : ℕ) (stamp : Stamp) (sender : Sender) (n : ℕ) (m : Moves) → slice_get (after game (first_world game) events).log i ≡ Some (Move stamp sender n m) → slice_get game.moves n ≡ Some m
+pub moves_are : (game : Judged) (events : List Event) (i : ℕ) (stamp : Stamp) (sender : Sender) (n : ℕ) (m : Moves) → slice_get (world_after_all game (first_world game) events).log i ≡ Some (Move stamp sender n m) → slice_get game.moves n ≡ Some m
 moves_are game events i stamp sender n m e = all_at _ _ i _ (holds_after game events).log e

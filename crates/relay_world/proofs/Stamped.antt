@@ -20,11 +20,11 @@ use Rattle.arbiter_core.specs.declared.fault.DeliverFault.{DeliverFault}
 use Rattle.arbiter_core.specs.declared.fault.DeliverFault.TheVariants.{IllegalMove, TooFarAhead, TooLong}
 use Rattle.arbiter_core.specs.declared.keeper.Keep.{Keep}
 use Rattle.arbiter_core.specs.declared.keeper.Keep.TheVariants.{Good, FailsOld, FailsNew}
-use Rattle.arbiter_core.specs.Recording.{Recorded, Window, count_of, advance}
+use Rattle.arbiter_core.specs.Recording.{Recorded, Window, move_count, advance}
 use Rattle.arbiter_core.specs.Answering.{Identity, waits_too, told_of, told_now, Answer, Refuses, Sends, Puts, puts, sent_by, answer_to_move, answer_to, answer_heard}
 use Rattle.relay_world.specs.declared.event.Event.{Event}
 use Rattle.relay_world.specs.declared.event.Event.TheVariants.{Deliver, Noise, Restart, Ask}
-use Rattle.relay_world.specs.Worlds.{Life, Closed, Down, Running, Side, World, Judged, identity, side_of, turned, answered, hears_at, delivered, listed, wants, happens, first_world, after}
+use Rattle.relay_world.specs.Worlds.{SideLife, Closed, Down, Running, Side, World, Judged, identity, side_in, with_side, answered, hears_at, delivered, listed, wants, happens, first_world, world_after_all}
 use Rattle.arbiter_core.specs.Delivers.{heard}
 use Rattle.relay_world.specs.Worlds.{AreStamped}
 use Rattle.relay_world.proofs.Steps.{all_append}
@@ -48,7 +48,7 @@ SaysOf stamp (Puts next outputs window) = AreOf stamp outputs
 move_says : (r : Rules) (me : Identity) (old : Recorded) (window : Window) (number : ℕ) (word : Moves) → SaysOf me.stamp (answer_to_move r me old window number word)
 move_says r me old window number word =
     let Q : Answer → Type 0 = SaysOf me.stamp in
-    let k : ℕ = count_of old in
+    let k : ℕ = move_count old in
     let a5 : Answer = puts me old window (advance r old.moves word window) in
     let a4 : Answer = cond (is_none (position_after_all r.start (old.moves ++ word ∷ []))) (Refuses IllegalMove) a5 in
     let a3 : Answer = cond (nat_lt k number) (Sends (Ack me.stamp me.who k ∷ []) (waits_too window (number - (k + 1)) word)) a4 in
@@ -78,18 +78,18 @@ answered_are stamp Good old window (Puts next outputs later) q = q
 answered_are stamp FailsOld old window (Puts next outputs later) q = tt
 answered_are stamp FailsNew old window (Puts next outputs later) q = tt
 
-heard_are : (stamp : Stamp) (keep : Keep) (kept : Option Recorded) (life : Life) (respond : Recorded → Window → Answer) → ((old : Recorded) (window : Window) → SaysOf stamp (respond old window)) → AreOf stamp (hears_at keep kept life respond).1
+heard_are : (stamp : Stamp) (keep : Keep) (kept : Option Recorded) (life : SideLife) (respond : Recorded → Window → Answer) → ((old : Recorded) (window : Window) → SaysOf stamp (respond old window)) → AreOf stamp (hears_at keep kept life respond).1
 heard_are stamp keep (Some old) (Running window) respond q = answered_are stamp keep old window (respond old window) (q old window)
 heard_are stamp keep (Some old) Closed respond q = tt
 heard_are stamp keep (Some old) Down respond q = tt
 heard_are stamp keep None life respond q = tt
 
-turned_are : (game : Judged) (world : World) (who : Who) (late : Side × List Message) → AreStamped game world → AreOf game.stamp late.1 → AreStamped game (turned world who late)
+turned_are : (game : Judged) (world : World) (who : Who) (late : Side × List Message) → AreStamped game world → AreOf game.stamp late.1 → AreStamped game (with_side world who late)
 turned_are game world A late h q = all_append _ world.log late.1 h q
 turned_are game world B late h q = all_append _ world.log late.1 h q
 
-wants_are : (me : Identity) (kept : Option Recorded) (life : Life) → AreOf me.stamp (wants me kept life)
-wants_are me (Some old) (Running window) = cond_both (is_some old.verdict || nat_le most_moves (count_of old)) None (Some (Fetch me.stamp me.who (count_of old) most_wanted)) (λ o. AreOf me.stamp (listed o)) (λ _. tt) (λ _. (refl, tt))
+wants_are : (me : Identity) (kept : Option Recorded) (life : SideLife) → AreOf me.stamp (wants me kept life)
+wants_are me (Some old) (Running window) = cond_both (is_some old.verdict || nat_le most_moves (move_count old)) None (Some (Fetch me.stamp me.who (move_count old) most_wanted)) (λ o. AreOf me.stamp (listed o)) (λ _. tt) (λ _. (refl, tt))
 wants_are me (Some old) Closed = tt
 wants_are me (Some old) Down = tt
 wants_are me None life = tt
@@ -104,12 +104,12 @@ happens_are game world (Deliver who index keep) h = delivered_are game world who
 happens_are game world (Noise who bytes keep) h =
     cond_both (is_ok (heard game.stamp bytes.items)) world _ (AreStamped game) (λ _. h)
     (λ _. turned_are game world who _ h (heard_are game.stamp keep _ _ _ (λ old window. heard_says game.rules (identity game who) old window (heard game.stamp bytes.items))))
-happens_are game world (Ask who) h = turned_are game world who _ h (wants_are (identity game who) (side_of world who).kept (side_of world who).life)
+happens_are game world (Ask who) h = turned_are game world who _ h (wants_are (identity game who) (side_in world who).kept (side_in world who).life)
 happens_are game world (Restart who keep) h = turned_are game world who _ h tt
 
-after_are : (game : Judged) (world : World) (events : List Event) → AreStamped game world → AreStamped game (after game world events)
+after_are : (game : Judged) (world : World) (events : List Event) → AreStamped game world → AreStamped game (world_after_all game world events)
 after_are game world [] h = h
 after_are game world (e ∷ events) h = after_are game (happens game world e) events (happens_are game world e h)
 
-pub stamped_after : (game : Judged) (events : List Event) → AreStamped game (after game (first_world game) events)
+pub stamped_after : (game : Judged) (events : List Event) → AreStamped game (world_after_all game (first_world game) events)
 stamped_after game events = after_are game (first_world game) events (sent_are game.stamp Source 0 game.moves)

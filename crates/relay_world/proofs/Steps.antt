@@ -21,19 +21,19 @@ use Rattle.arbiter_core.specs.declared.fault.DeliverFault.{DeliverFault}
 use Rattle.arbiter_core.specs.declared.fault.DeliverFault.TheVariants.{IllegalMove, TooFarAhead, TooLong}
 use Rattle.arbiter_core.specs.declared.keeper.Keep.{Keep}
 use Rattle.arbiter_core.specs.declared.keeper.Keep.TheVariants.{Good, FailsOld, FailsNew}
-use Rattle.arbiter_core.specs.Recording.{Recorded, Window, count_of, reaches, record_at, last_ply, advance}
+use Rattle.arbiter_core.specs.Recording.{Recorded, Window, move_count, reaches, record_at, last_ply, advance}
 use Rattle.arbiter_core.specs.Answering.{Identity, waits_too, still_waits, nothing_waits, told_of, told_now, Answer, Refuses, Sends, Puts, puts, fetched, sent_by, answer_to_move, answer_to, answer_heard}
 use Rattle.arbiter_core.proofs.Reach.{step_of, reach_within, unruled_below, reach_front, reach_more, same_record, last_reached, last_bound}
 use Rattle.arbiter_core.proofs.Waiting.{Fits, drop_at, gapless, fits_too, fits_still, fits_nothing}
 use Rattle.arbiter_core.specs.Delivers.{heard}
 use Rattle.relay_world.specs.declared.event.Event.{Event}
 use Rattle.relay_world.specs.declared.event.Event.TheVariants.{Deliver, Noise, Restart, Ask}
-use Rattle.relay_world.specs.Worlds.{Life, Closed, Down, Running, Side, World, Judged, identity, side_of, turned, answered, hears_at, restarted, delivered, listed, wants, happens, first_world, after}
+use Rattle.relay_world.specs.Worlds.{SideLife, Closed, Down, Running, Side, World, Judged, identity, side_in, with_side, answered, hears_at, restarted, delivered, listed, wants, happens, first_world, world_after_all}
 use Rattle.relay_world.specs.Headline.{IsRecordOf, Agree, IsRight, kept_count}
 
 -- what waits at a running arbiter is the game's
-abbrev pub WaitsHold : List Moves → Option Recorded → Life → Type 0
-WaitsHold game (Some old) (Running window) = Fits window game (count_of old + 1)
+abbrev pub WaitsHold : List Moves → Option Recorded → SideLife → Type 0
+WaitsHold game (Some old) (Running window) = Fits window game (move_count old + 1)
 WaitsHold game (Some old) Closed = Unit {0}
 WaitsHold game (Some old) Down = Unit {0}
 WaitsHold game None Closed = Unit {0}
@@ -89,7 +89,7 @@ pub record Turn (r : Rules) (game : List Moves) (me : Identity) (early : Option 
 pub grows_not : (kept : Option Recorded) → Grows kept kept
 grows_not kept = record { count = omega arith; verdict = λ k v e _. e }
 
-pub count_at : (r : Rules) (game : List Moves) (kept : Recorded) → (h : IsRecordOf r game kept) → count_of kept ≡ h.ply
+pub count_at : (r : Rules) (game : List Moves) (kept : Recorded) → (h : IsRecordOf r game kept) → move_count kept ≡ h.ply
 count_at r game kept h = ap (λ (k : Recorded). length k.moves) h.is ∙ length-take-le h.ply game (reach_within r game h.ply h.reached)
 
 pub start_legal : (r : Rules) (game : List Moves) (k : ℕ) → reaches r game k ≡ true → IsSome (position_after_all r.start (take k game))
@@ -97,7 +97,7 @@ unfolding position_after_all
 start_legal r game zero h = refl
 start_legal r game (suc k) h = (step_of r game k h).legal
 
-pub first_from : (r : Rules) (game : List Moves) (kept : Recorded) (v : Ruling) → IsRecordOf r game kept → kept.verdict ≡ Some v → IsFirst r game (count_of kept) v
+pub first_from : (r : Rules) (game : List Moves) (kept : Recorded) (v : Ruling) → IsRecordOf r game kept → kept.verdict ≡ Some v → IsFirst r game (move_count kept) v
 first_from r game kept v h e =
     let c = count_at r game kept h in
     let f : IsFirst r game h.ply v = record {
@@ -117,7 +117,7 @@ one_first r game j k v w f g =
     let a = f.ruled in let b = subst (λ n. verdict_after r (take n game) ≡ Some w) (sym e) g.ruled in
     (e, cc)
 
-told_says : (r : Rules) (game : List Moves) (me : Identity) (kept : Recorded) → IsRecordOf r game kept → (o : Option Ruling) → kept.verdict ≡ o → AllByRecursion (Says r game me (count_of kept)) (told_of me (count_of kept) o)
+told_says : (r : Rules) (game : List Moves) (me : Identity) (kept : Recorded) → IsRecordOf r game kept → (o : Option Ruling) → kept.verdict ≡ o → AllByRecursion (Says r game me (move_count kept)) (told_of me (move_count kept) o)
 told_says r game me kept h None e = ((refl, omega arith), tt)
 told_says r game me kept h (Some v) e = ((refl, omega arith), (first_from r game kept v h e, tt))
 
@@ -141,21 +141,21 @@ drop_past (x ∷ xs) (suc n) h = drop_past xs n (omega arith)
 fetched_says : (r : Rules) (game : List Moves) (me : Identity) (count n wanted : ℕ) (old : Recorded) → IsRecordOf r game old → AllByRecursion (Says r game me count) (fetched me old n wanted)
 fetched_says r game me count n wanted old h =
     let c = count_at r game old h in
-    let m : old.moves ≡ take (count_of old) game = ap (λ (k : Recorded). k.moves) h.is ∙ ap (λ j. take j game) (sym c) in
-    let whole : old.moves ++ drop (count_of old) game ≡ game = ap (λ (xs : List Moves). xs ++ drop (count_of old) game) m ∙ take-append-drop (count_of old) game in
+    let m : old.moves ≡ take (move_count old) game = ap (λ (k : Recorded). k.moves) h.is ∙ ap (λ j. take j game) (sym c) in
+    let whole : old.moves ++ drop (move_count old) game ≡ game = ap (λ (xs : List Moves). xs ++ drop (move_count old) game) m ∙ take-append-drop (move_count old) game in
     ⊎_elim
-    (λ (lt : n < count_of old).
+    (λ (lt : n < move_count old).
     let rest : List Moves = take wanted (drop n old.moves) in
     let more : List Moves = drop wanted (drop n old.moves) in
     let parts : old.moves ≡ take n old.moves ++ (rest ++ more) = sym (take-append-drop n old.moves) ∙ ap (λ (xs : List Moves). take n old.moves ++ xs) (sym (take-append-drop wanted (drop n old.moves))) in
-    let all : game ≡ take n old.moves ++ (rest ++ (more ++ drop (count_of old) game)) =
-    sym whole ∙ ap (λ (xs : List Moves). xs ++ drop (count_of old) game) parts ∙ append_assoc (take n old.moves) (rest ++ more) (drop (count_of old) game)
-    ∙ ap (λ (xs : List Moves). take n old.moves ++ xs) (append_assoc rest more (drop (count_of old) game)) in
-    moves_all (Says r game me count) game me.stamp (Arbiter me.who) n (take n old.moves) rest (more ++ drop (count_of old) game) (λ k w e. e) (sym (length-take-le n old.moves (omega arith))) all)
-    (λ (ge : count_of old ≤ n).
+    let all : game ≡ take n old.moves ++ (rest ++ (more ++ drop (move_count old) game)) =
+    sym whole ∙ ap (λ (xs : List Moves). xs ++ drop (move_count old) game) parts ∙ append_assoc (take n old.moves) (rest ++ more) (drop (move_count old) game)
+    ∙ ap (λ (xs : List Moves). take n old.moves ++ xs) (append_assoc rest more (drop (move_count old) game)) in
+    moves_all (Says r game me count) game me.stamp (Arbiter me.who) n (take n old.moves) rest (more ++ drop (move_count old) game) (λ k w e. e) (sym (length-take-le n old.moves (omega arith))) all)
+    (λ (ge : move_count old ≤ n).
     let none : take wanted (drop n old.moves) ≡ [] = ap (take wanted) (drop_past old.moves n ge) ∙ take_none wanted in
     rw none tt)
-    (cases_lt n (count_of old))
+    (cases_lt n (move_count old))
   where
     take_none : (k : ℕ) → take {A = Moves} k [] ≡ []
     take_none zero = refl
@@ -164,22 +164,22 @@ fetched_says r game me count n wanted old h =
 -- the record after a move of the game and what waits behind it is the game's again
 pub record Moved (r : Rules) (game : List Moves) (old : Recorded) (window : Window) (next : Recorded) : Type 0 where
   pub next_is : IsRecordOf r game next
-  pub more : count_of old ≤ count_of next
-  pub further : reaches r game (suc (count_of old)) ≡ true → count_of old < count_of next
-  pub waits : Fits (cond (is_some next.verdict) nothing_waits (still_waits window (count_of next - count_of old))) game (count_of next + 1)
+  pub more : move_count old ≤ move_count next
+  pub further : reaches r game (suc (move_count old)) ≡ true → move_count old < move_count next
+  pub waits : Fits (cond (is_some next.verdict) nothing_waits (still_waits window (move_count next - move_count old))) game (move_count next + 1)
 
-pub moved : (r : Rules) (game : List Moves) (old : Recorded) (window : Window) (word : Moves) → IsRecordOf r game old → slice_get game (count_of old) ≡ Some word → Fits window game (count_of old + 1) → Moved r game old window (advance r old.moves word window)
+pub moved : (r : Rules) (game : List Moves) (old : Recorded) (window : Window) (word : Moves) → IsRecordOf r game old → slice_get game (move_count old) ≡ Some word → Fits window game (move_count old + 1) → Moved r game old window (advance r old.moves word window)
 moved r game old window word h e f =
     let c = count_at r game old h in
     let all : List Moves = old.moves ++ word ∷ some_prefix window in
-    let more = gapless window game (count_of old + 1) f in
-    let m : old.moves ≡ take (count_of old) game = ap (λ (k : Recorded). k.moves) h.is ∙ ap (λ n. take n game) (sym c) in
+    let more = gapless window game (move_count old + 1) f in
+    let m : old.moves ≡ take (move_count old) game = ap (λ (k : Recorded). k.moves) h.is ∙ ap (λ n. take n game) (sym c) in
     let whole : all ++ more.0 ≡ game =
     append_assoc old.moves (word ∷ some_prefix window) more.0
     ∙ ap (λ (xs : List Moves). old.moves ++ word ∷ xs) more.1
-    ∙ ap (λ (xs : List Moves). old.moves ++ xs) (sym (drop_at game (count_of old) word e))
-    ∙ ap (λ (xs : List Moves). xs ++ drop (count_of old) game) m
-    ∙ take-append-drop (count_of old) game in
+    ∙ ap (λ (xs : List Moves). old.moves ++ xs) (sym (drop_at game (move_count old) word e))
+    ∙ ap (λ (xs : List Moves). xs ++ drop (move_count old) game) m
+    ∙ take-append-drop (move_count old) game in
     let n : ℕ = last_ply r all in
     let reach : reaches r all n ≡ true = last_reached r all in
     let within : n ≤ length all = reach_within r all n reach in
@@ -189,40 +189,40 @@ moved r game old window word h e f =
       reached = subst (λ (xs : List Moves). reaches r xs n ≡ true) whole (reach_more r all more.0 n reach);
       is = same_record r all more.0 n within ∙ ap (λ (xs : List Moves). record_at r xs n) whole;
     } in
-    let size : count_of next ≡ n = length-take-le n all within in
-    let long : count_of old ≤ length all = simp length-append (omega arith) in
-    let longer : suc (count_of old) ≤ length all = simp length-append (omega arith) in
-    let before : reaches r game (count_of old) ≡ true = subst (λ k. reaches r game k ≡ true) (sym c) h.reached in
-    let low : count_of old ≤ n = last_bound r all (count_of old) (reach_front r all more.0 (count_of old) long (subst (λ (xs : List Moves). reaches r xs (count_of old) ≡ true) (sym whole) before)) in
-    let up : count_of old ≤ count_of next = subst (λ k. count_of old ≤ k) (sym size) low in
-    let at : count_of old + 1 + (count_of next - count_of old) ≡ count_of next + 1 = omega arith in
+    let size : move_count next ≡ n = length-take-le n all within in
+    let long : move_count old ≤ length all = simp length-append (omega arith) in
+    let longer : suc (move_count old) ≤ length all = simp length-append (omega arith) in
+    let before : reaches r game (move_count old) ≡ true = subst (λ k. reaches r game k ≡ true) (sym c) h.reached in
+    let low : move_count old ≤ n = last_bound r all (move_count old) (reach_front r all more.0 (move_count old) long (subst (λ (xs : List Moves). reaches r xs (move_count old) ≡ true) (sym whole) before)) in
+    let up : move_count old ≤ move_count next = subst (λ k. move_count old ≤ k) (sym size) low in
+    let at : move_count old + 1 + (move_count next - move_count old) ≡ move_count next + 1 = omega arith in
     record {
       next_is = next_is;
       more = up;
-      further = λ x. let y : suc (count_of old) ≤ n = last_bound r all (suc (count_of old)) (reach_front r all more.0 (suc (count_of old)) longer (subst (λ (xs : List Moves). reaches r xs (suc (count_of old)) ≡ true) (sym whole) x)) in
-          subst (λ k. count_of old < k) (sym size) (omega arith);
-      waits = cond_both (is_some next.verdict) nothing_waits (still_waits window (count_of next - count_of old)) (λ w. Fits w game (count_of next + 1))
-          (λ _. fits_nothing game (count_of next + 1))
-          (λ _. subst (λ k. Fits (still_waits window (count_of next - count_of old)) game k) at (fits_still window game (count_of old + 1) (count_of next - count_of old) f));
+      further = λ x. let y : suc (move_count old) ≤ n = last_bound r all (suc (move_count old)) (reach_front r all more.0 (suc (move_count old)) longer (subst (λ (xs : List Moves). reaches r xs (suc (move_count old)) ≡ true) (sym whole) x)) in
+          subst (λ k. move_count old < k) (sym size) (omega arith);
+      waits = cond_both (is_some next.verdict) nothing_waits (still_waits window (move_count next - move_count old)) (λ w. Fits w game (move_count next + 1))
+          (λ _. fits_nothing game (move_count next + 1))
+          (λ _. subst (λ k. Fits (still_waits window (move_count next - move_count old)) game k) at (fits_still window game (move_count old + 1) (move_count next - move_count old) f));
     }
 
 pub record PutHolds (r : Rules) (game : List Moves) (me : Identity) (old next : Recorded) (outputs : List Message) (window : Window) : Type 0 where
   pub next_is : IsRecordOf r game next
-  pub more : count_of old ≤ count_of next
+  pub more : move_count old ≤ move_count next
   pub unruled : old.verdict ≡ None
-  pub says : AllByRecursion (Says r game me (count_of next)) outputs
-  pub waits : Fits window game (count_of next + 1)
+  pub says : AllByRecursion (Says r game me (move_count next)) outputs
+  pub waits : Fits window game (move_count next + 1)
 
 -- what holds of an answer
 abbrev pub AnswerHolds : Rules → List Moves → Identity → Recorded → Answer → Type 0
 AnswerHolds r game me old (Refuses fault) = Unit {0}
-AnswerHolds r game me old (Sends outputs window) = AllByRecursion (Says r game me (count_of old)) outputs × Fits window game (count_of old + 1)
+AnswerHolds r game me old (Sends outputs window) = AllByRecursion (Says r game me (move_count old)) outputs × Fits window game (move_count old + 1)
 AnswerHolds r game me old (Puts next outputs window) = PutHolds r game me old next outputs window
 
-move_holds : (r : Rules) (game : List Moves) (me : Identity) (old : Recorded) (window : Window) (number : ℕ) (word : Moves) → IsRecordOf r game old → Fits window game (count_of old + 1) → slice_get game number ≡ Some word → AnswerHolds r game me old (answer_to_move r me old window number word)
+move_holds : (r : Rules) (game : List Moves) (me : Identity) (old : Recorded) (window : Window) (number : ℕ) (word : Moves) → IsRecordOf r game old → Fits window game (move_count old + 1) → slice_get game number ≡ Some word → AnswerHolds r game me old (answer_to_move r me old window number word)
 move_holds r game me old window number word h f e =
     let Q : Answer → Type 0 = AnswerHolds r game me old in
-    let k : ℕ = count_of old in
+    let k : ℕ = move_count old in
     let a5 : Answer = puts me old window (advance r old.moves word window) in
     let a4 : Answer = cond (is_none (position_after_all r.start (old.moves ++ word ∷ []))) (Refuses IllegalMove) a5 in
     let a3 : Answer = cond (nat_lt k number) (Sends (Ack me.stamp me.who k ∷ []) (waits_too window (number - (k + 1)) word)) a4 in
@@ -247,14 +247,14 @@ move_holds r game me old window number word h f e =
     none_of None q = refl
     none_of (Some v) q = cc
 
-pub answer_holds : (r : Rules) (game : List Moves) (me : Identity) (a b : ℕ) (old : Recorded) (window : Window) (message : Message) → IsRecordOf r game old → Fits window game (count_of old + 1) → IsSound r game a b message → AnswerHolds r game me old (answer_to r me old window message)
+pub answer_holds : (r : Rules) (game : List Moves) (me : Identity) (a b : ℕ) (old : Recorded) (window : Window) (message : Message) → IsRecordOf r game old → Fits window game (move_count old + 1) → IsSound r game a b message → AnswerHolds r game me old (answer_to r me old window message)
 unfolding answer_to
 answer_holds r game me a b old window (Move stamp sender number m) h f e = move_holds r game me old window number m h f e
 answer_holds r game me a b old window (Ack stamp who n) h f e = (tt, f)
 answer_holds r game me a b old window (Verdict stamp who ply v) h f e = (tt, f)
-answer_holds r game me a b old window (Fetch stamp who number wanted) h f e = (fetched_says r game me (count_of old) number wanted old h, f)
+answer_holds r game me a b old window (Fetch stamp who number wanted) h f e = (fetched_says r game me (move_count old) number wanted old h, f)
 
-answered_turn : (r : Rules) (game : List Moves) (me : Identity) (keep : Keep) (old : Recorded) (window : Window) (a : Answer) → IsRecordOf r game old → Fits window game (count_of old + 1) → AnswerHolds r game me old a → Turn r game me (Some old) (answered keep old window a)
+answered_turn : (r : Rules) (game : List Moves) (me : Identity) (keep : Keep) (old : Recorded) (window : Window) (a : Answer) → IsRecordOf r game old → Fits window game (move_count old + 1) → AnswerHolds r game me old a → Turn r game me (Some old) (answered keep old window a)
 answered_turn r game me keep old window (Refuses fault) h f q = record { side = record { kept = h; waits = f }; grows = grows_not (Some old); says = tt }
 answered_turn r game me keep old window (Sends outputs later) h f q = record { side = record { kept = h; waits = q.1 }; grows = grows_not (Some old); says = q.0 }
 answered_turn r game me Good old window (Puts next outputs later) h f q = record { side = record { kept = q.next_is; waits = q.waits }; grows = record { count = q.more; verdict = λ k v e s. let n = q.unruled in cc }; says = q.says }
@@ -264,7 +264,7 @@ answered_turn r game me FailsNew old window (Puts next outputs later) h f q = re
 stays : (r : Rules) (game : List Moves) (me : Identity) (side : Side) → SideHolds r game side → Turn r game me side.kept (side, [])
 stays r game me side h = record { side = h; grows = grows_not side.kept; says = tt }
 
-pub hears_turn : (r : Rules) (game : List Moves) (me : Identity) (keep : Keep) (kept : Option Recorded) (life : Life) (respond : Recorded → Window → Answer) → SideHolds r game (record { kept = kept; life = life }) → ((old : Recorded) (window : Window) → IsRecordOf r game old → Fits window game (count_of old + 1) → AnswerHolds r game me old (respond old window)) → Turn r game me kept (hears_at keep kept life respond)
+pub hears_turn : (r : Rules) (game : List Moves) (me : Identity) (keep : Keep) (kept : Option Recorded) (life : SideLife) (respond : Recorded → Window → Answer) → SideHolds r game (record { kept = kept; life = life }) → ((old : Recorded) (window : Window) → IsRecordOf r game old → Fits window game (move_count old + 1) → AnswerHolds r game me old (respond old window)) → Turn r game me kept (hears_at keep kept life respond)
 hears_turn r game me keep (Some old) (Running window) respond h q = answered_turn r game me keep old window (respond old window) h.kept h.waits (q old window h.kept h.waits)
 hears_turn r game me keep (Some old) Closed respond h q = stays r game me _ h
 hears_turn r game me keep (Some old) Down respond h q = stays r game me _ h
@@ -277,7 +277,7 @@ grows_from_none : (late : Option Recorded) → Grows None late
 grows_from_none late = record { count = omega arith; verdict = λ k v e _. cc }
 
 pub restarted_turn : (r : Rules) (game : List Moves) (me : Identity) (keep : Keep) (kept : Option Recorded) → IfSome kept (IsRecordOf r game) → Turn r game me kept (restarted r keep kept, [])
-restarted_turn r game me keep (Some old) h = record { side = record { kept = h; waits = fits_nothing game (count_of old + 1) }; grows = grows_not (Some old); says = tt }
+restarted_turn r game me keep (Some old) h = record { side = record { kept = h; waits = fits_nothing game (move_count old + 1) }; grows = grows_not (Some old); says = tt }
 restarted_turn r game me Good None h = record { side = record { kept = first_is r game; waits = fits_nothing game 1 }; grows = grows_from_none _; says = tt }
 restarted_turn r game me FailsOld None h = record { side = record { kept = tt; waits = tt }; grows = grows_from_none _; says = tt }
 restarted_turn r game me FailsNew None h = record { side = record { kept = first_is r game; waits = tt }; grows = grows_from_none _; says = tt }
@@ -319,7 +319,7 @@ sound_b r game s a b (Ack stamp who n) e = subst (λ (w : Who). n ≤ count_by w
 sound_b r game s a b (Verdict stamp who ply v) e = e
 sound_b r game s a b (Fetch stamp who number wanted) e = tt
 
-pub turned_goes : (game : Judged) (world : World) (who : Who) (late : Side × List Message) → Holds game world → Turn game.rules game.moves (identity game who) (side_of world who).kept late → Goes game world (turned world who late)
+pub turned_goes : (game : Judged) (world : World) (who : Who) (late : Side × List Message) → Holds game world → Turn game.rules game.moves (identity game who) (side_in world who).kept late → Goes game world (with_side world who late)
 turned_goes game world A late h t =
     record {
       holds = record {
@@ -347,7 +347,7 @@ turned_goes game world B late h t =
       log = slice_get_more world.log late.1;
     }
 
-pub side_at : (game : Judged) (world : World) (who : Who) → Holds game world → SideHolds game.rules game.moves (side_of world who)
+pub side_at : (game : Judged) (world : World) (who : Who) → Holds game world → SideHolds game.rules game.moves (side_in world who)
 side_at game world A h = h.a
 side_at game world B h = h.b
 
@@ -365,8 +365,8 @@ refused_holds game me old window bytes h = by_cases (heard game.stamp bytes) h
     by_cases (Ok m) e = cc
     by_cases (Err f) e = tt
 
-asked_says : (r : Rules) (game : List Moves) (me : Identity) (count : ℕ) (kept : Option Recorded) (life : Life) → AllByRecursion (Says r game me count) (wants me kept life)
-asked_says r game me count (Some old) (Running window) = cond_both (is_some old.verdict || nat_le most_moves (count_of old)) None (Some (Fetch me.stamp me.who (count_of old) most_wanted)) (λ o. AllByRecursion (Says r game me count) (listed o)) (λ _. tt) (λ _. (tt, tt))
+asked_says : (r : Rules) (game : List Moves) (me : Identity) (count : ℕ) (kept : Option Recorded) (life : SideLife) → AllByRecursion (Says r game me count) (wants me kept life)
+asked_says r game me count (Some old) (Running window) = cond_both (is_some old.verdict || nat_le most_moves (move_count old)) None (Some (Fetch me.stamp me.who (move_count old) most_wanted)) (λ o. AllByRecursion (Says r game me count) (listed o)) (λ _. tt) (λ _. (tt, tt))
 asked_says r game me count (Some old) Closed = tt
 asked_says r game me count (Some old) Down = tt
 asked_says r game me count None life = tt
@@ -381,7 +381,7 @@ happens_goes game world (Noise who bytes keep) h =
     (λ e. turned_goes game world who _ h (hears_turn game.rules game.moves (identity game who) keep _ _ _ (side_at game world who h)
     (λ old window i f. refused_holds game (identity game who) old window bytes.items e)))
 happens_goes game world (Ask who) h =
-    turned_goes game world who _ h (record { side = side_at game world who h; grows = grows_not _; says = asked_says game.rules game.moves (identity game who) (kept_count (side_of world who).kept) (side_of world who).kept (side_of world who).life })
+    turned_goes game world who _ h (record { side = side_at game world who h; grows = grows_not _; says = asked_says game.rules game.moves (identity game who) (kept_count (side_in world who).kept) (side_in world who).kept (side_in world who).life })
 happens_goes game world (Restart who keep) h =
     turned_goes game world who _ h (restarted_turn game.rules game.moves (identity game who) keep _ (side_at game world who h).kept)
 
@@ -391,7 +391,7 @@ first_holds game = record { a = record { kept = tt; waits = tt }; b = record { k
 grows_on : (x y z : Option Recorded) → Grows x y → Grows y z → Grows x z
 grows_on x y z f g = record { count = omega (arith, f.count, g.count); verdict = λ k v e s. g.verdict k v (f.verdict k v e s) s }
 
-pub run_goes : (game : Judged) (world : World) (events : List Event) → Holds game world → Goes game world (after game world events)
+pub run_goes : (game : Judged) (world : World) (events : List Event) → Holds game world → Goes game world (world_after_all game world events)
 run_goes game world [] h = record { holds = h; a = grows_not world.a.kept; b = grows_not world.b.kept; log = λ i m e. e }
 run_goes game world (event ∷ events) h =
     let one = happens_goes game world event h in

@@ -11,23 +11,23 @@ use Rattle.judge_core.specs.Games.{Rules, IsOutcome, plies_to, verdict_after, po
 use Rattle.judge_core.specs.Laws.{NoDelayIsTheRuling}
 use Rattle.move_msg.specs.declared.who.Who.{Who}
 use Rattle.move_msg.specs.declared.who.Who.TheVariants.{A, B}
-use Rattle.arbiter_core.specs.Recording.{Recorded, count_of, record_at, last_ply}
+use Rattle.arbiter_core.specs.Recording.{Recorded, move_count, record_at, last_ply}
 use Rattle.arbiter_core.proofs.Reach.{step_of, reach_below, reach_within, unruled_below, last_reached, last_bound}
 use Rattle.relay_world.specs.declared.event.Event.{Event}
 use Rattle.relay_world.specs.Worlds.{Judged}
 use Rattle.relay_world.specs.Headline.{IsRecordOf}
-use Rattle.relay_world.specs.Laws.{IsAll, IsLeastRuling, Keeps}
+use Rattle.relay_world.specs.Laws.{IsAll, IsLeastRuling, KeepsAfter}
 use Rattle.relay_world.proofs.Steps.{count_at, first_from}
 use Rattle.relay_world.proofs.Schedules.{holds_after}
 use Rattle.relay_world.proofs.Faithful.{reached_from}
 
 -- what is kept in a world is the record of a ply that the game reaches
-pub kept_is : (game : Judged) (events : List Event) (who : Who) (kept : Recorded) → Keeps game events who kept → IsRecordOf game.rules game.moves kept
+pub kept_is : (game : Judged) (events : List Event) (who : Who) (kept : Recorded) → KeepsAfter game events who kept → IsRecordOf game.rules game.moves kept
 kept_is game events A kept e = subst (λ (o : Option Recorded). IfSome o (IsRecordOf game.rules game.moves)) e (holds_after game events).a.kept
 kept_is game events B kept e = subst (λ (o : Option Recorded). IfSome o (IsRecordOf game.rules game.moves)) e (holds_after game events).b.kept
 
 -- a record of so many moves is that of the last ply
-pub at_last : (r : Rules) (game : List Moves) (kept : Recorded) → IsRecordOf r game kept → last_ply r game ≤ count_of kept → kept ≡ record_at r game (last_ply r game)
+pub at_last : (r : Rules) (game : List Moves) (kept : Recorded) → IsRecordOf r game kept → last_ply r game ≤ move_count kept → kept ≡ record_at r game (last_ply r game)
 at_last r game kept h low =
     let c = count_at r game kept h in
     let up = last_bound r game h.ply h.reached in
@@ -40,21 +40,21 @@ ruled_last r game k v e =
     ⊎_elim (λ (lt : k < last_ply r game). let none = unruled_below r game k (last_ply r game) lt (last_reached r game) in absurd cc)
     (λ (ge : last_ply r game ≤ k). ge) (cases_lt k (last_ply r game))
 
-at_verdict : (r : Rules) (game : List Moves) (kept : Recorded) (v : Ruling) → IsRecordOf r game kept → kept.verdict ≡ Some v → last_ply r game ≤ count_of kept
-at_verdict r game kept v h e = ruled_last r game (count_of kept) v (first_from r game kept v h e).ruled
+at_verdict : (r : Rules) (game : List Moves) (kept : Recorded) (v : Ruling) → IsRecordOf r game kept → kept.verdict ≡ Some v → last_ply r game ≤ move_count kept
+at_verdict r game kept v h e = ruled_last r game (move_count kept) v (first_from r game kept v h e).ruled
 
 some_is : (o : Option Ruling) → IsSome o → (v : Ruling) × (o ≡ Some v)
 some_is (Some v) h = (v, refl)
 some_is None h = absurd cc
 
-is_all_last : (game : Judged) (kept : Recorded) → IsRecordOf game.rules game.moves kept → IsAll game kept → last_ply game.rules game.moves ≤ count_of kept
+is_all_last : (game : Judged) (kept : Recorded) → IsRecordOf game.rules game.moves kept → IsAll game kept → last_ply game.rules game.moves ≤ move_count kept
 is_all_last game kept h (inl whole) =
     let long = reach_within game.rules game.moves (last_ply game.rules game.moves) (last_reached game.rules game.moves) in
-    let c : count_of kept ≡ length game.moves = ap (λ (ms : List Moves). length ms) whole in
+    let c : move_count kept ≡ length game.moves = ap (λ (ms : List Moves). length ms) whole in
     omega (arith, long, c)
 is_all_last game kept h (inr some) = let v = some_is kept.verdict some in at_verdict game.rules game.moves kept v.0 h v.1
 
-pub whole_is_one : (game : Judged) (events others : List Event) (who other : Who) (one two : Recorded) → Keeps game events who one → Keeps game others other two → IsAll game one → IsAll game two → one ≡ two
+pub whole_is_one : (game : Judged) (events others : List Event) (who other : Who) (one two : Recorded) → KeepsAfter game events who one → KeepsAfter game others other two → IsAll game one → IsAll game two → one ≡ two
 whole_is_one game events others who other one two e f a b =
     let g = kept_is game events who one e in
     let h = kept_is game others other two f in
@@ -62,16 +62,16 @@ whole_is_one game events others who other one two e f a b =
 
 -- ---- no delay
 
-pub least_ruling : NoDelayIsTheRuling → (game : Judged) (events : List Event) (who : Who) (kept : Recorded) (v : Ruling) → game.rules.delay ≡ 0 → Keeps game events who kept → (kept.verdict ≡ Some v → IsLeastRuling game.rules game.moves (count_of kept) v) × (IsLeastRuling game.rules game.moves (count_of kept) v → kept.verdict ≡ Some v)
+pub least_ruling : NoDelayIsTheRuling → (game : Judged) (events : List Event) (who : Who) (kept : Recorded) (v : Ruling) → game.rules.delay ≡ 0 → KeepsAfter game events who kept → (kept.verdict ≡ Some v → IsLeastRuling game.rules game.moves (move_count kept) v) × (IsLeastRuling game.rules game.moves (move_count kept) v → kept.verdict ≡ Some v)
 least_ruling law game events who kept v none e =
     let r : Rules = game.rules in
     let h = kept_is game events who kept e in
     let c = count_at r game.moves kept h in (
       (λ is. (let f = first_from r game.moves kept v h is in record {
-        ruled = sym (law r (take (count_of kept) game.moves) none) ∙ f.ruled;
+        ruled = sym (law r (take (move_count kept) game.moves) none) ∙ f.ruled;
         earlier = λ j lt. sym (law r (take j game.moves) none) ∙ f.unruled j lt;
       })),
-      (λ l. ap (λ (k : Recorded). k.verdict) h.is ∙ ap (λ n. verdict_after r (take n game.moves)) (sym c) ∙ law r (take (count_of kept) game.moves) none ∙ l.ruled),
+      (λ l. ap (λ (k : Recorded). k.verdict) h.is ∙ ap (λ n. verdict_after r (take n game.moves)) (sym c) ∙ law r (take (move_count kept) game.moves) none ∙ l.ruled),
     )
 
 -- ---- the last ply

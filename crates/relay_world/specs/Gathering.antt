@@ -5,7 +5,7 @@ use Rattle.move_msg.specs.Files.{File, entries_of, entry_for}
 use Rattle.move_msg.specs.Manifests.{Entry, SpellsManifest, IsAfter, IsBefore}
 use Rattle.move_msg.specs.TableNames.{IsFileName}
 use Rattle.table_file.specs.declared.fault.TableFault.{TableFault}
-use Rattle.table_file.specs.Tables.{Contents, table_at as contents_at}
+use Rattle.table_file.specs.Tables.{Contents, contents_at}
 use Rattle.judge_core.specs.Tables.{Tables, slot, table_at}
 use Rattle.relay_world.specs.declared.fault.WorldFault.{WorldFault}
 use Rattle.relay_world.specs.declared.fault.WorldFault.TheVariants.{BadTable, DuplicateTable}
@@ -48,9 +48,9 @@ pub record IsManifestOf (files : List File) (manifest : List ℕ) : Type 0 where
 -- ---- cited by private functions alone
 
 -- the tables that are in a set where nothing was refused
-abbrev pub filled : {X : Type 0} → Result X WorldFault → Tables → Result Tables WorldFault
-filled (Ok x) tables = Ok tables
-filled (Err fault) tables = Err fault
+abbrev pub filled_unless_faulty : {X : Type 0} → Result X WorldFault → Tables → Result Tables WorldFault
+filled_unless_faulty (Ok x) tables = Ok tables
+filled_unless_faulty (Err fault) tables = Err fault
 
 -- no entry has this one's name
 abbrev pub IsNew : Entry → List Entry → Type 0

@@ -3,7 +3,7 @@ use Rattle.std.specs.Prelude.{◌≡◌, ◌↔◌, ℕ, ◌≤◌, true, List, 
 use Rattle.board_core.specs.declared.moves.Move.{Move as Moves}
 use Rattle.board_core.specs.declared.verdict.Verdict.{Verdict as Ruling}
 use Rattle.judge_core.specs.Games.{Rules, IsFirst, IsUnruled, position_after_all}
-use Rattle.arbiter_core.specs.Recording.{Recorded, reaches, record_at, count_of}
+use Rattle.arbiter_core.specs.Recording.{Recorded, reaches, record_at, move_count}
 use Rattle.relay_world.specs.Worlds.{Judged, World}
 
 -- ---- in plain words
@@ -23,12 +23,12 @@ pub record IsFrontOf (rules : Rules) (game : List Moves) (kept : Recorded) : Typ
 pub record IsFaithful (game : Judged) (world : World) : Type 0 where
   pub a : IfSome world.a.kept (IsFrontOf game.rules game.moves)
   pub b : IfSome world.b.kept (IsFrontOf game.rules game.moves)
-  pub agree : (one other : Recorded) (v w : Ruling) → world.a.kept ≡ Some one → world.b.kept ≡ Some other → one.verdict ≡ Some v → other.verdict ≡ Some w → (count_of one ≡ count_of other) × (v ≡ w)
+  pub agree : (one other : Recorded) (v w : Ruling) → world.a.kept ≡ Some one → world.b.kept ≡ Some other → one.verdict ≡ Some v → other.verdict ≡ Some w → (move_count one ≡ move_count other) × (v ≡ w)
 
 -- how many moves are kept
 abbrev pub kept_count : Option Recorded → ℕ
 kept_count None = 0
-kept_count (Some kept) = count_of kept
+kept_count (Some kept) = move_count kept
 
 -- ---- as it is proved; cited by private functions alone
 
@@ -40,9 +40,9 @@ pub record IsRecordOf (rules : Rules) (game : List Moves) (kept : Recorded) : Ty
 
 -- two verdicts are one, at one ply, and it is the first of the game
 pub record IsOneVerdict (rules : Rules) (game : List Moves) (one other : Recorded) (v w : Ruling) : Type 0 where
-  pub ply : count_of one ≡ count_of other
+  pub ply : move_count one ≡ move_count other
   pub verdict : v ≡ w
-  pub first : IsFirst rules game (count_of one) v
+  pub first : IsFirst rules game (move_count one) v
 
 abbrev pub Agree : Rules → List Moves → Recorded → Recorded → Type 0
 Agree rules game one other = (v w : Ruling) → one.verdict ≡ Some v → other.verdict ≡ Some w → IsOneVerdict rules game one other v w

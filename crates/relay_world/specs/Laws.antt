@@ -15,9 +15,9 @@ use Rattle.judge_core.specs.Tables.{Tables}
 use Rattle.judge_core.specs.declared.game.GameOutcome.{GameOutcome}
 use Rattle.judge_core.specs.Games.{IsFirst, IsOutcome, IsUnruled, Rules, judged_after, plies_to, position_after_all}
 use Rattle.arbiter_core.specs.Answering.{sent_by}
-use Rattle.arbiter_core.specs.Recording.{Recorded, count_of, last_ply, reaches, record_at}
+use Rattle.arbiter_core.specs.Recording.{Recorded, last_ply, move_count, reaches, record_at}
 use Rattle.relay_world.specs.declared.event.Event.{Event}
-use Rattle.relay_world.specs.Worlds.{Judged, World, after, first_world, side_of}
+use Rattle.relay_world.specs.Worlds.{Judged, World, first_world, side_in, world_after_all}
 use Rattle.relay_world.specs.Gathering.{tables_of}
 use Rattle.relay_world.specs.Headline.{kept_count}
 use Rattle.relay_world.specs.InOrder.{RunsThrough, all_in_order, brought, is_running}
@@ -27,11 +27,11 @@ use Rattle.relay_world.specs.Runs.{GameView, Runs, WorldView}
 
 -- the world after these events
 abbrev pub world_after : Judged → List Event → World
-world_after game events = after game (first_world game) events
+world_after game events = world_after_all game (first_world game) events
 
 -- how many moves one of the two keeps in a world
 abbrev pub count_in : World → Who → ℕ
-count_in world who = kept_count (side_of world who).kept
+count_in world who = kept_count (side_in world who).kept
 
 -- A game reaches a ply exactly where its moves up to it are there and legal in turn, and no earlier ply has a verdict.
 abbrev pub ReachedPlies : Type 0
@@ -57,15 +57,15 @@ VerdictsAreFirst =
 -- A kept verdict stays, and the record with it.
 abbrev pub VerdictsStay : Type 0
 VerdictsStay =
-    (game : Judged) (early late : List Event) (who : Who) (kept : Recorded) (v : Ruling) → (side_of (world_after game early) who).kept ≡ Some kept → kept.verdict ≡ Some v
-    → (side_of (world_after game (early ++ late)) who).kept ≡ Some kept
+    (game : Judged) (early late : List Event) (who : Who) (kept : Recorded) (v : Ruling) → (side_in (world_after game early) who).kept ≡ Some kept → kept.verdict ≡ Some v
+    → (side_in (world_after game (early ++ late)) who).kept ≡ Some kept
 
 -- An arbiter that runs through a stretch, in which the moves up to number n came in rising order, keeps n moves, or as many as
 -- the game reaches.
 abbrev pub RisingOrder : Type 0
 RisingOrder =
     (game : Judged) (early late : List Event) (who : Who) → length game.moves ≤ most_moves → RunsThrough game (world_after game early) who late
-    → min (brought game (world_after game early) who late 0) (last_ply game.rules game.moves) ≤ count_in (after game (world_after game early) late) who
+    → min (brought game (world_after game early) who late 0) (last_ply game.rules game.moves) ≤ count_in (world_after_all game (world_after game early) late) who
 
 -- Each move in the log is the game's at its number, whoever sent it.
 abbrev pub MovesAreTheGames : Type 0
@@ -74,8 +74,8 @@ MovesAreTheGames =
     → slice_get game.moves n ≡ Some m
 
 -- what one of the two keeps after these events
-abbrev pub Keeps : Judged → List Event → Who → Recorded → Type 0
-Keeps game events who kept = (side_of (world_after game events) who).kept ≡ Some kept
+abbrev pub KeepsAfter : Judged → List Event → Who → Recorded → Type 0
+KeepsAfter game events who kept = (side_in (world_after game events) who).kept ≡ Some kept
 
 -- the record has all moves of the game, or its verdict
 abbrev pub IsAll : Judged → Recorded → Type 0
@@ -84,7 +84,7 @@ IsAll game kept = (kept.moves ≡ game.moves) ⊎ IsSome kept.verdict
 -- Two records of a game that have all of its moves or its verdict are equal, whichever arbiter keeps them and whatever happened.
 abbrev pub WholeRecordsAreOne : Type 0
 WholeRecordsAreOne =
-    (game : Judged) (events others : List Event) (who other : Who) (one two : Recorded) → Keeps game events who one → Keeps game others other two
+    (game : Judged) (events others : List Event) (who other : Who) (one two : Recorded) → KeepsAfter game events who one → KeepsAfter game others other two
     → IsAll game one → IsAll game two → one ≡ two
 
 -- the position at this ply has this ruling, and no position before it has one
@@ -96,15 +96,15 @@ pub record IsLeastRuling (rules : Rules) (moves : List Moves) (ply : ℕ) (v : R
 -- verdict is that ruling.
 abbrev pub NoDelayIsLeastRuling : Type 0
 NoDelayIsLeastRuling =
-    (game : Judged) (events : List Event) (who : Who) (kept : Recorded) (v : Ruling) → game.rules.delay ≡ 0 → Keeps game events who kept
-    → (kept.verdict ≡ Some v) ↔ IsLeastRuling game.rules game.moves (count_of kept) v
+    (game : Judged) (events : List Event) (who : Who) (kept : Recorded) (v : Ruling) → game.rules.delay ≡ 0 → KeepsAfter game events who kept
+    → (kept.verdict ≡ Some v) ↔ IsLeastRuling game.rules game.moves (move_count kept) v
 
 -- Without tables a record has a verdict exactly where its ply is the first at which the game ends on the board: by checkmate, by
 -- stalemate, or by bare kings.
 abbrev pub NoTablesIsTheBoard : Type 0
 NoTablesIsTheBoard =
     (game : Judged) (events : List Event) (who : Who) (kept : Recorded) (v : Ruling) → IsPosition game.rules.start → HasNoTable game.rules.tables
-    → Keeps game events who kept → (kept.verdict ≡ Some v) ↔ IsFirstEnd game.rules game.moves (count_of kept) v
+    → KeepsAfter game events who kept → (kept.verdict ≡ Some v) ↔ IsFirstEnd game.rules game.moves (move_count kept) v
 
 -- No files give no table.
 abbrev pub NoFilesAreNoTables : Type 0
@@ -118,8 +118,8 @@ LastPlyIsOutcome = (rules : Rules) (game : List Moves) (outcome : GameOutcome) �
 -- the record of the last ply that the game reaches. In another order it need not: a move 32 ahead of the count is refused.
 abbrev pub InOrderKeepsAll : Type 0
 InOrderKeepsAll =
-    (game : Judged) (early : List Event) (who : Who) → length game.moves ≤ most_moves → IsTrue (is_running (side_of (world_after game early) who).life)
-    → Keeps game (early ++ all_in_order who game) who (record_at game.rules game.moves (last_ply game.rules game.moves))
+    (game : Judged) (early : List Event) (who : Who) → length game.moves ≤ most_moves → IsTrue (is_running (side_in (world_after game early) who).life)
+    → KeepsAfter game (early ++ all_in_order who game) who (record_at game.rules game.moves (last_ply game.rules game.moves))
 
 -- So two that run and are each handed them keep one record.
 abbrev pub InOrderKeepsOne : Type 0

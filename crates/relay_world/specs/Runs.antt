@@ -13,7 +13,7 @@ use Rattle.move_msg.specs.Numbers.{most_moves}
 use Rattle.move_msg.specs.Records.{SpellsRecord, code_or_none}
 use Rattle.move_msg.specs.declared.record_bytes.Record.{Record}
 use Rattle.move_msg.specs.Stamps.{IsGameName, stamp_of}
-use Rattle.arbiter_core.specs.Recording.{Recorded, count_of}
+use Rattle.arbiter_core.specs.Recording.{Recorded, move_count}
 use Rattle.arbiter_core.specs.Delivers.{IsWritten}
 use Rattle.relay_world.specs.declared.event.Event.{Event}
 use Rattle.relay_world.specs.declared.world.State.{State}
@@ -21,7 +21,7 @@ use Rattle.relay_world.specs.declared.world.State.TheVariants as state
 use Rattle.move_msg.specs.Files.{File}
 use Rattle.relay_world.specs.Gathering.{tables_of, IsManifestOf}
 use Rattle.relay_world.specs.Headline.{IsFaithful}
-use Rattle.relay_world.specs.Worlds.{Judged, Side, World, Life, Closed, Down, Running, first_world, happens}
+use Rattle.relay_world.specs.Worlds.{Judged, Side, World, SideLife, Closed, Down, Running, first_world, happens}
 
 -- ---- a game
 
@@ -48,10 +48,10 @@ judged_by game tables manifest = record {
 
 -- ---- what a world tells
 
-abbrev pub state_of : Life → State
-state_of Closed = state.Closed
-state_of Down = state.Down
-state_of (Running window) = state.Running
+abbrev pub life_state : SideLife → State
+life_state Closed = state.Closed
+life_state Down = state.Down
+life_state (Running window) = state.Running
 
 -- what is told of an arbiter: its state, and the bytes that are kept
 pub record SideView : Type 0 where
@@ -63,9 +63,9 @@ pub record WorldView : Type 0 where
   pub b : SideView
   pub log : List Message
 
-abbrev pub told_of : WorldView → Who → SideView
-told_of told A = told.a
-told_of told B = told.b
+abbrev pub told_side : WorldView → Who → SideView
+told_side told A = told.a
+told_side told B = told.b
 
 -- the bytes that are told spell a record with so many moves and a verdict of this code
 pub record SpellsCounted (told : SideView) (found : ℕ × ℕ) : Type 0 where
@@ -81,15 +81,15 @@ KeptIs stamp delay bytes None = bytes ≡ None
 KeptIs stamp delay bytes (Some kept) = IsWritten stamp delay kept bytes
 
 -- how many moves a record has, and the code of its verdict
-abbrev pub counted : Recorded → ℕ × ℕ
-counted kept = (count_of kept, code_or_none kept.verdict)
+abbrev pub count_and_code : Recorded → ℕ × ℕ
+count_and_code kept = (move_count kept, code_or_none kept.verdict)
 
 -- the bytes that are told are those of the record that is kept
 pub record TellsSide (stamp : Stamp) (delay : ℕ) (told : SideView) (side : Side) : Type 0 where
-  pub state : told.state ≡ state_of side.life
+  pub state : told.state ≡ life_state side.life
   pub bytes : KeptIs stamp delay told.bytes side.kept
 
-pub record Tells (game : Judged) (told : WorldView) (world : World) : Type 0 where
+pub record TellsWorld (game : Judged) (told : WorldView) (world : World) : Type 0 where
   pub a : TellsSide game.stamp game.rules.delay told.a world.a
   pub b : TellsSide game.stamp game.rules.delay told.b world.b
   pub log : told.log ≡ world.log
@@ -111,5 +111,5 @@ pub record Runs (given : GameView) (files : List File) (events : List Event) (to
   pub listed : IsManifestOf files manifest
   pub worlds : List World
   pub are : AreWorlds (judged_by given tables manifest) events worlds
-  pub last : (world : World) → slice_get worlds (length events) ≡ Some world → Tells (judged_by given tables manifest) told world
+  pub last : (world : World) → slice_get worlds (length events) ≡ Some world → TellsWorld (judged_by given tables manifest) told world
   pub faithful : (i : ℕ) (world : World) → slice_get worlds i ≡ Some world → IsFaithful (judged_by given tables manifest) world

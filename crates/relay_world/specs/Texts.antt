@@ -90,8 +90,8 @@ BeginsByMove [] = ⊥
 BeginsByMove (word ∷ words) = (m : Moves) × SpellsMove word m
 
 -- the line of moves has one
-abbrev pub HasMoves : List ℕ → Type 0
-HasMoves line = (words : List (List ℕ)) × (cut_at 32 line ≡ codes "moves" ∷ words) × BeginsByMove words
+abbrev pub HasAnyMove : List ℕ → Type 0
+HasAnyMove line = (words : List (List ℕ)) × (cut_at 32 line ≡ codes "moves" ∷ words) × BeginsByMove words
 
 -- the words of noise whose bytes are told by more than a hyphen
 abbrev pub TellsBytes : List (List ℕ) → Type 0
@@ -109,7 +109,7 @@ TakesForFirst (line ∷ next ∷ lines) = TakesForLine line
 
 -- Memory is taken for the moves, for what the first event tells, and, where there are none, for the name: so only where the first
 -- two lines are good, and the third has a move, or is good and the next takes memory or nothing follows.
-pub record TakesMemory (text : List ℕ) : Type 0 where
+pub record ScheduleTakesMemory (text : List ℕ) : Type 0 where
   pub name : List ℕ
   pub start : List ℕ
   pub moves : List ℕ
@@ -117,7 +117,7 @@ pub record TakesMemory (text : List ℕ) : Type 0 where
   pub lines : cut_at 10 text ≡ name ∷ start ∷ moves ∷ events
   pub name_is : (tells : List ℕ) × IsNameLine name tells
   pub start_is : (tells : Parts) × IsStartLine start tells
-  pub takes : HasMoves moves ⊎ (((tells : List Moves) × IsMovesLine moves tells) × (TakesForFirst events ⊎ ((tells : List Event) × AreEvents events tells)))
+  pub takes : HasAnyMove moves ⊎ (((tells : List Moves) × IsMovesLine moves tells) × (TakesForFirst events ⊎ ((tells : List Event) × AreEvents events tells)))
 
 -- ---- schedules that are one
 
@@ -155,8 +155,8 @@ IsBadEvent number k (line ∷ next ∷ lines) =
     ((k ≡ number) × ((event : Event) → IsEventLine line event → ⊥))
     ⊎ (((event : Event) × IsEventLine line event) × IsBadEvent (suc number) k (next ∷ lines))
 
-abbrev pub IsFirstBadLine : List ℕ → ℕ → Type 0
-IsFirstBadLine text k =
+abbrev pub IsFirstBadScheduleLine : List ℕ → ℕ → Type 0
+IsFirstBadScheduleLine text k =
     NeedsLine (λ line. (name : List ℕ) × IsNameLine line name) 1 k
     (NeedsLine (λ line. (start : Parts) × IsStartLine line start) 2 k
     (NeedsLine (λ line. (moves : List Moves) × IsMovesLine line moves) 3 k

@@ -13,22 +13,22 @@ use Rattle.arbiter_core.specs.declared.fault.DeliverFault.{DeliverFault}
 use Rattle.arbiter_core.specs.declared.keeper.Keep.{Keep}
 use Rattle.arbiter_core.specs.declared.keeper.Keep.TheVariants.{Good, FailsOld, FailsNew}
 use Rattle.arbiter_core.specs.Recording.{Recorded, Window, record_at}
-use Rattle.arbiter_core.specs.Answering.{Identity, nothing_waits, asked, sent_by, Answer, Refuses, Sends, Puts, answer_to, answer_heard}
+use Rattle.arbiter_core.specs.Answering.{Identity, nothing_waits, request_of, sent_by, Answer, Refuses, Sends, Puts, answer_to, answer_heard}
 use Rattle.arbiter_core.specs.Delivers.{heard}
 use Rattle.relay_world.specs.declared.event.Event.{Event}
 use Rattle.relay_world.specs.declared.event.Event.TheVariants.{Deliver, Noise, Restart, Ask}
 
 -- how an arbiter is
-pub data Life : Type 0 where
-  Closed : Life
-  Down : Life
+pub data SideLife : Type 0 where
+  Closed : SideLife
+  Down : SideLife
   -- with the moves that wait; its record is the one that is kept
-  Running : (window : Window) → Life
+  Running : (window : Window) → SideLife
 
 -- one arbiter and what its keeper keeps
 pub record Side : Type 0 where
   pub kept : Option Recorded
-  pub life : Life
+  pub life : SideLife
 
 pub record World : Type 0 where
   pub a : Side
@@ -45,14 +45,14 @@ pub record Judged : Type 0 where
 abbrev pub identity : Judged → Who → Identity
 identity game who = record { stamp = game.stamp; who = who }
 
-abbrev pub side_of : World → Who → Side
-side_of world A = world.a
-side_of world B = world.b
+abbrev pub side_in : World → Who → Side
+side_in world A = world.a
+side_in world B = world.b
 
 -- one side changes, and it sends these messages
-abbrev pub turned : World → Who → Side × List Message → World
-turned world A (side, outputs) = record { a = side; b = world.b; log = world.log ++ outputs }
-turned world B (side, outputs) = record { a = world.a; b = side; log = world.log ++ outputs }
+abbrev pub with_side : World → Who → Side × List Message → World
+with_side world A (side, outputs) = record { a = side; b = world.b; log = world.log ++ outputs }
+with_side world B (side, outputs) = record { a = world.a; b = side; log = world.log ++ outputs }
 
 -- a put of the next record: it lands, or it fails and the old or the new record is kept
 abbrev pub put : Keep → Option Recorded → Recorded → List Message → Window → Side × List Message
@@ -67,7 +67,7 @@ answered keep old window (Sends outputs later) = (record { kept = Some old; life
 answered keep old window (Puts next outputs later) = put keep (Some old) next outputs later
 
 -- A side hears something that has this answer where it runs. A closed one and one that is down hear nothing.
-abbrev pub hears_at : Keep → Option Recorded → Life → (Recorded → Window → Answer) → Side × List Message
+abbrev pub hears_at : Keep → Option Recorded → SideLife → (Recorded → Window → Answer) → Side × List Message
 hears_at keep (Some old) (Running window) respond = answered keep old window (respond old window)
 hears_at keep kept life respond = (record { kept = kept; life = life }, [])
 
@@ -79,28 +79,28 @@ abbrev pub answer_to_datagram : Rules → Identity → List ℕ → Recorded →
 answer_to_datagram rules me datagram old window = answer_heard rules me old window (heard me.stamp datagram)
 
 -- an open over nothing kept whose put fails leaves the arbiter closed
-abbrev pub opened : Keep → Recorded → Side
-opened Good first = record { kept = Some first; life = Running nothing_waits }
-opened FailsOld first = record { kept = None; life = Closed }
-opened FailsNew first = record { kept = Some first; life = Closed }
+abbrev pub opened_side : Keep → Recorded → Side
+opened_side Good first = record { kept = Some first; life = Running nothing_waits }
+opened_side FailsOld first = record { kept = None; life = Closed }
+opened_side FailsNew first = record { kept = Some first; life = Closed }
 
 -- closed, and opened again over what is kept
 abbrev pub restarted : Rules → Keep → Option Recorded → Side
 restarted rules keep (Some old) = record { kept = Some old; life = Running nothing_waits }
-restarted rules keep None = opened keep (record_at rules [] 0)
+restarted rules keep None = opened_side keep (record_at rules [] 0)
 
 abbrev pub delivered : Judged → World → Who → Keep → Option Message → World
 delivered game world who keep None = world
 delivered game world who keep (Some message) =
-    turned world who (hears keep (side_of world who) (λ old window. answer_to game.rules (identity game who) old window message))
+    with_side world who (hears keep (side_in world who) (λ old window. answer_to game.rules (identity game who) old window message))
 
 abbrev pub listed : Option Message → List Message
 listed None = []
 listed (Some message) = message ∷ []
 
 -- what an arbiter asks for, which runs
-abbrev pub wants : Identity → Option Recorded → Life → List Message
-wants me (Some old) (Running window) = listed (asked me old)
+abbrev pub wants : Identity → Option Recorded → SideLife → List Message
+wants me (Some old) (Running window) = listed (request_of me old)
 wants me (Some old) Closed = []
 wants me (Some old) Down = []
 wants me None life = []
@@ -109,23 +109,23 @@ wants me None life = []
 abbrev pub noised : Judged → World → Who → Keep → Result Message DeliverFault → World
 noised game world who keep said =
     cond (is_ok said) world
-    (turned world who (hears keep (side_of world who) (λ old window. answer_heard game.rules (identity game who) old window said)))
+    (with_side world who (hears keep (side_in world who) (λ old window. answer_heard game.rules (identity game who) old window said)))
 
 -- one step: the world after the event
 unfoldable pub happens : Judged → World → Event → World
 happens game world (Deliver who index keep) = delivered game world who keep (slice_get world.log index)
 happens game world (Noise who bytes keep) = noised game world who keep (heard game.stamp bytes.items)
-happens game world (Ask who) = turned world who (side_of world who, wants (identity game who) (side_of world who).kept (side_of world who).life)
-happens game world (Restart who keep) = turned world who (restarted game.rules keep (side_of world who).kept, [])
+happens game world (Ask who) = with_side world who (side_in world who, wants (identity game who) (side_in world who).kept (side_in world who).life)
+happens game world (Restart who keep) = with_side world who (restarted game.rules keep (side_in world who).kept, [])
 
 -- both closed, nothing kept, and the game's moves sent
 abbrev pub first_world : Judged → World
 first_world game = record { a = record { kept = None; life = Closed }; b = record { kept = None; life = Closed }; log = sent_by game.stamp Source 0 game.moves }
 
 -- the world after a whole schedule
-abbrev pub after : Judged → World → List Event → World
-after game world [] = world
-after game world (event ∷ events) = after game (happens game world event) events
+abbrev pub world_after_all : Judged → World → List Event → World
+world_after_all game world [] = world
+world_after_all game world (event ∷ events) = world_after_all game (happens game world event) events
 
 -- every world of a schedule, one more than its events
 abbrev pub worlds : Judged → World → List Event → List World

@@ -2,7 +2,7 @@
 
 ghost use Rattle.std.specs.Prelude.{◌≡◌, ◌≤◌, ◌⊎◌, map, IfOk, IfErr, Ok, Err};
 ghost use Rattle.relay_world.specs.declared.fault.WorldFault.TheVariants.{OutOfMemory};
-ghost use Rattle.relay_world.specs.Gathering.{filled, found_in, tables_of, tables_from, with_table};
+ghost use Rattle.relay_world.specs.Gathering.{filled_unless_faulty, found_in, tables_of, tables_from, with_table};
 
 use crate::fault::WorldFault;
 use crate::file::file_at;
@@ -31,7 +31,7 @@ fn add<'f>(
     place: usize,
     found: Result<Table<'f>, TableFault>,
 ) -> Result<Result<(), WorldFault>, AllocError>
-    ensures tables { IfOk result (λ added. filled added set.new.tables ≡ with_table set.old.tables place found.entry) }
+    ensures tables { IfOk result (λ added. filled_unless_faulty added set.new.tables ≡ with_table set.old.tables place found.entry) }
     ensures cache { IfOk result (λ _. set.new.cache ≡ set.old.cache) }
 {
     match found {
@@ -50,7 +50,7 @@ fn add_all<'f>(
     set: &mut Set<'f>,
     files: &'f [(&'f [u8], &'f [u8])],
 ) -> Result<Result<(), WorldFault>, AllocError>
-    ensures tables { IfOk result (λ added. filled added set.new.tables ≡ tables_from set.old.tables 0 (map found_in (map (λ f. record { name = f.0.now; bytes = f.1.now }) files.now))) }
+    ensures tables { IfOk result (λ added. filled_unless_faulty added set.new.tables ≡ tables_from set.old.tables 0 (map found_in (map (λ f. record { name = f.0.now; bytes = f.1.now }) files.now))) }
     ensures cache { IfOk result (λ _. set.new.cache ≡ set.old.cache) }
 {
     for place in 0..files.len() {

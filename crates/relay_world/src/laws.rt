@@ -2,12 +2,12 @@
 
 ghost use Rattle.std.specs.Prelude.{◌≡◌, ℕ, List, ◌++◌, slice_get, length, Some};
 ghost use Rattle.relay_world.specs.declared.event.Event.{Event};
-ghost use Rattle.relay_world.specs.Worlds.{Judged, World, after, worlds, first_world, AreStamped};
+ghost use Rattle.relay_world.specs.Worlds.{Judged, World, world_after_all, worlds, first_world, AreStamped};
 ghost use Rattle.relay_world.specs.Headline.{IsFaithful};
 ghost use Rattle.relay_world.specs.Laws.{AcksAreKept, CountsGrow, InOrderKeepsAll, InOrderKeepsOne, LastPlyIsOutcome, MovesAreTheGames, NoDelayIsLeastRuling, NoFilesAreNoTables, NoTablesIsTheBoard, ReachedPlies, RisingOrder, RunsTellOne, SourceSendsTheGame, VerdictsAreFirst, VerdictsStay, WholeRecordsAreOne};
 ghost use Rattle.relay_world.specs.Runs.{AreWorlds};
 ghost use Rattle.relay_world.specs.declared.schedule.Schedule.{Schedule};
-ghost use Rattle.relay_world.specs.Texts.{IsFirstBadLine, IsSameSchedule, SpellsSchedule};
+ghost use Rattle.relay_world.specs.Texts.{IsFirstBadScheduleLine, IsSameSchedule, SpellsSchedule};
 ghost use Rattle.relay_world.specs.FileNames.{FileNamesAreThoseOfTables};
 
 use fen_text::laws::{one_move, one_position};
@@ -24,8 +24,8 @@ pub fn headline()
 /// the one after so many events, and the last is the one after all.
 pub fn one_list_of_worlds()
     ensures list { (game : Judged) (events : List Event) (ws : List World) → AreWorlds game events ws → ws ≡ worlds game (first_world game) events }
-    ensures each { (game : Judged) (early late : List Event) → slice_get (worlds game (first_world game) (early ++ late)) (length early) ≡ Some (after game (first_world game) early) }
-    ensures last { (game : Judged) (events : List Event) → slice_get (worlds game (first_world game) events) (length events) ≡ Some (after game (first_world game) events) }
+    ensures each { (game : Judged) (early late : List Event) → slice_get (worlds game (first_world game) (early ++ late)) (length early) ≡ Some (world_after_all game (first_world game) early) }
+    ensures last { (game : Judged) (events : List Event) → slice_get (worlds game (first_world game) events) (length events) ≡ Some (world_after_all game (first_world game) events) }
 {}
 
 /// A run of a game has one result, by its files and its events alone. Two runs that meet the contract of `run`, at any
@@ -112,7 +112,7 @@ pub fn moves_are_the_games()
 
 /// Every message that was ever sent is of the game.
 pub fn log_is_of_the_game()
-    ensures { (game : Judged) (events : List Event) → AreStamped game (after game (first_world game) events) }
+    ensures { (game : Judged) (events : List Event) → AreStamped game (world_after_all game (first_world game) events) }
 {}
 
 /// The file names that a manifest may have are those of the 145 tables, each with either ending, and no others.
@@ -124,8 +124,8 @@ pub fn file_names_are_those_of_tables()
 
 /// A text with a malformed line spells no schedule, and has one first malformed line.
 pub fn one_bad_line()
-    ensures none { (text : List ℕ) (k : ℕ) (schedule : Schedule) → IsFirstBadLine text k → SpellsSchedule text schedule → ⊥ }
-    ensures one { (text : List ℕ) (j k : ℕ) → IsFirstBadLine text j → IsFirstBadLine text k → j ≡ k }
+    ensures none { (text : List ℕ) (k : ℕ) (schedule : Schedule) → IsFirstBadScheduleLine text k → SpellsSchedule text schedule → ⊥ }
+    ensures one { (text : List ℕ) (j k : ℕ) → IsFirstBadScheduleLine text j → IsFirstBadScheduleLine text k → j ≡ k }
 {}
 
 /// Two schedules of one text have equal names, starts, moves and events, where lists of bytes are compared by their

@@ -9,7 +9,7 @@ ghost use Rattle.move_msg.specs.declared.who.Who.{Who};
 ghost use Rattle.move_msg.specs.Numbers.{most_moves};
 ghost use Rattle.arbiter_core.specs.declared.keeper.Keep.{Keep};
 ghost use Rattle.relay_world.specs.declared.event.Event.{Event};
-ghost use Rattle.relay_world.specs.Texts.{BeginsByMove, HasMoves, IsEvent, IsEventLine, IsMovesLine, IsNameLine, IsStartLine, TellsBytes, who_word, keep_word};
+ghost use Rattle.relay_world.specs.Texts.{BeginsByMove, HasAnyMove, IsEvent, IsEventLine, IsMovesLine, IsNameLine, IsStartLine, TellsBytes, who_word, keep_word};
 
 use crate::event::Event;
 use crate::fields::{is_word, read_bytes, read_keep, read_place, read_who};
@@ -79,7 +79,7 @@ fn read_words(alloc: Global, text: &[u8]) -> Result<Option<Vec<Move>>, AllocErro
 pub(crate) fn read_moves(alloc: Global, line: &[u8]) -> Result<Option<Vec<Move>>, AllocError>
     ensures some { IfOk result (λ read. IfSome read (λ moves. IsMovesLine line.now moves.items)) }
     ensures none { IfOk result (λ read. IfNone read ((moves : List Moves) → IsMovesLine line.now moves → ⊥)) }
-    ensures memory { OnErr result (HasMoves line.now) }
+    ensures memory { OnErr result (HasAnyMove line.now) }
 {
     let Some((verb, text)) = cut_first(line, b' ') else {
         if is_word(line, b"moves") {

@@ -3,7 +3,7 @@
 ghost use Rattle.std.specs.Prelude.{◌≡◌, ◌++◌, slice_get, IfOk, OnOk, IsOk, is_ok};
 ghost use Rattle.move_msg.specs.declared.who.Who.TheVariants.{A, B};
 ghost use Rattle.arbiter_core.specs.Delivers.{heard};
-ghost use Rattle.relay_world.specs.Inside.Pairs.{IsAfter, IsAfterAll, IsAsked, asks, hears_datagram, restarts};
+ghost use Rattle.relay_world.specs.Inside.Pairs.{IsAfterAll, IsAsked, IsPairAfter, asks, hears_datagram, restarts};
 ghost use Rattle.relay_world.specs.Worlds.{delivered, happens, listed, noised};
 
 use crate::event::Event;
@@ -57,7 +57,7 @@ fn deliver_first(
     keep: Keep,
     bytes: &[u8],
 ) -> Result<(), AllocError>
-    ensures { OnOk result (IsAfter pair.old (hears_datagram A keep bytes.now) pair.new) }
+    ensures { OnOk result (IsPairAfter pair.old (hears_datagram A keep bytes.now) pair.new) }
 {
     let outputs = pair.first.deliver(alloc, keep, bytes)?;
     append(&mut pair.log, &outputs)
@@ -70,7 +70,7 @@ fn deliver_second(
     keep: Keep,
     bytes: &[u8],
 ) -> Result<(), AllocError>
-    ensures { OnOk result (IsAfter pair.old (hears_datagram B keep bytes.now) pair.new) }
+    ensures { OnOk result (IsPairAfter pair.old (hears_datagram B keep bytes.now) pair.new) }
 {
     let outputs = pair.second.deliver(alloc, keep, bytes)?;
     append(&mut pair.log, &outputs)
@@ -84,7 +84,7 @@ fn deliver_to(
     keep: Keep,
     bytes: &[u8],
 ) -> Result<(), AllocError>
-    ensures { OnOk result (IsAfter pair.old (hears_datagram who keep bytes.now) pair.new) }
+    ensures { OnOk result (IsPairAfter pair.old (hears_datagram who keep bytes.now) pair.new) }
 {
     match who {
         Who::A => deliver_first(alloc, pair, keep, bytes),
@@ -94,7 +94,7 @@ fn deliver_to(
 
 /// Opens A again.
 fn restart_first<'a>(alloc: Global, pair: Pair<'a>, keep: Keep) -> Result<Pair<'a>, AllocError>
-    ensures { IfOk result (IsAfter pair.entry (restarts A keep)) }
+    ensures { IfOk result (IsPairAfter pair.entry (restarts A keep)) }
 {
     let Pair {
         stamp,
@@ -113,7 +113,7 @@ fn restart_first<'a>(alloc: Global, pair: Pair<'a>, keep: Keep) -> Result<Pair<'
 
 /// Opens B again.
 fn restart_second<'a>(alloc: Global, pair: Pair<'a>, keep: Keep) -> Result<Pair<'a>, AllocError>
-    ensures { IfOk result (IsAfter pair.entry (restarts B keep)) }
+    ensures { IfOk result (IsPairAfter pair.entry (restarts B keep)) }
 {
     let Pair {
         stamp,
@@ -137,7 +137,7 @@ fn restart_at<'a>(
     who: Who,
     keep: Keep,
 ) -> Result<Pair<'a>, AllocError>
-    ensures { IfOk result (IsAfter pair.entry (restarts who keep)) }
+    ensures { IfOk result (IsPairAfter pair.entry (restarts who keep)) }
 {
     match who {
         Who::A => restart_first(alloc, pair, keep),
@@ -157,7 +157,7 @@ fn asked_by(pair: &Pair<'_>, who: Who) -> Option<Message>
 
 /// One of the two requests moves.
 fn ask_at(pair: &mut Pair<'_>, who: Who) -> Result<(), AllocError>
-    ensures { OnOk result (IsAfter pair.old (asks who) pair.new) }
+    ensures { OnOk result (IsPairAfter pair.old (asks who) pair.new) }
 {
     let asked = asked_by(pair, who);
     note(&mut pair.log, asked)
@@ -181,7 +181,7 @@ fn deliver_sent(
     index: usize,
     keep: Keep,
 ) -> Result<(), AllocError>
-    ensures { OnOk result (IsAfter pair.old (λ game world. delivered game world who keep (slice_get world.log index)) pair.new) }
+    ensures { OnOk result (IsPairAfter pair.old (λ game world. delivered game world who keep (slice_get world.log index)) pair.new) }
 {
     if index >= pair.log.len() {
         return Ok(());
@@ -198,7 +198,7 @@ fn deliver_noise(
     bytes: &[u8],
     keep: Keep,
 ) -> Result<(), AllocError>
-    ensures { OnOk result (IsAfter pair.old (λ game world. noised game world who keep (heard game.stamp bytes.now)) pair.new) }
+    ensures { OnOk result (IsPairAfter pair.old (λ game world. noised game world who keep (heard game.stamp bytes.now)) pair.new) }
 {
     if is_ours(pair.stamp, bytes) {
         return Ok(());
@@ -219,7 +219,7 @@ fn if_done<'a>(pair: Pair<'a>, done: Result<(), AllocError>) -> Result<Pair<'a>,
 
 /// One event.
 fn step<'a>(alloc: Global, pair: Pair<'a>, event: &Event) -> Result<Pair<'a>, AllocError>
-    ensures { IfOk result (IsAfter pair.entry (λ game world. happens game world event.now)) }
+    ensures { IfOk result (IsPairAfter pair.entry (λ game world. happens game world event.now)) }
 {
     match event {
         Event::Deliver { who, index, keep } => {

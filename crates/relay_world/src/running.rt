@@ -10,7 +10,7 @@ ghost use Rattle.judge_core.specs.Tables.{Tables};
 ghost use Rattle.relay_world.specs.declared.fault.WorldFault.TheVariants.{OutOfMemory};
 ghost use Rattle.relay_world.specs.Gathering.{tables_of};
 ghost use Rattle.relay_world.specs.Inside.Pairs.{IsBegunFor, PairIs};
-ghost use Rattle.relay_world.specs.Runs.{Runs, Tells, WorldView, judged_by};
+ghost use Rattle.relay_world.specs.Runs.{Runs, TellsWorld, WorldView, judged_by};
 ghost use Rattle.relay_world.specs.Worlds.{Judged, World as Worlds};
 
 use crate::event::Event;
@@ -76,7 +76,7 @@ fn begin<'a>(
 
 /// The states of both arbiters, what they keep and what was sent.
 fn world_of(pair: Pair<'_>) -> World
-    ensures { (game : Judged) (a b : SetupView) (world : Worlds) → a.delay ≡ game.rules.delay → b.delay ≡ game.rules.delay → PairIs game a b pair.entry world → Tells game result world }
+    ensures { (game : Judged) (a b : SetupView) (world : Worlds) → a.delay ≡ game.rules.delay → b.delay ≡ game.rules.delay → PairIs game a b pair.entry world → TellsWorld game result world }
 {
     let Pair {
         stamp: _,

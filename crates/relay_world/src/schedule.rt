@@ -4,7 +4,7 @@ ghost use Rattle.std.specs.Prelude.{◌≡◌, ◌⊎◌, ◌≤◌, ℕ, IfOk, 
 ghost use Rattle.fen_text.specs.Cuts.{cut_at};
 ghost use Rattle.relay_world.specs.declared.event.Event.{Event};
 ghost use Rattle.relay_world.specs.declared.schedule.ScheduleFault.TheVariants.{BadLine, OutOfMemory};
-ghost use Rattle.relay_world.specs.Texts.{AreEvents, IsBadEvent, IsFirstBadLine, SpellsSchedule, TakesForFirst, TakesMemory};
+ghost use Rattle.relay_world.specs.Texts.{AreEvents, IsBadEvent, IsFirstBadScheduleLine, ScheduleTakesMemory, SpellsSchedule, TakesForFirst};
 
 use crate::event::Event;
 use crate::lines::{read_event, read_moves, read_name, read_start};
@@ -69,9 +69,9 @@ fn read_events(alloc: Global, text: &[u8]) -> Result<Result<Vec<Event>, usize>, 
 /// without bytes.
 pub fn read(alloc: Global, text: &[u8]) -> Result<Schedule, ScheduleFault>
     ensures ok { IfOk result (SpellsSchedule text.now) }
-    ensures err { IfErr result (λ fault. (fault ≡ OutOfMemory) ⊎ ((k : ℕ) × (fault ≡ BadLine k) × IsFirstBadLine text.now k)) }
-    ensures memory { IsErrOf result OutOfMemory → (k : ℕ) → IsFirstBadLine text.now k → 3 ≤ k }
-    ensures taken { IsErrOf result OutOfMemory → TakesMemory text.now }
+    ensures err { IfErr result (λ fault. (fault ≡ OutOfMemory) ⊎ ((k : ℕ) × (fault ≡ BadLine k) × IsFirstBadScheduleLine text.now k)) }
+    ensures memory { IsErrOf result OutOfMemory → (k : ℕ) → IsFirstBadScheduleLine text.now k → 3 ≤ k }
+    ensures taken { IsErrOf result OutOfMemory → ScheduleTakesMemory text.now }
 {
     let Some((line, rest)) = cut_first(text, b'\n') else {
         return Err(ScheduleFault::BadLine(1));

@@ -3,7 +3,7 @@
 ghost use Rattle.std.specs.Prelude.{◌≡◌, IfOk, OnErr};
 ghost use Rattle.arbiter_core.specs.Answering.{Identity};
 ghost use Rattle.arbiter_core.specs.Setups.{SetupView, setup_view};
-ghost use Rattle.relay_world.specs.Runs.{state_of};
+ghost use Rattle.relay_world.specs.Runs.{life_state};
 ghost use Rattle.relay_world.specs.Worlds.{Side, wants, listed};
 ghost use Rattle.arbiter_core.specs.Delivers.{IsKept as IsRecordKept};
 ghost use Rattle.relay_world.specs.Inside.Seats.{IsDelivered, IsRestarted, IsStarved, Open, SeatIs, Shut, seat};
@@ -37,11 +37,11 @@ impl<'a> Model for Seat<'a> {
 
     ghost Value = { SeatView };
 
-    ghost use Rattle.relay_world.specs.Inside.Fields.{IsKept, seat_of};
+    ghost use Rattle.relay_world.specs.Inside.Fields.{IsKeptAtPlace, seat_of};
 
     ghost view = { seat_of };
 
-    ghost invariant = { λ s. IsKept s.place s.keeper };
+    ghost invariant = { λ s. IsKeptAtPlace s.place s.keeper };
 }
 
 /// What an arbiter is opened from.
@@ -138,7 +138,7 @@ impl<'a> Seat<'a> {
 
     /// The state of the arbiter.
     pub fn state(&self) -> State
-        ensures { (me : Identity) (setup : SetupView) (side : Side) → SeatIs me setup self.now side → result ≡ state_of side.life }
+        ensures { (me : Identity) (setup : SetupView) (side : Side) → SeatIs me setup self.now side → result ≡ life_state side.life }
     {
         match &self.place {
             Place::Shut(_) => State::Closed,

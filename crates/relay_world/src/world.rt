@@ -5,7 +5,7 @@ ghost use Rattle.move_msg.specs.declared.stamp.Stamp.{Stamp};
 ghost use Rattle.arbiter_core.specs.Recording.{Recorded};
 ghost use Rattle.move_msg.specs.declared.record_bytes.Record.{Record};
 ghost use Rattle.move_msg.specs.Records.{SpellsRecord, code_or_none};
-ghost use Rattle.relay_world.specs.Runs.{KeptIs, SpellsCounted, counted, told_of};
+ghost use Rattle.relay_world.specs.Runs.{KeptIs, SpellsCounted, count_and_code, told_side};
 
 use arbiter_core::MemoryKeeper;
 use move_msg::{Message, Record, Who};
@@ -45,7 +45,7 @@ impl Model for World {
 impl World {
     /// The state of an arbiter.
     pub fn state(&self, who: Who) -> State
-        ensures { result ≡ (told_of self.now who).state }
+        ensures { result ≡ (told_side self.now who).state }
     {
         match who {
             Who::A => self.first,
@@ -55,7 +55,7 @@ impl World {
 
     /// The bytes of the record that an arbiter's keeper keeps; none where nothing is kept.
     pub fn bytes(&self, who: Who) -> Option<&[u8]>
-        ensures { option_map (λ b. b.now) result ≡ (told_of self.now who).bytes }
+        ensures { option_map (λ b. b.now) result ≡ (told_side self.now who).bytes }
     {
         match who {
             Who::A => self.first_keeper.kept(),
@@ -66,10 +66,10 @@ impl World {
     /// How many moves an arbiter's keeper keeps, and the code of the kept verdict, 0 for none. None where nothing is
     /// kept, or where what is kept is no record.
     pub fn kept(&self, who: Who) -> Option<(u32, u8)>
-        ensures nothing { (told_of self.now who).bytes ≡ None → result ≡ None }
-        ensures record { (bytes : List _) (r : Record) → (told_of self.now who).bytes ≡ Some bytes → SpellsRecord bytes r → result ≡ Some (length r.moves, code_or_none r.verdict) }
-        ensures some { IfSome result (SpellsCounted (told_of self.now who)) }
-        ensures is { (stamp : Stamp) (delay : ℕ) (kept : Option Recorded) → KeptIs stamp delay (told_of self.now who).bytes kept → result ≡ option_map counted kept }
+        ensures nothing { (told_side self.now who).bytes ≡ None → result ≡ None }
+        ensures record { (bytes : List _) (r : Record) → (told_side self.now who).bytes ≡ Some bytes → SpellsRecord bytes r → result ≡ Some (length r.moves, code_or_none r.verdict) }
+        ensures some { IfSome result (SpellsCounted (told_side self.now who)) }
+        ensures is { (stamp : Stamp) (delay : ℕ) (kept : Option Recorded) → KeptIs stamp delay (told_side self.now who).bytes kept → result ≡ option_map count_and_code kept }
     {
         match self.bytes(who) {
             Some(bytes) => Record::summary(bytes),

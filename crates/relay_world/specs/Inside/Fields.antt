@@ -8,12 +8,12 @@ use Rattle.relay_world.specs.declared.seat.Place.TheVariants as place
 use Rattle.relay_world.specs.declared.seat.Seat.TheInside.{Inside}
 use Rattle.relay_world.specs.Inside.Seats.{PlaceView, SeatView, Shut, Open}
 
-abbrev pub place_of : Place → PlaceView
-place_of (place.Shut s) = Shut (setup_view s)
-place_of (place.Open v) = Open v
+abbrev pub place_view : Place → PlaceView
+place_view (place.Shut s) = Shut (setup_view s)
+place_view (place.Open v) = Open v
 
 abbrev pub seat_of : Inside → SeatView
-seat_of s = record { place = place_of s.place; keeper = s.keeper }
+seat_of s = record { place = place_view s.place; keeper = s.keeper }
 
 -- what an arbiter at a place is opened from
 abbrev pub setup_in : Place → SetupView
@@ -21,6 +21,6 @@ setup_in (place.Shut s) = setup_view s
 setup_in (place.Open v) = v.setup
 
 -- what a running arbiter has recorded is what is kept
-abbrev pub IsKept : Place → Memory → Type 0
-IsKept (place.Shut s) keeper = Unit {0}
-IsKept (place.Open v) keeper = v.is_down ≡ false → Keeps keeper.kept v
+abbrev pub IsKeptAtPlace : Place → Memory → Type 0
+IsKeptAtPlace (place.Shut s) keeper = Unit {0}
+IsKeptAtPlace (place.Open v) keeper = v.is_down ≡ false → Keeps keeper.kept v

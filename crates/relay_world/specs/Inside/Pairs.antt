@@ -10,8 +10,8 @@ use Rattle.arbiter_core.specs.Setups.{SetupView, rules_at, IsGood, IsIdentity}
 use Rattle.relay_world.specs.declared.event.Event.{Event}
 use Rattle.relay_world.specs.declared.pair.Pair.{Pair}
 use Rattle.relay_world.specs.Headline.{IsRight}
-use Rattle.relay_world.specs.Inside.Seats.{PlaceView, Stands}
-use Rattle.relay_world.specs.Worlds.{AreStamped, Judged, World, after, answer_to_datagram, first_world, hears, identity, restarted, side_of, turned, wants}
+use Rattle.relay_world.specs.Inside.Seats.{PlaceView, StandsForSide}
+use Rattle.relay_world.specs.Worlds.{AreStamped, Judged, World, answer_to_datagram, first_world, hears, identity, restarted, side_in, wants, with_side, world_after_all}
 
 -- the setups of A and B are good and of this game
 pub record AreSetups (game : Judged) (a b : SetupView) : Type 0 where
@@ -24,8 +24,8 @@ pub record AreSetups (game : Judged) (a b : SetupView) : Type 0 where
 
 pub record IsWorld (game : Judged) (a b : SetupView) (stamp : Stamp) (place_a : PlaceView) (keeper_a : Memory) (place_b : PlaceView) (keeper_b : Memory) (log : List Message) (world : World) : Type 0 where
   pub stamp_is : stamp ≡ game.stamp
-  pub a_stands : Stands (identity game A) a place_a keeper_a world.a
-  pub b_stands : Stands (identity game B) b place_b keeper_b world.b
+  pub a_stands : StandsForSide (identity game A) a place_a keeper_a world.a
+  pub b_stands : StandsForSide (identity game B) b place_b keeper_b world.b
   pub log_is : log ≡ world.log
 
 abbrev pub PairIs : Judged → SetupView → SetupView → Pair → World → Type 0
@@ -39,27 +39,27 @@ pub record StandsFor (game : Judged) (a b : SetupView) (p : Pair) (world : World
   pub is : PairIs game a b p world
 
 -- whatever world the pair stood for, it stands for the one after this step
-abbrev pub IsAfter : Pair → (Judged → World → World) → Pair → Type 0
-IsAfter old step new = (game : Judged) (a b : SetupView) (world : World) → StandsFor game a b old world → PairIs game a b new (step game world)
+abbrev pub IsPairAfter : Pair → (Judged → World → World) → Pair → Type 0
+IsPairAfter old step new = (game : Judged) (a b : SetupView) (world : World) → StandsFor game a b old world → PairIs game a b new (step game world)
 
 -- whatever it stands for, these messages are what one of the two asks for
 abbrev pub IsAsked : Pair → Who → List Message → Type 0
 IsAsked p who asked =
-    (game : Judged) (a b : SetupView) (world : World) → StandsFor game a b p world → asked ≡ wants (identity game who) (side_of world who).kept (side_of world who).life
+    (game : Judged) (a b : SetupView) (world : World) → StandsFor game a b p world → asked ≡ wants (identity game who) (side_in world who).kept (side_in world who).life
 
 -- ---- steps
 
 -- one of the two hears a datagram
 abbrev pub hears_datagram : Who → Keep → List ℕ → Judged → World → World
-hears_datagram who keep datagram game world = turned world who (hears keep (side_of world who) (answer_to_datagram game.rules (identity game who) datagram))
+hears_datagram who keep datagram game world = with_side world who (hears keep (side_in world who) (answer_to_datagram game.rules (identity game who) datagram))
 
 -- it is opened again
 abbrev pub restarts : Who → Keep → Judged → World → World
-restarts who keep game world = turned world who (restarted game.rules keep (side_of world who).kept, [])
+restarts who keep game world = with_side world who (restarted game.rules keep (side_in world who).kept, [])
 
 -- it asks for moves
 abbrev pub asks : Who → Judged → World → World
-asks who game world = turned world who (side_of world who, wants (identity game who) (side_of world who).kept (side_of world who).life)
+asks who game world = with_side world who (side_in world who, wants (identity game who) (side_in world who).kept (side_in world who).life)
 
 -- a pair stands for the first world of a game
 pub record IsBegunFor (game : Judged) (p : Pair) : Type 0 where
@@ -70,4 +70,4 @@ pub record IsBegunFor (game : Judged) (p : Pair) : Type 0 where
 
 -- where it stood for the first world of a game, it stands for the one after these events
 abbrev pub IsAfterAll : Pair → List Event → Pair → Type 0
-IsAfterAll old events new = (game : Judged) (a b : SetupView) → AreSetups game a b → PairIs game a b old (first_world game) → PairIs game a b new (after game (first_world game) events)
+IsAfterAll old events new = (game : Judged) (a b : SetupView) → AreSetups game a b → PairIs game a b old (first_world game) → PairIs game a b new (world_after_all game (first_world game) events)

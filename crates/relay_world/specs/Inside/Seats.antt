@@ -8,7 +8,7 @@ use Rattle.arbiter_core.specs.Setups.{SetupView, IsGood, IsIdentity, rules_at}
 use Rattle.arbiter_core.specs.Views.{View}
 use Rattle.arbiter_core.specs.Memory.{Memory}
 use Rattle.arbiter_core.specs.Opens.{IsWhole}
-use Rattle.relay_world.specs.Worlds.{Side, Life, Closed, Down, Running, answer_to_datagram, hears, restarted}
+use Rattle.relay_world.specs.Worlds.{Side, SideLife, Closed, Down, Running, answer_to_datagram, hears, restarted}
 use Rattle.relay_world.specs.Runs.{KeptIs}
 
 -- an arbiter, or what one is opened from
@@ -31,17 +31,17 @@ abbrev pub PlaceIs : Identity → SetupView → PlaceView → Side → Type 0
 PlaceIs me setup (Shut s) side = (s ≡ setup) × (side.life ≡ Closed)
 PlaceIs me setup (Open v) side = (v.setup ≡ setup) × (v.me ≡ me) × IsOpen v side
 
-pub record Stands (me : Identity) (setup : SetupView) (place : PlaceView) (keeper : Memory) (side : Side) : Type 0 where
+pub record StandsForSide (me : Identity) (setup : SetupView) (place : PlaceView) (keeper : Memory) (side : Side) : Type 0 where
   pub place_is : PlaceIs me setup place side
   pub kept : KeptIs me.stamp setup.delay keeper.kept side.kept
 
 -- a step of a seat is the step of its side
 pub record Steps (me : Identity) (setup : SetupView) (place : PlaceView) (keeper : Memory) (outputs : List Message) (late : Side × List Message) : Type 0 where
-  pub stands : Stands me setup place keeper late.0
+  pub stands : StandsForSide me setup place keeper late.0
   pub sent : outputs ≡ late.1
 
 abbrev pub SeatIs : Identity → SetupView → SeatView → Side → Type 0
-SeatIs me setup seat side = Stands me setup seat.place seat.keeper side
+SeatIs me setup seat side = StandsForSide me setup seat.place seat.keeper side
 
 -- whatever side the seat stood for, this was sent and it stands for the one that heard the datagram
 abbrev pub IsDelivered : Keep → List ℕ → SeatView → SeatView → List Message → Type 0
@@ -58,14 +58,14 @@ IsRestarted keep old new =
 -- ---- want of memory
 
 -- an answer takes memory where a record is put, and for more than four messages
-abbrev pub TakesMemory : Answer → Type 0
-TakesMemory (Refuses fault) = ⊥
-TakesMemory (Sends outputs window) = 4 < length outputs
-TakesMemory (Puts next outputs window) = Unit {0}
+abbrev pub AnswerTakesMemory : Answer → Type 0
+AnswerTakesMemory (Refuses fault) = ⊥
+AnswerTakesMemory (Sends outputs window) = 4 < length outputs
+AnswerTakesMemory (Puts next outputs window) = Unit {0}
 
 -- that of a side that runs; a closed one and one that is down take none
-abbrev pub TakesAt : Option Recorded → Life → (Recorded → Window → Answer) → Type 0
-TakesAt (Some old) (Running window) respond = TakesMemory (respond old window)
+abbrev pub TakesAt : Option Recorded → SideLife → (Recorded → Window → Answer) → Type 0
+TakesAt (Some old) (Running window) respond = AnswerTakesMemory (respond old window)
 TakesAt (Some old) Closed respond = ⊥
 TakesAt (Some old) Down respond = ⊥
 TakesAt None life respond = ⊥

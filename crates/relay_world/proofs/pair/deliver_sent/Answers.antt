@@ -13,7 +13,7 @@ use Rattle.std.specs.Str.{bytes_eq}
 use Rattle.std.proofs.lemmas.Bool.{cond-true}
 use Rattle.std.proofs.lemmas.Slice.Eq.{bytes_eq-Decides}
 use Rattle.relay_world.specs.Inside.Pairs.{PairIs}
-use Rattle.relay_world.specs.Worlds.{delivered, turned, hears, side_of, identity}
+use Rattle.relay_world.specs.Worlds.{delivered, with_side, hears, side_in, identity}
 use Rattle.relay_world.proofs.Steps.{all_at}
 use Rattle.relay_world.proofs.pair.deliver_sent.Goals as goal
 
@@ -35,5 +35,5 @@ returns c =
     let ours : stamp_in m ≡ game.stamp = all_at _ world.log c.args.index m stands.stamped got in
     let said : heard game.stamp c.encode.result ≡ Ok m = ap (in_game game.stamp) (heard_in_full c.encode.result m c.encode.ensures) ∙ ours_said game.stamp m ours in
     subst (λ (o : Option Message). PairIs game a b c.deliver_to.new.pair (delivered game world c.args.who c.args.keep o)) (sym got)
-    (subst (λ (s : Result Message DeliverFault). PairIs game a b c.deliver_to.new.pair (turned world c.args.who (hears c.args.keep (side_of world c.args.who) (λ old window. answer_heard game.rules (identity game c.args.who) old window s)))) said
+    (subst (λ (s : Result Message DeliverFault). PairIs game a b c.deliver_to.new.pair (with_side world c.args.who (hears c.args.keep (side_in world c.args.who) (λ old window. answer_heard game.rules (identity game c.args.who) old window s)))) said
     (after game a b world stands))) c.deliver_to.ensures

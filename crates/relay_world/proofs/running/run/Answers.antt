@@ -4,8 +4,8 @@ use Rattle.judge_core.specs.Tables.{Tables}
 use Rattle.move_msg.specs.Files.{File}
 use Rattle.relay_world.specs.declared.fault.WorldFault.{WorldFault}
 use Rattle.relay_world.specs.Gathering.{IsManifestOf}
-use Rattle.relay_world.specs.Runs.{Tells, judged_by}
-use Rattle.relay_world.specs.Worlds.{Judged, after, first_world}
+use Rattle.relay_world.specs.Runs.{TellsWorld, judged_by}
+use Rattle.relay_world.specs.Worlds.{Judged, first_world, world_after_all}
 use Rattle.relay_world.proofs.Naming.{are_all_tables}
 use Rattle.relay_world.proofs.OneAnswer.{runs_tell_one}
 use Rattle.relay_world.proofs.Told.{runs_of}
@@ -24,8 +24,8 @@ returns-clause-worlds c =
     let files : List File = map (λ f. record { name = f.0.now; bytes = f.1.now }) c.args.tables.now in
     let game : Judged = judged_by c.args.game.now t c.deref.result.now in
     let begun = c.in-Ok-begin.ensures t refl (same_tables _ t c.in_ok-second.second.tables c.in_ok-first.ensures.ok c.in_ok-second.ensures.ok) in
-    let told : Tells game c.world_of.result (after game (first_world game) c.args.events.now) =
-    c.world_of.ensures game begun.a begun.b (after game (first_world game) c.args.events.now) (ap (λ (r : Rules). r.delay) begun.setups.rules_a) (ap (λ (r : Rules). r.delay) begun.setups.rules_b) (c.in-Ok-run_from.ensures game begun.a begun.b begun.setups begun.is) in
+    let told : TellsWorld game c.world_of.result (world_after_all game (first_world game) c.args.events.now) =
+    c.world_of.ensures game begun.a begun.b (world_after_all game (first_world game) c.args.events.now) (ap (λ (r : Rules). r.delay) begun.setups.rules_a) (ap (λ (r : Rules). r.delay) begun.setups.rules_b) (c.in-Ok-run_from.ensures game begun.a begun.b begun.setups begun.is) in
     runs_of c.args.game.now files c.args.events.now c.world_of.result t c.deref.result.now c.in_ok-first.ensures.ok (subst (IsManifestOf files) (sym c.deref.ensures.value) c.in-Ok.ensures) told
 
 pub returns-clause-one : goal.returns-clause-one
