@@ -26,17 +26,17 @@ pub data SpellsKeys (text : List ℕ) (keys : Keys) : Type 0 where
 abbrev pub front : List ℕ → List ℕ
 front text = take 65 text
 
-abbrev pub behind : List ℕ → List ℕ
-behind text = drop 65 text
+abbrev pub behind_keys : List ℕ → List ℕ
+behind_keys text = drop 65 text
 
 -- the first thing that is wrong: the first line; the second, where there is more than one line; what stands behind two lines
 abbrev pub IsFirstKeyFault : List ℕ → KeyFault → Type 0
 IsFirstKeyFault text FirstLine = IsKeyLine (front text) → ⊥
-IsFirstKeyFault text SecondLine = IsKeyLine (front text) × (behind text ≢ []) × (IsKeyLine (front (behind text)) → ⊥)
-IsFirstKeyFault text Behind = IsKeyLine (front text) × IsKeyLine (front (behind text)) × (behind (behind text) ≢ [])
+IsFirstKeyFault text SecondLine = IsKeyLine (front text) × (behind_keys text ≢ []) × (IsKeyLine (front (behind_keys text)) → ⊥)
+IsFirstKeyFault text Behind = IsKeyLine (front text) × IsKeyLine (front (behind_keys text)) × (behind_keys (behind_keys text) ≢ [])
 
 -- the number of the line at fault
-abbrev pub line_of : KeyFault → ℕ
-line_of FirstLine = 1
-line_of SecondLine = 2
-line_of Behind = 3
+abbrev pub key_fault_line : KeyFault → ℕ
+key_fault_line FirstLine = 1
+key_fault_line SecondLine = 2
+key_fault_line Behind = 3

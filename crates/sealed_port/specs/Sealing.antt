@@ -43,8 +43,8 @@ abbrev pub all_unsealed : Keys → Option (List Passing) → Option (List Passin
 all_unsealed keys passed = option_map (map (unsealed keys)) passed
 
 -- a count, which stays at its greatest value
-abbrev pub counted : ℕ → ℕ
-counted n = min n (2 ^ 64 - 1)
+abbrev pub capped_count : ℕ → ℕ
+capped_count n = min n (2 ^ 64 - 1)
 
 -- what contracts see of a sealed port: the port below it, its keys, whether its traffic is known, and how many datagrams it left out
 pub record SealedView (P : Type 0) : Type 0 where
@@ -59,13 +59,13 @@ over_port port keys = record { port = port; keys = keys; is_told = true; left_ou
 
 -- its facts by those of the port below it; its failures are those below and the datagrams that it left out
 abbrev pub unsealed_facts : Keys → Bool → ℕ → PortFacts → PortFacts
-unsealed_facts keys is_told left_out f = record { passed = cond is_told (all_unsealed keys f.passed) None; faults = counted (f.faults + left_out); addresses = f.addresses }
+unsealed_facts keys is_told left_out f = record { passed = cond is_told (all_unsealed keys f.passed) None; faults = capped_count (f.faults + left_out); addresses = f.addresses }
 
 abbrev pub sealed_facts : {P : Type 0} → (P → PortFacts) → SealedView P → PortFacts
 sealed_facts facts s = unsealed_facts s.keys s.is_told s.left_out (facts s.port)
 
 -- what a call leaves but for the port below: the keys, whether the traffic is known, and the datagrams that were left out
-pub record Stays {P : Type 0} (old new : SealedView P) : Type 0 where
+pub record StaysButPort {P : Type 0} (old new : SealedView P) : Type 0 where
   pub keys : new.keys ≡ old.keys
   pub told : new.is_told ≡ old.is_told
   pub left_out : new.left_out ≡ old.left_out
@@ -73,8 +73,8 @@ pub record Stays {P : Type 0} (old new : SealedView P) : Type 0 where
 -- to each address these bytes went with their tag under the first key, and nothing else passed below
 pub record SendsSealed {P : Type 0} (facts : P → PortFacts) (old new : SealedView P) (bytes : List ℕ) : Type 0 where
   pub below : Passed (facts old.port) (facts new.port) (to_each (facts old.port).addresses (sealed old.keys.first bytes))
-  pub stays : Stays old new
+  pub stays : StaysButPort old new
 
 -- a datagram is left out: nothing passes below, the traffic isn't known from then on, and it is counted
 abbrev pub LeavesOut : {P : Type 0} → SealedView P → SealedView P → Type 0
-LeavesOut old new = new ≡ record { port = old.port; keys = old.keys; is_told = false; left_out = counted (old.left_out + 1) }
+LeavesOut old new = new ≡ record { port = old.port; keys = old.keys; is_told = false; left_out = capped_count (old.left_out + 1) }

@@ -2,7 +2,7 @@
 
 ghost use Rattle.std.specs.Prelude.{◌≡◌, ◌<◌, ℕ, List, drop, length, slice_index, take, IfErr, IfNone, IfOk, IfSome};
 ghost use Rattle.hex.specs.Hex.{encode_lower};
-ghost use Rattle.sealed_port.specs.KeyFiles.{IsFirstKeyFault, IsKey, IsKeyLine, SpellsKeys, key_line, line_of};
+ghost use Rattle.sealed_port.specs.KeyFiles.{IsFirstKeyFault, IsKey, IsKeyLine, SpellsKeys, key_fault_line, key_line};
 
 use crate::seal_port::Keys;
 
@@ -26,7 +26,7 @@ pub enum KeyFault {
 impl KeyFault {
     /// The number of the line at fault, counted from 1.
     pub fn line(self) -> usize
-        ensures { result ≡ line_of self }
+        ensures { result ≡ key_fault_line self }
     {
         match self {
             KeyFault::FirstLine => 1,

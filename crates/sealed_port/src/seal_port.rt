@@ -147,7 +147,7 @@ impl<P: Port + Drop> Port for Sealed<P> {
     ghost use Rattle.system_io.specs.Failures.{Risen};
     ghost use Rattle.system_io.specs.Ports.{Came, Quiet, Missed, Passed, to_each};
     ghost use Rattle.system_io.specs.declared.port.PortFault.TheVariants.{Failed};
-    ghost use Rattle.sealed_port.specs.Sealing.{LeavesOut, SendsSealed, Stays, sealed_facts};
+    ghost use Rattle.sealed_port.specs.Sealing.{LeavesOut, SendsSealed, StaysButPort, sealed_facts};
 
     ghost facts = { sealed_facts P.facts };
 
@@ -156,7 +156,7 @@ impl<P: Port + Drop> Port for Sealed<P> {
         ensures came { IfOk result (λ n. Passed (sealed_facts P.facts self.old) (sealed_facts P.facts self.new) (Came (take n buffer.new) ∷ [])) }
         ensures missed { OnErr result (Passed (sealed_facts P.facts self.old) (sealed_facts P.facts self.new) (Missed ∷ [])) }
         ensures cause { OnErr result (Risen (sealed_facts P.facts self.old).faults (sealed_facts P.facts self.new).faults) }
-        ensures stays { Stays self.old self.new }
+        ensures stays { StaysButPort self.old self.new }
     {
         match self.port.receive(buffer) {
             Ok(length) => Ok(self.open(buffer, length)),
@@ -174,7 +174,7 @@ impl<P: Port + Drop> Port for Sealed<P> {
         ensures quiet { result ≡ Ok None → Passed (sealed_facts P.facts self.old) (sealed_facts P.facts self.new) (Quiet (as_nanos wait) ∷ []) }
         ensures missed { OnErr result (Passed (sealed_facts P.facts self.old) (sealed_facts P.facts self.new) (Missed ∷ [])) }
         ensures cause { OnErr result (Risen (sealed_facts P.facts self.old).faults (sealed_facts P.facts self.new).faults) }
-        ensures stays { Stays self.old self.new }
+        ensures stays { StaysButPort self.old self.new }
     {
         match self.port.receive_in_time(wait, buffer) {
             Ok(Some(length)) => Ok(Some(self.open(buffer, length))),
