@@ -17,7 +17,7 @@ use Rattle.source_core.specs.declared.known.Known.{Known}
 use Rattle.source_core.specs.declared.known.Clash.{Clash}
 use Rattle.source_core.specs.declared.known.Standing.TheVariants as standing
 use Rattle.system_io.specs.Ports.{Passing, Came}
-use Rattle.source_core.specs.Reports.{Clashes, Fits, HasCome, HasAcknowledged, HasRuled, Adds, IsAcked, IsAgreed, IsClash, IsRuled, IsReportedBy, IsUnsettled, Knows, StandsSo, message_of}
+use Rattle.source_core.specs.Reports.{Clashes, FitsRuling, HasCome, HasAcknowledged, HasRuled, AddsReport, IsAcked, IsAgreed, IsClash, IsRuled, IsReportedBy, IsUnsettled, Knows, StandsSo, message_of}
 
 pub come_still : (all more : List Passing) (m : Message) → HasCome all m → HasCome (all ++ more) m
 come_still all more m (bytes, in', spells) = (bytes, Contains-append_left all more (Came bytes) in', spells)
@@ -97,7 +97,7 @@ counts_now stamp who all bytes count told says h = record {
     greatest : (m n : ℕ) → (max m n ≡ m) ⊎ (max m n ≡ n)
     greatest m n = grind arith
 
-rules_now : (stamp : Stamp) (who : Who) (all : List Passing) (bytes : List ℕ) (r : Ruling) (told : Reported) → IsReport stamp bytes (Rules who r) → Fits told.ruling r → IsReportedBy stamp who all told → IsReportedBy stamp who (all ++ Came bytes ∷ []) (record { count = told.count; ruling = Some r })
+rules_now : (stamp : Stamp) (who : Who) (all : List Passing) (bytes : List ℕ) (r : Ruling) (told : Reported) → IsReport stamp bytes (Rules who r) → FitsRuling told.ruling r → IsReportedBy stamp who all told → IsReportedBy stamp who (all ++ Came bytes ∷ []) (record { count = told.count; ruling = Some r })
 rules_now stamp who all bytes r told says fits h = record {
   counted = λ some. let c = h.counted some in (c.0, come_still all (Came bytes ∷ []) (message_of stamp (Acknowledges who c.0)) c.1, c.2);
   most = λ n c. elim (came_or_said stamp all bytes (Rules who r) (Acknowledges who c.0) says c.1) [ inl before ↦ h.most n (c.0, before, c.2) | inr is ↦ absurd cc ];
@@ -108,15 +108,15 @@ rules_now stamp who all bytes r told says fits h = record {
   ];
 }
   where
-    kept : (o : Option Ruling) (s : Ruling) → Fits o r → o ≡ Some s → Some r ≡ Some s
+    kept : (o : Option Ruling) (s : Ruling) → FitsRuling o r → o ≡ Some s → Some r ≡ Some s
     kept None s f e = absurd cc
     kept (Some x) s f e = ap Some (sym f) ∙ e
 
-fits_some : (o : Option Ruling) (r s : Ruling) → Fits o r → o ≡ Some s → s ≡ r
+fits_some : (o : Option Ruling) (r s : Ruling) → FitsRuling o r → o ≡ Some s → s ≡ r
 fits_some None r s f e = absurd cc
 fits_some (Some x) r s f e = sym (same_Some x s e) ∙ f
 
-pub knows_now : (stamp : Stamp) (all : List Passing) (bytes : List ℕ) (said : Report) (old new : Known) → IsReport stamp bytes said → Adds old said new → Knows stamp all old → Knows stamp (all ++ Came bytes ∷ []) new
+pub knows_now : (stamp : Stamp) (all : List Passing) (bytes : List ℕ) (said : Report) (old new : Known) → IsReport stamp bytes said → AddsReport old said new → Knows stamp all old → Knows stamp (all ++ Came bytes ∷ []) new
 knows_now stamp all bytes (Acknowledges A count) old new says adds h = subst (λ k. Knows stamp (all ++ Came bytes ∷ []) k) (sym adds) (record {
   a = counts_now stamp A all bytes count old.a says h.a;
   b = untouched stamp B all bytes (Acknowledges A count) old.b says (λ n e. cc) (λ r e. cc) h.b;

@@ -18,7 +18,7 @@ use Rattle.system_io.specs.Ports.{Passing, Came, Quiet, Handed, PortFacts, Passe
 use Rattle.source_core.specs.Reports.{Knows, StandsSo}
 use Rattle.source_core.specs.Sendings.{again}
 use Rattle.source_core.specs.Turns.{AllButLastWaited, ComesTo, EachWaitsSoLong, ForAnswers, ForVerdicts, HasWaited, IsReceived, HasSpelling, IsTurn, IsWait, Learns, WaitsSoLong, most_answers, one_try, move_message, tries_of}
-use Rattle.source_core.specs.Inside.Steps.{EndsIf, HasEnded, HasTriedOnce, IsLast, IsWaitBy, TryLearns, TryWaits, Waits, is_ruled, loss_by, wait_by}
+use Rattle.source_core.specs.Inside.Steps.{EndsIf, HasTriedOnce, IsEndOfTry, IsLast, IsWaitBy, TryLearns, TryWaits, Waits, is_ruled, loss_by, wait_by}
 use Rattle.source_core.proofs.PortLaws.{Passed-nil, Passed-trans}
 use Rattle.source_core.proofs.ReportLaws.{ReportsNothing, is_acked, is_ruled_so, is_unsettled, knows_past}
 
@@ -112,7 +112,7 @@ received_more stamp old mid new port port1 port2 k p h received passed one learn
   learned = λ before known. subst (λ l. Knows stamp l new) (append_assoc before h.came (p ∷ [])) (learns (before ++ h.came) (h.learned before known));
 }
 
-pub ended : (terms : Terms) (index number : ℕ) (old mid new : Known) (port port1 port2 : PortFacts) (k : ℕ) (nanos : ℕ) (p : Passing) (end : Next) → HasReceived terms.stamp old mid port port1 k → IsWaitBy terms.wait index number mid nanos → IsReceived p → Passed port1 port2 (p ∷ []) → IsLast nanos p end → Learns terms.stamp mid new (p ∷ []) end → (end ≡ next.GoesOn → ⊥) → HasEnded terms index number old new port port2 end
+pub ended : (terms : Terms) (index number : ℕ) (old mid new : Known) (port port1 port2 : PortFacts) (k : ℕ) (nanos : ℕ) (p : Passing) (end : Next) → HasReceived terms.stamp old mid port port1 k → IsWaitBy terms.wait index number mid nanos → IsReceived p → Passed port1 port2 (p ∷ []) → IsLast nanos p end → Learns terms.stamp mid new (p ∷ []) end → (end ≡ next.GoesOn → ⊥) → IsEndOfTry terms index number old new port port2 end
 ended terms index number old mid new port port1 port2 k nanos p end h by received passed is learns not = record {
   came = h.came ++ p ∷ [];
   received = all_more IsReceived h.came p h.received received;
@@ -128,10 +128,10 @@ ended terms index number old mid new port port1 port2 k nanos p end h by receive
     waits (next.Clashed c) i n = tt
     waits next.PortLost i n = tt
 
-pub ended_ruled : (terms : Terms) (index number : ℕ) (old new : Known) (port port' : PortFacts) (k : ℕ) → HasReceived terms.stamp old new port port' k → is_ruled new ≡ true → HasEnded terms index number old new port port' next.Waited
+pub ended_ruled : (terms : Terms) (index number : ℕ) (old new : Known) (port port' : PortFacts) (k : ℕ) → HasReceived terms.stamp old new port port' k → is_ruled new ≡ true → IsEndOfTry terms index number old new port port' next.Waited
 ended_ruled terms index number old new port port' k h ruled = record { came = h.came; received = h.received; passed = h.passed; waits = inr ruled; waited = λ before known. waits_never terms index number before h.came h.quietless; learns = h.learned }
 
-pub ended_full : (terms : Terms) (index number : ℕ) (old new : Known) (port port' : PortFacts) (k : ℕ) → HasReceived terms.stamp old new port port' k → k ≡ most_answers → HasEnded terms index number old new port port' next.Waited
+pub ended_full : (terms : Terms) (index number : ℕ) (old new : Known) (port port' : PortFacts) (k : ℕ) → HasReceived terms.stamp old new port port' k → k ≡ most_answers → IsEndOfTry terms index number old new port port' next.Waited
 ended_full terms index number old new port port' k h full = record { came = h.came; received = h.received; passed = h.passed; waits = inl (inr (h.count ∙ full)); waited = λ before known. waits_never terms index number before h.came h.quietless; learns = h.learned }
 
 -- what is handed over reports nothing
@@ -145,7 +145,7 @@ again_reports_nothing stamp addresses number None = tt
 again_reports_nothing stamp addresses number (Some m) = handed_reports_nothing stamp addresses (message_text (move_message stamp number m))
 
 -- a try: the datagram is handed over for each address, and then this comes
-pub tried_once : (terms : Terms) (index number addresses : ℕ) (bytes : List ℕ) (old new : Known) (port mid port' : PortFacts) (end : Next) → Passed port mid (to_each addresses bytes) → HasEnded terms index number old new mid port' end → HasTriedOnce terms index number addresses bytes old new port port' (loss_by end)
+pub tried_once : (terms : Terms) (index number addresses : ℕ) (bytes : List ℕ) (old new : Known) (port mid port' : PortFacts) (end : Next) → Passed port mid (to_each addresses bytes) → IsEndOfTry terms index number old new mid port' end → HasTriedOnce terms index number addresses bytes old new port port' (loss_by end)
 tried_once terms index number addresses bytes old new port mid port' end sent h = record {
   came = h.came;
   received = h.received;

@@ -21,18 +21,18 @@ abbrev pub HasNoMove : Parts → Type 0
 HasNoMove p = (m : Moves) → IsLegal p m → ⊥
 
 -- it is checkmated
-abbrev pub IsCheckmate : Parts → Type 0
-IsCheckmate p = HasNoMove p × IsInCheck p.men p.side
+abbrev pub IsCheckmated : Parts → Type 0
+IsCheckmated p = HasNoMove p × IsInCheck p.men p.side
 
 -- it is stalemated
-abbrev pub IsStalemate : Parts → Type 0
-IsStalemate p = HasNoMove p × (IsInCheck p.men p.side → ⊥)
+abbrev pub IsStalemated : Parts → Type 0
+IsStalemated p = HasNoMove p × (IsInCheck p.men p.side → ⊥)
 
 -- the position is as the verdict says; of a verdict by tables, or of damaged ones, it shows nothing
 abbrev pub IsShown : Parts → Verdict → Type 0
-IsShown p WhiteMates = IsCheckmate p × (p.side ≡ Black)
-IsShown p BlackMates = IsCheckmate p × (p.side ≡ White)
-IsShown p Stalemate = IsStalemate p
+IsShown p WhiteMates = IsCheckmated p × (p.side ≡ Black)
+IsShown p BlackMates = IsCheckmated p × (p.side ≡ White)
+IsShown p Stalemate = IsStalemated p
 IsShown p TableDraw = Unit {0}
 IsShown p TableWhite = Unit {0}
 IsShown p TableBlack = Unit {0}

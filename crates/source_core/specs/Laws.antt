@@ -9,7 +9,7 @@ use Rattle.source_core.specs.Sendings.{OnlyHands}
 use Rattle.source_core.specs.Turns.{move_message}
 
 -- one number never has two moves, whichever address they go to and however often
-abbrev pub HasOneMove : Type 0
-HasOneMove = (stamp : Stamp) (moves : List Moves) (all : List Passing) (to v : ℕ) (s t : List ℕ) (number : ℕ) (m n : Moves)
+abbrev pub NumberHasOneMove : Type 0
+NumberHasOneMove = (stamp : Stamp) (moves : List Moves) (all : List Passing) (to v : ℕ) (s t : List ℕ) (number : ℕ) (m n : Moves)
     → OnlyHands stamp moves all → Contains all (Handed to s) → Contains all (Handed v t)
     → SpellsMessage s (move_message stamp number m) → SpellsMessage t (move_message stamp number n) → m ≡ n

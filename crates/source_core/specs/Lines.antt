@@ -38,9 +38,9 @@ end_words at_end.PortLost = codes "refused port"
 end_words at_end.Unread = codes "refused files"
 end_words at_end.OutOfMemory = codes "refused memory"
 
-abbrev pub line_words : Line → List ℕ
-line_words (line.Acked count) = acked_words count
-line_words (line.Ends end) = end_words end
+abbrev pub sending_line_words : Line → List ℕ
+sending_line_words (line.Acked count) = acked_words count
+sending_line_words (line.Ends end) = end_words end
 
 -- 0 where the game goes on at the input's end, or has its verdict
 abbrev pub status_by : End → ℕ

@@ -88,13 +88,13 @@ abbrev pub with_reported : Known → Who → Reported → Known
 with_reported known A reported = record known { a = reported }
 with_reported known B reported = record known { b = reported }
 
-abbrev pub Fits : Option Ruling → Ruling → Type 0
-Fits kept r = IfSome kept (λ s. s ≡ r)
+abbrev pub FitsRuling : Option Ruling → Ruling → Type 0
+FitsRuling kept r = IfSome kept (λ s. s ≡ r)
 
 -- what is known after a report that clashes with nothing
-abbrev pub Adds : Known → Report → Known → Type 0
-Adds old (Acknowledges who count) new = new ≡ with_reported old who (record { count = max (reported_by old who).count count; ruling = (reported_by old who).ruling })
-Adds old (Rules who r) new = (new ≡ with_reported old who (record { count = (reported_by old who).count; ruling = Some r })) × Fits old.a.ruling r × Fits old.b.ruling r
+abbrev pub AddsReport : Known → Report → Known → Type 0
+AddsReport old (Acknowledges who count) new = new ≡ with_reported old who (record { count = max (reported_by old who).count count; ruling = (reported_by old who).ruling })
+AddsReport old (Rules who r) new = (new ≡ with_reported old who (record { count = (reported_by old who).count; ruling = Some r })) × FitsRuling old.a.ruling r × FitsRuling old.b.ruling r
 
 -- the report clashes with what is known
 abbrev pub Clashes : Known → Report → Clash → Type 0

@@ -27,16 +27,16 @@ use Rattle.source_core.specs.declared.turn.Terms.{Terms}
 use Rattle.source_core.specs.declared.lines.Ended.{Ended}
 
 -- on which terms the moves of a game are sent, and to how many addresses
-pub record Game : Type 0 where
+pub record SendingGame : Type 0 where
   pub terms : Terms
   pub addresses : ℕ
 
 -- at a port
-abbrev pub game_at : Terms → PortFacts → Game
-game_at terms port = record { terms = terms; addresses = port.addresses }
+abbrev pub game_at_port : Terms → PortFacts → SendingGame
+game_at_port terms port = record { terms = terms; addresses = port.addresses }
 
 -- where a run stands: what is left of the input, the position, the moves that are acknowledged, and all that has passed
-pub record At : Type 0 where
+pub record SendingState : Type 0 where
   pub input : Option (List ℕ)
   pub position : Parts
   pub moves : List Moves
@@ -49,24 +49,24 @@ pub record AckedMove : Type 0 where
   pub line : List ℕ
   pub move : Moves
   pub tries : List (List Passing)
-  pub after : At
+  pub after : SendingState
 
 -- the datagram of a move that follows these moves
-abbrev pub text_in : Game → List Moves → Moves → List ℕ
+abbrev pub text_in : SendingGame → List Moves → Moves → List ℕ
 text_in g moves m = message_text (move_message g.terms.stamp (length moves) m)
 
-abbrev pub sent_in : Game → List Moves → Moves → List (List Passing) → List Passing
+abbrev pub sent_in : SendingGame → List Moves → Moves → List (List Passing) → List Passing
 sent_in g moves m tries = tries_of g.addresses (text_in g moves m) tries
 
 -- tries of it, at most so many, each of which waited so long, where so much has passed before them
-pub record AreTries (g : Game) (moves : List Moves) (m : Moves) (before : List Passing) (tries : List (List Passing)) : Type 0 where
+pub record AreTries (g : SendingGame) (moves : List Moves) (m : Moves) (before : List Passing) (tries : List (List Passing)) : Type 0 where
   pub few : length tries ≤ g.terms.tries
   pub received : AllByRecursion (AllByRecursion IsReceived) tries
   pub again : AllButLastWaited tries
   pub waited : EachWaitsSoLong g.terms (length moves) g.addresses (text_in g moves m) before tries
 
 -- the next line spells a legal move, which is sent as the move with its number until both have acknowledged it
-pub record IsAckedTurn (g : Game) (old : At) (t : AckedMove) : Type 0 where
+pub record IsAckedTurn (g : SendingGame) (old : SendingState) (t : AckedMove) : Type 0 where
   pub read : ReadsLine old.input t.after.input t.line
   pub spelled : SpellsMove t.line t.move
   pub legal : Legal old.position t.move t.after.position
@@ -78,14 +78,14 @@ pub record IsAckedTurn (g : Game) (old : At) (t : AckedMove) : Type 0 where
   pub acked : IsAcked g.terms.stamp (length old.moves) t.after.passed
 
 -- each turn begins where the one before it left the run
-unfoldable pub InTurn : Game → At → List AckedMove → At → Type 0
-InTurn g old [] new = new ≡ old
-InTurn g old (t ∷ ts) new = IsAckedTurn g old t × InTurn g t.after ts new
+unfoldable pub AckedInTurn : SendingGame → SendingState → List AckedMove → SendingState → Type 0
+AckedInTurn g old [] new = new ≡ old
+AckedInTurn g old (t ∷ ts) new = IsAckedTurn g old t × AckedInTurn g t.after ts new
 
 -- ---- the end of a run
 
 -- the last move that is sent, which isn't acknowledged, or on which a verdict came
-pub record IsLastMove (g : Game) (at : At) (input : Option (List ℕ)) (sent : List Moves) (more : List Passing) : Type 0 where
+pub record IsLastMove (g : SendingGame) (at : SendingState) (input : Option (List ℕ)) (sent : List Moves) (more : List Passing) : Type 0 where
   pub line : List ℕ
   pub move : Moves
   pub tries : List (List Passing)
@@ -172,7 +172,7 @@ again stamp addresses number (Some m) = to_each addresses (message_text (move_me
 
 -- After the input's end the last acknowledged move is handed over once more: an arbiter answers it with its count and its verdict,
 -- if it has one. Then what comes in time is received, awaited as in the first try of the next move, and nothing more is sent.
-pub record IsClosed (g : Game) (position : Parts) (moves : List Moves) (before more : List Passing) (end : End) : Type 0 where
+pub record IsClosed (g : SendingGame) (position : Parts) (moves : List Moves) (before more : List Passing) (end : End) : Type 0 where
   pub came : List Passing
   pub spelling : IfSome (last_of moves) (HasSpelling g.terms.stamp (length moves - 1))
   pub passed : more ≡ again g.terms.stamp g.addresses (length moves - 1) (last_of moves) ++ came
@@ -182,23 +182,23 @@ pub record IsClosed (g : Game) (position : Parts) (moves : List Moves) (before m
   pub stands : ClosesSo g.terms.stamp (length moves) position (before ++ more) end
 
 -- it was sent as often as it may be, and each try has waited
-abbrev pub IsTriedOut : Game → List (List Passing) → Type 0
+abbrev pub IsTriedOut : SendingGame → List (List Passing) → Type 0
 IsTriedOut g tries = (length tries ≡ g.terms.tries) × AllByRecursion HasWaited tries
 
 -- with what a run ends, and what was sent and passed after the acknowledged moves
-pub data EndsWith (cause : ReadFault → Type 0) (g : Game) (at : At) (input : Option (List ℕ)) (sent : List Moves) (more : List Passing) (end : End) : Type 0 where
+pub data SendingEndsWith (cause : ReadFault → Type 0) (g : SendingGame) (at : SendingState) (input : Option (List ℕ)) (sent : List Moves) (more : List Passing) (end : End) : Type 0 where
   -- no further line is read
-  Unread : sent ≡ [] → more ≡ [] → IsUnread cause end → EndsWith cause g at input sent more end
+  Unread : sent ≡ [] → more ≡ [] → IsUnread cause end → SendingEndsWith cause g at input sent more end
   -- a line is read, and its move isn't sent
-  Refused : (line : List ℕ) → sent ≡ [] → more ≡ [] → ReadsLine at.input input line → IsRefusedLine at.position (length at.moves) line end → EndsWith cause g at input sent more end
+  Refused : (line : List ℕ) → sent ≡ [] → more ≡ [] → ReadsLine at.input input line → IsRefusedLine at.position (length at.moves) line end → SendingEndsWith cause g at input sent more end
   -- the input has ended
-  Closed : sent ≡ [] → IsAtEnd at.input → IsClosed g at.position at.moves at.passed more end → EndsWith cause g at input sent more end
+  Closed : sent ≡ [] → IsAtEnd at.input → IsClosed g at.position at.moves at.passed more end → SendingEndsWith cause g at input sent more end
   -- one more move is sent; an arbiter counts as silent only when all tries are used up
-  Sent : (last : IsLastMove g at input sent more) → IsSentLast g.terms.stamp (length at.moves) last.after (at.passed ++ more) end → (end ≡ at_end.Lost → IsTriedOut g last.tries) → EndsWith cause g at input sent more end
+  Sent : (last : IsLastMove g at input sent more) → IsSentLast g.terms.stamp (length at.moves) last.after (at.passed ++ more) end → (end ≡ at_end.Lost → IsTriedOut g last.tries) → SendingEndsWith cause g at input sent more end
 
-abbrev pub EndsIfAny : (ReadFault → Type 0) → Game → At → Option (List ℕ) → List Moves → List Passing → Option End → Type 0
+abbrev pub EndsIfAny : (ReadFault → Type 0) → SendingGame → SendingState → Option (List ℕ) → List Moves → List Passing → Option End → Type 0
 EndsIfAny cause g at input sent more None = (sent ≡ []) × (more ≡ [])
-EndsIfAny cause g at input sent more (Some end) = EndsWith cause g at input sent more end
+EndsIfAny cause g at input sent more (Some end) = SendingEndsWith cause g at input sent more end
 
 -- ---- all of it
 
@@ -211,7 +211,7 @@ OnlyHands stamp moves all = (to : ℕ) (bytes : List ℕ) → Contains all (Hand
 -- then of the arbiters; no end where the writer failed before it
 pub record Sending : Type 0 where
   pub turns : List AckedMove
-  pub at : At
+  pub at : SendingState
   pub sent : List Moves
   pub more : List Passing
   pub end : Option End
@@ -220,35 +220,35 @@ pub record Sending : Type 0 where
 abbrev pub all_passed : Sending → List Passing
 all_passed s = s.at.passed ++ s.more
 
-abbrev pub all_moves : Sending → List Moves
-all_moves s = s.at.moves ++ s.sent
+abbrev pub acked_and_sent : Sending → List Moves
+acked_and_sent s = s.at.moves ++ s.sent
 
-pub record IsSending (cause : ReadFault → Type 0) (g : Game) (start : Parts) (input input' : Option (List ℕ)) (port port' : PortFacts) (s : Sending) : Type 0 where
-  pub turns : InTurn g (record { input = input; position = start; moves = []; passed = [] }) s.turns s.at
+pub record IsSending (cause : ReadFault → Type 0) (g : SendingGame) (start : Parts) (input input' : Option (List ℕ)) (port port' : PortFacts) (s : Sending) : Type 0 where
+  pub turns : AckedInTurn g (record { input = input; position = start; moves = []; passed = [] }) s.turns s.at
   pub last : EndsIfAny cause g s.at input' s.sent s.more s.end
   pub passed : Passed port port' (all_passed s)
   -- one number never has two moves: this is what an arbiter's guarantee asks of a source
-  pub source : OnlyHands g.terms.stamp (all_moves s) (all_passed s)
+  pub source : OnlyHands g.terms.stamp (acked_and_sent s) (all_passed s)
   -- what is told of the arbiters where one doesn't answer
   pub knows : s.end ≡ Some at_end.Lost → Knows g.terms.stamp (all_passed s) s.known
 
-abbrev pub line_of : AckedMove → List ℕ
-line_of t = acked_words (length t.after.moves)
+abbrev pub acked_line : AckedMove → List ℕ
+acked_line t = acked_words (length t.after.moves)
 
 abbrev pub last_lines : Option End → List (List ℕ)
 last_lines None = []
 last_lines (Some end) = end_words end ∷ []
 
 -- a line for each acknowledged move, and the last line
-abbrev pub lines_of : Sending → List (List ℕ)
-lines_of s = map line_of s.turns ++ last_lines s.end
+abbrev pub sending_lines : Sending → List (List ℕ)
+sending_lines s = map acked_line s.turns ++ last_lines s.end
 
 -- all of them are written, and the status is that of the end; or the writer fails at the last of those that it was given
 abbrev pub WritesLines : Sending → Option (List ℕ) → Option (List ℕ) → Result Ended WriteFault → Type 0
-WritesLines s old new (Ok ended) = (end : End) × (s.end ≡ Some end) × (ended ≡ ended_by end s.known) × Appends old new (text_of (lines_of s))
-WritesLines s old new (Err fault) = IsCut (lines_of s) old new
+WritesLines s old new (Ok ended) = (end : End) × (s.end ≡ Some end) × (ended ≡ ended_by end s.known) × Appends old new (text_of (sending_lines s))
+WritesLines s old new (Err fault) = IsCut (sending_lines s) old new
 
 -- there is such a run at a reader and at a port, and its lines are written
 abbrev pub SendsLines : Terms → Parts → LineFacts → LineFacts → PortFacts → PortFacts → Option (List ℕ) → Option (List ℕ) → Result Ended WriteFault → Type 0
 SendsLines terms start reader reader' port port' old new r =
-    (s : Sending) × IsSending (causes reader.fails reader.takes_memory) (game_at terms port) start reader.left reader'.left port port' s × WritesLines s old new r
+    (s : Sending) × IsSending (causes reader.fails reader.takes_memory) (game_at_port terms port) start reader.left reader'.left port port' s × WritesLines s old new r

@@ -90,13 +90,13 @@ abbrev pub Learns : Stamp → Known → Known → List Passing → Next → Type
 Learns stamp old new came then' = (before : List Passing) → Knows stamp before old → ComesTo stamp (before ++ came) new then'
 
 -- how a turn ended, by all that has passed, with so many moves and this position on the board
-abbrev pub EndsSo : Stamp → ℕ → ℕ → Parts → List Passing → Known → Turn → Type 0
-EndsSo stamp number plies position all known at_turn.Acked = IsAcked stamp number all × Knows stamp all known
-EndsSo stamp number plies position all known (at_turn.Ruled r) = IsBelievedRuling stamp plies position r all
-EndsSo stamp number plies position all known (at_turn.Clashed c) = IsClash stamp c all
-EndsSo stamp number plies position all known (at_turn.Belied r) = IsBelied stamp plies position r all
-EndsSo stamp number plies position all known at_turn.Lost = IsUnsettled stamp number all × Knows stamp all known
-EndsSo stamp number plies position all known at_turn.PortLost = Contains all Missed
+abbrev pub TurnEndsSo : Stamp → ℕ → ℕ → Parts → List Passing → Known → Turn → Type 0
+TurnEndsSo stamp number plies position all known at_turn.Acked = IsAcked stamp number all × Knows stamp all known
+TurnEndsSo stamp number plies position all known (at_turn.Ruled r) = IsBelievedRuling stamp plies position r all
+TurnEndsSo stamp number plies position all known (at_turn.Clashed c) = IsClash stamp c all
+TurnEndsSo stamp number plies position all known (at_turn.Belied r) = IsBelied stamp plies position r all
+TurnEndsSo stamp number plies position all known at_turn.Lost = IsUnsettled stamp number all × Knows stamp all known
+TurnEndsSo stamp number plies position all known at_turn.PortLost = Contains all Missed
 
 -- a turn: tries of the one move, at most so many, each of which waited so long
 pub record IsTurn (terms : Terms) (number : ℕ) (m : Moves) (plies : ℕ) (position : Parts) (old new : PortFacts) (known known' : Known) (end : Turn) (tries : List (List Passing)) : Type 0 where
@@ -107,4 +107,4 @@ pub record IsTurn (terms : Terms) (number : ℕ) (m : Moves) (plies : ℕ) (posi
   pub waited : (before : List Passing) → Knows terms.stamp before known → EachWaitsSoLong terms number old.addresses (message_text (move_message terms.stamp number m)) before tries
   pub lost : end ≡ at_turn.Lost → (length tries ≡ terms.tries) × AllByRecursion HasWaited tries
   pub passed : Passed old new (tries_of old.addresses (message_text (move_message terms.stamp number m)) tries)
-  pub ends : (before : List Passing) → Knows terms.stamp before known → EndsSo terms.stamp number plies position (before ++ tries_of old.addresses (message_text (move_message terms.stamp number m)) tries) known' end
+  pub ends : (before : List Passing) → Knows terms.stamp before known → TurnEndsSo terms.stamp number plies position (before ++ tries_of old.addresses (message_text (move_message terms.stamp number m)) tries) known' end

@@ -1,7 +1,7 @@
 //! The source's own board, by which it believes a reported mate or not.
 
 ghost use Rattle.std.specs.Prelude.{◌≡◌, ◌↔◌, ◌⊎◌, IsTrue, Some, IfSome, IfNone};
-ghost use Rattle.source_core.specs.Boards.{AreBelieved, HasNoMove, IsBelieved, IsCheckmate, IsMate, IsShown, IsStalemate};
+ghost use Rattle.source_core.specs.Boards.{AreBelieved, HasNoMove, IsBelieved, IsCheckmated, IsMate, IsShown, IsStalemated};
 
 use crate::known::Known;
 use crate::report::Ruling;
@@ -25,14 +25,14 @@ fn has_no_move(position: &Position) -> bool
 
 /// Whether the side to move is checkmated (FIDE article 5.1.1).
 fn is_checkmate(position: &Position) -> bool
-    ensures { IsTrue result ↔ IsCheckmate position.now }
+    ensures { IsTrue result ↔ IsCheckmated position.now }
 {
     has_no_move(position) && position.in_check()
 }
 
 /// Whether the side to move is stalemated (FIDE article 5.2.1).
 fn is_stalemate(position: &Position) -> bool
-    ensures { IsTrue result ↔ IsStalemate position.now }
+    ensures { IsTrue result ↔ IsStalemated position.now }
 {
     has_no_move(position) && !position.in_check()
 }

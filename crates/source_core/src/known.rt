@@ -1,7 +1,7 @@
 //! What a source knows of the arbiters' records.
 
 ghost use Rattle.std.specs.Prelude.{◌≡◌, ◌≢◌, ◌⊎◌, None, Some, IfSome, IfNone, IfErr, OnOk};
-ghost use Rattle.source_core.specs.Reports.{Adds, Clashes, Fits, StandsSo, reported_by, with_reported};
+ghost use Rattle.source_core.specs.Reports.{AddsReport, Clashes, FitsRuling, StandsSo, reported_by, with_reported};
 
 use crate::report::{Report, Ruling};
 use move_msg::Who;
@@ -47,7 +47,7 @@ pub enum Standing {
 /// The known verdict, where it differs from this one.
 fn other_than(known: Option<Ruling>, ruling: Ruling) -> Option<Ruling>
     ensures some { IfSome result (λ first. (known ≡ Some first) × (first ≢ ruling)) }
-    ensures none { IfNone result (Fits known ruling) }
+    ensures none { IfNone result (FitsRuling known ruling) }
 {
     match known {
         Some(first) if first != ruling => Some(first),
@@ -99,7 +99,7 @@ impl Known {
     /// A reported verdict that differs from this one.
     fn clash_with(&self, ruling: Ruling) -> Option<Ruling>
         ensures some { IfSome result (λ first. (first ≢ ruling) × ((self.now.a.ruling ≡ Some first) ⊎ (self.now.b.ruling ≡ Some first))) }
-        ensures none { IfNone result (Fits self.now.a.ruling ruling × Fits self.now.b.ruling ruling) }
+        ensures none { IfNone result (FitsRuling self.now.a.ruling ruling × FitsRuling self.now.b.ruling ruling) }
     {
         match other_than(self.a.ruling, ruling) {
             Some(first) => Some(first),
@@ -109,7 +109,7 @@ impl Known {
 
     /// Adds a report. The error comes where it is a verdict that differs from a reported one; nothing is added then.
     pub fn add(&mut self, report: Report) -> Result<(), Clash>
-        ensures added { OnOk result (Adds self.old report self.new) }
+        ensures added { OnOk result (AddsReport self.old report self.new) }
         ensures clash { IfErr result (Clashes self.old report) }
         ensures same { IfErr result (λ c. self.new ≡ self.old) }
     {

@@ -6,7 +6,7 @@ ghost use Rattle.board_core.specs.Verdicts.{verdict_name};
 ghost use Rattle.line_teller.specs.ToldLines.{HasFailed};
 ghost use Rattle.move_msg.specs.TextLines.{ended};
 ghost use Rattle.system_io.specs.Outputs.{WritesFront};
-ghost use Rattle.source_core.specs.Lines.{acked_words, clash_words, end_words, ended_by, ended_status, line_words, ruling_words, status_by};
+ghost use Rattle.source_core.specs.Lines.{acked_words, clash_words, end_words, ended_by, ended_status, ruling_words, sending_line_words, status_by};
 
 use crate::known::{Clash, Known};
 use crate::report::Ruling;
@@ -174,7 +174,7 @@ fn acked_line(count: u32) -> LineWords
 
 /// The words of a line.
 fn words_of(line: &Line) -> LineWords
-    ensures { result ≡ line_words line.now }
+    ensures { result ≡ sending_line_words line.now }
 {
     match line {
         Line::Acked(count) => acked_line(*count),
@@ -185,7 +185,7 @@ fn words_of(line: &Line) -> LineWords
 /// Writes a line at once, and flushes it. The error is that of the writer, which refused a write, or from which the line can't go out; a
 /// front of it is written then.
 pub(crate) fn put_now<W: Output>(out: &mut W, line: &Line) -> Result<(), WriteFault>
-    ensures front { WritesFront (W.contents out.old) (W.contents out.new) (ended (line_words line.now)) result }
+    ensures front { WritesFront (W.contents out.old) (W.contents out.new) (ended (sending_line_words line.now)) result }
     ensures gone { OnOk result (W.facts out.new).gone }
     ensures cause { OnErr result (HasFailed W.facts) }
 {

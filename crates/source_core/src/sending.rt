@@ -3,7 +3,7 @@
 ghost use Rattle.std.specs.Prelude.{◌≡◌, ◌≤◌, IfOk, IfErr, OnErr, OnOk};
 ghost use Rattle.line_teller.specs.ToldLines.{HasFailed};
 ghost use Rattle.source_core.specs.Sendings.{IsRefusedLine, SendsLines};
-ghost use Rattle.source_core.specs.Inside.Steps.{Closes, EndsAt, IsPlayed, StepsAt, StepsOn, begun_at, end_by};
+ghost use Rattle.source_core.specs.Inside.Steps.{Closes, IsPlayedLine, StandsAtInputEnd, StepsAt, StepsOn, begun_at, end_by};
 ghost use Rattle.system_io.specs.Outputs.{WritesFront};
 ghost use Rattle.source_core.specs.Lines.{end_words, ended_by};
 ghost use Rattle.move_msg.specs.Numbers.{most_moves};
@@ -44,7 +44,7 @@ fn begun_at(start: Position) -> Course
 /// A line as a legal move of a position, and the position after it. The error is the end of the run.
 fn move_of(line: &[u8], position: &Position, number: u32) -> Result<(Move, Position), End>
     requires { number ≤ most_moves }
-    ensures ok { IfOk result (λ t. IsPlayed position.now number line.now t.0 t.1) }
+    ensures ok { IfOk result (λ t. IsPlayedLine position.now number line.now t.0 t.1) }
     ensures err { IfErr result (IsRefusedLine position.now number line.now) }
 {
     if number >= MOST_MOVES {
@@ -102,7 +102,7 @@ fn send_line<P: Port>(
 /// The end of a run by a verdict that the board belies, or by the one that both have reported; otherwise the game is open after this
 /// many moves.
 fn end_at(known: &Known, number: u32, position: &Position) -> End
-    ensures { EndsAt number position.now known.now result }
+    ensures { StandsAtInputEnd number position.now known.now result }
 {
     let board = Board {
         plies: number,

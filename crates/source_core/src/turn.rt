@@ -7,7 +7,7 @@ ghost use Rattle.system_io.specs.Ports.{Passing, Came, Passed, to_each};
 ghost use Rattle.move_msg.specs.Messages.{SpellsMessage};
 ghost use Rattle.source_core.specs.Sendings.{again};
 ghost use Rattle.source_core.specs.Turns.{HasSpelling, IsReceived, IsTurn, Learns, move_message, times_at};
-ghost use Rattle.source_core.specs.Inside.Steps.{EndsIf, HasEnded, HasTriedOnce, IsLast, IsWaitBy, is_ruled, loss_by};
+ghost use Rattle.source_core.specs.Inside.Steps.{EndsIf, HasTriedOnce, IsEndOfTry, IsLast, IsWaitBy, is_ruled, loss_by};
 
 use crate::board::Board;
 use crate::known::{Clash, Known, Standing};
@@ -137,7 +137,7 @@ pub(crate) fn receive_all<P: Port>(
     known: &mut Known,
     port: &mut P,
 ) -> Next
-    ensures { HasEnded terms index number known.old known.new (P.facts port.old) (P.facts port.new) result }
+    ensures { IsEndOfTry terms index number known.old known.new (P.facts port.old) (P.facts port.new) result }
 {
     for _ in 0..MOST_ANSWERS {
         if is_ruled(known) {

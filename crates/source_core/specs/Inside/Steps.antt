@@ -20,9 +20,9 @@ use Rattle.source_core.specs.declared.lines.End.TheVariants as at_end
 use Rattle.system_io.specs.declared.reading.ReadFault.{ReadFault}
 use Rattle.system_io.specs.Ports.{Passing, Came, Quiet, Missed, PortFacts, Passed, to_each}
 use Rattle.system_io.specs.LineReaders.{LineFacts, ReadsLine}
-use Rattle.source_core.specs.Sendings.{Game, At, AckedMove, IsAckedTurn, ClosesSo, EndsWith, again, causes, game_at, last_of, sent_in}
+use Rattle.source_core.specs.Sendings.{SendingGame, SendingState, AckedMove, IsAckedTurn, ClosesSo, SendingEndsWith, again, causes, game_at_port, last_of, sent_in}
 use Rattle.source_core.specs.Reports.{Knows, IsUnsettled, StandsSo}
-use Rattle.source_core.specs.Turns.{EndsSo, HasSpelling, HasWaited, IsReceived, Learns, WaitsSoLong, one_try, try_nanos}
+use Rattle.source_core.specs.Turns.{HasSpelling, HasWaited, IsReceived, Learns, TurnEndsSo, WaitsSoLong, one_try, try_nanos}
 use Rattle.std.specs.List.{AllByRecursion}
 use Rattle.std.specs.declared.time.Duration.{Duration}
 
@@ -55,7 +55,7 @@ Waits came known (next.Clashed c) = Unit {0}
 Waits came known next.PortLost = Unit {0}
 
 -- the try with this number has come to its end
-pub record HasEnded (terms : Terms) (index number : ℕ) (old new : Known) (port port' : PortFacts) (end : Next) : Type 0 where
+pub record IsEndOfTry (terms : Terms) (index number : ℕ) (old new : Known) (port port' : PortFacts) (end : Next) : Type 0 where
   pub came : List Passing
   pub received : AllByRecursion IsReceived came
   pub passed : Passed port port' came
@@ -76,7 +76,7 @@ TryWaits came known (Some end) = end ≡ at_turn.Lost → ⊥
 
 abbrev pub TryLearns : Stamp → List Passing → Known → Option Turn → Type 0
 TryLearns stamp all known None = Knows stamp all known
-TryLearns stamp all known (Some end) = (number plies : ℕ) (position : Parts) → EndsSo stamp number plies position all known end
+TryLearns stamp all known (Some end) = (number plies : ℕ) (position : Parts) → TurnEndsSo stamp number plies position all known end
 
 -- the try with this number: it has waited, unless both have reported a verdict, or it ends the turn, whichever move it was
 pub record HasTriedOnce (terms : Terms) (index number addresses : ℕ) (bytes : List ℕ) (old new : Known) (port port' : PortFacts) (end : Option Turn) : Type 0 where
@@ -90,7 +90,7 @@ pub record HasTriedOnce (terms : Terms) (index number addresses : ℕ) (bytes : 
 -- how a move stands, by all that has passed and by the board: the end of its turn other than a loss, or none where it is unsettled
 abbrev pub EndsIf : ℕ → ℕ → Parts → Known → Option Turn → Type 0
 EndsIf number plies position known None = (is_ruled known ≡ false) × ((stamp : Stamp) (all : List Passing) → Knows stamp all known → IsUnsettled stamp number all)
-EndsIf number plies position known (Some end) = (end ≡ at_turn.Lost → ⊥) × ((stamp : Stamp) (all : List Passing) → Knows stamp all known → EndsSo stamp number plies position all known end)
+EndsIf number plies position known (Some end) = (end ≡ at_turn.Lost → ⊥) × ((stamp : Stamp) (all : List Passing) → Knows stamp all known → TurnEndsSo stamp number plies position all known end)
 
 -- with what a run ends after a turn; none where it goes on
 abbrev pub end_by : Turn → Option End
@@ -102,14 +102,14 @@ end_by at_turn.Lost = Some at_end.Lost
 end_by at_turn.PortLost = Some at_end.PortLost
 
 -- a line spells a legal move, after which the position is so, and there is room for it
-pub record IsPlayed (position : Parts) (number : ℕ) (line : List ℕ) (m : Moves) (after : Parts) : Type 0 where
+pub record IsPlayedLine (position : Parts) (number : ℕ) (line : List ℕ) (m : Moves) (after : Parts) : Type 0 where
   pub spelled : SpellsMove line m
   pub legal : Legal position m after
   pub room : number < most_moves
 
 -- how a game stands at the input's end, whatever has passed by which so much is known
-abbrev pub EndsAt : ℕ → Parts → Known → End → Type 0
-EndsAt number position known end = ((count : ℕ) → end ≡ at_end.Open count → is_ruled known ≡ false) × ((stamp : Stamp) (all : List Passing) → Knows stamp all known → ClosesSo stamp number position all end)
+abbrev pub StandsAtInputEnd : ℕ → Parts → Known → End → Type 0
+StandsAtInputEnd number position known end = ((count : ℕ) → end ≡ at_end.Open count → is_ruled known ≡ false) × ((stamp : Stamp) (all : List Passing) → Knows stamp all known → ClosesSo stamp number position all end)
 
 -- after the input's end the last move is handed over once more, and what still comes in time is received
 pub record Closes (terms : Terms) (number : ℕ) (position : Parts) (last : Option Moves) (known : Known) (port port' : PortFacts) (end : End) : Type 0 where
@@ -122,21 +122,21 @@ pub record Closes (terms : Terms) (number : ℕ) (position : Parts) (last : Opti
   pub stands : (before : List Passing) → Knows terms.stamp before known → ClosesSo terms.stamp number position (before ++ (again terms.stamp port.addresses (number - 1) last ++ came)) end
 
 -- one more turn: a move was acknowledged, or the run ends
-unfoldable pub StepsSo : (ReadFault → Type 0) → Game → At → Option (List ℕ) → Course → PortFacts → PortFacts → Option End → Type 0
+unfoldable pub StepsSo : (ReadFault → Type 0) → SendingGame → SendingState → Option (List ℕ) → Course → PortFacts → PortFacts → Option End → Type 0
 StepsSo cause g at input course port port' None =
     (t : AckedMove) × IsAckedTurn g at t × (t.after.input ≡ input) × (t.after.position ≡ course.position) × (Some t.move ≡ course.last) × Passed port port' (sent_in g at.moves t.move t.tries) × Knows g.terms.stamp t.after.passed course.known
 StepsSo cause g at input course port port' (Some end) =
-    (sent : List Moves) × (more : List Passing) × EndsWith cause g at input sent more end × Passed port port' more × (end ≡ at_end.Lost → Knows g.terms.stamp (at.passed ++ more) course.known)
+    (sent : List Moves) × (more : List Passing) × SendingEndsWith cause g at input sent more end × Passed port port' more × (end ≡ at_end.Lost → Knows g.terms.stamp (at.passed ++ more) course.known)
 
 -- whatever has passed before, by which so much is known, and whichever moves are acknowledged
-abbrev pub Steps : (ReadFault → Type 0) → Terms → ℕ → Option (List ℕ) → Option (List ℕ) → Course → Course → PortFacts → PortFacts → Option End → Type 0
-Steps cause terms number input input' course course' port port' end =
+abbrev pub SendingSteps : (ReadFault → Type 0) → Terms → ℕ → Option (List ℕ) → Option (List ℕ) → Course → Course → PortFacts → PortFacts → Option End → Type 0
+SendingSteps cause terms number input input' course course' port port' end =
     (before : List Passing) (moves : List Moves) → Knows terms.stamp before course.known → number ≡ length moves → course.last ≡ last_of moves →
-    StepsSo cause (game_at terms port) (record { input = input; position = course.position; moves = moves; passed = before }) input' course' port port' end
+    StepsSo cause (game_at_port terms port) (record { input = input; position = course.position; moves = moves; passed = before }) input' course' port port' end
 
 -- so at a reader
 abbrev pub StepsAt : Terms → ℕ → LineFacts → LineFacts → Course → Course → PortFacts → PortFacts → Option End → Type 0
-StepsAt terms number reader reader' course course' port port' end = Steps (causes reader.fails reader.takes_memory) terms number reader.left reader'.left course course' port port' end
+StepsAt terms number reader reader' course course' port port' end = SendingSteps (causes reader.fails reader.takes_memory) terms number reader.left reader'.left course course' port port' end
 
 -- nothing is the cause of a failed read
 abbrev pub no_cause : ReadFault → Type 0
@@ -145,7 +145,7 @@ no_cause fault = ⊥
 -- the same after a line was read, whatever it was read from
 abbrev pub StepsOn : Terms → ℕ → List ℕ → Course → Course → PortFacts → PortFacts → Option End → Type 0
 StepsOn terms number line course course' port port' end =
-    (input input' : Option (List ℕ)) → ReadsLine input input' line → Steps no_cause terms number input input' course course' port port' end
+    (input input' : Option (List ℕ)) → ReadsLine input input' line → SendingSteps no_cause terms number input input' course course' port port' end
 
 -- a game of which nothing is sent yet
 abbrev pub begun_at : Parts → Course
