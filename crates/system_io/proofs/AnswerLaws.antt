@@ -10,7 +10,7 @@ use Rattle.std.specs.declared.net.socket_addr.SocketAddr.{SocketAddr}
 use Rattle.system_io.proofs.HistoryLaws.{Passes-nil, Passes-trans}
 use Rattle.system_io.specs.Answers.{AnswersFollow, EachIsSent, IsAnswer, NothingElseIsSent, SendsAll, all_sent}
 use Rattle.system_io.specs.Histories.{Passes}
-use Rattle.system_io.specs.Recipients.{named}
+use Rattle.system_io.specs.Recipients.{address_named}
 use Rattle.system_io.specs.Sockets.{SocketCall, Arrived, Sent}
 use Rattle.system_io.specs.UdpPorts.{UdpFacts, none_came, sent_to, sent_to_each, who_at}
 use Rattle.system_io.specs.declared.recipient.Addressed.{Addressed}
@@ -43,7 +43,7 @@ first_is x xs = Contains-append_left (x ∷ []) xs x (0, omega arith, refl)
 in_rest : {X : Type 0} (x y : X) (xs : List X) → Contains xs y → Contains (x ∷ xs) y
 in_rest x y xs p = Contains-append_right (x ∷ []) xs y p
 
-one_is : (from : SocketAddr) (to : List Recipient) (answers : List (List ℕ)) (answer : List ℕ) → Contains answers answer → (who : Recipient) → Contains to who → All (IsAnswer from to answers) (sent_to (named (Some from) who) answer)
+one_is : (from : SocketAddr) (to : List Recipient) (answers : List (List ℕ)) (answer : List ℕ) → Contains answers answer → (who : Recipient) → Contains to who → All (IsAnswer from to answers) (sent_to (address_named (Some from) who) answer)
 one_is from to answers answer p (recipient.At address) q = All-cons (IsAnswer from to answers) (Sent address answer) [] (p, inr q) (All-nil (IsAnswer from to answers))
 one_is from to answers answer p recipient.Unknown q = All-nil (IsAnswer from to answers)
 one_is from to answers answer p recipient.Sender q = All-cons (IsAnswer from to answers) (Sent from answer) [] (p, inl (refl, q)) (All-nil (IsAnswer from to answers))
@@ -52,7 +52,7 @@ each_is : (from : SocketAddr) (to : List Recipient) (answers : List (List ℕ)) 
 unfolding sent_to_each
 each_is from to answers answer p [] among = All-nil (IsAnswer from to answers)
 each_is from to answers answer p (who ∷ others) among =
-    All-append (IsAnswer from to answers) (sent_to (named (Some from) who) answer) (sent_to_each (Some from) others answer)
+    All-append (IsAnswer from to answers) (sent_to (address_named (Some from) who) answer) (sent_to_each (Some from) others answer)
     (one_is from to answers answer p who (among who (first_is who others)))
     (each_is from to answers answer p others (λ other q. among other (in_rest who other others q)))
 
@@ -77,13 +77,13 @@ only_one {X} x y p = All-contains (λ (z : X). x ≡ z) (x ∷ []) y (All-cons (
 by_first : {X : Type 0} (x y : X) (xs : List X) → Contains (x ∷ xs) y → (x ≡ y) ⊎ Contains xs y
 by_first x y xs p = ⊎_elim (λ q. inl (only_one x y q)) (λ q. inr q) (Contains-append_cases (x ∷ []) xs y p)
 
-goes : (from : SocketAddr) (to : List Recipient) (answer : List ℕ) (who : Recipient) (address : SocketAddr) → named (Some from) who ≡ Some address → Contains to who → Contains (sent_to_each (Some from) to answer) (Sent address answer)
+goes : (from : SocketAddr) (to : List Recipient) (answer : List ℕ) (who : Recipient) (address : SocketAddr) → address_named (Some from) who ≡ Some address → Contains to who → Contains (sent_to_each (Some from) to answer) (Sent address answer)
 unfolding sent_to_each
 goes from [] answer who address is p = absurd (none_in who p)
 goes from (first ∷ others) answer who address is p =
     ⊎_elim
-    (λ (e : first ≡ who). Contains-append_left (sent_to (named (Some from) first) answer) (sent_to_each (Some from) others answer) (Sent address answer) (subst (λ (o : Option SocketAddr). Contains (sent_to o answer) (Sent address answer)) (sym (ap (named (Some from)) e ∙ is)) (first_is (Sent address answer) [])))
-    (λ (q : Contains others who). Contains-append_right (sent_to (named (Some from) first) answer) (sent_to_each (Some from) others answer) (Sent address answer) (goes from others answer who address is q))
+    (λ (e : first ≡ who). Contains-append_left (sent_to (address_named (Some from) first) answer) (sent_to_each (Some from) others answer) (Sent address answer) (subst (λ (o : Option SocketAddr). Contains (sent_to o answer) (Sent address answer)) (sym (ap (address_named (Some from)) e ∙ is)) (first_is (Sent address answer) [])))
+    (λ (q : Contains others who). Contains-append_right (sent_to (address_named (Some from) first) answer) (sent_to_each (Some from) others answer) (Sent address answer) (goes from others answer who address is q))
     (by_first first who others p)
 
 among_all : (from : SocketAddr) (to : List Recipient) (answers : List (List ℕ)) (answer : List ℕ) (call : SocketCall) → Contains answers answer → Contains (sent_to_each (Some from) to answer) call → Contains (all_sent (Some from) to answers) call
@@ -104,14 +104,14 @@ pub to_nobody : (sender : Option SocketAddr) (to : List Recipient) (bytes : List
 unfolding sent_to_each
 to_nobody sender to bytes a = Passes-nil a
 
-each_more : (sender : Option SocketAddr) (to : List Recipient) (who : Recipient) (bytes : List ℕ) → sent_to_each sender (to ++ who ∷ []) bytes ≡ sent_to_each sender to bytes ++ sent_to (named sender who) bytes
+each_more : (sender : Option SocketAddr) (to : List Recipient) (who : Recipient) (bytes : List ℕ) → sent_to_each sender (to ++ who ∷ []) bytes ≡ sent_to_each sender to bytes ++ sent_to (address_named sender who) bytes
 unfolding sent_to_each
-each_more sender [] who bytes = append-nil (sent_to (named sender who) bytes)
-each_more sender (first ∷ others) who bytes = ap (λ (l : List SocketCall). sent_to (named sender first) bytes ++ l) (each_more sender others who bytes) ∙ sym (append_assoc (sent_to (named sender first) bytes) (sent_to_each sender others bytes) (sent_to (named sender who) bytes))
+each_more sender [] who bytes = append-nil (sent_to (address_named sender who) bytes)
+each_more sender (first ∷ others) who bytes = ap (λ (l : List SocketCall). sent_to (address_named sender first) bytes ++ l) (each_more sender others who bytes) ∙ sym (append_assoc (sent_to (address_named sender first) bytes) (sent_to_each sender others bytes) (sent_to (address_named sender who) bytes))
 
-pub to_one_more : (sender : Option SocketAddr) (to : List Recipient) (n : ℕ) (bytes : List ℕ) (a b c : Option (List SocketCall)) → n < length to → Passes a b (sent_to_each sender (take n to) bytes) → Passes b c (sent_to (named sender (get_or to n recipient.Unknown)) bytes) → Passes a c (sent_to_each sender (take (n + 1) to) bytes)
+pub to_one_more : (sender : Option SocketAddr) (to : List Recipient) (n : ℕ) (bytes : List ℕ) (a b c : Option (List SocketCall)) → n < length to → Passes a b (sent_to_each sender (take n to) bytes) → Passes b c (sent_to (address_named sender (get_or to n recipient.Unknown)) bytes) → Passes a c (sent_to_each sender (take (n + 1) to) bytes)
 to_one_more sender to n bytes a b c some p q =
-    let calls : sent_to_each sender (take (n + 1) to) bytes ≡ sent_to_each sender (take n to) bytes ++ sent_to (named sender (get_or to n recipient.Unknown)) bytes = ap (λ (l : List Recipient). sent_to_each sender l bytes) (take_more to n recipient.Unknown some) ∙ each_more sender (take n to) (get_or to n recipient.Unknown) bytes in
+    let calls : sent_to_each sender (take (n + 1) to) bytes ≡ sent_to_each sender (take n to) bytes ++ sent_to (address_named sender (get_or to n recipient.Unknown)) bytes = ap (λ (l : List Recipient). sent_to_each sender l bytes) (take_more to n recipient.Unknown some) ∙ each_more sender (take n to) (get_or to n recipient.Unknown) bytes in
     subst (λ (l : List SocketCall). Passes a c l) (sym calls) (Passes-trans a b c _ _ p q)
 
 -- where a send has failed, the count rose
@@ -121,9 +121,9 @@ after_one (Ok x) (Err e) old mid new le counts before = subst (λ (n : ℕ). Ris
 after_one (Err e) sent old mid new le counts before = ⊎_elim (λ (lt : mid < new). inl (omega arith)) (λ top. inr top) counts
 
 -- and the next one, where the sender and the words are the same
-pub to_next : (sender sender' : Option SocketAddr) (to to' : List Addressed) (n end : ℕ) (bytes : List ℕ) (a b c : Option (List SocketCall)) → sender' ≡ sender → to' ≡ to → n < end → end ≡ length to → Passes a b (sent_to_each sender (take n (map (λ r. r.who) to)) bytes) → Passes b c (sent_to (named sender' (who_at to' n)) bytes) → Passes a c (sent_to_each sender (take (n + 1) (map (λ r. r.who) to)) bytes)
+pub to_next : (sender sender' : Option SocketAddr) (to to' : List Addressed) (n end : ℕ) (bytes : List ℕ) (a b c : Option (List SocketCall)) → sender' ≡ sender → to' ≡ to → n < end → end ≡ length to → Passes a b (sent_to_each sender (take n (map (λ r. r.who) to)) bytes) → Passes b c (sent_to (address_named sender' (who_at to' n)) bytes) → Passes a c (sent_to_each sender (take (n + 1) (map (λ r. r.who) to)) bytes)
 to_next sender sender' to to' n end bytes a b c same_sender same_to some is_end p q =
-    let q1 : Passes b c (sent_to (named sender (who_at to' n)) bytes) = subst (λ (s : Option SocketAddr). Passes b c (sent_to (named s (who_at to' n)) bytes)) same_sender q in
-    let q2 : Passes b c (sent_to (named sender (who_at to n)) bytes) = subst (λ (t : List Addressed). Passes b c (sent_to (named sender (who_at t n)) bytes)) same_to q1 in
+    let q1 : Passes b c (sent_to (address_named sender (who_at to' n)) bytes) = subst (λ (s : Option SocketAddr). Passes b c (sent_to (address_named s (who_at to' n)) bytes)) same_sender q in
+    let q2 : Passes b c (sent_to (address_named sender (who_at to n)) bytes) = subst (λ (t : List Addressed). Passes b c (sent_to (address_named sender (who_at t n)) bytes)) same_to q1 in
     let within : n < length (map (λ (r : Addressed). r.who) to) = subst (λ (m : ℕ). n < m) (is_end ∙ sym (length-map to (λ (r : Addressed). r.who))) some in
     to_one_more sender (map (λ r. r.who) to) n bytes a b c within p q2

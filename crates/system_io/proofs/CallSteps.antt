@@ -8,7 +8,7 @@ use Rattle.std.proofs.lemmas.List.{nil_from_length}
 use Rattle.system_io.specs.FileCalls.{Call, CallFacts, FindsBy, AtStart, Kept, Named, Replaced, IsEither, LeavesTheName, Read, Wrote, SyncedFile, Renamed, SyncedFolder}
 use Rattle.system_io.specs.Histories.{EndsWith, Passes}
 use Rattle.system_io.specs.KeptFiles.{bytes_of}
-use Rattle.system_io.specs.Traces.{AreOneOf, Bytes, HasBytes, IsOneOf, SaysOneOf}
+use Rattle.system_io.specs.Traces.{AreOneOf, Bytes, HasTheseBytes, IsOneOf, SaysOneOf}
 use Rattle.system_io.specs.declared.traced_file.Traced.{Traced}
 
 abbrev pub Told : Type 0
@@ -102,7 +102,7 @@ named_says {C} facts t u before after old bytes known names was calls step h = r
 pub only : (stands : Option Bytes) (earlier : List (Option Bytes)) (found : Found) → bytes_of stands ≡ found → earlier ≡ [] → AreOneOf found found stands earlier
 only stands earlier found is none = record { now = inl is; before = subst (λ (os : List (Option Bytes)). AllByRecursion (IsOneOf found found) os) (sym none) tt }
 
-pub has_bytes : (o : Option Bytes) (bytes : List ℕ) → HasBytes o bytes → bytes_of o ≡ Some bytes
+pub has_bytes : (o : Option Bytes) (bytes : List ℕ) → HasTheseBytes o bytes → bytes_of o ≡ Some bytes
 has_bytes o bytes h = ap bytes_of h.is ∙ ap Some h.items
 
 -- the same was read again

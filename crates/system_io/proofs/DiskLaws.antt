@@ -9,7 +9,7 @@ use Rattle.system_io.specs.declared.disk_file.Choice.TheVariants.{StaysUp, Power
 use Rattle.system_io.specs.declared.disk_file.Content.{Content}
 use Rattle.system_io.specs.declared.disk_file.DiskFile.{DiskFile}
 use Rattle.system_io.specs.KeptFiles.{IsOneOfFound, Renamed}
-use Rattle.system_io.specs.PowerLosses.{HasReached, HoldsBytes, HoldsSynced, IsAtRest, IsLeftBy, IsOnPlatter, IsReadAfter, LeavesOneOf, RestsAfter, after_stop, disk_facts, left_of, seen, shown}
+use Rattle.system_io.specs.PowerLosses.{HasReached, HoldsBytes, HoldsSynced, IsAtRest, IsLeftBy, IsOnPlatter, IsReadAfter, LeavesOneOf, RestsAfter, after_stop, disk_facts, left_of, seen, shown_content}
 
 abbrev pub Held : Type 0
 Held = Option Content
@@ -79,7 +79,7 @@ renamed_either d earlier now old bytes more p h s =
 pub sole : (e : DiskFile) (bytes : List ℕ) → e.earlier.items ≡ [] → HoldsSynced e.stands bytes → LeavesOneOf e (Some bytes) (Some bytes)
 sole e bytes none s = λ which garbage. inl (ap (λ (xs : List Held). left_of (get_or xs which e.stands) garbage) none ∙ synced_left e.stands bytes garbage s)
 
-on_left : (held : Held) (garbage : List ℕ) → IsOnPlatter held → left_of held garbage ≡ shown held
+on_left : (held : Held) (garbage : List ℕ) → IsOnPlatter held → left_of held garbage ≡ shown_content held
 on_left None garbage on = refl
 on_left (Some c) garbage on = ap (λ b. cond b (Some c.bytes.items) (Some garbage)) on
 
@@ -97,13 +97,13 @@ both_so true x = refl
 both_so false x = refl
 
 -- what is seen is one of the things that a loss of power may leave
-shown_left : (held : Held) → left_of held (bytes_in held) ≡ shown held
+shown_left : (held : Held) → left_of held (bytes_in held) ≡ shown_content held
 unfolding bytes_in
 shown_left None = refl
 shown_left (Some c) = both_so c.is_synced (Some c.bytes.items)
 
 -- what is seen and brought to the platter
-pub settles : (d e : DiskFile) (now : Held) (a b : Option (List ℕ)) → e.earlier.items ≡ [] → e.stands ≡ now → IsOnPlatter now → shown now ≡ shown d.stands → LeavesOneOf d a b → LeavesOneOf e a b
+pub settles : (d e : DiskFile) (now : Held) (a b : Option (List ℕ)) → e.earlier.items ≡ [] → e.stands ≡ now → IsOnPlatter now → shown_content now ≡ shown_content d.stands → LeavesOneOf d a b → LeavesOneOf e a b
 settles d e now a b none is on same h = λ which garbage.
     let left : after_stop e which garbage ≡ left_of d.stands (bytes_in d.stands) =
     (λ i. left_of (get_or (none i) which (is i)) garbage) ∙ on_left now garbage on ∙ same ∙ sym (shown_left d.stands) in
@@ -125,7 +125,7 @@ pub left_so : (d : DiskFile) (got : Option (List ℕ)) → IsOneOfFound (disk_fa
 left_so d got one rest = ⊎_elim (λ e. e) (λ e. e) (one (seen d) (seen d) (at_rest d rest))
 
 -- what was to be found before a loss of power is to be found after it
-pub stopped : (d : DiskFile) (earlier : List Held) (now : Held) (which : ℕ) (bytes : List ℕ) (a b : Option (List ℕ)) → earlier ≡ [] → IsOnPlatter now → shown now ≡ after_stop d which bytes → LeavesOneOf d a b → Each earlier now a b
+pub stopped : (d : DiskFile) (earlier : List Held) (now : Held) (which : ℕ) (bytes : List ℕ) (a b : Option (List ℕ)) → earlier ≡ [] → IsOnPlatter now → shown_content now ≡ after_stop d which bytes → LeavesOneOf d a b → Each earlier now a b
 stopped d earlier now which bytes a b none on left h = λ w garbage.
     let is : left_of (get_or earlier w now) garbage ≡ after_stop d which bytes = ap (λ (xs : List Held). left_of (get_or xs w now) garbage) none ∙ on_left now garbage on ∙ left in
     subst (λ (o : Option (List ℕ)). (o ≡ a) ⊎ (o ≡ b)) (sym is) (h which bytes)

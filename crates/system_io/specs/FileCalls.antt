@@ -28,9 +28,9 @@ pub record CallFacts : Type 1 where
   pub fails : ReadFault → Type 0
 
 -- the call that was made, by its answer
-abbrev pub answered : {T E : Type 0} → Result T E → Call → Call → Call
-answered (Ok x) good bad = good
-answered (Err e) good bad = bad
+abbrev pub call_by_answer : {T E : Type 0} → Result T E → Call → Call → Call
+call_by_answer (Ok x) good bad = good
+call_by_answer (Err e) good bad = bad
 
 abbrev pub read_call : {E : Type 0} → Result (Option (Vec ℕ Global)) E → Call
 read_call (Ok got) = Read (bytes_of got)

@@ -42,9 +42,9 @@ abbrev pub IsIrregularAt : MemoryDisk → List ℕ → Type 0
 IsIrregularAt d at = (mode : ℕ) × HasMode d at mode × (IsRegular mode → ⊥)
 
 -- nothing can be read there, or nothing stands there, or a file with too many bytes, or what is no regular file
-abbrev pub CannotRead : MemoryDisk → Source → Type 0
-CannotRead d (AtFolder at) = (CanBeRead d at → ⊥) ⊎ IsNowhere (λ row. row.path.now) d.folders.now at
-CannotRead d (AtFile at) = ((CanBeRead d at → ⊥) ⊎ IsNowhere (λ row. row.path.now) d.files.now at) ⊎ (((bytes : List ℕ) × IsFileAt d at bytes × (most_bytes < length bytes)) ⊎ IsIrregularAt d at)
+abbrev pub CannotReadAt : MemoryDisk → Source → Type 0
+CannotReadAt d (AtFolder at) = (CanBeRead d at → ⊥) ⊎ IsNowhere (λ row. row.path.now) d.folders.now at
+CannotReadAt d (AtFile at) = ((CanBeRead d at → ⊥) ⊎ IsNowhere (λ row. row.path.now) d.files.now at) ⊎ (((bytes : List ℕ) × IsFileAt d at bytes × (most_bytes < length bytes)) ⊎ IsIrregularAt d at)
 
 -- the facts of a disk in memory
 abbrev pub disk_of : MemoryDisk → DiskFacts
@@ -52,7 +52,7 @@ disk_of d = record {
   is_told = true;
   lists = λ at names. IsFolderAt d at names × CanBeRead d at;
   holds = λ at bytes. IsFileAt d at bytes × (length bytes ≤ most_bytes) × CanBeRead d at × ((mode : ℕ) × HasRegular d at mode);
-  fails = CannotRead d;
+  fails = CannotReadAt d;
   has_mode = HasRegular d;
   is_irregular = IsIrregularAt d;
 }

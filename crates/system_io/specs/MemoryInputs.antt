@@ -16,8 +16,8 @@ abbrev pub input_of : MemoryInput → InputFacts
 input_of i = record { is_told = true; gives = λ bytes. (bytes ≡ i.bytes.now) × (HasNoEnd i → ⊥); fails = HasNoEnd i; takes_memory = 0 < length i.bytes.now }
 
 -- what is left of its lines is known where they can be read to their end
-abbrev pub lines_of : MemoryLines → LineFacts
-lines_of l = record { left = cond l.fails None (Some l.left.now); ahead = l.left.now; fails = l.fails ≡ true; takes_memory = 0 < length l.left.now }
+abbrev pub memory_line_facts : MemoryLines → LineFacts
+memory_line_facts l = record { left = cond l.fails None (Some l.left.now); ahead = l.left.now; fails = l.fails ≡ true; takes_memory = 0 < length l.left.now }
 
 pub gives_one : (i : MemoryInput) → GivesOne (input_of i)
 gives_one i = record { bytes = λ a b p q. p.0 ∙ sym q.0; given = λ bytes p fails. p.1 fails }

@@ -5,11 +5,11 @@ use Rattle.system_io.specs.declared.memory_socket.MadeSocketCall.TheVariants as 
 use Rattle.system_io.specs.declared.memory_socket.MemorySocket.{MemorySocket}
 use Rattle.system_io.specs.Sockets.{SocketCall, Arrived, NoneCame, Sent}
 
-abbrev pub call_of : MadeSocketCall → SocketCall
-call_of (made.Arrived from bytes) = Arrived from bytes.items
-call_of made.NoneCame = NoneCame
-call_of (made.Sent to bytes) = Sent to bytes.items
+abbrev pub socket_call_of : MadeSocketCall → SocketCall
+socket_call_of (made.Arrived from bytes) = Arrived from bytes.items
+socket_call_of made.NoneCame = NoneCame
+socket_call_of (made.Sent to bytes) = Sent to bytes.items
 
 -- the calls that were made, where memory for them was never refused
-abbrev pub made_by : MemorySocket → Option (List SocketCall)
-made_by s = cond s.is_whole (Some (map call_of s.made.items)) None
+abbrev pub socket_calls_made : MemorySocket → Option (List SocketCall)
+socket_calls_made s = cond s.is_whole (Some (map socket_call_of s.made.items)) None

@@ -2,7 +2,7 @@
 use Rattle.std.specs.Prelude.{◌≡◌, ℕ, List, Option, map, string_bytes}
 use Rattle.std.specs.List.{All}
 use Rattle.std.specs.declared.net.socket_addr.SocketAddr.{SocketAddr}
-use Rattle.system_io.specs.Recipients.{IsAddressed, word_of}
+use Rattle.system_io.specs.Recipients.{IsAddressed, addressed_word}
 use Rattle.system_io.specs.declared.lock_file.LockFile.{LockFile}
 use Rattle.system_io.specs.declared.system_file.SystemCalls.{SystemCalls}
 use Rattle.system_io.specs.declared.traced_file.Traced.{Traced}
@@ -11,7 +11,7 @@ use Rattle.system_io.specs.declared.udp_port.UdpPort.{UdpPort}
 -- the port was bound to this address, and sends to those whom these words name
 pub record IsBound {C S W : Type 0} (address : List ℕ) (to : List (List ℕ)) (port : UdpPort C S W) : Type 0 where
   pub at : string_bytes port.address ≡ address
-  pub sends : map word_of port.to.items ≡ to
+  pub sends : map addressed_word port.to.items ≡ to
   pub names : All (IsAddressed port.own) port.to.items
 
 -- the address that the socket told as its own when it was bound, if it did

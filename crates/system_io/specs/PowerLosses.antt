@@ -13,9 +13,9 @@ use Rattle.system_io.specs.KeptFiles.{HasAny, IsLong, KeptFacts, Stage, Written,
 -- ---- what the system shows, and what the platter holds
 
 -- the bytes of a file as the system shows them
-abbrev pub shown : Option Content → Option (List ℕ)
-shown None = None
-shown (Some c) = Some c.bytes.items
+abbrev pub shown_content : Option Content → Option (List ℕ)
+shown_content None = None
+shown_content (Some c) = Some c.bytes.items
 
 -- what a loss of power leaves of a file: its bytes where they are synced, and else any bytes, here these
 abbrev pub left_of : Option Content → List ℕ → Option (List ℕ)
@@ -29,7 +29,7 @@ after_stop d which bytes = left_of (slice_index_or d.earlier.items which d.stand
 
 -- what is read under the name now
 abbrev pub seen : DiskFile → Option (List ℕ)
-seen d = shown d.stands
+seen d = shown_content d.stands
 
 -- ---- the facts of the kept file on it
 

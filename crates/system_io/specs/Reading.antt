@@ -6,9 +6,9 @@ use Rattle.system_io.specs.declared.reading.ReadFault.{ReadFault}
 use Rattle.system_io.specs.declared.reading.ReadFault.TheVariants.{Unreadable, OutOfMemory}
 
 -- memory was refused, or else something can't be read
-abbrev pub fault_of : ErrorKind → ReadFault
-fault_of kind.OutOfMemory = OutOfMemory
-fault_of _ = Unreadable
+abbrev pub read_fault_of : ErrorKind → ReadFault
+read_fault_of kind.OutOfMemory = OutOfMemory
+read_fault_of _ = Unreadable
 
 -- by the number of the error the system, or the process, has no descriptor left: ENFILE, EMFILE
 abbrev pub LacksDescriptor : Option ℤ → Type 0
@@ -17,7 +17,7 @@ LacksDescriptor number = (number ≡ Some (pos 23)) ⊎ (number ≡ Some (pos 24
 -- why a file or a folder wasn't opened: a descriptor that was refused is as memory that was refused
 pub record IsUnopened (number : Option ℤ) (kind : ErrorKind) (fault : ReadFault) : Type 0 where
   pub none : LacksDescriptor number → fault ≡ OutOfMemory
-  pub other : (LacksDescriptor number → ⊥) → fault ≡ fault_of kind
+  pub other : (LacksDescriptor number → ⊥) → fault ≡ read_fault_of kind
 
 -- nothing stands at the path, where the error is that; or else why the file wasn't opened
 abbrev pub IsAbsentOr : {A : Type 0} → Option ℤ → ErrorKind → Result (Option A) ReadFault → Type 0

@@ -26,15 +26,15 @@ pub record Names (own : Option SocketAddr) (word : List ℕ) (who : Recipient) :
   pub kind : word ≢ sender_word → ((a : SocketAddr) → IsSocketText word a → ⊥) → (b : SocketAddr) → who ≡ recipient.At b → IsOfKind own b
 
 -- a word of a port, and that it names the one beside it
-abbrev pub word_of : Addressed → List ℕ
-word_of one = string_bytes one.word
+abbrev pub addressed_word : Addressed → List ℕ
+addressed_word one = string_bytes one.word
 
 abbrev pub IsAddressed : Option SocketAddr → Addressed → Type 0
-IsAddressed own one = Names own (word_of one) one.who
+IsAddressed own one = Names own (addressed_word one) one.who
 
 -- the address of the one that is named, where the last datagram came from this one: none where a name wasn't found, or where nothing
 -- came yet
-abbrev pub named : Option SocketAddr → Recipient → Option SocketAddr
-named sender (recipient.At address) = Some address
-named sender recipient.Unknown = None
-named sender recipient.Sender = sender
+abbrev pub address_named : Option SocketAddr → Recipient → Option SocketAddr
+address_named sender (recipient.At address) = Some address
+address_named sender recipient.Unknown = None
+address_named sender recipient.Sender = sender

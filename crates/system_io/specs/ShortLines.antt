@@ -10,8 +10,8 @@ given_for came byte =
     if byte == 10 then (if nat_le came 65536 then Some 10 else None) else if nat_lt came 65536 then Some byte else if came == 65536 then Some 10 else None
 
 -- how many bytes came since the last line feed after this byte, of a longer line 65,537
-abbrev pub open_after : ℕ → ℕ → ℕ
-open_after came byte = if byte == 10 then 0 else if nat_lt 65536 came then came else came + 1
+abbrev pub unended_after : ℕ → ℕ → ℕ
+unended_after came byte = if byte == 10 then 0 else if nat_lt 65536 came then came else came + 1
 
 -- this in front of those, if there is anything
 abbrev pub in_front : Option ℕ → List ℕ → List ℕ
@@ -21,12 +21,12 @@ in_front (Some byte) rest = byte ∷ rest
 -- what is given for bytes, one after another
 unfoldable pub short_lines : ℕ → List ℕ → List ℕ
 short_lines came [] = []
-short_lines came (byte ∷ bytes) = in_front (given_for came byte) (short_lines (open_after came byte) bytes)
+short_lines came (byte ∷ bytes) = in_front (given_for came byte) (short_lines (unended_after came byte) bytes)
 
 -- how many bytes came since the last line feed after these
-unfoldable pub opened : ℕ → List ℕ → ℕ
-opened came [] = came
-opened came (byte ∷ bytes) = opened (open_after came byte) bytes
+unfoldable pub unended_after_all : ℕ → List ℕ → ℕ
+unended_after_all came [] = came
+unended_after_all came (byte ∷ bytes) = unended_after_all (unended_after came byte) bytes
 
 -- what a reader of bounded lines still gives, where it is known what is left to read
 abbrev pub given_left : {R : Type 0} → (R → Option (List ℕ)) → BoundedLines R → Option (List ℕ)

@@ -41,21 +41,21 @@ pub record SaysOneOf {C : Type 0} (facts : C → CallFacts) (t : Traced C) (a b 
   pub by_calls : IfSome (facts t.calls).made (FindsBy a b)
 
 -- these bytes are there
-pub record HasBytes (o : Option Bytes) (bytes : List ℕ) : Type 0 where
+pub record HasTheseBytes (o : Option Bytes) (bytes : List ℕ) : Type 0 where
   pub v : Bytes
   pub is : o ≡ Some v
   pub items : v.items ≡ bytes
 
 -- where one content may stand under the name and these bytes were written, from now on one of the two may
 abbrev pub MayTakeName : {C : Type 0} → Traced C → Traced C → Type 0
-MayTakeName old new = (was : Option (List ℕ)) (bytes : List ℕ) → AreOneOf was was old.stands old.earlier.items → HasBytes old.written bytes → AreOneOf was (Some bytes) new.stands new.earlier.items
+MayTakeName old new = (was : Option (List ℕ)) (bytes : List ℕ) → AreOneOf was was old.stands old.earlier.items → HasTheseBytes old.written bytes → AreOneOf was (Some bytes) new.stands new.earlier.items
 
 -- by the calls and their results these bytes have come so far; where the calls are recorded, the last of them brought them
 -- there
 abbrev pub SaysReached : {C : Type 0} → (C → CallFacts) → Traced C → Stage → List ℕ → Type 0
-SaysReached facts t Written bytes = HasBytes t.written bytes × (t.reach ≡ reach.Written) × EndsWith (facts t.calls).made (Wrote bytes ∷ [])
-SaysReached facts t Synced bytes = HasBytes t.written bytes × (t.reach ≡ reach.Synced) × EndsWith (facts t.calls).made (Wrote bytes ∷ SyncedFile ∷ [])
-SaysReached facts t Renamed bytes = HasBytes t.stands bytes × (t.reach ≡ reach.Renamed) × (t.is_known ≡ true) × EndsWith (facts t.calls).made (Wrote bytes ∷ SyncedFile ∷ made.Renamed ∷ [])
+SaysReached facts t Written bytes = HasTheseBytes t.written bytes × (t.reach ≡ reach.Written) × EndsWith (facts t.calls).made (Wrote bytes ∷ [])
+SaysReached facts t Synced bytes = HasTheseBytes t.written bytes × (t.reach ≡ reach.Synced) × EndsWith (facts t.calls).made (Wrote bytes ∷ SyncedFile ∷ [])
+SaysReached facts t Renamed bytes = HasTheseBytes t.stands bytes × (t.reach ≡ reach.Renamed) × (t.is_known ≡ true) × EndsWith (facts t.calls).made (Wrote bytes ∷ SyncedFile ∷ made.Renamed ∷ [])
 
 -- by the calls and their answers nothing but what was read may stand under the name
 abbrev pub SaysSettled : {C : Type 0} → (C → CallFacts) → Traced C → Type 0
@@ -77,5 +77,5 @@ IsAmong read [] = ⊥
 IsAmong read (o ∷ os) = (read ≡ bytes_of o) ⊎ IsAmong read os
 
 -- the facts of a file by the calls and their results
-abbrev pub told_of : {C : Type 0} → (C → CallFacts) → Traced C → KeptFacts
-told_of facts t = record { reached = SaysReached facts t; finds = SaysOneOf facts t; settled = SaysSettled facts t; cannot_settle = CannotSettle facts t; cannot_read = CannotCopy t; faults = t.failures }
+abbrev pub traced_facts : {C : Type 0} → (C → CallFacts) → Traced C → KeptFacts
+traced_facts facts t = record { reached = SaysReached facts t; finds = SaysOneOf facts t; settled = SaysSettled facts t; cannot_settle = CannotSettle facts t; cannot_read = CannotCopy t; faults = t.failures }

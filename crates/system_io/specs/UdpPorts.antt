@@ -5,7 +5,7 @@ use Rattle.std.specs.declared.net.socket_addr.SocketAddr.{SocketAddr}
 use Rattle.system_io.specs.Histories.{Passes}
 use Rattle.system_io.specs.Ports.{PortFacts, no_tag}
 use Rattle.system_io.specs.Premises.{system_port}
-use Rattle.system_io.specs.Recipients.{named}
+use Rattle.system_io.specs.Recipients.{address_named}
 use Rattle.system_io.specs.Sockets.{SocketCall, Arrived, NoneCame, Sent}
 use Rattle.system_io.specs.declared.recipient.Addressed.{Addressed}
 use Rattle.system_io.specs.declared.recipient.Recipient.{Recipient}
@@ -23,8 +23,8 @@ abbrev pub udp_facts : {C S W : Type 0} → (S → Option (List SocketCall)) →
 udp_facts calls p = record { calls = calls p.socket; sender = p.sender; to = map (λ r. r.who) p.to.items }
 
 -- its failures and its addresses are counted
-abbrev pub port_facts : {C S W : Type 0} → UdpPort C S W → PortFacts
-port_facts p = system_port p.failures (length p.to.items)
+abbrev pub udp_port_facts : {C S W : Type 0} → UdpPort C S W → PortFacts
+udp_port_facts p = system_port p.failures (length p.to.items)
 
 -- what is passed on of a datagram: all of it, but 63 of 64 bytes that are all zero
 abbrev pub passed_on : List ℕ → List ℕ
@@ -68,7 +68,7 @@ sent_to (Some address) bytes = Sent address bytes ∷ []
 -- bytes for each of those that are named, once and in their order
 unfoldable pub sent_to_each : Option SocketAddr → List Recipient → List ℕ → List SocketCall
 sent_to_each sender [] bytes = []
-sent_to_each sender (who ∷ others) bytes = sent_to (named sender who) bytes ++ sent_to_each sender others bytes
+sent_to_each sender (who ∷ others) bytes = sent_to (address_named sender who) bytes ++ sent_to_each sender others bytes
 
 -- bytes are sent to each of them, and nothing else is
 pub record Sends (old new : UdpFacts) (bytes : List ℕ) : Type 0 where

@@ -1,7 +1,7 @@
 //! A reader whose lines have an end.
 
 ghost use Rattle.std.specs.Prelude.{◌≡◌, ◌≤◌, ◌<◌, ◌+◌, ◌++◌, [], drop, length, take};
-ghost use Rattle.system_io.specs.ShortLines.{ReadsOn, given_for, given_left, in_front, open_after, opened, short_lines};
+ghost use Rattle.system_io.specs.ShortLines.{ReadsOn, given_for, given_left, in_front, short_lines, unended_after, unended_after_all};
 
 use std::io::{self, Read};
 
@@ -33,7 +33,7 @@ fn given_for(came: usize, byte: u8) -> Option<u8>
 
 /// How many bytes have come since the last line feed after a byte.
 fn open_after(came: usize, byte: u8) -> usize
-    ensures { result ≡ open_after came byte }
+    ensures { result ≡ unended_after came byte }
 {
     if byte == b'\n' {
         return 0;
@@ -75,7 +75,7 @@ fn shorten(came: usize, buf: &mut [u8], count: usize) -> (usize, usize)
     requires { count ≤ length buf.old }
     ensures fits { result.0 ≤ count }
     ensures given { take result.0 buf.new ≡ short_lines came (take count buf.old) }
-    ensures came { result.1 ≡ opened came (take count buf.old) }
+    ensures came { result.1 ≡ unended_after_all came (take count buf.old) }
     ensures length { length buf.new ≡ length buf.old }
 {
     let mut given: usize = 0;

@@ -4,7 +4,7 @@ ghost use Rattle.std.specs.Prelude.{◌≡◌, ℕ, [], List, slice_index_or, Op
 ghost use Rattle.system_io.specs.Failures.{Counts, Risen};
 ghost use Rattle.system_io.specs.KeptFiles.{IsOneOfFound, bytes_of};
 ghost use Rattle.system_io.specs.declared.reading.ReadFault.TheVariants.{Unreadable};
-ghost use Rattle.system_io.specs.PowerLosses.{HoldsBytes, HoldsSynced, IsAtRest, IsLeftBy, IsLost, IsOnPlatter, IsReadAfter, IsSpoilt, LeavesOneOf, RestsAfter, after_stop, calls_to_come, disk_facts, gives_nothing, left_of, next_of, seen, shown};
+ghost use Rattle.system_io.specs.PowerLosses.{HoldsBytes, HoldsSynced, IsAtRest, IsLeftBy, IsLost, IsOnPlatter, IsReadAfter, IsSpoilt, LeavesOneOf, RestsAfter, after_stop, calls_to_come, disk_facts, gives_nothing, left_of, next_of, seen, shown_content};
 
 use crate::kept_file::{KeptFile, MOST_KEPT_BYTES, begin};
 use crate::reading::ReadFault;
@@ -140,7 +140,7 @@ fn named(earlier: Vec<Option<Content>>, which: usize, stands: Option<Content>) -
 
 /// What a loss of power leaves of a file: its bytes where they are synced, and else these.
 fn lasting(held: Option<Content>, garbage: Vec<u8>) -> Option<Content>
-    ensures left { shown result ≡ left_of held garbage.items }
+    ensures left { shown_content result ≡ left_of held garbage.items }
     ensures synced { IsOnPlatter result }
 {
     match held {

@@ -33,9 +33,9 @@ pub struct MemoryLines<'a> {
 }
 
 impl<'a> LineReader for MemoryLines<'a> {
-    ghost use Rattle.system_io.specs.MemoryInputs.{lines_of};
+    ghost use Rattle.system_io.specs.MemoryInputs.{memory_line_facts};
 
-    ghost facts = { lines_of };
+    ghost facts = { memory_line_facts };
 
     fn next_line(&mut self, line: &mut Vec<u8>) -> Result<bool, ReadFault> {
         line.clear();

@@ -2,7 +2,7 @@
 
 ghost use Rattle.std.specs.Prelude.{◌≡◌, ◌≤◌, ◌∷◌, [], Some, take};
 ghost use Rattle.system_io.specs.Histories.{Passes};
-ghost use Rattle.system_io.specs.MemorySockets.{call_of, made_by};
+ghost use Rattle.system_io.specs.MemorySockets.{socket_call_of, socket_calls_made};
 ghost use Rattle.system_io.specs.Sockets.{Arrived, NoneCame, Sent};
 
 use crate::socket::Socket;
@@ -60,7 +60,7 @@ impl<'a> MemorySocket<'a> {
         arrivals: &'a [Arrival<'a>],
         fails_at: Option<usize>,
     ) -> MemorySocket<'a>
-        ensures { made_by result ≡ Some [] }
+        ensures { socket_calls_made result ≡ Some [] }
     {
         MemorySocket {
             alloc,
@@ -84,7 +84,7 @@ impl<'a> MemorySocket<'a> {
 
     /// Records a call.
     fn keep(&mut self, call: MadeSocketCall)
-        ensures { Passes (made_by self.old) (made_by self.new) (call_of call ∷ []) }
+        ensures { Passes (socket_calls_made self.old) (socket_calls_made self.new) (socket_call_of call ∷ []) }
     {
         if self.made.push(call).is_err() {
             self.is_whole = false;
@@ -93,7 +93,7 @@ impl<'a> MemorySocket<'a> {
 
     /// Records that a datagram came.
     fn keep_arrived(&mut self, from: SocketAddr, bytes: &[u8])
-        ensures { Passes (made_by self.old) (made_by self.new) (Arrived from bytes.now ∷ []) }
+        ensures { Passes (socket_calls_made self.old) (socket_calls_made self.new) (Arrived from bytes.now ∷ []) }
     {
         match Vec::from_slice(self.alloc, bytes) {
             Ok(bytes) => self.keep(MadeSocketCall::Arrived { from, bytes }),
@@ -103,7 +103,7 @@ impl<'a> MemorySocket<'a> {
 
     /// Records that bytes are sent.
     fn keep_sent(&mut self, to: SocketAddr, bytes: &[u8])
-        ensures { Passes (made_by self.old) (made_by self.new) (Sent to bytes.now ∷ []) }
+        ensures { Passes (socket_calls_made self.old) (socket_calls_made self.new) (Sent to bytes.now ∷ []) }
     {
         match Vec::from_slice(self.alloc, bytes) {
             Ok(bytes) => self.keep(MadeSocketCall::Sent { to, bytes }),
@@ -113,7 +113,7 @@ impl<'a> MemorySocket<'a> {
 
     /// Records that nothing came, for a reason.
     fn keep_none(&mut self, why: io::ErrorKind) -> io::Error
-        ensures { Passes (made_by self.old) (made_by self.new) (NoneCame ∷ []) }
+        ensures { Passes (socket_calls_made self.old) (socket_calls_made self.new) (NoneCame ∷ []) }
     {
         self.keep(MadeSocketCall::NoneCame);
         io::Error::from(why)
@@ -121,7 +121,7 @@ impl<'a> MemorySocket<'a> {
 
     /// What comes of the next call that receives.
     fn next(&mut self) -> Arrival<'a>
-        ensures { made_by self.new ≡ made_by self.old }
+        ensures { socket_calls_made self.new ≡ socket_calls_made self.old }
     {
         match self.arrivals {
             [] => Arrival::Fails(io::ErrorKind::WouldBlock),
@@ -134,7 +134,7 @@ impl<'a> MemorySocket<'a> {
 
     /// Counts a send, and returns whether it fails.
     fn is_failing(&mut self) -> bool
-        ensures { made_by self.new ≡ made_by self.old }
+        ensures { socket_calls_made self.new ≡ socket_calls_made self.old }
     {
         let fails = self.fails_at == Some(self.sends);
         self.sends = self.sends.saturating_add(1);
@@ -143,9 +143,9 @@ impl<'a> MemorySocket<'a> {
 }
 
 impl<'a> Socket for MemorySocket<'a> {
-    ghost use Rattle.system_io.specs.MemorySockets.{made_by};
+    ghost use Rattle.system_io.specs.MemorySockets.{socket_calls_made};
 
-    ghost calls = { made_by };
+    ghost calls = { socket_calls_made };
 
     fn own_address(&self) -> Option<SocketAddr> {
         self.own

@@ -3,7 +3,7 @@
 ghost use Rattle.std.specs.Prelude.{◌≡◌, ◌≤◌, length, IfOk, IfSome};
 ghost use Rattle.std.specs.IoError.{error_kind};
 ghost use Rattle.system_io.specs.Disks.{most_bytes};
-ghost use Rattle.system_io.specs.Reading.{fault_of};
+ghost use Rattle.system_io.specs.Reading.{read_fault_of};
 ghost use Rattle.system_io.specs.declared.reading.ReadFault.TheVariants.{OutOfMemory};
 
 use std::alloc::{AllocError, Global};
@@ -30,7 +30,7 @@ impl From<AllocError> for ReadFault {
 }
 
 impl From<io::Error> for ReadFault {
-    ghost from_gives = { λ error fault. fault ≡ fault_of (error_kind error) };
+    ghost from_gives = { λ error fault. fault ≡ read_fault_of (error_kind error) };
 
     fn from(error: io::Error) -> ReadFault {
         match error.kind() {

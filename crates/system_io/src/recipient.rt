@@ -2,7 +2,7 @@
 
 ghost use Rattle.std.specs.Prelude.{◌≡◌, ◌↔◌, map, IfOk, IfSome, IsTrue};
 ghost use Rattle.std.specs.List.{All};
-ghost use Rattle.system_io.specs.Recipients.{IsAddressed, IsOfKind, Names, word_of};
+ghost use Rattle.system_io.specs.Recipients.{IsAddressed, IsOfKind, Names, addressed_word};
 
 use std::alloc::{AllocError, Global};
 use std::net::{Net, SocketAddr, ToSocketAddrs};
@@ -79,7 +79,7 @@ fn addressed_one<N: Net>(
     word: &str,
     own: Option<SocketAddr>,
 ) -> Result<Addressed, AllocError>
-    ensures word { IfOk result (λ one. word_of one ≡ word.now) }
+    ensures word { IfOk result (λ one. addressed_word one ≡ word.now) }
     ensures names { IfOk result (IsAddressed own) }
 {
     let who = Recipient::of(net, word, own);
@@ -96,7 +96,7 @@ pub(crate) fn all_addressed<N: Net>(
     words: &[&str],
     own: Option<SocketAddr>,
 ) -> Result<Vec<Addressed>, AllocError>
-    ensures words { IfOk result (λ all. map word_of all.items ≡ map (λ s. s.now) words.now) }
+    ensures words { IfOk result (λ all. map addressed_word all.items ≡ map (λ s. s.now) words.now) }
     ensures names { IfOk result (λ all. All (IsAddressed own) all.items) }
 {
     let mut all = Vec::new(alloc);

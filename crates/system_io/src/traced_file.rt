@@ -4,12 +4,12 @@
 ghost use Rattle.std.specs.Prelude.{◌≡◌, ◌≤◌, ◌↔◌, [], ◌∷◌, ℕ, List, Option, Some, IfOk, IfErr, IfSome, IsTrue, OnOk, length};
 ghost use Rattle.std.specs.IoError.{error_kind};
 ghost use Rattle.system_io.specs.Failures.{Counts, Risen};
-ghost use Rattle.system_io.specs.FileCalls.{CallFacts, Failed, RenameFailed, Renamed, SyncedFile, SyncedFolder, Wrote, answered, read_call};
+ghost use Rattle.system_io.specs.FileCalls.{CallFacts, Failed, RenameFailed, Renamed, SyncedFile, SyncedFolder, Wrote, call_by_answer, read_call};
 ghost use Rattle.system_io.specs.Histories.{Passes};
 ghost use Rattle.system_io.specs.KeptFiles.{KeptFacts, IsOneOfFound, bytes_of};
 ghost use Rattle.system_io.specs.Premises.{IsAsTold};
-ghost use Rattle.system_io.specs.Reading.{fault_of};
-ghost use Rattle.system_io.specs.Traces.{HasBytes, IsFresh, MayTakeName, calls_in, told_of};
+ghost use Rattle.system_io.specs.Reading.{read_fault_of};
+ghost use Rattle.system_io.specs.Traces.{HasTheseBytes, IsFresh, MayTakeName, calls_in, traced_facts};
 ghost use Rattle.system_io.specs.declared.reading.ReadFault.{ReadFault};
 
 use crate::kept_file::{KeptFile, MOST_KEPT_BYTES, copied};
@@ -32,20 +32,20 @@ pub trait FileCalls {
 
     /// Makes the file beside anew, and writes it.
     fn write(&mut self, bytes: &[u8]) -> io::Result<()>
-        ensures { Passes (facts self.old).made (facts self.new).made (answered result (Wrote bytes.now) Failed ∷ []) };
+        ensures { Passes (facts self.old).made (facts self.new).made (call_by_answer result (Wrote bytes.now) Failed ∷ []) };
 
     /// Syncs the file beside.
     fn sync(&mut self) -> io::Result<()>
-        ensures { Passes (facts self.old).made (facts self.new).made (answered result SyncedFile Failed ∷ []) };
+        ensures { Passes (facts self.old).made (facts self.new).made (call_by_answer result SyncedFile Failed ∷ []) };
 
     /// Renames the file beside to the name.
     fn rename(&mut self) -> io::Result<()>
-        ensures { Passes (facts self.old).made (facts self.new).made (answered result Renamed RenameFailed ∷ []) };
+        ensures { Passes (facts self.old).made (facts self.new).made (call_by_answer result Renamed RenameFailed ∷ []) };
 
     /// Syncs the folder, and with it the names in it.
     fn sync_folder(&mut self) -> io::Result<()>
-        ensures made { Passes (facts self.old).made (facts self.new).made (answered result SyncedFolder Failed ∷ []) }
-        ensures cause { IfErr result (λ e. (facts self.old).fails (fault_of (error_kind e))) };
+        ensures made { Passes (facts self.old).made (facts self.new).made (call_by_answer result SyncedFolder Failed ∷ []) }
+        ensures cause { IfErr result (λ e. (facts self.old).fails (read_fault_of (error_kind e))) };
 }
 
 /// How far the bytes of the last write have come, by the results of the calls.
@@ -128,7 +128,7 @@ impl<C: FileCalls + Drop> Traced<C> {
 
     /// Records that what was written may have the name from now on.
     fn note_name(&mut self) -> io::Result<()>
-        ensures named { OnOk result ((bytes : List ℕ) → HasBytes self.old.written bytes → HasBytes self.new.stands bytes) }
+        ensures named { OnOk result ((bytes : List ℕ) → HasTheseBytes self.old.written bytes → HasTheseBytes self.new.stands bytes) }
         ensures calls { self.new.calls ≡ self.old.calls }
         ensures known { self.new.is_known ≡ self.old.is_known }
         ensures count { Counts result self.old.failures self.new.failures }
@@ -154,7 +154,7 @@ impl<C: FileCalls + Drop> Traced<C> {
 /// Under the premise on a system's file: of any two contents that the file claims every start to be among, a start
 /// reads one.
 pub fn read_as_told<C: FileCalls + Drop>(left: &Traced<C>)
-    ensures { (read : Option (List ℕ)) → IsAsTold left.now read → IsOneOfFound (told_of C.facts left.now) read }
+    ensures { (read : Option (List ℕ)) → IsAsTold left.now read → IsOneOfFound (traced_facts C.facts left.now) read }
 {}
 
 /// The error of a call that is out of order.
@@ -164,9 +164,9 @@ fn refused() -> io::Error {
 
 impl<C: FileCalls + Drop> KeptFile for Traced<C> {
     ghost use Rattle.system_io.specs.TraceLaws.{says_one};
-    ghost use Rattle.system_io.specs.Traces.{told_of};
+    ghost use Rattle.system_io.specs.Traces.{traced_facts};
 
-    ghost facts = { told_of C.facts };
+    ghost facts = { traced_facts C.facts };
 
     ghost one = { λ t a b c. says_one C.facts t a b c };
 

@@ -4,7 +4,7 @@ ghost use Rattle.std.specs.Prelude.{◌≡◌, ◌≢◌, ◌≤◌, ◌<◌, �
 ghost use Rattle.system_io.specs.Failures.{Counts, Risen};
 ghost use Rattle.system_io.specs.Histories.{Passes};
 ghost use Rattle.system_io.specs.Places.{IsBound, ListensAt};
-ghost use Rattle.system_io.specs.Recipients.{named};
+ghost use Rattle.system_io.specs.Recipients.{address_named};
 ghost use Rattle.system_io.specs.Sockets.{Sent};
 ghost use Rattle.system_io.specs.UdpPorts.{Hears, HearsNothing, HearsOrNothing, passed_on, sent_to, udp_facts, who_at};
 
@@ -250,7 +250,7 @@ impl<'a, C: Clock, S: Socket + Drop, W: Write + Drop> UdpPort<'a, C, S, W> {
     /// came yet.
     fn send_one(&mut self, place: usize, bytes: &[u8]) -> Result<(), PortFault>
         requires { place < length self.old.to.items }
-        ensures calls { Passes (S.calls self.old.socket) (S.calls self.new.socket) (sent_to (named self.old.sender (who_at self.old.to.items place)) bytes.now) }
+        ensures calls { Passes (S.calls self.old.socket) (S.calls self.new.socket) (sent_to (address_named self.old.sender (who_at self.old.to.items place)) bytes.now) }
         ensures sender { self.new.sender ≡ self.old.sender }
         ensures same { self.new.to ≡ self.old.to }
         ensures count { self.old.failures ≤ self.new.failures }
@@ -272,16 +272,16 @@ impl<'a, C: Clock, S: Socket + Drop, W: Write + Drop> Port for UdpPort<'a, C, S,
     ghost use Rattle.std.specs.Duration.{as_nanos};
     ghost use Rattle.system_io.specs.Failures.{Risen};
     ghost use Rattle.system_io.specs.Ports.{Came, Quiet, Missed, Passed, to_each};
-    ghost use Rattle.system_io.specs.UdpPorts.{Hears, HearsNothing, Sends, port_facts, udp_facts};
+    ghost use Rattle.system_io.specs.UdpPorts.{Hears, HearsNothing, Sends, udp_facts, udp_port_facts};
 
-    ghost facts = { port_facts };
+    ghost facts = { udp_port_facts };
 
     // A receive that a signal interrupts is none: the wait goes on.
     fn receive(&mut self, buffer: &mut [u8; 64]) -> Result<usize, PortFault>
         ensures length { IfOk result (λ n. n ≤ 64) }
-        ensures came { IfOk result (λ n. Passed (port_facts self.old) (port_facts self.new) (Came (take n buffer.new) ∷ [])) }
-        ensures missed { OnErr result (Passed (port_facts self.old) (port_facts self.new) (Missed ∷ [])) }
-        ensures cause { OnErr result (Risen (port_facts self.old).faults (port_facts self.new).faults) }
+        ensures came { IfOk result (λ n. Passed (udp_port_facts self.old) (udp_port_facts self.new) (Came (take n buffer.new) ∷ [])) }
+        ensures missed { OnErr result (Passed (udp_port_facts self.old) (udp_port_facts self.new) (Missed ∷ [])) }
+        ensures cause { OnErr result (Risen (udp_port_facts self.old).faults (udp_port_facts self.new).faults) }
         ensures hears { IfOk result (λ n. Hears (udp_facts S.calls self.old) (udp_facts S.calls self.new) (take n buffer.new)) }
         ensures deaf { OnErr result (HearsNothing (udp_facts S.calls self.old) (udp_facts S.calls self.new)) }
     {
@@ -301,10 +301,10 @@ impl<'a, C: Clock, S: Socket + Drop, W: Write + Drop> Port for UdpPort<'a, C, S,
         buffer: &mut [u8; 64],
     ) -> Result<Option<usize>, PortFault>
         ensures length { IfOk result (λ got. IfSome got (λ n. n ≤ 64)) }
-        ensures came { IfOk result (λ got. IfSome got (λ n. Passed (port_facts self.old) (port_facts self.new) (Came (take n buffer.new) ∷ []))) }
-        ensures quiet { result ≡ Ok None → Passed (port_facts self.old) (port_facts self.new) (Quiet (as_nanos wait) ∷ []) }
-        ensures missed { OnErr result (Passed (port_facts self.old) (port_facts self.new) (Missed ∷ [])) }
-        ensures cause { OnErr result (Risen (port_facts self.old).faults (port_facts self.new).faults) }
+        ensures came { IfOk result (λ got. IfSome got (λ n. Passed (udp_port_facts self.old) (udp_port_facts self.new) (Came (take n buffer.new) ∷ []))) }
+        ensures quiet { result ≡ Ok None → Passed (udp_port_facts self.old) (udp_port_facts self.new) (Quiet (as_nanos wait) ∷ []) }
+        ensures missed { OnErr result (Passed (udp_port_facts self.old) (udp_port_facts self.new) (Missed ∷ [])) }
+        ensures cause { OnErr result (Risen (udp_port_facts self.old).faults (udp_port_facts self.new).faults) }
         ensures hears { IfOk result (HearsOrNothing (udp_facts S.calls self.old) (udp_facts S.calls self.new) buffer.new) }
         ensures deaf { OnErr result (HearsNothing (udp_facts S.calls self.old) (udp_facts S.calls self.new)) }
     {
@@ -323,8 +323,8 @@ impl<'a, C: Clock, S: Socket + Drop, W: Write + Drop> Port for UdpPort<'a, C, S,
     }
 
     fn send(&mut self, bytes: &[u8]) -> Result<(), PortFault>
-        ensures handed { Passed (port_facts self.old) (port_facts self.new) (to_each (port_facts self.old).addresses bytes.now) }
-        ensures cause { OnErr result (Risen (port_facts self.old).faults (port_facts self.new).faults) }
+        ensures handed { Passed (udp_port_facts self.old) (udp_port_facts self.new) (to_each (udp_port_facts self.old).addresses bytes.now) }
+        ensures cause { OnErr result (Risen (udp_port_facts self.old).faults (udp_port_facts self.new).faults) }
         ensures sends { Sends (udp_facts S.calls self.old) (udp_facts S.calls self.new) bytes.now }
     {
         self.shared = None;
