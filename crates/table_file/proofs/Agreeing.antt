@@ -6,7 +6,7 @@ use Rattle.std.proofs.lemmas.List.{length-drop, drop-drop, drop_more, drop_all}
 use Rattle.byteorder.specs.Endian.{little_number}
 use Rattle.table_file.specs.declared.fault.TableFault.{TableFault}
 use Rattle.table_file.specs.declared.fault.TableFault.TheVariants.{Truncated}
-use Rattle.table_file.specs.Reading.{◌>>=◌, each_at, byte_at, taken_at, word_at, number_at, risen}
+use Rattle.table_file.specs.Reading.{◌>>=◌, each_at, byte_at, taken_at, word_at, four_bytes_at, risen}
 use Rattle.table_file.specs.Layouts.{IsByte, AreBytes, IsNumber, IsRaised, Each}
 
 -- Where the relation holds, reading gives that, and where reading gives something, the relation holds of it.
@@ -112,9 +112,9 @@ unfolding word_at
 word_agrees body = like_agrees body word_at (λ p b q. (p + 2 ≤ length body) × (b ≡ little_number 2 (drop p body)) × (q ≡ p + 2)) (IsNumber 2 body) (sized_agrees body 2 (little_number 2))
     (λ p b q h. record { within = h.0; is = h.1; next = h.2 }) (λ p b q h. (h.within, h.is, h.next))
 
-pub number_agrees : (body : List ℕ) → Agrees body number_at (IsNumber 4 body)
-unfolding number_at
-number_agrees body = like_agrees body number_at (λ p b q. (p + 4 ≤ length body) × (b ≡ little_number 4 (drop p body)) × (q ≡ p + 4)) (IsNumber 4 body) (sized_agrees body 4 (little_number 4))
+pub number_agrees : (body : List ℕ) → Agrees body four_bytes_at (IsNumber 4 body)
+unfolding four_bytes_at
+number_agrees body = like_agrees body four_bytes_at (λ p b q. (p + 4 ≤ length body) × (b ≡ little_number 4 (drop p body)) × (q ≡ p + 4)) (IsNumber 4 body) (sized_agrees body 4 (little_number 4))
     (λ p b q h. record { within = h.0; is = h.1; next = h.2 }) (λ p b q h. (h.within, h.is, h.next))
 
 first_byte : (b : ℕ) (rest : List ℕ) → byte_at (b ∷ rest) ≡ Ok (b, rest)

@@ -14,7 +14,7 @@ use Rattle.table_file.specs.Files.{section_size}
 use Rattle.table_file.specs.Sparse.{sizes_of}
 use Rattle.table_file.specs.Tables.{PartAt}
 use Rattle.table_file.specs.Inside.Checked.{IsChecked, IsViewOf}
-use Rattle.table_file.specs.Expansion.{expanded, expansion, entry_at, values_in, values_of, IsSpotOf, IsSpot}
+use Rattle.table_file.specs.Expansion.{expanded, expansion, entry_at, values_in, part_block_values, IsSpotOf, IsSpot}
 use Rattle.table_file.proofs.Expanded.{spot_value}
 use Rattle.table_file.proofs.Views.{view_expansion, view_values}
 
@@ -36,7 +36,7 @@ in_values (Pairs c) size lengths blocks index block offset fit spot =
     ∙ sym (spot_value c lengths blocks index block offset (omega (arith, fit)) spot)
 
 module _ (p : PartAt) (v : View) (h : IsViewOf p v) (checked : IsChecked v) where
-  pub among : (index block offset : ℕ) → IsSpot p index (At block offset) → slice_get (values_of p block) offset ≡ entry_at (expansion p) index
+  pub among : (index block offset : ℕ) → IsSpot p index (At block offset) → slice_get (part_block_values p block) offset ≡ entry_at (expansion p) index
   among index block offset spot =
       ap (λ (vs : List ℕ). slice_get vs offset) (sym (view_values p block v h))
       ∙ in_values v.coding.now v.size v.lengths.now v.blocks.now index block offset checked.lengths_fit (spot_view p index (At block offset) v h spot)

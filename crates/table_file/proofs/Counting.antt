@@ -4,10 +4,10 @@ use Rattle.std.specs.Prelude.{◌⊎◌, nat_le, slice_get}
 use Rattle.std.specs.List.{flat_map, All}
 use Rattle.std.proofs.lemmas.Bool.{cases_Bool, leb-true, leb-false}
 use Rattle.std.proofs.lemmas.List.{length-append, append-nil, take_more, drop_more, drop_all}
-use Rattle.pair_dict.specs.Symbols.{HasValues, leaf, pair, values_of, left, right, symbol_count}
+use Rattle.pair_dict.specs.Symbols.{HasSymbolValues, leaf, pair, values_of, left, right, symbol_count}
 use Rattle.pair_dict.proofs.Settling.{has_some}
 use Rattle.table_file.specs.declared.forging.codes.Code.{Code}
-use Rattle.table_file.specs.Plan.{codes_size, symbols_values, count_of, IsGoodContent, IsGoodPart, AreGoodMaps, is_wide}
+use Rattle.table_file.specs.Plan.{codes_size, symbols_values, value_count, IsGoodContent, IsGoodPart, AreGoodMaps, is_wide}
 use Rattle.table_file.specs.declared.plan.PartPlan.{PartPlan}
 use Rattle.table_file.specs.declared.kind.TableKind.{TableKind}
 use Rattle.table_file.proofs.Views.{got}
@@ -48,7 +48,7 @@ size_front code (s ∷ block) zero = omega arith
 size_front code (s ∷ block) (suc i) = let e = size_front code block i in omega (arith, e)
 
 -- the sum over a block's symbols is the number of its values
-pub sum_is : (symbols counts block : List ℕ) → AreCountsOf symbols counts → ((i : ℕ) → i < length block → get_or block i 0 < length counts) → sum_of counts block ≡ count_of symbols block
+pub sum_is : (symbols counts block : List ℕ) → AreCountsOf symbols counts → ((i : ℕ) → i < length block → get_or block i 0 < length counts) → sum_of counts block ≡ value_count symbols block
 unfolding symbols_values
 sum_is symbols counts [] h known = refl
 sum_is symbols counts (s ∷ block) h known =
@@ -77,25 +77,25 @@ cut_next f xs i x done whole left count held lt is count-is all cut h =
         rw (large, e, z) refl
 
 -- a leaf has one value, and a pair has those of both
-pub one_value : (symbols : List ℕ) (s : ℕ) (vs : List ℕ) → HasValues symbols s vs → right symbols s ≡ 4095 → vs ≡ left symbols s ∷ []
+pub one_value : (symbols : List ℕ) (s : ℕ) (vs : List ℕ) → HasSymbolValues symbols s vs → right symbols s ≡ 4095 → vs ≡ left symbols s ∷ []
 one_value symbols s vs (leaf lt e) is = refl
 one_value symbols s vs (pair lt ne a b e) is = absurd (ne is)
 
 pub record Halves (symbols : List ℕ) (s : ℕ) (vs : List ℕ) : Type 0 where
   pub first : List ℕ
   pub second : List ℕ
-  pub first_has : HasValues symbols (left symbols s) first
-  pub second_has : HasValues symbols (right symbols s) second
+  pub first_has : HasSymbolValues symbols (left symbols s) first
+  pub second_has : HasSymbolValues symbols (right symbols s) second
   pub both : vs ≡ first ++ second
   pub first_some : 1 ≤ length first
   pub second_some : 1 ≤ length second
 
-pub halves_of : (symbols : List ℕ) (s : ℕ) (vs : List ℕ) → HasValues symbols s vs → (right symbols s ≡ 4095 → ⊥) → Halves symbols s vs
+pub halves_of : (symbols : List ℕ) (s : ℕ) (vs : List ℕ) → HasSymbolValues symbols s vs → (right symbols s ≡ 4095 → ⊥) → Halves symbols s vs
 halves_of symbols s vs (leaf lt e) ne = absurd (ne e)
 halves_of symbols s vs (pair {xs = xs} {ys = ys} lt not a b e) ne =
     record { first = xs; second = ys; first_has = a; second_has = b; both = e; first_some = has_some a; second_some = has_some b }
 
-pub has_known : (symbols : List ℕ) (s : ℕ) (vs : List ℕ) → HasValues symbols s vs → s < symbol_count symbols
+pub has_known : (symbols : List ℕ) (s : ℕ) (vs : List ℕ) → HasSymbolValues symbols s vs → s < symbol_count symbols
 has_known symbols s vs (leaf lt e) = lt
 has_known symbols s vs (pair lt ne a b e) = lt
 

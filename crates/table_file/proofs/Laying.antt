@@ -10,8 +10,8 @@ use Rattle.pair_dict.proofs.Numbers.{number_push, number_below}
 use Rattle.table_file.specs.declared.plan.PairsPlan.{PairsPlan}
 use Rattle.table_file.specs.declared.forging.codes.Code.{Code}
 use Rattle.table_file.specs.Plan.{pairing_of, code_by, code_of, symbol_bytes}
-use Rattle.table_file.specs.PlannedFile.{spot_among, bytes_of}
-use Rattle.table_file.specs.Inside.Writing.{IsReached}
+use Rattle.table_file.specs.PlannedFile.{spot_among, big_endian_bytes}
+use Rattle.table_file.specs.Inside.Writing.{IsBlockReached}
 
 -- ---- codes
 
@@ -81,7 +81,7 @@ read_first q s h m within below =
 
 -- ---- spots
 
-pub reached_first : (lengths : List ℕ) → IsReached lengths 0 0
+pub reached_first : (lengths : List ℕ) → IsBlockReached lengths 0 0
 reached_first lengths =
     record {
       block_found = λ index le. let e : index - 0 ≡ index = omega arith in rw (whole lengths, e) (omega arith);
@@ -109,7 +109,7 @@ unfolding spot_among
 spot_none index = refl
 
 -- one block more
-pub reached_next : (lengths : List ℕ) (block before l : ℕ) → IsReached lengths block before → drop block lengths ≡ l ∷ drop (block + 1) lengths → IsReached lengths (block + 1) (before + (l + 1))
+pub reached_next : (lengths : List ℕ) (block before l : ℕ) → IsBlockReached lengths block before → drop block lengths ≡ l ∷ drop (block + 1) lengths → IsBlockReached lengths (block + 1) (before + (l + 1))
 reached_next lengths block before l h more =
     record {
       block_found = λ index le.
@@ -125,7 +125,7 @@ reached_next lengths block before l h more =
     on : (index : ℕ) → before + (l + 1) ≤ index → spot_among (drop block lengths) (index - before) ≡ (suc (spot_among (drop (block + 1) lengths) (index - before - suc l)).0, (spot_among (drop (block + 1) lengths) (index - before - suc l)).1)
     on index le = rw more (spot_on l (drop (block + 1) lengths) (index - before) (omega (arith, le)))
 
-pub reached_spot : (lengths : List ℕ) (block before index : ℕ) → IsReached lengths block before → before ≤ index → spot_among (drop block lengths) (index - before) ≡ (0, index - before) → spot_among lengths index ≡ (block, index - before)
+pub reached_spot : (lengths : List ℕ) (block before index : ℕ) → IsBlockReached lengths block before → before ≤ index → spot_among (drop block lengths) (index - before) ≡ (0, index - before) → spot_among lengths index ≡ (block, index - before)
 reached_spot lengths block before index h le here =
     let a : (spot_among lengths index).0 ≡ block = h.block_found index le ∙ ap (λ (k : ℕ × ℕ). block + k.0) here ∙ omega arith in
     let b : (spot_among lengths index).1 ≡ index - before = h.offset_found index le ∙ ap (λ (k : ℕ × ℕ). k.1) here in
@@ -141,8 +141,8 @@ spot_past lengths block index le =
 -- ---- blocks
 
 -- bytes are those of their number, whatever stands above them
-high_bytes : (bytes : List ℕ) (above : ℕ) → ((i : ℕ) → get_or bytes i 0 < 256) → bytes_of (length bytes) (above * 2 ^ (8 * length bytes) + number_of bytes) ≡ bytes
-unfolding bytes_of
+high_bytes : (bytes : List ℕ) (above : ℕ) → ((i : ℕ) → get_or bytes i 0 < 256) → big_endian_bytes (length bytes) (above * 2 ^ (8 * length bytes) + number_of bytes) ≡ bytes
+unfolding big_endian_bytes
 high_bytes [] above small = refl
 high_bytes (b ∷ bytes) above small =
     let k = length bytes in
@@ -156,7 +156,7 @@ high_bytes (b ∷ bytes) above small =
     let rest = high_bytes bytes (above * 256 + b) (λ i. small (suc i)) in
     rw (same, front, byte, rest) refl
 
-pub bytes_of_number : (bytes : List ℕ) (n : ℕ) → ((i : ℕ) → get_or bytes i 0 < 256) → n ≡ number_of bytes → bytes_of (length bytes) n ≡ bytes
+pub bytes_of_number : (bytes : List ℕ) (n : ℕ) → ((i : ℕ) → get_or bytes i 0 < 256) → n ≡ number_of bytes → big_endian_bytes (length bytes) n ≡ bytes
 bytes_of_number bytes n small is =
     let e : n ≡ 0 * 2 ^ (8 * length bytes) + number_of bytes = is ∙ omega arith in rw e (high_bytes bytes 0 small)
 

@@ -10,7 +10,7 @@ use Rattle.table_file.specs.declared.parts.Part.{Part}
 use Rattle.table_file.specs.declared.parts.Section.{Section}
 use Rattle.table_file.specs.declared.parts.Section.TheVariants.{Entries, Lengths, Blocks}
 use Rattle.table_file.specs.Reading.{each_at, byte_at, taken_at, word_at, risen, has_bit}
-use Rattle.table_file.specs.Figures.{span, points}
+use Rattle.table_file.specs.Figures.{span, sparse_entry_count}
 use Rattle.table_file.specs.Files.{indices, section_size, begun, section_at}
 use Rattle.table_file.specs.Maps.{ValueMaps, no_maps, map_at, four_at, maps_at, all_maps_at}
 use Rattle.table_file.specs.Sparse.{sizes_of, values_before, entry_block, entry_offset, is_entry, are_entries, fits_in, all_fit}
@@ -152,12 +152,12 @@ entries_right sizes span entries (suc n) each =
 
 pub sparse_fits : (size : ℕ) (coding : Coding) (entries lengths : List ℕ) → AreSparseEntries size coding entries lengths → fits_in size coding entries lengths ≡ true
 sparse_fits size (Single v) entries lengths each = refl
-sparse_fits size (Pairs c) entries lengths each = entries_right (sizes_of lengths) (span c) entries (points size c) each
+sparse_fits size (Pairs c) entries lengths each = entries_right (sizes_of lengths) (span c) entries (sparse_entry_count size c) each
 
 pub fits_sparse : (size : ℕ) (coding : Coding) (entries lengths : List ℕ) → fits_in size coding entries lengths ≡ true → AreSparseEntries size coding entries lengths
 fits_sparse size (Single v) entries lengths fit = tt
 fits_sparse size (Pairs c) entries lengths fit = λ k lt.
-    let e = entry_of (sizes_of lengths) (span c) entries k (points size c) fit lt in
+    let e = entry_of (sizes_of lengths) (span c) entries k (sparse_entry_count size c) fit lt in
     record { block = e.known; value = e.place }
 
 pub all_sparse_fit : (parts : List Part) (entries lengths : List (List ℕ)) → AllSparseEntries parts entries lengths → all_fit parts entries lengths ≡ true

@@ -16,7 +16,7 @@ use Rattle.table_file.specs.declared.size_record.Coding.TheVariants.{Single, Pai
 use Rattle.table_file.specs.declared.size_record.SizeRecord.{SizeRecord}
 use Rattle.table_file.specs.declared.parts.Part.{Part}
 use Rattle.table_file.specs.Reading.{byte_at, exponent_at}
-use Rattle.table_file.specs.Dictionaries.{after, pairing_at}
+use Rattle.table_file.specs.Dictionaries.{pairing_and_rest, pairing_at}
 use Rattle.table_file.specs.Figures.{Figures}
 use Rattle.table_file.specs.SizeRecords.{codes_at, single_at, coding_at, size_record_at}
 use Rattle.table_file.specs.Files.{side_of, nibble, second_at, setup_at, part_at}
@@ -42,7 +42,7 @@ exponent_agrees body least greatest =
     })
     (λ p b q h. (b, q, h.byte, (and_from (leb least b) (leb b greatest) (le-leb least b h.low) (le-leb b greatest h.high), refl, refl)))
 
-after_ok : (bytes : List ℕ) (r : Result (Pairing × ℕ) DictFault) (y : Pairing × List ℕ) → after bytes r ≡ Ok y → (taken : ℕ) × (r ≡ Ok (y.0, taken)) × (y.1 ≡ drop taken bytes)
+after_ok : (bytes : List ℕ) (r : Result (Pairing × ℕ) DictFault) (y : Pairing × List ℕ) → pairing_and_rest bytes r ≡ Ok y → (taken : ℕ) × (r ≡ Ok (y.0, taken)) × (y.1 ≡ drop taken bytes)
 after_ok bytes (Ok x) y e =
     let same = is_ok (x.0, drop x.1 bytes) y e in
     (x.1, ap (λ (d : Pairing). Ok (d, x.1)) (ap (λ (z : Pairing × List ℕ). z.0) same), sym (ap (λ (z : Pairing × List ℕ). z.1) same))
@@ -55,7 +55,7 @@ pairing_agrees law body = record {
       let fits : q - p ≤ length (drop p body) = omega (arith, length-drop p body, h.within, h.ordered) in
       let e = (law (drop p body) d (q - p)).1 (fits, h.spelled) in
       let n : p + (q - p) ≡ q = omega (arith, h.ordered) in
-      (h.within, ap (λ r. after (drop p body) r) e ∙ ap (λ (l : List ℕ). done (d, l)) (drops body p (q - p) ∙ ap (λ k. drop k body) n));
+      (h.within, ap (λ r. pairing_and_rest (drop p body) r) e ∙ ap (λ (l : List ℕ). done (d, l)) (drops body p (q - p) ∙ ap (λ k. drop k body) n));
   tells = λ p d rest le e.
       let x = after_ok (drop p body) (dictionary_at (drop p body)) (d, rest) e in
       let s = (law (drop p body) d x.0).0 x.1 in

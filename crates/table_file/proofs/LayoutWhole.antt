@@ -14,9 +14,9 @@ use Rattle.table_file.specs.declared.kind.TableKind.TheVariants.{Wdl, Dtz}
 use Rattle.table_file.specs.declared.parts.Section.TheVariants.{Entries, Lengths, Blocks}
 use Rattle.table_file.specs.Reading.{each_at, risen}
 use Rattle.table_file.specs.Names.{equal, file_name, title_among, title_of}
-use Rattle.table_file.specs.Files.{sides_of, body_of, magic_of, magic_at, flags_agree, flags_at, setup_at, part_at}
+use Rattle.table_file.specs.Files.{side_count, body_of, magic_of, magic_at, flags_agree, flags_at, setup_at, part_at}
 use Rattle.table_file.specs.Sparse.{all_fit}
-use Rattle.table_file.specs.Tables.{Contents, head_at, sections_at, parts_at, table_at, part_count}
+use Rattle.table_file.specs.Tables.{Contents, head_at, sections_at, parts_at, contents_at, part_count}
 use Rattle.table_file.specs.Layouts.{IsByte, IsNumber, Each, IsSetup, IsPart, IsSection, IsHead, AreParts, IsLayout, ReadsWhatIsLaidOut}
 use Rattle.table_file.proofs.NameLemmas.{equal_true, title_is}
 use Rattle.table_file.proofs.Agreeing.{Agrees, bind_ok, done, is_ok, number_agrees, byte_agrees, each_agrees, next, raise_to_2, raised_2}
@@ -135,8 +135,8 @@ head_tells name file x e =
 -- ---- the parts
 
 abbrev pub setups_agree : (body : List ℕ) (kind : TableKind) (m : ℕ) → m < 145
-    → Agrees body (each_at (setup_at m (sides_of kind m)) (range_with_len 0 (part_count kind m))) (λ p shapes q. Each (λ k. IsSetup m (sides_of kind m) k body) (range_with_len 0 (part_count kind m)) p shapes q)
-setups_agree body kind m known = each_agrees body (setup_at m (sides_of kind m)) (λ k. IsSetup m (sides_of kind m) k body) (λ k. setup_agrees body m (sides_of kind m) k known) (range_with_len 0 (part_count kind m))
+    → Agrees body (each_at (setup_at m (side_count kind m)) (range_with_len 0 (part_count kind m))) (λ p shapes q. Each (λ k. IsSetup m (side_count kind m) k body) (range_with_len 0 (part_count kind m)) p shapes q)
+setups_agree body kind m known = each_agrees body (setup_at m (side_count kind m)) (λ k. IsSetup m (side_count kind m) k body) (λ k. setup_agrees body m (side_count kind m) k known) (range_with_len 0 (part_count kind m))
 
 abbrev pub records_agree : ReadsWhatIsSpelled → (body : List ℕ) (kind : TableKind) (shapes : List Layout) → Agrees body (each_at (part_at kind) shapes) (λ p parts q. Each (λ shape. IsPart kind shape body) shapes p parts q)
 records_agree law body kind shapes = each_agrees body (part_at kind) (λ shape. IsPart kind shape body) (λ shape. part_agrees law body kind shape) shapes
@@ -214,14 +214,14 @@ parts_tell law body kind m t known long even g =
 
 -- ---- the law
 
-laid_out : ReadsWhatIsSpelled → TablesAreNumbered → (name file : List ℕ) (t : Contents) → IsLayout name file t → table_at name file ≡ Ok t
-unfolding table_at
+laid_out : ReadsWhatIsSpelled → TablesAreNumbered → (name file : List ℕ) (t : Contents) → IsLayout name file t → contents_at name file ≡ Ok t
+unfolding contents_at
 laid_out spelled numbered name file t h =
     let size = length_body file h.body h.head.long h.head.sized h.head.body_is in
     rw (head_reads numbered name file t.kind t.material h.body h.head) (parts_read spelled h.body t h.head.known size.0 size.1 h.parts)
 
-read : ReadsWhatIsSpelled → (name file : List ℕ) (t : Contents) → table_at name file ≡ Ok t → IsLayout name file t
-unfolding table_at
+read : ReadsWhatIsSpelled → (name file : List ℕ) (t : Contents) → contents_at name file ≡ Ok t → IsLayout name file t
+unfolding contents_at
 read spelled name file t e =
     let x = bind_ok _ _ t e in
     let head = head_tells name file x.0 x.1 in

@@ -6,9 +6,9 @@ use Rattle.std.proofs.lemmas.List.{length-drop, drop_more, drop_all}
 use Rattle.byteorder.specs.Endian.{little_number}
 use Rattle.table_file.specs.declared.fault.TableFault.{TableFault}
 use Rattle.table_file.specs.declared.fault.TableFault.TheVariants.{Truncated}
-use Rattle.table_file.specs.Reading.{◌>>=◌, each_at, byte_at, taken_at, word_at, number_at, risen}
+use Rattle.table_file.specs.Reading.{◌>>=◌, each_at, byte_at, taken_at, word_at, four_bytes_at, risen}
 use Rattle.table_file.specs.Layouts.{IsRaised}
-use Rattle.table_file.specs.FirstFaults.{InTurn, here, behind, InEach, PassEnd, IsNot}
+use Rattle.table_file.specs.FirstFaults.{HasFaultInTurn, here, behind, InEach, PassEnd, IsNot}
 use Rattle.table_file.proofs.Agreeing.{Agrees, raise_to_2, raised_2}
 
 -- Where reading fails, the relation holds of its fault, and where the relation holds of a fault, reading fails with it.
@@ -53,10 +53,10 @@ end_misses {A} {B} (Err d) h F m = record {
     other d e is = let x : d ≡ e = sym (same_fault {B = A} d e (Err d) refl is) in ap (λ (k : TableFault). failed {B = B} k) x
 
 pub then_misses : {A B : Type 0} (body : List ℕ) (f : List ℕ → Result (A × List ℕ) TableFault) (g : A → List ℕ → Result B TableFault) (R : ℕ → A → ℕ → Type 0) (F : ℕ → TableFault → Type 0) (G : A → ℕ → TableFault → Type 0) (p : ℕ)
-    → p ≤ length body → Agrees body f R → Misses (f (drop p body)) (F p) → ((a : A) (q : ℕ) → q ≤ length body → Misses (g a (drop q body)) (G a q)) → Misses (f (drop p body) >>= λ x. g x.0 x.1) (InTurn F R G p)
+    → p ≤ length body → Agrees body f R → Misses (f (drop p body)) (F p) → ((a : A) (q : ℕ) → q ≤ length body → Misses (g a (drop q body)) (G a q)) → Misses (f (drop p body) >>= λ x. g x.0 x.1) (HasFaultInTurn F R G p)
 then_misses {A} {B} body f g R F G p le r m s = record { told = told; tells = tells }
   where
-    told : (e : TableFault) → (f (drop p body) >>= λ x. g x.0 x.1) ≡ Err e → InTurn F R G p e
+    told : (e : TableFault) → (f (drop p body) >>= λ x. g x.0 x.1) ≡ Err e → HasFaultInTurn F R G p e
     told e is =
         elim (bind_err (f (drop p body)) (λ x. g x.0 x.1) e is) [
           | inl bad ↦ here (m.told e bad)
@@ -65,7 +65,7 @@ then_misses {A} {B} body f g R F G p le r m s = record { told = told; tells = te
               behind x.0.0 one.0 one.1 ((s x.0.0 one.0 one.2).told e (ap (g x.0.0) (sym one.3) ∙ x.2))
         ]
 
-    tells : (e : TableFault) → InTurn F R G p e → (f (drop p body) >>= λ x. g x.0 x.1) ≡ Err e
+    tells : (e : TableFault) → HasFaultInTurn F R G p e → (f (drop p body) >>= λ x. g x.0 x.1) ≡ Err e
     tells e (here h) = ap (λ (y : Result (A × List ℕ) TableFault). y >>= λ x. g x.0 x.1) (m.tells e h)
     tells e (behind a q h k) =
         let one = r.reads p a q le h in
@@ -127,8 +127,8 @@ pub word_misses : (body : List ℕ) (p : ℕ) → p ≤ length body → Misses (
 unfolding word_at
 word_misses body p le = sized_misses body 2 (little_number 2) p le
 
-pub number_misses : (body : List ℕ) (p : ℕ) → p ≤ length body → Misses (number_at (drop p body)) (PassEnd 4 body p)
-unfolding number_at
+pub number_misses : (body : List ℕ) (p : ℕ) → p ≤ length body → Misses (four_bytes_at (drop p body)) (PassEnd 4 body p)
+unfolding four_bytes_at
 number_misses body p le = sized_misses body 4 (little_number 4) p le
 
 first_byte : (b : ℕ) (rest : List ℕ) → byte_at (b ∷ rest) ≡ Ok (b, rest)

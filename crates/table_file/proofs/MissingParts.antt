@@ -13,8 +13,8 @@ use Rattle.table_file.specs.declared.kind.TableKind.{TableKind}
 use Rattle.table_file.specs.declared.kind.TableKind.TheVariants.{Wdl, Dtz}
 use Rattle.table_file.specs.declared.parts.Part.{Part}
 use Rattle.table_file.specs.declared.parts.Section.{Section}
-use Rattle.table_file.specs.Reading.{each_at, byte_at, taken_at, word_at, number_at, exponent_at, risen, has_bit}
-use Rattle.table_file.specs.Dictionaries.{fault_of, after, pairing_at}
+use Rattle.table_file.specs.Reading.{each_at, byte_at, taken_at, word_at, four_bytes_at, exponent_at, risen, has_bit}
+use Rattle.table_file.specs.Dictionaries.{dictionary_fault, pairing_and_rest, pairing_at}
 use Rattle.table_file.specs.SizeRecords.{single_value, codes_at, single_at, coding_at, size_record_at}
 use Rattle.table_file.specs.Shapes.{are_good_pieces, are_good_orders, shape_at}
 use Rattle.table_file.specs.Files.{side_of, nibble, second_at, setup_at, part_at, indices, section_size, section_at}
@@ -38,14 +38,14 @@ exponent_misses body least greatest p le =
     (λ e. let both = and_parts (leb least a) (leb a greatest) e in (leb-true least a both.0, leb-true a greatest both.1))
     (λ h. and_from (leb least a) (leb a greatest) (le-leb least a h.0) (le-leb a greatest h.1)))
 
-after_misses : (bytes : List ℕ) (r : Result (Pairing × ℕ) DictFault) → Misses (after bytes r) (λ e. (fault : DictFault) × (r ≡ Err fault) × (e ≡ fault_of fault))
+after_misses : (bytes : List ℕ) (r : Result (Pairing × ℕ) DictFault) → Misses (pairing_and_rest bytes r) (λ e. (fault : DictFault) × (r ≡ Err fault) × (e ≡ dictionary_fault fault))
 after_misses bytes (Ok x) = record { told = λ e is. absurd (not_both (x.0, drop x.1 bytes) e (Ok (x.0, drop x.1 bytes)) refl is); tells = λ e h. absurd (other x h.0 h.1) }
   where
     other : (x : Pairing × ℕ) (d : DictFault) → (let r : Result (Pairing × ℕ) DictFault = Ok x in r) ≡ Err d → ⊥
     other x d e = cc
 after_misses bytes (Err d) = record {
-  told = λ e is. (d, refl, fault_is (fault_of d) e is);
-  tells = λ e h. as_fault (fault_of d) e (h.2 ∙ ap fault_of (sym (same d h.0 h.1)));
+  told = λ e is. (d, refl, fault_is (dictionary_fault d) e is);
+  tells = λ e h. as_fault (dictionary_fault d) e (h.2 ∙ ap dictionary_fault (sym (same d h.0 h.1)));
 }
   where
     fault_is : (a e : TableFault) → (let r : Result (Pairing × List ℕ) TableFault = Err a in r) ≡ Err e → e ≡ a
@@ -67,7 +67,7 @@ codes_misses body p le =
     then_misses body (exponent_at 0 24) _ (IsExponent 0 24 body) (IsExponentFault 0 24 body) _ p le (exponent_agrees body 0 24) (exponent_misses body 0 24 p le) (λ block at_span le_span.
     then_misses body (exponent_at 1 31) _ (IsExponent 1 31 body) (IsExponentFault 1 31 body) _ at_span le_span (exponent_agrees body 1 31) (exponent_misses body 1 31 at_span le_span) (λ span at_padding le_padding.
     then_misses body byte_at _ (IsByte body) (PassEnd 1 body) _ at_padding le_padding (byte_agrees body) (byte_misses body at_padding le_padding) (λ padding at_blocks le_blocks.
-    then_misses body number_at _ (IsNumber 4 body) (PassEnd 4 body) _ at_blocks le_blocks (number_agrees body) (number_misses body at_blocks le_blocks) (λ blocks at_dictionary le_dictionary.
+    then_misses body four_bytes_at _ (IsNumber 4 body) (PassEnd 4 body) _ at_blocks le_blocks (number_agrees body) (number_misses body at_blocks le_blocks) (λ blocks at_dictionary le_dictionary.
     end_misses (pairing_at (drop at_dictionary body)) _ (IsDictionaryFault body at_dictionary) (pairing_misses body at_dictionary)))))
 
 single_misses : (body : List ℕ) (kind : TableKind) (p : ℕ) → p ≤ length body → Misses (single_at kind (drop p body)) (PassEnd 1 body p)

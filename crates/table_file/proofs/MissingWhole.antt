@@ -12,14 +12,14 @@ use Rattle.table_file.specs.declared.kind.TableKind.{TableKind}
 use Rattle.table_file.specs.declared.kind.TableKind.TheVariants.{Wdl, Dtz}
 use Rattle.table_file.specs.declared.parts.Part.{Part}
 use Rattle.table_file.specs.declared.parts.Section.TheVariants.{Entries, Lengths, Blocks}
-use Rattle.table_file.specs.Reading.{◌>>=◌, Gives, Fails, each_at, byte_at, number_at, risen}
+use Rattle.table_file.specs.Reading.{◌>>=◌, Gives, Fails, each_at, byte_at, four_bytes_at, risen}
 use Rattle.table_file.specs.Names.{equal, file_name, title_among, title_of}
-use Rattle.table_file.specs.Files.{sides_of, body_of, magic_of, magic_at, flags_agree, flags_at, setup_at, part_at, section_at}
+use Rattle.table_file.specs.Files.{side_count, body_of, magic_of, magic_at, flags_agree, flags_at, setup_at, part_at, section_at}
 use Rattle.table_file.specs.Sparse.{all_fit}
 use Rattle.table_file.specs.Maps.{ValueMaps, all_maps_at}
-use Rattle.table_file.specs.Tables.{Contents, head_at, sections_at, parts_at, table_at, part_count}
+use Rattle.table_file.specs.Tables.{Contents, head_at, sections_at, parts_at, contents_at, part_count}
 use Rattle.table_file.specs.Layouts.{IsByte, IsNumber, Each, IsSetup, IsPart, IsSection, AreAllMaps, AllSparseEntries}
-use Rattle.table_file.specs.FirstFaults.{IsNot, IsSetupFault, IsSizeRecordFault, IsAllMapsFault, IsSectionsFault, IsRecordsFault, IsPartsFault, IsNamed, IsSized, IsFirstFault, bad_name, bad_size, bad_magic, bad_flags, in_parts, TellsFirstFault}
+use Rattle.table_file.specs.FirstFaults.{IsNot, IsSetupFault, IsSizeRecordFault, IsAllMapsFault, IsSectionsFault, IsRecordsFault, IsPartsFault, IsTableFileName, IsSized, IsFirstTableFault, bad_name, bad_size, bad_magic, bad_flags, in_parts, TellsFirstFault}
 use Rattle.table_file.proofs.NameLemmas.{title_is}
 use Rattle.table_file.proofs.Loops.{fault_is}
 use Rattle.table_file.proofs.Agreeing.{done}
@@ -54,7 +54,7 @@ parts_misses : ReadsWhatIsSpelled → (body : List ℕ) (kind : TableKind) (m p 
 unfolding parts_at IsPartsFault
 parts_misses law body kind m p known even le =
     let ks = range_with_len 0 (part_count kind m) in
-    let s = sides_of kind m in
+    let s = side_count kind m in
     then_misses body (each_at (setup_at m s) ks) _ (λ p shapes q. Each (λ k. IsSetup m s k body) ks p shapes q) _ _ p le (setups_agree body kind m known)
     (each_misses body (setup_at m s) (λ k. IsSetup m s k body) (λ k. IsSetupFault m s k body) (λ k. setup_agrees body m s k known) (λ k p le. setup_misses body m s k p known le) ks p le) (λ shapes q fits.
     records_misses law body kind m shapes q even fits)
@@ -78,7 +78,7 @@ title_fault (suc n) name e is =
 
 -- some kind and material have that name
 abbrev Named : List ℕ → Type 0
-Named name = (kind : TableKind) × (m : ℕ) × IsNamed name kind m
+Named name = (kind : TableKind) × (m : ℕ) × IsTableFileName name kind m
 
 title_misses : TablesAreNumbered → (name : List ℕ) → Misses (title_of name) (IsNot (Named name) BadName)
 unfolding title_of
@@ -112,7 +112,7 @@ body_misses file =
 magic_fault : (kind : TableKind) (body : List ℕ) (e : TableFault) → 4 ≤ length body → magic_at kind body ≡ Err e → e ≡ BadMagic
 unfolding magic_at
 magic_fault kind body e long is =
-    elim (bind_err (number_at body) _ e is) [
+    elim (bind_err (four_bytes_at body) _ e is) [
       | inl short ↦ absurd (past ((number_misses body 0 (omega arith)).told e short))
       | inr x ↦ elim (cases_eq x.0.0 (magic_of kind)) [
         | inl good ↦ absurd (not_both x.0.1 e (Ok x.0.1) refl (rw (eq-eqb x.0.0 (magic_of kind) good) at x.2))
@@ -163,20 +163,20 @@ flags_byte body long = (slice_index body 4, record { within = omega (arith, long
 
 -- ---- the law
 
-head_told : TablesAreNumbered → (name file : List ℕ) (e : TableFault) → head_at name file ≡ Err e → IsFirstFault name file e
+head_told : TablesAreNumbered → (name file : List ℕ) (e : TableFault) → head_at name file ≡ Err e → IsFirstTableFault name file e
 unfolding head_at
 head_told law name file e is =
     elim (bind_err (title_of name) _ e is) [
       | inl bad ↦
           let h = (title_misses law name).told e bad in
-          subst (IsFirstFault name file) (sym h.1) (bad_name (λ kind m named. h.0 (kind, m, named)))
+          subst (IsFirstTableFault name file) (sym h.1) (bad_name (λ kind m named. h.0 (kind, m, named)))
       | inr t ↦
           let title = title_tells name t.0 t.1 in
-          let named : IsNamed name t.0.0 t.0.1 = record { known = title.0; named = title.1 } in
+          let named : IsTableFileName name t.0.0 t.0.1 = record { known = title.0; named = title.1 } in
           elim (bind_err (body_of file) _ e t.2) [
             | inl bad ↦
                 let h = (body_misses file).told e bad in
-                subst (IsFirstFault name file) (sym h.1) (bad_size t.0.0 t.0.1 named (λ body sized. h.0 (body, sized)))
+                subst (IsFirstTableFault name file) (sym h.1) (bad_size t.0.0 t.0.1 named (λ body sized. h.0 (body, sized)))
             | inr b ↦
                 let body = body_tells file b.0 b.1 in
                 let size = length_body file b.0 body.0 body.1 body.2 in
@@ -184,49 +184,49 @@ head_told law name file e is =
                 elim (bind_err (magic_at t.0.0 b.0) _ e b.2) [
                   | inl bad ↦
                       let h = (magic_misses t.0.0 b.0 (omega (arith, size.0))).told e bad in
-                      subst (IsFirstFault name file) (sym h.1) (bad_magic t.0.0 t.0.1 b.0 named sized h.0)
+                      subst (IsFirstTableFault name file) (sym h.1) (bad_magic t.0.0 t.0.1 b.0 named sized h.0)
                   | inr g ↦
                       let magic = magic_tells t.0.0 b.0 g.0 g.1 in
                       elim (bind_err (flags_at t.0.0 t.0.1 g.0) _ e g.2) [
                         | inl bad ↦
                             let h = (flags_misses t.0.0 t.0.1 b.0 (omega (arith, size.0))).told e (ap (flags_at t.0.0 t.0.1) (sym magic.1) ∙ bad) in
                             let byte = flags_byte b.0 (omega (arith, size.0)) in
-                            subst (IsFirstFault name file) (sym h.1) (bad_flags t.0.0 t.0.1 b.0 byte.0 named sized magic.0 byte.1 (λ agree. h.0 (byte.0, byte.1, agree)))
+                            subst (IsFirstTableFault name file) (sym h.1) (bad_flags t.0.0 t.0.1 b.0 byte.0 named sized magic.0 byte.1 (λ agree. h.0 (byte.0, byte.1, agree)))
                         | inr f ↦ absurd (not_both (t.0, f.0) e (Ok (t.0, f.0)) refl f.2)
                       ]
                 ]
           ]
     ]
 
-named_reads : TablesAreNumbered → (name : List ℕ) (kind : TableKind) (m : ℕ) → IsNamed name kind m → title_of name ≡ Ok (kind, m)
+named_reads : TablesAreNumbered → (name : List ℕ) (kind : TableKind) (m : ℕ) → IsTableFileName name kind m → title_of name ≡ Ok (kind, m)
 named_reads law name kind m h = title_is law kind m name h.known h.named
 
 sized_reads : (file body : List ℕ) → IsSized file body → body_of file ≡ Ok body
 sized_reads file body h = body_reads file h.long h.sized ∙ ap (λ (b : List ℕ). done b) (sym h.body_is)
 
-no_title : (name file : List ℕ) (e : TableFault) → title_of name ≡ Err e → table_at name file ≡ Err e
-unfolding table_at head_at
+no_title : (name file : List ℕ) (e : TableFault) → title_of name ≡ Err e → contents_at name file ≡ Err e
+unfolding contents_at head_at
 no_title name file e is = rw is refl
 
-no_body : (name file : List ℕ) (x : TableKind × ℕ) (e : TableFault) → title_of name ≡ Ok x → body_of file ≡ Err e → table_at name file ≡ Err e
-unfolding table_at head_at
+no_body : (name file : List ℕ) (x : TableKind × ℕ) (e : TableFault) → title_of name ≡ Ok x → body_of file ≡ Err e → contents_at name file ≡ Err e
+unfolding contents_at head_at
 no_body name file x e title is = rw (title, is) refl
 
-no_magic : (name file : List ℕ) (x : TableKind × ℕ) (body : List ℕ) (e : TableFault) → title_of name ≡ Ok x → body_of file ≡ Ok body → magic_at x.0 body ≡ Err e → table_at name file ≡ Err e
-unfolding table_at head_at
+no_magic : (name file : List ℕ) (x : TableKind × ℕ) (body : List ℕ) (e : TableFault) → title_of name ≡ Ok x → body_of file ≡ Ok body → magic_at x.0 body ≡ Err e → contents_at name file ≡ Err e
+unfolding contents_at head_at
 no_magic name file x body e title sized is = rw (title, sized, is) refl
 
-no_flags : (name file : List ℕ) (x : TableKind × ℕ) (body rest : List ℕ) (e : TableFault) → title_of name ≡ Ok x → body_of file ≡ Ok body → magic_at x.0 body ≡ Ok rest → flags_at x.0 x.1 rest ≡ Err e → table_at name file ≡ Err e
-unfolding table_at head_at
+no_flags : (name file : List ℕ) (x : TableKind × ℕ) (body rest : List ℕ) (e : TableFault) → title_of name ≡ Ok x → body_of file ≡ Ok body → magic_at x.0 body ≡ Ok rest → flags_at x.0 x.1 rest ≡ Err e → contents_at name file ≡ Err e
+unfolding contents_at head_at
 no_flags name file x body rest e title sized magic is = rw (title, sized, magic, is) refl
 
-no_parts : (name file : List ℕ) (kind : TableKind) (m : ℕ) (rest : List ℕ) (e : TableFault) → head_at name file ≡ Ok ((kind, m), rest) → parts_at kind m rest ≡ Err e → table_at name file ≡ Err e
-unfolding table_at
+no_parts : (name file : List ℕ) (kind : TableKind) (m : ℕ) (rest : List ℕ) (e : TableFault) → head_at name file ≡ Ok ((kind, m), rest) → parts_at kind m rest ≡ Err e → contents_at name file ≡ Err e
+unfolding contents_at
 no_parts name file kind m rest e head is = rw (head, is) refl
 
 module _ (spelled : ReadsWhatIsSpelled) (numbered : TablesAreNumbered) where
-  told : (name file : List ℕ) (e : TableFault) → table_at name file ≡ Err e → IsFirstFault name file e
-  unfolding table_at
+  told : (name file : List ℕ) (e : TableFault) → contents_at name file ≡ Err e → IsFirstTableFault name file e
+  unfolding contents_at
   told name file e is =
       elim (bind_err (head_at name file) _ e is) [
         | inl bad ↦ head_told numbered name file e bad
@@ -237,7 +237,7 @@ module _ (spelled : ReadsWhatIsSpelled) (numbered : TablesAreNumbered) where
             ((parts_misses spelled head.0 x.0.0.0 x.0.0.1 5 head.1.known size.1 (omega (arith, size.0))).told e (ap (parts_at x.0.0.0 x.0.0.1) (sym head.2) ∙ x.2))
       ]
 
-  tells : (name file : List ℕ) (e : TableFault) → IsFirstFault name file e → table_at name file ≡ Err e
+  tells : (name file : List ℕ) (e : TableFault) → IsFirstTableFault name file e → contents_at name file ≡ Err e
   tells name file e (bad_name none) = no_title name file BadName ((title_misses numbered name).tells BadName ((λ h. none h.0 h.1 h.2), refl))
   tells name file e (bad_size kind m named none) =
       no_body name file (kind, m) BadSize (named_reads numbered name kind m named) ((body_misses file).tells BadSize ((λ h. none h.0 h.1), refl))
@@ -257,7 +257,7 @@ module _ (spelled : ReadsWhatIsSpelled) (numbered : TablesAreNumbered) where
 
 -- ---- what a function tells
 
-pub first_of_head : TellsFirstFault → (name file : List ℕ) (e : TableFault) → Fails e (head_at name file) → e ≢ OutOfMemory → IsFirstFault name file e
+pub first_of_head : TellsFirstFault → (name file : List ℕ) (e : TableFault) → Fails e (head_at name file) → e ≢ OutOfMemory → IsFirstTableFault name file e
 first_of_head law name file e fails ne =
     elim (fault_is e (head_at name file) fails) [
       | inl memory ↦ absurd (ne memory)
@@ -265,7 +265,7 @@ first_of_head law name file e fails ne =
     ]
 
 pub first_of_parts : TellsFirstFault → (name file : List ℕ) (kind : TableKind) (m : ℕ) (rest : List ℕ) (r : Result Contents TableFault) → head_at name file ≡ Ok ((kind, m), rest) → Gives {X = Contents} {Y = Contents} (λ x. x) r (parts_at kind m rest)
-    → IfErr r (λ e. e ≢ OutOfMemory → IsFirstFault name file e)
+    → IfErr r (λ e. e ≢ OutOfMemory → IsFirstTableFault name file e)
 first_of_parts law name file kind m rest (Ok x) head gives = tt
 first_of_parts law name file kind m rest (Err e) head fails = λ ne.
     elim (fault_is e (parts_at kind m rest) fails) [

@@ -10,7 +10,7 @@ use Rattle.table_file.specs.declared.kind.TableKind.{TableKind}
 use Rattle.table_file.specs.declared.parts.Part.{Part}
 use Rattle.table_file.specs.declared.parts.Section.TheVariants.{Entries, Lengths, Blocks}
 use Rattle.table_file.specs.Reading.{◌>>=◌, each_at, byte_at, taken_at, risen, Fails, Gives}
-use Rattle.table_file.specs.Files.{side_of, sides_of, second_at, nibble, setup_at, part_at, section_at}
+use Rattle.table_file.specs.Files.{side_of, side_count, second_at, nibble, setup_at, part_at, section_at}
 use Rattle.table_file.specs.Shapes.{shape_at}
 use Rattle.table_file.specs.Maps.{ValueMaps, all_maps_at}
 use Rattle.table_file.specs.Sparse.{all_fit}
@@ -76,7 +76,7 @@ parts_first : (kind : TableKind) (material : ℕ) (bytes : List ℕ)
     → parts_at kind material bytes ≡ (all_parts_at kind material bytes >>= λ p. all_maps_at kind p.0 p.1 >>= λ maps. sections_at kind material p.0 maps.0 maps.1)
 unfolding parts_at all_parts_at
 parts_first kind material bytes =
-    in_turn (each_at (setup_at material (sides_of kind material)) (range_with_len 0 (part_count kind material)) bytes) (λ s. each_at (part_at kind) s.0 (risen 2 s.1))
+    in_turn (each_at (setup_at material (side_count kind material)) (range_with_len 0 (part_count kind material)) bytes) (λ s. each_at (part_at kind) s.0 (risen 2 s.1))
     (λ p. all_maps_at kind p.0 p.1 >>= λ maps. sections_at kind material p.0 maps.0 maps.1)
 
 pub no_parts : (kind : TableKind) (material : ℕ) (bytes : List ℕ) (e : TableFault) → Fails e (all_parts_at kind material bytes) → Fails e (parts_at kind material bytes)

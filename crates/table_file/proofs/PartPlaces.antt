@@ -10,8 +10,8 @@ use Rattle.table_file.specs.declared.kind.TableKind.{TableKind}
 use Rattle.table_file.specs.declared.kind.TableKind.TheVariants.{Wdl, Dtz}
 use Rattle.table_file.specs.declared.places.PartPlace.{PartPlace}
 use Rattle.table_file.specs.Inside.Places.{IsPlace}
-use Rattle.table_file.specs.Files.{files_of, sides_of, is_symmetric}
-use Rattle.table_file.specs.Tables.{Contents, PartAt, part_for, nth_part, part_file, part_count, place_of, IsAskedBy}
+use Rattle.table_file.specs.Files.{files_of, side_count, is_symmetric}
+use Rattle.table_file.specs.Tables.{Contents, PartAt, part_for, nth_part, part_file, part_count, part_place, IsAskedBy}
 
 -- ---- how many sides and files
 
@@ -19,8 +19,8 @@ one_or_two : (b : Bool) → 1 ≤ cond b 1 2
 one_or_two true = omega arith
 one_or_two false = omega arith
 
-pub some_sides : (kind : TableKind) (m : ℕ) → 1 ≤ sides_of kind m
-unfolding sides_of
+pub some_sides : (kind : TableKind) (m : ℕ) → 1 ≤ side_count kind m
+unfolding side_count
 some_sides Dtz m = omega arith
 some_sides Wdl m = one_or_two (is_symmetric m)
 
@@ -33,9 +33,9 @@ unfolding files_of
 few_files m = one_or_four (has_pawns m)
 
 -- part k of so many is on one of four files
-pub file_below : (kind : TableKind) (m k sides n : ℕ) → sides ≡ sides_of kind m → n ≡ part_count kind m → k < n → k / sides < 4
+pub file_below : (kind : TableKind) (m k sides n : ℕ) → sides ≡ side_count kind m → n ≡ part_count kind m → k < n → k / sides < 4
 file_below kind m k sides n sides-is n-is lt =
-    let s = sides_of kind m in
+    let s = side_count kind m in
     let more : files_of m * s ≤ 4 * s = omega (arith, mul-le-mul_left s (few_files m), mul_comm s (files_of m), mul_comm s 4) in
     rw sides-is (div_below k s 4 (some_sides kind m) (omega (arith, lt, n-is, more)))
 
@@ -55,9 +55,9 @@ place_below a f r s lt small =
     let one = mul-suc s a in
     omega (arith, more, one, mul_comm s a, mul_comm s f, small)
 
-pub within_parts : (p : PartAt) → p.file < 4 → place_of p < part_count p.table.kind p.table.material
+pub within_parts : (p : PartAt) → p.file < 4 → part_place p < part_count p.table.kind p.table.material
 within_parts p lt =
-    let s = sides_of p.table.kind p.table.material in
+    let s = side_count p.table.kind p.table.material in
     place_below (part_file p.table.material p.file) (files_of p.table.material) (side_number p.side % s) s (own_below p.table.material p.file lt) (mod_below (side_number p.side) s (some_sides p.table.kind p.table.material))
 
 in_one : (f n s : ℕ) → 1 ≡ s → f ≡ f * s + n % s
@@ -67,20 +67,20 @@ in_two : (f n s : ℕ) → 2 ≡ s → n < 2 → 2 * f + n ≡ f * s + n % s
 in_two f n s e lt = rw (← e) (omega (arith, lt))
 
 -- of one side, and of two
-pub place_in_one : (p : PartAt) (f : ℕ) → 1 ≡ sides_of p.table.kind p.table.material → f ≡ part_file p.table.material p.file → f ≡ place_of p
+pub place_in_one : (p : PartAt) (f : ℕ) → 1 ≡ side_count p.table.kind p.table.material → f ≡ part_file p.table.material p.file → f ≡ part_place p
 place_in_one p f one own =
-    let s = sides_of p.table.kind p.table.material in
+    let s = side_count p.table.kind p.table.material in
     let n = side_number p.side in
     in_one f n s one ∙ ap (λ g. g * s + n % s) own
 
-pub place_in_two : (p : PartAt) (f n : ℕ) → 2 ≡ sides_of p.table.kind p.table.material → f ≡ part_file p.table.material p.file → n ≡ side_number p.side → n < 2 → 2 * f + n ≡ place_of p
+pub place_in_two : (p : PartAt) (f n : ℕ) → 2 ≡ side_count p.table.kind p.table.material → f ≡ part_file p.table.material p.file → n ≡ side_number p.side → n < 2 → 2 * f + n ≡ part_place p
 place_in_two p f n two own n-is lt =
-    let s = sides_of p.table.kind p.table.material in
+    let s = side_count p.table.kind p.table.material in
     in_two f n s two lt ∙ ap (λ g. g * s + n % s) own ∙ ap (λ m. part_file p.table.material p.file * s + m % s) n-is
 
-pub file_of_place : (kind : TableKind) (m side file k : ℕ) → k ≡ file * sides_of kind m + side % sides_of kind m → k / sides_of kind m ≡ file
+pub file_of_place : (kind : TableKind) (m side file k : ℕ) → k ≡ file * side_count kind m + side % side_count kind m → k / side_count kind m ≡ file
 file_of_place kind m side file k is =
-    let s = sides_of kind m in
+    let s = side_count kind m in
     ap (λ i. i / s) is ∙ div-mul-add file s (side % s) (mod_below side s (some_sides kind m))
 
 -- ---- a placement, and a DTZ table
@@ -96,22 +96,22 @@ fits_part p placed l material file asked =
     own true e = rw e asked.file
     own false e = rw e (asked.first (ap (λ m. has_pawns m) asked.material ∙ e))
 
-dtz_sides : (kind : TableKind) (m : ℕ) → kind ≡ Dtz → sides_of kind m ≡ 1
-unfolding sides_of
+dtz_sides : (kind : TableKind) (m : ℕ) → kind ≡ Dtz → side_count kind m ≡ 1
+unfolding side_count
 dtz_sides Dtz m e = refl
 dtz_sides Wdl m e = absurd cc
 
 -- a DTZ table doesn't look at the side
-pub one_side : (p : PartAt) → p.table.kind ≡ Dtz → place_of p ≡ place_of (part_for p.table White p.file)
+pub one_side : (p : PartAt) → p.table.kind ≡ Dtz → part_place p ≡ part_place (part_for p.table White p.file)
 one_side p e =
     let one = dtz_sides p.table.kind p.table.material e in
-    let same : side_number p.side % sides_of p.table.kind p.table.material ≡ 0 % sides_of p.table.kind p.table.material = rw one (omega arith) in
-    ap (λ n. part_file p.table.material p.file * sides_of p.table.kind p.table.material + n) same
+    let same : side_number p.side % side_count p.table.kind p.table.material ≡ 0 % side_count p.table.kind p.table.material = rw one (omega arith) in
+    ap (λ n. part_file p.table.material p.file * side_count p.table.kind p.table.material + n) same
 
 -- ---- part k
 
 -- the part that its place gives
-pub nth_is : (t : Contents) (kind : TableKind) (material k : ℕ) (place : PartPlace) → IsPlace (sides_of kind material) k place → kind ≡ t.kind → material ≡ t.material → part_for t place.side place.file ≡ nth_part t k
+pub nth_is : (t : Contents) (kind : TableKind) (material k : ℕ) (place : PartPlace) → IsPlace (side_count kind material) k place → kind ≡ t.kind → material ≡ t.material → part_for t place.side place.file ≡ nth_part t k
 nth_is t kind material k place at kind-is material-is =
-    let sides : sides_of kind material ≡ sides_of t.kind t.material = rw (kind-is, material-is) refl in
+    let sides : side_count kind material ≡ side_count t.kind t.material = rw (kind-is, material-is) refl in
     rw (at.side, at.file, sides) refl

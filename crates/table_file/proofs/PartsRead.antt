@@ -11,7 +11,7 @@ use Rattle.table_file.specs.declared.kind.TableKind.TheVariants.{Wdl, Dtz}
 use Rattle.table_file.specs.declared.parts.Part.{Part}
 use Rattle.table_file.specs.Reading.{◌>>=◌, each_at, byte_at, taken_at, risen}
 use Rattle.table_file.specs.Shapes.{shape_at, are_good_pieces, are_good_orders}
-use Rattle.table_file.specs.Files.{side_of, setup_at, second_at, nibble, part_at, sides_of}
+use Rattle.table_file.specs.Files.{side_of, setup_at, second_at, nibble, part_at, side_count}
 use Rattle.table_file.specs.SizeRecords.{size_record_at}
 use Rattle.table_file.specs.Maps.{ValueMaps, maps_at, all_maps_at}
 use Rattle.table_file.specs.Sections.{AreShaped}
@@ -82,7 +82,7 @@ range_at from (suc n) zero a at = omega (arith, some_is from a at)
 range_at from (suc n) (suc k) a at = omega (arith, range_at (from + 1) n k a at)
 
 pub are_shaped : (kind : TableKind) (m sides n : ℕ) (bytes between : List ℕ) (shapes : List Layout × List ℕ) (parts : List Part × List ℕ)
-    → sides ≡ sides_of kind m → each_at (setup_at m sides) (range_with_len 0 n) bytes ≡ Ok shapes → each_at (part_at kind) shapes.0 between ≡ Ok parts → AreShaped kind m parts.0
+    → sides ≡ side_count kind m → each_at (setup_at m sides) (range_with_len 0 n) bytes ≡ Ok shapes → each_at (part_at kind) shapes.0 between ≡ Ok parts → AreShaped kind m parts.0
 are_shaped kind m sides n bytes between shapes parts sides-is e f k p at =
     let of-part = source (part_at kind) shapes.0 between parts f k p at in
     let same = part_read kind of-part.0 of-part.1 p of-part.2 of-part.4 in

@@ -11,7 +11,7 @@ use Rattle.table_file.specs.declared.table.OpenedPart.{OpenedPart}
 use Rattle.table_file.specs.declared.table.Table.TheInside.{Inside}
 use Rattle.table_file.specs.Inside.Opened.{contents_of, IsOpened}
 use Rattle.table_file.specs.Inside.OpenedParts.{plain_parts, all_entries, all_lengths, all_blocks}
-use Rattle.table_file.specs.Inside.KeptPart.{IsWhole, StandsAt}
+use Rattle.table_file.specs.Inside.KeptPart.{IsWholePart, StandsInTable}
 use Rattle.table_file.specs.declared.parts.Section.{Section}
 use Rattle.table_file.specs.declared.parts.Section.TheVariants.{Entries, Lengths, Blocks}
 use Rattle.table_file.specs.Files.{indices, section_size}
@@ -22,9 +22,9 @@ use Rattle.table_file.specs.declared.size_record.Coding.TheVariants.{Single, Pai
 use Rattle.table_file.specs.declared.spots.Spot.{Spot}
 use Rattle.table_file.specs.declared.spots.Spot.TheVariants.{Single as SingleSpot, At}
 use Rattle.table_file.specs.declared.spots.View.{View}
-use Rattle.table_file.specs.Tables.{PartAt, part_for, part_file, place_of, coding_span, shape_of, span_of}
+use Rattle.table_file.specs.Tables.{PartAt, part_for, part_file, part_place, coding_span, shape_of, span_of}
 use Rattle.table_file.specs.Inside.Checked.{IsViewOf}
-use Rattle.table_file.specs.Expansion.{expanded, expansion, IsSpotOf, IsSpot, IsShort, IsRealSpot, blocks_in, real_blocks, values_in, values_of}
+use Rattle.table_file.specs.Expansion.{expanded, expansion, IsSpotOf, IsSpot, IsShort, IsRealSpot, blocks_in, real_blocks, values_in, part_block_values}
 use Rattle.table_file.proofs.PartPlaces.{file_of_place}
 
 -- an element that was read by its index
@@ -93,7 +93,7 @@ pub blocks_at : (os : List OpenedPart) (k : ℕ) (o : OpenedPart) → k < length
 blocks_at os k o lt is = mapped_at (λ (o : OpenedPart). o.blocks) os k o (here os k lt) is
 
 -- the part at a place has its sections whole
-pub whole_at : (a : Inside) (k : ℕ) (o : OpenedPart) → IsOpened a → k < length (plain_parts a.parts.items) → o ≡ get_or a.parts.items k o → IsWhole o
+pub whole_at : (a : Inside) (k : ℕ) (o : OpenedPart) → IsOpened a → k < length (plain_parts a.parts.items) → o ≡ get_or a.parts.items k o → IsWholePart o
 whole_at a k o h lt is =
     let os = a.parts.items in
     let p-is = plain_at os k o lt is in
@@ -107,8 +107,8 @@ whole_at a k o h lt is =
     }
 
 -- and it is the part for a side and a file
-pub stands_at : (a : Inside) (side : Side) (file k : ℕ) (o : OpenedPart) → IsOpened a → k < length (plain_parts a.parts.items) → o ≡ get_or a.parts.items k o → k ≡ place_of (part_for (contents_of a) side file)
-    → StandsAt (part_for (contents_of a) side file) o
+pub stands_at : (a : Inside) (side : Side) (file k : ℕ) (o : OpenedPart) → IsOpened a → k < length (plain_parts a.parts.items) → o ≡ get_or a.parts.items k o → k ≡ part_place (part_for (contents_of a) side file)
+    → StandsInTable (part_for (contents_of a) side file) o
 stands_at a side file k o h lt is k-is =
     let os = a.parts.items in
     let said = h.shaped k o.head (part_at os k o lt is) in
@@ -146,8 +146,8 @@ view_steps p index before after v h cost shape is lt =
     let same : h.part.shape ≡ shape = some_is h.part.shape shape (rw h.found at is) in
     rw h.found (rw h.coding at (cost (rw (h.size, same) lt)))
 
-pub view_values : (p : PartAt) (block : ℕ) (v : View) → IsViewOf p v → values_in v.coding.now v.lengths.now v.blocks.now block ≡ values_of p block
-unfolding values_of
+pub view_values : (p : PartAt) (block : ℕ) (v : View) → IsViewOf p v → values_in v.coding.now v.lengths.now v.blocks.now block ≡ part_block_values p block
+unfolding part_block_values
 view_values p block v h = rw (h.coding, h.lengths, h.blocks, h.found) refl
 
 pub if_ok : {A E : Type 0} {P Q : A → Type 0} (r : Result A E) → IfOk r P → ((x : A) → P x → Q x) → IfOk r Q

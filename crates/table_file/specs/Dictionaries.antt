@@ -8,16 +8,16 @@ use Rattle.table_file.specs.declared.fault.TableFault.{TableFault}
 use Rattle.table_file.specs.declared.fault.TableFault.TheVariants.{Truncated, BadCode, BadSymbol, OutOfMemory}
 
 -- a fault of a dictionary as a fault of the table file
-abbrev pub fault_of : DictFault → TableFault
-fault_of dict.Truncated = Truncated
-fault_of dict.BadCode = BadCode
-fault_of dict.BadSymbol = BadSymbol
-fault_of dict.OutOfMemory = OutOfMemory
+abbrev pub dictionary_fault : DictFault → TableFault
+dictionary_fault dict.Truncated = Truncated
+dictionary_fault dict.BadCode = BadCode
+dictionary_fault dict.BadSymbol = BadSymbol
+dictionary_fault dict.OutOfMemory = OutOfMemory
 
 -- what is left after the bytes that were taken
-abbrev pub after : List ℕ → Result (Pairing × ℕ) DictFault → Result (Pairing × List ℕ) TableFault
-after bytes (Ok x) = Ok (x.0, drop x.1 bytes)
-after bytes (Err e) = Err (fault_of e)
+abbrev pub pairing_and_rest : List ℕ → Result (Pairing × ℕ) DictFault → Result (Pairing × List ℕ) TableFault
+pairing_and_rest bytes (Ok x) = Ok (x.0, drop x.1 bytes)
+pairing_and_rest bytes (Err e) = Err (dictionary_fault e)
 
 unfoldable pub pairing_at : List ℕ → Result (Pairing × List ℕ) TableFault
-pairing_at bytes = after bytes (dictionary_at bytes)
+pairing_at bytes = pairing_and_rest bytes (dictionary_at bytes)

@@ -8,7 +8,7 @@ use Rattle.table_file.specs.declared.outcome.Outcome.TheVariants.{Win, CursedWin
 use Rattle.table_file.specs.Reading.{has_bit}
 use Rattle.table_file.specs.Files.{is_symmetric}
 use Rattle.table_file.specs.Maps.{ValueMaps, no_maps}
-use Rattle.table_file.specs.Tables.{Contents, PartAt, part_for, place_of, flags_of}
+use Rattle.table_file.specs.Tables.{Contents, PartAt, part_for, part_place, flags_of}
 use Rattle.table_file.specs.Expansion.{expansion, entry_at}
 
 abbrev pub flags_or_none : Option ℕ → ℕ
@@ -20,7 +20,7 @@ abbrev pub file_flags : PartAt → ℕ
 file_flags p = flags_or_none (flags_of (part_for p.table White p.file))
 
 abbrev pub file_maps : PartAt → ValueMaps
-file_maps p = slice_index_or p.table.maps (place_of (part_for p.table White p.file)) no_maps
+file_maps p = slice_index_or p.table.maps (part_place (part_for p.table White p.file)) no_maps
 
 -- Whether the values of a file are for this side to move: bit 0 of the flags is the side, or both sides have the same men.
 unfoldable pub stores : PartAt → Bool
@@ -40,13 +40,13 @@ map_of maps BlessedLoss = maps.blessed_loss
 map_of maps Loss = maps.loss
 
 -- the entries of a map: its bytes, or where it is wide numbers of two bytes, the low one first
-abbrev pub entries_of : Bool → List ℕ → List ℕ
-entries_of false bytes = bytes
-entries_of true bytes = words bytes
+abbrev pub map_entries : Bool → List ℕ → List ℕ
+map_entries false bytes = bytes
+map_entries true bytes = words bytes
 
 -- None past the end of the map
 abbrev pub map_entry : ValueMaps → Outcome → ℕ → Option ℕ
-map_entry maps outcome place = slice_get (entries_of maps.wide (map_of maps outcome)) place
+map_entry maps outcome place = slice_get (map_entries maps.wide (map_of maps outcome)) place
 
 -- Where bit 1 of the flags is set, the stored value is a place in the map of the outcome.
 abbrev pub mapped_value : ℕ → ValueMaps → Outcome → ℕ → Option ℕ
@@ -60,12 +60,12 @@ counts_moves flags CursedWin = true
 counts_moves flags BlessedLoss = true
 counts_moves flags Loss = not (has_bit 8 flags)
 
-abbrev pub plies : Bool → ℕ → ℕ
-plies moves value = if moves then 2 * value else value
+abbrev pub value_in_plies : Bool → ℕ → ℕ
+value_in_plies moves value = if moves then 2 * value else value
 
-abbrev pub told : ℕ → Outcome → Option ℕ → Option ℕ
-told flags outcome None = None
-told flags outcome (Some value) = Some (plies (counts_moves flags outcome) value)
+abbrev pub distance_told : ℕ → Outcome → Option ℕ → Option ℕ
+distance_told flags outcome None = None
+distance_told flags outcome (Some value) = Some (value_in_plies (counts_moves flags outcome) value)
 
 abbrev pub mapped : ℕ → ValueMaps → Outcome → Option ℕ → Option ℕ
 mapped flags maps outcome None = None
@@ -74,4 +74,4 @@ mapped flags maps outcome (Some value) = mapped_value flags maps outcome value
 -- The plies that the table gives at an index of a part, for a game of that outcome, if the value is there. They are the
 -- entry of the expanded table, through the map, and doubled where it counts moves.
 unfoldable pub distance : PartAt → ℕ → Outcome → Option ℕ
-distance p index outcome = told (file_flags p) outcome (mapped (file_flags p) (file_maps p) outcome (entry_at (expansion p) index))
+distance p index outcome = distance_told (file_flags p) outcome (mapped (file_flags p) (file_maps p) outcome (entry_at (expansion p) index))

@@ -100,5 +100,5 @@ values_at None lengths blocks block = []
 values_at (Some p) lengths blocks block = values_in p.size_record.coding lengths blocks block
 
 -- the values of a block, cut by its length
-unfoldable pub values_of : PartAt → ℕ → List ℕ
-values_of p block = values_at (part_of p) (lengths_of p) (blocks_of p) block
+unfoldable pub part_block_values : PartAt → ℕ → List ℕ
+part_block_values p block = values_at (part_of p) (lengths_of p) (blocks_of p) block

@@ -18,8 +18,8 @@ abbrev pub span : Figures → ℕ
 span c = 2 ^ c.span_exponent
 
 -- how many sparse entries there are for so many indices: one for each span that is begun
-abbrev pub points : ℕ → Figures → ℕ
-points size c = (size + (span c - 1)) / span c
+abbrev pub sparse_entry_count : ℕ → Figures → ℕ
+sparse_entry_count size c = (size + (span c - 1)) / span c
 
 pub record AreFigures (c : Figures) : Type 0 where
   pub block : c.block_exponent ≤ 24

@@ -14,10 +14,10 @@ use Rattle.table_file.specs.declared.parts.Part.{Part}
 use Rattle.table_file.specs.declared.parts.Section.{Section}
 use Rattle.table_file.specs.declared.parts.Section.TheVariants.{Entries, Lengths, Blocks}
 use Rattle.table_file.specs.Names.{equal}
-use Rattle.table_file.specs.Figures.{block_size, points}
+use Rattle.table_file.specs.Figures.{block_size, sparse_entry_count}
 use Rattle.table_file.specs.Shapes.{shape_at}
 use Rattle.table_file.specs.SizeRecords.{size_record_at}
-use Rattle.table_file.specs.Reading.{◌>>=◌, byte_at, taken_at, number_at, risen, has_bit}
+use Rattle.table_file.specs.Reading.{◌>>=◌, byte_at, taken_at, four_bytes_at, risen, has_bit}
 
 -- ---- sides and files
 
@@ -26,9 +26,9 @@ unfoldable pub is_symmetric : ℕ → Bool
 is_symmetric m = equal (men_of m).first (men_of m).second
 
 -- WDL of unsymmetric material has two sides, all else has one
-unfoldable pub sides_of : TableKind → ℕ → ℕ
-sides_of Dtz m = 1
-sides_of Wdl m = if is_symmetric m then 1 else 2
+unfoldable pub side_count : TableKind → ℕ → ℕ
+side_count Dtz m = 1
+side_count Wdl m = if is_symmetric m then 1 else 2
 
 -- files a to d of the leading pawn where there are pawns, else one
 unfoldable pub files_of : ℕ → ℕ
@@ -57,7 +57,7 @@ magic_of Dtz = 2769053399
 
 unfoldable pub magic_at : TableKind → List ℕ → Result (List ℕ) TableFault
 magic_at kind bytes = do
-  magic ← number_at bytes
+  magic ← four_bytes_at bytes
   if magic.0 == magic_of kind then Ok magic.1 else Err BadMagic
 
 abbrev pub same : Bool → Bool → Bool
@@ -106,7 +106,7 @@ part_at kind shape bytes = do
 -- how many bytes a section has for a part of so many indices
 abbrev pub section_size : Section → ℕ → Coding → ℕ
 section_size section size (Single v) = 0
-section_size Entries size (Pairs c) = 6 * points size c
+section_size Entries size (Pairs c) = 6 * sparse_entry_count size c
 section_size Lengths size (Pairs c) = 2 * (c.blocks + c.padding)
 section_size Blocks size (Pairs c) = c.blocks * block_size c
 

@@ -16,22 +16,22 @@ use Rattle.table_file.specs.declared.parts.Section.{Section}
 use Rattle.table_file.specs.declared.parts.Section.TheVariants.{Entries, Lengths, Blocks}
 use Rattle.table_file.specs.Reading.{has_bit}
 use Rattle.table_file.specs.Names.{file_name}
-use Rattle.table_file.specs.Dictionaries.{fault_of}
-use Rattle.table_file.specs.Files.{sides_of, side_of, indices, magic_of, flags_agree, nibble, section_size}
-use Rattle.table_file.specs.Tables.{part_count, table_at}
+use Rattle.table_file.specs.Dictionaries.{dictionary_fault}
+use Rattle.table_file.specs.Files.{side_count, side_of, indices, magic_of, flags_agree, nibble, section_size}
+use Rattle.table_file.specs.Tables.{contents_at, part_count}
 use Rattle.table_file.specs.Layouts.{IsByte, AreBytes, IsNumber, IsRaised, Each, IsSecond, IsSetup, IsExponent, IsPart, IsMap, IsMapStart, AreMaps, AreAllMaps, IsSectionStart, IsSection, AllSparseEntries, IsHead}
 
 -- ---- ways to be at fault
 
 -- A part has its own fault, or it is laid out, and what follows it has one.
-pub data InTurn {A : Type 0} (own : ℕ → TableFault → Type 0) (laid : ℕ → A → ℕ → Type 0) (following : A → ℕ → TableFault → Type 0) (p : ℕ) (e : TableFault) : Type 0 where
-  here : own p e → InTurn own laid following p e
-  behind : (a : A) (q : ℕ) → laid p a q → following a q e → InTurn own laid following p e
+pub data HasFaultInTurn {A : Type 0} (own : ℕ → TableFault → Type 0) (laid : ℕ → A → ℕ → Type 0) (following : A → ℕ → TableFault → Type 0) (p : ℕ) (e : TableFault) : Type 0 where
+  here : own p e → HasFaultInTurn own laid following p e
+  behind : (a : A) (q : ℕ) → laid p a q → following a q e → HasFaultInTurn own laid following p e
 
 -- one part after the other
 abbrev pub InEach : {A B : Type 0} → (A → ℕ → TableFault → Type 0) → (A → ℕ → B → ℕ → Type 0) → List A → ℕ → TableFault → Type 0
 InEach own laid [] p e = ⊥
-InEach own laid (a ∷ others) p e = InTurn (own a) (laid a) (λ _. InEach own laid others) p e
+InEach own laid (a ∷ others) p e = HasFaultInTurn (own a) (laid a) (λ _. InEach own laid others) p e
 
 -- n bytes pass the end
 abbrev pub PassEnd : ℕ → List ℕ → ℕ → TableFault → Type 0
@@ -53,48 +53,48 @@ IsShapeFault m pieces shape e = IsNot (HasGoodPieces m pieces) BadPieces e ⊎ (
 -- order byte, second order byte, pieces, and the shape of part k that they make
 unfoldable pub IsSetupFault : ℕ → ℕ → ℕ → List ℕ → ℕ → TableFault → Type 0
 IsSetupFault m sides k body =
-    InTurn (PassEnd 1 body) (IsByte body) (λ order.
-    InTurn (IsSecondFault m body) (IsSecond m body) (λ second.
-    InTurn (PassEnd (length (pieces_of m)) body) (AreBytes (length (pieces_of m)) body) (λ men _.
+    HasFaultInTurn (PassEnd 1 body) (IsByte body) (λ order.
+    HasFaultInTurn (IsSecondFault m body) (IsSecond m body) (λ second.
+    HasFaultInTurn (PassEnd (length (pieces_of m)) body) (AreBytes (length (pieces_of m)) body) (λ men _.
     IsShapeFault m (map (nibble (side_of (k % sides))) men) (layout m (map (nibble (side_of (k % sides))) men) (nibble (side_of (k % sides)) order) (nibble (side_of (k % sides)) second) (k / sides)))))
 
 -- ---- size records
 
 unfoldable pub IsExponentFault : ℕ → ℕ → List ℕ → ℕ → TableFault → Type 0
-IsExponentFault least greatest body = InTurn (PassEnd 1 body) (IsByte body) (λ exponent _. IsNot ((least ≤ exponent) × (exponent ≤ greatest)) BadExponent)
+IsExponentFault least greatest body = HasFaultInTurn (PassEnd 1 body) (IsByte body) (λ exponent _. IsNot ((least ≤ exponent) × (exponent ≤ greatest)) BadExponent)
 
 -- the first fault of the dictionary's own bytes
 abbrev pub IsDictionaryFault : List ℕ → ℕ → TableFault → Type 0
-IsDictionaryFault body p e = (fault : DictFault) × (dictionary_at (drop p body) ≡ Err fault) × (e ≡ fault_of fault)
+IsDictionaryFault body p e = (fault : DictFault) × (dictionary_at (drop p body) ≡ Err fault) × (e ≡ dictionary_fault fault)
 
 -- exponents of the block size and of the span, padding entries, blocks, dictionary
 unfoldable pub IsCodesFault : List ℕ → ℕ → TableFault → Type 0
 IsCodesFault body =
-    InTurn (IsExponentFault 0 24 body) (IsExponent 0 24 body) (λ _.
-    InTurn (IsExponentFault 1 31 body) (IsExponent 1 31 body) (λ _.
-    InTurn (PassEnd 1 body) (IsByte body) (λ _.
-    InTurn (PassEnd 4 body) (IsNumber 4 body) (λ _. IsDictionaryFault body))))
+    HasFaultInTurn (IsExponentFault 0 24 body) (IsExponent 0 24 body) (λ _.
+    HasFaultInTurn (IsExponentFault 1 31 body) (IsExponent 1 31 body) (λ _.
+    HasFaultInTurn (PassEnd 1 body) (IsByte body) (λ _.
+    HasFaultInTurn (PassEnd 4 body) (IsNumber 4 body) (λ _. IsDictionaryFault body))))
 
 -- the byte of a single value, or codes
 abbrev pub IsCodingFault : List ℕ → ℕ → ℕ → TableFault → Type 0
 IsCodingFault body flags p e = ((128 ≤ flags) × PassEnd 1 body p e) ⊎ ((flags < 128) × IsCodesFault body p e)
 
 unfoldable pub IsSizeRecordFault : List ℕ → ℕ → TableFault → Type 0
-IsSizeRecordFault body = InTurn (PassEnd 1 body) (IsByte body) (IsCodingFault body)
+IsSizeRecordFault body = HasFaultInTurn (PassEnd 1 body) (IsByte body) (IsCodingFault body)
 
 -- ---- value maps
 
 -- a length, and that many entries
 abbrev pub IsMapFault : Bool → List ℕ → ℕ → TableFault → Type 0
-IsMapFault true body = InTurn (PassEnd 2 body) (IsNumber 2 body) (λ n. PassEnd (2 * n) body)
-IsMapFault false body = InTurn (PassEnd 1 body) (IsByte body) (λ n. PassEnd n body)
+IsMapFault true body = HasFaultInTurn (PassEnd 2 body) (IsNumber 2 body) (λ n. PassEnd (2 * n) body)
+IsMapFault false body = HasFaultInTurn (PassEnd 1 body) (IsByte body) (λ n. PassEnd n body)
 
 -- maps of wins, losses, cursed wins and blessed losses
 unfoldable pub IsFourFault : Bool → List ℕ → ℕ → TableFault → Type 0
 IsFourFault wide body =
-    InTurn (IsMapFault wide body) (IsMap wide body) (λ _.
-    InTurn (IsMapFault wide body) (IsMap wide body) (λ _.
-    InTurn (IsMapFault wide body) (IsMap wide body) (λ _. IsMapFault wide body)))
+    HasFaultInTurn (IsMapFault wide body) (IsMap wide body) (λ _.
+    HasFaultInTurn (IsMapFault wide body) (IsMap wide body) (λ _.
+    HasFaultInTurn (IsMapFault wide body) (IsMap wide body) (λ _. IsMapFault wide body)))
 
 abbrev pub IsMapsFault : List ℕ → Part → ℕ → TableFault → Type 0
 IsMapsFault body part p e =
@@ -111,7 +111,7 @@ IsSectionFault section body part p e = (start : ℕ) × IsSectionStart section p
 
 -- a section of each part in turn
 abbrev pub InSection : Section → List ℕ → List Part → (List (List ℕ) → ℕ → TableFault → Type 0) → ℕ → TableFault → Type 0
-InSection section body parts = InTurn (InEach (IsSectionFault section body) (λ part. IsSection section part body) parts) (Each (λ part. IsSection section part body) parts)
+InSection section body parts = HasFaultInTurn (InEach (IsSectionFault section body) (λ part. IsSection section part body) parts) (Each (λ part. IsSection section part body) parts)
 
 -- ---- the whole file
 
@@ -125,17 +125,17 @@ IsSectionsFault body parts =
 -- size records, from an even place on, value maps, and sections
 unfoldable pub IsRecordsFault : TableKind → List ℕ → List Layout → ℕ → TableFault → Type 0
 IsRecordsFault kind body shapes p e =
-    (q : ℕ) × IsRaised 2 p q × InTurn (InEach (λ _. IsSizeRecordFault body) (λ shape. IsPart kind shape body) shapes) (Each (λ shape. IsPart kind shape body) shapes) (λ parts.
-    InTurn (IsAllMapsFault kind parts body) (AreAllMaps kind parts body) (λ _. IsSectionsFault body parts)) q e
+    (q : ℕ) × IsRaised 2 p q × HasFaultInTurn (InEach (λ _. IsSizeRecordFault body) (λ shape. IsPart kind shape body) shapes) (Each (λ shape. IsPart kind shape body) shapes) (λ parts.
+    HasFaultInTurn (IsAllMapsFault kind parts body) (AreAllMaps kind parts body) (λ _. IsSectionsFault body parts)) q e
 
 -- all behind the flags
 unfoldable pub IsPartsFault : TableKind → ℕ → List ℕ → ℕ → TableFault → Type 0
 IsPartsFault kind m body =
-    InTurn (InEach (λ k. IsSetupFault m (sides_of kind m) k body) (λ k. IsSetup m (sides_of kind m) k body) (range_with_len 0 (part_count kind m)))
-    (Each (λ k. IsSetup m (sides_of kind m) k body) (range_with_len 0 (part_count kind m))) (IsRecordsFault kind body)
+    HasFaultInTurn (InEach (λ k. IsSetupFault m (side_count kind m) k body) (λ k. IsSetup m (side_count kind m) k body) (range_with_len 0 (part_count kind m)))
+    (Each (λ k. IsSetup m (side_count kind m) k body) (range_with_len 0 (part_count kind m))) (IsRecordsFault kind body)
 
 -- the name of a table file of this kind and material
-pub record IsNamed (name : List ℕ) (kind : TableKind) (m : ℕ) : Type 0 where
+pub record IsTableFileName (name : List ℕ) (kind : TableKind) (m : ℕ) : Type 0 where
   pub known : m < 145
   pub named : name ≡ file_name kind m
 
@@ -146,14 +146,14 @@ pub record IsSized (file body : List ℕ) : Type 0 where
   pub body_is : body ≡ take (length file - 16) file
 
 -- The first fault of a file of this name.
-pub data IsFirstFault (name file : List ℕ) : TableFault → Type 0 where
-  bad_name : ((kind : TableKind) (m : ℕ) → IsNamed name kind m → ⊥) → IsFirstFault name file BadName
-  bad_size : (kind : TableKind) (m : ℕ) → IsNamed name kind m → ((body : List ℕ) → IsSized file body → ⊥) → IsFirstFault name file BadSize
-  bad_magic : (kind : TableKind) (m : ℕ) (body : List ℕ) → IsNamed name kind m → IsSized file body → (IsNumber 4 body 0 (magic_of kind) 4 → ⊥) → IsFirstFault name file BadMagic
-  bad_flags : (kind : TableKind) (m : ℕ) (body : List ℕ) (flags : ℕ) → IsNamed name kind m → IsSized file body → IsNumber 4 body 0 (magic_of kind) 4 → IsByte body 4 flags 5 → (flags_agree kind m flags ≡ true → ⊥)
-      → IsFirstFault name file BadFlags
-  in_parts : {e : TableFault} (kind : TableKind) (m : ℕ) (body : List ℕ) → IsHead name file kind m body → IsPartsFault kind m body 5 e → IsFirstFault name file e
+pub data IsFirstTableFault (name file : List ℕ) : TableFault → Type 0 where
+  bad_name : ((kind : TableKind) (m : ℕ) → IsTableFileName name kind m → ⊥) → IsFirstTableFault name file BadName
+  bad_size : (kind : TableKind) (m : ℕ) → IsTableFileName name kind m → ((body : List ℕ) → IsSized file body → ⊥) → IsFirstTableFault name file BadSize
+  bad_magic : (kind : TableKind) (m : ℕ) (body : List ℕ) → IsTableFileName name kind m → IsSized file body → (IsNumber 4 body 0 (magic_of kind) 4 → ⊥) → IsFirstTableFault name file BadMagic
+  bad_flags : (kind : TableKind) (m : ℕ) (body : List ℕ) (flags : ℕ) → IsTableFileName name kind m → IsSized file body → IsNumber 4 body 0 (magic_of kind) 4 → IsByte body 4 flags 5 → (flags_agree kind m flags ≡ true → ⊥)
+      → IsFirstTableFault name file BadFlags
+  in_parts : {e : TableFault} (kind : TableKind) (m : ℕ) (body : List ℕ) → IsHead name file kind m body → IsPartsFault kind m body 5 e → IsFirstTableFault name file e
 
 -- Reading reports a fault exactly where it is the file's first one.
 abbrev pub TellsFirstFault : Type 0
-TellsFirstFault = (name file : List ℕ) (e : TableFault) → ((table_at name file ≡ Err e) ↔ IsFirstFault name file e)
+TellsFirstFault = (name file : List ℕ) (e : TableFault) → ((contents_at name file ≡ Err e) ↔ IsFirstTableFault name file e)

@@ -17,12 +17,12 @@ use Rattle.table_file.specs.declared.parts.Section.{Section}
 use Rattle.table_file.specs.declared.parts.Section.TheVariants.{Entries, Lengths, Blocks}
 use Rattle.table_file.specs.Reading.{has_bit}
 use Rattle.table_file.specs.Names.{file_name}
-use Rattle.table_file.specs.Figures.{Figures, span, points}
+use Rattle.table_file.specs.Figures.{Figures, span, sparse_entry_count}
 use Rattle.table_file.specs.SizeRecords.{single_value}
-use Rattle.table_file.specs.Files.{sides_of, side_of, indices, magic_of, flags_agree, nibble, section_size}
+use Rattle.table_file.specs.Files.{side_count, side_of, indices, magic_of, flags_agree, nibble, section_size}
 use Rattle.table_file.specs.Maps.{ValueMaps, no_maps}
 use Rattle.table_file.specs.Sparse.{sizes_of, values_before, entry_block, entry_offset}
-use Rattle.table_file.specs.Tables.{Contents, part_count, table_at}
+use Rattle.table_file.specs.Tables.{Contents, contents_at, part_count}
 
 -- ---- bytes and numbers
 
@@ -172,7 +172,7 @@ pub record IsSparseEntry (sizes : List ℕ) (span : ℕ) (entries : List ℕ) (k
 
 abbrev pub AreSparseEntries : ℕ → Coding → List ℕ → List ℕ → Type 0
 AreSparseEntries size (Single v) entries lengths = Unit {0}
-AreSparseEntries size (Pairs c) entries lengths = (k : ℕ) → k < points size c → IsSparseEntry (sizes_of lengths) (span c) entries k
+AreSparseEntries size (Pairs c) entries lengths = (k : ℕ) → k < sparse_entry_count size c → IsSparseEntry (sizes_of lengths) (span c) entries k
 
 abbrev pub AllSparseEntries : List Part → List (List ℕ) → List (List ℕ) → Type 0
 AllSparseEntries [] entries lengths = Unit {0}
@@ -202,7 +202,7 @@ pub record AreParts (body : List ℕ) (t : Contents) : Type 0 where
   pub at_lengths : ℕ
   pub at_blocks : ℕ
   pub at_end : ℕ
-  pub setups : Each (λ k. IsSetup t.material (sides_of t.kind t.material) k body) (range_with_len 0 (part_count t.kind t.material)) 5 shapes at_padding
+  pub setups : Each (λ k. IsSetup t.material (side_count t.kind t.material) k body) (range_with_len 0 (part_count t.kind t.material)) 5 shapes at_padding
   pub padding : IsRaised 2 at_padding at_size_records
   pub size_records : Each (λ shape. IsPart t.kind shape body) shapes at_size_records t.parts at_maps
   pub maps : AreAllMaps t.kind t.parts body at_maps t.maps at_entries
@@ -219,4 +219,4 @@ pub record IsLayout (name file : List ℕ) (t : Contents) : Type 0 where
 
 -- Reading gives the parts of a file exactly where the file has them.
 abbrev pub ReadsWhatIsLaidOut : Type 0
-ReadsWhatIsLaidOut = (name file : List ℕ) (t : Contents) → ((table_at name file ≡ Ok t) ↔ IsLayout name file t)
+ReadsWhatIsLaidOut = (name file : List ℕ) (t : Contents) → ((contents_at name file ≡ Ok t) ↔ IsLayout name file t)

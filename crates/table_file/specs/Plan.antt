@@ -5,7 +5,7 @@ use Rattle.pair_dict.specs.Symbols.{values_of, symbol_count, AllHaveValues}
 use Rattle.pair_dict.specs.Codes.{Pairing, bases, IsCode}
 use Rattle.pair_dict.specs.Reading.{falls}
 use Rattle.place_index.specs.Shape.{Layout, layout, size_of, both_have_pawns, HasGoodPieces, HasGoodOrder}
-use Rattle.table_file.specs.Files.{files_of, sides_of}
+use Rattle.table_file.specs.Files.{files_of, side_count}
 use Rattle.table_file.specs.declared.forging.codes.Code.{Code}
 use Rattle.table_file.specs.declared.plan.MapsPlan.{MapsPlan}
 use Rattle.table_file.specs.declared.kind.TableKind.{TableKind}
@@ -98,8 +98,8 @@ abbrev pub code_of : PairsPlan → ℕ → Code
 code_of q s = code_by q.least q.lowest.items s
 
 -- how many values a block's symbols stand for
-abbrev pub count_of : List ℕ → List ℕ → ℕ
-count_of symbols block = length (symbols_values symbols block)
+abbrev pub value_count : List ℕ → List ℕ → ℕ
+value_count symbols block = length (symbols_values symbols block)
 
 -- how many bits the codes of symbols have
 abbrev pub codes_size : (ℕ → Code) → List ℕ → ℕ
@@ -132,8 +132,8 @@ pub record FitsBlock (q : PairsPlan) (block : List ℕ) : Type 0 where
 
 -- Each block has 1 to 65536 values. Those before each block are below the size, and those of all blocks aren't.
 pub record AreGoodBlocks (q : PairsPlan) (size : ℕ) : Type 0 where
-  pub some : All (λ block. 1 ≤ count_of (symbol_bytes q) block.items) q.blocks.items
-  pub few : All (λ block. count_of (symbol_bytes q) block.items ≤ 65536) q.blocks.items
+  pub some : All (λ block. 1 ≤ value_count (symbol_bytes q) block.items) q.blocks.items
+  pub few : All (λ block. value_count (symbol_bytes q) block.items ≤ 65536) q.blocks.items
   pub needed : (n : ℕ) → n < length q.blocks.items → length (first_values q n) < size
   pub enough : size ≤ length (first_values q (length q.blocks.items))
 
@@ -191,5 +191,5 @@ pub record IsGoodPart (kind : TableKind) (material : ℕ) (p : PartPlan) (file :
 
 -- as many parts as the material has, each a good one
 pub record IsGoodPlan (kind : TableKind) (material : ℕ) (parts : List PartPlan) : Type 0 where
-  pub count : length parts ≡ files_of material * sides_of kind material
-  pub each : (k : ℕ) (p : PartPlan) → slice_get parts k ≡ Some p → IsGoodPart kind material p (k / sides_of kind material)
+  pub count : length parts ≡ files_of material * side_count kind material
+  pub each : (k : ℕ) (p : PartPlan) → slice_get parts k ≡ Some p → IsGoodPart kind material p (k / side_count kind material)

@@ -13,8 +13,8 @@ use Rattle.table_file.specs.declared.plan.MapsPlan.{MapsPlan}
 use Rattle.table_file.specs.declared.plan.Content.{Content}
 use Rattle.table_file.specs.declared.plan.Content.TheVariants.{Single, Pairs}
 use Rattle.table_file.specs.Reading.{has_bit}
-use Rattle.table_file.specs.Files.{is_symmetric, sides_of, magic_of}
-use Rattle.table_file.specs.Plan.{symbol_bytes, count_of, last_point, planned_shape, second_nibble, map_bytes, is_wide, code_of, codes_size}
+use Rattle.table_file.specs.Files.{is_symmetric, side_count, magic_of}
+use Rattle.table_file.specs.Plan.{symbol_bytes, value_count, last_point, planned_shape, second_nibble, map_bytes, is_wide, code_of, codes_size}
 
 -- zeros up to the next length that m divides
 unfoldable pub filled_to : ℕ → List ℕ → List ℕ
@@ -92,7 +92,7 @@ cut_lengths (count ∷ counts) left = ((if nat_le count left then count else lef
 -- the lengths of the blocks, and of the padding entries behind them
 unfoldable pub planned_lengths : PairsPlan → ℕ → List ℕ
 planned_lengths q size =
-    cut_lengths (map (λ block. count_of (symbol_bytes q) block.items) q.blocks.items) size ++ replicate (padding_for (planned_span q) size) 65535
+    cut_lengths (map (λ block. value_count (symbol_bytes q) block.items) q.blocks.items) size ++ replicate (padding_for (planned_span q) size) 65535
 
 -- the block that holds the value of an index, and the offset there
 unfoldable pub spot_among : List ℕ → ℕ → ℕ × ℕ
@@ -116,13 +116,13 @@ codes_number code before [] = before
 codes_number code before (s ∷ block) = codes_number code (before * 2 ^ (code s).length + (code s).bits) block
 
 -- so many bytes of a number, the highest first
-unfoldable pub bytes_of : ℕ → ℕ → List ℕ
-bytes_of zero n = []
-bytes_of (suc k) n = n / 2 ^ (8 * k) % 256 ∷ bytes_of k n
+unfoldable pub big_endian_bytes : ℕ → ℕ → List ℕ
+big_endian_bytes zero n = []
+big_endian_bytes (suc k) n = n / 2 ^ (8 * k) % 256 ∷ big_endian_bytes k n
 
 -- so many bytes that begin with the bits of these codes, the high bits first, and then zeros
 unfoldable pub block_bytes : (ℕ → Code) → ℕ → List ℕ → List ℕ
-block_bytes code size block = bytes_of size (codes_number code 0 block * 2 ^ (8 * size - codes_size code block))
+block_bytes code size block = big_endian_bytes size (codes_number code 0 block * 2 ^ (8 * size - codes_size code block))
 
 unfoldable pub blocks_bytes : PairsPlan → List ℕ
 blocks_bytes q = flat_map (λ block. block_bytes (code_of q) (2 ^ q.block_exponent) block.items) q.blocks.items
@@ -191,19 +191,19 @@ with_blocks file (l ∷ parts) = with_blocks (filled_to 64 file ++ l.blocks) par
 
 -- what stands before the size records
 unfoldable pub front_bytes : Plan → List ℕ
-front_bytes plan = filled_to 2 (head_bytes plan.kind plan.material ++ setups_bytes (sides_of plan.kind plan.material) plan.parts.items)
+front_bytes plan = filled_to 2 (head_bytes plan.kind plan.material ++ setups_bytes (side_count plan.kind plan.material) plan.parts.items)
 
 -- the sections behind the maps
 unfoldable pub with_sections : List ℕ → List Laid → List ℕ
 with_sections file laid = with_blocks (file ++ flat_map (λ l. l.entries) laid ++ flat_map (λ l. l.lengths) laid) laid
 
 -- fill, and a checksum of zeros
-unfoldable pub ended : List ℕ → List ℕ
-ended file = filled_to 64 file ++ replicate 16 0
+unfoldable pub ended_file : List ℕ → List ℕ
+ended_file file = filled_to 64 file ++ replicate 16 0
 
 unfoldable pub file_with : Plan → List Laid → List ℕ
-file_with plan laid = ended (with_sections (with_all_maps plan.kind (front_bytes plan ++ flat_map (λ l. l.size_record) laid) plan.parts.items) laid)
+file_with plan laid = ended_file (with_sections (with_all_maps plan.kind (front_bytes plan ++ flat_map (λ l. l.size_record) laid) plan.parts.items) laid)
 
 -- The bytes of the file: head, orders and pieces, size records, value maps, sparse entries, block lengths, blocks, checksum.
-unfoldable pub file_of : Plan → List ℕ
-file_of plan = file_with plan (laid_parts plan.material (sides_of plan.kind plan.material) 0 plan.parts.items)
+unfoldable pub planned_file : Plan → List ℕ
+planned_file plan = file_with plan (laid_parts plan.material (side_count plan.kind plan.material) 0 plan.parts.items)

@@ -53,8 +53,8 @@ taken_at n bytes = if nat_lt (length bytes) n then Err Truncated else Ok (take n
 unfoldable pub word_at : List ℕ → Result (ℕ × List ℕ) TableFault
 word_at bytes = if nat_lt (length bytes) 2 then Err Truncated else Ok (little_number 2 bytes, drop 2 bytes)
 
-unfoldable pub number_at : List ℕ → Result (ℕ × List ℕ) TableFault
-number_at bytes = if nat_lt (length bytes) 4 then Err Truncated else Ok (little_number 4 bytes, drop 4 bytes)
+unfoldable pub four_bytes_at : List ℕ → Result (ℕ × List ℕ) TableFault
+four_bytes_at bytes = if nat_lt (length bytes) 4 then Err Truncated else Ok (little_number 4 bytes, drop 4 bytes)
 
 -- an exponent between two bounds
 unfoldable pub exponent_at : ℕ → ℕ → List ℕ → Result (ℕ × List ℕ) TableFault

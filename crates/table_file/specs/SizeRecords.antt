@@ -7,7 +7,7 @@ use Rattle.table_file.specs.declared.size_record.Coding.{Coding}
 use Rattle.table_file.specs.declared.size_record.Coding.TheVariants.{Single, Pairs}
 use Rattle.table_file.specs.declared.size_record.SizeRecord.{SizeRecord}
 use Rattle.table_file.specs.Figures.{Figures}
-use Rattle.table_file.specs.Reading.{◌>>=◌, byte_at, number_at, exponent_at}
+use Rattle.table_file.specs.Reading.{◌>>=◌, byte_at, four_bytes_at, exponent_at}
 use Rattle.table_file.specs.Dictionaries.{pairing_at}
 
 -- exponents of the block size and of the span, padding entries, blocks, dictionary
@@ -16,7 +16,7 @@ codes_at bytes = do
   block ← exponent_at 0 24 bytes
   span ← exponent_at 1 31 block.1
   padding ← byte_at span.1
-  blocks ← number_at padding.1
+  blocks ← four_bytes_at padding.1
   dictionary ← pairing_at blocks.1
   Ok (record { block_exponent = block.0; span_exponent = span.0; padding = padding.0; blocks = blocks.0; dictionary = dictionary.0 }, dictionary.1)
 

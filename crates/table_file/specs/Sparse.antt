@@ -3,7 +3,7 @@ use Rattle.std.specs.Prelude.{◌≡◌, ℕ, zero, suc, ◌+◌, ◌*◌, ◌/�
 use Rattle.table_file.specs.declared.size_record.Coding.{Coding}
 use Rattle.table_file.specs.declared.size_record.Coding.TheVariants.{Single, Pairs}
 use Rattle.table_file.specs.declared.parts.Part.{Part}
-use Rattle.table_file.specs.Figures.{span, points}
+use Rattle.table_file.specs.Figures.{span, sparse_entry_count}
 use Rattle.table_file.specs.Files.{indices}
 
 -- how many values each block holds: one more than its length, of two bytes, the low one first
@@ -36,7 +36,7 @@ are_entries sizes span entries (suc k) = is_entry sizes span entries k && are_en
 -- all entries of a part do
 abbrev pub fits_in : ℕ → Coding → List ℕ → List ℕ → Bool
 fits_in size (Single v) entries lengths = true
-fits_in size (Pairs c) entries lengths = are_entries (sizes_of lengths) (span c) entries (points size c)
+fits_in size (Pairs c) entries lengths = are_entries (sizes_of lengths) (span c) entries (sparse_entry_count size c)
 
 -- all entries of all parts do
 unfoldable pub all_fit : List Part → List (List ℕ) → List (List ℕ) → Bool

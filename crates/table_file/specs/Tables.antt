@@ -14,7 +14,7 @@ use Rattle.table_file.specs.declared.parts.Section.TheVariants.{Entries, Lengths
 use Rattle.table_file.specs.Reading.{◌>>=◌, each_at, risen}
 use Rattle.table_file.specs.Names.{title_of}
 use Rattle.table_file.specs.Figures.{span}
-use Rattle.table_file.specs.Files.{sides_of, files_of, side_of, body_of, magic_at, flags_at, setup_at, part_at, section_at}
+use Rattle.table_file.specs.Files.{side_count, files_of, side_of, body_of, magic_at, flags_at, setup_at, part_at, section_at}
 use Rattle.table_file.specs.Maps.{ValueMaps, all_maps_at}
 use Rattle.table_file.specs.Sparse.{all_fit}
 
@@ -50,19 +50,19 @@ sections_at kind material parts maps bytes = do
 
 -- how many parts a file has
 abbrev pub part_count : TableKind → ℕ → ℕ
-part_count kind material = files_of material * sides_of kind material
+part_count kind material = files_of material * side_count kind material
 
 -- shapes, size records and value maps, and then the sections
 unfoldable pub parts_at : TableKind → ℕ → List ℕ → Result Contents TableFault
 parts_at kind material bytes = do
-  shapes ← each_at (setup_at material (sides_of kind material)) (range_with_len 0 (part_count kind material)) bytes
+  shapes ← each_at (setup_at material (side_count kind material)) (range_with_len 0 (part_count kind material)) bytes
   parts ← each_at (part_at kind) shapes.0 (risen 2 shapes.1)
   maps ← all_maps_at kind parts.0 parts.1
   sections_at kind material parts.0 maps.0 maps.1
 
 -- the whole file of that name
-unfoldable pub table_at : List ℕ → List ℕ → Result Contents TableFault
-table_at name file = do
+unfoldable pub contents_at : List ℕ → List ℕ → Result Contents TableFault
+contents_at name file = do
   head ← head_at name file
   parts_at head.0.0 head.0.1 head.1
 
@@ -79,15 +79,15 @@ part_for t side file = record { table = t; side = side; file = file }
 
 -- part k of a table
 abbrev pub nth_part : Contents → ℕ → PartAt
-nth_part t k = part_for t (side_of (k % sides_of t.kind t.material)) (k / sides_of t.kind t.material)
+nth_part t k = part_for t (side_of (k % side_count t.kind t.material)) (k / side_count t.kind t.material)
 
 -- a file of the leading pawn, and 0 where there are no pawns
 abbrev pub part_file : ℕ → ℕ → ℕ
 part_file material file = if has_pawns material then file else 0
 
 -- The place of a part. A table without pawns doesn't look at the file, and one of one side not at the side.
-abbrev pub place_of : PartAt → ℕ
-place_of p = part_file p.table.material p.file * sides_of p.table.kind p.table.material + side_number p.side % sides_of p.table.kind p.table.material
+abbrev pub part_place : PartAt → ℕ
+part_place p = part_file p.table.material p.file * side_count p.table.kind p.table.material + side_number p.side % side_count p.table.kind p.table.material
 
 -- a placement for the table, by whose file of the leading pawn the part was found
 pub record IsAskedBy (p : PartAt) (placed : Placement) : Type 0 where
@@ -96,13 +96,13 @@ pub record IsAskedBy (p : PartAt) (placed : Placement) : Type 0 where
   pub first : has_pawns placed.material ≡ false → placed.file ≡ 0
 
 abbrev pub part_of : PartAt → Option Part
-part_of p = slice_get p.table.parts (place_of p)
+part_of p = slice_get p.table.parts (part_place p)
 
 abbrev pub lengths_of : PartAt → List ℕ
-lengths_of p = slice_index_or p.table.lengths (place_of p) []
+lengths_of p = slice_index_or p.table.lengths (part_place p) []
 
 abbrev pub blocks_of : PartAt → List ℕ
-blocks_of p = slice_index_or p.table.blocks (place_of p) []
+blocks_of p = slice_index_or p.table.blocks (part_place p) []
 
 abbrev pub shape_in : Option Part → Option Layout
 shape_in None = None

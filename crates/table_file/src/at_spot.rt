@@ -3,7 +3,7 @@
 ghost use Rattle.std.specs.Prelude.{◌≡◌, ◌<◌, ◌≤◌, ℕ, slice_get, Some, None, IfOk, OnErr};
 ghost use Rattle.table_file.specs.declared.kind.TableKind.TheVariants.{Dtz};
 ghost use Rattle.table_file.specs.declared.spots.Spot.TheVariants.{At};
-ghost use Rattle.table_file.specs.Expansion.{expansion, entry_at, real_blocks, values_of, IsSpot};
+ghost use Rattle.table_file.specs.Expansion.{expansion, entry_at, real_blocks, part_block_values, IsSpot};
 ghost use Rattle.table_file.specs.Distances.{distance};
 
 use crate::outcome::{Outcome, counts_moves, plies};
@@ -39,7 +39,7 @@ impl<'t, 'a> TablePart<'t, 'a> {
     /// The value at an offset among the values that `unpack` gave for a block. It is the one that `value` gives at the
     /// index for which `locate` gave that spot; none where that is damaged.
     pub fn value_among(&self, block: u32, offset: u32, values: &[u16]) -> Option<u16>
-        requires values { values.now ≡ values_of self.now block }
+        requires values { values.now ≡ part_block_values self.now block }
         ensures { (index : ℕ) → IsSpot self.now index (At block offset) → result ≡ entry_at (expansion self.now) index }
     {
         // Called for its contract: what was checked of the part.

@@ -1,7 +1,7 @@
 //! How the blocks of a file and a side are coded.
 
 ghost use Rattle.std.specs.Prelude.{◌≡◌, ◌≤◌, ◌<◌, ◌+◌, ◌*◌, ◌/◌, ◌^◌};
-ghost use Rattle.table_file.specs.Figures.{block_size, span, points};
+ghost use Rattle.table_file.specs.Figures.{block_size, span, sparse_entry_count};
 
 use pair_dict::Dictionary;
 use std::marker::Model;
@@ -71,7 +71,7 @@ impl<'a> Codes<'a> {
     /// How many sparse entries there are for so many indices.
     pub(crate) fn points(&self, size: u64) -> usize
         requires { size ≤ 2 ^ 32 }
-        ensures is { result ≡ points size self.now }
+        ensures is { result ≡ sparse_entry_count size self.now }
         ensures few { result ≤ size }
     {
         let span = self.span();

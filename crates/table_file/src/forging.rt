@@ -4,7 +4,7 @@ ghost use Rattle.std.specs.Prelude.{◌≡◌, ◌≢◌, IfOk, IfErr, OnOk, IfS
 ghost use Rattle.std.specs.Io.KnownBytes.{Appends};
 ghost use Rattle.table_file.specs.Names.{ending, file_name};
 ghost use Rattle.table_file.specs.Plan.{IsGoodPlan};
-ghost use Rattle.table_file.specs.PlannedFile.{file_of};
+ghost use Rattle.table_file.specs.PlannedFile.{planned_file};
 ghost use Rattle.table_file.specs.Forged.{OpensAs, CanBeForged};
 
 use crate::fault::TableFault;
@@ -83,8 +83,8 @@ fn is_right(alloc: Global, plan: &Plan, file: &[u8]) -> Result<bool, AllocError>
 /// The bytes of the file that a plan describes. There are none where the plan breaks a rule of plans, or the file
 /// doesn't say what the plan says.
 fn forged(alloc: Global, plan: &Plan) -> Result<Option<Vec<u8>>, AllocError>
-    ensures found { IfOk result (λ o. IfSome o (λ file. file.items ≡ file_of plan.now)) }
-    ensures good { IfOk result (λ o. IfSome o (λ _. IsGoodPlan plan.now.kind plan.now.material plan.now.parts.items × OpensAs plan.now (file_of plan.now))) }
+    ensures found { IfOk result (λ o. IfSome o (λ file. file.items ≡ planned_file plan.now)) }
+    ensures good { IfOk result (λ o. IfSome o (λ _. IsGoodPlan plan.now.kind plan.now.material plan.now.parts.items × OpensAs plan.now (planned_file plan.now))) }
     ensures bad { IfOk result (λ o. IfNone o (CanBeForged plan.now → ⊥)) }
 {
     let Some(file) = laid_out(alloc, plan)? else {
@@ -104,7 +104,7 @@ fn forged(alloc: Global, plan: &Plan) -> Result<Option<Vec<u8>>, AllocError>
 /// is refused. Both leave the writer as it was. `Io` comes only where the writer failed, and some bytes may be out
 /// then.
 pub fn forge<W: Write>(alloc: Global, plan: &Plan, out: &mut W) -> Result<(), ForgeFault>
-    ensures ok { OnOk result (Appends (W.contents out.old) (W.contents out.new) (file_of plan.now)) }
+    ensures ok { OnOk result (Appends (W.contents out.old) (W.contents out.new) (planned_file plan.now)) }
     ensures good { OnOk result (CanBeForged plan.now) }
     ensures bad { IsErrOf result ForgeFault.BadPlan → CanBeForged plan.now → ⊥ }
     ensures io { IsErrOf result ForgeFault.Io → CanBeForged plan.now }

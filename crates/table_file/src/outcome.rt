@@ -1,7 +1,7 @@
 //! Outcomes of a game, and how far a DTZ table's values reach for each.
 
 ghost use Rattle.std.specs.Prelude.{◌≡◌, ◌≤◌};
-ghost use Rattle.table_file.specs.Distances.{counts_moves, plies};
+ghost use Rattle.table_file.specs.Distances.{counts_moves, value_in_plies};
 
 use crate::reading::has_bit;
 
@@ -31,7 +31,7 @@ pub(crate) fn counts_moves(flags: u8, outcome: Outcome) -> bool
 
 /// The plies of a value that counts moves of one side or plies.
 pub(crate) fn plies(moves: bool, value: u16) -> u32
-    ensures is { result ≡ plies moves value }
+    ensures is { result ≡ value_in_plies moves value }
     ensures most { result ≤ 131070 }
 {
     let value = value as u32;

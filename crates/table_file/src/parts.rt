@@ -10,7 +10,7 @@ ghost use Rattle.table_file.specs.Tables.{part_count};
 ghost use Rattle.table_file.specs.Inside.Opening.{both_setups_at};
 ghost use Rattle.table_file.specs.Inside.Places.{IsPlace};
 ghost use Rattle.table_file.specs.Shapes.{shape_at};
-ghost use Rattle.table_file.specs.Files.{indices, sides_of, body_of, magic_of, magic_at, same, flags_agree, flags_at, nibble, second_at, setup_at, part_at, section_size, section_at};
+ghost use Rattle.table_file.specs.Files.{indices, side_count, body_of, magic_of, magic_at, same, flags_agree, flags_at, nibble, second_at, setup_at, part_at, section_size, section_at};
 
 use crate::fault::TableFault;
 use crate::kind::TableKind;
@@ -228,7 +228,7 @@ pub(crate) fn setups<'a>(
     material: &Material,
     bytes: &'a [u8],
 ) -> Result<(Vec<Shape>, &'a [u8]), TableFault>
-    ensures is { Gives (λ x. (x.0.items, x.1.now)) result (each_at (setup_at material.now (sides_of kind material.now)) (range_with_len 0 (part_count kind material.now)) bytes.now) }
+    ensures is { Gives (λ x. (x.0.items, x.1.now)) result (each_at (setup_at material.now (side_count kind material.now)) (range_with_len 0 (part_count kind material.now)) bytes.now) }
     ensures all { IfOk result (λ x. length x.0.items ≡ part_count kind material.now) }
 {
     let mut shapes = Vec::new(alloc);

@@ -2,7 +2,7 @@
 
 ghost use Rattle.std.specs.Prelude.{◌≡◌, ◌≤◌, ◌<◌, IfSome, IfNone};
 ghost use Rattle.place_index.specs.Placed.{side_number};
-ghost use Rattle.table_file.specs.Files.{sides_of, side_of};
+ghost use Rattle.table_file.specs.Files.{side_count, side_of};
 ghost use Rattle.table_file.specs.Tables.{part_count};
 ghost use Rattle.table_file.specs.Inside.Places.{sides_count, IsPlace};
 
@@ -29,9 +29,9 @@ pub(crate) struct PartPlace {
 
 impl Sides {
     /// Those of a table file of a kind for a material.
-    #[tactic(auto, unfolding(crate::specs::Files::sides_of))]
+    #[tactic(auto, unfolding(crate::specs::Files::side_count))]
     pub(crate) fn of(kind: TableKind, material: &Material) -> Sides
-        ensures { sides_count result ≡ sides_of kind material.now }
+        ensures { sides_count result ≡ side_count kind material.now }
     {
         match kind {
             TableKind::Wdl => {
@@ -88,7 +88,7 @@ pub(crate) fn part_count(kind: TableKind, material: &Material) -> usize
 
 /// The place of part k, where a table file of this kind has so many for the material.
 pub(crate) fn place_at(kind: TableKind, material: &Material, k: usize) -> Option<PartPlace>
-    ensures is { IfSome result (λ place. IsPlace (sides_of kind material.now) k place) }
+    ensures is { IfSome result (λ place. IsPlace (side_count kind material.now) k place) }
     ensures within { IfSome result (λ _. k < part_count kind material.now) }
     ensures none { IfNone result (part_count kind material.now ≤ k) }
 {

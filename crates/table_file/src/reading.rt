@@ -2,7 +2,7 @@
 
 ghost use Rattle.std.specs.Prelude.{◌≡◌, ◌≢◌, ◌≤◌, ◌+◌, ◌*◌, length, slice_index, IfOk, IfErr};
 ghost use Rattle.table_file.specs.declared.fault.TableFault.TheVariants.{OutOfMemory};
-ghost use Rattle.table_file.specs.Reading.{Gives, byte_at, taken_at, word_at, number_at, exponent_at, risen, has_bit};
+ghost use Rattle.table_file.specs.Reading.{Gives, byte_at, taken_at, word_at, four_bytes_at, exponent_at, risen, has_bit};
 
 use crate::fault::TableFault;
 use byteorder::{ByteOrder, LittleEndian};
@@ -76,9 +76,9 @@ pub(crate) fn word(bytes: &[u8]) -> Result<(u16, &[u8]), TableFault>
 }
 
 /// A number of four bytes, the low ones first, and what is left.
-#[tactic(auto, unfolding(crate::specs::Reading::number_at))]
+#[tactic(auto, unfolding(crate::specs::Reading::four_bytes_at))]
 pub(crate) fn number(bytes: &[u8]) -> Result<(u32, &[u8]), TableFault>
-    ensures is { Gives (λ x. (x.0, x.1.now)) result (number_at bytes.now) }
+    ensures is { Gives (λ x. (x.0, x.1.now)) result (four_bytes_at bytes.now) }
     ensures no_memory { IfErr result (λ e. e ≢ OutOfMemory) }
 {
     if bytes.len() < 4 {

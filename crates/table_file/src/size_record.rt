@@ -3,7 +3,7 @@
 ghost use Rattle.std.specs.Prelude.{◌≡◌, ◌≢◌, ◌≤◌, IfErr};
 ghost use Rattle.table_file.specs.declared.fault.TableFault.TheVariants.{OutOfMemory};
 ghost use Rattle.table_file.specs.Reading.{Gives};
-ghost use Rattle.table_file.specs.Dictionaries.{fault_of, pairing_at};
+ghost use Rattle.table_file.specs.Dictionaries.{dictionary_fault, pairing_at};
 ghost use Rattle.table_file.specs.SizeRecords.{codes_at, single_value, single_at, coding_at, size_record_at};
 
 use crate::codes::Codes;
@@ -29,7 +29,7 @@ pub(crate) struct SizeRecord<'a> {
 }
 
 fn fault_of(fault: DictFault) -> TableFault
-    ensures { result ≡ fault_of fault }
+    ensures { result ≡ dictionary_fault fault }
 {
     match fault {
         DictFault::Truncated => TableFault::Truncated,

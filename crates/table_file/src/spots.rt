@@ -2,7 +2,7 @@
 
 ghost use Rattle.std.specs.Prelude.{◌≡◌, ◌+◌, ◌-◌, ◌*◌, ◌/◌, ◌^◌, ◌<◌, ◌≤◌, ◌⊎◌, length, slice_get, slice_index, take, drop, IfOk, OnErr, Some, None};
 ghost use Rattle.pair_dict.specs.Blocks.{block_values};
-ghost use Rattle.table_file.specs.Figures.{block_size, span, points};
+ghost use Rattle.table_file.specs.Figures.{block_size, span, sparse_entry_count};
 ghost use Rattle.table_file.specs.Sparse.{sizes_of, values_before, IsSpotIn};
 ghost use Rattle.table_file.specs.Expansion.{entry_at, expanded, values_in, blocks_in, IsSpotOf, IsShort, IsPast};
 ghost use Rattle.table_file.specs.Inside.Checked.{IsChecked, AreChecked};

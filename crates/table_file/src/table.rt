@@ -9,10 +9,10 @@ ghost use Rattle.table_file.specs.Reading.{Gives};
 ghost use Rattle.table_file.specs.Sparse.{all_fit, fits_in};
 ghost use Rattle.table_file.specs.Sections.{AreShaped, AreSized};
 ghost use Rattle.table_file.specs.Inside.OpenedParts.{plain_parts, all_entries, all_lengths, all_blocks};
-ghost use Rattle.table_file.specs.Tables.{Contents, head_at, sections_at, parts_at, table_at, part_count, part_for, place_of};
+ghost use Rattle.table_file.specs.Tables.{Contents, head_at, sections_at, parts_at, contents_at, part_count, part_for, part_place};
 ghost use Rattle.table_file.specs.Inside.Opening.{checked_at, section_bytes_at, all_parts_at};
 ghost use Rattle.table_file.specs.Layouts.{IsLayout};
-ghost use Rattle.table_file.specs.FirstFaults.{IsFirstFault};
+ghost use Rattle.table_file.specs.FirstFaults.{IsFirstTableFault};
 
 use crate::fault::TableFault;
 use crate::kind::{TableKind, title};
@@ -282,12 +282,12 @@ fn with_parts<'a>(
 /// Each part is checked once, in the order of `TableFault`: name, size, magic and flags first, and then all in the
 /// file's order. The first fault is returned. `OutOfMemory`, where memory is refused, comes only when name, size, magic
 /// and flags are good. The time is linear in the length of the file.
-#[tactic(auto, unfolding(crate::specs::Tables::table_at))]
+#[tactic(auto, unfolding(crate::specs::Tables::contents_at))]
 pub fn open<'a>(alloc: Global, name: &[u8], file: &'a [u8]) -> Result<Table<'a>, TableFault>
-    ensures is { Gives (λ x. x) result (table_at name.now file.now) }
+    ensures is { Gives (λ x. x) result (contents_at name.now file.now) }
     ensures found { IfOk result (λ t. IsLayout name.now file.now t) }
     ensures only { IfErr result (λ e. e ≢ OutOfMemory → (t : Contents) → IsLayout name.now file.now t → ⊥) }
-    ensures first { IfErr result (λ e. e ≢ OutOfMemory → IsFirstFault name.now file.now e) }
+    ensures first { IfErr result (λ e. e ≢ OutOfMemory → IsFirstTableFault name.now file.now e) }
     ensures memory { IfErr result (λ e. e ≡ OutOfMemory → IsOk (head_at name.now file.now)) }
 {
     reads_what_is_laid_out();
@@ -332,7 +332,7 @@ impl<'a> Table<'a> {
 
     /// The number of the part for a side and a file.
     pub(crate) fn place(&self, side: Side, file: PawnFile) -> usize
-        ensures is { result ≡ place_of (part_for self.now side file) }
+        ensures is { result ≡ part_place (part_for self.now side file) }
         ensures known { result < length self.now.parts }
     {
         let file = own_file(self.has_pawns, file);

@@ -6,7 +6,7 @@ ghost use Rattle.place_index.specs.Placed.{Placement, Fits};
 ghost use Rattle.table_file.specs.declared.kind.TableKind.TheVariants.{Dtz};
 ghost use Rattle.table_file.specs.Inside.Checked.{IsChecked, IsViewOf};
 ghost use Rattle.table_file.specs.Tables.{IsAskedBy, part_file, shape_of, flags_of, span_of};
-ghost use Rattle.table_file.specs.Expansion.{expansion, entry_at, real_blocks, values_of, IsSpot, IsRealSpot, IsPast};
+ghost use Rattle.table_file.specs.Expansion.{expansion, entry_at, real_blocks, part_block_values, IsSpot, IsRealSpot, IsPast};
 ghost use Rattle.table_file.specs.Distances.{file_flags, file_maps, mapped_value, stores, distance};
 
 use crate::maps::Maps;
@@ -117,7 +117,7 @@ impl<'t, 'a> TablePart<'t, 'a> {
     /// at most 65536. The only error is that memory is refused.
     pub fn unpack(&self, alloc: Global, block: u32) -> Result<Vec<u16>, AllocError>
         requires real { block < real_blocks self.now }
-        ensures is { IfOk result (λ values. values.items ≡ values_of self.now block) }
+        ensures is { IfOk result (λ values. values.items ≡ part_block_values self.now block) }
         ensures few { IfOk result (λ values. length values.items ≤ 65536) }
     {
         values_in(alloc, self.view(), block as usize)

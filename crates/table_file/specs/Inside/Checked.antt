@@ -3,7 +3,7 @@ use Rattle.std.specs.Prelude.{◌≡◌, ℕ, ◌+◌, ◌*◌, ◌≤◌, true,
 use Rattle.place_index.specs.Shape.{greatest_size}
 use Rattle.table_file.specs.declared.parts.Section.TheVariants.{Entries, Lengths, Blocks}
 use Rattle.table_file.specs.declared.spots.View.{View}
-use Rattle.table_file.specs.Figures.{Figures, span, points}
+use Rattle.table_file.specs.Figures.{Figures, span, sparse_entry_count}
 use Rattle.table_file.specs.Files.{section_size, indices}
 use Rattle.table_file.specs.Sparse.{sizes_of, are_entries, fits_in}
 use Rattle.table_file.specs.Tables.{PartAt, part_of, lengths_of, blocks_of}
@@ -13,9 +13,9 @@ use Rattle.table_file.specs.declared.parts.Part.{Part}
 pub record AreChecked (size : ℕ) (c : Figures) (entries lengths : List ℕ) : Type 0 where
   pub some : 1 ≤ size
   pub most : size ≤ greatest_size
-  pub entries_fit : length entries ≡ 6 * points size c
+  pub entries_fit : length entries ≡ 6 * sparse_entry_count size c
   pub lengths_fit : length lengths ≡ 2 * (c.blocks + c.padding)
-  pub right : are_entries (sizes_of lengths) (span c) entries (points size c) ≡ true
+  pub right : are_entries (sizes_of lengths) (span c) entries (sparse_entry_count size c) ≡ true
 
 -- all sections of a part
 pub record IsChecked (v : View) : Type 0 where

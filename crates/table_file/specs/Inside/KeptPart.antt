@@ -8,14 +8,14 @@ use Rattle.table_file.specs.Sparse.{fits_in}
 use Rattle.table_file.specs.Tables.{PartAt, part_file, part_of, lengths_of, blocks_of}
 
 -- sections of the right sizes, whose sparse entries name the values in the middle of their spans
-pub record IsWhole (o : OpenedPart) : Type 0 where
+pub record IsWholePart (o : OpenedPart) : Type 0 where
   pub entries_fit : length o.entries ≡ section_size Entries (indices o.head.shape) o.head.size_record.coding
   pub lengths_fit : length o.lengths ≡ section_size Lengths (indices o.head.shape) o.head.size_record.coding
   pub blocks_fit : length o.blocks ≡ section_size Blocks (indices o.head.shape) o.head.size_record.coding
   pub right : fits_in (indices o.head.shape) o.head.size_record.coding o.entries o.lengths ≡ true
 
 -- what stands in a table at this place
-pub record StandsAt (p : PartAt) (o : OpenedPart) : Type 0 where
+pub record StandsInTable (p : PartAt) (o : OpenedPart) : Type 0 where
   pub found : part_of p ≡ Some o.head
   pub lengths : o.lengths ≡ lengths_of p
   pub blocks : o.blocks ≡ blocks_of p
@@ -26,5 +26,5 @@ abbrev pub part_of_table : Inside → PartAt
 part_of_table a = record { table = a.table.now; side = a.side; file = a.file }
 
 pub record IsKeptPart (a : Inside) : Type 0 where
-  pub whole : IsWhole a.part.now
-  pub stands : StandsAt (part_of_table a) a.part.now
+  pub whole : IsWholePart a.part.now
+  pub stands : StandsInTable (part_of_table a) a.part.now

@@ -4,7 +4,7 @@ use Rattle.table_file.specs.declared.kind.TableKind.TheVariants.{Dtz}
 use Rattle.table_file.specs.declared.parts.Section.TheVariants.{Entries, Lengths, Blocks}
 use Rattle.table_file.specs.declared.table.Table.TheInside.{Inside}
 use Rattle.place_index.specs.Shape.{has_pawns}
-use Rattle.table_file.specs.Files.{sides_of}
+use Rattle.table_file.specs.Files.{side_count}
 use Rattle.table_file.specs.Inside.Places.{sides_count}
 use Rattle.table_file.specs.Sparse.{all_fit}
 use Rattle.table_file.specs.Tables.{Contents, part_count}
@@ -24,7 +24,7 @@ contents_of a = record {
 
 pub record IsOpened (a : Inside) : Type 0 where
   pub has_pawns : a.has_pawns ≡ has_pawns a.material
-  pub sides : sides_count a.sides ≡ sides_of a.kind a.material
+  pub sides : sides_count a.sides ≡ side_count a.kind a.material
   pub parts : length (plain_parts a.parts.items) ≡ part_count a.kind a.material
   pub shaped : AreShaped a.kind a.material (plain_parts a.parts.items)
   pub maps : a.kind ≡ Dtz → length a.maps.items ≡ length (plain_parts a.parts.items)

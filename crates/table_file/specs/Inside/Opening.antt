@@ -8,7 +8,7 @@ use Rattle.table_file.specs.declared.kind.TableKind.{TableKind}
 use Rattle.table_file.specs.declared.parts.Part.{Part}
 use Rattle.table_file.specs.declared.parts.Section.TheVariants.{Entries, Lengths, Blocks}
 use Rattle.table_file.specs.Reading.{◌>>=◌, each_at, byte_at, taken_at, risen}
-use Rattle.table_file.specs.Files.{sides_of, second_at, setup_at, part_at, section_at}
+use Rattle.table_file.specs.Files.{side_count, second_at, setup_at, part_at, section_at}
 use Rattle.table_file.specs.Sparse.{all_fit}
 use Rattle.table_file.specs.Tables.{part_count}
 
@@ -42,5 +42,5 @@ both_setups_at m bytes = do
 -- shapes and size records, and what is left
 unfoldable pub all_parts_at : TableKind → ℕ → List ℕ → Result (List Part × List ℕ) TableFault
 all_parts_at kind material bytes = do
-  shapes ← each_at (setup_at material (sides_of kind material)) (range_with_len 0 (part_count kind material)) bytes
+  shapes ← each_at (setup_at material (side_count kind material)) (range_with_len 0 (part_count kind material)) bytes
   each_at (part_at kind) shapes.0 (risen 2 shapes.1)

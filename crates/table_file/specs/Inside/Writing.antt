@@ -19,7 +19,7 @@ sum_of counts [] = 0
 sum_of counts (s ∷ block) = slice_index counts s + sum_of counts block
 
 -- so many values stand before a block, so that it is found by what is left of an index
-pub record IsReached (lengths : List ℕ) (block before : ℕ) : Type 0 where
+pub record IsBlockReached (lengths : List ℕ) (block before : ℕ) : Type 0 where
   pub block_found : (index : ℕ) → before ≤ index → (spot_among lengths index).0 ≡ block + (spot_among (drop block lengths) (index - before)).0
   pub offset_found : (index : ℕ) → before ≤ index → (spot_among lengths index).1 ≡ (spot_among (drop block lengths) (index - before)).1
 

@@ -4,9 +4,9 @@ ghost use Rattle.std.specs.Prelude.{◌≡◌, ◌≤◌, ◌<◌, ◌+◌, ◌+
 ghost use Rattle.std.specs.List.{All};
 ghost use Rattle.pair_dict.specs.Symbols.{symbol_count};
 ghost use Rattle.pair_dict.specs.Codes.{number_of};
-ghost use Rattle.table_file.specs.Plan.{symbol_bytes, count_of, code_of, last_point, FitsBlock, AreGoodFigures, AreGoodCodes, AreGoodBlocks};
-ghost use Rattle.table_file.specs.Inside.Writing.{AreCountsOf, sum_of, IsReached, IsHeld};
-ghost use Rattle.table_file.specs.PlannedFile.{padding_for, cut_lengths, spot_among, entry_bytes, entries_bytes, bytes_of, block_bytes, blocks_bytes};
+ghost use Rattle.table_file.specs.Plan.{symbol_bytes, value_count, code_of, last_point, FitsBlock, AreGoodFigures, AreGoodCodes, AreGoodBlocks};
+ghost use Rattle.table_file.specs.Inside.Writing.{AreCountsOf, sum_of, IsBlockReached, IsHeld};
+ghost use Rattle.table_file.specs.PlannedFile.{padding_for, cut_lengths, spot_among, entry_bytes, entries_bytes, big_endian_bytes, block_bytes, blocks_bytes};
 
 use super::codes::{Code, code_of};
 use crate::plan::PairsPlan;
@@ -80,7 +80,7 @@ pub(super) fn lengths_of(
 ) -> Result<Option<Vec<u16>>, AllocError>
     requires counts { AreCountsOf (symbol_bytes plan.now) counts.now }
     requires fit { All (λ block. FitsBlock plan.now block.items) plan.now.blocks.items }
-    ensures found { IfOk result (λ o. IfSome o (λ v. v.items ≡ cut_lengths (map (λ block. count_of (symbol_bytes plan.now) block.items) plan.now.blocks.items) size)) }
+    ensures found { IfOk result (λ o. IfSome o (λ v. v.items ≡ cut_lengths (map (λ block. value_count (symbol_bytes plan.now) block.items) plan.now.blocks.items) size)) }
     ensures good { IfOk result (λ o. IfSome o (λ _. AreGoodBlocks plan.now size)) }
     ensures bad { IfOk result (λ o. IfNone o (AreGoodBlocks plan.now size → ⊥)) }
 {
@@ -154,10 +154,10 @@ struct Place {
 
 /// The block that holds the value of an index, from a block at or before it on.
 fn block_with(lengths: &[u16], from: Place, index: u64) -> Place
-    requires reached { IsReached lengths.now from.block from.before }
+    requires reached { IsBlockReached lengths.now from.block from.before }
     requires before { from.before ≤ index }
     requires small { index < 2 ^ 63 }
-    ensures reached { IsReached lengths.now result.block result.before }
+    ensures reached { IsBlockReached lengths.now result.block result.before }
     ensures before { result.before ≤ index }
     ensures spot { spot_among lengths.now index ≡ (result.block, index - result.before) }
 {
@@ -255,7 +255,7 @@ fn close(held: Held, size: usize, bytes: &mut Vec<u8>) -> Result<(), AllocError>
 
 /// Bytes are those of their number.
 fn are_of_their_number(bytes: &[u8])
-    ensures { bytes_of (length bytes.now) (number_of bytes.now) ≡ bytes.now }
+    ensures { big_endian_bytes (length bytes.now) (number_of bytes.now) ≡ bytes.now }
 {
     let _ = bytes.len();
 }

@@ -6,7 +6,7 @@ ghost use Rattle.table_file.specs.Expansion.{expanded, listed};
 ghost use Rattle.table_file.specs.Plan.{planned_shape, planned_expansion, planned_maps, planned_maps_of, map_bytes, is_wide, HasEnough, IsGoodMap, AreGoodMaps, IsGoodPlan};
 ghost use Rattle.std.specs.List.{All};
 ghost use Rattle.table_file.specs.Inside.Writing.{HasGoodValues};
-ghost use Rattle.table_file.specs.Forged.{IsPartOf, ArePartsOf, Shows};
+ghost use Rattle.table_file.specs.Forged.{IsPartOf, ArePartsOf, ShowsPlan};
 
 use super::values::{map_bytes, plan_values};
 use crate::codes::Codes;
@@ -219,8 +219,8 @@ fn are_parts(alloc: Global, plan: &Plan, table: &Table<'_>) -> Result<bool, Allo
 /// Whether an opened file says what a plan says.
 pub(super) fn shows(alloc: Global, plan: &Plan, table: &Table<'_>) -> Result<bool, AllocError>
     requires { IsGoodPlan plan.now.kind plan.now.material plan.now.parts.items }
-    ensures is { IfOk result (λ b. IsTrue b → Shows plan.now table.now) }
-    ensures all { IfOk result (λ b. Shows plan.now table.now → IsTrue b) }
+    ensures is { IfOk result (λ b. IsTrue b → ShowsPlan plan.now table.now) }
+    ensures all { IfOk result (λ b. ShowsPlan plan.now table.now → IsTrue b) }
 {
     if table.kind() != plan.kind
         || table.material().key() != plan.material.key()

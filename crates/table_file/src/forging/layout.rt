@@ -8,9 +8,9 @@ ghost use Rattle.pair_dict.specs.Reading.{falls};
 ghost use Rattle.pair_dict.specs.Symbols.{AllHaveValues};
 ghost use Rattle.place_index.specs.Shape.{size_of, greatest_size, both_have_pawns, HasGoodPieces, HasGoodOrder};
 ghost use Rattle.table_file.specs.Plan.{planned_shape, symbol_bytes, is_wide, has_maps, last_point, AreGoodFigures, AreGoodCodes, AreGoodBlocks, FitsBlock, AreGoodPairs, AreGoodMaps, IsGoodMap, IsGoodSingle, IsGoodContent, IsGoodPart, IsGoodPlan, HasNoMaps};
-ghost use Rattle.table_file.specs.Files.{sides_of};
+ghost use Rattle.table_file.specs.Files.{side_count};
 ghost use Rattle.table_file.specs.Inside.Places.{sides_count};
-ghost use Rattle.table_file.specs.PlannedFile.{Laid, filled_to, head_bytes, halves, piece_halves, setup_bytes, one_sided, two_sided, setups_bytes, word_bytes, dictionary_bytes, figures_bytes, planned_lengths, padding_for, planned_span, laid_content, laid_part, laid_parts, one_map_bytes, four_maps_bytes, with_maps, with_each_maps, with_all_maps, with_blocks, front_bytes, with_sections, ended, file_with, file_of};
+ghost use Rattle.table_file.specs.PlannedFile.{Laid, filled_to, head_bytes, halves, piece_halves, setup_bytes, one_sided, two_sided, setups_bytes, word_bytes, dictionary_bytes, figures_bytes, planned_lengths, padding_for, planned_span, laid_content, laid_part, laid_parts, one_map_bytes, four_maps_bytes, with_maps, with_each_maps, with_all_maps, with_blocks, front_bytes, with_sections, ended_file, file_with, planned_file};
 
 use super::blocks::{blocks_bytes, entries_of, fit_blocks, lengths_of, padded, padding_of};
 use super::codes::are_good_codes;
@@ -443,7 +443,7 @@ fn laid_part(
 
 /// All planned parts as the sections of a file hold them. There is nothing where the plan is bad.
 fn laid_parts(alloc: Global, plan: &Plan) -> Result<Option<Vec<LaidPart>>, AllocError>
-    ensures found { IfOk result (λ o. IfSome o (λ laid. laid.items ≡ laid_parts plan.now.material (sides_of plan.now.kind plan.now.material) 0 plan.now.parts.items)) }
+    ensures found { IfOk result (λ o. IfSome o (λ laid. laid.items ≡ laid_parts plan.now.material (side_count plan.now.kind plan.now.material) 0 plan.now.parts.items)) }
     ensures good { IfOk result (λ o. IfSome o (λ _. IsGoodPlan plan.now.kind plan.now.material plan.now.parts.items)) }
     ensures bad { IfOk result (λ o. IfNone o (IsGoodPlan plan.now.kind plan.now.material plan.now.parts.items → ⊥)) }
 {
@@ -712,9 +712,9 @@ fn put_sections(parts: &[LaidPart], file: &mut Vec<u8>) -> Result<(), AllocError
 }
 
 /// Appends what stands behind the sections: fill and the checksum.
-#[tactic(auto, unfolding(crate::specs::PlannedFile::ended))]
+#[tactic(auto, unfolding(crate::specs::PlannedFile::ended_file))]
 fn put_end(file: &mut Vec<u8>) -> Result<(), AllocError>
-    ensures { OnOk result (file.new.items ≡ ended file.old.items) }
+    ensures { OnOk result (file.new.items ≡ ended_file file.old.items) }
 {
     fill_to(64, file)?;
     file.extend_from_slice(&[0; 16])
@@ -735,9 +735,9 @@ fn file_with(alloc: Global, plan: &Plan, laid: &[LaidPart]) -> Result<Vec<u8>, A
 }
 
 /// The bytes of the file that a plan describes. There are none where the plan breaks a rule of plans.
-#[tactic(auto, unfolding(crate::specs::PlannedFile::file_of))]
+#[tactic(auto, unfolding(crate::specs::PlannedFile::planned_file))]
 pub(super) fn laid_out(alloc: Global, plan: &Plan) -> Result<Option<Vec<u8>>, AllocError>
-    ensures found { IfOk result (λ o. IfSome o (λ v. v.items ≡ file_of plan.now)) }
+    ensures found { IfOk result (λ o. IfSome o (λ v. v.items ≡ planned_file plan.now)) }
     ensures good { IfOk result (λ o. IfSome o (λ _. IsGoodPlan plan.now.kind plan.now.material plan.now.parts.items)) }
     ensures bad { IfOk result (λ o. IfNone o (IsGoodPlan plan.now.kind plan.now.material plan.now.parts.items → ⊥)) }
 {

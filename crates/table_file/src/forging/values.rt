@@ -2,7 +2,7 @@
 
 ghost use Rattle.std.specs.Prelude.{ℕ, List, ◌≡◌, ◌++◌, ◌≤◌, ◌<◌, ◌*◌, length, true, false, IfOk, OnOk};
 ghost use Rattle.std.specs.List.{flat_map, All};
-ghost use Rattle.pair_dict.specs.Symbols.{symbol_count, values_of, left, right, HasValues, AllHaveValues};
+ghost use Rattle.pair_dict.specs.Symbols.{symbol_count, values_of, left, right, HasSymbolValues, AllHaveValues};
 ghost use Rattle.table_file.specs.Inside.Writing.{AreCountsOf};
 ghost use Rattle.table_file.specs.Plan.{symbol_bytes, symbols_values, plan_values, map_bytes, IsGoodMap, FitsBlock};
 
@@ -44,8 +44,8 @@ fn right(symbols: &[u8], symbol: usize) -> u16
 /// How many values a symbol has that has at most so many.
 fn count_in(symbols: &[u8], most: usize, symbol: usize) -> u16
     requires few { most ≤ 256 }
-    requires values { (vs : List ℕ) × HasValues symbols.now symbol vs × (length vs ≤ most) }
-    ensures is { (vs : List ℕ) → HasValues symbols.now symbol vs → result ≡ length vs }
+    requires values { (vs : List ℕ) × HasSymbolValues symbols.now symbol vs × (length vs ≤ most) }
+    ensures is { (vs : List ℕ) → HasSymbolValues symbols.now symbol vs → result ≡ length vs }
     ensures few { result ≤ most }
 {
     let first = left(symbols, symbol);
@@ -88,8 +88,8 @@ fn push_symbol(
     values: &mut Vec<u16>,
 ) -> Result<(), AllocError>
     requires few { most ≤ 256 }
-    requires values { (vs : List ℕ) × HasValues symbols.now symbol vs × (length vs ≤ most) }
-    ensures { OnOk result ((vs : List ℕ) → HasValues symbols.now symbol vs → values.new.items ≡ values.old.items ++ vs) }
+    requires values { (vs : List ℕ) × HasSymbolValues symbols.now symbol vs × (length vs ≤ most) }
+    ensures { OnOk result ((vs : List ℕ) → HasSymbolValues symbols.now symbol vs → values.new.items ≡ values.old.items ++ vs) }
 {
     let first = left(symbols, symbol);
     let second = right(symbols, symbol);

@@ -1,5 +1,5 @@
 use Rattle.std.proofs.Common.{subst, sym, ◌∙◌}
-use Rattle.table_file.specs.Forged.{Shows}
+use Rattle.table_file.specs.Forged.{ShowsPlan}
 use Rattle.table_file.proofs.Agreeing.{is_ok}
 use Rattle.table_file.proofs.Planned.{if_one}
 use Rattle.table_file.proofs.forging.opens_as.Goals as goal
@@ -9,4 +9,4 @@ returns-in-Ok-clause-is c = if_one c.shows.result c.shows.ensures.is (λ b h t. 
 
 pub returns-in-Ok-clause-all : goal.returns-in-Ok-clause-all
 returns-in-Ok-clause-all c = if_one c.shows.result c.shows.ensures.all (λ b h o.
-    h (subst (λ t. Shows c.args.plan.now t) (is_ok o.0 c.in-Ok.table (sym o.1 ∙ (rw c.requires.name at c.in-Ok.ensures.is))) o.2))
+    h (subst (λ t. ShowsPlan c.args.plan.now t) (is_ok o.0 c.in-Ok.table (sym o.1 ∙ (rw c.requires.name at c.in-Ok.ensures.is))) o.2))

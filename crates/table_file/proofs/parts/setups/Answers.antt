@@ -3,7 +3,7 @@ use Rattle.std.proofs.lemmas.Result.{err_from_is_err_and}
 use Rattle.std.proofs.lemmas.List.{length_push}
 use Rattle.std.specs.List.{range_with_len}
 use Rattle.table_file.specs.Reading.{each_at}
-use Rattle.table_file.specs.Files.{sides_of, setup_at}
+use Rattle.table_file.specs.Files.{side_count, setup_at}
 use Rattle.table_file.specs.Tables.{part_count}
 use Rattle.table_file.specs.Inside.Places.{IsPlace}
 use Rattle.table_file.proofs.Loops.{goes_on, ends, is_done, range_more, range_none}
@@ -13,7 +13,7 @@ pub returns-in_err-shape-clause-is : goal.returns-in_err-shape-clause-is
 returns-in_err-shape-clause-is c =
     let p = err_from_is_err_and c.from_residual.result c.from_residual.ensures.1 in
     let m = c.args.material.now in
-    let sides = sides_of c.args.kind m in
+    let sides = side_count c.args.kind m in
     let n = part_count c.args.kind m in
     let step = setup_at m sides in
     let front = c.places.shapes.items in
@@ -31,7 +31,7 @@ places-smaller c =
 pub places-preserved : goal.places-preserved
 places-preserved c =
     let m = c.args.material.now in
-    let sides = sides_of c.args.kind m in
+    let sides = side_count c.args.kind m in
     let n = part_count c.args.kind m in
     let step = setup_at m sides in
     let front = c.places.shapes.items in
@@ -50,7 +50,7 @@ pub returns-clause-is : goal.returns-clause-is
 returns-clause-is c =
     let m = c.args.material.now in
     let n = part_count c.args.kind m in
-    let step = setup_at m (sides_of c.args.kind m) in
+    let step = setup_at m (side_count c.args.kind m) in
     let front = c.places.shapes.items in
     is_done step front (range_with_len (length front) (n - length front)) c.places.rest.now (each_at step (range_with_len 0 n) c.args.bytes.now)
     (range_none (length front) n (omega (arith, c.in_default.ensures.none, c.len.ensures, c.places.shapes.ok.0))) c.places.invariant.read

@@ -2,7 +2,7 @@ use Rattle.std.proofs.Common.{◌≡◌, ◌+◌, ◌-◌, ◌*◌, ◌^◌, [],
 use Rattle.std.proofs.lemmas.List.{drop_more, drop_all, take_all}
 use Rattle.pair_dict.specs.Codes.{number_of}
 use Rattle.table_file.specs.Plan.{code_of, codes_size}
-use Rattle.table_file.specs.PlannedFile.{codes_number, block_bytes, bytes_of}
+use Rattle.table_file.specs.PlannedFile.{codes_number, block_bytes, big_endian_bytes}
 use Rattle.table_file.proofs.Counting.{size_more}
 use Rattle.table_file.proofs.forging.blocks.block_bytes.Goals as goal
 
@@ -35,5 +35,5 @@ returns c =
     let number : number_of c.loop-symbol.bytes.items * 2 ^ c.loop-symbol.held.count + c.loop-symbol.held.bits ≡ codes_number code 0 block = rw none at inv.number in
     let size : 8 * length c.loop-symbol.bytes.items + c.loop-symbol.held.count ≡ codes_size code block = rw all at inv.size in
     let closed : number_of c.close.new.bytes.items ≡ codes_number code 0 block * 2 ^ (8 * c.args.size - codes_size code block) = rw (number, size) at c.in_ok-close.ensures.number in
-    let whole : bytes_of (length c.close.new.bytes.items) (number_of c.close.new.bytes.items) ≡ c.close.new.bytes.items = rw c.deref.ensures.value at c.are_of_their_number.ensures in
+    let whole : big_endian_bytes (length c.close.new.bytes.items) (number_of c.close.new.bytes.items) ≡ c.close.new.bytes.items = rw c.deref.ensures.value at c.are_of_their_number.ensures in
     sym (rw (c.in_ok-close.ensures.size, closed) at whole)

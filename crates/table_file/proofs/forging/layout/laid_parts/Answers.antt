@@ -1,6 +1,6 @@
 use Rattle.std.proofs.Common.{ℕ, ◌≡◌, ◌<◌, ◌/◌, ◌∙◌, length, get_or, sym, ap, subst, arith}
 use Rattle.std.proofs.lemmas.Option.{slice_get_within}
-use Rattle.table_file.specs.Files.{sides_of}
+use Rattle.table_file.specs.Files.{side_count}
 use Rattle.table_file.specs.Plan.{IsGoodPart}
 use Rattle.table_file.specs.PlannedFile.{laid_part}
 use Rattle.table_file.specs.declared.plan.PartPlan.{PartPlan}
@@ -13,7 +13,7 @@ pub loop-k-preserved : goal.loop-k-preserved
 loop-k-preserved c =
     let kind = c.args.plan.now.kind in
     let m = c.args.plan.now.material in
-    let sides = sides_of kind m in
+    let sides = side_count kind m in
     let parts = c.args.plan.now.parts.items in
     let k = c.loop-k.k in
     let x = c.index.result.now in
@@ -47,7 +47,7 @@ returns-in-Ok-None-clause-bad c = λ h.
 
 pub returns-clause-found : goal.returns-clause-found
 returns-clause-found c =
-    laid_end c.args.plan.now.material (sides_of c.args.plan.now.kind c.args.plan.now.material) c.loop-k.k c.args.plan.now.parts.items c.loop-k.laid.items _ (omega (arith, c.loop-k-test.false, c.len-k-end.ensures)) c.loop-k.invariant.laid
+    laid_end c.args.plan.now.material (side_count c.args.plan.now.kind c.args.plan.now.material) c.loop-k.k c.args.plan.now.parts.items c.loop-k.laid.items _ (omega (arith, c.loop-k-test.false, c.len-k-end.ensures)) c.loop-k.invariant.laid
 
 pub returns-clause-good : goal.returns-clause-good
 returns-clause-good c = record {
