@@ -4,7 +4,7 @@ use Rattle.std.specs.List.{AllByRecursion}
 use Rattle.std.proofs.lemmas.List.{map-append, take_more}
 use Rattle.system_io.specs.Disks.{DiskFacts}
 use Rattle.move_msg.specs.declared.files.NamedFile.{NamedFile}
-use Rattle.move_msg.specs.Files.{File, file_of}
+use Rattle.move_msg.specs.Files.{File, table_file_of}
 use Rattle.task_files.specs.Made.{AreMadeOf}
 use Rattle.task_files.specs.Inside.Reading.{AreLooksAt}
 use Rattle.task_files.specs.Outside.{IsAtItsPath}
@@ -36,8 +36,8 @@ one_look_more P disk folder names i name old new look f is within at same here m
 -- ---- all of them
 
 -- files that are kept whole
-pub same_files : (looks : List NamedFile) (files : List File) → AreMadeOf (λ look f. file_of look ≡ f) looks files → map file_of looks ≡ files
+pub same_files : (looks : List NamedFile) (files : List File) → AreMadeOf (λ look f. table_file_of look ≡ f) looks files → map table_file_of looks ≡ files
 same_files [] [] h = refl
 same_files [] (f ∷ files) h = absurd h
 same_files (look ∷ looks) [] h = absurd h
-same_files (look ∷ looks) (f ∷ files) h = ap (λ (g : File). g ∷ map file_of looks) h.0 ∙ ap (λ gs. f ∷ gs) (same_files looks files h.1)
+same_files (look ∷ looks) (f ∷ files) h = ap (λ (g : File). g ∷ map table_file_of looks) h.0 ∙ ap (λ gs. f ∷ gs) (same_files looks files h.1)

@@ -20,9 +20,9 @@ use Rattle.task_files.specs.FileNames.{AreRisingNames, IsNameBefore, names_of}
 use Rattle.std.specs.Str.{bytes_eq}
 use Rattle.std.proofs.lemmas.Slice.Eq.{bytes_eq-Decides}
 use Rattle.std.proofs.Common.{Option}
-use Rattle.move_msg.specs.ToldManifests.{Told}
+use Rattle.move_msg.specs.ToldManifests.{ToldManifest}
 use Rattle.task_files.specs.Outside.{AreWantedOf, IsWanted, ListsTwice}
-use Rattle.task_files.specs.Inside.Placing.{IsPlace, Adds}
+use Rattle.task_files.specs.Inside.Placing.{IsNamePlace, AddsName}
 use Rattle.move_msg.specs.TableNames.{IsTableName, IsFileName}
 
 both : (a b : Bool) → (a && b) ≡ true → (a ≡ true) × (b ≡ true)
@@ -116,7 +116,7 @@ rises (a ∷ b ∷ names) name (suc zero) r within before after =
 rises (a ∷ b ∷ names) name (suc (suc place)) r within before after =
     (r.0, rises (b ∷ names) name (suc place) r.1 (omega arith) (λ k lt. before (suc k) (omega arith)) (λ lt. after (omega arith)))
 
-pub adds : (old new : List (List ℕ)) (name : List ℕ) (place : ℕ) → AreRisingNames old → IsPlace old name place → new ≡ take place old ++ name ∷ drop place old → Adds old name new
+pub adds : (old new : List (List ℕ)) (name : List ℕ) (place : ℕ) → AreRisingNames old → IsNamePlace old name place → new ≡ take place old ++ name ∷ drop place old → AddsName old name new
 adds old new name place r p is = record {
   rising = subst AreRisingNames (sym is) (rises old name place r p.within p.before p.after);
   here = has_at new (take place old) (drop place old) name name is refl;
@@ -141,14 +141,14 @@ adds old new name place r p is = record {
 
 -- ---- the wanted names so far
 
-pub none_wanted : (told : Option Told) → AreWantedOf told [] []
+pub none_wanted : (told : Option ToldManifest) → AreWantedOf told [] []
 none_wanted told = record {
   all = λ name h f w. h;
   only = λ name h. absurd (let lt = h.1 in omega arith);
   rising = tt;
 }
 
-pub wants_more : (told : Option Told) (names more old new : List (List ℕ)) (name : List ℕ) → more ≡ names ++ name ∷ [] → IsFileName name → IsWanted told name → AreWantedOf told names old → Adds old name new → AreWantedOf told more new
+pub wants_more : (told : Option ToldManifest) (names more old new : List (List ℕ)) (name : List ℕ) → more ≡ names ++ name ∷ [] → IsFileName name → IsWanted told name → AreWantedOf told names old → AddsName old name new → AreWantedOf told more new
 wants_more told names more old new name is file wanted h a = record {
   all = λ other m f w.
       elim (Contains-push_cases names name other (subst (λ ns. Contains ns other) is m)) [
@@ -167,7 +167,7 @@ wants_more told names more old new name is file wanted h a = record {
   rising = a.rising;
 }
 
-pub wants_no_more : (told : Option Told) (names more old : List (List ℕ)) (name : List ℕ) → more ≡ names ++ name ∷ [] → (IsFileName name → IsWanted told name → ⊥) → AreWantedOf told names old → AreWantedOf told more old
+pub wants_no_more : (told : Option ToldManifest) (names more old : List (List ℕ)) (name : List ℕ) → more ≡ names ++ name ∷ [] → (IsFileName name → IsWanted told name → ⊥) → AreWantedOf told names old → AreWantedOf told more old
 wants_no_more told names more old name is none h = record {
   all = λ other m f w.
       elim (Contains-push_cases names name other (subst (λ ns. Contains ns other) is m)) [
@@ -183,7 +183,7 @@ wants_no_more told names more old name is none h = record {
 }
 
 -- a wanted name that is there already was listed before
-pub twice : (told : Option Told) (before names after old : List (List ℕ)) (name : List ℕ) → names ≡ before ++ (name ∷ after) → AreWantedOf told before old → Contains old name → ListsTwice told names
+pub twice : (told : Option ToldManifest) (before names after old : List (List ℕ)) (name : List ℕ) → names ≡ before ++ (name ∷ after) → AreWantedOf told before old → Contains old name → ListsTwice told names
 twice told before names after old name is h there =
     record {
       before = before;
@@ -212,5 +212,5 @@ all_sorted [] h = tt
 all_sorted (f ∷ []) h = tt
 all_sorted (f ∷ g ∷ files) h = (h.0, all_sorted (g ∷ files) h.1)
 
-pub are_files : (told : Option Told) (names : List (List ℕ)) (files : List File) → AreWantedOf told names (names_of files) → AreFiles files
+pub are_files : (told : Option ToldManifest) (names : List (List ℕ)) (files : List File) → AreWantedOf told names (names_of files) → AreFiles files
 are_files told names files h = (all_named files (λ name c. (h.only name c).1), all_sorted files h.rising)

@@ -1,7 +1,7 @@
 -- What is read for a task (this project's own).
 use Rattle.std.specs.Prelude.{◌≡◌, ◌≤◌, ◌⊎◌, ◌||◌, ℕ, Bool, true, false, List, [], length, Option, Some, None, is_some, option_map}
 use Rattle.task_files.specs.declared.sources.Places.{Places}
-use Rattle.move_msg.specs.ToldManifests.{Told}
+use Rattle.move_msg.specs.ToldManifests.{ToldManifest}
 use Rattle.task_files.specs.Given.{Given}
 use Rattle.system_io.specs.Disks.{DiskFacts, AtFile, HasMore, most_bytes}
 use Rattle.system_io.specs.Inputs.{InputFacts}
@@ -63,7 +63,7 @@ pub record IsGiven (disk : DiskFacts) (source : InputFacts) (n : Named) (given :
 -- file has more bytes than a record; or the folder lists a wanted file twice
 pub data CannotRead (disk : DiskFacts) (source : InputFacts) (n : Named) : Type 0 where
   Manifest : (path : List ℕ) → n.manifest ≡ Some path → disk.fails (AtFile path) → CannotRead disk source n
-  Folder : (folder : List ℕ) (told : Option Told) → n.folder ≡ Some folder → IsToldAt disk n.manifest told → FolderFails disk folder told → CannotRead disk source n
+  Folder : (folder : List ℕ) (told : Option ToldManifest) → n.folder ≡ Some folder → IsToldAt disk n.manifest told → FolderFails disk folder told → CannotRead disk source n
   Input : n.input ≡ true → source.fails → CannotRead disk source n
   Kept : (path : List ℕ) → (n.kept ≡ Some path) ⊎ (n.other_kept ≡ Some path) → LacksKept disk path → CannotRead disk source n
 

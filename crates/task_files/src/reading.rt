@@ -5,7 +5,7 @@ ghost use Rattle.std.specs.Io.KnownBytes.{Appends};
 ghost use Rattle.std.specs.List.{Contains};
 ghost use Rattle.move_msg.specs.Manifests.{entry_of};
 ghost use Rattle.move_msg.specs.TableNames.{IsFileName};
-ghost use Rattle.move_msg.specs.Files.{AreFiles, File, file_of};
+ghost use Rattle.move_msg.specs.Files.{AreFiles, File, table_file_of};
 ghost use Rattle.move_msg.specs.TextLines.{ended};
 ghost use Rattle.task_files.specs.FileNames.{AreRisingNames};
 ghost use Rattle.move_msg.specs.ToldBy.{told_by};
@@ -13,7 +13,7 @@ ghost use Rattle.system_io.specs.Disks.{AtFile};
 ghost use Rattle.task_files.specs.Outside.{AreFilesIn, AreWantedOf, FolderFails, IsAtItsPath, IsWanted, ListsTwice, path_in};
 ghost use Rattle.task_files.specs.Made.{AreMadeOf};
 ghost use Rattle.task_files.specs.Inside.Reading.{AreLooksAt, read_words};
-ghost use Rattle.task_files.specs.Inside.Placing.{IsPlace, Adds};
+ghost use Rattle.task_files.specs.Inside.Placing.{IsNamePlace, AddsName};
 
 use crate::file_name::FileName;
 use move_msg::{Line, Manifest, NamedFile};
@@ -60,7 +60,7 @@ fn wanted_name(name: &str, manifest: &Manifest) -> Option<FileName>
 
 /// The place of a name among rising ones; none where it is one of them.
 fn place_of(names: &[FileName], name: &FileName) -> Option<usize>
-    ensures place { IfSome result (IsPlace names.now name.now) }
+    ensures place { IfSome result (IsNamePlace names.now name.now) }
     ensures there { IfNone result (Contains names.now name.now) }
 {
     for i in 0..names.len() {
@@ -76,7 +76,7 @@ fn place_of(names: &[FileName], name: &FileName) -> Option<usize>
 /// Puts a name in its place among rising ones; `Unreadable` where it is one of them.
 fn add_name(names: &mut Vec<FileName>, name: FileName) -> Result<(), ReadFault>
     requires { AreRisingNames names.old.items }
-    ensures ok { OnOk result (Adds names.old.items name names.new.items) }
+    ensures ok { OnOk result (AddsName names.old.items name names.new.items) }
     ensures cause { IsErrOf result ReadFault.Unreadable → Contains names.old.items name }
 {
     let Some(place) = place_of(names, &name) else {
@@ -117,14 +117,14 @@ pub trait Look: Drop {
 
     /// What is kept of a file. The error comes only where memory is refused.
     fn of(alloc: Global, file: NamedFile) -> Result<Self, AllocError>
-        ensures { IfOk result (λ look. made_of look (file_of file)) };
+        ensures { IfOk result (λ look. made_of look (table_file_of file)) };
 }
 
 impl Look for NamedFile {
     ghost use Rattle.std.specs.Prelude.{◌≡◌};
-    ghost use Rattle.move_msg.specs.Files.{file_of};
+    ghost use Rattle.move_msg.specs.Files.{table_file_of};
 
-    ghost made_of = { λ look f. file_of look ≡ f };
+    ghost made_of = { λ look f. table_file_of look ≡ f };
 
     fn of(_alloc: Global, file: NamedFile) -> Result<NamedFile, AllocError> {
         Ok(file)
@@ -152,7 +152,7 @@ fn read_file<D: Disk>(
     name: &FileName,
 ) -> Result<NamedFile, ReadFault>
     ensures name { IfOk result (λ file. file.name.bytes ≡ name.now) }
-    ensures file { IfOk result (λ file. IsAtItsPath (D.facts disk.now) folder.now (file_of file)) }
+    ensures file { IfOk result (λ file. IsAtItsPath (D.facts disk.now) folder.now (table_file_of file)) }
     ensures cause { IsErrOf result ReadFault.Unreadable → (D.facts disk.now).fails (AtFile (path_in folder.now name.now)) }
 {
     let text = name.as_str();
@@ -268,8 +268,8 @@ pub fn files_in<D: Disk>(
     folder: &str,
     manifest: &Manifest,
 ) -> Result<Vec<NamedFile>, ReadFault>
-    ensures ok { IfOk result (λ files. AreFilesIn (D.facts disk.now) folder.now (told_by manifest.now) (map file_of files.items)) }
-    ensures files { IfOk result (λ files. AreFiles (map file_of files.items)) }
+    ensures ok { IfOk result (λ files. AreFilesIn (D.facts disk.now) folder.now (told_by manifest.now) (map table_file_of files.items)) }
+    ensures files { IfOk result (λ files. AreFiles (map table_file_of files.items)) }
     ensures cause { IsErrOf result ReadFault.Unreadable → FolderFails (D.facts disk.now) folder.now (told_by manifest.now) }
 {
     looks_in(alloc, disk, folder, manifest, &mut io::sink(), false)

@@ -1,7 +1,7 @@
 //! What is read for a task: the files of its folder, its manifest and the input.
 
 ghost use Rattle.std.specs.Prelude.{◌≡◌, List, ℕ, map, option_map, is_some, true, Some, IfOk, OnErr, IsErrOf};
-ghost use Rattle.move_msg.specs.Files.{AreFiles, file_of};
+ghost use Rattle.move_msg.specs.Files.{AreFiles, table_file_of};
 ghost use Rattle.move_msg.specs.ToldBy.{told_by};
 ghost use Rattle.system_io.specs.Disks.{AtFile};
 ghost use Rattle.task_files.specs.Outside.{AreFilesAt, FolderFails, IsToldAt};
@@ -56,15 +56,15 @@ pub struct Sources {
 
 impl Model for Sources {
     ghost use Rattle.std.specs.Prelude.{map};
-    ghost use Rattle.move_msg.specs.Files.{AreFiles, file_of};
+    ghost use Rattle.move_msg.specs.Files.{AreFiles, table_file_of};
     ghost use Rattle.task_files.specs.Given.{Given};
     ghost use Rattle.move_msg.specs.ToldBy.{told_by};
 
     ghost Value = { Given };
 
-    ghost view = { λ s. record { files = map file_of s.files.items; told = told_by s.manifest; input = s.input.items; kept = s.kept.items; other_kept = s.other_kept.items } };
+    ghost view = { λ s. record { files = map table_file_of s.files.items; told = told_by s.manifest; input = s.input.items; kept = s.kept.items; other_kept = s.other_kept.items } };
 
-    ghost invariant = { λ s. AreFiles (map file_of s.files.items) };
+    ghost invariant = { λ s. AreFiles (map table_file_of s.files.items) };
 }
 
 /// The manifest at a path, if there is one.
@@ -97,8 +97,8 @@ fn read_folder<D: Disk>(
     folder: Option<&str>,
     manifest: &Manifest,
 ) -> Result<Vec<NamedFile>, ReadFault>
-    ensures ok { IfOk result (λ files. AreFilesAt (D.facts disk.now) (option_map (λ s. s.now) folder.entry) (told_by manifest.now) (map file_of files.items)) }
-    ensures files { IfOk result (λ files. AreFiles (map file_of files.items)) }
+    ensures ok { IfOk result (λ files. AreFilesAt (D.facts disk.now) (option_map (λ s. s.now) folder.entry) (told_by manifest.now) (map table_file_of files.items)) }
+    ensures files { IfOk result (λ files. AreFiles (map table_file_of files.items)) }
     ensures cause { IsErrOf result ReadFault.Unreadable → (f : List ℕ) × (option_map (λ s. s.now) folder.entry ≡ Some f) × FolderFails (D.facts disk.now) f (told_by manifest.now) }
     ensures some { OnErr result (is_some folder.entry ≡ true) }
 {
@@ -212,8 +212,8 @@ impl Sources {
 
     /// The files, in rising order of names; none where no folder is read.
     pub fn files(&self) -> &[NamedFile]
-        ensures files { map file_of result.now ≡ self.now.files }
-        ensures rising { AreFiles (map file_of result.now) }
+        ensures files { map table_file_of result.now ≡ self.now.files }
+        ensures rising { AreFiles (map table_file_of result.now) }
     {
         &self.files
     }

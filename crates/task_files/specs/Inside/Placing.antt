@@ -4,13 +4,13 @@ use Rattle.std.specs.List.{Contains}
 use Rattle.task_files.specs.FileNames.{AreRisingNames, IsNameBefore}
 
 -- the names before the place come before the name, and it comes before the one at the place
-pub record IsPlace (names : List (List ℕ)) (name : List ℕ) (place : ℕ) : Type 0 where
+pub record IsNamePlace (names : List (List ℕ)) (name : List ℕ) (place : ℕ) : Type 0 where
   pub within : place ≤ length names
   pub before : (k : ℕ) → k < place → IsNameBefore (get_or names k name) name
   pub after : place < length names → IsNameBefore name (get_or names place name)
 
 -- the names with one more are rising
-pub record Adds (old : List (List ℕ)) (name : List ℕ) (new : List (List ℕ)) : Type 0 where
+pub record AddsName (old : List (List ℕ)) (name : List ℕ) (new : List (List ℕ)) : Type 0 where
   pub rising : AreRisingNames new
   pub here : Contains new name
   pub kept : (other : List ℕ) → Contains old other → Contains new other
