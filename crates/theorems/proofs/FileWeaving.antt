@@ -28,13 +28,13 @@ use Rattle.arbiter_core.specs.Views.{View, spelled_as}
 use Rattle.arbiter_server.specs.declared.file_keeper.FileKeeper.{FileKeeper}
 use Rattle.arbiter_server.specs.Acts.{Act, Unread, Strange, Refuses, Opens, Answers, Closes, Opening, game_of, is_stamp}
 use Rattle.arbiter_server.specs.DiskGames.{disk_keepers}
-use Rattle.arbiter_server.specs.StoredBytes.{Failed, IsInFile, Landed, PutsInto, file_of, keeper_over, stored}
+use Rattle.arbiter_server.specs.StoredBytes.{Failed, IsInFile, Landed, PutsInto, keeper_file, keeper_over, stored}
 use Rattle.arbiter_server.proofs.FoundLaws.{IsSafe, safe_up}
 use Rattle.arbiter_server.proofs.OpenedLaws.{opened_safe}
 use Rattle.relay_world.specs.Worlds.{Judged, identity}
 use Rattle.theorems.specs.Nets.{FoundAnswered, FoundOpened, IsNoForgery, IsSetupOf, IsToBePut, Net, Site, changed, first_net, sent_with, site_of}
-use Rattle.theorems.specs.Weaves.{AtA, AtB, Deed, Does, Ends, Finds, GivesFor, GivesIf, GivesOwn, Hears, IsCutAtFirst, IsCutAtPut, Step, Stops, Weaves, closed_with, open_with}
-use Rattle.theorems.specs.FileWeaves.{ActsAt, ActsIf, AnswersOver, AtFirst, AtPut, AtStart, Between, Both, DoesAt, EndsAt, FilesAreWoven, GoBoth, Held, IsFoundIn, OpensOver, Plays, Rests, first_both, sent_for, sent_in}
+use Rattle.theorems.specs.Weaves.{AnswersDatagram, AtA, AtB, Deed, Does, Ends, Finds, GivesFor, GivesIf, GivesOwn, IsCutAtFirst, IsSiteCutAtPut, Step, Stops, Weaves, closed_with, open_with}
+use Rattle.theorems.specs.FileWeaves.{ActsAt, ActsIf, AnswersOver, AtFirst, AtPut, AtStart, Between, Both, DoesAt, EndsLeaving, FilesAreWoven, GoBoth, Held, IsFoundIn, OpensOverFile, Plays, Rests, first_both, sent_by_act, sent_for}
 use Rattle.theorems.proofs.Weaving.{is_one, still}
 
 -- ---- what a start finds
@@ -56,7 +56,7 @@ cut_found facts file left found was bytes h cut one = by (cut was h)
     by (inr new) = inr (one_found facts left found (Some bytes) one new)
 
 safe_in_file : {F : Type 0} (facts : F → KeptFacts) (at : Moment (FileKeeper F)) → IsSafe facts at → IsInFile facts at.keeper
-safe_in_file facts at s = subst (λ (o : Option (List ℕ)). (facts (file_of at.keeper)).finds o o) (sym s.stored_is) s.found
+safe_in_file facts at s = subst (λ (o : Option (List ℕ)). (facts (keeper_file at.keeper)).finds o o) (sym s.stored_is) s.found
 
 -- ---- a setup is good, or it unlike
 
@@ -87,13 +87,13 @@ good_or_not setup = long (cases_lt (length setup.name) 1)
 
 -- ---- an opening that is refused
 
-module _ {F : Type 0} (facts : F → KeptFacts) (game : Judged) (who : Who) (setup : SetupView) (is_setup : IsSetupOf game who setup) (before now : FileKeeper F) (fault : OpenFault) (in_file : IsInFile facts before) (found : Option (List ℕ)) (one : IsOneOfFound (facts (file_of now)) found) where
+module _ {F : Type 0} (facts : F → KeptFacts) (game : Judged) (who : Who) (setup : SetupView) (is_setup : IsSetupOf game who setup) (before now : FileKeeper F) (fault : OpenFault) (in_file : IsInFile facts before) (found : Option (List ℕ)) (one : IsOneOfFound (facts (keeper_file now)) found) where
   abbrev FoundSo : Type 0
   FoundSo = FoundOpened (keeper_over facts) game setup (stored before) now (Err fault) found
 
   unmoved : now ≡ before → FoundSo
   unmoved same =
-      inl (one_found facts (file_of now) found (stored now) one (subst (IsInFile facts) (sym same) in_file))
+      inl (one_found facts (keeper_file now) found (stored now) one (subst (IsInFile facts) (sym same) in_file))
 
   first_put : (me : Identity) → me ≡ identity game who → stored before ≡ None → PutsFirst (keeper_over facts) setup me before now (Err fault) → FoundSo
   first_put me mine none q = by q.once q.keep q.lands
@@ -103,14 +103,14 @@ module _ {F : Type 0} (facts : F → KeptFacts) (game : Judged) (who : Who) (set
           subst (λ (d : ℕ). WritesRecord q.sent (spelled_as game.stamp d (first_record (rules_at setup)))) (ap (λ r. r.delay) is_setup.rules)
           (subst (λ (i : Identity). WritesRecord q.sent (spelled_as i.stamp setup.delay (first_record (rules_at setup)))) mine q.spells)
 
-      to_be : opening.Told → Type 0
+      to_be : opening.OpenResult → Type 0
       to_be told = told ≡ Err open_fault.KeeperFailed
 
       in_doubt : to_be (Err fault) → (found ≡ None) ⊎ (found ≡ Some q.sent) → stored now ≡ None → FoundSo
       in_doubt failed (inl e) same = inl (e ∙ sym same)
       in_doubt failed (inr e) same = inr (failed, none, subst (IsWritten game.stamp game.rules.delay (first_record (rules_at setup))) (sym e) written)
 
-      not_opened : (v : View) → ◌≡◌ {A = opening.Told} (Err fault) (Ok v) → ⊥
+      not_opened : (v : View) → ◌≡◌ {A = opening.OpenResult} (Err fault) (Ok v) → ⊥
       not_opened v e = cc
 
       failed_at : (keep : Keep) → FirstLands keep setup me (stored before) (stored now) (Err fault) → to_be (Err fault)
@@ -119,10 +119,10 @@ module _ {F : Type 0} (facts : F → KeptFacts) (game : Judged) (who : Who) (set
       failed_at FailsNew l = l.0
 
       by : PutsInto facts q.mid q.sent now → (keep : Keep) → FirstLands keep setup me (stored before) (stored now) (Err fault) → FoundSo
-      by (Landed good there finds) keep l = inl (one_found facts (file_of now) found (Some q.sent) one finds ∙ sym there)
+      by (Landed good there finds) keep l = inl (one_found facts (keeper_file now) found (Some q.sent) one finds ∙ sym there)
       by (Failed cause stays risen left) keep l =
           in_doubt (failed_at keep l)
-          (old_or_new facts (file_of now) found None q.sent one (left None (subst (λ (k : FileKeeper F). (facts (file_of k)).finds None None) (sym q.got) (subst (λ (o : Option (List ℕ)). (facts (file_of before)).finds o o) none in_file))))
+          (old_or_new facts (keeper_file now) found None q.sent one (left None (subst (λ (k : FileKeeper F). (facts (keeper_file k)).finds None None) (sym q.got) (subst (λ (o : Option (List ℕ)). (facts (keeper_file before)).finds o o) none in_file))))
           (stays ∙ ap stored q.got ∙ none)
 
   opened_over : (me : Identity) → me ≡ identity game who → (was : Option (List ℕ)) → stored before ≡ was → OpensKept (keeper_over facts) setup me was before now (Err fault) → FoundSo
@@ -143,12 +143,12 @@ module _ {F : Type 0} (facts : F → KeptFacts) (game : Judged) (who : Who) (set
 
 -- ---- an answer after which the arbiter is down
 
-module _ {F : Type 0} (facts : F → KeptFacts) (at : Moment (FileKeeper F)) (e : Exchange (FileKeeper F)) (d : Delivers (keeper_over facts) at e) (in_file : IsInFile facts at.keeper) (found : Option (List ℕ)) (one : IsOneOfFound (facts (file_of e.after.keeper)) found) where
+module _ {F : Type 0} (facts : F → KeptFacts) (at : Moment (FileKeeper F)) (e : Exchange (FileKeeper F)) (d : Delivers (keeper_over facts) at e) (in_file : IsInFile facts at.keeper) (found : Option (List ℕ)) (one : IsOneOfFound (facts (keeper_file e.after.keeper)) found) where
   abbrev AnsweredSo : Answer → Type 0
   AnsweredSo a = (found ≡ stored e.after.keeper) ⊎ ((e.told ≡ Err deliver.KeeperFailed) × IsToBePut at.arbiter a found)
 
   not_moved : (a : Answer) → e.after.keeper ≡ at.keeper → AnsweredSo a
-  not_moved a same = inl (one_found facts (file_of e.after.keeper) found (stored e.after.keeper) one (subst (IsInFile facts) (sym same) in_file))
+  not_moved a same = inl (one_found facts (keeper_file e.after.keeper) found (stored e.after.keeper) one (subst (IsInFile facts) (sym same) in_file))
 
   put_so : (next : Recorded) (outputs : List Message) (window : Window) → e.after.arbiter.is_down ≡ true → at.arbiter.is_down ≡ false → PutsIfAny (keeper_over facts) at.arbiter at.keeper e.after.keeper e.after.arbiter e.told (Puts next outputs window) → AnsweredSo (Puts next outputs window)
   put_so next outputs window down up (inl u) = not_moved (Puts next outputs window) u.keeper
@@ -164,8 +164,8 @@ module _ {F : Type 0} (facts : F → KeptFacts) (at : Moment (FileKeeper F)) (e 
       in_doubt failed same (inr is) = inr (failed, subst (IsWritten at.arbiter.me.stamp at.arbiter.setup.delay next) (sym is) q.spells)
 
       by : PutsInto facts at.keeper q.sent e.after.keeper → e.told ≡ Err deliver.KeeperFailed → AnsweredSo (Puts next outputs window)
-      by (Landed good there finds) failed = inl (one_found facts (file_of e.after.keeper) found (Some q.sent) one finds ∙ sym there)
-      by (Failed cause same risen left) failed = in_doubt failed same (old_or_new facts (file_of e.after.keeper) found (stored at.keeper) q.sent one (left (stored at.keeper) in_file))
+      by (Landed good there finds) failed = inl (one_found facts (keeper_file e.after.keeper) found (Some q.sent) one finds ∙ sym there)
+      by (Failed cause same risen left) failed = in_doubt failed same (old_or_new facts (keeper_file e.after.keeper) found (stored at.keeper) q.sent one (left (stored at.keeper) in_file))
 
   down_finds : e.after.arbiter.is_down ≡ true → at.arbiter.is_down ≡ false → FoundAnswered (keeper_over facts) at.arbiter e found
   down_finds down up = by (answer_at at.arbiter e.datagram) d.answered d.put
@@ -205,7 +205,7 @@ module _ (grow : PutsGrow) {F : Type 0} (facts : F → KeptFacts) (game : Judged
 
   -- ---- openings
 
-  refused_back : (file : F) (o : Opening (FileKeeper F)) (fault : OpenFault) (new : Held F) (later : Option (List ℕ)) → OpensOver facts game who file o (Err fault) new → IsFoundIn facts new later → (net : Net) → site_of net who ≡ closed_with (stored o.before) → Finds (keeper_over facts) game net who o (Err fault) (changed net who (site_at new later) [])
+  refused_back : (file : F) (o : Opening (FileKeeper F)) (fault : OpenFault) (new : Held F) (later : Option (List ℕ)) → OpensOverFile facts game who file o (Err fault) new → IsFoundIn facts new later → (net : Net) → site_of net who ≡ closed_with (stored o.before) → Finds (keeper_over facts) game net who o (Err fault) (changed net who (site_at new later) [])
   refused_back file o fault new later h found net at = record {
     start = ap (λ r. r.start) h.is_setup.rules;
     delay = ap (λ r. r.delay) h.is_setup.rules;
@@ -217,7 +217,7 @@ module _ (grow : PutsGrow) {F : Type 0} (facts : F → KeptFacts) (game : Judged
     net = ap (λ (x : Held F). changed net who (site_at x later) []) h.to;
   }
 
-  opened_back : (file : F) (o : Opening (FileKeeper F)) (v : View) (new : Held F) (later : Option (List ℕ)) → OpensOver facts game who file o (Ok v) new → IsFoundIn facts new later → (net : Net) → site_of net who ≡ closed_with (stored o.before) → Finds (keeper_over facts) game net who o (Ok v) (changed net who (site_at new later) [])
+  opened_back : (file : F) (o : Opening (FileKeeper F)) (v : View) (new : Held F) (later : Option (List ℕ)) → OpensOverFile facts game who file o (Ok v) new → IsFoundIn facts new later → (net : Net) → site_of net who ≡ closed_with (stored o.before) → Finds (keeper_over facts) game net who o (Ok v) (changed net who (site_at new later) [])
   opened_back file o v new later h found net at = record {
     start = ap (λ r. r.start) h.is_setup.rules;
     delay = ap (λ r. r.delay) h.is_setup.rules;
@@ -229,7 +229,7 @@ module _ (grow : PutsGrow) {F : Type 0} (facts : F → KeptFacts) (game : Judged
 
   -- ---- answers
 
-  answer_back : (at : Moment (FileKeeper F)) (e : Exchange (FileKeeper F)) (new : Held F) (later : Option (List ℕ)) → IsSafe facts at → AnswersOver facts game log at e new → IsFoundIn facts new later → (net : Net) → site_of net who ≡ open_with (stored at.keeper) (Some at.arbiter) → net.log ≡ log → Hears (keeper_over facts) game net who e (changed net who (site_at new later) (sent_with e.told))
+  answer_back : (at : Moment (FileKeeper F)) (e : Exchange (FileKeeper F)) (new : Held F) (later : Option (List ℕ)) → IsSafe facts at → AnswersOver facts game log at e new → IsFoundIn facts new later → (net : Net) → site_of net who ≡ open_with (stored at.keeper) (Some at.arbiter) → net.log ≡ log → AnswersDatagram (keeper_over facts) game net who e (changed net who (site_at new later) (sent_with e.told))
   answer_back at e new later safe h found net here same = by e.after.arbiter.is_down refl
     where
       came : IsNoForgery game net.log e.datagram
@@ -238,10 +238,10 @@ module _ (grow : PutsGrow) {F : Type 0} (facts : F → KeptFacts) (game : Judged
       at_site : FoundAnswered (keeper_over facts) at.arbiter e later → IfSome (site_of net who).arbiter (λ v. FoundAnswered (keeper_over facts) v e later)
       at_site f = subst (λ (s : Site). IfSome s.arbiter (λ v. FoundAnswered (keeper_over facts) v e later)) (sym here) f
 
-      to : (b : Bool) → e.after.arbiter.is_down ≡ b → new ≡ cond b (Rests (file_of e.after.keeper)) (Plays e.after)
-      to b is = h.to ∙ ap (λ (x : Bool). cond {A = Held F} x (Rests (file_of e.after.keeper)) (Plays e.after)) is
+      to : (b : Bool) → e.after.arbiter.is_down ≡ b → new ≡ cond b (Rests (keeper_file e.after.keeper)) (Plays e.after)
+      to b is = h.to ∙ ap (λ (x : Bool). cond {A = Held F} x (Rests (keeper_file e.after.keeper)) (Plays e.after)) is
 
-      by : (b : Bool) → e.after.arbiter.is_down ≡ b → Hears (keeper_over facts) game net who e (changed net who (site_at new later) (sent_with e.told))
+      by : (b : Bool) → e.after.arbiter.is_down ≡ b → AnswersDatagram (keeper_over facts) game net who e (changed net who (site_at new later) (sent_with e.told))
       by true down = record {
         came = came;
         found = later;
@@ -262,7 +262,7 @@ module _ (grow : PutsGrow) {F : Type 0} (facts : F → KeptFacts) (game : Judged
   -- ---- acts
 
   act_back : (old : Held F) (act : Act (FileKeeper F)) (new : Held F) (later : Option (List ℕ)) → Holds facts old → is_stamp game.stamp.0 (game_of act) ≡ true → ActsAt facts game who log old act new → IsFoundIn facts new later
-      → (found : Option (List ℕ)) × IsFoundIn facts old found × ((net : Net) → site_of net who ≡ site_at old found → net.log ≡ log → GivesOwn (keeper_over facts) game net who act (changed net who (site_at new later) (sent_in act)))
+      → (found : Option (List ℕ)) × IsFoundIn facts old found × ((net : Net) → site_of net who ≡ site_at old found → net.log ≡ log → GivesOwn (keeper_over facts) game net who act (changed net who (site_at new later) (sent_by_act act)))
   act_back old (Unread datagram fault) new later safe own h found = (later, found_before old new later h found, λ net at same. same_back old new later net h at)
   act_back old (Strange stamp datagram tried why) new later safe own h found = (later, found_before old new later h found, λ net at same. same_back old new later net h at)
   act_back (Rests file) (Refuses stamp datagram o fault) new later safe own h found = (stored o.before, h.starts.one, λ net at same. refused_back file o fault new later h found net at)
@@ -276,8 +276,8 @@ module _ (grow : PutsGrow) {F : Type 0} (facts : F → KeptFacts) (game : Judged
     where
       there : later ≡ stored now.keeper
       there =
-          one_found facts (file_of left) later (stored now.keeper) (subst (λ (x : Held F). IsFoundIn facts x later) h.1 found)
-          (subst (λ (k : FileKeeper F). (facts (file_of k)).finds (stored now.keeper) (stored now.keeper)) (sym h.0) (safe_in_file facts now safe))
+          one_found facts (keeper_file left) later (stored now.keeper) (subst (λ (x : Held F). IsFoundIn facts x later) h.1 found)
+          (subst (λ (k : FileKeeper F). (facts (keeper_file k)).finds (stored now.keeper) (stored now.keeper)) (sym h.0) (safe_in_file facts now safe))
 
       by : (net : Net) → site_of net who ≡ open_with (stored now.keeper) (Some now.arbiter) → changed net who (site_at new later) [] ≡ changed net who (closed_with (site_of net who).kept) []
       by net at =
@@ -292,7 +292,7 @@ module _ (grow : PutsGrow) {F : Type 0} (facts : F → KeptFacts) (game : Judged
   at_rest : (old : Held F) (found later : Option (List ℕ)) → IsFoundIn facts old found → later ≡ found → ((site_at old found).kept ≡ found) → EndsSo old later
   at_rest old found later is same kept = (found, is, λ net at l. record { found = later; is_found = inl (same ∙ sym (kept_at net (site_at old found) found at kept)); net = refl })
 
-  ends_back : (old : Held F) (left : F) (later : Option (List ℕ)) → Holds facts old → EndsAt facts game who log old left → IsOneOfFound (facts left) later → EndsSo old later
+  ends_back : (old : Held F) (left : F) (later : Option (List ℕ)) → Holds facts old → EndsLeaving facts game who log old left → IsOneOfFound (facts left) later → EndsSo old later
   ends_back (Rests file) left later safe (Between is) one = at_rest (Rests file) later later (subst (λ (f : F). IsOneOfFound (facts f) later) is one) refl refl
   ends_back (Plays now) left later safe (Between is) one =
       at_rest (Plays now) (stored now.keeper) later refl
@@ -312,18 +312,18 @@ module _ (grow : PutsGrow) {F : Type 0} (facts : F → KeptFacts) (game : Judged
       put e = subst (λ (a : Answer). IsToBePut now.arbiter a later) cut.wanted (subst (IsWritten now.arbiter.me.stamp now.arbiter.setup.delay cut.next) (sym e) cut.spells)
 
       stops : (net : Net) → site_of net who ≡ open_with (stored now.keeper) (Some now.arbiter) → net.log ≡ log → Stops game net who (changed net who (closed_with later) [])
-      stops net at l = record { found = later; is_found = by (cut_found facts (file_of now.keeper) left later (stored now.keeper) cut.sent (safe_in_file facts now (subst (Holds facts) same safe)) cut.cut one); net = refl }
+      stops net at l = record { found = later; is_found = by (cut_found facts (keeper_file now.keeper) left later (stored now.keeper) cut.sent (safe_in_file facts now (subst (Holds facts) same safe)) cut.cut one); net = refl }
         where
-          by : (later ≡ stored now.keeper) ⊎ (later ≡ Some cut.sent) → (later ≡ (site_of net who).kept) ⊎ (IsCutAtPut game net.log (site_of net who) later ⊎ IsCutAtFirst game who (site_of net who) later)
+          by : (later ≡ stored now.keeper) ⊎ (later ≡ Some cut.sent) → (later ≡ (site_of net who).kept) ⊎ (IsSiteCutAtPut game net.log (site_of net who) later ⊎ IsCutAtFirst game who (site_of net who) later)
           by (inl e) = inl (e ∙ sym (kept_at net (open_with (stored now.keeper) (Some now.arbiter)) (stored now.keeper) at refl))
           by (inr e) = inr (inl (record { arbiter = now.arbiter; stands = ap (λ (s : Site). s.arbiter) at; datagram = cut.datagram; came = subst (λ (x : List Message). IsNoForgery game x cut.datagram) (sym l) came; put = put e }))
   ends_back old left later safe (AtFirst file same start over none setup is_setup sent writes cut) one =
       (stored start, subst (λ (x : Held F). IsFoundIn facts x (stored start)) (sym same) over.one, λ net at l. stops net (at ∙ ap (λ (x : Held F). site_at x (stored start)) same))
     where
       stops : (net : Net) → site_of net who ≡ closed_with (stored start) → Stops game net who (changed net who (closed_with later) [])
-      stops net at = record { found = later; is_found = by (cut_found facts (file_of start) left later (stored start) sent over.in_file cut one); net = refl }
+      stops net at = record { found = later; is_found = by (cut_found facts (keeper_file start) left later (stored start) sent over.in_file cut one); net = refl }
         where
-          by : (later ≡ stored start) ⊎ (later ≡ Some sent) → (later ≡ (site_of net who).kept) ⊎ (IsCutAtPut game net.log (site_of net who) later ⊎ IsCutAtFirst game who (site_of net who) later)
+          by : (later ≡ stored start) ⊎ (later ≡ Some sent) → (later ≡ (site_of net who).kept) ⊎ (IsSiteCutAtPut game net.log (site_of net who) later ⊎ IsCutAtFirst game who (site_of net who) later)
           by (inl e) = inl (e ∙ sym (kept_at net (closed_with (stored start)) (stored start) at refl))
           by (inr e) = inr (inr (record { setup = setup; is_setup = is_setup; none = kept_at net (closed_with (stored start)) None at none; put = subst (IsWritten game.stamp setup.delay (first_record (rules_at setup))) (sym e) writes }))
 
@@ -335,10 +335,10 @@ module _ (grow : PutsGrow) {F : Type 0} (facts : F → KeptFacts) (game : Judged
       own : (b : Bool) → is_stamp game.stamp.0 (game_of act) ≡ b → (net : Net) (next : Net) → GivesIf b (keeper_over facts) game net who act next → GivesFor (keeper_over facts) game net who (Does act) next
       own b is net next g = subst (λ (x : Bool). GivesIf x (keeper_over facts) game net who act next) (sym is) g
 
-      to : (b : Bool) → is_stamp game.stamp.0 (game_of act) ≡ b → (net : Net) → GivesIf b (keeper_over facts) game net who act (changed net who (site_at new later) (cond b (sent_in act) [])) → GivesFor (keeper_over facts) game net who (Does act) (changed net who (site_at new later) (sent_for game (Does act)))
+      to : (b : Bool) → is_stamp game.stamp.0 (game_of act) ≡ b → (net : Net) → GivesIf b (keeper_over facts) game net who act (changed net who (site_at new later) (cond b (sent_by_act act) [])) → GivesFor (keeper_over facts) game net who (Does act) (changed net who (site_at new later) (sent_for game (Does act)))
       to b is net g =
           own b is net (changed net who (site_at new later) (sent_for game (Does act)))
-          (subst (λ (x : Bool). GivesIf b (keeper_over facts) game net who act (changed net who (site_at new later) (cond x (sent_in act) []))) (sym is) g)
+          (subst (λ (x : Bool). GivesIf b (keeper_over facts) game net who act (changed net who (site_at new later) (cond x (sent_by_act act) []))) (sym is) g)
 
       by : (b : Bool) → is_stamp game.stamp.0 (game_of act) ≡ b → ActsIf b facts game who log old act new → Back facts game who log old (Does act) new later
       by true is h =
@@ -351,13 +351,13 @@ module _ (grow : PutsGrow) {F : Type 0} (facts : F → KeptFacts) (game : Judged
 
   -- ---- what holds goes on
 
-  opens_holds : (file : F) (o : Opening (FileKeeper F)) (v : View) (new : Held F) → OpensOver facts game who file o (Ok v) new → Holds facts new
+  opens_holds : (file : F) (o : Opening (FileKeeper F)) (v : View) (new : Held F) → OpensOverFile facts game who file o (Ok v) new → Holds facts new
   opens_holds file o v new h = subst (Holds facts) (sym h.to) (opened_safe facts o.setup o.before (moment v o.now) h.starts.in_file h.opening)
 
   answer_holds : (at : Moment (FileKeeper F)) (e : Exchange (FileKeeper F)) (new : Held F) → IsSafe facts at → AnswersOver facts game log at e new → Holds facts new
   answer_holds at e new safe h = subst (Holds facts) (sym h.to) (by e.after.arbiter.is_down refl)
     where
-      by : (b : Bool) → e.after.arbiter.is_down ≡ b → Holds facts (cond b (Rests (file_of e.after.keeper)) (Plays e.after))
+      by : (b : Bool) → e.after.arbiter.is_down ≡ b → Holds facts (cond b (Rests (keeper_file e.after.keeper)) (Plays e.after))
       by true down = tt
       by false up = safe_up grow facts at safe e h.delivers up
 

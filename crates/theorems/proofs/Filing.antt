@@ -15,7 +15,7 @@ use Rattle.arbiter_server.specs.Games.{AnswersTo, ClosesTo, CommonView, Fresh, G
 use Rattle.arbiter_server.specs.Lives as lives
 use Rattle.arbiter_server.specs.Lives.{Answered, Early, IsCutAtPut, IsStillThere, KeepsWhatItTold, PastRun, Refused, RunsOver}
 use Rattle.arbiter_server.specs.Serving.{InTurn}
-use Rattle.arbiter_server.specs.StoredBytes.{StartsOver, file_of, keeper_over}
+use Rattle.arbiter_server.specs.StoredBytes.{StartsOver, keeper_file, keeper_over}
 use Rattle.theorems.specs.HostFiles.{AtFirst, AtPut, AtStart, Between, HostKeepsWhatItTold, HostRun, IfAnswers, IsOfSetup, Leaves, OfEachAnswer, HostRanOver, HostRunsInTurn, StopsOver}
 
 -- ---- lists
@@ -85,7 +85,7 @@ module _ {F : Type 0} (facts : F → KeptFacts) (Starts : F → FileKeeper F →
   -- where the game is: no arbiter is open, and this is its file; or one is, whose keeper has it
   data Standing (first file : F) (life : Life (FileKeeper F)) (es : List (Exchange (FileKeeper F))) : Type 0 where
     Idle : IsNotOpen life → file ≡ first → es ≡ [] → Standing first file life es
-    Busy : (at : Moment (FileKeeper F)) → life ≡ Open at → file ≡ file_of at.keeper → Running first es at → Standing first file life es
+    Busy : (at : Moment (FileKeeper F)) → life ≡ Open at → file ≡ keeper_file at.keeper → Running first es at → Standing first file life es
 
   -- runs over the file, which hold what was answered before and by these acts
   record Past (first left : F) (es : List (Exchange (FileKeeper F))) (acts : List (Act (FileKeeper F))) : Type 0 where
@@ -151,17 +151,17 @@ module _ {P F : Type 0} (disk : DiskFacts) (host : HostFacts P F) (facts : F →
   walk t (Refuses of datagram o fault ∷ acts) first file mid left life life' es (Idle closed is none) goes one leaves stops =
       one_more facts Starts setup Q first left es (Refuses of datagram o fault) acts tt
       (over_none facts Starts setup Q first left es acts none
-      (first_run facts Starts setup Q first (file_of o.now) left o.before [] acts (subst (λ (f : F). Starts f o.before) is leaves.0) refused
-      (walk t acts (file_of o.now) (file_of o.now) mid left goes.0 life' [] (Idle (shut_not_open goes.0 o.now goes.1.new_is) refl refl) goes.2 one.1 leaves.1 stops)))
+      (first_run facts Starts setup Q first (keeper_file o.now) left o.before [] acts (subst (λ (f : F). Starts f o.before) is leaves.0) refused
+      (walk t acts (keeper_file o.now) (keeper_file o.now) mid left goes.0 life' [] (Idle (shut_not_open goes.0 o.now goes.1.new_is) refl refl) goes.2 one.1 leaves.1 stops)))
     where
-      refused : RunsOver facts setup o.before [] (file_of o.now)
+      refused : RunsOver facts setup o.before [] (keeper_file o.now)
       refused = Refused o.now fault (subst (λ (z : SetupView). IsOpening (keeper_over facts) z o.before o.now (Err fault)) one.0 goes.1.opening) refl refl
   walk t (Opens of o arbiter ∷ acts) first file mid left life life' es (Busy at opened has run) goes one leaves stops =
       absurd (open_opens disk host facts folder stamp t life at o.before opened goes.1.over)
   walk t (Opens of o arbiter ∷ acts) first file mid left life life' es (Idle closed is none) goes one leaves stops =
       one_more facts Starts setup Q first left es (Opens of o arbiter) acts tt
       (over_none facts Starts setup Q first left es acts none
-      (walk t acts first (file_of o.now) mid left goes.0 life' [] (Busy (moment arbiter o.now) goes.1.new_is refl running) goes.2 one.1 leaves.1 stops))
+      (walk t acts first (keeper_file o.now) mid left goes.0 life' [] (Busy (moment arbiter o.now) goes.1.new_is refl running) goes.2 one.1 leaves.1 stops))
     where
       running : Running facts Starts setup Q first [] (moment arbiter o.now)
       running = record {
@@ -178,8 +178,8 @@ module _ {P F : Type 0} (disk : DiskFacts) (host : HostFacts P F) (facts : F →
   walk t (Answers of e ∷ acts) first file mid left life life' es (Busy at opened has run) goes one leaves stops =
       one_answer facts Starts setup Q first left es of e acts
       (by e.after.arbiter.is_down refl
-      (λ is. walk t acts (file_of e.after.keeper) (file_of e.after.keeper) mid left goes.0 life' [] (Idle (shut_not_open goes.0 e.after.keeper is) refl refl) goes.2 one.1 leaves stops)
-      (λ is more. walk t acts first (file_of e.after.keeper) mid left goes.0 life' (es ++ e ∷ []) (Busy e.after is refl more) goes.2 one.1 leaves stops))
+      (λ is. walk t acts (keeper_file e.after.keeper) (keeper_file e.after.keeper) mid left goes.0 life' [] (Idle (shut_not_open goes.0 e.after.keeper is) refl refl) goes.2 one.1 leaves stops)
+      (λ is more. walk t acts first (keeper_file e.after.keeper) mid left goes.0 life' (es ++ e ∷ []) (Busy e.after is refl more) goes.2 one.1 leaves stops))
     where
       d : AnswersTo (disk_keepers disk host facts folder) (Open at) e goes.0
       d = subst (λ (l : Life (FileKeeper F)). AnswersTo (disk_keepers disk host facts folder) l e goes.0) opened goes.1
@@ -190,15 +190,15 @@ module _ {P F : Type 0} (disk : DiskFacts) (host : HostFacts P F) (facts : F →
       there : (b : Bool) → e.after.arbiter.is_down ≡ b → goes.0 ≡ cond b (Shut e.after.keeper) (Open e.after)
       there b is = d.1 ∙ ap (λ (x : Bool). cond {A = Life (FileKeeper F)} x (Shut e.after.keeper) (Open e.after)) is
 
-      by : (b : Bool) → e.after.arbiter.is_down ≡ b → (goes.0 ≡ Shut e.after.keeper → Past facts Starts setup Q (file_of e.after.keeper) left [] acts) → (goes.0 ≡ Open e.after → Running facts Starts setup Q first (es ++ e ∷ []) e.after → Past facts Starts setup Q first left (es ++ e ∷ []) acts) → Past facts Starts setup Q first left (es ++ e ∷ []) acts
-      by true is shut up = first_run facts Starts setup Q first (file_of e.after.keeper) left run.start (es ++ e ∷ []) acts run.over (lives.Between e.after more refl) (shut (there true is))
+      by : (b : Bool) → e.after.arbiter.is_down ≡ b → (goes.0 ≡ Shut e.after.keeper → Past facts Starts setup Q (keeper_file e.after.keeper) left [] acts) → (goes.0 ≡ Open e.after → Running facts Starts setup Q first (es ++ e ∷ []) e.after → Past facts Starts setup Q first left (es ++ e ∷ []) acts) → Past facts Starts setup Q first left (es ++ e ∷ []) acts
+      by true is shut up = first_run facts Starts setup Q first (keeper_file e.after.keeper) left run.start (es ++ e ∷ []) acts run.over (lives.Between e.after more refl) (shut (there true is))
       by false is shut up = up (there false is) (record { start = run.start; over = run.over; answered = more })
   walk t (Closes of left' ∷ acts) first file mid left life life' es (Idle closed is none) goes one leaves stops =
       absurd (closed_closes disk host facts folder stamp t life goes.0 left' closed goes.1)
   walk t (Closes of left' ∷ acts) first file mid left life life' es (Busy at opened has run) goes one leaves stops =
       one_more facts Starts setup Q first left es (Closes of left') acts tt
-      (first_run facts Starts setup Q first (file_of left') left run.start es acts run.over (lives.Between at run.answered (ap file_of c.0))
-      (walk t acts (file_of left') (file_of left') mid left goes.0 life' [] (Idle (shut_not_open goes.0 left' c.1) refl refl) goes.2 one.1 leaves stops))
+      (first_run facts Starts setup Q first (keeper_file left') left run.start es acts run.over (lives.Between at run.answered (ap keeper_file c.0))
+      (walk t acts (keeper_file left') (keeper_file left') mid left goes.0 life' [] (Idle (shut_not_open goes.0 left' c.1) refl refl) goes.2 one.1 leaves stops))
     where
       c : ClosesTo (Open at) left' goes.0
       c = subst (λ (l : Life (FileKeeper F)). ClosesTo l left' goes.0) opened goes.1

@@ -37,7 +37,7 @@ use Rattle.arbiter_server.specs.Folders.{Keepers}
 use Rattle.arbiter_server.specs.Games.{CommonView, Fresh, Goes, IsNotOpen, IsStrange, Life, Open, OpensTo, Shut, IsRefused, life_at}
 use Rattle.arbiter_server.specs.Serving.{InTurn, KeeperLost, Loss, NoLoss, PortLost, exchanges_of, handed, loses_keeper, outputs_of, passing_of, with_last}
 use Rattle.arbiter_server.specs.StoredBytes.{keeper_over}
-use Rattle.theorems.specs.Listens.{IsNamed, ListensAreHosted, act_by, act_of, acts_for, closing, common_of, one_game, why_none}
+use Rattle.theorems.specs.Listens.{IsGameOfSetup, ListensAreHosted, act_by, act_of, acts_for, closing, common_of, one_game, why_none}
 
 -- ---- bytes
 
@@ -286,7 +286,7 @@ replies_join xs ys = flat_map-append replies_of xs ys
 -- ---- the opening
 
 module _ {K : Type 0} (facts : KeeperFacts K) (setup : SetupView) (start now : K) (v : View) where
-  no_fault : (fault : OpenFault) → ◌≡◌ {A = opening.Told} (Ok v) (Err fault) → ⊥
+  no_fault : (fault : OpenFault) → ◌≡◌ {A = opening.OpenResult} (Ok v) (Err fault) → ⊥
   no_fault fault e = cc
 
   good : IsOpening facts setup start now (Ok v) → IsGood setup
@@ -305,7 +305,7 @@ module _ {K : Type 0} (facts : KeeperFacts K) (setup : SetupView) (start now : K
     where
       first : (keep : Keep) (before after : Option (List ℕ)) → FirstLands keep setup me before after (Ok v) → IsOpened me
       first Good before after l =
-          let e : ◌≡◌ {A = opening.Told} (Ok v) (Ok (running setup me (first_record (rules_at setup)))) = l.0 in
+          let e : ◌≡◌ {A = opening.OpenResult} (Ok v) (Ok (running setup me (first_record (rules_at setup)))) = l.0 in
           is_running me (first_record (rules_at setup)) (cc)
       first FailsOld before after l = absurd (no_fault open_fault.KeeperFailed l.0)
       first FailsNew before after l = absurd (no_fault open_fault.KeeperFailed l.0)
@@ -345,7 +345,7 @@ module _ {F : Type 0} (facts : F → KeptFacts) (setup : SetupView) (stamp : Lis
       by true is = refl
       by false is = rw (own_bytes stamp) (Shut now.keeper, (refl, refl), refl)
 
-  own_goes : (game : Found) (start : FileKeeper F) (opened now : Moment (FileKeeper F)) (es : List (Exchange (FileKeeper F))) → IsNamed setup game → IsOpening (keeper_over facts) setup start opened.keeper (Ok opened.arbiter) → Opened (keeper_over facts) setup start opened.keeper opened.arbiter → opened.arbiter.me.stamp.0 ≡ stamp → Runs (keeper_over facts) stamp opened es → InTurn (keeper_over facts) opened es now
+  own_goes : (game : Found) (start : FileKeeper F) (opened now : Moment (FileKeeper F)) (es : List (Exchange (FileKeeper F))) → IsGameOfSetup setup game → IsOpening (keeper_over facts) setup start opened.keeper (Ok opened.arbiter) → Opened (keeper_over facts) setup start opened.keeper opened.arbiter → opened.arbiter.me.stamp.0 ≡ stamp → Runs (keeper_over facts) stamp opened es → InTurn (keeper_over facts) opened es now
       → GoesOwn facts setup stamp Fresh (acts_for setup stamp start opened es now) (Shut now.keeper)
   own_goes game start opened now es named o opened_is mine runs turn =
       rw (own_bytes stamp) (life_at opened, opens, rest)

@@ -20,15 +20,15 @@ use Rattle.arbiter_core.specs.Keeping.{KeeperFacts}
 use Rattle.arbiter_core.specs.Setups.{SetupView, rules_at}
 use Rattle.arbiter_core.specs.Views.{View, spelled_as}
 use Rattle.arbiter_core.specs.Recording.{Recorded, Window}
-use Rattle.arbiter_core.specs.Answering.{Answer, Identity, Refuses, Sends, Puts, answer_heard, answer_to, asked}
+use Rattle.arbiter_core.specs.Answering.{Answer, Identity, Refuses, Sends, Puts, answer_heard, answer_to, request_of}
 use Rattle.arbiter_core.specs.Delivers.{Exchange, IsSpelled, IsWritten, Lands, PutsIfAny, RefusesOrSends, Told as Answered, Unchanged, answer_at, downed, heard}
-use Rattle.arbiter_core.specs.Opens.{FirstLands, IsResumed, IsWhole, Opens, OpensOver, PutsFirst, Resumes, Told as Opened, first_record, running}
+use Rattle.arbiter_core.specs.Opens.{FirstLands, IsResumed, IsWhole, OpenResult as Opened, Opens, OpensOver, PutsFirst, Resumes, first_record, running}
 use Rattle.relay_world.specs.declared.event.Event.{Event}
 use Rattle.relay_world.specs.declared.event.Event.TheVariants.{Deliver, Restart, Ask}
-use Rattle.relay_world.specs.Worlds.{Down, Judged, Life, Running, Side, World, after, answered, delivered, first_world, happens, hears, hears_at, identity, listed, restarted, side_of, turned, wants}
+use Rattle.relay_world.specs.Worlds.{Down, Judged, Running, Side, SideLife, World, answered, delivered, first_world, happens, hears, hears_at, identity, listed, restarted, side_in, wants, with_side, world_after_all}
 use Rattle.relay_world.specs.Headline.{IsFaithful, IsFrontOf}
 use Rattle.relay_world.specs.Runs.{KeptIs}
-use Rattle.theorems.specs.Nets.{Act, AnswersOne, Answering, AsksOne, Asking, ClosesOne, FoundAnswered, FoundOpened, Goes, GoesOn, IsHeeded, IsOfWorld, IsSetupOf, IsToBePut, Net, OpensOne, Opening, Site, arbiter_in, changed, first_net, sent_with, site_of}
+use Rattle.theorems.specs.Nets.{NetStep, AnswersOne, Answering, AsksOne, Asking, ClosesOne, FoundAnswered, FoundOpened, GoesBySteps, GoesByStep, IsHeeded, IsOfWorld, IsSetupOf, IsToBePut, Net, OpensOne, OpeningInNet, Site, arbiter_in, changed, first_net, sent_with, site_of}
 use Rattle.relay_world.proofs.Hearing.{written_too}
 use Rattle.relay_world.proofs.Reopening.{one_whole}
 use Rattle.relay_world.proofs.Pairing.{whole_of}
@@ -58,7 +58,7 @@ pub record ShowsNet (game : Judged) (net : Net) (world : World) : Type 0 where
   pub log : net.log ≡ world.log
 
 abbrev pub Stands : Judged → Net → Type 0
-Stands game net = (events : List Event) × ShowsNet game net (after game (first_world game) events)
+Stands game net = (events : List Event) × ShowsNet game net (world_after_all game (first_world game) events)
 
 -- ---- an answer
 
@@ -166,17 +166,17 @@ module _ {K : Type 0} (facts : KeeperFacts K) (game : Judged) (who : Who) (setup
   at_game_too Written l = subst (λ (r : Rules). Written r.delay) is_setup.rules l
 
   -- the first record is found, and no arbiter is open
-  first_found : (old found : Option (List ℕ)) (told : Opened) (f : OpenFault) (life : Life) (kept : Option Recorded) → told ≡ Err f → old ≡ None → KeptIs game.stamp game.rules.delay old kept → IsWritten game.stamp game.rules.delay First found → Reopens game who found told (record { kept = kept; life = life })
+  first_found : (old found : Option (List ℕ)) (told : Opened) (f : OpenFault) (life : SideLife) (kept : Option Recorded) → told ≡ Err f → old ≡ None → KeptIs game.stamp game.rules.delay old kept → IsWritten game.stamp game.rules.delay First found → Reopens game who found told (record { kept = kept; life = life })
   first_found old found told f life None is e k w = inr (FailsNew, record { kept = first_kept found w; runs = rw is tt })
   first_found old found told f life (Some r) is e k w = absurd (subst (IsWritten game.stamp game.rules.delay r) e k)
 
   -- what was kept stays, and no arbiter is open
-  closed : (old found : Option (List ℕ)) (now : K) (told : Opened) (f : OpenFault) (life : Life) (kept : Option Recorded) → told ≡ Err f → KeptIs game.stamp game.rules.delay old kept → facts.kept now ≡ old → FoundSo old now told found → Reopens game who found told (record { kept = kept; life = life })
+  closed : (old found : Option (List ℕ)) (now : K) (told : Opened) (f : OpenFault) (life : SideLife) (kept : Option Recorded) → told ≡ Err f → KeptIs game.stamp game.rules.delay old kept → facts.kept now ≡ old → FoundSo old now told found → Reopens game who found told (record { kept = kept; life = life })
   closed old found now told f life kept is k still (inl same) = inl (record { kept = subst (λ (x : Option (List ℕ)). KeptIs game.stamp game.rules.delay x kept) (sym (same ∙ still)) k; runs = rw is tt })
   closed old found now told f life kept is k still (inr to) = first_found old found told f life kept is to.1 k to.2
 
   -- the first record was put over nothing
-  put_first : (old found : Option (List ℕ)) (before now : K) (told : Opened) (life : Life) (kept : Option Recorded) → facts.kept before ≡ old → old ≡ None → KeptIs game.stamp game.rules.delay old kept → PutsFirst facts setup (identity game who) before now told → FoundSo old now told found → Reopens game who found told (record { kept = kept; life = life })
+  put_first : (old found : Option (List ℕ)) (before now : K) (told : Opened) (life : SideLife) (kept : Option Recorded) → facts.kept before ≡ old → old ≡ None → KeptIs game.stamp game.rules.delay old kept → PutsFirst facts setup (identity game who) before now told → FoundSo old now told found → Reopens game who found told (record { kept = kept; life = life })
   put_first old found before now told life (Some r) same e k q at = absurd (subst (IsWritten game.stamp game.rules.delay r) e k)
   put_first old found before now told life None same e k q at = landed q.keep q.lands at
     where
@@ -201,7 +201,7 @@ module _ {K : Type 0} (facts : KeeperFacts K) (game : Judged) (who : Who) (setup
       landed FailsNew l (inr to) = first_found old found told opening.KeeperFailed life None l.0 e k to.2
 
   -- an arbiter runs from the bytes that are kept, or they are refused
-  resumes : (old found : Option (List ℕ)) (bytes : List ℕ) (now : K) (told : Opened) (life : Life) (kept : Option Recorded) → old ≡ Some bytes → KeptIs game.stamp game.rules.delay old kept → IfSome kept (IsWhole game.rules) → facts.kept now ≡ old → Resumes setup (identity game who) bytes told → FoundSo old now told found → Reopens game who found told (record { kept = kept; life = life })
+  resumes : (old found : Option (List ℕ)) (bytes : List ℕ) (now : K) (told : Opened) (life : SideLife) (kept : Option Recorded) → old ≡ Some bytes → KeptIs game.stamp game.rules.delay old kept → IfSome kept (IsWhole game.rules) → facts.kept now ≡ old → Resumes setup (identity game who) bytes told → FoundSo old now told found → Reopens game who found told (record { kept = kept; life = life })
   resumes old found bytes now told life None is k whole still r at = let bad : old ≡ None = k in absurd (cc)
   resumes old found bytes now (Err fault) life (Some one) is k whole still r at = closed old found now (Err fault) fault life (Some one) refl k still at
   resumes old found bytes now (Ok v) life (Some one) is k whole still r (inr to) = absurd (no_open (Ok v) v opening.KeeperFailed refl to.0)
@@ -218,7 +218,7 @@ module _ {K : Type 0} (facts : KeeperFacts K) (game : Judged) (who : Who) (setup
         },
       )
 
-  pub reopens : (old found : Option (List ℕ)) (before now : K) (told : Opened) (life : Life) (kept : Option Recorded) → facts.kept before ≡ old → KeptIs game.stamp game.rules.delay old kept → IfSome kept (IsWhole game.rules) → Opens facts setup (identity game who) before now told → FoundSo old now told found → Reopens game who found told (record { kept = kept; life = life })
+  pub reopens : (old found : Option (List ℕ)) (before now : K) (told : Opened) (life : SideLife) (kept : Option Recorded) → facts.kept before ≡ old → KeptIs game.stamp game.rules.delay old kept → IfSome kept (IsWhole game.rules) → Opens facts setup (identity game who) before now told → FoundSo old now told found → Reopens game who found told (record { kept = kept; life = life })
   reopens old found before now told life kept same k whole (inl g) at = closed old found now told opening.KeeperFailed life kept g.answer k (g.still ∙ same) at
   reopens old found before now told life kept same k whole (inr (inl g)) at = closed old found now told opening.OutOfMemory life kept g.answer k (g.still ∙ same) at
   reopens old found before now told life kept same k whole (inr (inr o)) at = over (facts.kept before) same o
@@ -229,44 +229,44 @@ module _ {K : Type 0} (facts : KeeperFacts K) (game : Judged) (who : Who) (setup
 
 -- ---- the steps of the net
 
-pub shows_at : (game : Judged) (net : Net) (world : World) (who : Who) → ShowsNet game net world → Shows game who (site_of net who).kept (site_of net who).arbiter (side_of world who)
+pub shows_at : (game : Judged) (net : Net) (world : World) (who : Who) → ShowsNet game net world → Shows game who (site_of net who).kept (site_of net who).arbiter (side_in world who)
 shows_at game net world A h = h.a
 shows_at game net world B h = h.b
 
 -- one site changes as its side does
-turned_shows : (game : Judged) (net : Net) (world : World) (who : Who) (site : Site) (outputs : List Message) (late : Side × List Message) → ShowsNet game net world → Shows game who site.kept site.arbiter late.0 → outputs ≡ late.1 → ShowsNet game (changed net who site outputs) (turned world who late)
+turned_shows : (game : Judged) (net : Net) (world : World) (who : Who) (site : Site) (outputs : List Message) (late : Side × List Message) → ShowsNet game net world → Shows game who site.kept site.arbiter late.0 → outputs ≡ late.1 → ShowsNet game (changed net who site outputs) (with_side world who late)
 turned_shows game net world A site outputs late h s e = record { a = s; b = h.b; log = ap (λ (xs : List Message). net.log ++ xs) e ∙ ap (λ (xs : List Message). xs ++ late.1) h.log }
 turned_shows game net world B site outputs late h s e = record { a = h.a; b = s; log = ap (λ (xs : List Message). net.log ++ xs) e ∙ ap (λ (xs : List Message). xs ++ late.1) h.log }
 
 -- one site changes, and no side does
-still_shows : (game : Judged) (net : Net) (world : World) (who : Who) (site : Site) (outputs : List Message) → ShowsNet game net world → Shows game who site.kept site.arbiter (side_of world who) → outputs ≡ [] → ShowsNet game (changed net who site outputs) world
+still_shows : (game : Judged) (net : Net) (world : World) (who : Who) (site : Site) (outputs : List Message) → ShowsNet game net world → Shows game who site.kept site.arbiter (side_in world who) → outputs ≡ [] → ShowsNet game (changed net who site outputs) world
 still_shows game net world A site outputs h s e = record { a = s; b = h.b; log = ap (λ (xs : List Message). net.log ++ xs) e ∙ append-nil net.log ∙ h.log }
 still_shows game net world B site outputs h s e = record { a = h.a; b = s; log = ap (λ (xs : List Message). net.log ++ xs) e ∙ append-nil net.log ∙ h.log }
 
 -- a net that a further event leads to
-by_event : (game : Judged) (net : Net) (events : List Event) (event : Event) (world : World) → happens game (after game (first_world game) events) event ≡ world → ShowsNet game net world → Stands game net
+by_event : (game : Judged) (net : Net) (events : List Event) (event : Event) (world : World) → happens game (world_after_all game (first_world game) events) event ≡ world → ShowsNet game net world → Stands game net
 by_event game net events event world is h =
     (events ++ event ∷ [], subst (ShowsNet game net) (sym is ∙ sym (after_append game (first_world game) events (event ∷ []))) h)
 
-deliver_is : (game : Judged) (world : World) (who : Who) (i : ℕ) (keep : Keep) (m : Message) → slice_get world.log i ≡ Some m → happens game world (Deliver who i keep) ≡ turned world who (hears keep (side_of world who) (λ old window. answer_to game.rules (identity game who) old window m))
+deliver_is : (game : Judged) (world : World) (who : Who) (i : ℕ) (keep : Keep) (m : Message) → slice_get world.log i ≡ Some m → happens game world (Deliver who i keep) ≡ with_side world who (hears keep (side_in world who) (λ old window. answer_to game.rules (identity game who) old window m))
 unfolding happens
 deliver_is game world who i keep m e = ap (delivered game world who keep) e
 
-restart_is : (game : Judged) (world : World) (who : Who) (keep : Keep) → happens game world (Restart who keep) ≡ turned world who (restarted game.rules keep (side_of world who).kept, [])
+restart_is : (game : Judged) (world : World) (who : Who) (keep : Keep) → happens game world (Restart who keep) ≡ with_side world who (restarted game.rules keep (side_in world who).kept, [])
 unfolding happens
 restart_is game world who keep = refl
 
-ask_is : (game : Judged) (world : World) (who : Who) → happens game world (Ask who) ≡ turned world who (side_of world who, wants (identity game who) (side_of world who).kept (side_of world who).life)
+ask_is : (game : Judged) (world : World) (who : Who) → happens game world (Ask who) ≡ with_side world who (side_in world who, wants (identity game who) (side_in world who).kept (side_in world who).life)
 unfolding happens
 ask_is game world who = refl
 
-running_hears : (keep : Keep) (kept : Option Recorded) (life : Life) (old : Recorded) (window : Window) (respond : Recorded → Window → Answer) → kept ≡ Some old → life ≡ Running window → hears_at keep kept life respond ≡ answered keep old window (respond old window)
+running_hears : (keep : Keep) (kept : Option Recorded) (life : SideLife) (old : Recorded) (window : Window) (respond : Recorded → Window → Answer) → kept ≡ Some old → life ≡ Running window → hears_at keep kept life respond ≡ answered keep old window (respond old window)
 running_hears keep kept life old window respond e f = rw (e, f) refl
 
 same_side : (side : Side) (old : Recorded) (window : Window) → side.life ≡ Running window → side.kept ≡ Some old → side ≡ record { kept = Some old; life = Running window }
 same_side side old window e f = made side.kept side.life f e
   where
-    made : (kept : Option Recorded) (life : Life) → kept ≡ Some old → life ≡ Running window → ◌≡◌ {A = Side} (record { kept = kept; life = life }) (record { kept = Some old; life = Running window })
+    made : (kept : Option Recorded) (life : SideLife) → kept ≡ Some old → life ≡ Running window → ◌≡◌ {A = Side} (record { kept = kept; life = life }) (record { kept = Some old; life = Running window })
     made kept life e f = cc
 
 -- a message is heeded, or nothing comes of it
@@ -277,47 +277,47 @@ heeded rules me old window (Ack stamp who count) = inr refl
 heeded rules me old window (Verdict stamp who ply verdict) = inr refl
 heeded rules me old window (Fetch stamp who number wanted) = inl tt
 
-front_of : (game : Judged) (world : World) (who : Who) → IsFaithful game world → IfSome (side_of world who).kept (IsFrontOf game.rules game.moves)
+front_of : (game : Judged) (world : World) (who : Who) → IsFaithful game world → IfSome (side_in world who).kept (IsFrontOf game.rules game.moves)
 front_of game world A f = f.a
 front_of game world B f = f.b
 
 module _ {K : Type 0} (facts : KeeperFacts K) (game : Judged) where
-  opening_goes : (old new : Net) (who : Who) (before now : K) (told : Opened) → Stands game old → Opening facts game old who before now told new → Stands game new
+  opening_goes : (old new : Net) (who : Who) (before now : K) (told : Opened) → Stands game old → OpeningInNet facts game old who before now told new → Stands game new
   opening_goes old new who before now told s o =
       let events : List Event = s.0 in
-      let world : World = after game (first_world game) events in
+      let world : World = world_after_all game (first_world game) events in
       let shows = shows_at game old world who s.1 in
-      let whole = whole_of game.rules game.moves (side_of world who).kept (side_at game world who (holds_after game events)).kept in
-      subst (Stands game) (sym o.net) (by_cases events world refl s.1 (reopens facts game who o.is.setup o.is.is_setup (site_of old who).kept o.site.kept before now told (side_of world who).life (side_of world who).kept o.is.kept shows.kept whole o.is.opens o.is.found))
+      let whole = whole_of game.rules game.moves (side_in world who).kept (side_at game world who (holds_after game events)).kept in
+      subst (Stands game) (sym o.net) (by_cases events world refl s.1 (reopens facts game who o.is.setup o.is.is_setup (site_of old who).kept o.site.kept before now told (side_in world who).life (side_in world who).kept o.is.kept shows.kept whole o.is.opens o.is.found))
     where
-      by_cases : (events : List Event) (world : World) → world ≡ after game (first_world game) events → ShowsNet game old world → Reopens game who o.site.kept told (side_of world who) → Stands game (changed old who o.site [])
+      by_cases : (events : List Event) (world : World) → world ≡ world_after_all game (first_world game) events → ShowsNet game old world → Reopens game who o.site.kept told (side_in world who) → Stands game (changed old who o.site [])
       by_cases events world e h (inl r) =
-          (events, subst (ShowsNet game (changed old who o.site [])) e (still_shows game old world who o.site [] h (subst (λ (x : Option View). Shows game who o.site.kept x (side_of world who)) (sym o.is.arbiter) r) refl))
+          (events, subst (ShowsNet game (changed old who o.site [])) e (still_shows game old world who o.site [] h (subst (λ (x : Option View). Shows game who o.site.kept x (side_in world who)) (sym o.is.arbiter) r) refl))
       by_cases events world e h (inr r) =
-          let late : Side × List Message = (restarted game.rules r.0 (side_of world who).kept, []) in
-          by_event game (changed old who o.site []) events (Restart who r.0) (turned world who late)
-          (subst (λ (w : World). happens game w (Restart who r.0) ≡ turned world who late) e (restart_is game world who r.0))
-          (turned_shows game old world who o.site [] late h (subst (λ (x : Option View). Shows game who o.site.kept x (restarted game.rules r.0 (side_of world who).kept)) (sym o.is.arbiter) r.1) refl)
+          let late : Side × List Message = (restarted game.rules r.0 (side_in world who).kept, []) in
+          by_event game (changed old who o.site []) events (Restart who r.0) (with_side world who late)
+          (subst (λ (w : World). happens game w (Restart who r.0) ≡ with_side world who late) e (restart_is game world who r.0))
+          (turned_shows game old world who o.site [] late h (subst (λ (x : Option View). Shows game who o.site.kept x (restarted game.rules r.0 (side_in world who).kept)) (sym o.is.arbiter) r.1) refl)
 
   answering_goes : (old new : Net) (who : Who) (v : View) (before : K) (e : Exchange K) → Stands game old → Answering facts game old who v before e new → Stands game new
   answering_goes old new who v before e s o =
       let events : List Event = s.0 in
-      let world : World = after game (first_world game) events in
+      let world : World = world_after_all game (first_world game) events in
       let shows = shows_at game old world who s.1 in
-      let runs : RunsAt game who v (side_of world who) = subst (λ (x : Option View). RunsSo game who x (side_of world who)) o.is.stands shows.runs in
+      let runs : RunsAt game who v (side_in world who) = subst (λ (x : Option View). RunsSo game who x (side_in world who)) o.is.stands shows.runs in
       subst (Stands game) (sym o.net) (by_heard events world refl s.1 shows.kept runs (heard game.stamp e.datagram) refl)
     where
-      by_heard : (events : List Event) (world : World) → world ≡ after game (first_world game) events → ShowsNet game old world → KeptIs game.stamp game.rules.delay (site_of old who).kept (side_of world who).kept → RunsAt game who v (side_of world who) → (said : Result Message DeliverFault) → heard game.stamp e.datagram ≡ said → Stands game (changed old who o.site (sent_with e.told))
+      by_heard : (events : List Event) (world : World) → world ≡ world_after_all game (first_world game) events → ShowsNet game old world → KeptIs game.stamp game.rules.delay (site_of old who).kept (side_in world who).kept → RunsAt game who v (side_in world who) → (said : Result Message DeliverFault) → heard game.stamp e.datagram ≡ said → Stands game (changed old who o.site (sent_with e.told))
       by_heard events world at h kept runs said is = by_said said is answer (answer_comes facts game who v runs.rules runs.me o.is.runs e.after.arbiter before e.after.keeper e.told o.site.kept (answer_heard game.rules (identity game who) v.kept v.window said) written (subst (RefusesOrSends v before e.after.keeper e.after.arbiter e.told) answer o.is.delivers.answered) (subst (PutsIfAny facts v before e.after.keeper e.after.arbiter e.told) answer o.is.delivers.put) (found o.is.found))
         where
-          life : (side_of world who).life ≡ Running v.window
+          life : (side_in world who).life ≡ Running v.window
           life = (runs.is o.is.runs).0
 
-          is_kept : (side_of world who).kept ≡ Some v.kept
+          is_kept : (side_in world who).kept ≡ Some v.kept
           is_kept = (runs.is o.is.runs).1
 
-          side : side_of world who ≡ record { kept = Some v.kept; life = Running v.window }
-          side = same_side (side_of world who) v.kept v.window life is_kept
+          side : side_in world who ≡ record { kept = Some v.kept; life = Running v.window }
+          side = same_side (side_in world who) v.kept v.window life is_kept
 
           written : IsWritten game.stamp game.rules.delay v.kept (facts.kept before)
           written = subst (λ (x : Option (List ℕ)). IsWritten game.stamp game.rules.delay v.kept x) (sym o.is.kept) (subst (KeptIs game.stamp game.rules.delay (site_of old who).kept) is_kept kept)
@@ -338,7 +338,7 @@ module _ {K : Type 0} (facts : KeeperFacts K) (game : Judged) where
             events,
             subst (ShowsNet game (changed old who o.site (sent_with e.told))) at
                 (still_shows game old world who o.site (sent_with e.told) h
-                (subst (λ (x : Option View). Shows game who o.site.kept x (side_of world who)) (sym o.is.arbiter) (subst (Shows game who o.site.kept (Some e.after.arbiter)) (sym side) shows)) none),
+                (subst (λ (x : Option View). Shows game who o.site.kept x (side_in world who)) (sym o.is.arbiter) (subst (Shows game who o.site.kept (Some e.after.arbiter)) (sym side) shows)) none),
           )
 
           quiet : Comes game who o.site.kept e.after.arbiter (sent_with e.told) v.kept v.window (Sends [] v.window) → Stands game (changed old who o.site (sent_with e.told))
@@ -352,11 +352,11 @@ module _ {K : Type 0} (facts : KeeperFacts K) (game : Judged) where
               let sent = o.is.came m is holds in
               let there : slice_get world.log sent.0 ≡ Some m = subst (λ (xs : List Message). slice_get xs sent.0 ≡ Some m) h.log sent.1 in
               let late : Side × List Message = answered c.0 v.kept v.window (answer_to game.rules (identity game who) v.kept v.window m) in
-              let step : happens game world (Deliver who sent.0 c.0) ≡ turned world who late =
+              let step : happens game world (Deliver who sent.0 c.0) ≡ with_side world who late =
               deliver_is game world who sent.0 c.0 m there
-              ∙ ap (turned world who) (running_hears c.0 (side_of world who).kept (side_of world who).life v.kept v.window (λ old window. answer_to game.rules (identity game who) old window m) is_kept life) in
-              by_event game (changed old who o.site (sent_with e.told)) events (Deliver who sent.0 c.0) (turned world who late)
-              (subst (λ (w : World). happens game w (Deliver who sent.0 c.0) ≡ turned world who late) at step)
+              ∙ ap (with_side world who) (running_hears c.0 (side_in world who).kept (side_in world who).life v.kept v.window (λ old window. answer_to game.rules (identity game who) old window m) is_kept life) in
+              by_event game (changed old who o.site (sent_with e.told)) events (Deliver who sent.0 c.0) (with_side world who late)
+              (subst (λ (w : World). happens game w (Deliver who sent.0 c.0) ≡ with_side world who late) at step)
               (turned_shows game old world who o.site (sent_with e.told) late h (subst (λ (x : Option View). Shows game who o.site.kept x late.0) (sym o.is.arbiter) c.1) c.2)
 
           by_said : (said : Result Message DeliverFault) → heard game.stamp e.datagram ≡ said → answer_at v e.datagram ≡ answer_heard game.rules (identity game who) v.kept v.window said → Comes game who o.site.kept e.after.arbiter (sent_with e.told) v.kept v.window (answer_heard game.rules (identity game who) v.kept v.window said) → Stands game (changed old who o.site (sent_with e.told))
@@ -367,54 +367,54 @@ module _ {K : Type 0} (facts : KeeperFacts K) (game : Judged) where
   asking_goes : (old new : Net) (who : Who) (v : View) → Stands game old → Asking old who v new → Stands game new
   asking_goes old new who v s o =
       let events : List Event = s.0 in
-      let world : World = after game (first_world game) events in
+      let world : World = world_after_all game (first_world game) events in
       let shows = shows_at game old world who s.1 in
-      let runs : RunsAt game who v (side_of world who) = subst (λ (x : Option View). RunsSo game who x (side_of world who)) o.stands shows.runs in
-      let late : Side × List Message = (side_of world who, wants (identity game who) (side_of world who).kept (side_of world who).life) in
-      let said : listed (asked v.me v.kept) ≡ wants (identity game who) (side_of world who).kept (side_of world who).life =
-      ap (λ (x : Identity). listed (asked x v.kept)) runs.me ∙ sym (asks (side_of world who).kept (side_of world who).life (runs.is o.runs).1 (runs.is o.runs).0) in
+      let runs : RunsAt game who v (side_in world who) = subst (λ (x : Option View). RunsSo game who x (side_in world who)) o.stands shows.runs in
+      let late : Side × List Message = (side_in world who, wants (identity game who) (side_in world who).kept (side_in world who).life) in
+      let said : listed (request_of v.me v.kept) ≡ wants (identity game who) (side_in world who).kept (side_in world who).life =
+      ap (λ (x : Identity). listed (request_of x v.kept)) runs.me ∙ sym (asks (side_in world who).kept (side_in world who).life (runs.is o.runs).1 (runs.is o.runs).0) in
       subst (Stands game) (sym o.net)
-      (by_event game (changed old who (site_of old who) (listed (asked v.me v.kept))) events (Ask who) (turned world who late) (ask_is game world who)
-      (turned_shows game old world who (site_of old who) (listed (asked v.me v.kept)) late s.1 shows said))
+      (by_event game (changed old who (site_of old who) (listed (request_of v.me v.kept))) events (Ask who) (with_side world who late) (ask_is game world who)
+      (turned_shows game old world who (site_of old who) (listed (request_of v.me v.kept)) late s.1 shows said))
     where
-      asks : (kept : Option Recorded) (life : Life) → kept ≡ Some v.kept → life ≡ Running v.window → wants (identity game who) kept life ≡ listed (asked (identity game who) v.kept)
+      asks : (kept : Option Recorded) (life : SideLife) → kept ≡ Some v.kept → life ≡ Running v.window → wants (identity game who) kept life ≡ listed (request_of (identity game who) v.kept)
       asks kept life e f = rw (e, f) refl
 
   closing_goes : (old new : Net) (who : Who) → Stands game old → new ≡ changed old who (record { kept = (site_of old who).kept; arbiter = None }) [] → Stands game new
   closing_goes old new who s e =
-      let world : World = after game (first_world game) s.0 in
+      let world : World = world_after_all game (first_world game) s.0 in
       let shows = shows_at game old world who s.1 in
       subst (Stands game) (sym e) (s.0, still_shows game old world who (record { kept = (site_of old who).kept; arbiter = None }) [] s.1 (record { kept = shows.kept; runs = tt }) refl)
 
-  goes_on : (old new : Net) (act : Act K) → Stands game old → GoesOn facts game old act new → Stands game new
+  goes_on : (old new : Net) (act : NetStep K) → Stands game old → GoesByStep facts game old act new → Stands game new
   goes_on old new (OpensOne who before now told) s o = opening_goes old new who before now told s o
   goes_on old new (AnswersOne who v before e) s o = answering_goes old new who v before e s o
   goes_on old new (AsksOne who v) s o = asking_goes old new who v s o
   goes_on old new (ClosesOne who) s o = closing_goes old new who s o
 
-  goes : (old new : Net) (acts : List (Act K)) → Stands game old → Goes facts game old acts new → Stands game new
+  goes : (old new : Net) (acts : List (NetStep K)) → Stands game old → GoesBySteps facts game old acts new → Stands game new
   goes old new [] s e = subst (Stands game) (sym e) s
   goes old new (act ∷ acts) s g = goes g.0 new acts (goes_on old g.0 act s g.1) g.2
 
   first_stands : Stands game (first_net game)
   first_stands = ([], record { a = record { kept = refl; runs = tt }; b = record { kept = refl; runs = tt }; log = refl })
 
-  pub stands_there : (acts : List (Act K)) (net : Net) → Goes facts game (first_net game) acts net → Stands game net
+  pub stands_there : (acts : List (NetStep K)) (net : Net) → GoesBySteps facts game (first_net game) acts net → Stands game net
   stands_there acts net g = goes (first_net game) net acts first_stands g
 
   -- an arbiter that runs has the record of its side of the world
   pub runs_true : (net : Net) → Stands game net → (who : Who) (v : View) → (site_of net who).arbiter ≡ Some v → v.is_down ≡ false → IsFrontOf game.rules game.moves v.kept
   runs_true net s who v e up =
-      let world : World = after game (first_world game) s.0 in
+      let world : World = world_after_all game (first_world game) s.0 in
       let shows = shows_at game net world who s.1 in
-      let runs : RunsAt game who v (side_of world who) = subst (λ (x : Option View). RunsSo game who x (side_of world who)) e shows.runs in
+      let runs : RunsAt game who v (side_in world who) = subst (λ (x : Option View). RunsSo game who x (side_in world who)) e shows.runs in
       subst (λ (x : Option Recorded). IfSome x (IsFrontOf game.rules game.moves)) (runs.is up).1
       (front_of game world who (faithful_of game world (right_of game world (holds_after game s.0))))
 
-  pub arbiters_tell_the_truth : (acts : List (Act K)) (net : Net) → Goes facts game (first_net game) acts net → (who : Who) (v : View) → (site_of net who).arbiter ≡ Some v → v.is_down ≡ false → IsFrontOf game.rules game.moves v.kept
+  pub arbiters_tell_the_truth : (acts : List (NetStep K)) (net : Net) → GoesBySteps facts game (first_net game) acts net → (who : Who) (v : View) → (site_of net who).arbiter ≡ Some v → v.is_down ≡ false → IsFrontOf game.rules game.moves v.kept
   arbiters_tell_the_truth acts net g = runs_true net (stands_there acts net g)
 
-  pub arbiters_are_worlds : (acts : List (Act K)) (net : Net) → Goes facts game (first_net game) acts net → IsOfWorld game net
+  pub arbiters_are_worlds : (acts : List (NetStep K)) (net : Net) → GoesBySteps facts game (first_net game) acts net → IsOfWorld game net
   arbiters_are_worlds acts net g =
       let s = stands_there acts net g in
       record {
@@ -422,5 +422,5 @@ module _ {K : Type 0} (facts : KeeperFacts K) (game : Judged) where
         a = s.1.a.kept;
         b = s.1.b.kept;
         log = s.1.log;
-        faithful = faithful_of game (after game (first_world game) s.0) (right_of game (after game (first_world game) s.0) (holds_after game s.0));
+        faithful = faithful_of game (world_after_all game (first_world game) s.0) (right_of game (world_after_all game (first_world game) s.0) (holds_after game s.0));
       }

@@ -58,7 +58,7 @@ module _ {K : Type 0} (facts : KeeperFacts K) where
 
   -- ---- an opening
 
-  module _ (setup : SetupView) (me : Identity) (before now : K) (told : opening.Told) where
+  module _ (setup : SetupView) (me : Identity) (before now : K) (told : opening.OpenResult) where
     no_memory : NoMemory facts before now told → NoMemory seen_facts (seen before) (seen now) told
     no_memory n = record { answer = n.answer; still = n.still; cause = cause n.cause }
       where

@@ -18,7 +18,7 @@ use Rattle.arbiter_server.specs.Games.{Fresh, Life, Open, Shut}
 use Rattle.relay_world.specs.Worlds.{Judged, identity}
 use Rattle.theorems.specs.Nets as nets
 use Rattle.theorems.specs.Nets.{AnswersOne, ClosesOne, IsToBePut, Net, OpensOne, changed, site_of}
-use Rattle.theorems.specs.Weaves.{IsAt, IsCutAtFirst, IsCutAtPut, Stops, closed_with, open_with}
+use Rattle.theorems.specs.Weaves.{IsCutAtFirst, IsSiteCutAtPut, IsSiteOfLife, Stops, closed_with, open_with}
 use Rattle.theorems.proofs.Seeing.{Seen, seen_facts}
 use Rattle.theorems.proofs.Weaving.{Moves, close_after, closed}
 
@@ -70,7 +70,7 @@ none_some : (arbiter : Option View) (v : View) → arbiter ≡ None → arbiter 
 none_some arbiter v e f = cc
 
 -- an arbiter that is open at a site runs
-is_up : {K : Type 0} (facts : KeeperFacts K) (life : Life K) (kept : Option (List ℕ)) (arbiter : Option View) (v : View) → IsAt facts life (open_with kept arbiter) → arbiter ≡ Some v → v.is_down ≡ false
+is_up : {K : Type 0} (facts : KeeperFacts K) (life : Life K) (kept : Option (List ℕ)) (arbiter : Option View) (v : View) → IsSiteOfLife facts life (open_with kept arbiter) → arbiter ≡ Some v → v.is_down ≡ false
 is_up facts Fresh kept arbiter v here e = absurd (none_some arbiter v here e)
 is_up facts (Shut left) kept arbiter v here e = absurd (none_some arbiter v here e)
 is_up facts (Open at) kept arbiter v here e =
@@ -93,7 +93,7 @@ module _ {K : Type 0} (facts : KeeperFacts K) (game : Judged) (who : Who) (old n
       let net : new ≡ closed old who = is ∙ ap (λ (x : Option (List ℕ)). changed old who (closed_with x) []) same in
       record { acts = ClosesOne who ∷ []; goes = (new, net, refl); there = closed_with (site_of old who).kept; outputs = []; is = net; at = refl }
 
-  at_put : (found : Option (List ℕ)) (c : IsCutAtPut game old.log (site_of old who) found) → new ≡ changed old who (closed_with found) [] → c.arbiter.is_down ≡ false → Ended
+  at_put : (found : Option (List ℕ)) (c : IsSiteCutAtPut game old.log (site_of old who) found) → new ≡ changed old who (closed_with found) [] → c.arbiter.is_down ≡ false → Ended
   at_put found c is up = record {
     acts = AnswersOne who c.arbiter (before (site_of old who).kept) (cut_exchange c.arbiter c.datagram found) ∷ ClosesOne who ∷ [];
     goes = (DownAt found c.arbiter, answers, (new, is ∙ close_after old who found (Some (downed c.arbiter)) [], refl));
@@ -103,7 +103,7 @@ module _ {K : Type 0} (facts : KeeperFacts K) (game : Judged) (who : Who) (old n
     at = refl;
   }
     where
-      answers : nets.GoesOn seen_facts game old (AnswersOne who c.arbiter (before (site_of old who).kept) (cut_exchange c.arbiter c.datagram found)) (DownAt found c.arbiter)
+      answers : nets.GoesByStep seen_facts game old (AnswersOne who c.arbiter (before (site_of old who).kept) (cut_exchange c.arbiter c.datagram found)) (DownAt found c.arbiter)
       answers = record {
         site = open_with found (Some (downed c.arbiter));
         is = record { stands = c.stands; runs = up; kept = refl; came = c.came; delivers = cut_delivers c.arbiter (site_of old who).kept found c.datagram c.put; arbiter = refl; found = inl refl };
@@ -128,10 +128,10 @@ module _ {K : Type 0} (facts : KeeperFacts K) (game : Judged) (who : Who) (old n
     at = refl;
   }
 
-  pub stop_goes : (life : Life K) → IsAt facts life (site_of old who) → Stops game old who new → Ended
+  pub stop_goes : (life : Life K) → IsSiteOfLife facts life (site_of old who) → Stops game old who new → Ended
   stop_goes life here st = by_cut st.is_found
     where
-      by_cut : (st.found ≡ (site_of old who).kept) ⊎ (IsCutAtPut game old.log (site_of old who) st.found ⊎ IsCutAtFirst game who (site_of old who) st.found) → Ended
+      by_cut : (st.found ≡ (site_of old who).kept) ⊎ (IsSiteCutAtPut game old.log (site_of old who) st.found ⊎ IsCutAtFirst game who (site_of old who) st.found) → Ended
       by_cut (inl same) = at_rest st.found st.net same
       by_cut (inr (inl c)) = at_put st.found c st.net (is_up facts life (site_of old who).kept (site_of old who).arbiter c.arbiter here c.stands)
       by_cut (inr (inr c)) = at_first st.found c st.net

@@ -31,17 +31,17 @@ use Rattle.arbiter_server.specs.Folders.{Keepers}
 use Rattle.arbiter_server.specs.Acts as act
 use Rattle.arbiter_server.specs.Acts.{Act, Opening, acts_of, game_of, is_stamp}
 use Rattle.arbiter_server.specs.Games as host
-use Rattle.arbiter_server.specs.Games.{CommonView, Fresh, Goes, GoesOn, Life, Open, OpensTo, Shut, life_after, life_at}
+use Rattle.arbiter_server.specs.Games.{CommonView, Fresh, Goes, GoesByAct, Life, Open, OpensTo, Shut, life_after, life_at}
 use Rattle.relay_world.specs.Worlds.{Judged, identity}
 use Rattle.theorems.specs.Nets as nets
 use Rattle.theorems.specs.Nets.{AnswersOne, ClosesOne, FoundAnswered, FoundOpened, IsToBePut, Net, OpensOne, Site, arbiter_in, changed, first_net, sent_with, site_of}
-use Rattle.theorems.specs.Weaves.{Finds, GivesIf, GivesOwn, Hears, IsAt, IsHostOf, closed_with, open_with}
+use Rattle.theorems.specs.Weaves.{AnswersDatagram, Finds, GivesIf, GivesOwn, IsHostOf, IsSiteOfLife, closed_with, open_with}
 use Rattle.theorems.proofs.Seeing.{Seen, seen, seen_delivers, seen_exchange, seen_facts, seen_opens}
 
 -- ---- nets
 
-abbrev pub NetGoes : Judged → Net → List (nets.Act Seen) → Net → Type 0
-NetGoes game old acts new = nets.Goes seen_facts game old acts new
+abbrev pub NetGoes : Judged → Net → List (nets.NetStep Seen) → Net → Type 0
+NetGoes game old acts new = nets.GoesBySteps seen_facts game old acts new
 
 abbrev net_with : Net → List Message → Net
 net_with net log = record { a = net.a; b = net.b; log = log }
@@ -61,12 +61,12 @@ close_after net B kept arbiter outputs = ap (λ (l : List Message). net_with (ch
 
 -- steps of the net lead there, and one site alone changes, to where a life is
 pub record Moves {K : Type 0} (facts : KeeperFacts K) (game : Judged) (old : Net) (who : Who) (life : Life K) (new : Net) : Type 0 where
-  pub acts : List (nets.Act Seen)
+  pub acts : List (nets.NetStep Seen)
   pub goes : NetGoes game old acts new
   pub there : Site
   pub outputs : List Message
   pub is : new ≡ changed old who there outputs
-  pub at : IsAt facts life there
+  pub at : IsSiteOfLife facts life there
 
 -- ---- a setup of a host
 
@@ -92,7 +92,7 @@ one_or_two : (who : Who) (n : ℕ) → who_number who ≡ n → (n ≡ 1) ⊎ (n
 one_or_two A n e = inl (sym e)
 one_or_two B n e = inr (sym e)
 
-module _ (game : Judged) (who : Who) (t : CommonView) (of : IsHostOf game who t) (setup : SetupView) (is : host.IsSetupOf t game.stamp.0 setup) where
+module _ (game : Judged) (who : Who) (t : CommonView) (of : IsHostOf game who t) (setup : SetupView) (is : host.IsSetupOfStamp t game.stamp.0 setup) where
   number : who_number who ≡ setup.me
   number = sym (ap (λ (x : SetupView). x.me) is.common ∙ of.number)
 
@@ -114,7 +114,7 @@ module _ (game : Judged) (who : Who) (t : CommonView) (of : IsHostOf game who t)
 -- ---- what an opening tells
 
 module _ {K : Type 0} (facts : KeeperFacts K) (setup : SetupView) (me : Identity) (before now : K) (v : View) where
-  no_fault : (fault : OpenFault) → ◌≡◌ {A = opening.Told} (Ok v) (Err fault) → ⊥
+  no_fault : (fault : OpenFault) → ◌≡◌ {A = opening.OpenResult} (Ok v) (Err fault) → ⊥
   no_fault fault e = cc
 
   up_over : (was : Option (List ℕ)) → OpensOver facts setup me was before now (Ok v) → v.is_down ≡ false
@@ -122,7 +122,7 @@ module _ {K : Type 0} (facts : KeeperFacts K) (setup : SetupView) (me : Identity
     where
       landed : (keep : Keep) → FirstLands keep setup me (facts.kept before) (facts.kept now) (Ok v) → v.is_down ≡ false
       landed Good l =
-          let e : ◌≡◌ {A = opening.Told} (Ok v) (Ok (running setup me (first_record (rules_at setup)))) = l.0 in
+          let e : ◌≡◌ {A = opening.OpenResult} (Ok v) (Ok (running setup me (first_record (rules_at setup)))) = l.0 in
           let is : v ≡ running setup me (first_record (rules_at setup)) = cc in
           ap (λ (x : View). x.is_down) is
       landed FailsOld l = absurd (no_fault open_fault.KeeperFailed l.0)
@@ -135,7 +135,7 @@ module _ {K : Type 0} (facts : KeeperFacts K) (setup : SetupView) (me : Identity
   is_up (inr (inl n)) = absurd (no_fault open_fault.OutOfMemory n.answer)
   is_up (inr (inr o)) = up_over (facts.kept before) o
 
-two_faults : (told : opening.Told) → told ≡ Err open_fault.BadSetup → told ≡ Err open_fault.KeeperFailed → ⊥
+two_faults : (told : opening.OpenResult) → told ≡ Err open_fault.BadSetup → told ≡ Err open_fault.KeeperFailed → ⊥
 two_faults told e f =
     let bad : open_fault.BadSetup ≡ open_fault.KeeperFailed = cc in
     absurd (cc)
@@ -169,7 +169,7 @@ module _ {K : Type 0} (s : Keepers K) (t : CommonView) (game : Judged) (who : Wh
   GoesTo life = Moves s.facts game old who life new
 
   abbrev IsHere : Life K → Type 0
-  IsHere life = IsAt s.facts life (site_of old who)
+  IsHere life = IsSiteOfLife s.facts life (site_of old who)
 
   moved : (life later : Life K) → later ≡ life → GoesTo life → GoesTo later
   moved life later e m = subst GoesTo (sym e) m
@@ -177,19 +177,19 @@ module _ {K : Type 0} (s : Keepers K) (t : CommonView) (game : Judged) (who : Wh
   stays : (life : Life K) → IsHere life → new ≡ old → GoesTo life
   stays life here e = record { acts = []; goes = e; there = site_of old who; outputs = []; is = e ∙ still old who; at = here }
 
-  closes : (life : Life K) → IsAt s.facts life (closed_with (site_of old who).kept) → new ≡ closed old who → GoesTo life
+  closes : (life : Life K) → IsSiteOfLife s.facts life (closed_with (site_of old who).kept) → new ≡ closed old who → GoesTo life
   closes life at e = record { acts = ClosesOne who ∷ []; goes = (new, e, refl); there = closed_with (site_of old who).kept; outputs = []; is = e; at = at }
 
   -- ---- an opening
 
-  module _ (o : Opening K) (told : opening.Told) (f : Finds s.facts game old who o told new) where
-    opened_at : (told : opening.Told) → ((v : View) → told ≡ Ok v → v.is_down ≡ false) → FoundOpened s.facts game o.setup (site_of old who).kept o.now told f.found → IsAt s.facts (life_after o.now told) (open_with f.found (arbiter_in told))
+  module _ (o : Opening K) (told : opening.OpenResult) (f : Finds s.facts game old who o told new) where
+    opened_at : (told : opening.OpenResult) → ((v : View) → told ≡ Ok v → v.is_down ≡ false) → FoundOpened s.facts game o.setup (site_of old who).kept o.now told f.found → IsSiteOfLife s.facts (life_after o.now told) (open_with f.found (arbiter_in told))
     opened_at (Err fault) up found = refl
     opened_at (Ok v) up (inl e) = (refl, up v refl, e)
     opened_at (Ok v) up (inr to) = absurd (no_fault s.facts o.setup (identity game who) o.before o.now v open_fault.KeeperFailed to.0)
 
     bad_is : told ≡ Err open_fault.BadSetup → o.now ≡ o.before → new ≡ closed old who
-    bad_is e same = f.net ∙ ap (λ (x : Option (List ℕ)). changed old who (open_with x (arbiter_in told)) []) (found f.is_found) ∙ ap (λ (x : opening.Told). changed old who (open_with (site_of old who).kept (arbiter_in x)) []) e
+    bad_is e same = f.net ∙ ap (λ (x : Option (List ℕ)). changed old who (open_with x (arbiter_in told)) []) (found f.is_found) ∙ ap (λ (x : opening.OpenResult). changed old who (open_with (site_of old who).kept (arbiter_in x)) []) e
       where
         found : FoundOpened s.facts game o.setup (site_of old who).kept o.now told f.found → f.found ≡ (site_of old who).kept
         found (inl is) = is ∙ ap s.facts.kept same ∙ f.kept
@@ -225,18 +225,18 @@ module _ {K : Type 0} (s : Keepers K) (t : CommonView) (game : Judged) (who : Wh
             opens setup (subst (λ (me : Identity). Opens s.facts o.setup me o.before o.now told) (is_one game who o.setup g.0 g.1 setup.identity) g.2)
         by_delay (inl more) =
             let b = h.opening.bad (λ good. let few = good.delay in omega (arith, more, few)) in
-            closes (life_after o.now told) (subst (λ (x : opening.Told). IsAt s.facts (life_after o.now x) (closed_with (site_of old who).kept)) (sym b.0) refl) (bad_is b.0 b.1)
+            closes (life_after o.now told) (subst (λ (x : opening.OpenResult). IsSiteOfLife s.facts (life_after o.now x) (closed_with (site_of old who).kept)) (sym b.0) refl) (bad_is b.0 b.1)
 
   -- ---- an answer
 
-  module _ (at : Moment K) (here : IsHere (Open at)) (e : Exchange K) (h : Hears s.facts game old who e new) (d : Delivers s.facts at e) where
+  module _ (at : Moment K) (here : IsHere (Open at)) (e : Exchange K) (h : AnswersDatagram s.facts game old who e new) (d : Delivers s.facts at e) where
     found_so : FoundAnswered s.facts at.arbiter e h.found
     found_so = subst (λ (x : Option View). IfSome x (λ v. FoundAnswered s.facts v e h.found)) here.0 h.is_found
 
     abbrev AfterIt : Net
     AfterIt = changed old who (open_with h.found (Some e.after.arbiter)) (sent_with e.told)
 
-    answers : nets.GoesOn seen_facts game old (AnswersOne who at.arbiter (seen s.facts at.keeper) (seen_exchange s.facts e)) AfterIt
+    answers : nets.GoesByStep seen_facts game old (AnswersOne who at.arbiter (seen s.facts at.keeper) (seen_exchange s.facts e)) AfterIt
     answers = record {
       site = open_with h.found (Some e.after.arbiter);
       is = record { stands = here.0; runs = here.1; kept = sym here.2; came = h.came; delivers = seen_delivers s.facts at.arbiter at.keeper e d; arbiter = refl; found = found_so };
@@ -277,7 +277,7 @@ module _ {K : Type 0} (s : Keepers K) (t : CommonView) (game : Judged) (who : Wh
         after_it : (who : Who) → changed old who (closed_with h.found) (sent_with e.told) ≡ closed (changed old who (open_with h.found (Some e.after.arbiter)) (sent_with e.told)) who
         after_it who = close_after old who h.found (Some e.after.arbiter) (sent_with e.told)
 
-  answering_goes : (life later : Life K) (e : Exchange K) → IsHere life → host.AnswersTo s life e later → Hears s.facts game old who e new → GoesTo later
+  answering_goes : (life later : Life K) (e : Exchange K) → IsHere life → host.AnswersTo s life e later → AnswersDatagram s.facts game old who e new → GoesTo later
   answering_goes Fresh later e here to h = absurd to
   answering_goes (Shut left) later e here to h = absurd to
   answering_goes (Open at) later e here to h = moved (life_at e.after) later to.1 (answer_goes at here e h to.0 e.after.arbiter.is_down refl)
@@ -289,7 +289,7 @@ module _ {K : Type 0} (s : Keepers K) (t : CommonView) (game : Judged) (who : Wh
 
   -- ---- an act
 
-  own_goes : (life later : Life K) (a : Act K) → IsHere life → GoesOn s t game.stamp.0 life a later → GivesOwn s.facts game old who a new → GoesTo later
+  own_goes : (life later : Life K) (a : Act K) → IsHere life → GoesByAct s t game.stamp.0 life a later → GivesOwn s.facts game old who a new → GoesTo later
   own_goes life later (act.Unread datagram fault) here to g = absurd to
   own_goes life later (act.Strange stamp datagram tried why) here to g = moved life later to.2 (stays life here g)
   own_goes life later (act.Refuses stamp datagram o fault) here to g = opening_goes o (Err fault) g life later to

@@ -14,7 +14,7 @@ use Rattle.system_io.specs.Hosts.{HostFacts}
 use Rattle.system_io.specs.KeptFiles.{KeptFacts, IsCutOff, IsOneOfFound}
 use Rattle.arbiter_core.specs.Answering.{sent_by}
 use Rattle.arbiter_core.specs.Delivers.{Delivers, Exchange, Moment, moment}
-use Rattle.arbiter_core.specs.Opens.{IsOpening, Told, first_record}
+use Rattle.arbiter_core.specs.Opens.{IsOpening, OpenResult, first_record}
 use Rattle.arbiter_core.specs.Setups.{SetupView, rules_at}
 use Rattle.arbiter_core.specs.Views.{spelled_as}
 use Rattle.arbiter_server.specs.declared.file_keeper.FileKeeper.{FileKeeper}
@@ -22,7 +22,7 @@ use Rattle.arbiter_server.specs.Acts.{Act, Unread, Strange, Refuses, Opens, Answ
 use Rattle.arbiter_server.specs.DiskGames.{disk_keepers}
 use Rattle.arbiter_server.specs.Folders.{Keepers}
 use Rattle.arbiter_server.specs.Lives.{IsCutAtPut}
-use Rattle.arbiter_server.specs.StoredBytes.{StartsOver, file_of, keeper_over, stored}
+use Rattle.arbiter_server.specs.StoredBytes.{StartsOver, keeper_file, keeper_over, stored}
 use Rattle.relay_world.specs.Worlds.{Judged}
 use Rattle.theorems.specs.Nets.{IsNoForgery, IsSetupOf, Net, sent_with}
 use Rattle.theorems.specs.Weaves.{AreRunsOf, AreWoven, AtA, AtB, Deed, Does, Ends, Step, deeds_a, deeds_b}
@@ -36,15 +36,15 @@ pub data Held (F : Type 0) : Type 0 where
 
 abbrev pub file_in : {F : Type 0} → Held F → F
 file_in (Rests file) = file
-file_in (Plays at) = file_of at.keeper
+file_in (Plays at) = keeper_file at.keeper
 
-abbrev pub opened_to : {F : Type 0} → FileKeeper F → Told → Held F
+abbrev pub opened_to : {F : Type 0} → FileKeeper F → OpenResult → Held F
 opened_to now (Ok arbiter) = Plays (moment arbiter now)
-opened_to now (Err fault) = Rests (file_of now)
+opened_to now (Err fault) = Rests (keeper_file now)
 
 -- an arbiter that is down is closed at once
 abbrev pub answered_to : {F : Type 0} → Moment (FileKeeper F) → Held F
-answered_to at = cond at.arbiter.is_down (Rests (file_of at.keeper)) (Plays at)
+answered_to at = cond at.arbiter.is_down (Rests (keeper_file at.keeper)) (Plays at)
 
 -- a start that comes now finds this
 abbrev pub IsFoundIn : {F : Type 0} → (F → KeptFacts) → Held F → Option (List ℕ) → Type 0
@@ -53,14 +53,14 @@ IsFoundIn facts (Plays at) found = found ≡ stored at.keeper
 
 -- ---- what a host does, and what its file gives
 
-pub record OpensOver {F : Type 0} (facts : F → KeptFacts) (game : Judged) (who : Who) (file : F) (o : Opening (FileKeeper F)) (told : Told) (new : Held F) : Type 0 where
+pub record OpensOverFile {F : Type 0} (facts : F → KeptFacts) (game : Judged) (who : Who) (file : F) (o : Opening (FileKeeper F)) (told : OpenResult) (new : Held F) : Type 0 where
   pub starts : StartsOver facts file o.before
   pub is_setup : IsSetupOf game who o.setup
   pub opening : IsOpening (keeper_over facts) o.setup o.before o.now told
   pub to : new ≡ opened_to o.now told
 
-abbrev pub OpensAt : {F : Type 0} → (F → KeptFacts) → Judged → Who → Held F → Opening (FileKeeper F) → Told → Held F → Type 0
-OpensAt facts game who (Rests file) o told new = OpensOver facts game who file o told new
+abbrev pub OpensAt : {F : Type 0} → (F → KeptFacts) → Judged → Who → Held F → Opening (FileKeeper F) → OpenResult → Held F → Type 0
+OpensAt facts game who (Rests file) o told new = OpensOverFile facts game who file o told new
 OpensAt facts game who (Plays at) o told new = ⊥
 
 pub record AnswersOver {F : Type 0} (facts : F → KeptFacts) (game : Judged) (log : List Message) (at : Moment (FileKeeper F)) (e : Exchange (FileKeeper F)) (new : Held F) : Type 0 where
@@ -75,7 +75,7 @@ AnswersAt facts game log (Plays at) e new = AnswersOver facts game log at e new
 
 abbrev pub ClosesAt : {F : Type 0} → Held F → FileKeeper F → Held F → Type 0
 ClosesAt (Rests file) left new = ⊥
-ClosesAt (Plays at) left new = (left ≡ at.keeper) × (new ≡ Rests (file_of left))
+ClosesAt (Plays at) left new = (left ≡ at.keeper) × (new ≡ Rests (keeper_file left))
 
 abbrev pub ActsAt : {F : Type 0} → (F → KeptFacts) → Judged → Who → List Message → Held F → Act (FileKeeper F) → Held F → Type 0
 ActsAt facts game who log old (Unread datagram fault) new = new ≡ old
@@ -87,11 +87,11 @@ ActsAt facts game who log old (Closes stamp left) new = ClosesAt old left new
 
 -- the run ends, and this file is left: by itself or between two calls; within a put of the game's arbiter; after a start over the file;
 -- or within the put of the first record
-pub data EndsAt {F : Type 0} (facts : F → KeptFacts) (game : Judged) (who : Who) (log : List Message) (old : Held F) (left : F) : Type 0 where
-  Between : left ≡ file_in old → EndsAt facts game who log old left
-  AtPut : (at : Moment (FileKeeper F)) → old ≡ Plays at → (cut : IsCutAtPut facts at left) → IsNoForgery game log cut.datagram → EndsAt facts game who log old left
-  AtStart : (file : F) → old ≡ Rests file → (start : FileKeeper F) → StartsOver facts file start → left ≡ file_of start → EndsAt facts game who log old left
-  AtFirst : (file : F) → old ≡ Rests file → (start : FileKeeper F) → StartsOver facts file start → stored start ≡ None → (setup : SetupView) → IsSetupOf game who setup → (sent : List ℕ) → WritesRecord sent (spelled_as game.stamp setup.delay (first_record (rules_at setup))) → IsCutOff (facts (file_of start)) sent (facts left) → EndsAt facts game who log old left
+pub data EndsLeaving {F : Type 0} (facts : F → KeptFacts) (game : Judged) (who : Who) (log : List Message) (old : Held F) (left : F) : Type 0 where
+  Between : left ≡ file_in old → EndsLeaving facts game who log old left
+  AtPut : (at : Moment (FileKeeper F)) → old ≡ Plays at → (cut : IsCutAtPut facts at left) → IsNoForgery game log cut.datagram → EndsLeaving facts game who log old left
+  AtStart : (file : F) → old ≡ Rests file → (start : FileKeeper F) → StartsOver facts file start → left ≡ keeper_file start → EndsLeaving facts game who log old left
+  AtFirst : (file : F) → old ≡ Rests file → (start : FileKeeper F) → StartsOver facts file start → stored start ≡ None → (setup : SetupView) → IsSetupOf game who setup → (sent : List ℕ) → WritesRecord sent (spelled_as game.stamp setup.delay (first_record (rules_at setup))) → IsCutOff (facts (keeper_file start)) sent (facts left) → EndsLeaving facts game who log old left
 
 abbrev pub ActsIf : {F : Type 0} → Bool → (F → KeptFacts) → Judged → Who → List Message → Held F → Act (FileKeeper F) → Held F → Type 0
 ActsIf true facts game who log old act new = ActsAt facts game who log old act new
@@ -99,21 +99,21 @@ ActsIf false facts game who log old act new = new ≡ old
 
 abbrev pub DoesAt : {F : Type 0} → (F → KeptFacts) → Judged → Who → List Message → Held F → Deed (FileKeeper F) → Held F → Type 0
 DoesAt facts game who log old (Does act) new = ActsIf (is_stamp game.stamp.0 (game_of act)) facts game who log old act new
-DoesAt {F} facts game who log old Ends new = (left : F) × EndsAt facts game who log old left × (new ≡ Rests left)
+DoesAt {F} facts game who log old Ends new = (left : F) × EndsLeaving facts game who log old left × (new ≡ Rests left)
 
 -- ---- both hosts
 
 -- the messages that are sent for the game
-abbrev pub sent_in : {K : Type 0} → Act K → List Message
-sent_in (Unread datagram fault) = []
-sent_in (Strange stamp datagram tried why) = []
-sent_in (Refuses stamp datagram o fault) = []
-sent_in (Opens stamp o arbiter) = []
-sent_in (Answers stamp e) = sent_with e.told
-sent_in (Closes stamp left) = []
+abbrev pub sent_by_act : {K : Type 0} → Act K → List Message
+sent_by_act (Unread datagram fault) = []
+sent_by_act (Strange stamp datagram tried why) = []
+sent_by_act (Refuses stamp datagram o fault) = []
+sent_by_act (Opens stamp o arbiter) = []
+sent_by_act (Answers stamp e) = sent_with e.told
+sent_by_act (Closes stamp left) = []
 
 abbrev pub sent_for : {K : Type 0} → Judged → Deed K → List Message
-sent_for game (Does act) = cond (is_stamp game.stamp.0 (game_of act)) (sent_in act) []
+sent_for game (Does act) = cond (is_stamp game.stamp.0 (game_of act)) (sent_by_act act) []
 sent_for game Ends = []
 
 -- both, and every message that was ever sent

@@ -13,7 +13,7 @@ use Rattle.arbiter_server.specs.Folders.{Keepers}
 use Rattle.arbiter_server.specs.Acts.{Act, Unread, Strange, Refuses, Opens, Answers, Closes}
 use Rattle.arbiter_server.specs.Games.{CommonView, Fresh, Goes, IsNotOpen, Life, Open}
 use Rattle.arbiter_server.specs.Lives.{IsCutAtPut, IsStillThere}
-use Rattle.arbiter_server.specs.StoredBytes.{StartsOver, file_of, stored}
+use Rattle.arbiter_server.specs.StoredBytes.{StartsOver, keeper_file, stored}
 
 -- a run of a host as far as it is of one game: its acts of the game, and the file that the run left
 pub record HostRun (F : Type 0) : Type 0 where
@@ -27,18 +27,18 @@ abbrev pub Leaves : {F : Type 0} → (F → FileKeeper F → Type 0) → F → L
 Leaves Starts file [] last = last ≡ file
 Leaves Starts file (Unread datagram fault ∷ acts) last = Leaves Starts file acts last
 Leaves Starts file (Strange stamp datagram tried why ∷ acts) last = Leaves Starts file acts last
-Leaves Starts file (Refuses stamp datagram o fault ∷ acts) last = Starts file o.before × Leaves Starts (file_of o.now) acts last
-Leaves Starts file (Opens stamp o arbiter ∷ acts) last = Starts file o.before × Leaves Starts (file_of o.now) acts last
-Leaves Starts file (Answers stamp e ∷ acts) last = Leaves Starts (file_of e.after.keeper) acts last
-Leaves Starts file (Closes stamp left ∷ acts) last = Leaves Starts (file_of left) acts last
+Leaves Starts file (Refuses stamp datagram o fault ∷ acts) last = Starts file o.before × Leaves Starts (keeper_file o.now) acts last
+Leaves Starts file (Opens stamp o arbiter ∷ acts) last = Starts file o.before × Leaves Starts (keeper_file o.now) acts last
+Leaves Starts file (Answers stamp e ∷ acts) last = Leaves Starts (keeper_file e.after.keeper) acts last
+Leaves Starts file (Closes stamp left ∷ acts) last = Leaves Starts (keeper_file left) acts last
 
 -- where a run stopped, and the file that it left: between two calls; while the game's arbiter put the record that it was to answer
 -- with; when a keeper had started over the file; or while the first record of the game was put over nothing
 pub data StopsOver {F : Type 0} (facts : F → KeptFacts) (Starts : F → FileKeeper F → Type 0) (life : Life (FileKeeper F)) (file left : F) : Type 0 where
   Between : left ≡ file → StopsOver facts Starts life file left
   AtPut : (at : Moment (FileKeeper F)) → life ≡ Open at → IsCutAtPut facts at left → StopsOver facts Starts life file left
-  AtStart : IsNotOpen life → (start : FileKeeper F) → Starts file start → left ≡ file_of start → StopsOver facts Starts life file left
-  AtFirst : IsNotOpen life → (start : FileKeeper F) → Starts file start → (sent : List ℕ) → stored start ≡ None → IsCutOff (facts (file_of start)) sent (facts left) → StopsOver facts Starts life file left
+  AtStart : IsNotOpen life → (start : FileKeeper F) → Starts file start → left ≡ keeper_file start → StopsOver facts Starts life file left
+  AtFirst : IsNotOpen life → (start : FileKeeper F) → Starts file start → (sent : List ℕ) → stored start ≡ None → IsCutOff (facts (keeper_file start)) sent (facts left) → StopsOver facts Starts life file left
 
 -- ---- the runs
 

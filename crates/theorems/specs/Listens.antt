@@ -26,14 +26,14 @@ use Rattle.theorems.specs.Weaves.{AcksAreFound, HostsAreWorlds, HostsTellTheTrut
 -- ---- a host of one game
 
 -- the game of the setup is this one
-abbrev pub IsNamed : SetupView → Found → Type 0
-IsNamed setup game = (setup.name ≡ game.name.items) × (setup.start ≡ game.start) × (setup.delay ≡ game.delay)
+abbrev pub IsGameOfSetup : SetupView → Found → Type 0
+IsGameOfSetup setup game = (setup.name ≡ game.name.items) × (setup.start ≡ game.start) × (setup.delay ≡ game.delay)
 
 -- what a host knows that has this game alone: of each other stamp there is no game
 abbrev pub one_game : {F : Type 0} → (F → KeptFacts) → SetupView → List ℕ → Keepers (FileKeeper F)
 one_game facts setup stamp = record {
   facts = keeper_over facts;
-  tells = λ of game. (of ≡ stamp) × IsNamed setup game;
+  tells = λ of game. (of ≡ stamp) × IsGameOfSetup setup game;
   refuses = λ of why. (of ≡ stamp → ⊥) × (why ≡ unopened.NoGame);
   withholds = λ of why. ⊥;
   is_of = λ of keeper. of ≡ stamp;
@@ -79,7 +79,7 @@ pub record IsAsHosted {F : Type 0} (facts : F → KeptFacts) (setup : SetupView)
 abbrev pub ListensAreHosted : {F : Type 0} → (F → KeptFacts) → Type 0
 ListensAreHosted {F} facts =
     (game : Found) (setup : SetupView) (start : FileKeeper F) (opened now : Moment (FileKeeper F)) (port port' : PortFacts) (first : List Passing) (run : Session (FileKeeper F))
-    → IsNamed setup game
+    → IsGameOfSetup setup game
     → IsOpening (keeper_over facts) setup start opened.keeper (Ok opened.arbiter)
     → ServesSession (keeper_over facts) opened now port port' first run
     → IsAsHosted facts setup start opened now (exchanges_of run)

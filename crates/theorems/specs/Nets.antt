@@ -11,11 +11,11 @@ use Rattle.arbiter_core.specs.declared.fault.OpenFault.TheVariants as opening
 use Rattle.arbiter_core.specs.Keeping.{KeeperFacts}
 use Rattle.arbiter_core.specs.Setups.{SetupView, IsIdentity, rules_at}
 use Rattle.arbiter_core.specs.Views.{View}
-use Rattle.arbiter_core.specs.Answering.{Answer, Refuses, Sends, Puts, asked, sent_by}
+use Rattle.arbiter_core.specs.Answering.{Answer, Refuses, Sends, Puts, request_of, sent_by}
 use Rattle.arbiter_core.specs.Delivers.{Delivers, Exchange, IsWritten, Told as Answered, answer_at, heard, moment}
-use Rattle.arbiter_core.specs.Opens.{Opens, Told as Opened, first_record}
+use Rattle.arbiter_core.specs.Opens.{OpenResult as Opened, Opens, first_record}
 use Rattle.relay_world.specs.declared.event.Event.{Event}
-use Rattle.relay_world.specs.Worlds.{Judged, after, first_world, identity, listed}
+use Rattle.relay_world.specs.Worlds.{Judged, first_world, identity, listed, world_after_all}
 use Rattle.relay_world.specs.Headline.{IsFaithful, IsFrontOf}
 use Rattle.relay_world.specs.Runs.{KeptIs}
 
@@ -45,15 +45,15 @@ first_net game = record { a = record { kept = None; arbiter = None }; b = record
 
 -- ---- the steps
 
-pub data Act (K : Type 0) : Type 0 where
+pub data NetStep (K : Type 0) : Type 0 where
   -- an arbiter is opened, or refused: the keeper before and after it, and what was told
-  OpensOne : (who : Who) (before now : K) (told : Opened) → Act K
+  OpensOne : (who : Who) (before now : K) (told : Opened) → NetStep K
   -- an arbiter that runs answers a datagram
-  AnswersOne : (who : Who) (arbiter : View) (before : K) (exchange : Exchange K) → Act K
+  AnswersOne : (who : Who) (arbiter : View) (before : K) (exchange : Exchange K) → NetStep K
   -- an arbiter that runs asks for moves
-  AsksOne : (who : Who) (arbiter : View) → Act K
+  AsksOne : (who : Who) (arbiter : View) → NetStep K
   -- an arbiter is closed, or its process ends
-  ClosesOne : (who : Who) → Act K
+  ClosesOne : (who : Who) → NetStep K
 
 -- a setup of one of the two arbiters of the game
 pub record IsSetupOf (game : Judged) (who : Who) (setup : SetupView) : Type 0 where
@@ -71,7 +71,7 @@ FoundOpened facts game setup old now told found =
     ⊎ ((told ≡ Err opening.KeeperFailed) × (old ≡ None) × IsWritten game.stamp game.rules.delay (first_record (rules_at setup)) found)
 
 -- the keeper keeps what is found there, and what is told is what opening an arbiter of the game leaves
-pub record IsOpening {K : Type 0} (facts : KeeperFacts K) (game : Judged) (who : Who) (old : Site) (before now : K) (told : Opened) (new : Site) : Type 0 where
+pub record IsOpeningAtSite {K : Type 0} (facts : KeeperFacts K) (game : Judged) (who : Who) (old : Site) (before now : K) (told : Opened) (new : Site) : Type 0 where
   pub setup : SetupView
   pub is_setup : IsSetupOf game who setup
   pub kept : facts.kept before ≡ old.kept
@@ -106,7 +106,7 @@ FoundAnswered facts v e found =
     (found ≡ facts.kept e.after.keeper) ⊎ ((e.told ≡ Err deliver.KeeperFailed) × IsToBePut v (answer_at v e.datagram) found)
 
 -- the arbiter runs, its keeper keeps what is found there, and it answers as `deliver` does
-pub record IsAnswer {K : Type 0} (facts : KeeperFacts K) (game : Judged) (log : List Message) (old : Site) (v : View) (before : K) (e : Exchange K) (new : Site) : Type 0 where
+pub record IsAnswerAtSite {K : Type 0} (facts : KeeperFacts K) (game : Judged) (log : List Message) (old : Site) (v : View) (before : K) (e : Exchange K) (new : Site) : Type 0 where
   pub stands : old.arbiter ≡ Some v
   pub runs : v.is_down ≡ false
   pub kept : facts.kept before ≡ old.kept
@@ -115,32 +115,32 @@ pub record IsAnswer {K : Type 0} (facts : KeeperFacts K) (game : Judged) (log : 
   pub arbiter : new.arbiter ≡ Some e.after.arbiter
   pub found : FoundAnswered facts v e new.kept
 
-pub record Opening {K : Type 0} (facts : KeeperFacts K) (game : Judged) (old : Net) (who : Who) (before now : K) (told : Opened) (new : Net) : Type 0 where
+pub record OpeningInNet {K : Type 0} (facts : KeeperFacts K) (game : Judged) (old : Net) (who : Who) (before now : K) (told : Opened) (new : Net) : Type 0 where
   pub site : Site
-  pub is : IsOpening facts game who (site_of old who) before now told site
+  pub is : IsOpeningAtSite facts game who (site_of old who) before now told site
   pub net : new ≡ changed old who site []
 
 pub record Answering {K : Type 0} (facts : KeeperFacts K) (game : Judged) (old : Net) (who : Who) (v : View) (before : K) (e : Exchange K) (new : Net) : Type 0 where
   pub site : Site
-  pub is : IsAnswer facts game old.log (site_of old who) v before e site
+  pub is : IsAnswerAtSite facts game old.log (site_of old who) v before e site
   pub net : new ≡ changed old who site (sent_with e.told)
 
 pub record Asking (old : Net) (who : Who) (v : View) (new : Net) : Type 0 where
   pub stands : (site_of old who).arbiter ≡ Some v
   pub runs : v.is_down ≡ false
-  pub net : new ≡ changed old who (site_of old who) (listed (asked v.me v.kept))
+  pub net : new ≡ changed old who (site_of old who) (listed (request_of v.me v.kept))
 
 -- one step
-abbrev pub GoesOn : {K : Type 0} → KeeperFacts K → Judged → Net → Act K → Net → Type 0
-GoesOn facts game old (OpensOne who before now told) new = Opening facts game old who before now told new
-GoesOn facts game old (AnswersOne who v before e) new = Answering facts game old who v before e new
-GoesOn facts game old (AsksOne who v) new = Asking old who v new
-GoesOn facts game old (ClosesOne who) new = new ≡ changed old who (record { kept = (site_of old who).kept; arbiter = None }) []
+abbrev pub GoesByStep : {K : Type 0} → KeeperFacts K → Judged → Net → NetStep K → Net → Type 0
+GoesByStep facts game old (OpensOne who before now told) new = OpeningInNet facts game old who before now told new
+GoesByStep facts game old (AnswersOne who v before e) new = Answering facts game old who v before e new
+GoesByStep facts game old (AsksOne who v) new = Asking old who v new
+GoesByStep facts game old (ClosesOne who) new = new ≡ changed old who (record { kept = (site_of old who).kept; arbiter = None }) []
 
 -- steps in turn
-abbrev pub Goes : {K : Type 0} → KeeperFacts K → Judged → Net → List (Act K) → Net → Type 0
-Goes facts game old [] new = new ≡ old
-Goes facts game old (act ∷ acts) new = (mid : Net) × GoesOn facts game old act mid × Goes facts game mid acts new
+abbrev pub GoesBySteps : {K : Type 0} → KeeperFacts K → Judged → Net → List (NetStep K) → Net → Type 0
+GoesBySteps facts game old [] new = new ≡ old
+GoesBySteps facts game old (act ∷ acts) new = (mid : Net) × GoesByStep facts game old act mid × GoesBySteps facts game mid acts new
 
 -- ---- what holds
 
@@ -148,19 +148,19 @@ Goes facts game old (act ∷ acts) new = (mid : Net) × GoesOn facts game old ac
 -- the game.
 pub record IsOfWorld (game : Judged) (net : Net) : Type 0 where
   pub events : List Event
-  pub a : KeptIs game.stamp game.rules.delay net.a.kept (after game (first_world game) events).a.kept
-  pub b : KeptIs game.stamp game.rules.delay net.b.kept (after game (first_world game) events).b.kept
-  pub log : net.log ≡ (after game (first_world game) events).log
-  pub faithful : IsFaithful game (after game (first_world game) events)
+  pub a : KeptIs game.stamp game.rules.delay net.a.kept (world_after_all game (first_world game) events).a.kept
+  pub b : KeptIs game.stamp game.rules.delay net.b.kept (world_after_all game (first_world game) events).b.kept
+  pub log : net.log ≡ (world_after_all game (first_world game) events).log
+  pub faithful : IsFaithful game (world_after_all game (first_world game) events)
 
 -- Wherever two arbiters of one game come by their own steps over keepers of a type, a schedule leads to what is found there.
 abbrev pub ArbitersAreWorlds : {K : Type 0} → KeeperFacts K → Type 0
 ArbitersAreWorlds {K = K} facts =
-    (game : Judged) (acts : List (Act K)) (net : Net) → Goes facts game (first_net game) acts net → IsOfWorld game net
+    (game : Judged) (acts : List (NetStep K)) (net : Net) → GoesBySteps facts game (first_net game) acts net → IsOfWorld game net
 
 -- What one of them tells while it runs is so: its record, of which each of its lines and messages tells, is the first moves of the game,
 -- with the first verdict exactly at its ply.
 abbrev pub ArbitersTellTheTruth : {K : Type 0} → KeeperFacts K → Type 0
 ArbitersTellTheTruth {K = K} facts =
-    (game : Judged) (acts : List (Act K)) (net : Net) → Goes facts game (first_net game) acts net
+    (game : Judged) (acts : List (NetStep K)) (net : Net) → GoesBySteps facts game (first_net game) acts net
     → (who : Who) (v : View) → (site_of net who).arbiter ≡ Some v → v.is_down ≡ false → IsFrontOf game.rules game.moves v.kept

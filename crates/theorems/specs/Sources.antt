@@ -28,11 +28,11 @@ ComesOfWorld game events all = (m : Message) → stamp_in m ≡ game.stamp → H
 
 -- What a source tells of such a game is so: the verdict that both have reported is the first of the game, no two verdicts differ, and
 -- a move that both have acknowledged is kept by both.
-pub record TellsTheTruth (game : Judged) (events : List Event) (all : List Passing) : Type 0 where
+pub record SourceTellsTheTruth (game : Judged) (events : List Event) (all : List Passing) : Type 0 where
   pub verdict : (r : Ruling) → IsRuled game.stamp r all → IsFirst game.rules game.moves r.ply r.verdict
   pub no_clash : (c : Clash) → IsClash game.stamp c all → ⊥
   pub kept_a : (n : ℕ) → IsAcked game.stamp n all → n < count_in (world_after game events) A
   pub kept_b : (n : ℕ) → IsAcked game.stamp n all → n < count_in (world_after game events) B
 
 abbrev pub SourcesTellTheTruth : Type 0
-SourcesTellTheTruth = (game : Judged) (events : List Event) (all : List Passing) → ComesOfWorld game events all → TellsTheTruth game events all
+SourcesTellTheTruth = (game : Judged) (events : List Event) (all : List Passing) → ComesOfWorld game events all → SourceTellsTheTruth game events all

@@ -5,8 +5,8 @@
 -- opening, what opening and delivering leave, from where each delivery starts, and that a game that is opened wasn't open. What no
 -- contract can give is a premise, and stands here:
 -- - `IsHostOf`: which hosts these are.
--- - `goes` of `IsRunOf`, of a run that was stopped: its acts go on from one another as those of a run that returns.
--- - `Finds`, `Hears` and `Stops`: the game that was found under the stamp is this one, no message of it is made up, and keepers keep.
+-- - `goes` of `IsRunOfHost`, of a run that was stopped: its acts go on from one another as those of a run that returns.
+-- - `Finds`, `AnswersDatagram` and `Stops`: the game that was found under the stamp is this one, no message of it is made up, and keepers keep.
 -- - `GivesOwn` and `GivesIf`: a datagram that no arbiter gets, a closing, and an act of another game leave what is found.
 --
 -- A real run meets them. Let the keepers of a game at a host be over one file, to which nobody else writes, and let its sites be as
@@ -22,11 +22,11 @@ use Rattle.move_msg.specs.declared.message.Message.TheVariants.{Ack}
 use Rattle.move_msg.specs.declared.stamp.Stamp.{Stamp}
 use Rattle.move_msg.specs.Senders.{who_number}
 use Rattle.arbiter_core.specs.Keeping.{KeeperFacts}
-use Rattle.arbiter_core.specs.Recording.{Recorded, count_of}
+use Rattle.arbiter_core.specs.Recording.{Recorded, move_count}
 use Rattle.arbiter_core.specs.Setups.{SetupView, rules_at}
 use Rattle.arbiter_core.specs.Views.{View}
 use Rattle.arbiter_core.specs.Delivers.{Exchange, IsWritten, Moment, answer_at}
-use Rattle.arbiter_core.specs.Opens.{Told, first_record}
+use Rattle.arbiter_core.specs.Opens.{OpenResult, first_record}
 use Rattle.arbiter_server.specs.Folders.{Keepers}
 use Rattle.arbiter_server.specs.Acts.{Act, Unread, Strange, Refuses, Opens, Answers, Closes, Opening, acts_of, game_of, is_stamp}
 use Rattle.arbiter_server.specs.Games.{CommonView, Fresh, Goes, Life, Open, Shut}
@@ -71,12 +71,12 @@ later_runs [] = []
 later_runs (Does act ∷ deeds) = later_runs deeds
 later_runs (Ends ∷ deeds) = first_run deeds ∷ later_runs deeds
 
-abbrev pub last_of : {K : Type 0} → List (Act K) → List (List (Act K)) → List (Act K)
-last_of run [] = run
-last_of run (next ∷ later) = last_of next later
+abbrev pub last_among : {K : Type 0} → List (Act K) → List (List (Act K)) → List (Act K)
+last_among run [] = run
+last_among run (next ∷ later) = last_among next later
 
 abbrev pub last_run : {K : Type 0} → List (Deed K) → List (Act K)
-last_run deeds = last_of (first_run deeds) (later_runs deeds)
+last_run deeds = last_among (first_run deeds) (later_runs deeds)
 
 -- ---- what the contract of a host gives
 
@@ -88,7 +88,7 @@ pub record IsHostOf (game : Judged) (who : Who) (t : CommonView) : Type 0 where
 -- These acts are what a run of it has done so far: those of the game go on from one another by its steps, to some life. Of a run that
 -- returns, and of each front of one, the contract of `Server::serve` gives this (`FrontsAreRuns`). Premise: so it is of a run that was
 -- stopped.
-pub record IsRunOf {K : Type 0} (s : Keepers K) (game : Judged) (who : Who) (acts : List (Act K)) : Type 0 where
+pub record IsRunOfHost {K : Type 0} (s : Keepers K) (game : Judged) (who : Who) (acts : List (Act K)) : Type 0 where
   pub common : CommonView
   pub of : IsHostOf game who common
   pub life : Life K
@@ -97,11 +97,11 @@ pub record IsRunOf {K : Type 0} (s : Keepers K) (game : Judged) (who : Who) (act
 -- the acts of a run that returns, and each front of them, are those of a run
 abbrev pub FrontsAreRuns : {K : Type 0} → Keepers K → Type 0
 FrontsAreRuns {K = K} s =
-    (game : Judged) (who : Who) (common : CommonView) (acts rest : List (Act K)) → IsHostOf game who common → IsHosted s common (acts ++ rest) → IsRunOf s game who acts
+    (game : Judged) (who : Who) (common : CommonView) (acts rest : List (Act K)) → IsHostOf game who common → IsHosted s common (acts ++ rest) → IsRunOfHost s game who acts
 
 -- so are those of each run
 abbrev pub AreRunsOf : {K : Type 0} → Keepers K → Judged → Who → List (Deed K) → Type 0
-AreRunsOf s game who deeds = AllByRecursion (IsRunOf s game who) (first_run deeds ∷ later_runs deeds)
+AreRunsOf s game who deeds = AllByRecursion (IsRunOfHost s game who) (first_run deeds ∷ later_runs deeds)
 
 -- ---- what the outside gives
 
@@ -113,7 +113,7 @@ abbrev pub open_with : Option (List ℕ) → Option View → Site
 open_with found arbiter = record { kept = found; arbiter = arbiter }
 
 -- An arbiter of the game is opened, or refused.
-pub record Finds {K : Type 0} (facts : KeeperFacts K) (game : Judged) (old : Net) (who : Who) (o : Opening K) (told : Told) (new : Net) : Type 0 where
+pub record Finds {K : Type 0} (facts : KeeperFacts K) (game : Judged) (old : Net) (who : Who) (o : Opening K) (told : OpenResult) (new : Net) : Type 0 where
   -- premise: the game that was found under the stamp is this one, and no other of the same stamp
   pub start : o.setup.start ≡ game.rules.start
   pub delay : o.setup.delay ≡ game.rules.delay
@@ -129,7 +129,7 @@ abbrev pub if_up : View → Option View
 if_up v = cond v.is_down None (Some v)
 
 -- The arbiter of the game answers a datagram.
-pub record Hears {K : Type 0} (facts : KeeperFacts K) (game : Judged) (old : Net) (who : Who) (e : Exchange K) (new : Net) : Type 0 where
+pub record AnswersDatagram {K : Type 0} (facts : KeeperFacts K) (game : Judged) (old : Net) (who : Who) (e : Exchange K) (new : Net) : Type 0 where
   -- premise: a message of the game was sent before, by the source or by one of the two
   pub came : IsNoForgery game old.log e.datagram
   -- premise: the next opening finds what this keeper keeps then; or, where its put failed, the record that was to be put
@@ -138,7 +138,7 @@ pub record Hears {K : Type 0} (facts : KeeperFacts K) (game : Judged) (old : Net
   pub net : new ≡ changed old who (open_with found (if_up e.after.arbiter)) (sent_with e.told)
 
 -- the process was stopped while its arbiter put the record that it was to answer this datagram with, and this is found
-pub record IsCutAtPut (game : Judged) (log : List Message) (old : Site) (found : Option (List ℕ)) : Type 0 where
+pub record IsSiteCutAtPut (game : Judged) (log : List Message) (old : Site) (found : Option (List ℕ)) : Type 0 where
   pub arbiter : View
   pub stands : old.arbiter ≡ Some arbiter
   pub datagram : List ℕ
@@ -156,7 +156,7 @@ pub record IsCutAtFirst (game : Judged) (who : Who) (old : Site) (found : Option
 pub record Stops (game : Judged) (old : Net) (who : Who) (new : Net) : Type 0 where
   -- premise: the next opening finds what was found; or, where the process was stopped within a put, what was to be put
   pub found : Option (List ℕ)
-  pub is_found : (found ≡ (site_of old who).kept) ⊎ (IsCutAtPut game old.log (site_of old who) found ⊎ IsCutAtFirst game who (site_of old who) found)
+  pub is_found : (found ≡ (site_of old who).kept) ⊎ (IsSiteCutAtPut game old.log (site_of old who) found ⊎ IsCutAtFirst game who (site_of old who) found)
   pub net : new ≡ changed old who (closed_with found) []
 
 -- an act of the game; premise: a datagram that no arbiter gets changes nothing (so it is of an acknowledgement and a verdict of a game
@@ -166,7 +166,7 @@ GivesOwn facts game old who (Unread datagram fault) new = new ≡ old
 GivesOwn facts game old who (Strange stamp datagram tried why) new = new ≡ old
 GivesOwn facts game old who (Refuses stamp datagram o fault) new = Finds facts game old who o (Err fault) new
 GivesOwn facts game old who (Opens stamp o arbiter) new = Finds facts game old who o (Ok arbiter) new
-GivesOwn facts game old who (Answers stamp e) new = Hears facts game old who e new
+GivesOwn facts game old who (Answers stamp e) new = AnswersDatagram facts game old who e new
 GivesOwn facts game old who (Closes stamp left) new = new ≡ changed old who (closed_with (site_of old who).kept) []
 
 -- an act of the game; premise: an act of another one changes nothing of this one
@@ -188,15 +188,15 @@ Weaves a b game old (AtB deed ∷ steps) new = (mid : Net) × GivesFor b game ol
 -- ---- what holds
 
 -- a site is as its host has it: an arbiter that is open runs, and what a start would find is what its keeper keeps
-abbrev pub IsAt : {K : Type 0} → KeeperFacts K → Life K → Site → Type 0
-IsAt facts Fresh site = site.arbiter ≡ None
-IsAt facts (Shut left) site = site.arbiter ≡ None
-IsAt facts (Open at) site = (site.arbiter ≡ Some at.arbiter) × (at.arbiter.is_down ≡ false) × (site.kept ≡ facts.kept at.keeper)
+abbrev pub IsSiteOfLife : {K : Type 0} → KeeperFacts K → Life K → Site → Type 0
+IsSiteOfLife facts Fresh site = site.arbiter ≡ None
+IsSiteOfLife facts (Shut left) site = site.arbiter ≡ None
+IsSiteOfLife facts (Open at) site = (site.arbiter ≡ Some at.arbiter) × (at.arbiter.is_down ≡ false) × (site.kept ≡ facts.kept at.keeper)
 
 -- so it is wherever the last run of its host has led the game
 abbrev pub StandsAt : {K : Type 0} → Keepers K → Judged → List (Deed K) → Site → Type 0
 StandsAt {K = K} s game deeds site =
-    (common : CommonView) (life : Life K) → Goes s common game.stamp.0 Fresh (acts_of game.stamp.0 (last_run deeds)) life → IsAt s.facts life site
+    (common : CommonView) (life : Life K) → Goes s common game.stamp.0 Fresh (acts_of game.stamp.0 (last_run deeds)) life → IsSiteOfLife s.facts life site
 
 -- what is found at both hosts, and all that was sent, is what a world of the game keeps and has sent, and that world is true to
 -- the game; and each site is where its host has led
@@ -218,7 +218,7 @@ HostsAreWorlds {K = K} {L = L} a b = (game : Judged) (steps : List (Step K L)) (
 -- a record is found of the game's first moves, so many at least; or nothing, where these are none
 abbrev pub HasMoves : Judged → ℕ → Option (List ℕ) → Type 0
 HasMoves game n None = n ≡ 0
-HasMoves game n (Some bytes) = (kept : Recorded) × IsWritten game.stamp game.rules.delay kept (Some bytes) × IsFrontOf game.rules game.moves kept × (n ≤ count_of kept)
+HasMoves game n (Some bytes) = (kept : Recorded) × IsWritten game.stamp game.rules.delay kept (Some bytes) × IsFrontOf game.rules game.moves kept × (n ≤ move_count kept)
 
 -- As many moves as a host ever acknowledged are found there, then and later: all that was ever sent stays in the log.
 abbrev pub AcksAreFound : {K L : Type 0} → Keepers K → Keepers L → Type 0

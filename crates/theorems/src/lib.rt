@@ -7,8 +7,8 @@
 //!
 //! What the outside gives is a premise, act by act, in `specs/Nets.antt` and `specs/Weaves.antt`; nothing that a contract gives
 //! is stated there again. Of two hosts these are: which hosts they are and what their tables mean (`IsHostOf`); that the game
-//! found under the stamp is this one, that no message of it is made up, and that keepers keep (`Finds`, `Hears`, `Stops`); that the
-//! acts of a stopped run go on as those of one that returns (`goes` of `IsRunOf`); that a closing, an act of another game and a datagram
+//! found under the stamp is this one, that no message of it is made up, and that keepers keep (`Finds`, `AnswersDatagram`, `Stops`); that the
+//! acts of a stopped run go on as those of one that returns (`goes` of `IsRunOfHost`); that a closing, an act of another game and a datagram
 //! without a keeper leave what is found (`GivesOwn`, `GivesIf`).
 //!
 //! In `proofs/`: `Netting` (arbiters), `Seeing` (keepers of any type, seen as what they keep), `Weaving` (an act of a host as
