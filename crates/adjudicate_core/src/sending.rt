@@ -6,7 +6,8 @@ ghost use Rattle.board_core.specs.Position.{IsPosition};
 ghost use Rattle.fen_text.specs.Fen.{SpellsPosition};
 ghost use Rattle.adjudicate_core.specs.Lines.{refusal_words};
 ghost use Rattle.adjudicate_core.specs.Outsides.{outside_of};
-ghost use Rattle.adjudicate_core.specs.Sends.{BindsAndSends, EndsOnce, IsFiled, IsSent, IsStamped, LacksFile, LacksSent, LacksTold, SendsGame, SendsOver};
+ghost use Rattle.adjudicate_core.specs.Inside.SendingParts.{BindsFrom};
+ghost use Rattle.adjudicate_core.specs.Sends.{EndsOnce, IsFiled, IsSent, IsStamped, LacksFile, LacksSent, LacksTold, SendsGame, SendsOver};
 ghost use Rattle.line_teller.specs.ToldLines.{HasFailed};
 
 use crate::binding::bind;
@@ -152,7 +153,7 @@ fn bind_and_send<D: Disk, I: Input, H: Host, W: Output>(
     history: &mut H::History,
     out: &mut W,
 ) -> Result<Ended, WriteFault>
-    ensures told { BindsAndSends (outside_of D.facts I.facts H.facts H.made H.Port.facts H.File.facts system.now history.old history.new) task.now game.now.stamp game.now.start (W.contents out.old) (W.contents out.new) result }
+    ensures told { BindsFrom (outside_of D.facts I.facts H.facts H.made H.Port.facts H.File.facts system.now history.old history.new) task.now game.now.stamp game.now.start W.contents out.old out.new result }
     ensures cause { OnErr result (HasFailed W.facts) }
 {
     let terms = terms_of(task, game.stamp);

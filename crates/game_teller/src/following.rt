@@ -5,12 +5,11 @@ ghost use Rattle.board_core.specs.ComputedMoves.{position_after};
 ghost use Rattle.board_core.specs.declared.moves.Move.{Move as Moves};
 ghost use Rattle.board_core.specs.Delays.{most_delay};
 ghost use Rattle.fen_text.specs.Coordinates.{SpellsMove};
-ghost use Rattle.judge_core.specs.Games.{Rules};
 ghost use Rattle.line_teller.specs.ToldLines.{HasFailed, TellsInTurn, stops_by};
 ghost use Rattle.system_io.specs.declared.reading.ReadFault.{ReadFault};
 ghost use Rattle.game_teller.specs.Agreements.{AgreesIfKnown};
 ghost use Rattle.game_teller.specs.Followings.{FollowsInTurn, FollowsTo, rules_by};
-ghost use Rattle.game_teller.specs.Inside.Steps.{CutsPly, HasBegun, IsNoNext, LineCuts, LineSteps, PutsPly, StepCuts, StepsByLine, TurnsByLine, stop_by};
+ghost use Rattle.game_teller.specs.Inside.Steps.{CutsPly, FollowsFrom, IsNoNext, LineCuts, LineSteps, PutsPly, StepCuts, StepsByLine, TurnsByLine, stop_by};
 
 use crate::lines::{Stop, put_ply_now, put_stop};
 use board_core::{Position, Verdict};
@@ -175,8 +174,7 @@ impl<'a> Course<'a> {
     ) -> Result<bool, WriteFault>
         requires delay { self.old.delay ≤ most_delay }
         requires gone { (W.facts out.old).gone }
-        ensures follows { (rules : Rules) (before : Option (List ℕ)) → rules.tables ≡ self.old.set.tables → rules.delay ≡ self.old.delay
-            → HasBegun rules self.old.standing before (W.contents out.old) → FollowsTo rules (stops_by (L.facts reader.old)) (L.facts reader.old).left before (W.contents out.new) result }
+        ensures follows { FollowsFrom self.old (L.facts reader.old) (W.contents out.old) (W.contents out.new) result }
         ensures cause { OnErr result (HasFailed W.facts) }
         ensures turns { OnOk result (TellsInTurn L.facts W.facts W.contents reader.old out.old out.new) }
     {

@@ -4,7 +4,7 @@ ghost use Rattle.std.specs.Prelude.{◌≡◌, ◌<◌, ◌≤◌, length, take,
 ghost use Rattle.judge_core.specs.Tables.{AreFiled};
 ghost use Rattle.board_core.specs.Delays.{most_delay};
 ghost use Rattle.judge_core.specs.Games.{Rules, IsUnruled, IsOutcome, plies_to};
-ghost use Rattle.judge_core.specs.Inside.Following.{IsFollowed};
+ghost use Rattle.judge_core.specs.Inside.Following.{FollowsPly};
 ghost use Rattle.judge_core.specs.Standings.{IsAt, ListsMovesInGame};
 
 use crate::set::Set;
@@ -69,8 +69,7 @@ impl<'a> Set<'a> {
     ) -> Result<Option<GameOutcome>, AllocError>
         requires delay { delay ≤ most_delay }
         requires within { ply < length moves.now }
-        ensures value { (rules : Rules) → rules.tables ≡ self.old.tables → rules.delay ≡ delay → IsAt rules (take ply moves.now) standing.old
-            → IsUnruled rules moves.now ply → IfOk result (λ ended. IsFollowed rules moves.now ply ended standing.new) }
+        ensures value { FollowsPly self.old.tables delay moves.now ply standing.old standing.new result }
         ensures memory { (rules : Rules) → rules.tables ≡ self.old.tables → IsAt rules (take ply moves.now) standing.old → OnErr result (ListsMovesInGame rules moves.now) }
         ensures unchanged { self.new ≡ self.old }
     {

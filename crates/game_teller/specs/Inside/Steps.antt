@@ -1,5 +1,5 @@
 -- One line of a game that is told ply by ply.
-use Rattle.std.specs.Prelude.{◌≡◌, ◌⊎◌, ◌++◌, ◌+◌, ℕ, List, [], ◌∷◌, Option, Some, None, Result, Ok, Err}
+use Rattle.std.specs.Prelude.{◌≡◌, ◌⊎◌, ◌++◌, ◌+◌, ℕ, Bool, List, [], ◌∷◌, Option, Some, None, Result, Ok, Err}
 use Rattle.std.specs.Io.KnownBytes.{Appends, IsAtEnd}
 use Rattle.board_core.specs.declared.parts.Parts.{Parts}
 use Rattle.board_core.specs.declared.moves.Move.{Move as Moves}
@@ -12,6 +12,7 @@ use Rattle.judge_core.specs.Standings.{IsAt, Reached}
 use Rattle.judge_core.specs.Tables.{Tables}
 use Rattle.line_teller.specs.ToldLines.{HasFront, stops_by}
 use Rattle.move_msg.specs.TextLines.{ended}
+use Rattle.system_io.specs.declared.output.WriteFault.{WriteFault}
 use Rattle.system_io.specs.declared.reading.ReadFault.{ReadFault}
 use Rattle.system_io.specs.declared.reading.ReadFault.TheVariants as read
 use Rattle.system_io.specs.LineReaders.{LineFacts, ReadsLine}
@@ -20,6 +21,7 @@ use Rattle.game_teller.specs.declared.lines.Stop.TheVariants as stop
 use Rattle.game_teller.specs.declared.following.Course.{Course}
 use Rattle.game_teller.specs.declared.following.Step.{Step}
 use Rattle.game_teller.specs.declared.following.Step.TheVariants as step
+use Rattle.game_teller.specs.Followings.{FollowsTo}
 use Rattle.game_teller.specs.Plies.{ply_words, stop_words}
 
 -- why a line gives no position: it is no move, or no legal one
@@ -91,3 +93,8 @@ StepCuts input now old number new out out' =
 -- the start is told, which has no verdict
 abbrev pub HasBegun : Rules → Reached → Option (List ℕ) → Option (List ℕ) → Type 0
 HasBegun rules s before out = IsAt rules [] s × (verdict_after rules [] ≡ None) × Appends before out (ended (ply_words 0 None s.position))
+
+-- by whatever rules a game has begun to be told so, from then on it is followed, whatever was written before
+abbrev pub FollowsFrom : Course → LineFacts → Option (List ℕ) → Option (List ℕ) → Result Bool WriteFault → Type 0
+FollowsFrom course input out out' r =
+    (rules : Rules) (before : Option (List ℕ)) → rules.tables ≡ course.set.tables → rules.delay ≡ course.delay → HasBegun rules course.standing before out → FollowsTo rules (stops_by input) input.left before out' r
