@@ -111,17 +111,8 @@ impl<'a> Arbiter<'a> {
         terms.with(set)
     }
 
-    /// Puts the arbiter to rest: all of it but its tables, and these, which may serve others meanwhile.
-    pub fn rest(self) -> (ArbiterState<'a>, Set<'a>)
-        ensures is { awake result.0 result.1 ≡ self.entry }
-        ensures wakes { CanWake result.0 result.1 }
-    {
-        let Arbiter { state, set } = self;
-        (state, set)
-    }
-
-    /// Wakes an arbiter with the tables that it had, or with others by which its record is whole too.
-    pub fn wake(resting: ArbiterState<'a>, set: Set<'a>) -> Arbiter<'a>
+    /// The arbiter of a state and of tables by which its record is whole.
+    pub(crate) fn wake(resting: ArbiterState<'a>, set: Set<'a>) -> Arbiter<'a>
         requires { CanWake resting set }
         ensures { result ≡ awake resting.entry set.entry }
     {

@@ -27,9 +27,8 @@
 //!   reported only of a get that reports it, of bytes laid out as a record, or over nothing kept.
 //! - CLAIM: `Arbiter::open`, clause `keeps`; `Arbiter::deliver`, clause `keeps`: a running arbiter's record is what its keeper
 //!   keeps.
-//! - CLAIM: `Arbiter::rest`, clauses `is`, `wakes`; `Arbiter::wake`; `ArbiterState::deliver`, clauses `same`, `wakes`, `setup`:
-//!   an arbiter is taken apart into state and tables, and woken with these it is the one that it was. A state that is lent tables
-//!   by which its record is whole answers as the arbiter that wakes with them, and leaves these and its setup as they were.
+//! - CLAIM: `ArbiterState::deliver`, clauses `same`, `wakes`, `setup`: a state that is lent tables by which its record is whole
+//!   answers as the arbiter of both, and leaves these and its setup as they were.
 //! - CLAIM: `laws::reached_in_words`; `laws::record_in_words`; `laws::last_ply_in_words`; `laws::one_resumed`: the record at a
 //!   ply is the game's first moves, legal in turn, with no verdict before and the first verdict where it lies there.
 //! - CLAIM: `laws::puts_grow`: a record that is put has more moves than the one before.
