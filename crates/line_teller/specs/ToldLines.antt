@@ -42,7 +42,8 @@ WritesTold IsTold old new done = (words : List ℕ) × IsTold (record { words = 
 abbrev pub HasFront : Option (List ℕ) → Option (List ℕ) → List ℕ → Type 0
 HasFront old new text = (n : ℕ) × Appends old new (take n text)
 
--- a writer failed: at some moment it refused a write, or some of what was written couldn't go out
+-- A writer of this type failed: at some moment a write to it might be refused, or some of what was written couldn't go out. Nothing ties the
+-- moment to a call: a body that knows no more of its writer has it only from a call that failed.
 pub record HasFailed {W : Type 0} (facts : W → OutputFacts) : Type 0 where
   pub at : W
   pub so : (facts at).refuses ⊎ (facts at).stuck
