@@ -216,7 +216,6 @@ impl<'t> Case<'t> {
             "bound" => self.is_bound = true,
             "mute" => self.is_mute = true,
             "front" => self.wanted.is_front = true,
-            "fault" => self.wanted.ended = Err(WriteFault::Io),
             _ => return Err(Fault::Line),
         }
         if text.is_empty() {

@@ -1,39 +1,33 @@
 //! A teller that counts bytes.
 
-ghost use Rattle.std.specs.Prelude.{◌≡◌, IfSome};
+ghost use Rattle.std.specs.Prelude.{◌≡◌, OnErr};
 ghost use Rattle.std.specs.Fmt.{decimal};
+ghost use Rattle.line_teller.specs.ToldLines.{HasFailed};
 ghost use Rattle.move_msg.specs.TextLines.{ended};
 ghost use Rattle.system_io.specs.Outputs.{WritesFront};
 
-use arrayvec::ArrayVec;
-use line_teller::{TellFault, Teller};
-use std::io::Write;
+use line_teller::{LineWords, TellFault, Teller};
 use system_io::{Output, WriteFault};
 
-/// Answers the number of bytes of a line; an answer of one byte isn't complete. For an empty line memory is refused,
-/// and at the line `!` the writer fails.
+/// Answers the number of bytes of a line; an answer of one byte isn't complete. For an empty line memory is refused.
 #[derive(Drop)]
 pub(crate) struct Counting;
 
-/// A count as a line; none where it has more than 32 bytes, which none has.
-fn count_line(count: usize) -> Option<ArrayVec<u8, 32>>
-    ensures { IfSome result (λ line. line.items ≡ ended (decimal count)) }
+/// A count as a line.
+fn count_line(count: usize) -> LineWords
+    ensures { result ≡ decimal count }
 {
-    let mut line = ArrayVec::new();
-    match writeln!(line, "{count}") {
-        Ok(()) => Some(line),
-        Err(_) => None,
-    }
+    let mut line = LineWords::new();
+    line.add_number(count);
+    line
 }
 
 /// Writes a count as a line. Where the writer fails, a front of it is written.
 fn put_count<W: Output>(out: &mut W, count: usize) -> Result<(), WriteFault>
-    ensures { WritesFront (W.contents out.old) (W.contents out.new) (ended (decimal count)) result }
+    ensures front { WritesFront (W.contents out.old) (W.contents out.new) (ended (decimal count)) result }
+    ensures cause { OnErr result (HasFailed W.facts) }
 {
-    match count_line(count) {
-        Some(line) => out.put(line.as_slice()),
-        None => Err(WriteFault::Io),
-    }
+    count_line(count).put(out)
 }
 
 impl Teller for Counting {
@@ -44,9 +38,6 @@ impl Teller for Counting {
     fn tell<W: Output>(&mut self, line: &[u8], out: &mut W) -> Result<bool, TellFault> {
         if line.is_empty() {
             return Err(TellFault::OutOfMemory);
-        }
-        if line == b"!".as_slice() {
-            return Err(TellFault::Io);
         }
         match put_count(out, line.len()) {
             Ok(()) => Ok(line.len() > 1),
