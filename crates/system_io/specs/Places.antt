@@ -1,5 +1,6 @@
 -- Where the system's ports and kept files are (this project's own).
-use Rattle.std.specs.Prelude.{◌≡◌, ℕ, List, Option, map, string_bytes}
+use Rattle.std.specs.Prelude.{◌≡◌, ◌<◌, ◌≤◌, ◌++◌, ℕ, List, Option, codes, map, string_bytes}
+use Rattle.std.specs.Fmt.{decimal}
 use Rattle.std.specs.List.{All}
 use Rattle.std.specs.declared.net.socket_addr.SocketAddr.{SocketAddr}
 use Rattle.system_io.specs.Recipients.{IsAddressed, addressed_word}
@@ -29,3 +30,16 @@ IsAtPath path file = AreFor path file.calls
 -- the file that is locked is the one at this path
 abbrev pub Locks : List ℕ → LockFile → Type 0
 Locks path lock = string_bytes lock.path ≡ path
+
+-- the name of a file beside the one at a path, by its place among those names: `.new` behind the path, from place 2 on with a dot and the
+-- place before that
+pub record IsBesideAt (path : List ℕ) (place : ℕ) (name : List ℕ) : Type 0 where
+  pub first : place < 2 → name ≡ path ++ codes ".new"
+  pub later : 2 ≤ place → name ≡ path ++ (codes "." ++ (decimal place ++ codes ".new"))
+
+-- one of the sixteen names
+pub record IsBeside (path name : List ℕ) : Type 0 where
+  pub place : ℕ
+  pub some : 1 ≤ place
+  pub few : place ≤ 16
+  pub named : IsBesideAt path place name

@@ -1,7 +1,8 @@
 //! The file beside another, which is to take its name.
 
-ghost use Rattle.std.specs.Prelude.{◌≡◌, false, true};
+ghost use Rattle.std.specs.Prelude.{◌≡◌, false, true, string_bytes, IfOk};
 ghost use Rattle.std.specs.Fs.{asks_create, asks_create_new, asks_truncate};
+ghost use Rattle.system_io.specs.Places.{IsBeside, IsBesideAt};
 
 use std::alloc::{AllocError, Global};
 use std::fs::{File, OpenOptions, TryLockError};
@@ -21,7 +22,9 @@ pub(crate) struct BesideFile {
 }
 
 /// The name of a file beside: the path with `.new` appended, or with the place before that, from 2 on.
-fn name_at(alloc: Global, path: &str, place: u32) -> Result<String, AllocError> {
+fn name_at(alloc: Global, path: &str, place: u32) -> Result<String, AllocError>
+    ensures { IfOk result (λ name. IsBesideAt path.now place (string_bytes name)) }
+{
     if place < 2 {
         format!(in alloc; "{path}.new")
     } else {
@@ -71,13 +74,18 @@ pub(crate) fn stands_at<R: Files<File = File>>(
     Ok(named.is_file() && named.dev() == open.dev() && named.ino() == open.ino())
 }
 
-/// Locks an open file, if no process has it locked. Whether it is locked now, and stands at its path.
-fn take<R: Files<File = File>>(rt: &R, file: &File, path: &str) -> io::Result<bool> {
+/// Locks an open file, if no process has it locked. Whether it is locked now.
+fn take(file: &File) -> io::Result<bool> {
     match file.try_lock() {
-        Ok(()) => stands_at(rt, file, path),
+        Ok(()) => Ok(true),
         Err(TryLockError::WouldBlock) => Ok(false),
         Err(TryLockError::Error(error)) => Err(error),
     }
+}
+
+/// Locks a file that this process has made. Whether it is its own now: no other process has it locked, or has removed it before.
+fn take_own(file: &File) -> io::Result<bool> {
+    Ok(take(file)? && file.metadata()?.nlink() > 0)
 }
 
 /// Removes what a process that has ended left at the path of a file beside. A file that a process has locked is its own. What is no
@@ -87,7 +95,7 @@ fn clear_at<R: Files<File = File>>(rt: &R, path: &str) -> io::Result<()> {
         return Ok(());
     }
     let file = open_to_lock(rt, path)?;
-    if take(rt, &file, path)? {
+    if take(&file)? && stands_at(rt, &file, path)? {
         fs::remove_file(rt, path)?;
     }
     Ok(())
@@ -103,9 +111,10 @@ pub(crate) fn clear<R: Files<File = File>>(rt: &R, alloc: Global, path: &str) {
     }
 }
 
-/// Locks the file that was made at a path. None where another process has taken it meanwhile. Where it can't be locked, it is removed.
+/// Locks the file that was made at a path. None where another process has taken it meanwhile. Where it can't be locked or looked at, it is
+/// removed.
 fn take_made<R: Files<File = File>>(rt: &R, file: File, path: &str) -> io::Result<Option<File>> {
-    match take(rt, &file, path) {
+    match take_own(&file) {
         Ok(true) => Ok(Some(file)),
         Ok(false) => Ok(None),
         Err(error) => {
@@ -140,7 +149,9 @@ impl BesideFile {
         rt: &R,
         alloc: Global,
         path: &str,
-    ) -> io::Result<BesideFile> {
+    ) -> io::Result<BesideFile>
+        ensures { IfOk result (λ beside. IsBeside path.now (string_bytes beside.path)) }
+    {
         for place in 1..MOST_NAMES + 1 {
             let name = name_at(alloc, path, place)?;
             if let Some(file) = make_in_place(rt, name.as_str())? {
