@@ -8,7 +8,12 @@ use Rattle.judge_core.specs.Tables.{Tables}
 use Rattle.probe_api.specs.Plays.{Begins}
 use Rattle.probe_api.specs.Replies.{told, refused, verdict_number}
 use Rattle.probe_api.specs.declared.reply.Reply.{Reply}
+use Rattle.hofsjurd_c.specs.declared.held.Held.{Held}
 use Rattle.hofsjurd_c.specs.declared.held.HeldGame.{HeldGame}
+
+-- where a game's handle held a game before and holds one after, and the tables' handle is open, this is so of the three
+abbrev pub WhereOpen : Option HeldGame → Option HeldGame → Option Held → (HeldGame → HeldGame → Held → Type 0) → Type 0
+WhereOpen was is set P = (old new : HeldGame) (h : Held) → was ≡ Some old → is ≡ Some new → set ≡ Some h → P old new h
 
 -- the handle holds a game that was begun, and its first verdict is told with status 0; or it holds none, and the status is that of the
 -- refusal, or 5 where memory was refused

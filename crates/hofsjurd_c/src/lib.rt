@@ -42,7 +42,7 @@ ghost use Rattle.probe_api.specs.Texts.{PutsText};
 ghost use Rattle.probe_api.specs.Version.{version};
 ghost use Rattle.hofsjurd_c.specs.declared.held.Held.{Held};
 ghost use Rattle.hofsjurd_c.specs.declared.held.HeldGame.{HeldGame};
-ghost use Rattle.hofsjurd_c.specs.Beginning.{BeginsIn, CanBegin};
+ghost use Rattle.hofsjurd_c.specs.Beginning.{BeginsIn, CanBegin, WhereOpen};
 
 mod asking;
 #[cfg(test)]
@@ -312,8 +312,7 @@ pub extern "C" fn hofsjurd_game_move_text(
 ) -> Reply
     ensures no_game { game.old.seat.value ≡ None → (result ≡ refused 6) × (game.new.seat.value ≡ None) }
     ensures closed { (old : HeldGame) → game.old.seat.value ≡ Some old → handle.old.seat.value ≡ None → (result ≡ refused 1) × (game.new.seat.value ≡ Some old) }
-    ensures is { (old new : HeldGame) (h : Held) → game.old.seat.value ≡ Some old → game.new.seat.value ≡ Some new → handle.old.seat.value ≡ Some h
-        → TellsMoveText h.set.tables text.now old.game result new.game }
+    ensures is { WhereOpen game.old.seat.value game.new.seat.value handle.old.seat.value (λ old new h. TellsMoveText h.set.tables text.now old.game result new.game) }
     ensures open { (old : HeldGame) → game.old.seat.value ≡ Some old → game.new.seat.value ≢ None }
     ensures kept { handle.new.seat.value ≡ handle.old.seat.value }
 {
@@ -340,8 +339,7 @@ pub extern "C" fn hofsjurd_game_move(
 ) -> Reply
     ensures no_game { game.old.seat.value ≡ None → (result ≡ refused 6) × (game.new.seat.value ≡ None) }
     ensures closed { (old : HeldGame) → game.old.seat.value ≡ Some old → handle.old.seat.value ≡ None → (result ≡ refused 1) × (game.new.seat.value ≡ Some old) }
-    ensures is { (old new : HeldGame) (h : Held) → game.old.seat.value ≡ Some old → game.new.seat.value ≡ Some new → handle.old.seat.value ≡ Some h
-        → TellsMoveNumbers h.set.tables m.now old.game result new.game }
+    ensures is { WhereOpen game.old.seat.value game.new.seat.value handle.old.seat.value (λ old new h. TellsMoveNumbers h.set.tables m.now old.game result new.game) }
     ensures open { (old : HeldGame) → game.old.seat.value ≡ Some old → game.new.seat.value ≢ None }
     ensures kept { handle.new.seat.value ≡ handle.old.seat.value }
 {

@@ -33,6 +33,10 @@ body_text code count words = code ∷ to_be_bytes w32 count ++ words
 unfoldable pub record_frame : List ℕ → ℕ → List ℕ → List ℕ
 record_frame stamp delay body = 83 ∷ 82 ∷ 2 ∷ stamp ++ delay ∷ body
 
+-- a record of version 2 whose words are these
+abbrev pub framed : Record → List ℕ → List ℕ
+framed r words = record_frame r.stamp.0 r.delay (body_text (code_or_none r.verdict) (length r.moves) words)
+
 -- version 1 has no delay
 unfoldable pub old_frame : List ℕ → List ℕ → List ℕ
 old_frame stamp body = 83 ∷ 82 ∷ 1 ∷ stamp ++ body

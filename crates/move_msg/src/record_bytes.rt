@@ -9,7 +9,7 @@ ghost use Rattle.move_msg.specs.declared.record_bytes.RecordFault.{RecordFault};
 ghost use Rattle.move_msg.specs.declared.record_bytes.RecordFault.TheVariants.{OutOfMemory};
 ghost use Rattle.board_core.specs.Delays.{most_delay};
 ghost use Rattle.move_msg.specs.Numbers.{most_moves};
-ghost use Rattle.move_msg.specs.Records.{AppendsMoves, SpellsRecord, WritesRecord, SpellsMoves, HasCounts, HasRecordHead, HasRecordLayout, IsFirstRecordFault, body_in, body_text, code_or_none, delay_in, record_frame, record_fault_name, words_at};
+ghost use Rattle.move_msg.specs.Records.{AppendsMoves, SpellsRecord, WritesRecord, SpellsMoves, HasCounts, HasRecordHead, HasRecordLayout, IsFirstRecordFault, body_in, code_or_none, delay_in, framed, record_fault_name, words_at};
 ghost use Rattle.move_msg.specs.Words.{SpellsWord};
 ghost use Rattle.move_msg.specs.Inside.Layouts.{header_at};
 
@@ -112,7 +112,7 @@ pub(crate) fn push_words(moves: &[Move], out: &mut Vec<u8>) -> Result<(), AllocE
 /// Appends all that precedes the words, in version 2.
 #[tactic(auto, unfolding(crate::specs::Records::record_frame, crate::specs::Records::body_text))]
 fn push_front(game: &Record, out: &mut Vec<u8>) -> Result<(), AllocError>
-    ensures ok { OnOk result ((words : List _) → out.new.items ++ words ≡ out.old.items ++ record_frame game.now.stamp.0 game.now.delay (body_text (code_or_none game.now.verdict) (length game.now.moves) words)) }
+    ensures ok { OnOk result ((words : List _) → out.new.items ++ words ≡ out.old.items ++ framed game.now words) }
     ensures fits { (length game.now.stamp.0 ≡ 16) × (length game.now.moves ≤ most_moves) }
 {
     let mut count = [0; 4];

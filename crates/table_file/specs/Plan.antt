@@ -75,6 +75,14 @@ planned_maps_of p = record {
   blessed_loss = map_bytes (is_wide p) p.maps.blessed_loss.items;
 }
 
+-- the maps of wins are those of a planned part
+abbrev pub HasWins : PartPlan → ValueMaps → Type 0
+HasWins p maps = (maps.win ≡ map_bytes (is_wide p) p.maps.win.items) × (maps.cursed_win ≡ map_bytes (is_wide p) p.maps.cursed_win.items)
+
+-- the maps of losses are those of a planned part
+abbrev pub HasLosses : PartPlan → ValueMaps → Type 0
+HasLosses p maps = (maps.loss ≡ map_bytes (is_wide p) p.maps.loss.items) × (maps.blessed_loss ≡ map_bytes (is_wide p) p.maps.blessed_loss.items)
+
 -- A WDL file has no maps.
 abbrev pub planned_maps : TableKind → List PartPlan → List ValueMaps
 planned_maps Wdl parts = []
@@ -179,6 +187,10 @@ pub record AreGoodMaps (wide : Bool) (m : MapsPlan) : Type 0 where
   pub loss : IsGoodMap wide m.loss.items
   pub cursed_win : IsGoodMap wide m.cursed_win.items
   pub blessed_loss : IsGoodMap wide m.blessed_loss.items
+
+-- Pieces and orders make a shape: with a second order where both sides have pawns, and only there.
+abbrev pub HasGoodShape : ℕ → PartPlan → ℕ → Type 0
+HasGoodShape material p file = HasGoodPieces material p.pieces.items × HasGoodOrder (planned_shape material p file) × (IsSome p.second ↔ (both_have_pawns material ≡ true))
 
 -- Pieces and orders make a shape, and there are maps only where a DTZ file's flags announce them.
 pub record IsGoodPart (kind : TableKind) (material : ℕ) (p : PartPlan) (file : ℕ) : Type 0 where

@@ -3,7 +3,7 @@
 ghost use Rattle.std.specs.Prelude.{◌≡◌, ◌<◌, IfOk, IsTrue, length, map, Some, ◌↔◌};
 ghost use Rattle.table_file.specs.Inside.Checked.{IsChecked};
 ghost use Rattle.table_file.specs.Expansion.{expanded, listed};
-ghost use Rattle.table_file.specs.Plan.{planned_shape, planned_expansion, planned_maps, planned_maps_of, map_bytes, is_wide, HasEnough, IsGoodMap, AreGoodMaps, IsGoodPlan};
+ghost use Rattle.table_file.specs.Plan.{planned_shape, planned_expansion, planned_maps, planned_maps_of, map_bytes, is_wide, HasEnough, HasLosses, HasWins, IsGoodMap, AreGoodMaps, IsGoodPlan};
 ghost use Rattle.std.specs.List.{All};
 ghost use Rattle.table_file.specs.Inside.Writing.{HasGoodValues};
 ghost use Rattle.table_file.specs.Forged.{IsPartOf, ArePartsOf, ShowsPlan};
@@ -122,8 +122,8 @@ fn has_map(alloc: Global, wide: bool, entries: &[u16], bytes: &[u8]) -> Result<b
 /// Whether the maps of wins are as planned.
 fn are_win_maps(alloc: Global, part: &PartPlan, maps: &Maps<'_>) -> Result<bool, AllocError>
     requires { AreGoodMaps (is_wide part.now) part.now.maps }
-    ensures is { IfOk result (λ b. IsTrue b → (maps.now.win ≡ map_bytes (is_wide part.now) part.now.maps.win.items) × (maps.now.cursed_win ≡ map_bytes (is_wide part.now) part.now.maps.cursed_win.items)) }
-    ensures all { IfOk result (λ b. maps.now.win ≡ map_bytes (is_wide part.now) part.now.maps.win.items → maps.now.cursed_win ≡ map_bytes (is_wide part.now) part.now.maps.cursed_win.items → IsTrue b) }
+    ensures is { IfOk result (λ b. IsTrue b → HasWins part.now maps.now) }
+    ensures all { IfOk result (λ b. HasWins part.now maps.now → IsTrue b) }
 {
     let wide = part.is_wide();
     match has_map(alloc, wide, &part.maps.win, maps.win()) {
@@ -136,8 +136,8 @@ fn are_win_maps(alloc: Global, part: &PartPlan, maps: &Maps<'_>) -> Result<bool,
 /// Whether the maps of losses are as planned.
 fn are_loss_maps(alloc: Global, part: &PartPlan, maps: &Maps<'_>) -> Result<bool, AllocError>
     requires { AreGoodMaps (is_wide part.now) part.now.maps }
-    ensures is { IfOk result (λ b. IsTrue b → (maps.now.loss ≡ map_bytes (is_wide part.now) part.now.maps.loss.items) × (maps.now.blessed_loss ≡ map_bytes (is_wide part.now) part.now.maps.blessed_loss.items)) }
-    ensures all { IfOk result (λ b. maps.now.loss ≡ map_bytes (is_wide part.now) part.now.maps.loss.items → maps.now.blessed_loss ≡ map_bytes (is_wide part.now) part.now.maps.blessed_loss.items → IsTrue b) }
+    ensures is { IfOk result (λ b. IsTrue b → HasLosses part.now maps.now) }
+    ensures all { IfOk result (λ b. HasLosses part.now maps.now → IsTrue b) }
 {
     let wide = part.is_wide();
     match has_map(alloc, wide, &part.maps.loss, maps.loss()) {

@@ -6,8 +6,8 @@ ghost use Rattle.std.specs.Int.{w32, to_le_bytes};
 ghost use Rattle.table_file.specs.declared.plan.Content.{Content};
 ghost use Rattle.pair_dict.specs.Reading.{falls};
 ghost use Rattle.pair_dict.specs.Symbols.{AllHaveValues};
-ghost use Rattle.place_index.specs.Shape.{size_of, greatest_size, both_have_pawns, HasGoodPieces, HasGoodOrder};
-ghost use Rattle.table_file.specs.Plan.{planned_shape, symbol_bytes, is_wide, has_maps, last_point, AreGoodFigures, AreGoodCodes, AreGoodBlocks, FitsBlock, AreGoodPairs, AreGoodMaps, IsGoodMap, IsGoodSingle, IsGoodContent, IsGoodPart, IsGoodPlan, HasNoMaps};
+ghost use Rattle.place_index.specs.Shape.{size_of, greatest_size, both_have_pawns};
+ghost use Rattle.table_file.specs.Plan.{planned_shape, symbol_bytes, is_wide, has_maps, last_point, AreGoodFigures, AreGoodCodes, AreGoodBlocks, FitsBlock, AreGoodPairs, AreGoodMaps, IsGoodMap, IsGoodSingle, IsGoodContent, HasGoodShape, IsGoodPart, IsGoodPlan, HasNoMaps};
 ghost use Rattle.table_file.specs.Files.{side_count};
 ghost use Rattle.table_file.specs.Inside.Places.{sides_count};
 ghost use Rattle.table_file.specs.PlannedFile.{Laid, filled_to, head_bytes, halves, piece_halves, setup_bytes, one_sided, two_sided, setups_bytes, word_bytes, dictionary_bytes, figures_bytes, planned_lengths, padding_for, planned_span, laid_content, laid_part, laid_parts, one_map_bytes, four_maps_bytes, with_maps, with_each_maps, with_all_maps, with_blocks, front_bytes, with_sections, ended_file, file_with, planned_file};
@@ -370,8 +370,8 @@ fn laid_content(
 fn indices_of(material: &Material, part: &PartPlan, file: PawnFile) -> Option<u64>
     ensures found { IfSome result (λ size. size ≡ size_of (planned_shape material.now part.now file)) }
     ensures few { IfSome result (λ size. (1 ≤ size) × (size ≤ greatest_size)) }
-    ensures good { IfSome result (λ _. HasGoodPieces material.now part.now.pieces.items × HasGoodOrder (planned_shape material.now part.now file) × (IsSome part.now.second ↔ (both_have_pawns material.now ≡ true))) }
-    ensures bad { IfNone result (HasGoodPieces material.now part.now.pieces.items → HasGoodOrder (planned_shape material.now part.now file) → (IsSome part.now.second ↔ (both_have_pawns material.now ≡ true)) → ⊥) }
+    ensures good { IfSome result (λ _. HasGoodShape material.now part.now file) }
+    ensures bad { IfNone result (HasGoodShape material.now part.now file → ⊥) }
 {
     if part.second.is_some() != both_have_pawns(material) {
         return None;
