@@ -5,6 +5,7 @@ use Rattle.board_core.specs.declared.moves.Move.{Move as Moves}
 use Rattle.board_core.specs.declared.verdict.Verdict.{Verdict}
 use Rattle.system_io.specs.declared.output.WriteFault.{WriteFault}
 use Rattle.arbiter_core.specs.declared.fault.OpenFault.{OpenFault}
+use Rattle.arbiter_server.specs.declared.serving.Span.{Span}
 use Rattle.arbiter_server.specs.declared.file_keeper.FileKeeper.{FileKeeper}
 use Rattle.system_io.specs.KeptFiles.{KeptFacts}
 use Rattle.arbiter_core.specs.Opens.{IsOpening, IsResumed}
@@ -88,5 +89,5 @@ OpensAndServes facts w setup n fetch old new out out' (Ok (Ok status)) = ServesA
 OpensAndServes facts w setup n fetch old new out out' (Ok (Err fault)) = IsRefused facts setup old new out out' fault
 OpensAndServes facts w setup n fetch old new out out' (Err fault) = ServesAndWrites facts w setup n fetch old new out out' (Err fault)
 
-abbrev pub OpensAndServesFrom : {F P W : Type 0} → (F → KeptFacts) → (P → PortFacts) → Writers W → SetupView → ℕ → Bool → Service (FileKeeper F) P W → Service (FileKeeper F) P W → Result (Result ℕ OpenFault) WriteFault → Type 0
-OpensAndServesFrom facts ports w setup n fetch old new told = OpensAndServes facts w setup n fetch (scene_of ports w old) (scene_of ports w new) old.out new.out told
+abbrev pub OpensAndServesFrom : {F P W : Type 0} → (F → KeptFacts) → (P → PortFacts) → Writers W → SetupView → Span → Service (FileKeeper F) P W → Service (FileKeeper F) P W → Result (Result ℕ OpenFault) WriteFault → Type 0
+OpensAndServesFrom facts ports w setup span old new told = OpensAndServes facts w setup span.datagrams span.fetch (scene_of ports w old) (scene_of ports w new) old.out new.out told

@@ -38,29 +38,31 @@ pub record Stays {G K : Type 0} (folder : FolderFacts G K) (old new : ServerView
   pub place : folder.place new.games ≡ folder.place old.games
 
 -- what is known of a folder's keepers, of the folder, of what a host has made, of a port and of a writer
-pub record Knowing (G K H P W : Type 0) : Type 1 where
+pub record ServerFacts (G K H P W : Type 0) : Type 1 where
   pub keeper : KeeperFacts K
   pub folder : FolderFacts G K
   pub made : H → Option (List Made)
   pub port : P → PortFacts
   pub writer : Writers W
 
-abbrev pub knowing : {G K H P W : Type 0} → KeeperFacts K → FolderFacts G K → (H → Option (List Made)) → (P → PortFacts) → (W → Option (List ℕ)) → (W → OutputFacts) → Knowing G K H P W
-knowing keeper folder made port written output = record { keeper = keeper; folder = folder; made = made; port = port; writer = writers written output }
+-- these facts together
+abbrev pub given : {G K H P W : Type 0} → KeeperFacts K → FolderFacts G K → (H → Option (List Made)) → (P → PortFacts) → (W → Option (List ℕ)) → (W → OutputFacts) → ServerFacts G K H P W
+given keeper folder made port written output = record { keeper = keeper; folder = folder; made = made; port = port; writer = writers written output }
 
 -- a server at one moment, with what is lent to it: the host's history, the port, the log and the writer
-pub record AtHand (G K H P W : Type 0) : Type 0 where
+pub record ServerState (G K H P W : Type 0) : Type 0 where
   pub server : ServerView G K
   pub history : H
   pub port : P
   pub log : LineLog
   pub out : W
 
-abbrev pub at_hand : {G K H P W : Type 0} → ServerView G K → H → P → LineLog → W → AtHand G K H P W
-at_hand server history port log out = record { server = server; history = history; port = port; log = log; out = out }
+-- a server and what is lent to it, at one moment
+abbrev pub at : {G K H P W : Type 0} → ServerView G K → H → P → LineLog → W → ServerState G K H P W
+at server history port log out = record { server = server; history = history; port = port; log = log; out = out }
 
 -- a run of it for n datagrams: keepers are taken of some games, and nothing else is made
-abbrev pub ServerHosts : {G K H P W : Type 0} → Knowing G K H P W → ℕ → AtHand G K H P W → AtHand G K H P W → Result ℕ WriteFault → Type 0
-ServerHosts f n old new ended =
+abbrev pub HostsFor : {G K H P W : Type 0} → ServerFacts G K H P W → ℕ → ServerState G K H P W → ServerState G K H P W → Result ℕ WriteFault → Type 0
+HostsFor f n old new ended =
     (taken : List (List ℕ)) × Passes (f.made old.history) (f.made new.history) (map (f.folder.taken (f.folder.place old.server.games)) taken)
     × Hosts (keepers f.keeper f.folder old.server.games) old.server.common f.writer (form_of old.log) n taken (f.folder.gives new.server.games) (f.port old.port) (f.port new.port) old.out new.out ended

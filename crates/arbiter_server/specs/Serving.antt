@@ -14,6 +14,7 @@ use Rattle.arbiter_core.specs.Delivers.{Delivers, Exchange, Moment, Told, moment
 use Rattle.arbiter_core.specs.Views.{View}
 use Rattle.system_io.specs.declared.output.WriteFault.{WriteFault}
 use Rattle.move_msg.specs.TextLines.{text_of}
+use Rattle.arbiter_server.specs.declared.serving.Span.{Span}
 use Rattle.arbiter_server.specs.GoingOut.{LinesEnd, Writers}
 use Rattle.arbiter_server.specs.ServedLines.{heard_words, refused_datagram, refused_keeper, refused_port}
 use Rattle.system_io.specs.Ports.{Passing, Came, Missed, Passed, PortFacts, to_each}
@@ -159,8 +160,8 @@ pub record Service (A P W : Type 0) : Type 0 where
 abbrev pub service : {A P W : Type 0} → A → P → W → Service A P W
 service at port out = record { at = at; port = port; out = out }
 
-abbrev pub at_work : {K P W : Type 0} → View → K → P → W → Service (Moment K) P W
-at_work arbiter keeper port out = service (moment arbiter keeper) port out
+abbrev pub work : {K P W : Type 0} → View → K → P → W → Service (Moment K) P W
+work arbiter keeper port out = service (moment arbiter keeper) port out
 
 abbrev pub scene_of : {A P W : Type 0} → (P → PortFacts) → Writers W → Service A P W → Scene A
 scene_of ports w s = scene s.at (ports s.port) (w.written s.out)
@@ -175,3 +176,7 @@ pub record Serves {K W : Type 0} (s : KeeperFacts K) (w : Writers W) (n : ℕ) (
 
 abbrev pub ServesFrom : {K P W : Type 0} → KeeperFacts K → (P → PortFacts) → Writers W → ℕ → Bool → Service (Moment K) P W → Service (Moment K) P W → Result ℕ WriteFault → Type 0
 ServesFrom s ports w n fetch old new ended = Serves s w n fetch (scene_of ports w old) (scene_of ports w new) old.out new.out ended
+
+-- the same for a span: its datagrams, and before them its request for moves
+abbrev pub ServesSpan : {K P W : Type 0} → KeeperFacts K → (P → PortFacts) → Writers W → Span → Service (Moment K) P W → Service (Moment K) P W → Result ℕ WriteFault → Type 0
+ServesSpan s ports w span old new ended = ServesFrom s ports w span.datagrams span.fetch old new ended

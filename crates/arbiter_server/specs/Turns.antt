@@ -29,7 +29,7 @@ use Rattle.arbiter_server.specs.Games.{CommonView, Fresh, Goes, IsSetupOfStamp, 
 use Rattle.arbiter_server.specs.Hosts.{Ends, EndsAtCut, all_lines, all_passing}
 use Rattle.arbiter_server.specs.Room.{at_stamp}
 use Rattle.arbiter_server.specs.Seats.{OpenSeats, AreLives, Evicts, IsSeated, Lives, in_hand}
-use Rattle.arbiter_server.specs.Servers.{AtHand, Knowing, ServerView}
+use Rattle.arbiter_server.specs.Servers.{ServerState, ServerFacts, ServerView}
 
 -- ---- what comes of acts
 
@@ -284,13 +284,13 @@ pub record HasServed {K W : Type 0} (s : Keepers K) (t : CommonView) (w : Writer
   pub last : EndsAtCut form (all_lines (replies_in effects) lost) ended
 
 -- such a turn of a server, whatever was told before it
-abbrev pub ServerTurns : {G K H P W : Type 0} → Knowing G K H P W → AtHand G K H P W → AtHand G K H P W → Result Bool WriteFault → Type 0
+abbrev pub ServerTurns : {G K H P W : Type 0} → ServerFacts G K H P W → ServerState G K H P W → ServerState G K H P W → Result Bool WriteFault → Type 0
 ServerTurns f old new told =
     (before : List (List ℕ)) → Remembers old.log before
     → TakesTurn (TurnsTo f.keeper f.folder old.server new.server) (f.folder.taken (f.folder.place old.server.games)) f.writer before old.log new.log (f.made old.history) (f.made new.history) (f.port old.port) (f.port new.port) old.out new.out told
 
 -- and such a run
-abbrev pub ServesOn : {G K H P W : Type 0} → Knowing G K H P W → ℕ → AtHand G K H P W → AtHand G K H P W → Result ℕ WriteFault → Type 0
+abbrev pub ServesOn : {G K H P W : Type 0} → ServerFacts G K H P W → ℕ → ServerState G K H P W → ServerState G K H P W → Result ℕ WriteFault → Type 0
 ServesOn f n old new ended =
     HasServed (keepers f.keeper f.folder old.server.games) old.server.common f.writer (form_of old.log) n (f.folder.gives new.server.games) (at_stamp new.server.seats) (length new.server.seats)
     (f.folder.taken (f.folder.place old.server.games)) (f.made old.history) (f.made new.history) (f.port old.port) (f.port new.port) old.out new.out ended

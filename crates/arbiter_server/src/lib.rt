@@ -29,7 +29,7 @@
 //!   clauses `one`, `there`: what was announced stays, over any runs of one setup, wherever each of them stopped: as many moves
 //!   as were acknowledged, the same ones, and a verdict at its ply. Of the system's file it rests on `IsAsTold`. A run over a
 //!   disk after a loss of power is such a run.
-//! - CLAIM: `Server::open`; `Server::serve`, clauses `hosts`, `stays`, `idle`: a server begins with no game open (the error of
+//! - CLAIM: `Server::open`; `Server::serve`, clauses `run`, `stays`, `idle`: a server begins with no game open (the error of
 //!   `open` has no cause). Each datagram is answered by acts of the game that it names. The acts of a game lead on from one
 //!   another by the steps of one arbiter, over keepers of this game, with the setup that the folder tells. A datagram gets no
 //!   arbiter only where it is an acknowledgement or a verdict of a game that isn't open, the folder refuses its game, gives a game of

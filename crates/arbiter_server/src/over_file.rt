@@ -26,7 +26,7 @@ pub fn open_and_serve<F: KeptFile + Drop, P: Port, W: Output>(
     out: &mut W,
 ) -> Result<Result<u8, OpenFault>, WriteFault>
     requires { IsInFile F.facts keeper.old }
-    ensures served { OpensAndServesFrom F.facts P.facts (writers W.contents W.facts) (setup_view setup.entry) span.datagrams span.fetch (service keeper.old port.old out.old) (service keeper.new port.new out.new) result }
+    ensures served { OpensAndServesFrom F.facts P.facts (writers W.contents W.facts) (setup_view setup.entry) span (service keeper.old port.old out.old) (service keeper.new port.new out.new) result }
 {
     puts_grow();
     match Arbiter::open(alloc, keeper, setup) {

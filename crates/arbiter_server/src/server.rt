@@ -9,7 +9,7 @@ ghost use Rattle.arbiter_server.specs.LineLogs.{Remembers};
 ghost use Rattle.arbiter_server.specs.Games.{common_with};
 ghost use Rattle.arbiter_server.specs.Room.{at_stamp};
 ghost use Rattle.arbiter_server.specs.Seats.{IsSeated};
-ghost use Rattle.arbiter_server.specs.Servers.{IsIdle, IsNewServer, ServerHosts, Stays, at_hand, knowing};
+ghost use Rattle.arbiter_server.specs.Servers.{HostsFor, IsIdle, IsNewServer, Stays, at, given};
 ghost use Rattle.arbiter_server.specs.Turns.{ComesBack, OpensFor, OpensFound, OpensSeat, TriesFor, TriesFound, TriesSeat, lent};
 ghost use Rattle.arbiter_server.specs.Turns.{AnswersInHand, AnswersMessage, MakesAnd, Refuses, RepliesSo, ServerReceives, ServerTurns, ServesOn, TakesSeat, datagram_reply};
 
@@ -235,7 +235,7 @@ impl<'a, G: Games + Drop> Server<'a, G> {
         out: &mut W,
     ) -> Result<bool, WriteFault>
         ensures stays { Stays G.facts self.old self.new }
-        ensures taken { ServerTurns (knowing G.Keeper.facts G.facts G.made P.facts W.contents W.facts) (at_hand self.old history.old port.old log.old out.old) (at_hand self.new history.new port.new log.new out.new) result }
+        ensures is { ServerTurns (given G.Keeper.facts G.facts G.made P.facts W.contents W.facts) (at self.old history.old port.old log.old out.old) (at self.new history.new port.new log.new out.new) result }
     {
         let (line, lost) = self.receive(history, port);
         match log.tell(out, line) {
@@ -256,7 +256,7 @@ impl<'a, G: Games + Drop> Server<'a, G> {
         requires idle { IsIdle self.old }
         requires none { Remembers log.old [] }
         ensures stays { Stays G.facts self.old self.new }
-        ensures served { ServesOn (knowing G.Keeper.facts G.facts G.made P.facts W.contents W.facts) n (at_hand self.old history.old port.old log.old out.old) (at_hand self.new history.new port.new log.new out.new) result }
+        ensures is { ServesOn (given G.Keeper.facts G.facts G.made P.facts W.contents W.facts) n (at self.old history.old port.old log.old out.old) (at self.new history.new port.new log.new out.new) result }
     {
         for _ in 0..n {
             match self.turn(history, port, log, out) {
@@ -296,7 +296,7 @@ impl<'a, G: Games + Drop> Server<'a, G> {
     ) -> Result<u8, WriteFault>
         requires idle { IsIdle self.old }
         requires none { Remembers log.old [] }
-        ensures hosts { ServerHosts (knowing G.Keeper.facts G.facts G.made P.facts W.contents W.facts) n (at_hand self.old history.old port.old log.old out.old) (at_hand self.new history.new port.new log.new out.new) result }
+        ensures run { HostsFor (given G.Keeper.facts G.facts G.made P.facts W.contents W.facts) n (at self.old history.old port.old log.old out.old) (at self.new history.new port.new log.new out.new) result }
         ensures stays { Stays G.facts self.old self.new }
         ensures idle { IsIdle self.new }
     {

@@ -7,7 +7,7 @@ ghost use Rattle.move_msg.specs.TextLines.{ended};
 ghost use Rattle.system_io.specs.Ports.{Passed};
 ghost use Rattle.arbiter_server.specs.GoingOut.{LinesEnd, writers};
 ghost use Rattle.arbiter_server.specs.ServedLines.{heard_line, refused_datagram, refused_keeper};
-ghost use Rattle.arbiter_server.specs.Serving.{Session, ServesFrom, ServesSession, asked_first, at_work, handed, is_loss};
+ghost use Rattle.arbiter_server.specs.Serving.{Session, ServesFrom, ServesSession, ServesSpan, asked_first, work, handed, is_loss};
 ghost use Rattle.arbiter_server.specs.Inside.Steps.{DeliversAndHands, IsOneStep, status_in, stops};
 
 use crate::heard::Heard;
@@ -129,7 +129,7 @@ fn serve_one<K: Keeper, P: Port, W: Output>(
     out: &mut W,
 ) -> Result<Next, WriteFault>
     requires { IsKept (K.facts.kept keeper.old) arbiter.old }
-    ensures run { ServesFrom K.facts P.facts (writers W.Write.contents W.facts) 1 false (at_work arbiter.old keeper.old port.old out.old) (at_work arbiter.new keeper.new port.new out.new) (status_in result) }
+    ensures run { ServesFrom K.facts P.facts (writers W.Write.contents W.facts) 1 false (work arbiter.old keeper.old port.old out.old) (work arbiter.new keeper.new port.new out.new) (status_in result) }
     ensures keeps { IsKept (K.facts.kept keeper.new) arbiter.new }
 {
     let (line, next) = receive(alloc, arbiter, keeper, port);
@@ -174,7 +174,7 @@ pub fn serve<K: Keeper, P: Port, W: Output>(
 
     // The arbiter has answered the datagrams in turn, and all else at the port is what it sends to each address. The
     // lines and the status are those of this run, and each line has gone out before the next.
-    ensures run { ServesFrom K.facts P.facts (writers W.Write.contents W.facts) span.datagrams span.fetch (at_work arbiter.old keeper.old port.old out.old) (at_work arbiter.new keeper.new port.new out.new) result }
+    ensures run { ServesSpan K.facts P.facts (writers W.Write.contents W.facts) span (work arbiter.old keeper.old port.old out.old) (work arbiter.new keeper.new port.new out.new) result }
 
     // A running arbiter's record is still the one that the keeper keeps.
     ensures keeps { IsKept (K.facts.kept keeper.new) arbiter.new }

@@ -37,7 +37,7 @@ pub fn run_after<P: Port, W: Output>(
     out: &mut W,
 ) -> Result<DiskFile, ReadFault>
     // It is a run of this span over what the stop left.
-    ensures run { IfOk result (RunsAfter (writers W.Write.contents W.facts) stop.disk stop.choice (setup_view setup.entry) span.datagrams span.fetch (P.facts port.old) (P.facts port.new) out.old out.new) }
+    ensures run { IfOk result (RunsAfter (writers W.Write.contents W.facts) stop.disk stop.choice (setup_view setup.entry) span (P.facts port.old) (P.facts port.new) out.old out.new) }
     ensures one { IfOk result (λ left. OneMore disk_facts (setup_view setup.entry) stop.disk left (P.facts port.old) (P.facts port.new)) }
     ensures there { IfOk result (λ left. ComesAfterAny disk_facts (setup_view setup.entry) stop.disk left) }
     ensures cause { IfErr result (IsUnkeptAfter stop.disk stop.choice) }

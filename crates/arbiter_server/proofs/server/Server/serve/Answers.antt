@@ -11,10 +11,10 @@ use Rattle.arbiter_server.proofs.server.Server.serve.Goals as goal
 pub invariant_of-self : goal.invariant_of-self
 invariant_of-self g c = record { seated = none_seated g.G.Keeper.Keeper.facts c.self.inside.tables (at_stamp c.close_all.new.seats.entries) c.close_all.ensures.none; room = c.close_all.ensures.cap ∙ c.self.invariant.room; few = let none = c.close_all.ensures.empty in omega (arith, none) }
 
-pub returns-clause-hosts : goal.returns-clause-hosts
-returns-clause-hosts g c =
+pub returns-clause-run : goal.returns-clause-run
+returns-clause-run g c =
     let t = c.args.self.now.common in
-    let served = rw (sym c.self.view_is) at c.run-ended.ensures.served in
+    let served = rw (sym c.self.view_is) at c.run-ended.ensures.is in
     let place = rw (sym c.self.view_is) at c.run-ended.ensures.stays.place in
     let common = rw (sym c.self.view_is) at c.run-ended.ensures.stays.common in
     let few : length c.self.inside.seats.entries ≤ t.at_once = subst (λ (v : CommonView). length c.self.inside.seats.entries ≤ v.at_once) common c.self.invariant.few in

@@ -2,8 +2,8 @@ use Rattle.std.proofs.Common.{refl}
 use Rattle.arbiter_server.specs.Told.{line_words}
 use Rattle.arbiter_server.proofs.server.Server.turn.Goals as goal
 
-pub returns-in-Ok-clause-taken : goal.returns-in-Ok-clause-taken
-returns-in-Ok-clause-taken g c = λ before remembers. let tells = c.in-Ok.ensures before remembers in record {
+pub returns-in-Ok-clause-is : goal.returns-in-Ok-clause-is
+returns-in-Ok-clause-is g c = λ before remembers. let tells = c.in-Ok.ensures before remembers in record {
   line = line_words c.receive-line.result.0;
   lost = c.receive-line.result.1;
   received = c.receive-line.ensures.received;
@@ -11,8 +11,8 @@ returns-in-Ok-clause-taken g c = λ before remembers. let tells = c.in-Ok.ensure
   is = refl;
 }
 
-pub returns-in-Err-clause-taken : goal.returns-in-Err-clause-taken
-returns-in-Err-clause-taken g c = λ before remembers. let tells = c.in-Err.ensures before remembers in record {
+pub returns-in-Err-clause-is : goal.returns-in-Err-clause-is
+returns-in-Err-clause-is g c = λ before remembers. let tells = c.in-Err.ensures before remembers in record {
   line = line_words c.receive-line.result.0;
   lost = c.receive-line.result.1;
   received = c.receive-line.ensures.received;
