@@ -30,7 +30,7 @@ use Rattle.source_core.specs.declared.turn.Terms.{Terms}
 use Rattle.source_core.specs.declared.turn.Turn.{Turn}
 use Rattle.source_core.specs.declared.turn.Turn.TheVariants as at_turn
 use Rattle.system_io.specs.Outputs.{WritesFront}
-use Rattle.system_io.specs.LineReaders.{ReadsLine}
+use Rattle.system_io.specs.LineReaders.{LineFacts, ReadsLine}
 use Rattle.system_io.specs.Ports.{Passing, Came, Quiet, Missed, Handed, PortFacts, Passed, to_each}
 use Rattle.source_core.specs.Reports.{Knows, StandsSo}
 use Rattle.source_core.specs.Turns.{ComesTo, EachWaitsSoLong, HasSpelling, HasWaited, IsReceived, IsTurn, WaitsSoLong, move_message, one_try, tries_of}
@@ -39,7 +39,7 @@ use Rattle.source_core.specs.declared.lines.Ended.{Ended}
 use Rattle.source_core.specs.Boards.{AreBelieved, IsBelieved}
 use Rattle.source_core.proofs.BoardLaws.{believed_first, is_belied}
 use Rattle.std.proofs.lemmas.Option.{same_Some}
-use Rattle.source_core.specs.Sendings.{SendingState, AckedMove, ClosesSo, again, EndsIfAny, SendingEndsWith, Unread, Refused, Closed, Sent, SendingGame, AckedInTurn, IsAckedTurn, IsClosed, IsLastMove, IsRefusedLine, IsSending, IsUnread, OnlyHands, Sending, WritesLines, causes, game_at_port, last_lines, last_of, acked_line, sending_lines, sent_in, text_in}
+use Rattle.source_core.specs.Sendings.{SendingState, AckedMove, AsksOnce, ClosesSo, again, EndsIfAny, SendingEndsWith, Unread, Refused, Closed, Sent, SendingGame, AckedInTurn, IsAckedTurn, IsClosed, IsLastMove, IsRefusedLine, IsSending, IsUnread, OnlyHands, Sending, WritesLines, causes, game_at_port, last_lines, last_of, acked_line, sending_lines, sent_in, text_in}
 use Rattle.source_core.specs.Inside.Steps.{Closes, IsEndOfTry, IsPlayedLine, SendingSteps, StandsAtInputEnd, StepsOn, StepsSo, begun_at, end_by, is_ruled, no_cause}
 use Rattle.source_core.proofs.PortLaws.{Passed-nil, Passed-trans}
 use Rattle.source_core.proofs.ReportLaws.{all_agreed, is_acked, is_ruled_so, is_unsettled, knows_nothing, knows_past, not_both}
@@ -492,3 +492,10 @@ pub runs_ended : (F0 F M0 M : Type 0) (terms : Terms) (start : Parts) (input0 in
 runs_ended F0 F M0 M terms start input0 input1 input2 c1 c2 port0 port1 port2 out0 out1 out2 k end r h steps ok put =
     let s = run_ended (causes F0 M0) (game_at_port terms port0) start input0 input1 input2 c1 c2 port0 port1 port2 k end h.sent (stepped F0 F M0 M terms start input0 input1 input2 c1 c2 port0 port1 port2 out0 out1 k (Some end) h steps) in
     (s.0, s.1, wrote_last s.0 h.sent.turns end c2.known out0 out1 out2 r s.2 s.3 s.4 h.written ok put)
+
+-- ---- when the lines go out
+
+-- a line was read, whether the run ends by it or goes on
+pub asked_line : (old new : LineFacts) (line : List ℕ) (o : Option End) → ReadsLine old.left new.left line → AsksOnce old new o
+asked_line old new line None read = (line, read)
+asked_line old new line (Some end) read = inl (line, true, read)

@@ -1,5 +1,5 @@
 -- A run of a source: the moves of its input, one after the other (this project's own).
-use Rattle.std.specs.Prelude.{◌≡◌, ◌≤◌, ◌<◌, ◌+◌, ◌-◌, ◌++◌, ℕ, List, [], ◌∷◌, length, map, slice_get, Option, Some, None, IfSome, Result, Ok, Err}
+use Rattle.std.specs.Prelude.{◌≡◌, ◌≤◌, ◌<◌, ◌+◌, ◌-◌, ◌++◌, ◌⊎◌, ℕ, Bool, List, [], ◌∷◌, length, map, slice_get, Option, Some, None, IfSome, Result, Ok, Err}
 use Rattle.std.specs.List.{AllByRecursion, Contains}
 use Rattle.std.specs.Io.KnownBytes.{Appends, IsAtEnd}
 use Rattle.board_core.specs.declared.moves.Move.{Move as Moves}
@@ -9,11 +9,12 @@ use Rattle.fen_text.specs.Coordinates.{SpellsMove}
 use Rattle.move_msg.specs.declared.stamp.Stamp.{Stamp}
 use Rattle.move_msg.specs.Messages.{SpellsMessage, message_text}
 use Rattle.move_msg.specs.Numbers.{most_moves}
-use Rattle.move_msg.specs.TextLines.{text_of}
+use Rattle.move_msg.specs.TextLines.{ended, text_of}
 use Rattle.system_io.specs.declared.output.WriteFault.{WriteFault}
 use Rattle.system_io.specs.declared.reading.ReadFault.{ReadFault}
 use Rattle.system_io.specs.declared.reading.ReadFault.TheVariants as fault
-use Rattle.system_io.specs.LineReaders.{LineFacts, ReadsLine}
+use Rattle.system_io.specs.LineReaders.{LineFacts, ReadsIfAny, ReadsLine}
+use Rattle.system_io.specs.Outputs.{OutputFacts, WritesFront}
 use Rattle.system_io.specs.Ports.{Passing, Handed, Missed, PortFacts, Passed, to_each}
 use Rattle.source_core.specs.declared.report.Ruling.{Ruling}
 use Rattle.source_core.specs.declared.lines.End.{End}
@@ -252,3 +253,33 @@ WritesLines s old new (Err fault) = IsCut (sending_lines s) old new
 abbrev pub SendsLines : Terms → Parts → LineFacts → LineFacts → PortFacts → PortFacts → Option (List ℕ) → Option (List ℕ) → Result Ended WriteFault → Type 0
 SendsLines terms start reader reader' port port' old new r =
     (s : Sending) × IsSending (causes reader.fails reader.takes_memory) (game_at_port terms port) start reader.left reader'.left port port' s × WritesLines s old new r
+
+-- ---- when the lines go out
+
+-- From this reader and writer on so many lines of the input were read, one after the other. Behind each of them the line that tells so
+-- many acknowledged moves was written, and then all had gone out.
+pub data AcksInTurn {L W : Type 0} (lines : L → LineFacts) (outs : W → OutputFacts) (contents : W → Option (List ℕ)) (reader : L) (out : W) : ℕ → L → W → Type 0 where
+  AcksNone : (now : L) (at : W) → now ≡ reader → at ≡ out → AcksInTurn lines outs contents reader out 0 now at
+  AcksOne : (count : ℕ) (before now : L) (told at : W) → AcksInTurn lines outs contents reader out count before told → (line : List ℕ) → ReadsLine (lines before).left (lines now).left line → Appends (contents told) (contents at) (ended (acked_words (count + 1))) → (outs at).gone → AcksInTurn lines outs contents reader out (count + 1) now at
+
+-- After that the input was asked for one line more: it was read where the run goes on; where it ends, it was read, or there was none, or
+-- the end says why not (what is left after a failed reading isn't said).
+abbrev pub AsksOnce : LineFacts → LineFacts → Option End → Type 0
+AsksOnce old new None = (line : List ℕ) × ReadsLine old.left new.left line
+AsksOnce old new (Some end) = ((line : List ℕ) × (read : Bool) × ReadsIfAny old.left new.left line read) ⊎ IsUnread (causes old.fails old.takes_memory) end
+
+-- the line behind that
+abbrev pub next_words : ℕ → Option End → List ℕ
+next_words count None = acked_words (count + 1)
+next_words count (Some end) = end_words end
+
+-- So many moves are acknowledged in turn, one line more is asked for, and its line is written. Where the writer fails at a line, a front of
+-- it is written, and no line was read beyond the one that it tells: so a body that can't know when its writer fails reads none early.
+pub record SendsInTurn {L W : Type 0} (lines : L → LineFacts) (outs : W → OutputFacts) (contents : W → Option (List ℕ)) (reader reader' : L) (out out' : W) (r : Result Ended WriteFault) : Type 0 where
+  pub count : ℕ
+  pub before : L
+  pub told : W
+  pub acked : AcksInTurn lines outs contents reader out count before told
+  pub end : Option End
+  pub asked : AsksOnce (lines before) (lines reader') end
+  pub wrote : WritesFront (contents told) (contents out') (ended (next_words count end)) r

@@ -18,8 +18,10 @@
 //! - CLAIM: `send_game`, clause `sends`; `take_turn`: whenever nothing came in time, the port was asked to wait as long as the terms say
 //!   for that try, longer from try to try; or two milliseconds, where both had acknowledged the move and neither had reported a
 //!   verdict (`IsWait`, `EachWaitsSoLong`). That so much time has passed is left to the port.
-//! - CLAIM: `send_game`, clauses `gone`, `cause`: all lines have gone out at the end; the error is that of a writer that refused a write,
-//!   or from which a line can't go out.
+//! - CLAIM: `send_game`, clause `turns`: each line has gone out before the next line of the input is read. Where the writer fails,
+//!   none is read after that.
+//! - CLAIM: `send_game`, clauses `gone`, `cause`: all lines have gone out at the end; an error comes only of a type of writer that may
+//!   refuse a write, or from which a line can't go out (`HasFailed` of line_teller).
 //! - CLAIM: `take_turn`: a turn sends one move until both arbiters have acknowledged it, both have reported a verdict, two
 //!   verdicts differ, one is belied by the board, the tries are used up, or the port is lost.
 //! - CLAIM: `report_of`, clauses `some`, `only`: a datagram is a report of the game exactly where it encodes an acknowledgement

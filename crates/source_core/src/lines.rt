@@ -182,8 +182,8 @@ fn words_of(line: &Line) -> LineWords
     }
 }
 
-/// Writes a line at once, and flushes it. The error is that of the writer, which refused a write, or from which the line can't go out; a
-/// front of it is written then.
+/// Writes a line at once, and flushes it. An error comes only of a type of writer that may refuse a write, or from which a line can't go
+/// out; a front of the line is written then.
 pub(crate) fn put_now<W: Output>(out: &mut W, line: &Line) -> Result<(), WriteFault>
     ensures front { WritesFront (W.contents out.old) (W.contents out.new) (ended (sending_line_words line.now)) result }
     ensures gone { OnOk result (W.facts out.new).gone }

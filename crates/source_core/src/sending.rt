@@ -2,7 +2,7 @@
 
 ghost use Rattle.std.specs.Prelude.{◌≡◌, ◌≤◌, IfOk, IfErr, OnErr, OnOk};
 ghost use Rattle.line_teller.specs.ToldLines.{HasFailed};
-ghost use Rattle.source_core.specs.Sendings.{IsRefusedLine, SendsLines};
+ghost use Rattle.source_core.specs.Sendings.{AsksOnce, IsRefusedLine, SendsInTurn, SendsLines};
 ghost use Rattle.source_core.specs.Inside.Steps.{Closes, IsPlayedLine, StandsAtInputEnd, StepsAt, StepsOn, begun_at, end_by};
 ghost use Rattle.system_io.specs.Outputs.{WritesFront};
 ghost use Rattle.source_core.specs.Lines.{end_words, ended_by};
@@ -141,6 +141,7 @@ fn step<L: LineReader, P: Port>(
 ) -> Option<End>
     requires { number ≤ most_moves }
     ensures steps { StepsAt terms number (L.facts reader.old) (L.facts reader.new) course.old course.new (P.facts port.old) (P.facts port.new) result }
+    ensures asked { AsksOnce (L.facts reader.old) (L.facts reader.new) result }
     ensures same { (L.facts reader.new).fails → (L.facts reader.old).fails }
     ensures room { (L.facts reader.new).takes_memory → (L.facts reader.old).takes_memory }
 {
@@ -174,8 +175,8 @@ fn finish<W: Output>(out: &mut W, end: End, known: &Known) -> Result<Ended, Writ
 /// an arbiter doesn't answer, what both have reported.
 ///
 /// Each legal move is sent to each address, at most as often as the terms say, until both arbiters have acknowledged
-/// it. Then the line `2 acked` follows, with how many moves are acknowledged, and the next line is read. Once both have
-/// reported the verdict the last line is `verdict 4 BlackMates`, with status 0. At the input's end the last
+/// it. Then the line `2 acked` follows, with how many moves are acknowledged, and when it has gone out the next line is read. Once both
+/// have reported the verdict the last line is `verdict 4 BlackMates`, with status 0. At the input's end the last
 /// acknowledged move is sent once more, and the last line is `open 2`, with status 0, unless the verdict comes in time.
 /// With status 1 it is one of these. `refused move 2`: a line that is no move, counted from 0. `illegal 2`: a move that
 /// isn't legal, which isn't sent. `refused TooLong`: a 4097th move. `refused lost`: an arbiter doesn't answer. `refused
@@ -193,10 +194,13 @@ pub fn send_game<L: LineReader, P: Port, W: Output>(
     // There is such a run, and its lines are written.
     ensures sends { SendsLines terms start (L.facts reader.old) (L.facts reader.new) (P.facts port.old) (P.facts port.new) (W.contents out.old) (W.contents out.new) result }
 
+    // Each of them has gone out before the next line of the input is read; where the writer fails at one, none was.
+    ensures turns { SendsInTurn L.facts W.facts W.contents reader.old reader.new out.old out.new result }
+
     // All of them have gone out.
     ensures gone { OnOk result (W.facts out.new).gone }
 
-    // The error is that of the writer: it refused a write, or a line couldn't go out.
+    // An error comes only of a type of writer that may refuse a write, or from which a line can't go out.
     ensures cause { OnErr result (HasFailed W.facts) }
 {
     let mut line = Vec::new(alloc);
