@@ -18,7 +18,8 @@
 //!   records agree, by how many moves one is behind, or the first ply at which they part; two files that tell two games are a fault.
 //!   The sums count these lines, and nothing is well that is at fault or differs. `refused files` comes alone, and only where a folder
 //!   can't be listed. Refused memory has no cause; the whole lines before it stay. After an error the lines before are whole, and of
-//!   the last a front is written; it comes only of a writer that refused a write, or from which some can't go out.
+//!   the last a front is written; it comes only of a type of writer that may refuse a write, or from which
+//!   some can't go out.
 //! - CLAIM: `tell_audit`: the same games, whose files have to be those of their stamps by the tables; a game is well only where an
 //!   arbiter of it resumes from each of its records, and both are equal; nothing kept is no fault.
 #![tactic(auto)]

@@ -252,13 +252,13 @@ pub fn follow_game<L: LineReader, W: Output>(
     // and a front of the last.
     ensures follows { FollowsTo (rules_by start.now set.entry.tables delay) (stops_by (L.facts reader.old)) (L.facts reader.old).left (W.contents out.old) (W.contents out.new) result }
 
-    // The error is that of the writer: it refused a write, or what was written couldn't go out.
+    // An error comes only of a type of writer that may refuse a write, or from which what was written can't go out.
     ensures cause { OnErr result (HasFailed W.facts) }
 
     // The last line is that of the outcome of the whole game.
     ensures as_game { IfOk result (λ done. AgreesIfKnown (rules_by start.now set.entry.tables delay) (L.facts reader.old).left (W.contents out.old) (W.contents out.new)) }
 
-    // Each line has gone out before the next move is awaited.
+    // Each line has gone out between the moves that came.
     ensures turns { OnOk result (FollowsInTurn L.facts W.facts W.contents reader.old out.old out.new) }
 {
     one_move();

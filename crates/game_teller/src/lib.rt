@@ -11,7 +11,8 @@
 //! - CLAIM: `follow_game`, clause `follows`: each ply to the first verdict, to the input's end or to the first line that gives no
 //!   legal move is told in its line, and nothing else but why no more is told. What the moves that were read come to is as `game`
 //!   tells it. After an error the lines before are whole and none of them tells a verdict, and of the last a front is written.
-//! - CLAIM: `follow_game`, clause `turns`: each line has gone out before the next move is awaited.
+//! - CLAIM: `follow_game`, clause `turns`: the moves that came and the moments of the writer go in step: between two moves the line of a
+//!   ply was written and had gone out. That a move isn't read before is the condition of the private `tell_next`.
 //! - CLAIM: `follow_game`, clause `as_game`: where the input's bytes are known and its lines are all moves, the last line is that of
 //!   the outcome of the whole game, unless the input is cut short.
 #![tactic(auto)]

@@ -49,7 +49,7 @@ fn stop_line(stop: Stop) -> LineWords
     }
 }
 
-/// Writes why no more is told. The error is that of the writer, which refused a write; a front of that is written then.
+/// Writes why no more is told. An error comes only of a type of writer that may refuse a write; a front of that is written then.
 pub(crate) fn put_stop<W: Output>(out: &mut W, stop: Stop) -> Result<(), WriteFault>
     ensures front { WritesFront (W.contents out.old) (W.contents out.new) (ended (stop_words stop)) result }
     ensures cause { OnErr result (HasFailed W.facts) }

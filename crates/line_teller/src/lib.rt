@@ -12,13 +12,14 @@
 //!   written in turn, up to the input's end. Or a refusal follows the whole lines before and nothing after it: `refused memory`
 //!   at a line that takes memory or for whose bytes there was none, `refused files` where the input fails or after 2^64 - 1
 //!   lines. After an error the lines before are whole, and of the last a front is written.
-//! - CLAIM: `tell_lines`, clause `cause`: an error comes only of a writer that refused a write, or of which some can't go out.
+//! - CLAIM: `tell_lines`, clause `cause`: an error comes only of a type of writer that may refuse a write, or from which what was
+//!   written can't go out (`HasFailed`); a body that knows no more of its writer has that only from a call of it that failed.
 //! - CLAIM: `tell_lines`, clause `same_text`: where the input's bytes are known these are the lines of the whole text.
-//! - CLAIM: `tell_lines`, clause `turns`: before each line that came, a whole one had come already or all answers had gone out.
-//!   Of the last wait, at which the input ends or fails, this is no clause.
+//! - CLAIM: `tell_lines`, clause `turns`: the lines that came and the moments of the writer go in step: between two lines all answers
+//!   had gone out, or a whole line had come already. That a line isn't read before is the condition of the private `tell_next`.
 //! - CLAIM: `tell_lines`, clause `quiet`: without progress nothing is written to the second writer.
 //! - CLAIM: `LineWords::put`, clauses `front`, `cause`: a line that is laid out is written with its line feed, or, only where the writer
-//!   refused a write, a front of it; laying it out never fails.
+//!   may refuse a write at that moment, a front of it; laying it out never fails.
 #![tactic(auto)]
 
 mod line_words;

@@ -97,7 +97,7 @@ impl LineWords {
         self.add_number(number);
     }
 
-    /// Writes the line at once, with its line feed. The error is that of the writer, which refused a write; a front of the line is
+    /// Writes the line at once, with its line feed. An error comes only where the writer may refuse a write; a front of the line is
     /// written then.
     pub fn put<W: Output>(self, out: &mut W) -> Result<(), WriteFault>
         ensures front { WritesFront (W.contents out.old) (W.contents out.new) (ended self) result }

@@ -184,13 +184,13 @@ pub fn tell_lines<T: Teller, L: LineReader, W: Output, E: Write>(
     // The lines that were read are answered. Where the writer fails, those before are written whole, and a front of the last.
     ensures written { TellsRead (T.tells teller.old) T.takes_memory (stops_by (L.facts reader.old)) (L.facts reader.old).left (W.contents out.old) (W.contents out.new) result }
 
-    // The error is that of the writer: it refused a write, or what was written couldn't go out.
+    // An error comes only of a type of writer that may refuse a write, or from which what was written can't go out.
     ensures cause { OnErr result (HasFailed W.facts) }
 
     // Where the reader's bytes are stated, these are the lines of the whole text, or those until it was cut short.
     ensures same_text { IfOk result (WritesIfKnown (T.tells teller.old) T.takes_memory (L.facts reader.old) (W.contents out.old) (W.contents out.new)) }
 
-    // Answers go out before the next line is awaited.
+    // All answers have gone out between the lines that came, but where a whole line had come already.
     ensures turns { OnOk result (TellsInTurn L.facts W.facts W.contents reader.old out.old out.new) }
 
     ensures quiet { progress ≡ false → errors.new ≡ errors.old }
