@@ -1,6 +1,7 @@
 //! Tests of arbiters and of worlds by their public calls, of what no contract says and no case of `rows` shows.
 //!
-//! - `opening_tests`: keepers that fail
+//! - `opening_tests`: keepers that fail, and delays
+//! - `fetching_tests`: what is passed on of the longest game
 //! - `serving_tests`: an arbiter in service, over a port in memory, and outputs that fail
 //! - `stopping_tests`: random runs that are stopped
 //! - `hosting_tests`: a server of three games that is stopped
@@ -21,6 +22,8 @@ mod arbiters;
 mod comparing;
 #[cfg(test)]
 mod failing;
+#[cfg(test)]
+mod fetching_tests;
 #[cfg(test)]
 mod files;
 #[cfg(test)]

@@ -1,6 +1,8 @@
 //! How an arbiter is opened, over what is kept and over keepers that fail.
 
-use crate::arbiters::{NAME, record_of, setup_of, stamp_of};
+use crate::arbiters::{
+    NAME, Sent, empty_keeper, message_of, open_first, record_of, setup_of, stamp_of,
+};
 use crate::comparing::{check_bytes, check_same};
 use crate::positions::{START, position_of};
 use arbiter_core::{Arbiter, KeepFault, Keeper, Name, OpenFault, Refused, Setup, name_of};
@@ -141,6 +143,30 @@ fn check_refused(rt: &impl Abort, alloc: Global, row: &Refusal) {
 fn hands_setups_back(rt: HostRuntime) {
     for row in &REFUSALS {
         check_refused(&rt, rt.alloc(), row);
+    }
+}
+
+/// The longest delay of a game.
+const MOST_DELAY: u8 = 8;
+
+/// An arbiter of a game with this delay is opened over nothing, and keeps a first move with that delay.
+fn check_begun(rt: &impl Abort, alloc: Global, delay: u8) {
+    let mut keeper = empty_keeper(rt, alloc);
+    let mut arbiter = open_first(rt, alloc, &mut keeper, START, delay);
+    let stamp = stamp_of(rt, START, delay);
+    let first = message_of(rt, stamp, Sent::Move, 0, "e2e4").encode();
+    let told = arbiter.deliver(alloc, &mut keeper, &first);
+    check_same(rt, told.is_ok(), true, "a move");
+    let kept = keeper.get(alloc).expect(rt, "memory");
+    let wanted = record_of(rt, alloc, stamp, delay, "e2e4", None);
+    check_same(rt, kept.as_deref(), Some(wanted.as_slice()), "what is kept");
+}
+
+/// Where nothing is kept a game is begun with each delay that a game may have.
+#[test]
+fn begins_with_each_delay(rt: HostRuntime) {
+    for delay in 0..MOST_DELAY + 1 {
+        check_begun(&rt, rt.alloc(), delay);
     }
 }
 

@@ -5,7 +5,7 @@ use arbiter_core::{KeepFault, Keeper};
 use arbiter_server::FileKeeper;
 use std::alloc::Global;
 use std::process::Abort;
-use system_io::{Choice, DiskFile, KeptFile, Outcome, ReadFault, read_after};
+use system_io::{Choice, DiskFile, KeptFile, MOST_KEPT_BYTES, Outcome, ReadFault, read_after};
 
 /// A copy of bytes.
 fn copy(rt: &impl Abort, alloc: Global, bytes: &[u8]) -> Vec<u8> {
@@ -186,11 +186,25 @@ fn silent_disk(rt: &impl Abort, alloc: Global) -> DiskFile {
     DiskFile::new(alloc, None, Vec::new(alloc), true)
 }
 
+/// So many bytes.
+fn many_bytes(rt: &impl Abort, alloc: Global, count: usize) -> Vec<u8> {
+    let mut bytes = Vec::new(alloc);
+    bytes.resize(count, 1).expect(rt, "memory");
+    bytes
+}
+
 /// A file with more bytes than may be kept.
 fn long_disk(rt: &impl Abort, alloc: Global) -> DiskFile {
-    let mut bytes = Vec::new(alloc);
-    bytes.resize(8218, 1).expect(rt, "memory");
-    DiskFile::new(alloc, Some(bytes), Vec::new(alloc), false)
+    good_disk(rt, alloc, Some(&many_bytes(rt, alloc, MOST_KEPT_BYTES + 1)))
+}
+
+/// A file of as many bytes as may be kept is got whole.
+#[test]
+fn gets_as_many_bytes_as_may_be_kept(rt: HostRuntime) {
+    let most = many_bytes(&rt, rt.alloc(), MOST_KEPT_BYTES);
+    let disk = good_disk(&rt, rt.alloc(), Some(&most));
+    let mut keeper = keeper_on(&rt, rt.alloc(), disk);
+    check_kept(&rt, rt.alloc(), &mut keeper, Some(&most));
 }
 
 /// Where the sync at the start fails, the disk gives nothing or the file is too long there is no keeper.
