@@ -20,7 +20,7 @@ use Rattle.source_core.specs.declared.lines.Ended.{Ended}
 use Rattle.task_files.specs.Given.{Given}
 use Rattle.adjudicate_core.specs.Hostings as hosting
 use Rattle.adjudicate_core.specs.Entries.{SpellsEntry}
-use Rattle.adjudicate_core.specs.Enters.{AreMadeForTold, BadStart, Entered, Enters, EntersAs, EntersList, IsMadeForLine, Kept, Listed, MakesForTold, NoList, NoManifest, NoRoom, NoRoomForList, NoRoomForManifest, OfList, Place, PutsGame, PutsGames, Unkept, Unstamped, entered_game, file_of_game, place}
+use Rattle.adjudicate_core.specs.Enters.{AreMadeForTold, BadStart, Entered, Enters, EntersAs, EntersList, IsMadeForLine, Kept, Listed, MakesForTold, NoList, NoManifest, NoRoom, NoRoomForList, NoRoomForManifest, OfList, Place, PutsGame, PutsGames, Unkept, Unstamped, entered, file_of_game, place}
 use Rattle.adjudicate_core.specs.Inside.Entering.{MakesForLine}
 use Rattle.adjudicate_core.specs.Outsides.{Outside}
 use Rattle.line_teller.specs.ToldLines.{LineTold}
@@ -234,7 +234,7 @@ module _ {P F : Type 0} (out : Outside P F) (t : Enter) (old new : Option (List 
   as_makes (One g) (BadStart made fault first told) = ([], made, inl refl)
   as_makes (One g) (NoManifest made text words lacks told) = ([], made, inl refl)
   as_makes (One g) (NoRoom made text told) = ([], made, inl refl)
-  as_makes (One g) (Entered start spells legal manifest is puts) = put_makes (place out.host t.games.now manifest) g (entered_game g start) out.had out.has old new r puts
+  as_makes (One g) (Entered start spells legal manifest is puts) = put_makes (place out.host t.games.now manifest) g (entered g start) out.had out.has old new r puts
   as_makes (From path) (NoList made lacks told) = ([], made, tt)
   as_makes (From path) (NoRoomForList made told) = ([], made, tt)
   as_makes (From path) (OfList text is h) = list_makes text h

@@ -49,16 +49,20 @@ place host games manifest = record { host = host; games = games; manifest = mani
 
 -- ---- the text of a game in a file
 
+-- whatever was known of what a start finds in the file still is
+abbrev pub IsLeft : {F : Type 0} → (F → KeptFacts) → F → F → Type 0
+IsLeft facts file file' = (a b : Option (List ℕ)) → (facts file).finds a b → (facts file').finds a b
+
 -- it had this text already, and is left; or the text takes its place, and each later start finds it
 pub data HasText {F : Type 0} (facts : F → KeptFacts) (file file' : F) (text : List ℕ) : Type 0 where
-  Left : IsOneOfFound (facts file) (Some text) → ((a b : Option (List ℕ)) → (facts file).finds a b → (facts file').finds a b) → (facts file').finds (Some text) (Some text) → HasText facts file file' text
+  Left : IsOneOfFound (facts file) (Some text) → IsLeft facts file file' → (facts file').finds (Some text) (Some text) → HasText facts file file' text
   Put : (found : Option (List ℕ)) → IsOneOfFound (facts file) found → found ≢ Some text → (facts file').finds (Some text) (Some text) → HasText facts file file' text
 
--- why it hasn't: it can't be brought to the disk or read; or the text can't take its place, since a call for the file failed, and a start
--- finds what was there before, or the text
+-- why it hasn't: it can't be brought to the disk or read, and is left; or the text can't take its place, since a call for the file failed,
+-- and a start finds what was there before, or the text
 pub data LacksText {F : Type 0} (facts : F → KeptFacts) (file file' : F) (text : List ℕ) (fault : KeepFault) : Type 0 where
-  Unreadable : CannotStart (facts file) read.Unreadable → fault ≡ keep.Keeper → LacksText facts file file' text fault
-  NoRoomToRead : CannotStart (facts file) read.OutOfMemory → fault ≡ keep.OutOfMemory → LacksText facts file file' text fault
+  Unreadable : CannotStart (facts file) read.Unreadable → IsLeft facts file file' → fault ≡ keep.Keeper → LacksText facts file file' text fault
+  NoRoomToRead : CannotStart (facts file) read.OutOfMemory → IsLeft facts file file' → fault ≡ keep.OutOfMemory → LacksText facts file file' text fault
   Failed : (found : Option (List ℕ)) → IsOneOfFound (facts file) found → found ≢ Some text → FindsOldOrNew (facts file') found text → Risen (facts file).faults (facts file').faults → fault ≡ keep.Keeper → LacksText facts file file' text fault
 
 -- so it is of the file at this path
@@ -97,8 +101,8 @@ keep_fault_words keep.OutOfMemory = refused_memory
 -- ---- the game of the words
 
 -- the game that the words tell, with this start
-abbrev pub entered_game : OneGame → Parts → GameContents
-entered_game g start = game_as_told g.name start g.delay
+abbrev pub entered : OneGame → Parts → GameContents
+entered g start = game_as_told g.name start g.delay
 
 -- the stamp is the one line, in lower-case hexadecimal digits, and all is done
 abbrev pub TellsStamp : List ℕ → Option (List ℕ) → Option (List ℕ) → Result ℕ WriteFault → Type 0
@@ -115,7 +119,7 @@ pub data EntersOne {P F : Type 0} (out : Outside P F) (t : Enter) (g : OneGame) 
   BadStart : Passes out.had out.has [] → (fault : FenFault) → IsFirstFenFault g.start.now fault → TellsOne (refused_fen fault) old new r → EntersOne out t g old new r
   NoManifest : Passes out.had out.has [] → IsText g.start.now → (words : List ℕ) → LacksManifest out.disk (option_map (λ s. s.now) t.manifest) t.tables.now words → TellsOne words old new r → EntersOne out t g old new r
   NoRoom : Passes out.had out.has [] → IsText g.start.now → TellsOne refused_memory old new r → EntersOne out t g old new r
-  Entered : (start : Parts) → SpellsPosition g.start.now start → IsPosition start → (manifest : List ℕ) → IsNamedManifest out.disk (option_map (λ s. s.now) t.manifest) t.tables.now manifest → PutsGame (place out.host t.games.now manifest) (entered_game g start) out.had out.has old new r → EntersOne out t g old new r
+  Entered : (start : Parts) → SpellsPosition g.start.now start → IsPosition start → (manifest : List ℕ) → IsNamedManifest out.disk (option_map (λ s. s.now) t.manifest) t.tables.now manifest → PutsGame (place out.host t.games.now manifest) (entered g start) out.had out.has old new r → EntersOne out t g old new r
 
 -- ---- the games of a list
 

@@ -149,8 +149,8 @@ way disk host port file written output h = record { around = around (disk h.disk
 abbrev pub WritesNow : {P F W : Type 0} → Way P F W → Option (List Made) → Option (List Made) → PortFacts → PortFacts → W → W → Result ℕ WriteFault → Type 0
 WritesNow w had has port port' out out' r = HostsNow (writing w.around) w.words w.common had has port port' out out' r
 
-abbrev pub WritesAt : {P F W : Type 0} → Way P F W → Option (List Made) → Option (List Made) → P → PortFacts → W → W → Result ℕ WriteFault → Type 0
-WritesAt w had has port port' out out' r = HostsAt w.around.host (writing w.around) w.words w.common had has port port' out out' r
+abbrev pub TellsAt : {P F W : Type 0} → Way P F W → Option (List Made) → Option (List Made) → P → PortFacts → W → W → Result ℕ WriteFault → Type 0
+TellsAt w had has port port' out out' r = HostsAt w.around.host (writing w.around) w.words w.common had has port port' out out' r
 
 abbrev pub BindsAndWrites : {P F W : Type 0} → Way P F W → Option (List Made) → Option (List Made) → W → W → Result ℕ WriteFault → Type 0
 BindsAndWrites w had has out out' r = BindsAndHosts w.around.host (writing w.around) w.words w.common had has out out' r

@@ -178,8 +178,8 @@ pub record ServingWay (P F W : Type 0) : Type 1 where
   pub setup : SetupView
 
 -- from one history of the host to a later one
-abbrev pub LockedAndWrites : {P F W : Type 0} → ServingWay P F W → Option (List Made) → Option (List Made) → P → P → W → W → Result ℕ WriteFault → Type 0
-LockedAndWrites w had has port port' out out' r = ServesLocked w.host (writing_to w.host.file w.writer out out' r) w.words w.setup had has (w.host.port port) (w.host.port port') (w.writer.written out) (w.writer.written out') r
+abbrev pub WritesLocked : {P F W : Type 0} → ServingWay P F W → Option (List Made) → Option (List Made) → P → P → W → W → Result ℕ WriteFault → Type 0
+WritesLocked w had has port port' out out' r = ServesLocked w.host (writing_to w.host.file w.writer out out' r) w.words w.setup had has (w.host.port port) (w.host.port port') (w.writer.written out) (w.writer.written out') r
 
 abbrev pub WritesServingAt : {P F W : Type 0} → ServingWay P F W → Option (List Made) → Option (List Made) → P → P → W → W → Result ℕ WriteFault → Type 0
 WritesServingAt w had has port port' out out' r = ServesAt w.host (writing_to w.host.file w.writer out out' r) w.words w.setup had has (w.host.port port) (w.host.port port') (w.writer.written out) (w.writer.written out') r

@@ -4,8 +4,8 @@ ghost use Rattle.std.specs.Prelude.{◌≡◌, ◌↔◌, Some, IsTrue, IfOk, If
 ghost use Rattle.move_msg.specs.TextLines.{ended, lines_in};
 ghost use Rattle.arbiter_server.specs.GameFiles.{game_as_told};
 ghost use Rattle.adjudicate_core.specs.Enters.{ComesOf, Enters, EntersList, EntersOne, HasList, HasText, HasTextAt, IsEntered, IsUnentered};
-ghost use Rattle.adjudicate_core.specs.Enters.{EntersNoGame, LacksList, LacksText, LacksTextAt, PutsGame, PutsGames, TellsStamp, entered_game, file_of_game, told_entry};
-ghost use Rattle.adjudicate_core.specs.Inside.Entering.{EntersNext, HasOver, LacksOver, MakesForLine, entering_place};
+ghost use Rattle.adjudicate_core.specs.Enters.{EntersNoGame, LacksList, LacksText, LacksTextAt, PutsGame, PutsGames, TellsStamp, entered, file_of_game, told_entry};
+ghost use Rattle.adjudicate_core.specs.Inside.Entering.{EntersNext, HasOver, LacksOver, MakesForLine, entering};
 ghost use Rattle.adjudicate_core.specs.Outsides.{outside_of};
 ghost use Rattle.arbiter_server.specs.Folders.{MakesOnce};
 ghost use Rattle.system_io.specs.Hosts.{FileAt};
@@ -137,9 +137,9 @@ fn enter_game<H: Host>(
     start: &Position,
     delay: Delay,
 ) -> Result<Stamp, KeepFault>
-    ensures ok { IfOk result (λ stamp. IsEntered (entering_place H.facts H.Port.facts H.File.facts place.now) (game_as_told name.now start.now delay) stamp.0) }
-    ensures err { IfErr result (IsUnentered (entering_place H.facts H.Port.facts H.File.facts place.now) (game_as_told name.now start.now delay)) }
-    ensures made { MakesOnce (H.made history.old) (H.made history.new) (file_of_game (entering_place H.facts H.Port.facts H.File.facts place.now) (game_as_told name.now start.now delay)) }
+    ensures ok { IfOk result (λ stamp. IsEntered (entering H.facts H.Port.facts H.File.facts place.now) (game_as_told name.now start.now delay) stamp.0) }
+    ensures err { IfErr result (IsUnentered (entering H.facts H.Port.facts H.File.facts place.now) (game_as_told name.now start.now delay)) }
+    ensures made { MakesOnce (H.made history.old) (H.made history.new) (file_of_game (entering H.facts H.Port.facts H.File.facts place.now) (game_as_told name.now start.now delay)) }
 {
     let stamp = name.stamp(start, place.manifest, delay.plies());
     let Ok(path) = game_path(alloc, place.games, stamp) else {
@@ -175,7 +175,7 @@ fn put_game<H: Host, W: Output>(
     start: &Position,
     out: &mut W,
 ) -> Result<u8, WriteFault>
-    ensures told { PutsGame (entering_place H.facts H.Port.facts H.File.facts place.now) (entered_game game.now start.now) (H.made history.old) (H.made history.new) (W.contents out.old) (W.contents out.new) result }
+    ensures told { PutsGame (entering H.facts H.Port.facts H.File.facts place.now) (entered game.now start.now) (H.made history.old) (H.made history.new) (W.contents out.old) (W.contents out.new) result }
     ensures cause { OnErr result (HasFailed W.facts) }
 {
     match enter_game(alloc, place, history, &game.name, start, game.delay) {
@@ -231,9 +231,9 @@ fn enter_line<H: Host>(
     history: &mut H::History,
     line: &[u8],
 ) -> Result<Result<Stamp, EntryFault>, AllocError>
-    ensures ok { IfOk result (ComesOf (entering_place H.facts H.Port.facts H.File.facts place.now) line.now) }
-    ensures memory { OnErr result (EntersNoGame (entering_place H.facts H.Port.facts H.File.facts place.now) line.now KeepFault.OutOfMemory) }
-    ensures made { MakesForLine (entering_place H.facts H.Port.facts H.File.facts place.now) line.now (H.made history.old) (H.made history.new) }
+    ensures ok { IfOk result (ComesOf (entering H.facts H.Port.facts H.File.facts place.now) line.now) }
+    ensures memory { OnErr result (EntersNoGame (entering H.facts H.Port.facts H.File.facts place.now) line.now KeepFault.OutOfMemory) }
+    ensures made { MakesForLine (entering H.facts H.Port.facts H.File.facts place.now) line.now (H.made history.old) (H.made history.new) }
 {
     let game = match read_entry(line) {
         Ok(game) => game,
@@ -277,8 +277,8 @@ fn enter_next<H: Host, W: Output>(
     line: &[u8],
     out: &mut W,
 ) -> Result<Step, WriteFault>
-    ensures enters { EntersNext (entering_place H.facts H.Port.facts H.File.facts place.now) number line.now (W.contents out.old) (W.contents out.new) result }
-    ensures made { MakesForLine (entering_place H.facts H.Port.facts H.File.facts place.now) line.now (H.made history.old) (H.made history.new) }
+    ensures enters { EntersNext (entering H.facts H.Port.facts H.File.facts place.now) number line.now (W.contents out.old) (W.contents out.new) result }
+    ensures made { MakesForLine (entering H.facts H.Port.facts H.File.facts place.now) line.now (H.made history.old) (H.made history.new) }
     ensures cause { OnErr result (HasFailed W.facts) }
 {
     match enter_line(alloc, place, history, line) {
@@ -302,7 +302,7 @@ fn enter_lines<H: Host, W: Output>(
     list: &[u8],
     out: &mut W,
 ) -> Result<u8, WriteFault>
-    ensures told { PutsGames (entering_place H.facts H.Port.facts H.File.facts place.now) (lines_in list.now) (H.made history.old) (H.made history.new) (W.contents out.old) (W.contents out.new) result }
+    ensures told { PutsGames (entering H.facts H.Port.facts H.File.facts place.now) (lines_in list.now) (H.made history.old) (H.made history.new) (W.contents out.old) (W.contents out.new) result }
     ensures cause { OnErr result (HasFailed W.facts) }
 {
     let mut rest = list;

@@ -2,7 +2,7 @@
 
 ghost use Rattle.std.specs.Prelude.{◌≡◌, ℕ, IfErr, IfOk, List, OnErr};
 ghost use Rattle.arbiter_server.specs.LineLogs.{IsLogOf};
-ghost use Rattle.adjudicate_core.specs.Hostings.{BindsAndWrites, HostsAndTells, LocksAndWrites, WritesAt, way};
+ghost use Rattle.adjudicate_core.specs.Hostings.{BindsAndWrites, HostsAndTells, LocksAndWrites, TellsAt, way};
 ghost use Rattle.adjudicate_core.specs.Inside.HostingParts.{IsUnlisted, WritesOver};
 ghost use Rattle.adjudicate_core.specs.Outsides.{around_of};
 ghost use Rattle.line_teller.specs.ToldLines.{HasFailed};
@@ -112,7 +112,7 @@ fn start_at<D: Disk, H: Host, W: Output>(
     port: &mut H::Port,
     out: &mut W,
 ) -> Result<u8, WriteFault>
-    ensures told { WritesAt (way D.facts H.facts H.Port.facts H.File.facts W.contents W.facts plan.entry) (H.made history.old) (H.made history.new) port.old (H.Port.facts port.new) out.old out.new result }
+    ensures told { TellsAt (way D.facts H.facts H.Port.facts H.File.facts W.contents W.facts plan.entry) (H.made history.old) (H.made history.new) port.old (H.Port.facts port.new) out.old out.new result }
     ensures cause { OnErr result (HasFailed W.facts) }
 {
     let line = match ready_line_at(alloc, plan.host, port) {
@@ -128,10 +128,12 @@ fn start_at<D: Disk, H: Host, W: Output>(
     }
 }
 
-/// Binds the address that the words name, and serves the games there. An address that can't be bound is told as `refused port`.
+/// Binds the address that the words name, and serves the games there, while the lock of their folder is held. An address that can't be
+/// bound is told as `refused port`.
 fn bind_and_serve<D: Disk, H: Host, W: Output>(
     alloc: Global,
     plan: HostPlan<'_, '_, '_, D, H>,
+    _lock: &H::Lock,
     history: &mut H::History,
     out: &mut W,
 ) -> Result<u8, WriteFault>
@@ -157,7 +159,7 @@ fn lock_and_serve<D: Disk, H: Host, W: Output>(
     ensures cause { OnErr result (HasFailed W.facts) }
 {
     match lock(alloc, plan.host, history, plan.task.games, IN_GAMES) {
-        Ok(_lock) => bind_and_serve(alloc, plan, history, out),
+        Ok(lock) => bind_and_serve(alloc, plan, &lock, history, out),
         Err(refusal) => put_refusal(out, refusal),
     }
 }

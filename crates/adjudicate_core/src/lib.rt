@@ -23,7 +23,8 @@
 //!   nothing is written. The definition of each command's answer is in `AnswersFrom`. Of a call that ends with the writer's error
 //!   it says that a front of that answer was written: the lines before whole, and of the last a front. For `list`, `check`, `status`,
 //!   `audit --games`, `run`, `probes`, `root`, `host` and the list of `enter` refused memory has no cause.
-//! - CLAIM: `run`, `run_program`, clause `cause`: the error is that of the writer: it refused a write, or what was written couldn't go out.
+//! - CLAIM: `run`, `run_program`, clause `cause`: an error comes only of a type of writer that may refuse a write, or from which what was
+//!   written can't go out (`HasFailed`). A body that knows no more of its writer has that only from a call of it that failed.
 //! - CLAIM: `run`, clause `made`; `run_program`, clause `made`: at the host nothing is opened but what `IsMadeBy` has of the task, whatever
 //!   it comes to: `listen` opens its port, the lock and the kept file, `send` its port, `host` the lock, its port and files of records,
 //!   `enter` files of games. Which of these it has opened where it ends so, and that a record's file is opened once for each Move or

@@ -331,7 +331,7 @@ impl Line {
     }
 }
 
-/// Writes a line at once. The error is that of the writer, which refused a write; a front of the line is written then.
+/// Writes a line at once. An error comes only of a type of writer that may refuse a write; a front of the line is written then.
 pub(crate) fn put_line<W: Output>(out: &mut W, line: &Line) -> Result<(), WriteFault>
     ensures front { WritesFront (W.contents out.old) (W.contents out.new) (ended (words_of line.now)) result }
     ensures cause { OnErr result (HasFailed W.facts) }
@@ -339,8 +339,8 @@ pub(crate) fn put_line<W: Output>(out: &mut W, line: &Line) -> Result<(), WriteF
     line.words().put(out)
 }
 
-/// Writes a refusal of everything, and returns the status 1. The error is that of the writer, which refused a write; a front of the
-/// refusal is written then.
+/// Writes a refusal of everything, and returns the status 1. An error comes only of a type of writer that may refuse a write; a front
+/// of the refusal is written then.
 pub(crate) fn put_refusal<W: Output>(out: &mut W, refusal: Refusal) -> Result<u8, WriteFault>
     ensures told { TellsOne (refusal_words refusal) (W.contents out.old) (W.contents out.new) result }
     ensures cause { OnErr result (HasFailed W.facts) }

@@ -7,8 +7,8 @@ ghost use Rattle.move_msg.specs.Files.{entries_of};
 ghost use Rattle.move_msg.specs.Manifests.{SpellsManifest};
 ghost use Rattle.move_msg.specs.TextLines.{ended};
 ghost use Rattle.arbiter_core.specs.Setups.{setup_view};
-ghost use Rattle.adjudicate_core.specs.Listens.{BindsAndWritesServing, KeepsAndWrites, LacksAddress, ListensAndWrites, LockedAndWrites, OpensAndWrites, StartsAndWrites, TellsAddress, TellsUnopened, WritesServingAt, hosted};
-ghost use Rattle.adjudicate_core.specs.Inside.ListeningParts.{ListensBy, serving_way};
+ghost use Rattle.adjudicate_core.specs.Listens.{BindsAndWritesServing, KeepsAndWrites, LacksAddress, ListensAndWrites, WritesLocked, OpensAndWrites, StartsAndWrites, TellsAddress, TellsUnopened, WritesServingAt, hosted};
+ghost use Rattle.adjudicate_core.specs.Inside.ListeningParts.{ListensBy, serving};
 ghost use Rattle.adjudicate_core.specs.Lines.{ready_words};
 ghost use Rattle.arbiter_server.specs.GoingOut.{writers};
 ghost use Rattle.arbiter_server.specs.StoredBytes.{IsInFile};
@@ -36,6 +36,12 @@ use task_files::Sources;
 struct ListenAt<'l, 'w, H> {
     listening: &'l Listen<'w>,
     host: &'l H,
+}
+
+/// The same, while the lock of that file is held.
+struct Locked<'k, 'l, 'w, H: Host> {
+    at: ListenAt<'l, 'w, H>,
+    lock: &'k H::Lock,
 }
 
 /// Writes that no arbiter is opened: `refused keeper`, or `refused memory` where memory was refused.
@@ -100,18 +106,19 @@ fn keep_and_serve<F: KeptFile + Drop, P: Port, W: Output>(
     }
 }
 
-/// Serves over the file that the words name, which is locked.
+/// Serves over the file that the words name, while its lock is held.
 fn serve_over<H: Host, W: Output>(
     alloc: Global,
-    at: ListenAt<'_, '_, H>,
+    at: Locked<'_, '_, '_, H>,
     setup: Setup<'_>,
     history: &mut H::History,
     port: &mut H::Port,
     out: &mut W,
 ) -> Result<u8, WriteFault>
-    ensures told { LockedAndWrites (serving_way H.facts H.Port.facts H.File.facts W.contents W.facts at.entry setup.entry) (H.made history.old) (H.made history.new) port.old port.new out.old out.new result }
+    ensures told { WritesLocked (serving H.facts H.Port.facts H.File.facts W.contents W.facts at.entry.at setup.entry) (H.made history.old) (H.made history.new) port.old port.new out.old out.new result }
     ensures cause { OnErr result (HasFailed W.facts) }
 {
+    let Locked { at, lock: _lock } = at;
     match at.host.file(alloc, history, at.listening.kept) {
         Ok(file) => keep_and_serve(alloc, at.listening, setup, file, port, out),
         Err(_) => put_refusal(out, Refusal::Memory),
@@ -128,11 +135,14 @@ fn serve_at<H: Host, W: Output>(
     port: &mut H::Port,
     out: &mut W,
 ) -> Result<u8, WriteFault>
-    ensures told { WritesServingAt (serving_way H.facts H.Port.facts H.File.facts W.contents W.facts at.entry setup.entry) (H.made history.old) (H.made history.new) port.old port.new out.old out.new result }
+    ensures told { WritesServingAt (serving H.facts H.Port.facts H.File.facts W.contents W.facts at.entry setup.entry) (H.made history.old) (H.made history.new) port.old port.new out.old out.new result }
     ensures cause { OnErr result (HasFailed W.facts) }
 {
     match lock(alloc, at.host, history, at.listening.kept, BESIDE_KEPT) {
-        Ok(_lock) => serve_over(alloc, at, setup, history, port, out),
+        Ok(lock) => {
+            let locked = Locked { at, lock: &lock };
+            serve_over(alloc, locked, setup, history, port, out)
+        }
         Err(refusal) => put_refusal(out, refusal),
     }
 }
@@ -173,7 +183,7 @@ fn start_at<H: Host, W: Output>(
     port: &mut H::Port,
     out: &mut W,
 ) -> Result<u8, WriteFault>
-    ensures told { StartsAndWrites (serving_way H.facts H.Port.facts H.File.facts W.contents W.facts at.entry setup.entry) (H.made history.old) (H.made history.new) port.old port.new out.old out.new result }
+    ensures told { StartsAndWrites (serving H.facts H.Port.facts H.File.facts W.contents W.facts at.entry setup.entry) (H.made history.old) (H.made history.new) port.old port.new out.old out.new result }
     ensures cause { OnErr result (HasFailed W.facts) }
 {
     if !at.listening.ready {
@@ -197,7 +207,7 @@ fn bind_and_serve<H: Host, W: Output>(
     history: &mut H::History,
     out: &mut W,
 ) -> Result<u8, WriteFault>
-    ensures told { BindsAndWritesServing (serving_way H.facts H.Port.facts H.File.facts W.contents W.facts at.entry setup.entry) (H.made history.old) (H.made history.new) out.old out.new result }
+    ensures told { BindsAndWritesServing (serving H.facts H.Port.facts H.File.facts W.contents W.facts at.entry setup.entry) (H.made history.old) (H.made history.new) out.old out.new result }
     ensures cause { OnErr result (HasFailed W.facts) }
 {
     match bind(alloc, at.host, history, at.listening.bind, at.listening.to) {

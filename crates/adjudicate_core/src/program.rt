@@ -4,7 +4,7 @@ ghost use Rattle.std.specs.Prelude.{◌≡◌, ◌≢◌, ◌⊎◌, IfOk, Ok, O
 ghost use Rattle.adjudicate_core.specs.declared.commands.Task.{Task};
 ghost use Rattle.line_teller.specs.ToldLines.{HasFailed, refused_memory};
 ghost use Rattle.adjudicate_core.specs.Makes.{Makes, MakesCalled, MakesFor};
-ghost use Rattle.adjudicate_core.specs.Inside.Answering.{AnswersTaskAt, AnswersBySeal, AnswersGiven};
+ghost use Rattle.adjudicate_core.specs.Inside.Answering.{GivenAt, SealedAt, TaskAt};
 ghost use Rattle.adjudicate_core.specs.Running.{Calls, RunsProgram, called_by, texts};
 ghost use Rattle.adjudicate_core.specs.Silences.{IsLoud, TellsIfLost};
 ghost use Rattle.adjudicate_core.specs.Tasks.{IsTask, tells_progress};
@@ -48,7 +48,7 @@ struct Context<'s, 'a, D, I, H> {
 /// Where memory is refused, the line `refused memory` comes in place of all else, for `probes` after the whole lines
 /// before it, with status 1. A text that is no position takes none, and `show` takes none. The error comes only where
 /// the writer failed. `list`, `check` and `status` read their folder here, and hold one file at a time. With `--progress` the
-/// progress goes to `errors`: for `probes` after every 10,000 lines, for `list` and `check` after each hundred million
+/// progress goes to `err`: for `probes` after every 10,000 lines, for `list` and `check` after each hundred million
 /// bytes. For `send` who was silent goes there, where an arbiter doesn't answer. No other task writes there.
 fn answer_given<D: Disk, I: Input, H: Host, W: Output, E: Output>(
     alloc: Global,
@@ -56,10 +56,10 @@ fn answer_given<D: Disk, I: Input, H: Host, W: Output, E: Output>(
     given: Context<'_, '_, D, I, H>,
     history: &mut H::History,
     out: &mut W,
-    errors: &mut E,
+    err: &mut E,
 ) -> Result<u8, WriteFault>
-    ensures quiet { tells_progress task.now ≡ false → TellsIfLost E.facts E.contents errors.old errors.new task.now result }
-    ensures answered { AnswersGiven D.facts I.facts H.facts H.made H.Port.facts H.File.facts W.contents E.facts E.contents task.now given.entry history.old history.new out.old out.new errors.old errors.new result }
+    ensures quiet { tells_progress task.now ≡ false → TellsIfLost E.facts E.contents err.old err.new task.now result }
+    ensures answered { GivenAt D.facts I.facts H.facts H.made H.Port.facts H.File.facts W.contents E.facts E.contents task.now given.entry history.old history.new out.old out.new err.old err.new result }
     ensures made { MakesFor task.now (H.made history.old) (H.made history.new) }
     ensures cause { OnErr result (HasFailed W.facts) }
 {
@@ -68,21 +68,21 @@ fn answer_given<D: Disk, I: Input, H: Host, W: Output, E: Output>(
         Task::Judge(task) => put_answered(out, task.answer(alloc, sources)),
         Task::Probe(task) => put_answered(out, task.answer(alloc, sources)),
         Task::Moves(task) => put_answered(out, task.answer(alloc)),
-        Task::List(task) => put_read(out, task.answer(alloc, system.disk, errors)),
-        Task::Check(task) => put_read(out, task.answer(alloc, system.disk, errors)),
+        Task::List(task) => put_read(out, task.answer(alloc, system.disk, err)),
+        Task::Check(task) => put_read(out, task.answer(alloc, system.disk, err)),
         Task::Show(task) => task.answer(sources, out),
         Task::Run(task) => put_answered(out, task.answer(alloc, sources)),
         Task::Listen(task) => listen(alloc, task, sources, system.host, history, out),
-        Task::Probes(task) => task.answer(alloc, sources, system.input, out, errors),
+        Task::Probes(task) => task.answer(alloc, sources, system.input, out, err),
         Task::Game(task) => put_answered(out, task.answer(alloc, sources)),
         Task::Record(task) => put_answered(out, task.answer(alloc, sources)),
         Task::Audit(task) => put_answered(out, task.answer(alloc, sources)),
         Task::AuditGames(task) => task.answer(alloc, sources, system.disk, out),
         Task::Version(task) => task.answer(out),
-        Task::Send(task) => tell_silence(errors, send(alloc, task, system, history, out)),
+        Task::Send(task) => tell_silence(err, send(alloc, task, system, history, out)),
         Task::Enter(task) => enter(alloc, task, system, history, out),
         Task::Host(task) => host_games(alloc, task, sources, system, history, out),
-        Task::Root(task) => task.answer(alloc, sources, system.input, out, errors),
+        Task::Root(task) => task.answer(alloc, sources, system.input, out, err),
         Task::Follow(task) => task.answer(alloc, sources, system.input, out),
         Task::Status(task) => task.answer(alloc, system.disk, out),
     }
@@ -95,10 +95,10 @@ fn run_task<D: Disk, I: Input, H: Host, W: Output, E: Output>(
     system: &System<'_, D, I, H>,
     history: &mut H::History,
     out: &mut W,
-    errors: &mut E,
+    err: &mut E,
 ) -> Result<u8, WriteFault>
-    ensures quiet { tells_progress task.now ≡ false → TellsIfLost E.facts E.contents errors.old errors.new task.now result }
-    ensures answered { AnswersTaskAt D.facts I.facts H.facts H.made H.Port.facts H.File.facts W.contents E.facts E.contents task.now system.now history.old history.new out.old out.new errors.old errors.new result }
+    ensures quiet { tells_progress task.now ≡ false → TellsIfLost E.facts E.contents err.old err.new task.now result }
+    ensures answered { TaskAt D.facts I.facts H.facts H.made H.Port.facts H.File.facts W.contents E.facts E.contents task.now system.now history.old history.new out.old out.new err.old err.new result }
     ensures made { MakesFor task.now (H.made history.old) (H.made history.new) }
     ensures cause { OnErr result (HasFailed W.facts) }
 {
@@ -109,7 +109,7 @@ fn run_task<D: Disk, I: Input, H: Host, W: Output, E: Output>(
                 sources: &sources,
                 system,
             };
-            answer_given(alloc, task, given, history, out, errors)
+            answer_given(alloc, task, given, history, out, err)
         }
         Err(ReadFault::Unreadable) => put_refusal(out, Refusal::Files),
         Err(ReadFault::OutOfMemory) => put_refusal(out, Refusal::Memory),
@@ -124,15 +124,15 @@ fn run_by_key<D: Disk, I: Input, H: Host, W: Output, E: Output>(
     system: &System<'_, D, I, H>,
     history: &mut H::History,
     out: &mut W,
-    errors: &mut E,
+    err: &mut E,
 ) -> Result<u8, WriteFault>
-    ensures quiet { tells_progress task.now ≡ false → TellsIfLost E.facts E.contents errors.old errors.new task.now result }
-    ensures answered { AnswersBySeal D.facts I.facts H.facts H.made H.Port.facts H.File.facts W.contents E.facts E.contents task.now system.now history.old history.new out.old out.new errors.old errors.new result }
+    ensures quiet { tells_progress task.now ≡ false → TellsIfLost E.facts E.contents err.old err.new task.now result }
+    ensures answered { SealedAt D.facts I.facts H.facts H.made H.Port.facts H.File.facts W.contents E.facts E.contents task.now system.now history.old history.new out.old out.new err.old err.new result }
     ensures made { MakesFor task.now (H.made history.old) (H.made history.new) }
     ensures cause { OnErr result (HasFailed W.facts) }
 {
     match task.key() {
-        None => run_task(alloc, task, system, history, out, errors),
+        None => run_task(alloc, task, system, history, out, err),
         Some(path) => match keys_at(alloc, system.disk, path) {
             Ok(Ok(keys)) => {
                 let keyed = Keyed::over(system.host, keys);
@@ -141,7 +141,7 @@ fn run_by_key<D: Disk, I: Input, H: Host, W: Output, E: Output>(
                     input: system.input,
                     host: &keyed,
                 };
-                run_task(alloc, task, &sealed, history, out, errors)
+                run_task(alloc, task, &sealed, history, out, err)
             }
             Ok(Err(refusal)) => put_refusal(out, refusal),
             Err(_) => put_refusal(out, Refusal::Memory),
@@ -169,28 +169,28 @@ fn first_of<'a>(words: &[&'a str]) -> &'a str {
 /// records in that folder, and `enter` files of games in its folder. No other task opens anything there, and these nothing else: that is
 /// so of any result, also of an error.
 ///
-/// Answers go to `out`. For a misuse one line on `errors` says what is wrong, followed by the usage. A request for help
+/// Answers go to `out`. For a misuse one line on `err` says what is wrong, followed by the usage. A request for help
 /// gets the usage alone, after a command that of the command. The progress of a task with `--progress` goes there too, and who was silent where
 /// `send` ends as `refused lost`, and nothing else. A failure of
-/// `errors` changes nothing. The error comes only where `out` failed.
+/// `err` changes nothing. The error comes only where `out` failed.
 pub fn run<D: Disk, I: Input, H: Host, W: Output, E: Output>(
     alloc: Global,
     words: &[&str],
     system: &System<'_, D, I, H>,
     history: &mut H::History,
     out: &mut W,
-    errors: &mut E,
+    err: &mut E,
 ) -> Result<u8, WriteFault>
-    ensures quiet { errors.new ≢ errors.old → (result ≡ Ok 2) ⊎ ((t : Task) × IsTask (texts words.now) t × IsLoud E.facts E.contents errors.old errors.new t result) }
-    ensures runs { RunsProgram D.facts I.facts H.facts H.made H.Port.facts H.File.facts W.contents E.facts E.contents words.now system.now history.old history.new out.old out.new errors.old errors.new result }
+    ensures quiet { err.new ≢ err.old → (result ≡ Ok 2) ⊎ ((t : Task) × IsTask (texts words.now) t × IsLoud E.facts E.contents err.old err.new t result) }
+    ensures runs { RunsProgram D.facts I.facts H.facts H.made H.Port.facts H.File.facts W.contents E.facts E.contents words.now system.now history.old history.new out.old out.new err.old err.new result }
     ensures made { Makes (texts words.now) (H.made history.old) (H.made history.new) }
     ensures cause { OnErr result (HasFailed W.facts) }
 {
     match parse(alloc, words) {
-        Ok(task) => run_by_key(alloc, &task, system, history, out, errors),
+        Ok(task) => run_by_key(alloc, &task, system, history, out, err),
         Err(Usage::OutOfMemory) => put_refusal(out, Refusal::Memory),
         Err(Usage::Misuse(misuse)) => {
-            tell_misuse(alloc, errors, &misuse, first_of(words));
+            tell_misuse(alloc, err, &misuse, first_of(words));
             Ok(2)
         }
     }
@@ -236,19 +236,19 @@ pub fn run_program<D: Disk, I: Input, H: Host, W: Output, E: Output>(
     system: &System<'_, D, I, H>,
     history: &mut H::History,
     out: &mut W,
-    errors: &mut E,
+    err: &mut E,
 ) -> Result<u8, WriteFault>
-    ensures runs { Calls D.facts I.facts H.facts H.made H.Port.facts H.File.facts W.contents E.facts E.contents called.now system.now history.old history.new out.old out.new errors.old errors.new result }
+    ensures runs { Calls D.facts I.facts H.facts H.made H.Port.facts H.File.facts W.contents E.facts E.contents called.now system.now history.old history.new out.old out.new err.old err.new result }
     ensures made { MakesCalled (called_by called.now) (H.made history.old) (H.made history.new) }
     ensures cause { OnErr result (HasFailed W.facts) }
 {
     match called {
         Ok(words) => match tail_of(alloc, words) {
-            Ok(tail) => run(alloc, &tail, system, history, out, errors),
+            Ok(tail) => run(alloc, &tail, system, history, out, err),
             Err(_) => put_refusal(out, Refusal::Memory),
         },
         Err(WordsFault::NoText(word)) => {
-            tell_misuse(alloc, errors, &Misuse::NoText(word.as_slice()), "");
+            tell_misuse(alloc, err, &Misuse::NoText(word.as_slice()), "");
             Ok(2)
         }
         Err(WordsFault::OutOfMemory) => put_refusal(out, Refusal::Memory),

@@ -153,7 +153,7 @@ fn bind_and_send<D: Disk, I: Input, H: Host, W: Output>(
     history: &mut H::History,
     out: &mut W,
 ) -> Result<Ended, WriteFault>
-    ensures told { BindsFrom (outside_of D.facts I.facts H.facts H.made H.Port.facts H.File.facts system.now history.old history.new) task.now game.now.stamp game.now.start W.contents out.old out.new result }
+    ensures told { BindsFrom (outside_of D.facts I.facts H.facts H.made H.Port.facts H.File.facts system.now history.old history.new) task.now game.now W.contents out.old out.new result }
     ensures cause { OnErr result (HasFailed W.facts) }
 {
     let terms = terms_of(task, game.stamp);

@@ -15,16 +15,16 @@ use Rattle.adjudicate_core.specs.declared.program.Context.{Context}
 use Rattle.adjudicate_core.specs.declared.system.System.{System}
 
 -- from what was read for it and at a system, from one history of the host and one moment of each output to later ones
-abbrev pub AnswersGiven : {D I H M P F W E : Type 0} → (D → DiskFacts) → (I → InputFacts) → (H → HostFacts P F) → (M → Option (List Made)) → (P → PortFacts) → (F → KeptFacts) → (W → Option (List ℕ)) → (E → OutputFacts) → (E → Option (List ℕ)) → Task → Context D I H → M → M → W → W → E → E → Result ℕ WriteFault → Type 0
-AnswersGiven disk input host made port file written facts told t given history history' out out' errors errors' r =
+abbrev pub GivenAt : {D I H M P F W E : Type 0} → (D → DiskFacts) → (I → InputFacts) → (H → HostFacts P F) → (M → Option (List Made)) → (P → PortFacts) → (F → KeptFacts) → (W → Option (List ℕ)) → (E → OutputFacts) → (E → Option (List ℕ)) → Task → Context D I H → M → M → W → W → E → E → Result ℕ WriteFault → Type 0
+GivenAt disk input host made port file written facts told t given history history' out out' errors errors' r =
     AnswersFrom (outside_of disk input host made port file given.system.now history history') (TellsSilence facts told errors errors') t given.sources.now (written out) (written out') r
 
 -- from what is read for it
-abbrev pub AnswersTaskAt : {D I H M P F W E : Type 0} → (D → DiskFacts) → (I → InputFacts) → (H → HostFacts P F) → (M → Option (List Made)) → (P → PortFacts) → (F → KeptFacts) → (W → Option (List ℕ)) → (E → OutputFacts) → (E → Option (List ℕ)) → Task → System D I H → M → M → W → W → E → E → Result ℕ WriteFault → Type 0
-AnswersTaskAt disk input host made port file written facts told t s history history' out out' errors errors' r =
+abbrev pub TaskAt : {D I H M P F W E : Type 0} → (D → DiskFacts) → (I → InputFacts) → (H → HostFacts P F) → (M → Option (List Made)) → (P → PortFacts) → (F → KeptFacts) → (W → Option (List ℕ)) → (E → OutputFacts) → (E → Option (List ℕ)) → Task → System D I H → M → M → W → W → E → E → Result ℕ WriteFault → Type 0
+TaskAt disk input host made port file written facts told t s history history' out out' errors errors' r =
     AnswersTask (outside_of disk input host made port file s history history') (TellsSilence facts told errors errors') t (written out) (written out') r
 
 -- by the keys that it names
-abbrev pub AnswersBySeal : {D I H M P F W E : Type 0} → (D → DiskFacts) → (I → InputFacts) → (H → HostFacts P F) → (M → Option (List Made)) → (P → PortFacts) → (F → KeptFacts) → (W → Option (List ℕ)) → (E → OutputFacts) → (E → Option (List ℕ)) → Task → System D I H → M → M → W → W → E → E → Result ℕ WriteFault → Type 0
-AnswersBySeal disk input host made port file written facts told t s history history' out out' errors errors' r =
+abbrev pub SealedAt : {D I H M P F W E : Type 0} → (D → DiskFacts) → (I → InputFacts) → (H → HostFacts P F) → (M → Option (List Made)) → (P → PortFacts) → (F → KeptFacts) → (W → Option (List ℕ)) → (E → OutputFacts) → (E → Option (List ℕ)) → Task → System D I H → M → M → W → W → E → E → Result ℕ WriteFault → Type 0
+SealedAt disk input host made port file written facts told t s history history' out out' errors errors' r =
     AnswersByKey (outside_of disk input host made port file s history history') (TellsSilence facts told errors errors') t (written out) (written out') r

@@ -18,8 +18,8 @@ use Rattle.adjudicate_core.specs.Enters.{CutsLine, EntersLine, EntersNoGame, IsM
 use Rattle.adjudicate_core.specs.Listens.{hosted}
 
 -- the place where games are entered
-abbrev pub entering_place : {H P F : Type 0} → (H → HostFacts P F) → (P → PortFacts) → (F → KeptFacts) → GamePlace H → Place P F
-entering_place host port file p = place (hosted (host p.host.now) port file) p.games.now p.manifest.now
+abbrev pub entering : {H P F : Type 0} → (H → HostFacts P F) → (P → PortFacts) → (F → KeptFacts) → GamePlace H → Place P F
+entering host port file p = place (hosted (host p.host.now) port file) p.games.now p.manifest.now
 
 -- a file has the text, and is left; or the text takes its place
 pub data HasOver {F : Type 0} (facts : F → KeptFacts) (file file' : F) (found : Option (List ℕ)) (text : List ℕ) : Type 0 where

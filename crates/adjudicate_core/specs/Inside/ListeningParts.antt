@@ -24,8 +24,8 @@ AreListenTerms value me datagrams delay fetch ready =
     IsMe (value (codes "me")) me × IsDatagrams (value (codes "datagrams")) datagrams × IsDelay (value (codes "delay")) delay × (fetch ≡ is_set (value (codes "fetch"))) × (ready ≡ is_set (value (codes "ready"))) × IsAddressIfAny (value (codes "bind"))
 
 -- at this host and with this writer, by the words and the setup
-abbrev pub serving_way : {H P F W : Type 0} → (H → HostFacts P F) → (P → PortFacts) → (F → KeptFacts) → (W → Option (List ℕ)) → (W → OutputFacts) → ListenAt H → Setup → ServingWay P F W
-serving_way host port file written output at setup = record { host = hosted (host at.host.now) port file; writer = writers written output; words = at.listening.now; setup = setup_view setup }
+abbrev pub serving : {H P F W : Type 0} → (H → HostFacts P F) → (P → PortFacts) → (F → KeptFacts) → (W → Option (List ℕ)) → (W → OutputFacts) → ListenAt H → Setup → ServingWay P F W
+serving host port file written output at setup = record { host = hosted (host at.host.now) port file; writer = writers written output; words = at.listening.now; setup = setup_view setup }
 
 -- so it is from what was read
 abbrev pub ListensBy : {H P F W : Type 0} → (H → HostFacts P F) → (P → PortFacts) → (F → KeptFacts) → (W → Option (List ℕ)) → (W → OutputFacts) → ListenAt H → Given → Option (List Made) → Option (List Made) → W → W → Result ℕ WriteFault → Type 0

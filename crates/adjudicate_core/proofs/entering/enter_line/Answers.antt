@@ -1,5 +1,5 @@
 use Rattle.std.proofs.Common.{inl, inr, refl}
-use Rattle.adjudicate_core.specs.Inside.Entering.{entering_place}
+use Rattle.adjudicate_core.specs.Inside.Entering.{entering}
 use Rattle.adjudicate_core.proofs.MakeLaws.{line_once, no_line}
 use Rattle.adjudicate_core.proofs.entering.enter_line.Goals as goal
 
@@ -16,13 +16,13 @@ pub returns-in-Err-OutOfMemory-clause-memory : goal.returns-in-Err-OutOfMemory-c
 returns-in-Err-OutOfMemory-clause-memory g c = (_, c.in-Ok.ensures.ok, rw c.in-Err-OutOfMemory.field-0-is at c.in-Err-OutOfMemory.ensures.err)
 
 pub returns-in-Err-clause-made : goal.returns-in-Err-clause-made
-returns-in-Err-clause-made g c = no_line (entering_place g.H.Host.facts g.H.Port.Port.facts g.H.File.KeptFile.facts c.args.place.now) _ _
+returns-in-Err-clause-made g c = no_line (entering g.H.Host.facts g.H.Port.Port.facts g.H.File.KeptFile.facts c.args.place.now) _ _
 
 pub returns-in-Ok-enter_game-clause-made : goal.returns-in-Ok-enter_game-clause-made
-returns-in-Ok-enter_game-clause-made g c = line_once (entering_place g.H.Host.facts g.H.Port.Port.facts g.H.File.KeptFile.facts c.args.place.now) _ _ _ _ c.in-Ok.ensures.ok c.enter_game.ensures.made
+returns-in-Ok-enter_game-clause-made g c = line_once (entering g.H.Host.facts g.H.Port.Port.facts g.H.File.KeptFile.facts c.args.place.now) _ _ _ _ c.in-Ok.ensures.ok c.enter_game.ensures.made
 
 pub returns-in-Err-Keeper-clause-made : goal.returns-in-Err-Keeper-clause-made
-returns-in-Err-Keeper-clause-made g c = line_once (entering_place g.H.Host.facts g.H.Port.Port.facts g.H.File.KeptFile.facts c.args.place.now) _ _ _ _ c.in-Ok.ensures.ok c.enter_game.ensures.made
+returns-in-Err-Keeper-clause-made g c = line_once (entering g.H.Host.facts g.H.Port.Port.facts g.H.File.KeptFile.facts c.args.place.now) _ _ _ _ c.in-Ok.ensures.ok c.enter_game.ensures.made
 
 pub returns-in-Err-OutOfMemory-clause-made : goal.returns-in-Err-OutOfMemory-clause-made
-returns-in-Err-OutOfMemory-clause-made g c = line_once (entering_place g.H.Host.facts g.H.Port.Port.facts g.H.File.KeptFile.facts c.args.place.now) _ _ _ _ c.in-Ok.ensures.ok c.enter_game.ensures.made
+returns-in-Err-OutOfMemory-clause-made g c = line_once (entering g.H.Host.facts g.H.Port.Port.facts g.H.File.KeptFile.facts c.args.place.now) _ _ _ _ c.in-Ok.ensures.ok c.enter_game.ensures.made

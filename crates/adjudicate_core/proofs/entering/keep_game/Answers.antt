@@ -10,7 +10,7 @@ pub returns-in-Ok-clause-err : goal.returns-in-Ok-clause-err
 returns-in-Ok-clause-err g c = found_unkept g.F.KeptFile.facts c.args.file.now _ _ _ _ _ c.in-Ok.ensures.one c.in-Ok.ensures.count c.keep_over.ensures.err
 
 pub returns-in-Err-Unreadable-clause-err : goal.returns-in-Err-Unreadable-clause-err
-returns-in-Err-Unreadable-clause-err g c = Unreadable (rw c.in-Err-Unreadable.field-0-is at c.in-Err-Unreadable.ensures.cause) refl
+returns-in-Err-Unreadable-clause-err g c = Unreadable (rw c.in-Err-Unreadable.field-0-is at c.in-Err-Unreadable.ensures.cause) c.in-Err-Unreadable.ensures.same refl
 
 pub returns-in-Err-OutOfMemory-clause-err : goal.returns-in-Err-OutOfMemory-clause-err
-returns-in-Err-OutOfMemory-clause-err g c = NoRoomToRead (rw c.in-Err-OutOfMemory.field-0-is at c.in-Err-OutOfMemory.ensures.cause) refl
+returns-in-Err-OutOfMemory-clause-err g c = NoRoomToRead (rw c.in-Err-OutOfMemory.field-0-is at c.in-Err-OutOfMemory.ensures.cause) c.in-Err-OutOfMemory.ensures.same refl
