@@ -23,3 +23,4 @@ pub mod RootLines
 pub mod JsonLaws
 pub mod MakeLaws
 pub mod GoneLaws
+pub mod StoreLaws

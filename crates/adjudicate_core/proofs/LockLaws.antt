@@ -7,7 +7,10 @@ use Rattle.system_io.specs.Histories.{Passes}
 use Rattle.system_io.specs.Hosts.{Made}
 use Rattle.system_io.specs.Ports.{Passed, PortFacts}
 use Rattle.system_io.specs.declared.output.WriteFault.{WriteFault}
+use Rattle.game_status.specs.StoreReadings.{store_path}
+use Rattle.adjudicate_core.proofs.StoreLaws.{told_as}
 use Rattle.adjudicate_core.specs.Hostings as hosting
+use Rattle.adjudicate_core.specs.Inside.HostingParts.{IsStoreUnopened}
 use Rattle.adjudicate_core.specs.Lines.{refusal_words}
 use Rattle.adjudicate_core.specs.Listens as listening
 use Rattle.adjudicate_core.specs.Locks.{IsBarred, games_lock, kept_lock}
@@ -16,13 +19,15 @@ use Rattle.adjudicate_core.specs.declared.commands.host.HostGames.{HostGames}
 use Rattle.adjudicate_core.specs.declared.commands.listen.Listen.{Listen}
 use Rattle.adjudicate_core.specs.declared.refusals.Refusal.{Refusal}
 
-told_as : (why is : Refusal) (old new : Option (List ℕ)) (r : Result ℕ WriteFault) → why ≡ is → TellsOne (refusal_words why) old new r → TellsOne (refusal_words is) old new r
-told_as why is old new r same told = subst (λ (x : Refusal). TellsOne (refusal_words x) old new r) same told
+pub unhosted : {P F S T : Type 0} (p : hosting.Places P F S) (seen : hosting.TwoWays T) (h : HostGames) (t : CommonView) (had has : Option (List Made)) (old new : T) (r : Result ℕ WriteFault) (why : Refusal) → Passes had has [] → IsBarred p.host.host (games_lock h.games.now) why → TellsOne (refusal_words why) (hosting.written_by seen old) (hosting.written_by seen new) r → hosting.LocksAndHosts p seen h t had has old new r
+unhosted p seen h t had has old new r why made (inl (is, held)) told = hosting.InUse made held (told_as why _ _ _ r is told)
+unhosted p seen h t had has old new r why made (inr (inl (is, failed))) told = hosting.NoLock made failed (told_as why _ _ _ r is told)
+unhosted p seen h t had has old new r why made (inr (inr is)) told = hosting.NoRoomToLock made (told_as why _ _ _ r is told)
 
-pub unhosted : {P F T : Type 0} (host : listening.Hosted P F) (seen : hosting.Seen T) (h : HostGames) (t : CommonView) (had has : Option (List Made)) (old new : T) (r : Result ℕ WriteFault) (why : Refusal) → Passes had has [] → IsBarred host.host (games_lock h.games.now) why → TellsOne (refusal_words why) (seen.written old) (seen.written new) r → hosting.LocksAndHosts host seen h t had has old new r
-unhosted host seen h t had has old new r why made (inl (is, held)) told = hosting.InUse made held (told_as why _ _ _ r is told)
-unhosted host seen h t had has old new r why made (inr (inl (is, failed))) told = hosting.NoLock made failed (told_as why _ _ _ r is told)
-unhosted host seen h t had has old new r why made (inr (inr is)) told = hosting.NoRoomToLock made (told_as why _ _ _ r is told)
+-- so it is of a store that isn't opened
+pub unstored : {P F S T : Type 0} (p : hosting.Places P F S) (seen : hosting.Seen T) (h : HostGames) (t : CommonView) (had has : Option (List Made)) (old new : T) (r : Result ℕ WriteFault) (why : Refusal) → Passes had has [] → IsStoreUnopened p.stores (store_path h.games.now) why → TellsOne (refusal_words why) (seen.written old) (seen.written new) r → hosting.StoresAndHosts p seen h t had has old new r
+unstored p seen h t had has old new r why made (inl (is, refuses)) told = hosting.NoStore made refuses (told_as why _ _ _ r is told)
+unstored p seen h t had has old new r why made (inr is) told = hosting.NoRoomForStore made (told_as why _ _ _ r is told)
 
 pub unserved : {P F : Type 0} (host : listening.Hosted P F) (S : listening.ServesBy F) (l : Listen) (setup : SetupView) (had has : Option (List Made)) (port port' : PortFacts) (old new : Option (List ℕ)) (r : Result ℕ WriteFault) (why : Refusal) → Passes had has [] → IsBarred host.host (kept_lock l.kept.now) why → Passed port port' [] → TellsOne (refusal_words why) old new r → listening.ServesAt host S l setup had has port port' old new r
 unserved host S l setup had has port port' old new r why made (inl (is, held)) nothing told = listening.InUse made held nothing (told_as why _ _ _ r is told)

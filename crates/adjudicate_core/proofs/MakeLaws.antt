@@ -1,10 +1,10 @@
 -- What a task makes, from what it comes to.
 use Rattle.std.proofs.Common.{◌≡◌, ◌++◌, ℕ, List, [], ◌∷◌, map, Option, refl, ap, inl, inr, subst, sym}
 use Rattle.std.specs.Prelude.{Result, Ok, Err, ◌⊎◌}
-use Rattle.std.specs.List.{AllByRecursion}
+use Rattle.std.specs.List.{AllByRecursion, flat_map}
 use Rattle.system_io.specs.Disks.{DiskFacts}
 use Rattle.system_io.specs.Histories.{Passes}
-use Rattle.system_io.specs.Hosts.{FileAt, LockAt, Made, PortAt}
+use Rattle.system_io.specs.Hosts.{FileAt, LockAt, Made, PortAt, StoreAt}
 use Rattle.system_io.specs.Ports.{PortFacts}
 use Rattle.system_io.specs.declared.output.WriteFault.{WriteFault}
 use Rattle.system_io.proofs.HistoryLaws.{Passes-nil, Passes-trans}
@@ -13,11 +13,12 @@ use Rattle.board_core.specs.declared.parts.Parts.{Parts}
 use Rattle.move_msg.specs.declared.stamp.Stamp.{Stamp}
 use Rattle.arbiter_server.specs.GameFiles.{GameContents}
 use Rattle.arbiter_server.specs.Folders.{MakesOnce}
-use Rattle.arbiter_server.specs.GameFolders.{game_stamp}
+use Rattle.arbiter_server.specs.GameFolders.{game_stamp, kept_path}
 use Rattle.move_msg.specs.TextLines.{lines_in}
 use Rattle.arbiter_server.specs.Games.{CommonView}
 use Rattle.source_core.specs.declared.lines.Ended.{Ended}
 use Rattle.task_files.specs.Given.{Given}
+use Rattle.game_status.specs.StoreReadings.{store_path}
 use Rattle.adjudicate_core.specs.Hostings as hosting
 use Rattle.adjudicate_core.specs.Entries.{SpellsEntry}
 use Rattle.adjudicate_core.specs.Enters.{AreMadeForTold, BadStart, Entered, Enters, EntersAs, EntersList, IsMadeForLine, Kept, Listed, MakesForTold, NoList, NoManifest, NoRoom, NoRoomForList, NoRoomForManifest, OfList, Place, PutsGame, PutsGames, Unkept, Unstamped, entered, file_of_game, place}
@@ -27,7 +28,7 @@ use Rattle.line_teller.specs.ToldLines.{LineTold}
 use Rattle.adjudicate_core.specs.Addresses.{addresses_of}
 use Rattle.adjudicate_core.specs.Listens as listening
 use Rattle.adjudicate_core.specs.Locks.{kept_lock}
-use Rattle.adjudicate_core.specs.Makes.{IsFrontOfMade, IsGameIn, IsMadeBy, IsOfEntries, IsRecordIn, MakesCalled, MakesFor, before_games, of_listen, of_send}
+use Rattle.adjudicate_core.specs.Makes.{IsFrontOfMade, IsGameIn, IsMadeBy, IsOfEntries, IsRecordIn, MakesCalled, MakesFor, before_games, of_listen, of_send, AreWithGames, of_store}
 use Rattle.adjudicate_core.specs.Sends as sending
 use Rattle.adjudicate_core.specs.declared.commands.Task.{Task}
 use Rattle.adjudicate_core.specs.declared.commands.Task.TheVariants as task
@@ -36,6 +37,8 @@ use Rattle.adjudicate_core.specs.declared.commands.enter.Entries.{Entries}
 use Rattle.adjudicate_core.specs.declared.commands.enter.Entries.TheVariants.{From, One}
 use Rattle.adjudicate_core.specs.declared.commands.enter.OneGame.{OneGame}
 use Rattle.adjudicate_core.specs.declared.commands.host.HostGames.{HostGames}
+use Rattle.adjudicate_core.specs.declared.numbers.StoreForm.{StoreForm}
+use Rattle.adjudicate_core.specs.declared.numbers.StoreForm.TheVariants as form
 use Rattle.adjudicate_core.specs.declared.commands.listen.Listen.{Listen}
 use Rattle.adjudicate_core.specs.declared.commands.send.Send.{Send}
 use Rattle.adjudicate_core.specs.declared.usage.WordsFault.{WordsFault}
@@ -58,6 +61,7 @@ nothing_by (task.Listen l) = (of_listen l, refl)
 nothing_by (task.Probes t) = refl
 nothing_by (task.Game t) = refl
 nothing_by (task.Record t) = refl
+nothing_by (task.GameRecord t) = refl
 nothing_by (task.Audit t) = refl
 nothing_by (task.AuditGames t) = refl
 nothing_by (task.Version t) = refl
@@ -133,58 +137,82 @@ all_join : (games : List ℕ) (a b : List Made) → AllByRecursion (IsRecordIn g
 all_join games [] b all rest = rest
 all_join games (x ∷ a) b all rest = (all.0, all_join games a b all.1 rest)
 
-all_records : (h : HostGames) (taken : List (List ℕ)) → AllByRecursion (IsRecordIn h.games.now) (map (hosting.record_of h) taken)
-all_records h [] = tt
-all_records h (stamp ∷ taken) = ((stamp, refl), all_records h taken)
+with_join : (f : StoreForm) (games : List ℕ) (a b : List Made) → AreWithGames f games a → AreWithGames f games b → AreWithGames f games (a ++ b)
+with_join form.Files games a b all rest = all_join games a b all rest
+with_join form.Sqlite games a b all rest = subst (λ (l : List Made). l ++ b ≡ []) (sym all) rest
 
--- some first things, and files of records behind them
-abbrev Hosting : HostGames → List Made → Option (List Made) → Option (List Made) → Type 0
-Hosting h before had has = (more : List Made) × Passes had has more × (IsFrontOfMade before more ⊎ ((later : List Made) × (more ≡ before ++ later) × AllByRecursion (IsRecordIn h.games.now) later))
+-- some first things, and what is made with games behind them
+abbrev Hosting : StoreForm → HostGames → List Made → Option (List Made) → Option (List Made) → Type 0
+Hosting f h before had has = (more : List Made) × Passes had has more × (IsFrontOfMade before more ⊎ ((later : List Made) × (more ≡ before ++ later) × AreWithGames f h.games.now later))
 
-hosts_none : (h : HostGames) (before : List Made) (had has : Option (List Made)) → Passes had has [] → Hosting h before had has
-hosts_none h before had has none = ([], none, inl (before, refl))
+hosts_none : (f : StoreForm) (h : HostGames) (before : List Made) (had has : Option (List Made)) → Passes had has [] → Hosting f h before had has
+hosts_none f h before had has none = ([], none, inl (before, refl))
 
-hosts_more : (h : HostGames) (before : List Made) (made : Made) (had between has : Option (List Made)) → Passes had between (made ∷ []) → Hosting h before between has → Hosting h (made ∷ before) had has
-hosts_more h before made had between has one (more, passes, inl (rest, is)) = (made ∷ more, Passes-trans had between has (made ∷ []) more one passes, inl (rest, ap (λ (l : List Made). made ∷ l) is))
-hosts_more h before made had between has one (more, passes, inr (later, is, all)) = (made ∷ more, Passes-trans had between has (made ∷ []) more one passes, inr (later, ap (λ (l : List Made). made ∷ l) is, all))
+hosts_more : (f : StoreForm) (h : HostGames) (before : List Made) (made : Made) (had between has : Option (List Made)) → Passes had between (made ∷ []) → Hosting f h before between has → Hosting f h (made ∷ before) had has
+hosts_more f h before made had between has one (more, passes, inl (rest, is)) = (made ∷ more, Passes-trans had between has (made ∷ []) more one passes, inl (rest, ap (λ (l : List Made). made ∷ l) is))
+hosts_more f h before made had between has one (more, passes, inr (later, is, all)) = (made ∷ more, Passes-trans had between has (made ∷ []) more one passes, inr (later, ap (λ (l : List Made). made ∷ l) is, all))
 
-records_made : (h : HostGames) (taken : List (List ℕ)) (had has : Option (List Made)) → Passes had has (map (hosting.record_of h) taken) → Hosting h [] had has
-records_made h taken had has passes = (map (hosting.record_of h) taken, passes, inr (map (hosting.record_of h) taken, refl, all_records h taken))
+hosts_one : (f : StoreForm) (h : HostGames) (before : List Made) (made : Made) (had has : Option (List Made)) → Passes had has (made ∷ []) → Hosting f h (made ∷ before) had has
+hosts_one f h before made had has one = (made ∷ [], one, inl (before, refl))
 
-records_twice : (h : HostGames) (first later : List (List ℕ)) (had between has : Option (List Made)) → Passes had between (map (hosting.record_of h) first) → Passes between has (map (hosting.record_of h) later) → Hosting h [] had has
-records_twice h first later had between has passes goes =
-    let one = map (hosting.record_of h) first in
-    let two = map (hosting.record_of h) later in
-    (one ++ two, Passes-trans had between has one two passes goes, inr (one ++ two, refl, all_join h.games.now one two (all_records h first) (all_records h later)))
+-- what is made with games is so of all that are opened
+abbrev MakesWith : StoreForm → HostGames → (List ℕ → List Made) → Type 0
+MakesWith f h made = (taken : List (List ℕ)) → AreWithGames f h.games.now (flat_map made taken)
 
-module _ {P F T : Type 0} (host : listening.Hosted P F) (seen : hosting.Seen T) (h : HostGames) (has : Option (List Made)) (r : Result ℕ WriteFault) where
-  now_hosts : (t : CommonView) (had : Option (List Made)) (port port' : PortFacts) (old new : T) → hosting.HostsNow seen h t had has port port' old new r → Hosting h [] had has
-  now_hosts t had port port' old new (hosting.Served only taken made run) = records_made h taken had has made
-  now_hosts t had port port' old new (hosting.Unlogged so between when mid fault first later made run more rest) = records_twice h first later had between has made more
-  now_hosts t had port port' old new (hosting.NoRoomForGames made same told) = hosts_none h [] had has made
+pub files_with : (h : HostGames) → MakesWith form.Files h (λ stamp. FileAt (kept_path h.games.now stamp) ∷ [])
+files_with h [] = tt
+files_with h (stamp ∷ taken) = ((stamp, refl), files_with h taken)
 
-  at_hosts : (t : CommonView) (had : Option (List Made)) (port : P) (port' : PortFacts) (old new : T) → hosting.HostsAt host seen h t had has port port' old new r → Hosting h [] had has
-  at_hosts t had port port' old new (hosting.NoAddress made none nothing told) = hosts_none h [] had has made
-  at_hosts t had port port' old new (hosting.NoRoomForLine made nothing told) = hosts_none h [] had has made
+pub store_with : (h : HostGames) → MakesWith form.Sqlite h (λ stamp. [])
+store_with h [] = refl
+store_with h (stamp ∷ taken) = store_with h taken
+
+module _ {P F T : Type 0} (host : listening.Hosted P F) (seen : hosting.Seen T) (f : StoreForm) (h : HostGames) (makes : MakesWith f h seen.made) (has : Option (List Made)) (r : Result ℕ WriteFault) where
+  now_hosts : (t : CommonView) (had : Option (List Made)) (port port' : PortFacts) (old new : T) → hosting.HostsNow seen h t had has port port' old new r → Hosting f h [] had has
+  now_hosts t had port port' old new (hosting.Served only taken made run) = (flat_map seen.made taken, made, inr (flat_map seen.made taken, refl, makes taken))
+  now_hosts t had port port' old new (hosting.Unlogged so between when mid fault first later made run more rest) =
+      let one = flat_map seen.made first in
+      let two = flat_map seen.made later in
+      (one ++ two, Passes-trans had between has one two made more, inr (one ++ two, refl, with_join f h.games.now one two (makes first) (makes later)))
+  now_hosts t had port port' old new (hosting.NoRoomForGames made same told) = hosts_none f h [] had has made
+
+  at_hosts : (t : CommonView) (had : Option (List Made)) (port : P) (port' : PortFacts) (old new : T) → hosting.HostsAt host seen h t had has port port' old new r → Hosting f h [] had has
+  at_hosts t had port port' old new (hosting.NoAddress made none nothing told) = hosts_none f h [] had has made
+  at_hosts t had port port' old new (hosting.NoRoomForLine made nothing told) = hosts_none f h [] had has made
   at_hosts t had port port' old new (hosting.Ready own is mid gone run) = now_hosts t had (host.port port) port' mid new run
-  at_hosts t had port port' old new (hosting.Unready made own is nothing cut fault failed) = hosts_none h [] had has made
+  at_hosts t had port port' old new (hosting.Unready made own is nothing cut fault failed) = hosts_none f h [] had has made
 
-  bound_hosts : (t : CommonView) (had : Option (List Made)) (old new : T) → hosting.BindsAndHosts host seen h t had has old new r → Hosting h (PortAt h.bind.now (addresses_of h.to.now) ∷ []) had has
-  bound_hosts t had old new (hosting.Unbound made why told) = hosts_none h _ had has made
-  bound_hosts t had old new (hosting.NoRoomToBind made why told) = hosts_none h _ had has made
-  bound_hosts t had old new (hosting.Bound between made port port' bound each run) = hosts_more h [] _ had between has made (at_hosts t between port (host.port port') old new run)
+  bound_hosts : (t : CommonView) (had : Option (List Made)) (old new : T) → hosting.BindsAndHosts host seen h t had has old new r → Hosting f h (PortAt h.bind.now (addresses_of h.to.now) ∷ []) had has
+  bound_hosts t had old new (hosting.Unbound made why told) = hosts_none f h _ had has made
+  bound_hosts t had old new (hosting.NoRoomToBind made why told) = hosts_none f h _ had has made
+  bound_hosts t had old new (hosting.Bound between made port port' bound each run) = hosts_more f h [] _ had between has made (at_hosts t between port (host.port port') old new run)
 
-  lock_hosts : (t : CommonView) (had : Option (List Made)) (old new : T) → hosting.LocksAndHosts host seen h t had has old new r → Hosting h (before_games h) had has
-  lock_hosts t had old new (hosting.InUse made held told) = hosts_none h _ had has made
-  lock_hosts t had old new (hosting.NoLock made failed told) = hosts_none h _ had has made
-  lock_hosts t had old new (hosting.NoRoomToLock made told) = hosts_none h _ had has made
-  lock_hosts t had old new (hosting.Locked between made given run) = hosts_more h _ _ had between has made (bound_hosts t between old new run)
+module _ {P F S T : Type 0} (p : hosting.Places P F S) (seen : hosting.TwoWays T) (h : HostGames) (files : MakesWith form.Files h seen.files.made) (store : MakesWith form.Sqlite h seen.store.made) (has : Option (List Made)) (r : Result ℕ WriteFault) where
+  abbrev port_of : Made
+  port_of = PortAt h.bind.now (addresses_of h.to.now)
 
-pub host_makes : {P F T : Type 0} (disk : DiskFacts) (host : listening.Hosted P F) (seen : hosting.Seen T) (h : HostGames) (given : Given) (had has : Option (List Made)) (old new : T) (r : Result ℕ WriteFault) → hosting.HostsGames disk host seen h given had has old new r → MakesFor (task.Host h) had has
-host_makes disk host seen h given had has old new r (hosting.BadTables made words refused told) = hosts_none h _ had has made
-host_makes disk host seen h given had has old new r (hosting.NoFolder made set tables fails told) = hosts_none h _ had has made
-host_makes disk host seen h given had has old new r (hosting.NoRoom made told) = hosts_none h _ had has made
-host_makes disk host seen h given had has old new r (hosting.Hosting set tables cache names lists manifest is run) = lock_hosts host seen h has r (hosting.common_for h set manifest) had old new run
+  store_hosts : (t : CommonView) (had : Option (List Made)) (old new : T) → hosting.StoresAndHosts p seen.store h t had has old new r → Hosting form.Sqlite h (StoreAt (store_path h.games.now) ∷ port_of ∷ []) had has
+  store_hosts t had old new (hosting.NoStore made why told) = hosts_none form.Sqlite h _ had has made
+  store_hosts t had old new (hosting.NoRoomForStore made told) = hosts_none form.Sqlite h _ had has made
+  store_hosts t had old new (hosting.NotImported made why cannot told) = hosts_one form.Sqlite h (port_of ∷ []) _ had has made
+  store_hosts t had old new (hosting.Imported between made first now is_at imported run) = hosts_more form.Sqlite h _ _ had between has made (bound_hosts p.host seen.store form.Sqlite h store has r t between old new run)
+
+  keep_hosts : (f : StoreForm) (t : CommonView) (had : Option (List Made)) (old new : T) → hosting.KeepsAndHosts f p seen h t had has old new r → Hosting f h (of_store f h ++ port_of ∷ []) had has
+  keep_hosts form.Files t had old new run = bound_hosts p.host seen.files form.Files h files has r t had old new run
+  keep_hosts form.Sqlite t had old new run = store_hosts t had old new run
+
+  lock_hosts : (t : CommonView) (had : Option (List Made)) (old new : T) → hosting.LocksAndHosts p seen h t had has old new r → Hosting h.store h (before_games h) had has
+  lock_hosts t had old new (hosting.InUse made held told) = hosts_none h.store h _ had has made
+  lock_hosts t had old new (hosting.NoLock made failed told) = hosts_none h.store h _ had has made
+  lock_hosts t had old new (hosting.NoRoomToLock made told) = hosts_none h.store h _ had has made
+  lock_hosts t had old new (hosting.Locked between made given run) = hosts_more h.store h _ _ had between has made (keep_hosts h.store t between old new run)
+
+  pub host_makes : (given : Given) (had : Option (List Made)) (old new : T) → hosting.HostsGames p seen h given had has old new r → MakesFor (task.Host h) had has
+  host_makes given had old new (hosting.BadTables made words refused told) = hosts_none h.store h _ had has made
+  host_makes given had old new (hosting.NoFolder made set tables fails told) = hosts_none h.store h _ had has made
+  host_makes given had old new (hosting.Clashing made set tables names lists clash told) = hosts_none h.store h _ had has made
+  host_makes given had old new (hosting.NoRoom made told) = hosts_none h.store h _ had has made
+  host_makes given had old new (hosting.Hosting set tables cache names lists apart manifest is run) = lock_hosts (hosting.common_for h set manifest) had old new run
 
 -- ---- `enter`
 

@@ -1,6 +1,7 @@
 -- The commands, one by one.
 pub mod Audit
 pub mod AuditGames
+pub mod GameRecord
 pub mod Check
 pub mod Enter
 pub mod Follow

@@ -50,19 +50,19 @@ place host games manifest = record { host = host; games = games; manifest = mani
 -- ---- the text of a game in a file
 
 -- whatever was known of what a start finds in the file still is
-abbrev pub IsLeft : {F : Type 0} → (F → KeptFacts) → F → F → Type 0
-IsLeft facts file file' = (a b : Option (List ℕ)) → (facts file).finds a b → (facts file').finds a b
+abbrev pub IsFileLeft : {F : Type 0} → (F → KeptFacts) → F → F → Type 0
+IsFileLeft facts file file' = (a b : Option (List ℕ)) → (facts file).finds a b → (facts file').finds a b
 
 -- it had this text already, and is left; or the text takes its place, and each later start finds it
 pub data HasText {F : Type 0} (facts : F → KeptFacts) (file file' : F) (text : List ℕ) : Type 0 where
-  Left : IsOneOfFound (facts file) (Some text) → IsLeft facts file file' → (facts file').finds (Some text) (Some text) → HasText facts file file' text
+  Left : IsOneOfFound (facts file) (Some text) → IsFileLeft facts file file' → (facts file').finds (Some text) (Some text) → HasText facts file file' text
   Put : (found : Option (List ℕ)) → IsOneOfFound (facts file) found → found ≢ Some text → (facts file').finds (Some text) (Some text) → HasText facts file file' text
 
 -- why it hasn't: it can't be brought to the disk or read, and is left; or the text can't take its place, since a call for the file failed,
 -- and a start finds what was there before, or the text
 pub data LacksText {F : Type 0} (facts : F → KeptFacts) (file file' : F) (text : List ℕ) (fault : KeepFault) : Type 0 where
-  Unreadable : CannotStart (facts file) read.Unreadable → IsLeft facts file file' → fault ≡ keep.Keeper → LacksText facts file file' text fault
-  NoRoomToRead : CannotStart (facts file) read.OutOfMemory → IsLeft facts file file' → fault ≡ keep.OutOfMemory → LacksText facts file file' text fault
+  Unreadable : CannotStart (facts file) read.Unreadable → IsFileLeft facts file file' → fault ≡ keep.Keeper → LacksText facts file file' text fault
+  NoRoomToRead : CannotStart (facts file) read.OutOfMemory → IsFileLeft facts file file' → fault ≡ keep.OutOfMemory → LacksText facts file file' text fault
   Failed : (found : Option (List ℕ)) → IsOneOfFound (facts file) found → found ≢ Some text → FindsOldOrNew (facts file') found text → Risen (facts file).faults (facts file').faults → fault ≡ keep.Keeper → LacksText facts file file' text fault
 
 -- so it is of the file at this path

@@ -30,3 +30,4 @@ pub mod Makes
 pub mod Audits
 pub mod AuditAgreements
 pub mod Inside
+pub mod Stores

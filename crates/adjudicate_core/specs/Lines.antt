@@ -28,7 +28,7 @@ use Rattle.move_msg.specs.declared.who.Who.{Who}
 use Rattle.relay_world.specs.declared.world.State.{State}
 use Rattle.relay_world.specs.declared.world.State.TheVariants as state
 use Rattle.relay_world.specs.Texts.{who_word}
-use Rattle.arbiter_server.specs.ServedLines.{refused_keeper, refused_port, verdict_or_none}
+use Rattle.arbiter_server.specs.ServedLines.{refused_keeper, refused_port, verdict_or_none, refused_store}
 use Rattle.adjudicate_core.specs.declared.tables.FileFault.{FileFault}
 use Rattle.adjudicate_core.specs.declared.tables.FileFault.TheVariants.{Missing, Changed, Bad}
 use Rattle.adjudicate_core.specs.declared.lines.KeptCount.{KeptCount}
@@ -154,6 +154,7 @@ refusal_words (refusal.Record fault) = refused_record fault
 refusal_words refusal.Port = refused_port
 refusal_words refusal.Keeper = refused_keeper
 refusal_words refusal.InUse = refused_in_use
+refusal_words refusal.Store = refused_store
 refusal_words refusal.Files = refused_files
 refusal_words refusal.SharedKey = refused_shared_key
 refusal_words (refusal.Key number) = refused_key number

@@ -3,9 +3,10 @@
 use Rattle.std.specs.Prelude.{◌≡◌, ◌⊎◌, ◌++◌, ℕ, List, [], ◌∷◌, Option, Result, Ok, Err, drop}
 use Rattle.std.specs.List.{AllByRecursion}
 use Rattle.system_io.specs.Histories.{Passes}
-use Rattle.system_io.specs.Hosts.{FileAt, LockAt, Made, PortAt}
+use Rattle.system_io.specs.Hosts.{FileAt, LockAt, Made, PortAt, StoreAt}
 use Rattle.arbiter_server.specs.GameFolders.{game_path, kept_path}
 use Rattle.adjudicate_core.specs.Addresses.{addresses_of}
+use Rattle.game_status.specs.StoreReadings.{store_path}
 use Rattle.adjudicate_core.specs.Locks.{games_lock, kept_lock}
 use Rattle.adjudicate_core.specs.Tasks.{IsTask}
 use Rattle.adjudicate_core.specs.declared.commands.Task.{Task}
@@ -13,6 +14,8 @@ use Rattle.adjudicate_core.specs.declared.commands.Task.TheVariants as task
 use Rattle.adjudicate_core.specs.declared.commands.enter.Entries.{Entries}
 use Rattle.adjudicate_core.specs.declared.commands.enter.Entries.TheVariants.{From, One}
 use Rattle.adjudicate_core.specs.declared.commands.host.HostGames.{HostGames}
+use Rattle.adjudicate_core.specs.declared.numbers.StoreForm.{StoreForm}
+use Rattle.adjudicate_core.specs.declared.numbers.StoreForm.TheVariants as form
 use Rattle.adjudicate_core.specs.declared.commands.listen.Listen.{Listen}
 use Rattle.adjudicate_core.specs.declared.commands.send.Send.{Send}
 use Rattle.adjudicate_core.specs.declared.usage.WordsFault.{WordsFault}
@@ -29,15 +32,23 @@ of_listen l = PortAt l.bind.now (addresses_of l.to.now) ∷ LockAt (kept_lock l.
 abbrev pub of_send : Send → List Made
 of_send t = PortAt t.bind.now (addresses_of t.to.now) ∷ []
 
--- `host`: the lock of its folder, and its port; and then files of records in that folder
+-- `host`: the lock of its folder, the store if its words say so, and its port; and then, without a store, files of records in that folder
+abbrev pub of_store : StoreForm → HostGames → List Made
+of_store form.Sqlite h = StoreAt (store_path h.games.now) ∷ []
+of_store form.Files h = []
+
 abbrev pub before_games : HostGames → List Made
-before_games h = LockAt (games_lock h.games.now) ∷ PortAt h.bind.now (addresses_of h.to.now) ∷ []
+before_games h = LockAt (games_lock h.games.now) ∷ of_store h.store h ++ PortAt h.bind.now (addresses_of h.to.now) ∷ []
 
 abbrev pub IsRecordIn : List ℕ → Made → Type 0
 IsRecordIn games made = (stamp : List ℕ) × (made ≡ FileAt (kept_path games stamp))
 
+abbrev pub AreWithGames : StoreForm → List ℕ → List Made → Type 0
+AreWithGames form.Sqlite games more = more ≡ []
+AreWithGames form.Files games more = AllByRecursion (IsRecordIn games) more
+
 abbrev pub IsOfHost : HostGames → List Made → Type 0
-IsOfHost h more = IsFrontOfMade (before_games h) more ⊎ ((later : List Made) × (more ≡ before_games h ++ later) × AllByRecursion (IsRecordIn h.games.now) later)
+IsOfHost h more = IsFrontOfMade (before_games h) more ⊎ ((later : List Made) × (more ≡ before_games h ++ later) × AreWithGames h.store h.games.now later)
 
 -- `enter`: files of games in its folder; of one game at most its file
 abbrev pub IsGameIn : List ℕ → Made → Type 0
@@ -60,6 +71,7 @@ IsMadeBy (task.Listen l) more = IsFrontOfMade (of_listen l) more
 IsMadeBy (task.Probes t) more = more ≡ []
 IsMadeBy (task.Game t) more = more ≡ []
 IsMadeBy (task.Record t) more = more ≡ []
+IsMadeBy (task.GameRecord t) more = more ≡ []
 IsMadeBy (task.Audit t) more = more ≡ []
 IsMadeBy (task.AuditGames t) more = more ≡ []
 IsMadeBy (task.Version t) more = more ≡ []

@@ -6,8 +6,9 @@ use Rattle.move_msg.specs.declared.who.Who.{Who}
 use Rattle.move_msg.specs.Stamps.{IsGameName}
 use Rattle.adjudicate_core.specs.Addresses.{AreAddresses, AreRecipients, IsAddress}
 use Rattle.adjudicate_core.specs.GamePaths.{NamesGame}
-use Rattle.adjudicate_core.specs.Numbers.{IsAtOnce, IsCache, IsDatagrams, IsDelay, IsHundredOr, IsLog, IsMe}
+use Rattle.adjudicate_core.specs.Numbers.{IsAtOnce, IsCache, IsDatagrams, IsDelay, IsHundredOr, IsLog, IsMe, IsStore}
 use Rattle.arbiter_server.specs.declared.line_log.LogForm.{LogForm}
+use Rattle.adjudicate_core.specs.declared.numbers.StoreForm.{StoreForm}
 use Rattle.adjudicate_core.specs.declared.usage.Instead.{Instead}
 use Rattle.adjudicate_core.specs.declared.usage.Instead.TheVariants as instead
 use Rattle.adjudicate_core.specs.declared.usage.Wanted.{Wanted}
@@ -31,6 +32,7 @@ option_name wanted.Recipients = codes "to"
 option_name wanted.Address = codes "bind"
 option_name wanted.AtOnce = codes "at-once"
 option_name wanted.Log = codes "log"
+option_name wanted.Store = codes "store"
 option_name wanted.GameFile = codes "game"
 
 -- what it takes
@@ -47,6 +49,7 @@ range_of wanted.Addresses = codes "ADDR[,ADDR], each a host, a colon and a port"
 range_of wanted.Recipients = codes "ADDR[,ADDR], each a host, a colon and a port"
 range_of wanted.Address = codes "ADDR, a host, a colon and a port"
 range_of wanted.Log = codes "all, changes or none"
+range_of wanted.Store = codes "sqlite or files"
 range_of wanted.GameFile = codes "FOLDER/STAMP.game, with 32 lower-case hexadecimal digits"
 
 -- an option that takes the place of others
@@ -113,6 +116,7 @@ IsUnfit value wanted.Recipients = (to : List ℕ) → Some to ≡ value (codes "
 IsUnfit value wanted.AtOnce = (n : ℕ) → IsAtOnce (value (codes "at-once")) n → ⊥
 IsUnfit value wanted.Address = (address : List ℕ) × (value (codes "bind") ≡ Some address) × (IsAddress address → ⊥)
 IsUnfit value wanted.Log = (form : LogForm) → IsLog (value (codes "log")) form → ⊥
+IsUnfit value wanted.Store = (form : StoreForm) → IsStore (value (codes "store")) form → ⊥
 IsUnfit value wanted.GameFile = (path : List ℕ) × (value (codes "game") ≡ Some path) × ((stamp : List ℕ) → NamesGame path stamp → ⊥)
 
 abbrev pub Holds : (Text → Option Text) → Fault → Type 0

@@ -4,6 +4,8 @@ use Rattle.std.specs.Fmt.{decimal}
 use Rattle.std.specs.Str.{bytes_eq}
 use Rattle.std.specs.Str.Parse.{IsNumeral, digits_value, without_leading_plus}
 use Rattle.arbiter_server.specs.declared.line_log.LogForm.{LogForm}
+use Rattle.adjudicate_core.specs.declared.numbers.StoreForm.{StoreForm}
+use Rattle.adjudicate_core.specs.declared.numbers.StoreForm.TheVariants as store
 use Rattle.arbiter_server.specs.declared.line_log.LogForm.TheVariants as log
 use Rattle.board_core.specs.Delays.{most_delay}
 use Rattle.move_msg.specs.declared.who.Who.{Who}
@@ -48,6 +50,12 @@ IsLog None form = form ≡ log.All
 IsLog (Some text) log.All = text ≡ codes "all"
 IsLog (Some text) log.Changes = text ≡ codes "changes"
 IsLog (Some text) log.Nothing = text ≡ codes "none"
+
+-- where a host keeps records: in a store where that isn't said
+abbrev pub IsStore : Option (List ℕ) → StoreForm → Type 0
+IsStore None form = form ≡ store.Sqlite
+IsStore (Some text) store.Sqlite = text ≡ codes "sqlite"
+IsStore (Some text) store.Files = text ≡ codes "files"
 
 -- the number of an arbiter has to be given, 1 or 2
 abbrev pub IsMe : Option (List ℕ) → Who → Type 0

@@ -6,7 +6,8 @@ use Rattle.system_io.specs.Inputs.{InputFacts}
 use Rattle.system_io.specs.KeptFiles.{KeptFacts}
 use Rattle.system_io.specs.Outputs.{OutputFacts}
 use Rattle.system_io.specs.Ports.{PortFacts}
-use Rattle.adjudicate_core.specs.Hostings.{Around, around}
+use Rattle.system_io.specs.Records.{StoreFacts, StorePlaces}
+use Rattle.adjudicate_core.specs.Hostings.{Around, Places, around}
 use Rattle.adjudicate_core.specs.Listens.{Hosted, hosted}
 use Rattle.adjudicate_core.specs.declared.system.System.{System}
 
@@ -26,6 +27,19 @@ outside disk source host had has = record { disk = disk; source = source; host =
 abbrev pub outside_of : {D I H M P F : Type 0} → (D → DiskFacts) → (I → InputFacts) → (H → HostFacts P F) → (M → Option (List Made)) → (P → PortFacts) → (F → KeptFacts) → System D I H → M → M → Outside P F
 outside_of disk source host made port file s history history' = outside (disk s.disk.now) (source s.input.now) (hosted (host s.host.now) port file) (made history) (made history')
 
+-- that, and where the host's stores are and what is known of one
+pub record Machine (P F S : Type 0) : Type 1 where
+  pub outside : Outside P F
+  pub stores : StorePlaces S
+  pub store : S → StoreFacts
+
+abbrev pub machine_of : {D I H M P F S : Type 0} → (D → DiskFacts) → (I → InputFacts) → (H → HostFacts P F) → (H → StorePlaces S) → (M → Option (List Made)) → (P → PortFacts) → (F → KeptFacts) → (S → StoreFacts) → System D I H → M → M → Machine P F S
+machine_of disk source host stores made port file store s history history' = record { outside = outside_of disk source host made port file s history history'; stores = stores s.host.now; store = store }
+
+-- what a host of games stands on
+abbrev pub hosting_places : {P F S : Type 0} → Machine P F S → Places P F S
+hosting_places m = record { disk = m.outside.disk; host = m.outside.host; stores = m.stores; store = m.store }
+
 -- what is known of a system's disk and host, and of a writer
-abbrev pub around_of : {D I H P F W : Type 0} → (D → DiskFacts) → (H → HostFacts P F) → (P → PortFacts) → (F → KeptFacts) → (W → Option (List ℕ)) → (W → OutputFacts) → System D I H → Around P F W
-around_of disk host port file written output s = around (disk s.disk.now) (host s.host.now) port file written output
+abbrev pub around_of : {D I H P F S W : Type 0} → (D → DiskFacts) → (H → HostFacts P F) → (H → StorePlaces S) → (P → PortFacts) → (F → KeptFacts) → (S → StoreFacts) → (W → Option (List ℕ)) → (W → OutputFacts) → System D I H → Around P F S W
+around_of disk host stores port file store written output s = around (disk s.disk.now) (host s.host.now) (stores s.host.now) port file store written output

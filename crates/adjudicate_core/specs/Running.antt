@@ -17,16 +17,16 @@ use Rattle.line_teller.specs.ToldLines.{refused_files, refused_memory}
 use Rattle.system_io.specs.Hosts.{HostFacts, Made}
 use Rattle.system_io.specs.KeptFiles.{KeptFacts}
 use Rattle.system_io.specs.Outputs.{OutputFacts}
+use Rattle.system_io.specs.Records.{StoreFacts, StorePlaces}
 use Rattle.system_io.specs.Ports.{PortFacts}
 use Rattle.adjudicate_core.specs.Listens.{Listens, hosted, serving_seen_as}
-use Rattle.adjudicate_core.specs.Outsides.{Outside, outside, outside_of}
+use Rattle.adjudicate_core.specs.Outsides.{Machine, machine_of, outside, hosting_places}
 use Rattle.adjudicate_core.specs.Sends.{SendsGame}
 use Rattle.adjudicate_core.specs.Silences.{TellsSilence}
 use Rattle.source_core.specs.declared.lines.Ended.{Ended}
 use Rattle.source_core.specs.Lines.{ended_status}
 use Rattle.adjudicate_core.specs.Enters.{Enters}
-use Rattle.arbiter_server.specs.DiskGames.{disk_keepers}
-use Rattle.adjudicate_core.specs.Hostings.{HostsGames, seen_as as seen_hosting}
+use Rattle.adjudicate_core.specs.Hostings.{HostsGames, written}
 use Rattle.task_files.specs.Sources.{CannotRead, IsGiven, TakesMemory}
 use Rattle.adjudicate_core.specs.Commands.Judge as judges
 use Rattle.adjudicate_core.specs.Commands.Probe as probes
@@ -39,6 +39,7 @@ use Rattle.adjudicate_core.specs.Commands.Game as games
 use Rattle.adjudicate_core.specs.Commands.Record as records
 use Rattle.adjudicate_core.specs.Commands.Audit as audits
 use Rattle.adjudicate_core.specs.Commands.AuditGames as game_audits
+use Rattle.adjudicate_core.specs.Commands.GameRecord as game_records
 use Rattle.adjudicate_core.specs.Commands.Version as versions
 use Rattle.adjudicate_core.specs.Commands.Probes as of_probes
 use Rattle.adjudicate_core.specs.TableAnswers.{PutsByTables}
@@ -66,53 +67,58 @@ status_ended (Err fault) = Err fault
 
 -- what the program answers to a task from what was read for it, where so is told how a source's run ends: `judge`, `probe`, `moves`, `game` and `audit` take memory for a
 -- text that is a position, `record` for what is laid out as a record, `list`, `check` and `run` always, `show` and `version` never
-abbrev pub AnswersFrom : {P F : Type 0} → Outside P F → (Ended → Type 0) → Task → Given → Option (List ℕ) → Option (List ℕ) → Result ℕ WriteFault → Type 0
-AnswersFrom out Told (task.Judge t) given old new r = AnswersOnce (judges.IsReply t given) (IsText t.fen.now) old new r
-AnswersFrom out Told (task.Probe t) given old new r = AnswersOnce (probes.IsReply t given) (IsText t.fen.now) old new r
-AnswersFrom out Told (task.Moves t) given old new r = AnswersOnce (of_moves.IsReply t) (IsText t.fen.now) old new r
-AnswersFrom out Told (task.List t) given old new r = AnswersRead (lists.IsReply out.disk t) (lists.IsListUnread out.disk t) old new r
-AnswersFrom out Told (task.Check t) given old new r = AnswersRead (checks.IsReply out.disk t) (checks.IsCheckUnread out.disk t) old new r
-AnswersFrom out Told (task.Show t) given old new r = shows.Answers given old new r
-AnswersFrom out Told (task.Run t) given old new r = AnswersOnce (runs.IsReply t given) (Unit {0}) old new r
-AnswersFrom out Told (task.Listen t) given old new r = Listens out.host (serving_seen_as out.host.file r) t given out.had out.has old new r
-AnswersFrom out Told (task.Probes t) given old new r = PutsByTables (of_probes.TellsLineIn t.json (ask_of t.determined)) out.source given old new r
-AnswersFrom out Told (task.Game t) given old new r = AnswersOnce (games.IsReply t given) (IsText t.fen.now) old new r
-AnswersFrom out Told (task.Record t) given old new r = AnswersOnce (records.IsReply given.kept) (records.RecordTakesMemory given.kept) old new r
-AnswersFrom out Told (task.Audit t) given old new r = AnswersOnce (audits.IsReply t given) (IsText t.start.now) old new r
-AnswersFrom out Told (task.AuditGames t) given old new r = game_audits.Puts out.disk t given old new r
-AnswersFrom out Told (task.Version t) given old new r = versions.Answers old new r
-AnswersFrom out Told (task.Send t) given old new r = (e : Result Ended WriteFault) × (r ≡ status_ended e) × IfOk e Told × SendsGame out t old new e
-AnswersFrom out Told (task.Enter t) given old new r = Enters out t old new r
-AnswersFrom out Told (task.Host t) given old new r = HostsGames out.disk out.host (seen_hosting (disk_keepers out.disk out.host.host out.host.file)) t given out.had out.has old new r
-AnswersFrom out Told (task.Root t) given old new r = roots.Puts t.json (ask_of t.determined) out.source t.fen given old new r
-AnswersFrom out Told (task.Follow t) given old new r = follows.Puts out.source t given old new r
-AnswersFrom out Told (task.Status t) given old new r = statuses.Puts out.disk t old new r
+abbrev pub AnswersFrom : {P F S : Type 0} → Machine P F S → (Ended → Type 0) → Task → Given → Option (List ℕ) → Option (List ℕ) → Result ℕ WriteFault → Type 0
+AnswersFrom m Told (task.Judge t) given old new r = AnswersOnce (judges.IsReply t given) (IsText t.fen.now) old new r
+AnswersFrom m Told (task.Probe t) given old new r = AnswersOnce (probes.IsReply t given) (IsText t.fen.now) old new r
+AnswersFrom m Told (task.Moves t) given old new r = AnswersOnce (of_moves.IsReply t) (IsText t.fen.now) old new r
+AnswersFrom m Told (task.List t) given old new r = AnswersRead (lists.IsReply m.outside.disk t) (lists.IsListUnread m.outside.disk t) old new r
+AnswersFrom m Told (task.Check t) given old new r = AnswersRead (checks.IsReply m.outside.disk t) (checks.IsCheckUnread m.outside.disk t) old new r
+AnswersFrom m Told (task.Show t) given old new r = shows.Answers given old new r
+AnswersFrom m Told (task.Run t) given old new r = AnswersOnce (runs.IsReply t given) (Unit {0}) old new r
+AnswersFrom m Told (task.Listen t) given old new r = Listens m.outside.host (serving_seen_as m.outside.host.file r) t given m.outside.had m.outside.has old new r
+AnswersFrom m Told (task.Probes t) given old new r = PutsByTables (of_probes.TellsLineIn t.json (ask_of t.determined)) m.outside.source given old new r
+AnswersFrom m Told (task.Game t) given old new r = AnswersOnce (games.IsReply t given) (IsText t.fen.now) old new r
+AnswersFrom m Told (task.Record t) given old new r = AnswersOnce (records.IsReply given.kept) (records.RecordTakesMemory given.kept) old new r
+AnswersFrom m Told (task.GameRecord t) given old new r = game_records.Puts m.outside.disk m.stores t old new r
+AnswersFrom m Told (task.Audit t) given old new r = AnswersOnce (audits.IsReply t given) (IsText t.start.now) old new r
+AnswersFrom m Told (task.AuditGames t) given old new r = game_audits.Puts m.outside.disk m.stores t given old new r
+AnswersFrom m Told (task.Version t) given old new r = versions.Answers old new r
+AnswersFrom m Told (task.Send t) given old new r = (e : Result Ended WriteFault) × (r ≡ status_ended e) × IfOk e Told × SendsGame m.outside t old new e
+AnswersFrom m Told (task.Enter t) given old new r = Enters m.outside t old new r
+AnswersFrom m Told (task.Host t) given old new r = HostsGames (hosting_places m) (written (hosting_places m) t.games.now) t given m.outside.had m.outside.has old new r
+AnswersFrom m Told (task.Root t) given old new r = roots.Puts t.json (ask_of t.determined) m.outside.source t.fen given old new r
+AnswersFrom m Told (task.Follow t) given old new r = follows.Puts m.outside.source t given old new r
+AnswersFrom m Told (task.Status t) given old new r = statuses.PutsOver m.outside.disk m.stores t old new r
 
 -- to a task the program answers from what it reads; or something that it reads for it can't be read; or memory was refused while
 -- it read
-pub data AnswersTask {P F : Type 0} (out : Outside P F) (Told : Ended → Type 0) (t : Task) (old new : Option (List ℕ)) (r : Result ℕ WriteFault) : Type 0 where
-  FromGiven : (given : Given) → IsGiven out.disk out.source (named_in t) given → AnswersFrom out Told t given old new r → AnswersTask out Told t old new r
-  Unread : CannotRead out.disk out.source (named_in t) → TellsOne refused_files old new r → AnswersTask out Told t old new r
-  NoMemory : TakesMemory out.source (named_in t) → TellsOne refused_memory old new r → AnswersTask out Told t old new r
+pub data AnswersTask {P F S : Type 0} (m : Machine P F S) (Told : Ended → Type 0) (t : Task) (old new : Option (List ℕ)) (r : Result ℕ WriteFault) : Type 0 where
+  FromGiven : (given : Given) → IsGiven m.outside.disk m.outside.source (named_in t) given → AnswersFrom m Told t given old new r → AnswersTask m Told t old new r
+  Unread : CannotRead m.outside.disk m.outside.source (named_in t) → TellsOne refused_files old new r → AnswersTask m Told t old new r
+  NoMemory : TakesMemory m.outside.source (named_in t) → TellsOne refused_memory old new r → AnswersTask m Told t old new r
 
 -- the same with a host whose ports seal by these keys
-abbrev pub sealed_by : {P F : Type 0} → Keys → Outside P F → Outside (SealedView P) F
-sealed_by keys out = outside out.disk out.source (hosted (keyed_host keys out.host.host) (sealed_facts out.host.port) out.host.file) out.had out.has
+abbrev pub sealed_by : {P F S : Type 0} → Keys → Machine P F S → Machine (SealedView P) F S
+sealed_by keys m = record {
+  outside = outside m.outside.disk m.outside.source (hosted (keyed_host keys m.outside.host.host) (sealed_facts m.outside.host.port) m.outside.host.file) m.outside.had m.outside.has;
+  stores = m.stores;
+  store = m.store;
+}
 
 -- To a task that names no file of keys the program answers with the host as it is. To one that does it answers with that host's ports
 -- sealed by the keys of the file; or it has none, which is told before all else; or memory for them was refused.
-pub data AnswersByKey {P F : Type 0} (out : Outside P F) (Told : Ended → Type 0) (t : Task) (old new : Option (List ℕ)) (r : Result ℕ WriteFault) : Type 0 where
-  Bare : key_in t ≡ None → AnswersTask out Told t old new r → AnswersByKey out Told t old new r
-  BySeal : (path : List ℕ) → key_in t ≡ Some path → (keys : Keys) → HasKeys out.disk path keys → AnswersTask (sealed_by keys out) Told t old new r → AnswersByKey out Told t old new r
-  NoKeys : (path : List ℕ) → key_in t ≡ Some path → (words : List ℕ) → LacksKeys out.disk path words → TellsOne words old new r → AnswersByKey out Told t old new r
-  NoRoomForKeys : (path : List ℕ) → key_in t ≡ Some path → TellsOne refused_memory old new r → AnswersByKey out Told t old new r
+pub data AnswersByKey {P F S : Type 0} (m : Machine P F S) (Told : Ended → Type 0) (t : Task) (old new : Option (List ℕ)) (r : Result ℕ WriteFault) : Type 0 where
+  Bare : key_in t ≡ None → AnswersTask m Told t old new r → AnswersByKey m Told t old new r
+  BySeal : (path : List ℕ) → key_in t ≡ Some path → (keys : Keys) → HasKeys m.outside.disk path keys → AnswersTask (sealed_by keys m) Told t old new r → AnswersByKey m Told t old new r
+  NoKeys : (path : List ℕ) → key_in t ≡ Some path → (words : List ℕ) → LacksKeys m.outside.disk path words → TellsOne words old new r → AnswersByKey m Told t old new r
+  NoRoomForKeys : (path : List ℕ) → key_in t ≡ Some path → TellsOne refused_memory old new r → AnswersByKey m Told t old new r
 
 -- what the program makes of its words: the answer to the task that they name; or they are misused, which is told, and nothing is
 -- written; or memory was refused before there was a task, where they name a command
-pub data Performs {P F : Type 0} (out : Outside P F) (IsTold : Misuse → Type 0) (Told : Ended → Type 0) (words : List (List ℕ)) (old new : Option (List ℕ)) (r : Result ℕ WriteFault) : Type 0 where
-  ToTask : (t : Task) → IsTask words t → AnswersByKey out Told t old new r → Performs out IsTold Told words old new r
-  ToMisuse : (misuse : Misuse) → IsMisuse words misuse → IsTold misuse → new ≡ old → r ≡ Ok 2 → Performs out IsTold Told words old new r
-  ToNone : (NamesNoCommand words → ⊥) → TellsOne refused_memory old new r → Performs out IsTold Told words old new r
+pub data Performs {P F S : Type 0} (m : Machine P F S) (IsTold : Misuse → Type 0) (Told : Ended → Type 0) (words : List (List ℕ)) (old new : Option (List ℕ)) (r : Result ℕ WriteFault) : Type 0 where
+  ToTask : (t : Task) → IsTask words t → AnswersByKey m Told t old new r → Performs m IsTold Told words old new r
+  ToMisuse : (misuse : Misuse) → IsMisuse words misuse → IsTold misuse → new ≡ old → r ≡ Ok 2 → Performs m IsTold Told words old new r
+  ToNone : (NamesNoCommand words → ⊥) → TellsOne refused_memory old new r → Performs m IsTold Told words old new r
 
 -- the words that a program is called with, or why there are none
 abbrev pub called_by : Result (Vec (String Global) Global) WordsFault → Result (List (List ℕ)) WordsFault
@@ -121,20 +127,20 @@ called_by (Err fault) = Err fault
 
 -- what it makes of all words that it was called with, of which the first is its own name; one that is no text is told as a misuse;
 -- or memory was refused for them
-pub data Called {P F : Type 0} (out : Outside P F) (IsTold : Misuse → Type 0) (Told : Ended → Type 0) (called : Result (List (List ℕ)) WordsFault) (old new : Option (List ℕ)) (r : Result ℕ WriteFault) : Type 0 where
-  OnWords : (words : List (List ℕ)) → called ≡ Ok words → Performs out IsTold Told (drop 1 words) old new r → Called out IsTold Told called old new r
-  OnNoText : (word : Vec ℕ Global) (bytes : Bor (List ℕ)) → called ≡ Err (NoText word) → bytes.now ≡ word.items → IsTold (misuse.NoText bytes) → new ≡ old → r ≡ Ok 2 → Called out IsTold Told called old new r
-  NoRoomForWords : TellsOne refused_memory old new r → Called out IsTold Told called old new r
+pub data Called {P F S : Type 0} (m : Machine P F S) (IsTold : Misuse → Type 0) (Told : Ended → Type 0) (called : Result (List (List ℕ)) WordsFault) (old new : Option (List ℕ)) (r : Result ℕ WriteFault) : Type 0 where
+  OnWords : (words : List (List ℕ)) → called ≡ Ok words → Performs m IsTold Told (drop 1 words) old new r → Called m IsTold Told called old new r
+  OnNoText : (word : Vec ℕ Global) (bytes : Bor (List ℕ)) → called ≡ Err (NoText word) → bytes.now ≡ word.items → IsTold (misuse.NoText bytes) → new ≡ old → r ≡ Ok 2 → Called m IsTold Told called old new r
+  NoRoomForWords : TellsOne refused_memory old new r → Called m IsTold Told called old new r
 
 -- ---- as a call sees it
 
 -- By how disks, inputs, hosts, their histories, their ports and their files are seen, what is written at an output, and what is known of
 -- an output for errors and is written there: what the program makes of its words at a system, from each of these moments to a later one.
-abbrev pub RunsProgram : {D I H M P F W E : Type 0} → (D → DiskFacts) → (I → InputFacts) → (H → HostFacts P F) → (M → Option (List Made)) → (P → PortFacts) → (F → KeptFacts) → (W → Option (List ℕ)) → (E → OutputFacts) → (E → Option (List ℕ)) → List (Bor (List ℕ)) → System D I H → M → M → W → W → E → E → Result ℕ WriteFault → Type 0
-RunsProgram disk input host made port file written facts told words s history history' out out' errors errors' r =
-    Performs (outside_of disk input host made port file s history history') (TellsMisuse facts told errors errors') (TellsSilence facts told errors errors') (texts words) (written out) (written out') r
+abbrev pub RunsProgram : {D I H M P F S W E : Type 0} → (D → DiskFacts) → (I → InputFacts) → (H → HostFacts P F) → (H → StorePlaces S) → (M → Option (List Made)) → (P → PortFacts) → (F → KeptFacts) → (S → StoreFacts) → (W → Option (List ℕ)) → (E → OutputFacts) → (E → Option (List ℕ)) → List (Bor (List ℕ)) → System D I H → M → M → W → W → E → E → Result ℕ WriteFault → Type 0
+RunsProgram disk input host stores made port file store written facts told words s history history' out out' errors errors' r =
+    Performs (machine_of disk input host stores made port file store s history history') (TellsMisuse facts told errors errors') (TellsSilence facts told errors errors') (texts words) (written out) (written out') r
 
 -- so it is for all words that it was called with
-abbrev pub Calls : {D I H M P F W E : Type 0} → (D → DiskFacts) → (I → InputFacts) → (H → HostFacts P F) → (M → Option (List Made)) → (P → PortFacts) → (F → KeptFacts) → (W → Option (List ℕ)) → (E → OutputFacts) → (E → Option (List ℕ)) → Result (Vec (String Global) Global) WordsFault → System D I H → M → M → W → W → E → E → Result ℕ WriteFault → Type 0
-Calls disk input host made port file written facts told called s history history' out out' errors errors' r =
-    Called (outside_of disk input host made port file s history history') (TellsMisuse facts told errors errors') (TellsSilence facts told errors errors') (called_by called) (written out) (written out') r
+abbrev pub Calls : {D I H M P F S W E : Type 0} → (D → DiskFacts) → (I → InputFacts) → (H → HostFacts P F) → (H → StorePlaces S) → (M → Option (List Made)) → (P → PortFacts) → (F → KeptFacts) → (S → StoreFacts) → (W → Option (List ℕ)) → (E → OutputFacts) → (E → Option (List ℕ)) → Result (Vec (String Global) Global) WordsFault → System D I H → M → M → W → W → E → E → Result ℕ WriteFault → Type 0
+Calls disk input host stores made port file store written facts told called s history history' out out' errors errors' r =
+    Called (machine_of disk input host stores made port file store s history history') (TellsMisuse facts told errors errors') (TellsSilence facts told errors errors') (called_by called) (written out) (written out') r

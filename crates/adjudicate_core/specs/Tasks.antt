@@ -22,6 +22,7 @@ use Rattle.adjudicate_core.specs.Commands.Status as statuses
 use Rattle.adjudicate_core.specs.Commands.Record as records
 use Rattle.adjudicate_core.specs.Commands.Audit as audits
 use Rattle.adjudicate_core.specs.Commands.AuditGames as game_audits
+use Rattle.adjudicate_core.specs.Commands.GameRecord as game_records
 use Rattle.adjudicate_core.specs.Commands.Version as versions
 use Rattle.adjudicate_core.specs.Misuses.{AsksForHelp, Fault, IsFirstMisuse, fault_words}
 use Rattle.adjudicate_core.specs.declared.usage.Misuse.{Misuse}
@@ -114,6 +115,7 @@ task_name (task.Listen t) = name.Listen
 task_name (task.Probes t) = name.Probes
 task_name (task.Game t) = name.Game
 task_name (task.Record t) = name.Record
+task_name (task.GameRecord t) = name.Record
 task_name (task.Audit t) = name.Audit
 task_name (task.AuditGames t) = name.Audit
 task_name (task.Version t) = name.Version
@@ -136,7 +138,8 @@ HasTaskValues value (task.Run t) = runs.HasValues value t
 HasTaskValues value (task.Listen t) = listens.IsListening value t
 HasTaskValues value (task.Probes t) = of_probes.HasValues value t
 HasTaskValues value (task.Game t) = games.HasValues value t
-HasTaskValues value (task.Record t) = records.HasValues value t
+HasTaskValues value (task.Record t) = (value (codes "games") ≡ None) × records.HasValues value t
+HasTaskValues value (task.GameRecord t) = game_records.HasValues value t
 HasTaskValues value (task.Audit t) = game_audits.LacksFolders value × audits.HasValues value t
 HasTaskValues value (task.AuditGames t) = game_audits.HasValues value t
 HasTaskValues value (task.Version t) = Unit {0}
@@ -160,6 +163,7 @@ named_in (task.Listen t) = listens.named t
 named_in (task.Probes t) = of_probes.named t
 named_in (task.Game t) = games.named t
 named_in (task.Record t) = records.named t
+named_in (task.GameRecord t) = game_records.named
 named_in (task.Audit t) = audits.named t
 named_in (task.AuditGames t) = game_audits.named t
 named_in (task.Version t) = versions.named
@@ -190,6 +194,7 @@ tells_progress (task.Listen t) = false
 tells_progress (task.Probes t) = t.progress
 tells_progress (task.Game t) = false
 tells_progress (task.Record t) = false
+tells_progress (task.GameRecord t) = false
 tells_progress (task.Audit t) = false
 tells_progress (task.AuditGames t) = false
 tells_progress (task.Version t) = false

@@ -16,6 +16,7 @@ mod check;
 mod enter;
 mod follow;
 mod game;
+mod game_record;
 mod host;
 mod judge;
 mod list;
@@ -39,6 +40,7 @@ use clap::{Arg, ArgAction, ArgMatches, Command};
 pub use enter::{Enter, Entries, OneGame};
 pub use follow::Follow;
 pub use game::FollowGame;
+pub use game_record::GameRecord;
 pub use host::HostGames;
 pub use judge::Judge;
 pub use list::List;
@@ -81,6 +83,8 @@ pub enum Task<'a> {
     Game(FollowGame<'a>),
     /// The contents of a kept record.
     Record(ShowRecord<'a>),
+    /// The record of a game in a folder.
+    GameRecord(GameRecord<'a>),
     /// Whether kept files are records of a game.
     Audit(Audit<'a>),
     /// The audit of the games of a folder.
@@ -292,6 +296,22 @@ fn matches_at<'a>(command: Command<'a>, words: &'a [&'a str]) -> Result<ArgMatch
     command.try_get_matches_from(words)
 }
 
+/// The task of `record` with these values, or their first fault: with a folder of games another one than without.
+fn record_of<'a>(matches: &ArgMatches<'a>) -> Result<Task<'a>, ValueFault<'a>>
+    ensures { IsReadAs Name.Record (first_value (found_of matches.now)) result }
+{
+    match matches.get_str("games") {
+        Some(games) => match GameRecord::of(games, matches) {
+            Ok(task) => Ok(Task::GameRecord(task)),
+            Err(fault) => Err(fault),
+        },
+        None => match ShowRecord::of(matches) {
+            Ok(task) => Ok(Task::Record(task)),
+            Err(fault) => Err(fault),
+        },
+    }
+}
+
 /// The task of `audit` for games of folders with these values, or their first fault.
 fn audit_of_folders<'a>(matches: &ArgMatches<'a>) -> Result<Task<'a>, ValueFault<'a>>
     requires { LacksFolders (first_value (found_of matches.now)) → ⊥ }
@@ -369,10 +389,7 @@ fn task_of<'a>(name: Name, matches: &ArgMatches<'a>) -> Result<Task<'a>, ValueFa
             Ok(task) => Ok(Task::Game(task)),
             Err(fault) => Err(fault),
         },
-        Name::Record => match ShowRecord::of(matches) {
-            Ok(task) => Ok(Task::Record(task)),
-            Err(fault) => Err(fault),
-        },
+        Name::Record => record_of(matches),
         Name::Audit => audit_of(matches),
         Name::Version => Ok(Task::Version(Version)),
         Name::Send => Ok(Task::Send(Send::of(matches)?)),
@@ -416,6 +433,7 @@ impl<'a> Task<'a> {
             Task::Probes(task) => task.places(),
             Task::Game(task) => task.places(),
             Task::Record(task) => task.places(),
+            Task::GameRecord(task) => task.places(),
             Task::Audit(task) => task.places(),
             Task::AuditGames(task) => task.places(),
             Task::Version(task) => task.places(),

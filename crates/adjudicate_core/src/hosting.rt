@@ -1,97 +1,127 @@
 //! Arbiters of any number of games, from their words to their status.
 
-ghost use Rattle.std.specs.Prelude.{◌≡◌, ℕ, IfErr, IfOk, List, OnErr};
+ghost use Rattle.std.specs.Prelude.{◌≡◌, ◌↔◌, ℕ, IfErr, IfOk, IsTrue, List, OnErr, map, string_bytes};
+ghost use Rattle.std.specs.NonZero.{non_zero_usize_get};
+ghost use Rattle.arbiter_server.specs.Games.{common_with};
 ghost use Rattle.arbiter_server.specs.LineLogs.{IsLogOf};
-ghost use Rattle.adjudicate_core.specs.Hostings.{BindsAndWrites, HostsAndTells, LocksAndWrites, TellsAt, way};
-ghost use Rattle.adjudicate_core.specs.Inside.HostingParts.{IsUnlisted, WritesOver};
+ghost use Rattle.arbiter_server.specs.Servers.{IsIdle};
+ghost use Rattle.adjudicate_core.specs.Hostings.{StoreClashes, HostsAndTells, KeepsGamesAndWrites, LocksAndWrites, StoresAndWrites, import_words, together_of, way};
+ghost use Rattle.adjudicate_core.specs.Inside.HostingParts.{BindsGames, IsUnlisted, IsStoreUnopened, ServesGames, StartsGames, of_games};
+ghost use Rattle.adjudicate_core.specs.Lines.{refusal_words};
+ghost use Rattle.adjudicate_core.specs.Listens.{hosted};
 ghost use Rattle.adjudicate_core.specs.Outsides.{around_of};
+ghost use Rattle.game_status.specs.StoreReadings.{store_path};
 ghost use Rattle.line_teller.specs.ToldLines.{HasFailed};
+ghost use Rattle.system_io.specs.Histories.{Passes};
+ghost use Rattle.system_io.specs.Hosts.{StoreAt, if_made};
+ghost use Rattle.system_io.specs.Records.{IsSettled};
 
 use crate::binding::bind;
 use crate::commands::HostGames;
 use crate::lines::put_refusal;
 use crate::listening::{manifest_for, ready_line_at};
 use crate::locking::{IN_GAMES, lock};
+use crate::numbers::StoreForm;
 use crate::refusals::Refusal;
 use crate::system::System;
 use crate::tables::gather;
-use arbiter_server::{DiskGames, LineLog, Server, ServerConfig, put_line};
+use arbiter_server::{DiskGames, Games, LineLog, Server, ServerConfig, StoreGames, put_line};
+use game_status::{ImportFault, STORE_LOG_NAME, STORE_NAME, has_name, import_records};
 use judge_core::Set;
 use std::alloc::Global;
-use system_io::{BindFault, Disk, Host, Output, ReadFault, WriteFault};
+use std::num::NonZeroUsize;
+use system_io::{BindFault, Disk, Host, Output, Port, ReadFault, StoreFault, WriteFault};
 use task_files::Sources;
 
-/// What games are hosted from: the words, how the server is set up, its tables, and where the files are.
-#[derive(Drop)]
+/// What games are hosted from: the words, how the server is set up, and where the files are.
+#[derive(Clone, Copy)]
 struct HostPlan<'h, 'w, 'a, D, H> {
     task: &'h HostGames<'w>,
     config: ServerConfig<'a>,
-    tables: Set<'a>,
     /// Of how many files the tables were read.
     read: usize,
     disk: &'h D,
     host: &'h H,
 }
 
+/// The games that are served, and the tables by which they are judged.
+#[derive(Drop)]
+struct Served<'a, G: Drop> {
+    tables: Set<'a>,
+    games: G,
+}
+
 /// What is told where the log can't be written and the games go on.
 const LOG_LOST: &str = "the log can't be written: the games go on without it";
 
-/// Serves the games of the folder at a port, with a log of the form that the words name. Where that can't be written, the games go on
-/// without it, if the words say so. Where memory for the open games is refused, that is told.
-fn serve_logged<D: Disk, H: Host, W: Output>(
-    alloc: Global,
-    plan: HostPlan<'_, '_, '_, D, H>,
-    history: &mut H::History,
-    port: &mut H::Port,
+/// What is told where a folder has a store, or the log of one, that wouldn't be used.
+const STORE_CLASHES: &str = "the folder has games.db with --store files, or games.db-wal alone";
+
+/// What is told where a store can't be opened.
+const STORE_UNOPENED: &str =
+    "games.db can't be opened: no store of games, held by another process, or at fault";
+
+/// How many datagrams are answered together, at most.
+fn most_together(form: StoreForm) -> NonZeroUsize
+    ensures { non_zero_usize_get result ≡ together_of form }
+{
+    match form {
+        StoreForm::Sqlite => NonZeroUsize::new(256).unwrap_or(NonZeroUsize::MIN),
+        StoreForm::Files => NonZeroUsize::MIN,
+    }
+}
+
+/// Serves games at a port, with a log of the form that the words name. Where that can't be written, the games go on without it, if the
+/// words say so.
+fn serve_logged<G: Games + Drop, D, H: Host, P: Port, W: Output>(
+    server: &mut Server<'_, G>,
+    plan: &HostPlan<'_, '_, '_, D, H>,
+    history: &mut G::History,
+    port: &mut P,
     log: &mut LineLog,
     out: &mut W,
 ) -> Result<u8, WriteFault>
-    requires { IsLogOf plan.task.now.log log.old }
-    ensures told { WritesOver (way D.facts H.facts H.Port.facts H.File.facts W.contents W.facts plan.entry) (H.made history.old) (H.made history.new) port.old port.new out.old out.new result }
+    requires idle { IsIdle server.old }
+    requires log { IsLogOf plan.now.task.now.log log.old }
+    ensures told { ServesGames (of_games G.Keeper.facts G.facts W.contents W.facts) plan.now.task.now server.old.common server.old.games (G.made history.old) (G.made history.new) (P.facts port.old) (P.facts port.new) out.old out.new result }
     ensures cause { OnErr result (HasFailed W.facts) }
 {
-    let HostPlan {
-        task,
-        config,
-        tables,
-        read: _,
-        disk,
-        host,
-    } = plan;
-    let games = DiskGames {
-        disk,
-        host,
-        folder: task.games,
-    };
-    let mut server = match Server::open(alloc, config, tables, games) {
-        Ok(server) => server,
-        Err(_) => return put_refusal(out, Refusal::Memory),
-    };
-    match server.serve(history, port, task.datagrams, log, out) {
+    match server.serve(history, port, plan.task.datagrams, log, out) {
         Ok(status) => Ok(status),
         Err(fault) => {
-            if !task.outlives_log {
+            if !plan.task.outlives_log {
                 return Err(fault);
             }
-            host.note(LOG_LOST);
-            server.serve(history, port, task.datagrams, &mut LineLog::Nothing, out)
+            plan.host.note(LOG_LOST);
+            server.serve(
+                history,
+                port,
+                plan.task.datagrams,
+                &mut LineLog::Nothing,
+                out,
+            )
         }
     }
 }
 
-/// Serves the games of the folder at a port. Where memory for the open games or for the log is refused, that is told.
-fn serve_at<D: Disk, H: Host, W: Output>(
+/// Serves games at a port. Where memory for the open games or for the log is refused, that is told.
+fn serve_at<'a, G: Games + Drop, D, H: Host, P: Port, W: Output>(
     alloc: Global,
-    plan: HostPlan<'_, '_, '_, D, H>,
-    history: &mut H::History,
-    port: &mut H::Port,
+    plan: &HostPlan<'_, '_, 'a, D, H>,
+    served: Served<'a, G>,
+    history: &mut G::History,
+    port: &mut P,
     out: &mut W,
 ) -> Result<u8, WriteFault>
-    ensures told { WritesOver (way D.facts H.facts H.Port.facts H.File.facts W.contents W.facts plan.entry) (H.made history.old) (H.made history.new) port.old port.new out.old out.new result }
+    ensures told { ServesGames (of_games G.Keeper.facts G.facts W.contents W.facts) plan.now.task.now (common_with plan.now.config served.entry.tables) served.entry.games (G.made history.old) (G.made history.new) (P.facts port.old) (P.facts port.new) out.old out.new result }
     ensures cause { OnErr result (HasFailed W.facts) }
 {
-    match LineLog::new(alloc, plan.task.log) {
-        Ok(mut log) => serve_logged(alloc, plan, history, port, &mut log, out),
+    let Served { tables, games } = served;
+    let Ok(mut log) = LineLog::new(alloc, plan.task.log) else {
+        return put_refusal(out, Refusal::Memory);
+    };
+    match Server::open(alloc, plan.config, tables, games) {
+        Ok(mut server) => serve_logged(&mut server, plan, history, port, &mut log, out),
         Err(_) => put_refusal(out, Refusal::Memory),
     }
 }
@@ -105,14 +135,15 @@ fn note_tables<H: Host>(alloc: Global, host: &H, read: usize) {
 
 /// Tells the address at which a port listens, and serves the games there when that line has gone out. An address that isn't known is
 /// told as `refused port`.
-fn start_at<D: Disk, H: Host, W: Output>(
+fn start_at<'a, G: Games + Drop, D, H: Host, W: Output>(
     alloc: Global,
-    plan: HostPlan<'_, '_, '_, D, H>,
-    history: &mut H::History,
+    plan: &HostPlan<'_, '_, 'a, D, H>,
+    served: Served<'a, G>,
+    history: &mut G::History,
     port: &mut H::Port,
     out: &mut W,
 ) -> Result<u8, WriteFault>
-    ensures told { TellsAt (way D.facts H.facts H.Port.facts H.File.facts W.contents W.facts plan.entry) (H.made history.old) (H.made history.new) port.old (H.Port.facts port.new) out.old out.new result }
+    ensures told { StartsGames (of_games G.Keeper.facts G.facts W.contents W.facts) (hosted (H.facts plan.now.host.now) H.Port.facts H.File.facts) plan.now.task.now (common_with plan.now.config served.entry.tables) served.entry.games (G.made history.old) (G.made history.new) port.old port.new out.old out.new result }
     ensures cause { OnErr result (HasFailed W.facts) }
 {
     let line = match ready_line_at(alloc, plan.host, port) {
@@ -122,55 +153,170 @@ fn start_at<D: Disk, H: Host, W: Output>(
     match put_line(out, line.as_str().as_bytes()) {
         Ok(()) => {
             note_tables(alloc, plan.host, plan.read);
-            serve_at(alloc, plan, history, port, out)
+            serve_at(alloc, plan, served, history, port, out)
         }
         Err(fault) => Err(fault),
     }
 }
 
-/// Binds the address that the words name, and serves the games there, while the lock of their folder is held. An address that can't be
-/// bound is told as `refused port`.
-fn bind_and_serve<D: Disk, H: Host, W: Output>(
+/// Binds the address that the words name, and serves games there, while the lock of their folder is held. An address that can't be bound
+/// is told as `refused port`.
+fn bind_and_serve<'a, G: Games<History = H::History> + Drop, D, H: Host, W: Output>(
     alloc: Global,
-    plan: HostPlan<'_, '_, '_, D, H>,
+    plan: &HostPlan<'_, '_, 'a, D, H>,
+    served: Served<'a, G>,
     _lock: &H::Lock,
     history: &mut H::History,
     out: &mut W,
 ) -> Result<u8, WriteFault>
-    ensures told { BindsAndWrites (way D.facts H.facts H.Port.facts H.File.facts W.contents W.facts plan.entry) (H.made history.old) (H.made history.new) out.old out.new result }
+    requires same { G.made ≡ H.made }
+    ensures told { BindsGames (of_games G.Keeper.facts G.facts W.contents W.facts) (hosted (H.facts plan.now.host.now) H.Port.facts H.File.facts) plan.now.task.now (common_with plan.now.config served.entry.tables) served.entry.games (H.made history.old) (H.made history.new) out.old out.new result }
     ensures cause { OnErr result (HasFailed W.facts) }
 {
     match bind(alloc, plan.host, history, plan.task.bind, plan.task.to) {
-        Ok(mut port) => start_at(alloc, plan, history, &mut port, out),
+        Ok(mut port) => start_at(alloc, plan, served, history, &mut port, out),
         Err(BindFault::Unbound) => put_refusal(out, Refusal::Port),
         Err(BindFault::OutOfMemory) => put_refusal(out, Refusal::Memory),
     }
 }
 
-/// Locks the folder of games, and serves them as long as it is locked. A folder that another process has locked is told as
-/// `refused in use`, one that can't be locked as `refused keeper`.
-fn lock_and_serve<D: Disk, H: Host, W: Output>(
+/// Opens the store of a folder of games.
+fn open_store<H: Host>(
     alloc: Global,
-    plan: HostPlan<'_, '_, '_, D, H>,
+    host: &H,
+    history: &mut H::History,
+    folder: &str,
+) -> Result<H::Store, Refusal>
+    ensures at { IfOk result ((H.stores host.now).is_at (store_path folder.now)) }
+    ensures settled { IfOk result (λ store. IsSettled (H.Store.facts store)) }
+    ensures err { IfErr result (IsStoreUnopened (H.stores host.now) (store_path folder.now)) }
+    ensures made { Passes (H.made history.old) (H.made history.new) (if_made result (StoreAt (store_path folder.now))) }
+{
+    let Ok(path) = format!(in alloc; "{folder}/{STORE_NAME}") else {
+        return Err(Refusal::Memory);
+    };
+    match host.store(alloc, history, path.as_str()) {
+        Ok(store) => Ok(store),
+        Err(StoreFault::Unreadable) => {
+            host.note(STORE_UNOPENED);
+            Err(Refusal::Store)
+        }
+        Err(StoreFault::OutOfMemory) => Err(Refusal::Memory),
+    }
+}
+
+/// Why records don't go over into a store, as it is refused.
+fn import_refusal(fault: ImportFault) -> Refusal
+    ensures { refusal_words result ≡ import_words fault }
+{
+    match fault {
+        ImportFault::NoFolder => Refusal::Files,
+        ImportFault::Unreadable => Refusal::Keeper,
+        ImportFault::NotPut => Refusal::Store,
+        ImportFault::OutOfMemory => Refusal::Memory,
+    }
+}
+
+/// Opens the store of the folder, lets the records of files go over into it that it hasn't, and serves the games, whose records are kept
+/// there. A store that can't be opened or written is told as `refused store`, a record that can't be read as `refused keeper`.
+fn store_and_serve<'a, D: Disk, H: Host, W: Output>(
+    alloc: Global,
+    plan: &HostPlan<'_, '_, 'a, D, H>,
+    tables: Set<'a>,
+    lock: &H::Lock,
     history: &mut H::History,
     out: &mut W,
 ) -> Result<u8, WriteFault>
-    ensures told { LocksAndWrites (way D.facts H.facts H.Port.facts H.File.facts W.contents W.facts plan.entry) (H.made history.old) (H.made history.new) out.old out.new result }
+    ensures told { StoresAndWrites (way D.facts H.facts H.stores H.Port.facts H.File.facts H.Store.facts W.contents W.facts plan.now tables.entry) (H.made history.old) (H.made history.new) out.old out.new result }
+    ensures cause { OnErr result (HasFailed W.facts) }
+{
+    let folder = plan.task.games;
+    let mut store = match open_store(alloc, plan.host, history, folder) {
+        Ok(store) => store,
+        Err(refusal) => return put_refusal(out, refusal),
+    };
+    match import_records(alloc, plan.disk, folder, &mut store) {
+        Ok(()) => {
+            let games = StoreGames::over(alloc, plan.disk, plan.host, folder, store);
+            bind_and_serve(alloc, plan, Served { tables, games }, lock, history, out)
+        }
+        Err(fault) => put_refusal(out, import_refusal(fault)),
+    }
+}
+
+/// Serves the games of the folder, whose records are kept as the words say, while its lock is held.
+fn keep_and_serve<'a, D: Disk, H: Host, W: Output>(
+    alloc: Global,
+    plan: &HostPlan<'_, '_, 'a, D, H>,
+    tables: Set<'a>,
+    lock: &H::Lock,
+    history: &mut H::History,
+    out: &mut W,
+) -> Result<u8, WriteFault>
+    ensures told { KeepsGamesAndWrites (way D.facts H.facts H.stores H.Port.facts H.File.facts H.Store.facts W.contents W.facts plan.now tables.entry) (H.made history.old) (H.made history.new) out.old out.new result }
+    ensures cause { OnErr result (HasFailed W.facts) }
+{
+    match plan.task.store {
+        StoreForm::Files => {
+            let games = DiskGames {
+                disk: plan.disk,
+                host: plan.host,
+                folder: plan.task.games,
+            };
+            bind_and_serve(alloc, plan, Served { tables, games }, lock, history, out)
+        }
+        StoreForm::Sqlite => store_and_serve(alloc, plan, tables, lock, history, out),
+    }
+}
+
+/// Locks the folder of games, and serves them as long as it is locked. A folder that another process has locked is told as
+/// `refused in use`, one that can't be locked as `refused keeper`.
+fn lock_and_serve<'a, D: Disk, H: Host, W: Output>(
+    alloc: Global,
+    plan: &HostPlan<'_, '_, 'a, D, H>,
+    tables: Set<'a>,
+    history: &mut H::History,
+    out: &mut W,
+) -> Result<u8, WriteFault>
+    ensures told { LocksAndWrites (way D.facts H.facts H.stores H.Port.facts H.File.facts H.Store.facts W.contents W.facts plan.now tables.entry) (H.made history.old) (H.made history.new) out.old out.new result }
     ensures cause { OnErr result (HasFailed W.facts) }
 {
     match lock(alloc, plan.host, history, plan.task.games, IN_GAMES) {
-        Ok(lock) => bind_and_serve(alloc, plan, &lock, history, out),
+        Ok(lock) => keep_and_serve(alloc, plan, tables, &lock, history, out),
         Err(refusal) => put_refusal(out, refusal),
     }
 }
 
-/// Lists a folder of games, whose names aren't used: what can't be listed is no such folder.
-fn list_games<D: Disk>(alloc: Global, disk: &D, folder: &str) -> Result<(), Refusal>
-    ensures ok { IfOk result (λ _. (names : List (List ℕ)) × (D.facts disk.now).lists folder.now names) }
-    ensures err { IfErr result (IsUnlisted (D.facts disk.now) folder.now) }
+/// Whether a folder with these names can't be served so: it has a store, or the log of one, and records are to be in files; or it has
+/// the log without its database.
+fn is_clash(names: &[String], form: StoreForm) -> bool
+    ensures { IsTrue result ↔ StoreClashes form (map string_bytes names.now) }
 {
-    match disk.names(alloc, folder) {
-        Ok(_names) => Ok(()),
+    let has_store = has_name(names, STORE_NAME);
+    let has_log = has_name(names, STORE_LOG_NAME);
+    match form {
+        StoreForm::Files => has_store || has_log,
+        StoreForm::Sqlite => !has_store && has_log,
+    }
+}
+
+/// Lists a folder of games: what can't be listed is no such folder. One with a store that wouldn't be used, or with a half of one, is
+/// refused.
+fn list_games<D: Disk, I, H: Host>(
+    alloc: Global,
+    system: &System<'_, D, I, H>,
+    folder: &str,
+    form: StoreForm,
+) -> Result<(), Refusal>
+    ensures ok { IfOk result (λ _. (names : List (List ℕ)) × (D.facts system.now.disk.now).lists folder.now names × (StoreClashes form names → ⊥)) }
+    ensures err { IfErr result (IsUnlisted (D.facts system.now.disk.now) folder.now form) }
+{
+    match system.disk.names(alloc, folder) {
+        Ok(names) if is_clash(&names, form) => {
+            system.host.note(STORE_CLASHES);
+            Err(Refusal::Store)
+        }
+        Ok(_) => Ok(()),
         Err(ReadFault::Unreadable) => Err(Refusal::Files),
         Err(ReadFault::OutOfMemory) => Err(Refusal::Memory),
     }
@@ -179,10 +325,12 @@ fn list_games<D: Disk>(alloc: Global, disk: &D, folder: &str) -> Result<(), Refu
 /// Answers the datagrams of any number of games as the words say, each by the arbiter of its game, and tells the status.
 ///
 /// The first line is `ready` and the address at which datagrams come, when that is bound; then a line for each datagram, as
-/// `arbiter_server::Server::serve` has it. What is refused is told in one line, in this order: the tables, the folder of games, its lock, and the address. Where memory
-/// is refused the line is `refused memory`. At the host the lock, the port, and the files of the records of games that datagrams ask for
-/// are opened, and nothing else is. The host's notes tell of how many files tables were read, and where a log is lost that the games
-/// outlive. The error comes only where the writer failed.
+/// `arbiter_server::Server::serve` has it. What is refused is told in one line, in this order: the tables, the folder of games, a store
+/// there that wouldn't be used or is half there, the folder's lock, its store, records that can't go over into that, and the address.
+/// Where memory is refused the line is `refused memory`. At the host the lock and the port are opened, and, as the words say, the store
+/// or the files of the records of games that datagrams ask for, and nothing else is. The host's notes tell of how many files tables were
+/// read, why a store isn't opened or that it is lost, and where a log is lost that the games outlive. The error comes only where the
+/// writer failed.
 pub fn host_games<'a, D: Disk, I, H: Host, W: Output>(
     alloc: Global,
     task: &HostGames<'_>,
@@ -191,7 +339,7 @@ pub fn host_games<'a, D: Disk, I, H: Host, W: Output>(
     history: &mut H::History,
     out: &mut W,
 ) -> Result<u8, WriteFault>
-    ensures told { HostsAndTells (around_of D.facts H.facts H.Port.facts H.File.facts W.contents W.facts system.now) task.now sources.now (H.made history.old) (H.made history.new) out.old out.new result }
+    ensures told { HostsAndTells (around_of D.facts H.facts H.stores H.Port.facts H.File.facts H.Store.facts W.contents W.facts system.now) task.now sources.now (H.made history.old) (H.made history.new) out.old out.new result }
     ensures cause { OnErr result (HasFailed W.facts) }
 {
     let tables = match gather(alloc, sources, task.cache) {
@@ -199,7 +347,7 @@ pub fn host_games<'a, D: Disk, I, H: Host, W: Output>(
         Ok(Err(refusal)) => return put_refusal(out, refusal),
         Err(_) => return put_refusal(out, Refusal::Memory),
     };
-    match list_games(alloc, system.disk, task.games) {
+    match list_games(alloc, system, task.games, task.store) {
         Ok(()) => {}
         Err(refusal) => return put_refusal(out, refusal),
     }
@@ -211,14 +359,14 @@ pub fn host_games<'a, D: Disk, I, H: Host, W: Output>(
         manifest: &manifest,
         me: task.me,
         at_once: task.at_once,
+        together: most_together(task.store),
     };
     let plan = HostPlan {
         task,
         config,
-        tables,
         read: sources.files().len(),
         disk: system.disk,
         host: system.host,
     };
-    lock_and_serve(alloc, plan, history, out)
+    lock_and_serve(alloc, &plan, tables, history, out)
 }

@@ -83,6 +83,7 @@ mod program;
 mod refusals;
 mod sending;
 mod silence;
+mod stores;
 mod system;
 mod tables;
 mod usage;
@@ -90,12 +91,12 @@ mod uses;
 mod values;
 
 pub use commands::{
-    Audit, AuditGames, Check, Enter, Entries, Follow, FollowGame, Form, GameFile, HostGames, Judge,
-    List, Listen, Moves, Name, OneGame, Probe, Probes, Root, RunSchedule, Send, SentGame, Show,
-    ShowRecord, ShowStatus, Task, ToldGame, Value, Version, parse,
+    Audit, AuditGames, Check, Enter, Entries, Follow, FollowGame, Form, GameFile, GameRecord,
+    HostGames, Judge, List, Listen, Moves, Name, OneGame, Probe, Probes, Root, RunSchedule, Send,
+    SentGame, Show, ShowRecord, ShowStatus, Task, ToldGame, Value, Version, parse,
 };
 pub use game_name::GameName;
-pub use numbers::{CacheSize, Delay};
+pub use numbers::{CacheSize, Delay, StoreForm};
 pub use program::{refuse_memory, run, run_program};
 pub use system::System;
 pub use usage::{Instead, Misuse, Usage, ValueFault, Wanted, WordsFault};

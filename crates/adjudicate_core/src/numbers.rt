@@ -4,7 +4,7 @@ ghost use Rattle.std.specs.Prelude.{◌≡◌, ◌≤◌, ℕ, option_map, IfSom
 ghost use Rattle.move_msg.specs.declared.who.Who.{Who};
 ghost use Rattle.arbiter_server.specs.declared.line_log.LogForm.{LogForm};
 ghost use Rattle.board_core.specs.Delays.{most_delay};
-ghost use Rattle.adjudicate_core.specs.Numbers.{IsAtOnce, IsCache, IsDatagrams, IsDelay, IsDelayDigit, IsHundredOr, IsLog, IsMe, is_set};
+ghost use Rattle.adjudicate_core.specs.Numbers.{IsAtOnce, IsCache, IsDatagrams, IsDelay, IsDelayDigit, IsHundredOr, IsLog, IsMe, IsStore, is_set};
 
 use arbiter_server::LogForm;
 use move_msg::Who;
@@ -179,6 +179,40 @@ fn log_by(word: &str) -> Option<LogForm>
     }
     if word == "none" {
         return Some(LogForm::Nothing);
+    }
+    None
+}
+
+/// Where a host keeps the records of its games.
+#[derive(Clone, Copy, Debug, PartialEq, Eq)]
+pub enum StoreForm {
+    /// All of them in one store in their folder, a SQLite database.
+    Sqlite,
+    /// Each of them in a file of its own.
+    Files,
+}
+
+/// Where a text says that records are kept, and in a store where there is no text; none where it says neither `sqlite` nor `files`.
+pub fn store_of(text: Option<&str>) -> Option<StoreForm>
+    ensures some { IfSome result (IsStore (option_map (λ s. s.now) text.entry)) }
+    ensures none { IfNone result ((form : StoreForm) → IsStore (option_map (λ s. s.now) text.entry) form → ⊥) }
+{
+    match text {
+        None => Some(StoreForm::Sqlite),
+        Some(word) => store_by(word),
+    }
+}
+
+/// Where a word says that records are kept.
+fn store_by(word: &str) -> Option<StoreForm>
+    ensures some { IfSome result (IsStore (Some word.now)) }
+    ensures none { IfNone result ((form : StoreForm) → IsStore (Some word.now) form → ⊥) }
+{
+    if word == "sqlite" {
+        return Some(StoreForm::Sqlite);
+    }
+    if word == "files" {
+        return Some(StoreForm::Files);
     }
     None
 }

@@ -59,7 +59,7 @@ fn answer_given<D: Disk, I: Input, H: Host, W: Output, E: Output>(
     err: &mut E,
 ) -> Result<u8, WriteFault>
     ensures quiet { tells_progress task.now ≡ false → TellsIfLost E.facts E.contents err.old err.new task.now result }
-    ensures answered { GivenAt D.facts I.facts H.facts H.made H.Port.facts H.File.facts W.contents E.facts E.contents task.now given.entry history.old history.new out.old out.new err.old err.new result }
+    ensures answered { GivenAt D.facts I.facts H.facts H.stores H.made H.Port.facts H.File.facts H.Store.facts W.contents E.facts E.contents task.now given.entry history.old history.new out.old out.new err.old err.new result }
     ensures made { MakesFor task.now (H.made history.old) (H.made history.new) }
     ensures cause { OnErr result (HasFailed W.facts) }
 {
@@ -76,15 +76,16 @@ fn answer_given<D: Disk, I: Input, H: Host, W: Output, E: Output>(
         Task::Probes(task) => task.answer(alloc, sources, system.input, out, err),
         Task::Game(task) => put_answered(out, task.answer(alloc, sources)),
         Task::Record(task) => put_answered(out, task.answer(alloc, sources)),
+        Task::GameRecord(task) => task.answer(alloc, system.disk, system.host, out),
         Task::Audit(task) => put_answered(out, task.answer(alloc, sources)),
-        Task::AuditGames(task) => task.answer(alloc, sources, system.disk, out),
+        Task::AuditGames(task) => task.answer(alloc, sources, system.disk, system.host, out),
         Task::Version(task) => task.answer(out),
         Task::Send(task) => tell_silence(err, send(alloc, task, system, history, out)),
         Task::Enter(task) => enter(alloc, task, system, history, out),
         Task::Host(task) => host_games(alloc, task, sources, system, history, out),
         Task::Root(task) => task.answer(alloc, sources, system.input, out, err),
         Task::Follow(task) => task.answer(alloc, sources, system.input, out),
-        Task::Status(task) => task.answer(alloc, system.disk, out),
+        Task::Status(task) => task.answer(alloc, system.disk, system.host, out),
     }
 }
 
@@ -98,7 +99,7 @@ fn run_task<D: Disk, I: Input, H: Host, W: Output, E: Output>(
     err: &mut E,
 ) -> Result<u8, WriteFault>
     ensures quiet { tells_progress task.now ≡ false → TellsIfLost E.facts E.contents err.old err.new task.now result }
-    ensures answered { TaskAt D.facts I.facts H.facts H.made H.Port.facts H.File.facts W.contents E.facts E.contents task.now system.now history.old history.new out.old out.new err.old err.new result }
+    ensures answered { TaskAt D.facts I.facts H.facts H.stores H.made H.Port.facts H.File.facts H.Store.facts W.contents E.facts E.contents task.now system.now history.old history.new out.old out.new err.old err.new result }
     ensures made { MakesFor task.now (H.made history.old) (H.made history.new) }
     ensures cause { OnErr result (HasFailed W.facts) }
 {
@@ -127,7 +128,7 @@ fn run_by_key<D: Disk, I: Input, H: Host, W: Output, E: Output>(
     err: &mut E,
 ) -> Result<u8, WriteFault>
     ensures quiet { tells_progress task.now ≡ false → TellsIfLost E.facts E.contents err.old err.new task.now result }
-    ensures answered { SealedAt D.facts I.facts H.facts H.made H.Port.facts H.File.facts W.contents E.facts E.contents task.now system.now history.old history.new out.old out.new err.old err.new result }
+    ensures answered { SealedAt D.facts I.facts H.facts H.stores H.made H.Port.facts H.File.facts H.Store.facts W.contents E.facts E.contents task.now system.now history.old history.new out.old out.new err.old err.new result }
     ensures made { MakesFor task.now (H.made history.old) (H.made history.new) }
     ensures cause { OnErr result (HasFailed W.facts) }
 {
@@ -182,7 +183,7 @@ pub fn run<D: Disk, I: Input, H: Host, W: Output, E: Output>(
     err: &mut E,
 ) -> Result<u8, WriteFault>
     ensures quiet { err.new ≢ err.old → (result ≡ Ok 2) ⊎ ((t : Task) × IsTask (texts words.now) t × IsLoud E.facts E.contents err.old err.new t result) }
-    ensures runs { RunsProgram D.facts I.facts H.facts H.made H.Port.facts H.File.facts W.contents E.facts E.contents words.now system.now history.old history.new out.old out.new err.old err.new result }
+    ensures runs { RunsProgram D.facts I.facts H.facts H.stores H.made H.Port.facts H.File.facts H.Store.facts W.contents E.facts E.contents words.now system.now history.old history.new out.old out.new err.old err.new result }
     ensures made { Makes (texts words.now) (H.made history.old) (H.made history.new) }
     ensures cause { OnErr result (HasFailed W.facts) }
 {
@@ -238,7 +239,7 @@ pub fn run_program<D: Disk, I: Input, H: Host, W: Output, E: Output>(
     out: &mut W,
     err: &mut E,
 ) -> Result<u8, WriteFault>
-    ensures runs { Calls D.facts I.facts H.facts H.made H.Port.facts H.File.facts W.contents E.facts E.contents called.now system.now history.old history.new out.old out.new err.old err.new result }
+    ensures runs { Calls D.facts I.facts H.facts H.stores H.made H.Port.facts H.File.facts H.Store.facts W.contents E.facts E.contents called.now system.now history.old history.new out.old out.new err.old err.new result }
     ensures made { MakesCalled (called_by called.now) (H.made history.old) (H.made history.new) }
     ensures cause { OnErr result (HasFailed W.facts) }
 {

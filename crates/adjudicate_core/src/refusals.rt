@@ -38,6 +38,8 @@ pub(crate) enum Refusal {
     Keeper,
     /// Another process has what is kept.
     InUse,
+    /// The store of a folder can't be opened, read or written.
+    Store,
     /// Something can't be read.
     Files,
     /// The group or others may do anything with the file of keys.
@@ -151,6 +153,7 @@ impl Refusal {
             Refusal::Port => LineWords::of("refused port"),
             Refusal::Keeper => LineWords::of("refused keeper"),
             Refusal::InUse => LineWords::of("refused in use"),
+            Refusal::Store => LineWords::of("refused store"),
             Refusal::Files => LineWords::of("refused files"),
             Refusal::SharedKey => LineWords::of("refused key shared"),
             Refusal::Key(number) => numbered("refused key ", *number),

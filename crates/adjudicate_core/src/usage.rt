@@ -36,6 +36,8 @@ pub enum Wanted {
     AtOnce,
     /// Which lines of a host are written.
     Log,
+    /// Where a host keeps records.
+    Store,
     /// The file of the game that is sent.
     GameFile,
 }
@@ -57,6 +59,7 @@ impl Wanted {
             Wanted::Address => "--bind ",
             Wanted::AtOnce => "--at-once ",
             Wanted::Log => "--log ",
+            Wanted::Store => "--store ",
             Wanted::GameFile => "--game ",
         }
     }
@@ -77,6 +80,7 @@ impl Wanted {
             }
             Wanted::Address => ": ADDR, a host, a colon and a port",
             Wanted::Log => ": all, changes or none",
+            Wanted::Store => ": sqlite or files",
             Wanted::GameFile => ": FOLDER/STAMP.game, with 32 lower-case hexadecimal digits",
         }
     }

@@ -26,6 +26,7 @@ const USAGE: &str = "usage: adjudicate judge [--tables DIR] [--manifest FILE] FE
        adjudicate listen --name N --start FEN --tables DIR --me M --bind ADDR --to ADDR[,ADDR] --kept FILE
                          [--datagrams N] [--delay N] [--fetch] [--ready] [--key FILE]
        adjudicate record FILE
+       adjudicate record --games DIR STAMP
        adjudicate audit --name N --start FEN --tables DIR [--manifest FILE] [--delay N] FILE [FILE]
        adjudicate audit --games DIR [--other DIR] --tables DIR [--manifest FILE]
        adjudicate status --games DIR [--other DIR]
@@ -35,7 +36,8 @@ const USAGE: &str = "usage: adjudicate judge [--tables DIR] [--manifest FILE] FE
        adjudicate enter --name N --start FEN --tables DIR [--manifest FILE] [--delay N] --games DIR
        adjudicate enter --from FILE --tables DIR [--manifest FILE] --games DIR
        adjudicate host --games DIR --tables DIR [--manifest FILE] --me M --bind ADDR --to ADDR[,ADDR]
-                       [--at-once N] [--cache N] [--datagrams N] [--log FORM] [--log-failures-ignored] [--key FILE]
+                       [--at-once N] [--cache N] [--datagrams N] [--log FORM] [--log-failures-ignored]
+                       [--store FORM] [--key FILE]
        adjudicate version
        adjudicate --version
 ";

@@ -5,11 +5,13 @@ ghost use Rattle.clap.specs.Words.{first_value, found_of};
 ghost use Rattle.move_msg.specs.Stamps.{IsGameName};
 ghost use Rattle.adjudicate_core.specs.Addresses.{AreAddresses, AreRecipients, IsAddressIfAny};
 ghost use Rattle.adjudicate_core.specs.Misuses.{AreGameWords, AreWell, IsFirstMisuse, IsToldMisuse, NoOption, NoWord, NotWith, Unfit, WordNotWith, fault_words, game_faults, me_faults, name_faults, recipient_faults, to_faults};
-ghost use Rattle.adjudicate_core.specs.Numbers.{IsAtOnce, IsCache, IsDatagrams, IsDelay, IsHundredOr, IsLog, IsMe};
+ghost use Rattle.adjudicate_core.specs.Numbers.{IsAtOnce, IsCache, IsDatagrams, IsDelay, IsHundredOr, IsLog, IsMe, IsStore};
 
 use crate::addresses::{are_addresses, are_recipients, is_address};
 use crate::game_name::GameName;
-use crate::numbers::{CacheSize, Delay, at_once_of, datagrams_of, hundred_or, log_of, me_of};
+use crate::numbers::{
+    CacheSize, Delay, StoreForm, at_once_of, datagrams_of, hundred_or, log_of, me_of, store_of,
+};
 use crate::usage::{Instead, ValueFault, Wanted};
 use arbiter_server::LogForm;
 use clap::ArgMatches;
@@ -223,6 +225,18 @@ pub(crate) fn log_in<'a>(matches: &ArgMatches<'a>) -> Result<LogForm, ValueFault
     match log_of(text) {
         Some(form) => Ok(form),
         None => Err(ValueFault::Unfit(Wanted::Log, text.unwrap_or(""))),
+    }
+}
+
+/// Where records are kept.
+pub(crate) fn store_in<'a>(matches: &ArgMatches<'a>) -> Result<StoreForm, ValueFault<'a>>
+    ensures ok { IfOk result (IsStore (first_value (found_of matches.now) (codes "store"))) }
+    ensures err { IfErr result (λ fault. IsToldMisuse (first_value (found_of matches.now)) (Unfit Wanted.Store) (fault_words fault)) }
+{
+    let text = matches.get_str("store");
+    match store_of(text) {
+        Some(form) => Ok(form),
+        None => Err(ValueFault::Unfit(Wanted::Store, text.unwrap_or(""))),
     }
 }
 

@@ -222,65 +222,65 @@ runs_on set seat runs = cond-false seat.state.is_down (Shut seat.keeper) (Open (
 is_shut : {K : Type 0} (set : Holding) (seat : Seat K) → seat.state.is_down ≡ true → life_at (moment_of set seat) ≡ Shut seat.keeper
 is_shut set seat down = cond-true seat.state.is_down (Shut seat.keeper) (Open (moment_of set seat)) down
 
-module _ {K : Type 0} (s : Keepers K) (t : CommonView) (last : LastDone) (k k' : ℕ) (old new : GivesKeepers K) (at at' : OpenSeats K) (stamp : List ℕ) (before after : Seat K) (e : Exchange K) (may : MayAnswer t.at_once (suc k) last stamp) (sorted : stamp_for e.datagram ≡ Some stamp) (delivered : Delivers s.facts (moment_of t.set before) e) (is : e.after ≡ moment_of t.set after) where
+module _ {K : Type 0} (s : Keepers K) (t : CommonView) (last : LastDone) (k k' : ℕ) (old mid new : GivesKeepers K) (at at' : OpenSeats K) (stamp : List ℕ) (before after : Seat K) (e : Exchange K) (may : MayAnswer t.at_once (suc k) last stamp) (noted : (next : K) → mid stamp next → s.follows after.keeper next) (others : GivesOthers stamp old mid) (sorted : stamp_for e.datagram ≡ Some stamp) (delivered : Delivers s.facts (moment_of t.set before) e) (is : e.after ≡ moment_of t.set after) where
   answers_on : (life l : Life K) → life ≡ Open (moment_of t.set before) → l ≡ life_at (moment_of t.set after) → GoesByAct s t stamp life (Answers stamp e) l
   answers_on life l was now = subst (λ (x : Life K). GoesByAct s t stamp x (Answers stamp e) l) (sym was) (delivered, now ∙ ap life_at (sym is))
 
   -- its keeper still keeps, and it stays in hand
   pub answers_to : IsSeatAtRest s.facts t.set after → after.state.is_down ≡ false
-      → LeadsFrom s t (HasAnswered stamp) (suc k) old (in_hand stamp (Some after) at) new at' k' []
+      → LeadsFrom s t (HasAnswered stamp) (suc k) mid (in_hand stamp (Some after) at) new at' k' []
       → LeadsFromBy s t stamp e.datagram last (suc k) old (in_hand stamp (Some before) at) new at' k' (effects_with [] (exchange_reply stamp e))
   answers_to rests runs more = λ lives stand.
       let there : StandsForLife s t (old stamp) (Some before) (lives stamp) = subst (λ (x : Option (Seat K)). StandsForLife s t (old stamp) x (lives stamp)) (holds_it stamp before at) (stand stamp) in
-      let one : LeadsOne s t (Answers stamp e) lives old (in_hand stamp (Some after) at) =
-      one_act s t old old (in_hand stamp (Some before) at) (in_hand stamp (Some after) at) lives stamp (Answers stamp e) (Open (moment_of t.set after)) refl sorted
+      let one : LeadsOne s t (Answers stamp e) lives mid (in_hand stamp (Some after) at) =
+      one_act s t old mid (in_hand stamp (Some before) at) (in_hand stamp (Some after) at) lives stamp (Answers stamp e) (Open (moment_of t.set after)) refl sorted
       (answers_on (lives stamp) (Open (moment_of t.set after)) there.1 (sym (runs_on t.set after runs)))
-      (subst (λ (x : Option (Seat K)). StandsForLife s t (old stamp) x (Open (moment_of t.set after))) (sym (holds_it stamp after at)) (record { rests = rests; runs = runs }, refl))
-      (λ other _ keeper given. given)
+      (subst (λ (x : Option (Seat K)). StandsForLife s t (mid stamp) x (Open (moment_of t.set after))) (sym (holds_it stamp after at)) (record { seated = record { rests = rests; runs = runs }; noted = noted }, refl))
+      others
       (λ other e. cond-false (bytes_eq stamp other) (Some after) (at other) e ∙ sym (cond-false (bytes_eq stamp other) (Some before) (at other) e)) stand in
-      answer_rest s t last stamp e (suc k) k' old new (in_hand stamp (Some after) at) at' lives [] may (ap (λ (m : Moment K). m.arbiter.is_down) is ∙ runs) one more
+      answer_rest s t last stamp e (suc k) k' mid new (in_hand stamp (Some after) at) at' lives [] may (ap (λ (m : Moment K). m.arbiter.is_down) is ∙ runs) one more
 
   -- its keeper failed, and it is closed
-  pub fails_to : after.state.is_down ≡ true → at stamp ≡ None → ((other : List ℕ) → at' other ≡ at other) → ((next : K) → new stamp next → s.follows after.keeper next) → GivesOthers stamp old new
+  pub fails_to : after.state.is_down ≡ true → at stamp ≡ None → ((other : List ℕ) → at' other ≡ at other) → ((next : K) → new stamp next → s.follows after.keeper next) → GivesOthers stamp mid new
       → LeadsFromBy s t stamp e.datagram last (suc k) old (in_hand stamp (Some before) at) new at' k (effects_with [] (exchange_reply stamp e))
-  fails_to down absent same left others = λ lives stand.
+  fails_to down absent same left more = λ lives stand.
       let there : StandsForLife s t (old stamp) (Some before) (lives stamp) = subst (λ (x : Option (Seat K)). StandsForLife s t (old stamp) x (lives stamp)) (holds_it stamp before at) (stand stamp) in
       answer_alone s t last stamp e k new at' lives may (ap (λ (m : Moment K). m.arbiter.is_down) is ∙ down)
       (one_act s t old new (in_hand stamp (Some before) at) at' lives stamp (Answers stamp e) (Shut after.keeper) refl sorted
       (answers_on (lives stamp) (Shut after.keeper) there.1 (sym (is_shut t.set after down)))
       (subst (λ (x : Option (Seat K)). StandsForLife s t (new stamp) x (Shut after.keeper)) (sym (same stamp ∙ absent)) left)
-      others (λ other e. same other ∙ sym (cond-false (bytes_eq stamp other) (Some before) (at other) e)) stand)
+      (λ other apart keeper given. others other apart keeper (more other apart keeper given)) (λ other e. same other ∙ sym (cond-false (bytes_eq stamp other) (Some before) (at other) e)) stand)
 
 pub runs_not : (b : Bool) → b ≡ true → b ≡ false → ⊥
 runs_not b up down = let wrong : true ≡ false = sym up ∙ down in cc
 
 -- so a game in hand answers, whichever it is
-by_keeper : {K : Type 0} (s : Keepers K) (t : CommonView) (last : LastDone) (k k' : ℕ) (old new : GivesKeepers K) (at at' : OpenSeats K) (stamp : List ℕ) (before after : Seat K) (e : Exchange K) (b : Bool) → after.state.is_down ≡ b → MayAnswer t.at_once (suc k) last stamp → stamp_for e.datagram ≡ Some stamp → Delivers s.facts (moment_of t.set before) e → e.after ≡ moment_of t.set after
+by_keeper : {K : Type 0} (s : Keepers K) (t : CommonView) (last : LastDone) (k k' : ℕ) (old mid new : GivesKeepers K) (at at' : OpenSeats K) (stamp : List ℕ) (before after : Seat K) (e : Exchange K) (b : Bool) → after.state.is_down ≡ b → MayAnswer t.at_once (suc k) last stamp → ((next : K) → mid stamp next → s.follows after.keeper next) → GivesOthers stamp old mid → stamp_for e.datagram ≡ Some stamp → Delivers s.facts (moment_of t.set before) e → e.after ≡ moment_of t.set after
     → at stamp ≡ None → IsSeatAtRest s.facts t.set after
-    → (after.state.is_down ≡ false → LeadsFrom s t (HasAnswered stamp) (suc k) old (in_hand stamp (Some after) at) new at' k' [])
-    → (after.state.is_down ≡ true → ((next : K) → new stamp next → s.follows after.keeper next) × GivesOthers stamp old new × ((other : List ℕ) → at' other ≡ at other) × (k' ≡ k))
+    → (after.state.is_down ≡ false → LeadsFrom s t (HasAnswered stamp) (suc k) mid (in_hand stamp (Some after) at) new at' k' [])
+    → (after.state.is_down ≡ true → ((next : K) → new stamp next → s.follows after.keeper next) × GivesOthers stamp mid new × ((other : List ℕ) → at' other ≡ at other) × (k' ≡ k))
     → LeadsFromBy s t stamp e.datagram last (suc k) old (in_hand stamp (Some before) at) new at' k' (effects_with [] (exchange_reply stamp e))
-by_keeper s t last k k' old new at at' stamp before after e true is may sorted delivered later absent rests runs down =
+by_keeper s t last k k' old mid new at at' stamp before after e true is may noted others sorted delivered later absent rests runs down =
     let d = down is in
     subst (λ (m : ℕ). LeadsFromBy s t stamp e.datagram last (suc k) old (in_hand stamp (Some before) at) new at' m (effects_with [] (exchange_reply stamp e))) (sym d.3)
-    (fails_to s t last k k' old new at at' stamp before after e may sorted delivered later is absent d.2 d.0 d.1)
-by_keeper s t last k k' old new at at' stamp before after e false is may sorted delivered later absent rests runs down =
-    answers_to s t last k k' old new at at' stamp before after e may sorted delivered later rests is (runs is)
+    (fails_to s t last k k' old mid new at at' stamp before after e may noted others sorted delivered later is absent d.2 d.0 d.1)
+by_keeper s t last k k' old mid new at at' stamp before after e false is may noted others sorted delivered later absent rests runs down =
+    answers_to s t last k k' old mid new at at' stamp before after e may noted others sorted delivered later rests is (runs is)
 
 -- to whichever datagram says its message
-pub answers_reply : {K : Type 0} (s : Keepers K) (t : CommonView) (last : LastDone) (k k' : ℕ) (old new : GivesKeepers K) (at at' : OpenSeats K) (stamp : List ℕ) (message : Message) (before after : Seat K) (outputs : List Message) (line : List ℕ) → MayAnswer t.at_once (suc k) last stamp → stamp ≡ (stamp_in message).0
+pub answers_reply : {K : Type 0} (s : Keepers K) (t : CommonView) (last : LastDone) (k k' : ℕ) (old mid new : GivesKeepers K) (at at' : OpenSeats K) (stamp : List ℕ) (message : Message) (before after : Seat K) (outputs : List Message) (line : List ℕ) → MayAnswer t.at_once (suc k) last stamp → ((next : K) → mid stamp next → s.follows after.keeper next) → GivesOthers stamp old mid → stamp ≡ (stamp_in message).0
     → at stamp ≡ None → IsSeatAtRest s.facts t.set after → IsMessageAnswered s.facts (moment_of t.set before) message (moment_of t.set after) outputs line
-    → (after.state.is_down ≡ false → LeadsFrom s t (HasAnswered stamp) (suc k) old (in_hand stamp (Some after) at) new at' k' [])
-    → (after.state.is_down ≡ true → ((next : K) → new stamp next → s.follows after.keeper next) × GivesOthers stamp old new × ((other : List ℕ) → at' other ≡ at other) × (k' ≡ k))
+    → (after.state.is_down ≡ false → LeadsFrom s t (HasAnswered stamp) (suc k) mid (in_hand stamp (Some after) at) new at' k' [])
+    → (after.state.is_down ≡ true → ((next : K) → new stamp next → s.follows after.keeper next) × GivesOthers stamp mid new × ((other : List ℕ) → at' other ≡ at other) × (k' ≡ k))
     → (datagram : List ℕ) → heard_in datagram ≡ Ok message
     → LeadsFromBy s t stamp datagram last (suc k) old (in_hand stamp (Some before) at) new at' k' (effects_with [] (record { datagram = datagram; outputs = outputs; line = stamped stamp line }))
-answers_reply {K = K} s t last k k' old new at at' stamp message before after outputs line may own absent rests here runs down datagram says =
+answers_reply {K = K} s t last k k' old mid new at at' stamp message before after outputs line may noted others own absent rests here runs down datagram says =
     let was : View = (moment_of t.set before).arbiter in
     let same : answer_at was datagram ≡ answer_to_any was message = ap (λ (h : Result Message MessageFault). answer_of was (in_game was.me.stamp h)) says in
     let sorted : stamp_for datagram ≡ Some stamp = ap stamp_by says ∙ ap Some (sym own) in
     let x : Exchange K = exchange datagram here.told (moment_of t.set after) in
     let delivered : Delivers s.facts (moment_of t.set before) x = subst (λ (a : Answer). Answered s.facts (moment_of t.set before) a here.told (moment_of t.set after)) (sym same) here.answers in
     let leads : LeadsFromBy s t stamp datagram last (suc k) old (in_hand stamp (Some before) at) new at' k' (effects_with [] (exchange_reply stamp x)) =
-    by_keeper s t last k k' old new at at' stamp before after x after.state.is_down refl may sorted delivered refl absent rests runs down in
+    by_keeper s t last k k' old mid new at at' stamp before after x after.state.is_down refl may noted others sorted delivered refl absent rests runs down in
     subst (λ (o : List Message). LeadsFromBy s t stamp datagram last (suc k) old (in_hand stamp (Some before) at) new at' k' (effects_with [] (record { datagram = datagram; outputs = o; line = stamped stamp line }))) (sym here.outputs_are)
     (subst (λ (l : List ℕ). LeadsFromBy s t stamp datagram last (suc k) old (in_hand stamp (Some before) at) new at' k' (effects_with [] (record { datagram = datagram; outputs = outputs_of here.told; line = stamped stamp l }))) (sym here.line_is) leads)

@@ -1,80 +1,175 @@
--- A host's run, and one more datagram after it.
-use Rattle.std.proofs.Common.{◌≡◌, ℕ, ◌+◌, ◌<◌, ◌≤◌, Bool, true, false, List, [], ◌∷◌, ◌++◌, length, map, Option, None, refl, sym, ap, subst, ◌∙◌, append-nil, length-append, arith}
+-- A host's run, and one more round after it.
+use Rattle.std.proofs.Common.{◌≡◌, ℕ, ◌+◌, ◌<◌, ◌≤◌, List, [], ◌∷◌, ◌++◌, length, map, Option, None, refl, sym, ap, subst, ◌∙◌, append-nil, append_assoc, length-append, arith, ◌⊎◌, inl, inr, suc, Some}
 use Rattle.std.specs.Prelude.{Result, Ok, Err, IfOk}
-use Rattle.std.specs.List.{flat_map}
-use Rattle.std.proofs.lemmas.List.{length-map, map-append}
+use Rattle.std.specs.List.{AllByRecursion, flat_map}
+use Rattle.std.proofs.lemmas.List.{length-map, map-append, nil_from_length}
 use Rattle.std.proofs.lemmas.List.Concat.{flat_map-append}
 use Rattle.arbiter_core.specs.Keeping.{KeeperFacts}
 use Rattle.system_io.specs.Histories.{Passes}
 use Rattle.system_io.specs.Hosts.{Made}
-use Rattle.system_io.specs.Ports.{Came, Passed, Passing, PortFacts}
+use Rattle.system_io.specs.Ports.{Missed, Passed, Passing, PortFacts}
 use Rattle.system_io.proofs.HistoryLaws.{Passes-nil, Passes-trans}
-use Rattle.arbiter_server.specs.Serving.{handed}
-use Rattle.system_io.specs.Failures.{Risen}
 use Rattle.system_io.specs.declared.output.WriteFault.{WriteFault}
 use Rattle.arbiter_server.specs.GoingOut.{GoOut, LastIsCut, LinesEnd, Writers}
-use Rattle.arbiter_server.specs.ServedLines.{refused_port}
+use Rattle.arbiter_server.specs.ServedLines.{refused_port, refused_store}
 use Rattle.arbiter_server.proofs.PortLaws.{Passed-nil, Passed-on, Passed-trans, Risen-later}
 use Rattle.arbiter_server.proofs.GoingLaws.{cut_later, go_join, none_out}
 use Rattle.arbiter_server.specs.declared.seat.Seat.{Seat}
-use Rattle.arbiter_server.specs.Folders.{FolderFacts, GivesKeepers, Keepers, keepers, keepers_at}
-use Rattle.arbiter_server.specs.Acts.{Act, DatagramReply, Otherwise, all_replies, passing_at}
+use Rattle.arbiter_server.specs.declared.server.AfterRound.{AfterRound}
+use Rattle.arbiter_server.specs.declared.server.AfterRound.TheVariants.{GoesOn, Stops}
+use Rattle.arbiter_server.specs.Folders.{FolderFacts, GivesKeepers, GivesLess, Keepers, keepers, keepers_at}
+use Rattle.arbiter_server.specs.Acts.{Act, DatagramReply, Otherwise, all_replies}
 use Rattle.arbiter_server.specs.Games.{CommonView, Fresh, Life, Open, Shut}
 use Rattle.arbiter_server.specs.Room.{at_stamp}
+use Rattle.arbiter_server.specs.Rounds.{IsRound, Round, replies_of_rounds, round_came, round_passing}
 use Rattle.arbiter_server.specs.Seats.{OpenSeats, StandsForLife}
 use Rattle.arbiter_server.specs.Servers.{ServerView, Stays}
-use Rattle.arbiter_server.specs.Hosts.{Ends, EndsAtCut, GivesWhatIsLeft, Hosts, all_lines, all_passing, missed_if}
-use Rattle.arbiter_server.specs.Turns.{Effect, HasServed, Leads, LeadsFrom, Receives, ShutsFrom, TakesTurn, TurnsTo, all_effects, effects_of, effects_with, replies_in, taken_by_effects}
-use Rattle.arbiter_server.proofs.Turning.{closings_open, closings_say, each_join, goes_still, leads_join, openings_join, replies_join, replies_with, taken_join, taken_with, their_replies, they_take}
+use Rattle.arbiter_server.specs.Hosts.{Ends, GivesWhatIsLeft, Hosts, NothingLost, PortLost, StoreLost, ToldOf, all_lines, CommitsEach, FindsWhatIsKept, IsCommitted}
+use Rattle.arbiter_server.specs.Turns.{RoundComesTo, CutsAt, Dropped, Effect, HasServed, HearsAll, IsKept, Leads, LeadsFrom, LogsLines, Missing, Outcome, Sent, ShutsFrom, TakesTurn, TurnsTo, all_effects, effects_of, goes_after, logged_from, outcome_lines, replies_in, taken_by_effects, texts_after}
+use Rattle.arbiter_server.proofs.Turning.{closings_open, closings_say, each_join, leads_join, openings_join, replies_join, taken_join, their_replies, they_take, joined_acts}
 use Rattle.arbiter_server.proofs.Handing.{not_open}
-use Rattle.move_msg.specs.TextLines.{ended}
 use Rattle.arbiter_server.specs.declared.line_log.LineLog.{LineLog}
 use Rattle.arbiter_server.specs.declared.line_log.LogForm.{LogForm}
-use Rattle.arbiter_server.specs.LineLogs.{Remembers, form_of, logged, picked}
-use Rattle.arbiter_server.proofs.Logging.{logged_more, only_one, logged_none, no_texts, texts_after, texts_more}
+use Rattle.arbiter_server.specs.LineLogs.{Remembers, form_of, logged}
+use Rattle.arbiter_server.proofs.Logging.{logged_join, logged_none, no_texts, texts_join}
 
--- a datagram came, and then what is answered was sent
-pub came_and_sent : (a b c : PortFacts) (r : DatagramReply) → Passed a b (Came r.datagram ∷ []) → Passed b c (flat_map (handed b.addresses) r.outputs) → Passed a c (passing_at a.addresses r)
-came_and_sent a b c r came sent = Passed-on a b c (Came r.datagram ∷ []) (λ n. flat_map (handed n) r.outputs) came sent
+-- the lines of rounds
+abbrev pub lines_of_rounds : List Round → List (List ℕ)
+lines_of_rounds rounds = map (λ (r : DatagramReply). r.line) (replies_of_rounds rounds)
+
+abbrev lines_of_one : Round → List (List ℕ)
+lines_of_one round = map (λ (r : DatagramReply). r.line) round.replies
 
 -- so many datagrams came and were answered
-pub record HasHosted {K W : Type 0} (s : Keepers K) (t : CommonView) (w : Writers W) (form : LogForm) (log : LineLog) (gives : GivesKeepers K) (at : OpenSeats K) (k0 : ℕ) (file : List ℕ → Made) (made made' : Option (List Made)) (port now : PortFacts) (out out' : W) (n : ℕ) : Type 0 where
+pub record HasHosted {G K W : Type 0} (s : Keepers K) (t : CommonView) (finds : G → GivesKeepers K) (w : Writers W) (form : LogForm) (log : LineLog) (gives : GivesKeepers K) (at : OpenSeats K) (k0 : ℕ) (file : List ℕ → List Made) (made made' : Option (List Made)) (port now : PortFacts) (out out' : W) (n : ℕ) : Type 0 where
   pub effects : List Effect
-  pub replies : List DatagramReply
-  pub replies_are : replies_in effects ≡ replies
+  pub rounds : List Round
+  pub are_rounds : AllByRecursion (IsRound t.together) rounds
+  pub replies_are : replies_in effects ≡ replies_of_rounds rounds
   pub leads : Leads s t Otherwise 0 (λ stamp. Fresh) gives at k0 effects
-  pub makes : Passes made made' (map file (taken_by_effects effects))
-  pub passed : Passed port now (flat_map (passing_at port.addresses) replies)
-  pub lines : GoOut w out (logged form (map (λ (r : DatagramReply). r.line) replies)) out'
-  pub remembered : Remembers log (texts_after [] (map (λ (r : DatagramReply). r.line) replies))
+  pub makes : Passes made made' (flat_map file (taken_by_effects effects))
+  pub passed : Passed port now (flat_map (round_passing port.addresses) rounds)
+  pub lines : GoOut w out (logged form (lines_of_rounds rounds)) out'
+  pub remembered : Remembers log (texts_after [] (lines_of_rounds rounds))
   pub same : form_of log ≡ form
-  pub came : length replies ≡ n
+  pub came : length (replies_of_rounds rounds) ≡ n
+  pub committed : CommitsEach s t finds leads.acts rounds
 
--- of one line after these texts, what is picked of it goes out, and it is remembered
-pub record IsTold {W : Type 0} (w : Writers W) (form : LogForm) (before : List (List ℕ)) (log : LineLog) (line : List ℕ) (out out' : W) : Type 0 where
-  pub went : GoOut w out (picked form before line) out'
-  pub after : Remembers log (ended line ∷ before)
-  pub same : form_of log ≡ form
+-- ---- what is committed
 
--- what is made by some effects, and by those for one datagram more
-made_more : (file : List ℕ → Made) (made mid last : Option (List Made)) (effects : List Effect) (more : List (List ℕ)) (r : DatagramReply) → Passes made mid (map file (taken_by_effects effects)) → Passes mid last (map file more) → Passes made last (map file (taken_by_effects (effects ++ effects_with more r)))
-made_more file made mid last effects more r had one =
-    let taken : taken_by_effects (effects ++ effects_with more r) ≡ taken_by_effects effects ++ more = taken_join effects (effects_with more r) ∙ ap (λ (ms : List (List ℕ)). taken_by_effects effects ++ ms) (taken_with more r) in
-    subst (λ (ms : List Made). Passes made last ms) (sym (ap (map file) taken ∙ map-append file (taken_by_effects effects) more))
-    (Passes-trans made mid last (map file (taken_by_effects effects)) (map file more) had one)
+-- with acts after them
+committed_more : {G K : Type 0} (s : Keepers K) (t : CommonView) (finds : G → GivesKeepers K) (acts all : List (Act K)) (rounds : List Round) (more : List (Act K)) → all ≡ acts ++ more → IsCommitted s t finds acts rounds → IsCommitted s t finds all rounds
+committed_more {K = K} s t finds acts all rounds more is c = record {
+  first = c.first;
+  rest = c.rest ++ more;
+  are = is ∙ ap (λ (as' : List (Act K)). as' ++ more) c.are ∙ append_assoc c.first c.rest more;
+  answered = c.answered;
+  games = c.games;
+  each = c.each;
+  folder = c.folder;
+  found = c.found;
+}
 
--- what is made by some effects, and nothing after it
-made_still : (file : List ℕ → Made) (made mid last : Option (List Made)) (effects : List Effect) → Passes made mid (map file (taken_by_effects effects)) → Passes mid last [] → Passes made last (map file (taken_by_effects effects))
-made_still file made mid last effects had none = subst (λ (ms : List Made). Passes made last ms) (append-nil (map file (taken_by_effects effects))) (Passes-trans made mid last (map file (taken_by_effects effects)) [] had none)
+commits_more : {G K : Type 0} (s : Keepers K) (t : CommonView) (finds : G → GivesKeepers K) (acts all : List (Act K)) (rounds : List Round) (more : List (Act K)) → all ≡ acts ++ more → CommitsEach s t finds acts rounds → CommitsEach s t finds all rounds
+commits_more s t finds acts all rounds more is each = λ first later split some. committed_more s t finds acts all first more is (each first later split some)
 
-replies_more : (effects : List Effect) (replies : List DatagramReply) (more : List (List ℕ)) (r : DatagramReply) → replies_in effects ≡ replies → replies_in (effects ++ effects_with more r) ≡ replies ++ r ∷ []
-replies_more effects replies more r is = replies_join effects (effects_with more r) ∙ ap (λ (rs : List DatagramReply). rs ++ replies_in (effects_with more r)) is ∙ ap (λ (rs : List DatagramReply). replies ++ rs) (replies_with more r)
+-- rounds with one behind them are split behind it, or before
+split_last : {X : Type 0} (xs : List X) (x : X) (first later : List X) → xs ++ x ∷ [] ≡ first ++ later → (later ≡ []) ⊎ ((l : List X) × (xs ≡ first ++ l))
+split_last xs x [] later e = inr (xs, refl)
+split_last [] x (f ∷ []) later e = inl (let n : length (x ∷ []) ≡ suc (length later) = ap length e in nil_from_length later (omega (arith, n)))
+split_last [] x (f ∷ g ∷ fs) later e = absurd (let n : length (x ∷ []) ≡ suc (suc (length (fs ++ later))) = ap length e in omega (arith, n))
+split_last (y ∷ xs) x (f ∷ fs) later e =
+    let whole : y ∷ (xs ++ x ∷ []) ≡ f ∷ (fs ++ later) = e in
+    let tails : xs ++ x ∷ [] ≡ fs ++ later = cc in
+    elim (split_last xs x fs later tails) [
+      | inl none ↦ inl none
+      | inr rest ↦ inr (rest.0, (let same : xs ≡ fs ++ rest.0 = rest.1 in cc))
+    ]
 
-module _ {K W : Type 0} (s : Keepers K) (t : CommonView) (w : Writers W) (form : LogForm) where
-  pub none_hosted : (log : LineLog) (gives : GivesKeepers K) (at : OpenSeats K) (k0 : ℕ) (file : List ℕ → Made) (made : Option (List Made)) (port : PortFacts) (out : W) → form_of log ≡ form → Remembers log [] → k0 ≡ 0 → ((stamp : List ℕ) → at stamp ≡ None) → HasHosted s t w form log gives at k0 file made made port port out out 0
+commit_at : {G K : Type 0} (s : Keepers K) (t : CommonView) (finds : G → GivesKeepers K) (acts all : List (Act K)) (rounds : List Round) (r : Round) (more : List (Act K)) → all ≡ acts ++ more → CommitsEach s t finds acts rounds → IsCommitted s t finds all (rounds ++ r ∷ [])
+    → (first later : List Round) → rounds ++ r ∷ [] ≡ first ++ later → 0 < length first → (later ≡ []) ⊎ ((l : List Round) × (rounds ≡ first ++ l)) → IsCommitted s t finds all first
+commit_at s t finds acts all rounds r more is each now first later split some (inl none) = subst (IsCommitted s t finds all) (split ∙ ap (λ (l : List Round). first ++ l) none ∙ append-nil first) now
+commit_at s t finds acts all rounds r more is each now first later split some (inr rest) = committed_more s t finds acts all first more is (each first rest.0 rest.1 some)
+
+-- what a start finds of a game, where that is what the folder gives
+found_by : {K : Type 0} (s : Keepers K) (t : CommonView) (gives finds : K → Type 0) (o : Option (Seat K)) (life : Life K) → ((keeper : K) → finds keeper → gives keeper) → StandsForLife s t gives o life → FindsWhatIsKept s finds life
+found_by s t gives finds None Fresh kept h = tt
+found_by s t gives finds None (Shut left) kept h = λ next there. h next (kept next there)
+found_by s t gives finds None (Open at) kept h = absurd h
+found_by s t gives finds (Some seat) life kept h = subst (FindsWhatIsKept s finds) (sym h.1) (λ next there. h.0.noted next (kept next there))
+
+-- ---- lines
+
+module _ {W : Type 0} (w : Writers W) (form : LogForm) (xs ys : List (List ℕ)) (log log' : LineLog) (first out out' : W) (same : form_of log ≡ form) (had : GoOut w first (logged form xs) out) where
+  -- all are told
+  told_all : {T : Type 0} (x : T) → LogsLines w (texts_after [] xs) log log' ys out out' (Ok x) → GoOut w first (logged form (xs ++ ys)) out' × Remembers log' (texts_after [] (xs ++ ys)) × (form_of log' ≡ form)
+  told_all {T} x tells =
+      let all : ys ≡ tells.told = tells.are ∙ ap (λ (l : List (List ℕ)). tells.told ++ l) tells.all ∙ append-nil tells.told in
+      let went : GoOut w out (logged_from form (texts_after [] xs) ys) out' =
+      subst (λ (l : List (List ℕ)). GoOut w out (logged_from form (texts_after [] xs) l) out') (sym all) (subst (λ (f : LogForm). GoOut w out (logged_from f (texts_after [] xs) tells.told) out') same tells.went) in (
+        subst (λ (l : List (List ℕ)). GoOut w first l out') (sym (logged_join form xs ys)) (go_join w first out out' (logged form xs) (logged_from form (texts_after [] xs) ys) had went),
+        subst (Remembers log') (sym (texts_join [] xs ys)) (subst (λ (l : List (List ℕ)). Remembers log' (texts_after (texts_after [] xs) l)) (sym all) tells.after),
+        tells.same ∙ same,
+      )
+
+  -- one is cut short
+  told_cut : {T : Type 0} (most : ℕ) (fault : WriteFault) → length ys ≤ most → LogsLines {T = T} w (texts_after [] xs) log log' ys out out' (Err fault) → (told : ToldOf {T = ℕ} form most (xs ++ ys) (Err fault)) × LastIsCut w first (logged form told.told) out'
+  told_cut {T} most fault few tells =
+      let before : List (List ℕ) = texts_after [] xs in
+      let cut : CutsAt {T = T} form before tells.told (Err fault) = subst (λ (f : LogForm). CutsAt {T = T} f before tells.told (Err fault)) same tells.last in
+      let went : LastIsCut w out (logged_from form before tells.told) out' = subst (λ (f : LogForm). LastIsCut w out (logged_from f before tells.told) out') same tells.went in
+      let size : length ys ≡ length tells.told + length tells.untold = ap length tells.are ∙ length-append tells.told tells.untold in
+      let one : length tells.told ≡ length cut.0 + 1 = ap length cut.3 ∙ length-append cut.0 (cut.1 ∷ []) in (
+        record {
+          told = xs ++ tells.told;
+          untold = tells.untold;
+          are = ap (λ (l : List (List ℕ)). xs ++ l) tells.are ∙ sym (append_assoc xs tells.told tells.untold);
+          all = tt;
+          few = omega (arith, few, size, one);
+          last = (
+            xs ++ cut.0,
+            cut.1,
+            cut.2,
+            ap (λ (l : List (List ℕ)). xs ++ l) cut.3 ∙ sym (append_assoc xs cut.0 (cut.1 ∷ [])),
+            logged_join form xs tells.told ∙ ap (λ (l : List (List ℕ)). logged form xs ++ l) cut.4 ∙ sym (append_assoc (logged form xs) (logged_from form before cut.0) (cut.2 ∷ [])) ∙ ap (λ (l : List (List ℕ)). l ++ cut.2 ∷ []) (sym (logged_join form xs cut.0)),
+          );
+        },
+        subst (λ (l : List (List ℕ)). LastIsCut w first l out') (sym (logged_join form xs tells.told)) (cut_later w first out out' (logged form xs) (logged_from form before tells.told) had went),
+      )
+
+-- ---- rounds
+
+-- of so many at most, where there may be more
+round_within : (most all : ℕ) (r : Round) → most ≤ all → IsRound most r → IsRound all r
+round_within most all r le is =
+    let few = is.few in
+    record { some = is.some; few = omega (arith, few, le); full = λ whole. is.full (let w : length r.replies ≡ all = whole in omega (arith, few, le, w)) }
+
+all_rounds : (most : ℕ) (rounds : List Round) (r : Round) → AllByRecursion (IsRound most) rounds → IsRound most r → AllByRecursion (IsRound most) (rounds ++ r ∷ [])
+all_rounds most [] r are is = (is, tt)
+all_rounds most (x ∷ rounds) r are is = (are.0, all_rounds most rounds r are.1 is)
+
+replies_more : (rounds : List Round) (r : Round) → replies_of_rounds (rounds ++ r ∷ []) ≡ replies_of_rounds rounds ++ r.replies
+replies_more rounds r = flat_map-append (λ (x : Round). x.replies) rounds (r ∷ []) ∙ ap (λ (l : List DatagramReply). replies_of_rounds rounds ++ l) (append-nil r.replies)
+
+lines_more : (rounds : List Round) (r : Round) → lines_of_rounds (rounds ++ r ∷ []) ≡ lines_of_rounds rounds ++ lines_of_one r
+lines_more rounds r = ap (map (λ (x : DatagramReply). x.line)) (replies_more rounds r) ∙ map-append (λ (x : DatagramReply). x.line) (replies_of_rounds rounds) r.replies
+
+passing_more : (n : ℕ) (rounds : List Round) (r : Round) → flat_map (round_passing n) (rounds ++ r ∷ []) ≡ flat_map (round_passing n) rounds ++ round_passing n r
+passing_more n rounds r = flat_map-append (round_passing n) rounds (r ∷ []) ∙ ap (λ (l : List Passing). flat_map (round_passing n) rounds ++ l) (append-nil (round_passing n r))
+
+-- what is made by some effects, and by those after them
+made_more : (file : List ℕ → List Made) (made mid last : Option (List Made)) (effects more : List Effect) → Passes made mid (flat_map file (taken_by_effects effects)) → Passes mid last (flat_map file (taken_by_effects more)) → Passes made last (flat_map file (taken_by_effects (effects ++ more)))
+made_more file made mid last effects more had one =
+    subst (λ (ms : List Made). Passes made last ms) (sym (ap (flat_map file) (taken_join effects more) ∙ flat_map-append file (taken_by_effects effects) (taken_by_effects more)))
+    (Passes-trans made mid last (flat_map file (taken_by_effects effects)) (flat_map file (taken_by_effects more)) had one)
+
+module _ {G K W : Type 0} (s : Keepers K) (t : CommonView) (finds : G → GivesKeepers K) (w : Writers W) (form : LogForm) where
+  pub none_hosted : (log : LineLog) (gives : GivesKeepers K) (at : OpenSeats K) (k0 : ℕ) (file : List ℕ → List Made) (made : Option (List Made)) (port : PortFacts) (out : W) → form_of log ≡ form → Remembers log [] → k0 ≡ 0 → ((stamp : List ℕ) → at stamp ≡ None) → HasHosted s t finds w form log gives at k0 file made made port port out out 0
   none_hosted log gives at k0 file made port out same remembers zero none = record {
     effects = [];
-    replies = [];
+    rounds = [];
+    are_rounds = tt;
     replies_are = refl;
     leads = record {
       acts = [];
@@ -91,171 +186,235 @@ module _ {K W : Type 0} (s : Keepers K) (t : CommonView) (w : Writers W) (form :
     remembered = subst (Remembers log) (sym (no_texts [])) remembers;
     same = same;
     came = refl;
+    committed = λ first later is some. absurd (let none : 0 ≡ length first + length later = ap length is ∙ length-append first later in omega (arith, none, some));
   }
 
-  -- what passes with one more reply
-  passed_more : (port now later : PortFacts) (replies : List DatagramReply) (r : DatagramReply) → Passed port now (flat_map (passing_at port.addresses) replies) → Passed now later (passing_at now.addresses r) → Passed port later (flat_map (passing_at port.addresses) (replies ++ r ∷ []))
-  passed_more port now later replies r before one =
-      let front : List Passing = flat_map (passing_at port.addresses) replies in
-      let joined : flat_map (passing_at port.addresses) (replies ++ r ∷ []) ≡ front ++ passing_at port.addresses r =
-      flat_map-append (passing_at port.addresses) replies (r ∷ []) ∙ ap (λ (l : List Passing). front ++ l) (append-nil (passing_at port.addresses r)) in
-      subst (Passed port later) (sym joined) (Passed-on port now later front (λ n. passing_at n r) before one)
-
-  lines_more : (replies : List DatagramReply) (r : DatagramReply) → map (λ (x : DatagramReply). x.line) (replies ++ r ∷ []) ≡ map (λ (x : DatagramReply). x.line) replies ++ r.line ∷ []
-  lines_more replies r = map-append (λ (x : DatagramReply). x.line) replies (r ∷ [])
-
-  -- what a log has of one line more
-  logs_more : (lines : List (List ℕ)) (line : List ℕ) (first out out' : W) → GoOut w first (logged form lines) out → GoOut w out (picked form (texts_after [] lines) line) out' → GoOut w first (logged form (lines ++ line ∷ [])) out'
-  logs_more lines line first out out' had went = subst (λ (ls : List (List ℕ)). GoOut w first ls out') (sym (logged_more form lines line)) (go_join w first out out' _ (picked form (texts_after [] lines) line) had went)
-
-  cuts_more : (lines : List (List ℕ)) (line : List ℕ) (first out out' : W) → GoOut w first (logged form lines) out → LastIsCut w out (picked form (texts_after [] lines) line) out' → LastIsCut w first (logged form (lines ++ line ∷ [])) out'
-  cuts_more lines line first out out' had cut = subst (λ (ls : List (List ℕ)). LastIsCut w first ls out') (sym (logged_more form lines line)) (cut_later w first out out' _ (picked form (texts_after [] lines) line) had cut)
-
-  -- a line that is cut short is the last one that the log has
-  ends_at_cut : (lines : List (List ℕ)) (line : List ℕ) (out out' : W) (fault : WriteFault) → LastIsCut w out (picked form (texts_after [] lines) line) out' → EndsAtCut form (lines ++ line ∷ []) (Err fault)
-  ends_at_cut lines line out out' fault cut = (lines, line, cut.last, refl, logged_more form lines line ∙ ap (λ (ls : List (List ℕ)). logged form lines ++ ls) (only_one form (texts_after [] lines) line cut.whole cut.last cut.all))
-
-  module _ (old new : GivesKeepers K) (at at' : OpenSeats K) (k k' : ℕ) (file : List ℕ → Made) (made mid last : Option (List Made)) (port now later : PortFacts) (log log' : LineLog) (first out out' : W) (n : ℕ) (had : HasHosted s t w form log old at k file made mid port now first out n) (line : List ℕ) where
-    pub more_hosted : Receives (LeadsFrom s t Otherwise k old at new at' k') file mid last now later line false → IsTold w form (texts_after [] (map (λ (x : DatagramReply). x.line) had.replies)) log' line out out' → HasHosted s t w form log' new at' k' file made last port later first out' (n + 1)
-    more_hosted one told =
-        let r = one.0 in
-        let more : List (List ℕ) = one.1.0 in
-        let before = had.came in
-        let mapped : List (List ℕ) = map (λ (x : DatagramReply). x.line) had.replies in
-        let is : IsTold w form (texts_after [] mapped) log' r.line out out' = subst (λ (l : List ℕ). IsTold w form (texts_after [] mapped) log' l out out') one.2 told in
-        record {
-          effects = had.effects ++ effects_with more r;
-          replies = had.replies ++ r ∷ [];
-          replies_are = replies_more had.effects had.replies more r had.replies_are;
-          leads = leads_join s t Otherwise 0 k k' old new at at' (λ stamp. Fresh) had.effects (effects_with more r) had.leads one.1.2;
-          makes = made_more file made mid last had.effects more r had.makes one.1.1;
-          passed = passed_more port now later had.replies r had.passed one.3;
-          lines = subst (λ (ls : List (List ℕ)). GoOut w first (logged form ls) out') (sym (lines_more had.replies r)) (logs_more mapped r.line first out out' had.lines is.went);
-          remembered = subst (λ (ls : List (List ℕ)). Remembers log' (texts_after [] ls)) (sym (lines_more had.replies r)) (subst (Remembers log') (sym (texts_more [] mapped r.line)) is.after);
-          same = is.same;
-          came = length-append had.replies (r ∷ []) ∙ omega (arith, before);
-        }
-
-  -- all of a run, by what was hosted
-  served : (gives : GivesKeepers K) (at : OpenSeats K) (k : ℕ) (file : List ℕ → Made) (made last : Option (List Made)) (port now later : PortFacts) (first out' : W) (n : ℕ) (effects : List Effect) (replies : List DatagramReply) (lost : Bool) (ended : Result ℕ WriteFault)
-      → replies_in effects ≡ replies → Leads s t Otherwise 0 (λ stamp. Fresh) gives at k effects → Passes made last (map file (taken_by_effects effects)) → Passed port now (flat_map (passing_at port.addresses) replies)
-      → Passed now later (missed_if lost) → (lost ≡ true → Risen now.faults later.faults) → Ends n replies lost ended → LinesEnd w first (logged form (all_lines replies lost)) out' ended → EndsAtCut form (all_lines replies lost) ended
-      → HasServed s t w form n gives at k file made last port later first out' ended
-  served gives at k file made last port now later first out' n effects replies lost ended are leads makes passed missed cause ends lines last_is =
-      let count = passed.count in
-      record {
-        effects = effects;
-        leads = leads;
-        made = makes;
-        lost = lost;
-        passed = subst (λ (rs : List DatagramReply). Passed port later (all_passing port.addresses rs lost)) (sym are) (Passed-trans port now later _ (missed_if lost) passed missed);
-        cause = λ is. Risen-later port.faults now.faults later.faults count (cause is);
-        ends = subst (λ (rs : List DatagramReply). Ends n rs lost ended) (sym are) ends;
-        lines = subst (λ (rs : List DatagramReply). LinesEnd w first (logged form (all_lines rs lost)) out' ended) (sym are) lines;
-        last = subst (λ (rs : List DatagramReply). EndsAtCut form (all_lines rs lost) ended) (sym are) last_is;
-      }
-
-  never_lost : (a b : ℕ) → false ≡ true → Risen a b
-  never_lost a b e = absurd (let wrong : false ≡ true = e in cc)
-
   -- all came
-  pub served_all : (log : LineLog) (gives : GivesKeepers K) (at : OpenSeats K) (k : ℕ) (file : List ℕ → Made) (made last : Option (List Made)) (port now : PortFacts) (first out : W) (n : ℕ) → HasHosted s t w form log gives at k file made last port now first out n → HasServed s t w form n gives at k file made last port now first out (Ok 0)
-  served_all log gives at k file made last port now first out n had =
-      served gives at k file made last port now now first out n had.effects had.replies false (Ok 0) had.replies_are had.leads had.makes had.passed (Passed-nil now) (never_lost now.faults now.faults) (had.came, refl)
-      (subst (λ (ls : List (List ℕ)). GoOut w first (logged form ls) out) (sym (append-nil (map (λ (r : DatagramReply). r.line) had.replies))) had.lines) tt
+  pub served_all : (log : LineLog) (gives : GivesKeepers K) (at : OpenSeats K) (k : ℕ) (file : List ℕ → List Made) (made last : Option (List Made)) (port now : PortFacts) (first out : W) (n : ℕ) → HasHosted s t finds w form log gives at k file made last port now first out n → HasServed s t finds w form n gives at k file made last port now first out (Ok 0)
+  served_all log gives at k file made last port now first out n had = record {
+    effects = had.effects;
+    leads = had.leads;
+    made = had.makes;
+    rounds = had.rounds;
+    ending = NothingLost;
+    are_rounds = had.are_rounds;
+    is_ending = tt;
+    replies_are = had.replies_are ∙ sym (append-nil (replies_of_rounds had.rounds));
+    passed = subst (Passed port now) (sym (append-nil (flat_map (round_passing port.addresses) had.rounds))) had.passed;
+    ends = (ap length had.replies_are ∙ had.came, refl);
+    committed = had.committed;
+    told = record { told = all_lines had.rounds NothingLost; untold = []; are = sym (append-nil (all_lines had.rounds NothingLost)); all = refl; few = tt; last = tt };
+    lines = subst (λ (ls : List (List ℕ)). GoOut w first (logged form ls) out) (sym (append-nil (lines_of_rounds had.rounds))) had.lines;
+  }
 
-  module _ (old new : GivesKeepers K) (at at' : OpenSeats K) (k0 k1 : ℕ) (file : List ℕ → Made) (made mid last : Option (List Made)) (port now later : PortFacts) (log : LineLog) (first out out' : W) (k n : ℕ) (had : HasHosted s t w form log old at k0 file made mid port now first out k) (few : k < n) (line : List ℕ) where
+  module _ (old new : GivesKeepers K) (at at' : OpenSeats K) (k0 k1 : ℕ) (file : List ℕ → List Made) (made mid last : Option (List Made)) (port now later : PortFacts) (log log' : LineLog) (first out out' : W) (k most : ℕ) (had : HasHosted s t finds w form log old at k0 file made mid port now first out k) (some : 0 < most) (within : most ≤ t.together) (games : G) where
     -- what is known of lines by now
     abbrev so_far : List (List ℕ)
-    so_far = map (λ (x : DatagramReply). x.line) had.replies
+    so_far = lines_of_rounds had.rounds
 
     -- it goes on from one moment of the folder and the games to the next
-    abbrev Next : List Effect → Type 0
-    Next = LeadsFrom s t Otherwise k0 old at new at' k1
+    abbrev Onward : List Effect → Type 0
+    Onward = LeadsFrom s t Otherwise k0 old at new at' k1
 
-    -- the port is lost
-    served_until : Receives Next file mid last now later line true → GoOut w out (picked form (texts_after [] so_far) line) out' → HasServed s t w form n new at' k1 file made last port later first out' (Ok 1)
-    served_until one went =
-        let came = had.came in
-        served new at' k1 file made last port now later first out' n had.effects had.replies true (Ok 1) had.replies_are (goes_still s t Otherwise 0 k0 k1 old new at at' (λ stamp. Fresh) had.effects had.leads one.0.0) (made_still file made mid last had.effects had.makes one.0.1)
-        had.passed one.2 (λ _. one.3) (omega (arith, few, came), refl)
-        (logs_more so_far refused_port first out out' had.lines (subst (λ (l : List ℕ). GoOut w out (picked form (texts_after [] so_far) l) out') one.1 went)) tt
+    -- a start over the folder that is there then finds what it gives
+    abbrev Kept : Type 0
+    Kept = GivesLess new (finds games)
 
-    -- the line of a port that is lost is cut short
-    cut_at_loss : (fault : WriteFault) → Receives Next file mid last now later line true → LastIsCut w out (picked form (texts_after [] so_far) line) out' → HasServed s t w form n new at' k1 file made last port later first out' (Err fault)
-    cut_at_loss fault one cut =
-        let came = had.came in
-        let at_loss : LastIsCut w out (picked form (texts_after [] so_far) refused_port) out' = subst (λ (l : List ℕ). LastIsCut w out (picked form (texts_after [] so_far) l) out') one.1 cut in
-        let size : length (map (λ (r : DatagramReply). r.line) had.replies) ≡ length had.replies = length-map had.replies (λ (r : DatagramReply). r.line) in
-        let all : length (map (λ (r : DatagramReply). r.line) had.replies ++ refused_port ∷ []) ≡ length (map (λ (r : DatagramReply). r.line) had.replies) + 1 = length-append (map (λ (r : DatagramReply). r.line) had.replies) (refused_port ∷ []) in
-        served new at' k1 file made last port now later first out' n had.effects had.replies true (Err fault) had.replies_are (goes_still s t Otherwise 0 k0 k1 old new at at' (λ stamp. Fresh) had.effects had.leads one.0.0) (made_still file made mid last had.effects had.makes one.0.1)
-        had.passed one.2 (λ _. one.3) (omega (arith, few, came, size, all))
-        (cuts_more so_far refused_port first out out' had.lines at_loss) (ends_at_cut so_far refused_port out out' fault at_loss)
+    -- with a round more
+    abbrev rounds_with : Round → List Round
+    rounds_with r = had.rounds ++ r ∷ []
 
-    -- the line of a datagram is cut short
-    cut_at_reply : (fault : WriteFault) → Receives Next file mid last now later line false → LastIsCut w out (picked form (texts_after [] so_far) line) out' → HasServed s t w form n new at' k1 file made last port later first out' (Err fault)
-    cut_at_reply fault one cut =
-        let r = one.0 in
-        let more : List (List ℕ) = one.1.0 in
-        let came = had.came in
-        let all : List DatagramReply = had.replies ++ r ∷ [] in
-        let at_reply : LastIsCut w out (picked form (texts_after [] so_far) r.line) out' = subst (λ (l : List ℕ). LastIsCut w out (picked form (texts_after [] so_far) l) out') one.2 cut in
-        let lines : LastIsCut w first (logged form (map (λ (x : DatagramReply). x.line) all)) out' =
-        subst (λ (ls : List (List ℕ)). LastIsCut w first (logged form ls) out') (sym (lines_more had.replies r))
-        (cuts_more so_far r.line first out out' had.lines at_reply) in
-        let size : length (map (λ (x : DatagramReply). x.line) all) ≡ length all = length-map all (λ (x : DatagramReply). x.line) in
-        let one_more : length all ≡ length had.replies + 1 = length-append had.replies (r ∷ []) in
-        let ends : length (map (λ (x : DatagramReply). x.line) all) ≤ n = omega (arith, few, came, size, one_more) in
-        let none : map (λ (x : DatagramReply). x.line) all ++ [] ≡ map (λ (x : DatagramReply). x.line) all = append-nil (map (λ (x : DatagramReply). x.line) all) in
-        served new at' k1 file made last port later later first out' n (had.effects ++ effects_with more r) all false (Err fault) (replies_more had.effects had.replies more r had.replies_are)
-        (leads_join s t Otherwise 0 k0 k1 old new at at' (λ stamp. Fresh) had.effects (effects_with more r) had.leads one.1.2) (made_more file made mid last had.effects more r had.makes one.1.1)
-        (passed_more port now later had.replies r had.passed one.3) (Passed-nil later) (never_lost later.faults later.faults)
-        (subst (λ (ls : List (List ℕ)). length ls ≤ n) (sym none) ends)
-        (subst (λ (ls : List (List ℕ)). LastIsCut w first (logged form ls) out') (sym none) lines)
-        (subst (λ (ls : List (List ℕ)). EndsAtCut form ls (Err fault)) (sym (none ∙ lines_more had.replies r)) (ends_at_cut so_far r.line out out' fault at_reply))
+    replies_with : (rs : List DatagramReply) (h : HearsAll Onward file mid last rs) → replies_in (had.effects ++ h.effects) ≡ replies_of_rounds had.rounds ++ rs
+    replies_with rs h = replies_join had.effects h.effects ∙ ap (λ (xs : List DatagramReply). xs ++ replies_in h.effects) had.replies_are ∙ ap (λ (xs : List DatagramReply). replies_of_rounds had.rounds ++ xs) h.replies_are
 
-    served_cut : (fault : WriteFault) (lost : Bool) → Receives Next file mid last now later line lost → LastIsCut w out (picked form (texts_after [] so_far) line) out' → HasServed s t w form n new at' k1 file made last port later first out' (Err fault)
-    served_cut fault true one cut = cut_at_loss fault one cut
-    served_cut fault false one cut = cut_at_reply fault one cut
+    abbrev leads_with : (rs : List DatagramReply) (h : HearsAll Onward file mid last rs) → Leads s t Otherwise 0 (λ stamp. Fresh) new at' k1 (had.effects ++ h.effects)
+    leads_with rs h = leads_join s t Otherwise 0 k0 k1 old new at at' (λ stamp. Fresh) had.effects h.effects had.leads h.goes
 
-module _ {K W : Type 0} (s : Keepers K) (t : CommonView) (w : Writers W) (form : LogForm) (old new : GivesKeepers K) (at at' : OpenSeats K) (k0 k1 : ℕ) (file : List ℕ → Made) (made mid last : Option (List Made)) (port now later : PortFacts) (log log' : LineLog) (first out out' : W) (k : ℕ) (had : HasHosted s t w form log old at k0 file made mid port now first out k) where
-  -- what was told before
-  abbrev told_before : List (List ℕ)
-  told_before = texts_after [] (map (λ (x : DatagramReply). x.line) had.replies)
+    -- the acts of it
+    abbrev later_acts : (rs : List DatagramReply) (h : HearsAll Onward file mid last rs) → List (Act K)
+    later_acts rs h = (h.goes had.leads.new had.leads.stand).acts
 
-  -- it goes on from one moment of the folder and the games to the next
-  abbrev Onward : List Effect → Type 0
-  Onward = LeadsFrom s t Otherwise k0 old at new at' k1
+    they_join : (rs : List DatagramReply) (h : HearsAll Onward file mid last rs) → (leads_with rs h).acts ≡ had.leads.acts ++ later_acts rs h
+    they_join rs h = joined_acts s t Otherwise 0 k0 k1 old new at at' (λ stamp. Fresh) had.effects h.effects had.leads h.goes
 
-  -- the turn is taken after it
-  abbrev pub Taken : Result Bool WriteFault → Type 0
-  Taken told = (before : List (List ℕ)) → Remembers log before → TakesTurn Onward file w before log log' mid last now later out out' told
+    -- what it leaves is committed
+    commits_with : (r : Round) (h : HearsAll Onward file mid last r.replies) → Kept → CommitsEach s t finds (leads_with r.replies h).acts (rounds_with r)
+    commits_with r h kept =
+        let led = leads_with r.replies h in
+        let said : all_replies led.acts ≡ replies_of_rounds (rounds_with r) = sym (ap replies_in (sym led.effects_are) ∙ their_replies led.acts) ∙ replies_with r.replies h ∙ sym (replies_more had.rounds r) in
+        λ first later is some. commit_at s t finds had.leads.acts led.acts had.rounds r (later_acts r.replies h) (they_join r.replies h) had.committed
+        (record { first = led.acts; rest = []; are = sym (append-nil led.acts); answered = said; games = led.new; each = led.turns.each; folder = games; found = λ stamp. found_by s t (new stamp) (finds games stamp) (at' stamp) (led.new stamp) (kept stamp) (led.stand stamp) })
+        first later is some (split_last had.rounds r first later is)
 
-  -- a turn after which the run goes on
-  pub more_by_turn : (told : Result Bool WriteFault) (lost : Bool) → Taken told → told ≡ Ok lost → lost ≡ false → HasHosted s t w form log' new at' k1 file made last port later first out' (k + 1)
-  more_by_turn told lost taken is on =
-      let x : TakesTurn Onward file w told_before log log' mid last now later out out' told = taken told_before had.remembered in
-      let lines : GoOut w out (picked (form_of log) told_before x.line) out' = subst (λ (r : Result Bool WriteFault). LinesEnd w out (picked (form_of log) told_before x.line) out' r) is x.tells.lines in
-      let same : lost ≡ x.lost = subst (λ (r : Result Bool WriteFault). IfOk r (λ b. b ≡ x.lost)) is x.is in
-      let received : Receives Onward file mid last now later x.line false = subst (λ (b : Bool). Receives Onward file mid last now later x.line b) (sym same ∙ on) x.received in
-      let one : IsTold w form told_before log' x.line out out' = record { went = subst (λ (f : LogForm). GoOut w out (picked f told_before x.line) out') had.same lines; after = x.tells.after; same = x.tells.same ∙ had.same } in
-      more_hosted s t w form old new at at' k0 k1 file made mid last port now later log log' first out out' k had x.line received one
+    passed_with : (r : Round) → Passed now later (round_passing now.addresses r) → Passed port later (flat_map (round_passing port.addresses) (rounds_with r))
+    passed_with r one = subst (Passed port later) (sym (passing_more port.addresses had.rounds r)) (Passed-on port now later (flat_map (round_passing port.addresses) had.rounds) (λ n. round_passing n r) had.passed one)
 
-  -- one at which the port is lost
-  pub ends_by_loss : (n : ℕ) → k < n → (told : Result Bool WriteFault) (lost : Bool) → Taken told → told ≡ Ok lost → lost ≡ true → HasServed s t w form n new at' k1 file made last port later first out' (Ok 1)
-  ends_by_loss n few told lost taken is off =
-      let x : TakesTurn Onward file w told_before log log' mid last now later out out' told = taken told_before had.remembered in
-      let lines : GoOut w out (picked (form_of log) told_before x.line) out' = subst (λ (r : Result Bool WriteFault). LinesEnd w out (picked (form_of log) told_before x.line) out' r) is x.tells.lines in
-      let same : lost ≡ x.lost = subst (λ (r : Result Bool WriteFault). IfOk r (λ b. b ≡ x.lost)) is x.is in
-      let received : Receives Onward file mid last now later x.line true = subst (λ (b : Bool). Receives Onward file mid last now later x.line b) (sym same ∙ off) x.received in
-      served_until s t w form old new at at' k0 k1 file made mid last port now later log first out out' k n had few x.line received (subst (λ (f : LogForm). GoOut w out (picked f told_before x.line) out') had.same lines)
+    size_with : (rs : List DatagramReply) (h : HearsAll Onward file mid last rs) → length (replies_in (had.effects ++ h.effects)) ≡ k + length rs
+    size_with rs h = ap length (replies_with rs h) ∙ length-append (replies_of_rounds had.rounds) rs ∙ ap (λ (n : ℕ). n + length rs) had.came
 
-  -- one whose line is cut short
-  pub ends_by_cut : (n : ℕ) → k < n → (told : Result Bool WriteFault) (fault : WriteFault) → Taken told → told ≡ Err fault → HasServed s t w form n new at' k1 file made last port later first out' (Err fault)
-  ends_by_cut n few told fault taken is =
-      let x : TakesTurn Onward file w told_before log log' mid last now later out out' told = taken told_before had.remembered in
-      let lines : LastIsCut w out (picked (form_of log) told_before x.line) out' = subst (λ (r : Result Bool WriteFault). LinesEnd w out (picked (form_of log) told_before x.line) out' r) is x.tells.lines in
-      served_cut s t w form old new at at' k0 k1 file made mid last port now later log first out out' k n had few x.line fault x.lost x.received (subst (λ (f : LogForm). LastIsCut w out (picked f told_before x.line) out') had.same lines)
+    -- the answers of a round were sent, and its lines told
+    more_hosted : (r : Round) → IsRound most r → HearsAll Onward file mid last r.replies → Passed now later (round_passing now.addresses r) → Kept → {T : Type 0} (x : T) → LogsLines w (texts_after [] so_far) log log' (lines_of_one r) out out' (Ok x)
+        → HasHosted s t finds w form log' new at' k1 file made last port later first out' (k + length r.replies)
+    more_hosted r is h one kept {T} x tells =
+        let told = told_all w form so_far (lines_of_one r) log log' first out out' had.same had.lines x tells in
+        record {
+          effects = had.effects ++ h.effects;
+          rounds = rounds_with r;
+          are_rounds = all_rounds t.together had.rounds r had.are_rounds (round_within most t.together r within is);
+          replies_are = replies_with r.replies h ∙ sym (replies_more had.rounds r);
+          leads = leads_with r.replies h;
+          makes = made_more file made mid last had.effects h.effects had.makes h.made;
+          passed = passed_with r one;
+          lines = subst (λ (ls : List (List ℕ)). GoOut w first (logged form ls) out') (sym (lines_more had.rounds r)) told.0;
+          remembered = subst (λ (ls : List (List ℕ)). Remembers log' (texts_after [] ls)) (sym (lines_more had.rounds r)) told.1;
+          same = told.2;
+          committed = commits_with r h kept;
+          came = ap length (replies_more had.rounds r) ∙ length-append (replies_of_rounds had.rounds) r.replies ∙ ap (λ (n : ℕ). n + length r.replies) had.came;
+        }
+
+    module _ (n : ℕ) (room : k + most ≤ n) where
+      -- the port is lost
+      lost_port : (ended : Result ℕ WriteFault) → IfOk ended (λ status. status ≡ 1) → RoundComesTo Onward file Kept s.may_fail mid last most now later Missing → (told : ToldOf form t.together (so_far ++ refused_port ∷ []) ended) → LinesEnd w first (logged form told.told) out' ended
+          → HasServed s t finds w form n new at' k1 file made last port later first out' ended
+      lost_port ended status one told went =
+          let size = size_with [] one.0 in
+          let count = had.passed.count in
+          record {
+            effects = had.effects ++ one.0.effects;
+            leads = leads_with [] one.0;
+            made = made_more file made mid last had.effects one.0.effects had.makes one.0.made;
+            rounds = had.rounds;
+            ending = PortLost;
+            are_rounds = had.are_rounds;
+            is_ending = Risen-later port.faults now.faults later.faults count one.2;
+            replies_are = replies_with [] one.0;
+            passed = Passed-trans port now later (flat_map (round_passing port.addresses) had.rounds) (Missed ∷ []) had.passed one.1;
+            ends = (omega (arith, size, room, some), status);
+            committed = commits_more s t finds had.leads.acts (leads_with [] one.0).acts had.rounds (later_acts [] one.0) (they_join [] one.0) had.committed;
+            told = told;
+            lines = went;
+          }
+
+      -- a round can't be committed
+      lost_store : (r : Round) (ended : Result ℕ WriteFault) → IfOk ended (λ status. status ≡ 1) → RoundComesTo Onward file Kept s.may_fail mid last most now later (Dropped r) → (told : ToldOf form t.together (so_far ++ refused_store ∷ []) ended) → LinesEnd w first (logged form told.told) out' ended
+          → HasServed s t finds w form n new at' k1 file made last port later first out' ended
+      lost_store r ended status one told went =
+          let few = one.0.few in
+          let size = size_with r.replies one.1 in
+          record {
+            effects = had.effects ++ one.1.effects;
+            leads = leads_with r.replies one.1;
+            made = made_more file made mid last had.effects one.1.effects had.makes one.1.made;
+            rounds = had.rounds;
+            ending = StoreLost r;
+            are_rounds = had.are_rounds;
+            is_ending = (round_within most t.together r within one.0, one.3);
+            replies_are = replies_with r.replies one.1;
+            passed = Passed-trans port now later (flat_map (round_passing port.addresses) had.rounds) (round_came r) had.passed one.2;
+            ends = (omega (arith, size, few, room), status);
+            committed = commits_more s t finds had.leads.acts (leads_with r.replies one.1).acts had.rounds (later_acts r.replies one.1) (they_join r.replies one.1) had.committed;
+            told = told;
+            lines = went;
+          }
+
+      -- a line of a round is cut short
+      cut_round : (r : Round) (fault : WriteFault) → RoundComesTo Onward file Kept s.may_fail mid last most now later (Sent r) → (told : ToldOf {T = ℕ} form t.together (so_far ++ lines_of_one r) (Err fault)) → LastIsCut w first (logged form told.told) out'
+          → HasServed s t finds w form n new at' k1 file made last port later first out' (Err fault)
+      cut_round r fault one told went =
+          let few = one.0.few in
+          let size = size_with r.replies one.1 in
+          let lines : all_lines (rounds_with r) NothingLost ≡ so_far ++ lines_of_one r = append-nil (lines_of_rounds (rounds_with r)) ∙ lines_more had.rounds r in
+          record {
+            effects = had.effects ++ one.1.effects;
+            leads = leads_with r.replies one.1;
+            made = made_more file made mid last had.effects one.1.effects had.makes one.1.made;
+            rounds = rounds_with r;
+            ending = NothingLost;
+            are_rounds = all_rounds t.together had.rounds r had.are_rounds (round_within most t.together r within one.0);
+            is_ending = tt;
+            replies_are = replies_with r.replies one.1 ∙ sym (replies_more had.rounds r) ∙ sym (append-nil (replies_of_rounds (rounds_with r)));
+            passed = subst (Passed port later) (sym (append-nil (flat_map (round_passing port.addresses) (rounds_with r)))) (passed_with r one.2);
+            ends = omega (arith, size, few, room);
+            committed = commits_with r one.1 one.3;
+            told = record { told = told.told; untold = told.untold; are = lines ∙ told.are; all = tt; few = told.few; last = told.last };
+            lines = went;
+          }
+
+      -- whatever came of the round
+      ends_cut : (o : Outcome) (fault : WriteFault) → RoundComesTo Onward file Kept s.may_fail mid last most now later o → LogsLines {T = AfterRound} w (texts_after [] so_far) log log' (outcome_lines o) out out' (Err fault) → HasServed s t finds w form n new at' k1 file made last port later first out' (Err fault)
+      ends_cut (Sent r) fault one tells =
+          let few = one.0.few in
+          let size : length (lines_of_one r) ≡ length r.replies = length-map r.replies (λ (x : DatagramReply). x.line) in
+          let cut = told_cut w form so_far (lines_of_one r) log log' first out out' had.same had.lines t.together fault (omega (arith, few, size, within)) tells in
+          cut_round r fault one cut.0 cut.1
+      ends_cut (Dropped r) fault one tells =
+          let cut = told_cut w form so_far (refused_store ∷ []) log log' first out out' had.same had.lines t.together fault (omega (arith, some, within)) tells in
+          lost_store r (Err fault) tt one cut.0 cut.1
+      ends_cut Missing fault one tells =
+          let cut = told_cut w form so_far (refused_port ∷ []) log log' first out out' had.same had.lines t.together fault (omega (arith, some, within)) tells in
+          lost_port (Err fault) tt one cut.0 cut.1
+
+      -- all lines are told, and nothing is left
+      abbrev whole : (ls : List (List ℕ)) → ToldOf {T = ℕ} form t.together ls (Ok 1)
+      whole ls = record { told = ls; untold = []; are = sym (append-nil ls); all = refl; few = tt; last = tt }
+
+      ends_lost : (o : Outcome) → goes_after o ≡ Stops → RoundComesTo Onward file Kept s.may_fail mid last most now later o → LogsLines {T = AfterRound} w (texts_after [] so_far) log log' (outcome_lines o) out out' (Ok Stops) → HasServed s t finds w form n new at' k1 file made last port later first out' (Ok 1)
+      ends_lost (Sent r) stops one tells = absurd (let wrong : GoesOn (length r.replies) ≡ Stops = stops in cc)
+      ends_lost (Dropped r) stops one tells =
+          lost_store r (Ok 1) refl one (whole (so_far ++ refused_store ∷ [])) (told_all w form so_far (refused_store ∷ []) log log' first out out' had.same had.lines Stops tells).0
+      ends_lost Missing stops one tells =
+          lost_port (Ok 1) refl one (whole (so_far ++ refused_port ∷ [])) (told_all w form so_far (refused_port ∷ []) log log' first out out' had.same had.lines Stops tells).0
+
+    goes_on : (o : Outcome) (m : ℕ) → goes_after o ≡ GoesOn m → RoundComesTo Onward file Kept s.may_fail mid last most now later o → LogsLines {T = AfterRound} w (texts_after [] so_far) log log' (outcome_lines o) out out' (Ok (GoesOn m)) → HasHosted s t finds w form log' new at' k1 file made last port later first out' (k + m)
+    goes_on (Sent r) m is one tells =
+        let size : length r.replies ≡ m = (let e : GoesOn (length r.replies) ≡ GoesOn m = is in cc) in
+        subst (λ (n : ℕ). HasHosted s t finds w form log' new at' k1 file made last port later first out' (k + n)) size (more_hosted r one.0 one.1 one.2 one.3 (GoesOn m) tells)
+    goes_on (Dropped r) m is one tells = absurd (let wrong : Stops ≡ GoesOn m = is in cc)
+    goes_on Missing m is one tells = absurd (let wrong : Stops ≡ GoesOn m = is in cc)
+
+    -- how many datagrams a round may have
+    came_within : (o : Outcome) (m : ℕ) → goes_after o ≡ GoesOn m → RoundComesTo Onward file Kept s.may_fail mid last most now later o → (0 < m) × (m ≤ most)
+    came_within (Sent r) m is one =
+        let size : length r.replies ≡ m = (let e : GoesOn (length r.replies) ≡ GoesOn m = is in cc) in
+        (subst (λ (x : ℕ). 0 < x) size one.0.some, subst (λ (x : ℕ). x ≤ most) size one.0.few)
+    came_within (Dropped r) m is one = absurd (let wrong : Stops ≡ GoesOn m = is in cc)
+    came_within Missing m is one = absurd (let wrong : Stops ≡ GoesOn m = is in cc)
+
+    -- the round is taken after it
+    abbrev pub Taken : Result AfterRound WriteFault → Type 0
+    Taken told = (before : List (List ℕ)) → Remembers log before → TakesTurn Onward file Kept s.may_fail w before most log log' mid last now later out out' told
+
+    taken_now : (told : Result AfterRound WriteFault) → Taken told → TakesTurn Onward file Kept s.may_fail w (texts_after [] so_far) most log log' mid last now later out out' told
+    taken_now told taken = taken (texts_after [] so_far) had.remembered
+
+    tells_so : (told said : Result AfterRound WriteFault) → told ≡ said → (lines : List (List ℕ)) → LogsLines w (texts_after [] so_far) log log' lines out out' told → LogsLines w (texts_after [] so_far) log log' lines out out' said
+    tells_so told said is lines tells = subst (λ (r : Result AfterRound WriteFault). LogsLines w (texts_after [] so_far) log log' lines out out' r) is tells
+
+    after_is : (o : Outcome) (told : Result AfterRound WriteFault) (after : AfterRound) → told ≡ Ok after → IfOk told (λ x. x ≡ goes_after o) → goes_after o ≡ after
+    after_is o told after is h = sym (subst (λ (r : Result AfterRound WriteFault). IfOk r (λ x. x ≡ goes_after o)) is h)
+
+    -- one after which the run goes on
+    pub more_by_turn : (told : Result AfterRound WriteFault) (m : ℕ) → Taken told → told ≡ Ok (GoesOn m) → HasHosted s t finds w form log' new at' k1 file made last port later first out' (k + m)
+    more_by_turn told m taken is =
+        let x = taken_now told taken in
+        goes_on x.outcome m (after_is x.outcome told (GoesOn m) is x.is) x.comes (tells_so told (Ok (GoesOn m)) is (outcome_lines x.outcome) x.tells)
+
+    pub more_within : (told : Result AfterRound WriteFault) (m : ℕ) → Taken told → told ≡ Ok (GoesOn m) → (0 < m) × (m ≤ most)
+    more_within told m taken is =
+        let x = taken_now told taken in
+        came_within x.outcome m (after_is x.outcome told (GoesOn m) is x.is) x.comes
+
+    -- one at which the port or the store is lost
+    pub ends_by_loss : (n : ℕ) → k + most ≤ n → (told : Result AfterRound WriteFault) → Taken told → told ≡ Ok Stops → HasServed s t finds w form n new at' k1 file made last port later first out' (Ok 1)
+    ends_by_loss n room told taken is =
+        let x = taken_now told taken in
+        ends_lost n room x.outcome (after_is x.outcome told Stops is x.is) x.comes (tells_so told (Ok Stops) is (outcome_lines x.outcome) x.tells)
+
+    -- one of which a line is cut short
+    pub ends_by_cut : (n : ℕ) → k + most ≤ n → (told : Result AfterRound WriteFault) (fault : WriteFault) → Taken told → told ≡ Err fault → HasServed s t finds w form n new at' k1 file made last port later first out' (Err fault)
+    ends_by_cut n room told fault taken is =
+        let x = taken_now told taken in
+        ends_cut n room x.outcome fault x.comes (tells_so told (Err fault) is (outcome_lines x.outcome) x.tells)
 
 left_so : {K : Type 0} (s : Keepers K) (t : CommonView) (gives : K → Type 0) (life : Life K) → StandsForLife s t gives None life → GivesWhatIsLeft s gives life
 left_so s t gives Fresh h = tt
@@ -263,10 +422,10 @@ left_so s t gives (Shut left) h = h
 left_so s t gives (Open at) h = h
 
 -- the games that are open are closed
-pub hosts_closed : {K W : Type 0} (s : Keepers K) (t : CommonView) (w : Writers W) (form : LogForm) (n : ℕ) (gives gives' : GivesKeepers K) (at at' : OpenSeats K) (count : ℕ) (file : List ℕ → Made) (made last : Option (List Made)) (port port' : PortFacts) (out out' : W) (ended : Result ℕ WriteFault)
-    → HasServed s t w form n gives at count file made last port port' out out' ended → count ≤ t.at_once → ShutsFrom s t gives at gives' at' → ((stamp : List ℕ) → at' stamp ≡ None)
-    → (taken : List (List ℕ)) × Passes made last (map file taken) × Hosts s t w form n taken gives' port port' out out' ended
-hosts_closed {K = K} s t w form n gives gives' at at' count file made last port port' out out' ended had few closing none =
+pub hosts_closed : {G K W : Type 0} (s : Keepers K) (t : CommonView) (finds : G → GivesKeepers K) (w : Writers W) (form : LogForm) (n : ℕ) (gives gives' : GivesKeepers K) (at at' : OpenSeats K) (count : ℕ) (file : List ℕ → List Made) (made last : Option (List Made)) (port port' : PortFacts) (out out' : W) (ended : Result ℕ WriteFault)
+    → HasServed s t finds w form n gives at count file made last port port' out out' ended → count ≤ t.at_once → ShutsFrom s t gives at gives' at' → ((stamp : List ℕ) → at' stamp ≡ None)
+    → (taken : List (List ℕ)) × Passes made last (flat_map file taken) × (hosted : Hosts s t w form n taken gives' port port' out out' ended) × CommitsEach s t finds hosted.run.acts hosted.run.rounds
+hosts_closed {G} {K = K} s t finds w form n gives gives' at at' count file made last port port' out out' ended had few closing none =
     let ending = closing had.leads.new had.leads.stand in
     let acts : List (Act K) = had.leads.acts ++ ending.acts in
     let shut : (stamp : List ℕ) → StandsForLife s t (gives' stamp) None (ending.new stamp) = λ stamp. subst (λ (o : Option (Seat K)). StandsForLife s t (gives' stamp) o (ending.new stamp)) (none stamp) (ending.stand stamp) in
@@ -278,31 +437,37 @@ hosts_closed {K = K} s t w form n gives gives' at at' count file made last port 
       taken_by_effects had.effects,
       had.made,
       record {
-        acts = acts;
-        hosted = record {
-          games = ending.new;
-          each = turns.each;
-          sorted = turns.sorted;
-          opened = openings_join had.leads.acts ending.acts had.leads.opened (closings_open ending.acts ending.closing);
-          closed = λ stamp. not_open s t (gives' stamp) (ending.new stamp) (shut stamp);
+        run = record {
+          acts = acts;
+          hosted = record {
+            games = ending.new;
+            each = turns.each;
+            sorted = turns.sorted;
+            opened = openings_join had.leads.acts ending.acts had.leads.opened (closings_open ending.acts ending.closing);
+            closed = λ stamp. not_open s t (gives' stamp) (ending.new stamp) (shut stamp);
+          };
+          few = record { first = had.leads.acts; last = ending.acts; is = refl; count = count; room = had.leads.room; few = few; closing = ending.closing };
+          takes = sym (ap taken_by_effects (sym effects) ∙ they_take acts);
+          rounds = had.rounds;
+          ending = had.ending;
+          are_rounds = had.are_rounds;
+          is_ending = had.is_ending;
+          replies_are = sym replies ∙ had.replies_are;
+          passed = had.passed;
+          ends = subst (λ (rs : List DatagramReply). Ends n (length rs) had.ending ended) replies had.ends;
         };
-        few = record { first = had.leads.acts; last = ending.acts; is = refl; count = count; room = had.leads.room; few = few; closing = ending.closing };
-        takes = sym (ap taken_by_effects (sym effects) ∙ they_take acts);
         left = λ stamp. left_so s t (gives' stamp) (ending.new stamp) (shut stamp);
-        lost = had.lost;
-        passed = subst (λ (rs : List DatagramReply). Passed port port' (all_passing port.addresses rs had.lost)) replies had.passed;
-        cause = had.cause;
-        ends = subst (λ (rs : List DatagramReply). Ends n rs had.lost ended) replies had.ends;
-        lines = subst (λ (rs : List DatagramReply). LinesEnd w out (logged form (all_lines rs had.lost)) out' ended) replies had.lines;
-        last = subst (λ (rs : List DatagramReply). EndsAtCut form (all_lines rs had.lost) ended) replies had.last;
+        told = had.told;
+        lines = had.lines;
       },
+      commits_more s t finds had.leads.acts acts had.rounds ending.acts refl had.committed,
     )
 
--- a turn of a server, by what its games had in common and its folder at the start
-pub turn_from : {G K W : Type 0} (facts : KeeperFacts K) (folder : FolderFacts G K) (w : Writers W) (start now later : ServerView G K) → Stays folder start now → (log log' : LineLog) (had has : Option (List Made)) (port port' : PortFacts) (out out' : W) (told : Result Bool WriteFault)
-    → ((before : List (List ℕ)) → Remembers log before → TakesTurn (TurnsTo facts folder now later) (folder.taken (folder.place now.games)) w before log log' had has port port' out out' told)
+-- a round of a server, by what its games had in common and its folder at the start
+pub turn_from : {G K W : Type 0} (facts : KeeperFacts K) (folder : FolderFacts G K) (w : Writers W) (start now later : ServerView G K) → Stays folder start now → (most : ℕ) (log log' : LineLog) (had has : Option (List Made)) (port port' : PortFacts) (out out' : W) (told : Result AfterRound WriteFault)
+    → ((before : List (List ℕ)) → Remembers log before → TakesTurn (TurnsTo facts folder now later) (folder.taken (folder.place now.games)) (IsKept folder later.games) (folder.may_fail (folder.place now.games)) w before most log log' had has port port' out out' told)
     → (before : List (List ℕ)) → Remembers log before
-    → TakesTurn (LeadsFrom (keepers facts folder start.games) start.common Otherwise (length now.seats) (folder.gives now.games) (at_stamp now.seats) (folder.gives later.games) (at_stamp later.seats) (length later.seats)) (folder.taken (folder.place start.games)) w before log log' had has port port' out out' told
-turn_from facts folder w start now later stays log log' had has port port' out out' told taken before remembers =
-    subst (λ (p : folder.Place). TakesTurn (LeadsFrom (keepers_at facts folder p) start.common Otherwise (length now.seats) (folder.gives now.games) (at_stamp now.seats) (folder.gives later.games) (at_stamp later.seats) (length later.seats)) (folder.taken p) w before log log' had has port port' out out' told) stays.place
-    (subst (λ (t : CommonView). TakesTurn (LeadsFrom (keepers facts folder now.games) t Otherwise (length now.seats) (folder.gives now.games) (at_stamp now.seats) (folder.gives later.games) (at_stamp later.seats) (length later.seats)) (folder.taken (folder.place now.games)) w before log log' had has port port' out out' told) stays.common (taken before remembers))
+    → TakesTurn (LeadsFrom (keepers facts folder start.games) start.common Otherwise (length now.seats) (folder.gives now.games) (at_stamp now.seats) (folder.gives later.games) (at_stamp later.seats) (length later.seats)) (folder.taken (folder.place start.games)) (IsKept folder later.games) (folder.may_fail (folder.place start.games)) w before most log log' had has port port' out out' told
+turn_from facts folder w start now later stays most log log' had has port port' out out' told taken before remembers =
+    subst (λ (p : folder.Place). TakesTurn (LeadsFrom (keepers_at facts folder p) start.common Otherwise (length now.seats) (folder.gives now.games) (at_stamp now.seats) (folder.gives later.games) (at_stamp later.seats) (length later.seats)) (folder.taken p) (IsKept folder later.games) (folder.may_fail p) w before most log log' had has port port' out out' told) stays.place
+    (subst (λ (t : CommonView). TakesTurn (LeadsFrom (keepers facts folder now.games) t Otherwise (length now.seats) (folder.gives now.games) (at_stamp now.seats) (folder.gives later.games) (at_stamp later.seats) (length later.seats)) (folder.taken (folder.place now.games)) (IsKept folder later.games) (folder.may_fail (folder.place now.games)) w before most log log' had has port port' out out' told) stays.common (taken before remembers))

@@ -23,6 +23,9 @@ pub mod Remembers
 pub mod LogKinds
 pub mod LogLaws
 pub mod Logging
+pub mod LinesTold
+pub mod RoundLaws
+pub mod StoreLaws
 pub mod Hosted
 pub mod Histories
 pub mod WholeRuns

@@ -4,11 +4,7 @@ use Rattle.move_msg.specs.TextLines.{ended}
 use Rattle.arbiter_server.specs.declared.line_log.LogForm.{LogForm}
 use Rattle.arbiter_server.specs.declared.line_log.LogForm.TheVariants as form
 use Rattle.arbiter_server.specs.LineLogs.{changes_after, line_kind, logged, picked, picked_by}
-
--- the texts of lines behind these, the latest first
-unfoldable pub texts_after : List (List ℕ) → List (List ℕ) → List (List ℕ)
-texts_after before [] = before
-texts_after before (line ∷ lines) = texts_after (ended line ∷ before) lines
+use Rattle.arbiter_server.specs.Turns.{logged_from, texts_after}
 
 pub no_texts : (before : List (List ℕ)) → texts_after before [] ≡ before
 unfolding texts_after
@@ -30,6 +26,35 @@ pub logged_more : (f : LogForm) (lines : List (List ℕ)) (line : List ℕ) → 
 logged_more form.All lines line = refl
 logged_more form.Nothing lines line = refl
 logged_more form.Changes lines line = changes_more [] lines line
+
+pub texts_join : (before xs ys : List (List ℕ)) → texts_after before (xs ++ ys) ≡ texts_after (texts_after before xs) ys
+unfolding texts_after
+texts_join before [] ys = refl
+texts_join before (x ∷ xs) ys = texts_join (ended x ∷ before) xs ys
+
+changes_join : (before xs ys : List (List ℕ)) → changes_after before (xs ++ ys) ≡ changes_after before xs ++ changes_after (texts_after before xs) ys
+unfolding changes_after texts_after
+changes_join before [] ys = refl
+changes_join before (x ∷ xs) ys =
+    ap (λ (ls : List (List ℕ)). picked form.Changes before x ++ ls) (changes_join (ended x ∷ before) xs ys)
+    ∙ sym (append_assoc (picked form.Changes before x) (changes_after (ended x ∷ before) xs) (changes_after (texts_after (ended x ∷ before) xs) ys))
+
+pub logged_join : (f : LogForm) (xs ys : List (List ℕ)) → logged f (xs ++ ys) ≡ logged f xs ++ logged_from f (texts_after [] xs) ys
+logged_join form.All xs ys = refl
+logged_join form.Nothing xs ys = refl
+logged_join form.Changes xs ys = changes_join [] xs ys
+
+-- one line more, after any
+pub from_more : (f : LogForm) (before lines : List (List ℕ)) (line : List ℕ) → logged_from f before (lines ++ line ∷ []) ≡ logged_from f before lines ++ picked f (texts_after before lines) line
+from_more form.All before lines line = refl
+from_more form.Nothing before lines line = refl
+from_more form.Changes before lines line = changes_more before lines line
+
+pub from_none : (f : LogForm) (before : List (List ℕ)) → logged_from f before [] ≡ []
+unfolding changes_after
+from_none form.All before = refl
+from_none form.Nothing before = refl
+from_none form.Changes before = refl
 
 pub logged_none : (f : LogForm) → logged f [] ≡ []
 unfolding changes_after

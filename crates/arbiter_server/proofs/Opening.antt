@@ -77,17 +77,18 @@ module _ {K : Type 0} (s : Keepers K) (t : CommonView) (old mid : GivesKeepers K
 
   pub opened_over : (at : OpenSeats K) (r : Rest) (set : Holding) → at stamp ≡ None → set ≡ setup.set → CanWake r set × (r.is_down ≡ false) → IsKept (s.facts.kept now) (awake r set)
       → IsOpening s.facts setup before now (Ok (awake r set))
-      → LeadsOpenFrom s t stamp old at mid (in_hand stamp (Some (record { state = r; keeper = now })) at)
-  opened_over at r set absent set_is wakes keeps opening = λ lives stand.
+      → (new : GivesKeepers K) → ((next : K) → new stamp next → s.follows now next) → GivesOthers stamp mid new
+      → LeadsOpenFrom s t stamp old at new (in_hand stamp (Some (record { state = r; keeper = now })) at)
+  opened_over at r set absent set_is wakes keeps opening new left others = λ lives stand.
       let e : set ≡ t.set = set_is ∙ set_in t stamp setup game in
       let seat : Seat K = record { state = r; keeper = now } in
       let so : IsOpening s.facts setup before now (Ok (awake r t.set)) = subst (λ (x : Holding). IsOpening s.facts setup before now (Ok (awake r x))) e opening in
       let here : in_hand stamp (Some seat) at stamp ≡ Some seat = cond-true (bytes_eq stamp stamp) (Some seat) (at stamp) (itself stamp) in
-      let one : LeadsOne s t (Opens stamp (record { setup = setup; before = before; now = now }) (awake r t.set)) lives mid (in_hand stamp (Some seat) at) =
-      opens_to s t old mid at (in_hand stamp (Some seat) at) stamp (record { setup = setup; before = before; now = now }) (Ok (awake r t.set)) (Opens stamp (record { setup = setup; before = before; now = now }) (awake r t.set)) absent is given told_as game so
+      let one : LeadsOne s t (Opens stamp (record { setup = setup; before = before; now = now }) (awake r t.set)) lives new (in_hand stamp (Some seat) at) =
+      opens_to s t old new at (in_hand stamp (Some seat) at) stamp (record { setup = setup; before = before; now = now }) (Ok (awake r t.set)) (Opens stamp (record { setup = setup; before = before; now = now }) (awake r t.set)) absent is given told_as game so
       refl tt (λ old new h. h)
-      (subst (λ (x : Option (Seat K)). StandsForLife s t (mid stamp) x (Open (moment (awake r t.set) now))) (sym here) (seated_over r set set_is wakes keeps, refl))
-      (λ other _ keeper gives. same other keeper gives)
+      (subst (λ (x : Option (Seat K)). StandsForLife s t (new stamp) x (Open (moment (awake r t.set) now))) (sym here) (record { seated = seated_over r set set_is wakes keeps; noted = left }, refl))
+      (λ other apart keeper gives. same other keeper (others other apart keeper gives))
       (λ other apart. cond-false (bytes_eq stamp other) (Some seat) (at other) apart) lives stand in
       record { over = record { setup = setup; before = before; now = now }; arbiter = awake r t.set; one = one }
 

@@ -6,10 +6,10 @@ use Rattle.std.proofs.lemmas.Bool.{cond-true, cond-false}
 use Rattle.judge_core.specs.Tables.{Holding}
 use Rattle.arbiter_core.specs.Keeping.{KeeperFacts}
 use Rattle.arbiter_server.specs.declared.seat.Seat.{Seat}
-use Rattle.arbiter_server.specs.Folders.{FolderFacts, GivesKeepers, Keepers, keepers, keepers_at}
+use Rattle.arbiter_server.specs.Folders.{FolderFacts, GivesKeepers, GivesLess, GivesOthers, Keepers, keepers, keepers_at}
 use Rattle.arbiter_server.specs.Acts.{LastDone, HasAnswered, Otherwise}
 use Rattle.arbiter_server.specs.Games.{CommonView, Life, Fresh, Open}
-use Rattle.arbiter_server.specs.Seats.{OpenSeats, AreSeated, IsSeatAtRest, IsSeated, StandsForLife, in_hand, moment_of}
+use Rattle.arbiter_server.specs.Seats.{OpenSeats, AreSeated, IsNoted, IsSeatAtRest, IsSeated, StandsForLife, in_hand, moment_of}
 use Rattle.arbiter_server.specs.Turns.{Effect, LeadsFrom, LeadsFromBy, LeadsOpenFrom, ShutsFrom}
 use Rattle.arbiter_server.proofs.Turning.{itself, same_stamp}
 
@@ -38,30 +38,42 @@ module _ {K : Type 0} where
 
 -- ---- the games that are open can answer
 
-module _ {K : Type 0} (facts : KeeperFacts K) (set : Holding) where
-  pub seated_at : (at : OpenSeats K) (stamp : List ℕ) (seat : Seat K) → AreSeated facts set at → at stamp ≡ Some seat → IsSeated facts set seat
-  seated_at at stamp seat are is = subst (λ (x : Option (Seat K)). IfSome x (IsSeated facts set)) is (are stamp)
+module _ {K : Type 0} (facts : KeeperFacts K) (follows : K → K → Type 0) (set : Holding) where
+  abbrev Noted : (K → Type 0) → Seat K → Type 0
+  Noted gives = IsNoted facts follows set gives
 
-  pub none_seated : (at : OpenSeats K) → ((stamp : List ℕ) → at stamp ≡ None) → AreSeated facts set at
-  none_seated at none = λ stamp. subst (λ (x : Option (Seat K)). IfSome x (IsSeated facts set)) (sym (none stamp)) tt
+  pub seated_at : (gives : GivesKeepers K) (at : OpenSeats K) (stamp : List ℕ) (seat : Seat K) → AreSeated facts follows set gives at → at stamp ≡ Some seat → IsSeated facts set seat
+  seated_at gives at stamp seat are is =
+      let noted : Noted (gives stamp) seat = subst (λ (x : Option (Seat K)). IfSome x (Noted (gives stamp))) is (are stamp) in
+      noted.seated
 
-  same_seated : (at at' : OpenSeats K) → ((other : List ℕ) → at' other ≡ at other) → AreSeated facts set at → AreSeated facts set at'
-  same_seated at at' same are = λ other. subst (λ (x : Option (Seat K)). IfSome x (IsSeated facts set)) (sym (same other)) (are other)
+  pub none_seated : (gives : GivesKeepers K) (at : OpenSeats K) → ((stamp : List ℕ) → at stamp ≡ None) → AreSeated facts follows set gives at
+  none_seated gives at none = λ stamp. subst (λ (x : Option (Seat K)). IfSome x (Noted (gives stamp))) (sym (none stamp)) tt
 
-  -- with one of them replaced, or taken out
-  changed : (at at' : OpenSeats K) (stamp : List ℕ) (seat : Option (Seat K)) → IfSome seat (IsSeated facts set) → ((other : List ℕ) → at' other ≡ in_hand stamp seat at other) → AreSeated facts set at → AreSeated facts set at'
-  changed at at' stamp seat is after are = λ other.
-      subst (λ (x : Option (Seat K)). IfSome x (IsSeated facts set)) (sym (after other)) (by_stamp other (bytes_eq stamp other))
-    where
-      by_stamp : (other : List ℕ) (b : Bool) → IfSome (cond b seat (at other)) (IsSeated facts set)
-      by_stamp other true = is
-      by_stamp other false = are other
+  less_noted : (old new : K → Type 0) (o : Option (Seat K)) → ((keeper : K) → new keeper → old keeper) → IfSome o (Noted old) → IfSome o (Noted new)
+  less_noted old new None less h = tt
+  less_noted old new (Some seat) less h = record { seated = h.seated; noted = λ next given. h.noted next (less next given) }
 
-  pub without : (at at' : OpenSeats K) (stamp : List ℕ) → ((other : List ℕ) → at' other ≡ cond (bytes_eq stamp other) None (at other)) → AreSeated facts set at → AreSeated facts set at'
-  without at at' stamp after are = changed at at' stamp None tt after are
+  -- with one of them replaced or taken out, of which alone the folder gives something else
+  pub changed : (old new : GivesKeepers K) (at at' : OpenSeats K) (stamp : List ℕ) (seat : Option (Seat K)) → IfSome seat (Noted (new stamp)) → GivesOthers stamp old new → ((other : List ℕ) → at' other ≡ in_hand stamp seat at other) → AreSeated facts follows set old at → AreSeated facts follows set new at'
+  changed old new at at' stamp seat is others after are = λ other.
+      subst (λ (x : Option (Seat K)). IfSome x (Noted (new other))) (sym (after other))
+      ((elim (bytes_eq stamp other) as (λ b. bytes_eq stamp other ≡ b → IfSome (cond b seat (at other)) (Noted (new other))) [
+        | true ↦ λ e. subst (λ (o : List ℕ). IfSome seat (Noted (new o))) (same_stamp stamp other e) is
+        | false ↦ λ e. less_noted (old other) (new other) (at other) (others other e) (are other)
+      ]) refl)
 
-  pub seated_with : (at at' : OpenSeats K) (stamp : List ℕ) (seat : Seat K) → IsSeated facts set seat → ((other : List ℕ) → at' other ≡ cond (bytes_eq stamp other) (Some seat) (at other)) → AreSeated facts set at → AreSeated facts set at'
-  seated_with at at' stamp seat is after are = changed at at' stamp (Some seat) is after are
+  -- one is taken out, and the folder gives no more than before
+  pub without : (old new : GivesKeepers K) (at at' : OpenSeats K) (stamp : List ℕ) → GivesLess old new → ((other : List ℕ) → at' other ≡ cond (bytes_eq stamp other) None (at other)) → AreSeated facts follows set old at → AreSeated facts follows set new at'
+  without old new at at' stamp less after are = changed old new at at' stamp None tt (λ other apart keeper given. less other keeper given) after are
+
+  -- none is, but of one that isn't there the folder may give something else
+  still_seated : (old new : GivesKeepers K) (at at' : OpenSeats K) (stamp : List ℕ) → at stamp ≡ None → GivesOthers stamp old new → ((other : List ℕ) → at' other ≡ at other) → AreSeated facts follows set old at → AreSeated facts follows set new at'
+  still_seated old new at at' stamp absent others same are = changed old new at at' stamp None tt others
+      (λ other. same other ∙ (elim (bytes_eq stamp other) as (λ b. bytes_eq stamp other ≡ b → at other ≡ cond b None (at other)) [
+        | true ↦ λ e. subst (λ (o : List ℕ). at o ≡ None) (same_stamp stamp other e) absent
+        | false ↦ λ e. refl
+      ]) refl) are
 
 module _ {K : Type 0} (s : Keepers K) (t : CommonView) where
   -- from games that are open in the same way
@@ -79,30 +91,33 @@ module _ {K : Type 0} (s : Keepers K) (t : CommonView) where
   life_of None = Fresh
   life_of (Some seat) = Open (moment_of t.set seat)
 
-  stands_so : (gives : K → Type 0) (o : Option (Seat K)) → IfSome o (IsSeated s.facts t.set) → StandsForLife s t gives o (life_of o)
+  stands_so : (gives : K → Type 0) (o : Option (Seat K)) → IfSome o (IsNoted s.facts s.follows t.set gives) → StandsForLife s t gives o (life_of o)
   stands_so gives None is = tt
   stands_so gives (Some seat) is = (is, refl)
 
-  seat_of : (gives : K → Type 0) (o : Option (Seat K)) (life : Life K) → StandsForLife s t gives o life → IfSome o (IsSeated s.facts t.set)
+  seat_of : (gives : K → Type 0) (o : Option (Seat K)) (life : Life K) → StandsForLife s t gives o life → IfSome o (IsNoted s.facts s.follows t.set gives)
   seat_of gives None life stands = tt
   seat_of gives (Some seat) life stands = stands.0
 
-  seated_after : (last : LastDone) (k k' : ℕ) (gives gives' : GivesKeepers K) (at at' : OpenSeats K) (effects : List Effect) → LeadsFrom s t last k gives at gives' at' k' effects → AreSeated s.facts t.set at → AreSeated s.facts t.set at'
+  seated_after : (last : LastDone) (k k' : ℕ) (gives gives' : GivesKeepers K) (at at' : OpenSeats K) (effects : List Effect) → LeadsFrom s t last k gives at gives' at' k' effects → AreSeated s.facts s.follows t.set gives at → AreSeated s.facts s.follows t.set gives' at'
   seated_after last k k' gives gives' at at' effects leads are = λ stamp.
       let there = leads (λ other. life_of (at other)) (λ other. stands_so (gives other) (at other) (are other)) in
       seat_of (gives' stamp) (at' stamp) (there.new stamp) (there.stand stamp)
 
-  -- so do those that are left where one is settled
-  settled_by : (down : Bool) (k k' : ℕ) (gives gives' : GivesKeepers K) (at at' : OpenSeats K) (stamp : List ℕ) (seat : Seat K) → seat.state.is_down ≡ down → AreSeated s.facts t.set at → IsSeatAtRest s.facts t.set seat
-      → (seat.state.is_down ≡ false → LeadsFrom s t (HasAnswered stamp) (suc k) gives (in_hand stamp (Some seat) at) gives' at' k' []) → (seat.state.is_down ≡ true → (other : List ℕ) → at' other ≡ at other) → AreSeated s.facts t.set at'
-  settled_by true k k' gives gives' at at' stamp seat is are rests runs down = same_seated s.facts t.set at at' (down is) are
-  settled_by false k k' gives gives' at at' stamp seat is are rests runs down =
-      seated_after (HasAnswered stamp) (suc k) k' gives gives' (in_hand stamp (Some seat) at) at' [] (runs is)
-      (seated_with s.facts t.set at (in_hand stamp (Some seat) at) stamp seat (record { rests = rests; runs = is }) (λ other. refl) are)
+  module _ (k k' : ℕ) (old mid new : GivesKeepers K) (at at' : OpenSeats K) (stamp : List ℕ) (seat : Seat K) (absent : at stamp ≡ None) (noted : (next : K) → mid stamp next → s.follows seat.keeper next) (others : GivesOthers stamp old mid) where
+    -- so do those that are left where one that was noted is settled
+    settled_by : (down : Bool) → seat.state.is_down ≡ down → AreSeated s.facts s.follows t.set old at → IsSeatAtRest s.facts t.set seat
+        → (seat.state.is_down ≡ false → LeadsFrom s t (HasAnswered stamp) (suc k) mid (in_hand stamp (Some seat) at) new at' k' []) → (seat.state.is_down ≡ true → GivesOthers stamp mid new × ((other : List ℕ) → at' other ≡ at other)) → AreSeated s.facts s.follows t.set new at'
+    settled_by true is are rests runs down =
+        let closed = down is in
+        still_seated s.facts s.follows t.set old new at at' stamp absent (λ other apart keeper given. others other apart keeper (closed.0 other apart keeper given)) closed.1 are
+    settled_by false is are rests runs down =
+        seated_after (HasAnswered stamp) (suc k) k' mid new (in_hand stamp (Some seat) at) at' [] (runs is)
+        (changed s.facts s.follows t.set old mid at (in_hand stamp (Some seat) at) stamp (Some seat) (record { seated = record { rests = rests; runs = is }; noted = noted }) others (λ other. refl) are)
 
-  pub settled : (k k' : ℕ) (gives gives' : GivesKeepers K) (at at' : OpenSeats K) (stamp : List ℕ) (seat : Seat K) → AreSeated s.facts t.set at → IsSeatAtRest s.facts t.set seat
-      → (seat.state.is_down ≡ false → LeadsFrom s t (HasAnswered stamp) (suc k) gives (in_hand stamp (Some seat) at) gives' at' k' []) → (seat.state.is_down ≡ true → (other : List ℕ) → at' other ≡ at other) → AreSeated s.facts t.set at'
-  settled k k' gives gives' at at' stamp seat are rests runs down = settled_by seat.state.is_down k k' gives gives' at at' stamp seat refl are rests runs down
+    pub settled : AreSeated s.facts s.follows t.set old at → IsSeatAtRest s.facts t.set seat
+        → (seat.state.is_down ≡ false → LeadsFrom s t (HasAnswered stamp) (suc k) mid (in_hand stamp (Some seat) at) new at' k' []) → (seat.state.is_down ≡ true → GivesOthers stamp mid new × ((other : List ℕ) → at' other ≡ at other)) → AreSeated s.facts s.follows t.set new at'
+    settled are rests runs down = settled_by seat.state.is_down refl are rests runs down
 
 -- a folder that is where it was at the start has the keepers that it had then
 pub from_place : {G K : Type 0} (facts : KeeperFacts K) (folder : FolderFacts G K) (start now : G) → folder.place now ≡ folder.place start → (t : CommonView) (old new : GivesKeepers K) (at at' : OpenSeats K)

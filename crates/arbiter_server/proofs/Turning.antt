@@ -153,7 +153,7 @@ module _ {K : Type 0} (s : Keepers K) (t : CommonView) where
   less_stands old new None Fresh less h = tt
   less_stands old new None (Shut left) less h = λ keeper given. h keeper (less keeper given)
   less_stands old new None (Open at) less h = h
-  less_stands old new (Some seat) life less h = h
+  less_stands old new (Some seat) life less h = (record { seated = h.0.seated; noted = λ keeper given. h.0.noted keeper (less keeper given) }, h.1)
 
   -- each game that is open stays open, no other is opened, and the folder gives no more than before
   pub leads_not : (last : LastDone) (k : ℕ) (old new : GivesKeepers K) (at at' : OpenSeats K) → GivesLess old new → ((other : List ℕ) → at' other ≡ at other) → LeadsFrom s t last k old at new at' k []
@@ -212,6 +212,10 @@ module _ {K : Type 0} (s : Keepers K) (t : CommonView) where
         stand = two.stand;
         effects_are = flat_map-append effects_of one.acts two.acts ∙ ap (λ (es : List Effect). es ++ all_effects two.acts) one.effects_are ∙ ap (λ (es : List Effect). xs ++ es) two.effects_are;
       }
+
+  pub joined_acts : (last : LastDone) (k m k' : ℕ) (mid new : GivesKeepers K) (at at' : OpenSeats K) (lives : Lives K) (xs ys : List Effect) (one : Leads s t last k lives mid at m xs) (more : LeadsFrom s t Otherwise m mid at new at' k' ys) → (leads_join last k m k' mid new at at' lives xs ys one more).acts ≡ one.acts ++ (more one.new one.stand).acts
+  unfolding leads_join
+  joined_acts last k m k' mid new at at' lives xs ys one more = refl
 
   -- with no effect more
   pub goes_still : (last : LastDone) (k m k' : ℕ) (mid new : GivesKeepers K) (at at' : OpenSeats K) (lives : Lives K) (effects : List Effect) → Leads s t last k lives mid at m effects → LeadsFrom s t Otherwise m mid at new at' k' [] → Leads s t last k lives new at' k' effects

@@ -1,5 +1,5 @@
 -- A run over a disk that was stopped (this project's own).
-use Rattle.std.specs.Prelude.{◌≡◌, ℕ, Bool, Result}
+use Rattle.std.specs.Prelude.{◌≡◌, ℕ, Result}
 use Rattle.system_io.specs.declared.disk_file.Choice.{Choice}
 use Rattle.system_io.specs.declared.disk_file.DiskFile.{DiskFile}
 use Rattle.system_io.specs.declared.output.WriteFault.{WriteFault}

@@ -1,5 +1,5 @@
 -- What a folder of files tells and gives (this project's own).
-use Rattle.std.specs.Prelude.{◌≡◌, ◌⊎◌, ℕ, List}
+use Rattle.std.specs.Prelude.{◌≡◌, ◌⊎◌, ℕ, List, [], ◌∷◌}
 use Rattle.system_io.specs.Disks.{DiskFacts}
 use Rattle.system_io.specs.Hosts.{FileAt, HostFacts}
 use Rattle.system_io.specs.KeptFiles.{KeptFacts}
@@ -52,6 +52,7 @@ disk_keepers disk host files folder = record {
   withholds = IsUnkept host files folder;
   is_of = IsOverFile host files folder;
   follows = λ left next. Unit {0};
+  may_fail = ⊥;
 }
 
 abbrev pub disk_games_facts : {D H P F : Type 0} → (D → DiskFacts) → (H → HostFacts P F) → (F → KeptFacts) → FolderFacts (DiskGames D H) (FileKeeper F)
@@ -64,5 +65,7 @@ disk_games_facts {D = D} {H = H} disk host files = record {
   is_of = λ at. IsOverFile (host at.host.now) files at.folder.now;
   follows = λ left next. Unit {0};
   gives = λ games stamp next. Unit {0};
-  taken = λ at stamp. FileAt (kept_path at.folder.now stamp);
+  finds = λ games stamp next. Unit {0};
+  taken = λ at stamp. FileAt (kept_path at.folder.now stamp) ∷ [];
+  may_fail = λ at. ⊥;
 }

@@ -20,8 +20,11 @@ abbrev pub GivesLess : {K : Type 0} → GivesKeepers K → GivesKeepers K → Ty
 GivesLess {K = K} old new = (other : List ℕ) (keeper : K) → new other keeper → old other keeper
 
 -- nothing was made, or this alone
+abbrev pub MakesAtMost : Option (List Made) → Option (List Made) → List Made → Type 0
+MakesAtMost old new more = Passes old new [] ⊎ Passes old new more
+
 abbrev pub MakesOnce : Option (List Made) → Option (List Made) → Made → Type 0
-MakesOnce old new made = Passes old new [] ⊎ Passes old new (made ∷ [])
+MakesOnce old new made = MakesAtMost old new (made ∷ [])
 
 -- what is known of folders of a type, with keepers of a type
 pub record FolderFacts (G K : Type 0) : Type 1 where
@@ -40,8 +43,12 @@ pub record FolderFacts (G K : Type 0) : Type 1 where
   pub follows : K → K → Type 0
   -- which keeper the folder may give next
   pub gives : G → GivesKeepers K
+  -- which keeper a start may give, were the folder left as it is now
+  pub finds : G → GivesKeepers K
   -- what is made where the keeper of the game with this stamp is taken
-  pub taken : Place → List ℕ → Made
+  pub taken : Place → List ℕ → List Made
+  -- what its games keep may not be committed
+  pub may_fail : Place → Type 0
 
 -- what is known of one folder, where it is, and what its keepers tell of themselves
 pub record Keepers (K : Type 0) : Type 1 where
@@ -53,6 +60,8 @@ pub record Keepers (K : Type 0) : Type 1 where
   pub withholds : List ℕ → Unopened → Type 0
   pub is_of : List ℕ → K → Type 0
   pub follows : K → K → Type 0
+  -- what its games keep may not be committed
+  pub may_fail : Type 0
 
 -- what is known of a folder at this place
 abbrev pub keepers_at : {G K : Type 0} → KeeperFacts K → (folder : FolderFacts G K) → folder.Place → Keepers K
@@ -63,6 +72,7 @@ keepers_at facts folder place = record {
   withholds = folder.withholds place;
   is_of = folder.is_of place;
   follows = folder.follows;
+  may_fail = folder.may_fail place;
 }
 
 -- what is known of this folder, where it is now

@@ -23,9 +23,11 @@ pub record CommonView : Type 0 where
   pub set : Holding
   -- how many are open at once, at most
   pub at_once : ℕ
+  -- how many datagrams are answered together, at most
+  pub together : ℕ
 
 abbrev pub common_with : ServerConfig → Holding → CommonView
-common_with c set = record { manifest = c.manifest.now; number = who_number c.me; set = set; at_once = non_zero_usize_get c.at_once }
+common_with c set = record { manifest = c.manifest.now; number = who_number c.me; set = set; at_once = non_zero_usize_get c.at_once; together = non_zero_usize_get c.together }
 
 abbrev pub setup_of : CommonView → List ℕ → Parts → ℕ → SetupView
 setup_of t name start delay = record { name = name; start = start; manifest = t.manifest; me = t.number; delay = delay; set = t.set }

@@ -14,7 +14,9 @@ pub mod Folders
 pub mod Told
 pub mod Acts
 pub mod Games
+pub mod Rounds
 pub mod Hosts
+pub mod StoreGames
 pub mod Laws
 pub mod Seats
 pub mod Servers

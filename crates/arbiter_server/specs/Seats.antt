@@ -36,13 +36,18 @@ pub record IsMessageAnswered {K : Type 0} (facts : KeeperFacts K) (before : Mome
 abbrev pub OpenSeats : Type 0 → Type 0
 OpenSeats K = List ℕ → Option (Seat K)
 
--- all of them can answer by these tables
-abbrev pub AreSeated : {K : Type 0} → KeeperFacts K → Holding → OpenSeats K → Type 0
-AreSeated facts set at = (stamp : List ℕ) → IfSome (at stamp) (IsSeated facts set)
+-- its arbiter can answer, and the folder gives next a keeper over what its own one keeps
+pub record IsNoted {K : Type 0} (facts : KeeperFacts K) (follows : K → K → Type 0) (set : Holding) (gives : K → Type 0) (seat : Seat K) : Type 0 where
+  pub seated : IsSeated facts set seat
+  pub noted : (next : K) → gives next → follows seat.keeper next
 
--- so they can, there is room for as many as there are to be at once, and there are no more
-pub record HasRoomFor {K : Type 0} (facts : KeeperFacts K) (set : Holding) (at : OpenSeats K) (k cap most : ℕ) : Type 0 where
-  pub seated : AreSeated facts set at
+-- so it is of all of them
+abbrev pub AreSeated : {K : Type 0} → KeeperFacts K → (K → K → Type 0) → Holding → GivesKeepers K → OpenSeats K → Type 0
+AreSeated facts follows set gives at = (stamp : List ℕ) → IfSome (at stamp) (IsNoted facts follows set (gives stamp))
+
+-- and there is room for as many as there are to be at once, and there are no more
+pub record HasRoomFor {K : Type 0} (facts : KeeperFacts K) (follows : K → K → Type 0) (set : Holding) (gives : GivesKeepers K) (at : OpenSeats K) (k cap most : ℕ) : Type 0 where
+  pub seated : AreSeated facts follows set gives at
   pub room : cap ≡ most
   pub few : k ≤ most
 
@@ -50,12 +55,13 @@ pub record HasRoomFor {K : Type 0} (facts : KeeperFacts K) (set : Holding) (at :
 abbrev pub Lives : Type 0 → Type 0
 Lives K = List ℕ → Life K
 
--- a game's seat, if it is open, stands for its life; of one that was closed the folder gives a keeper over what was left
+-- a game's seat, if it is open, stands for its life; of one that was closed the folder gives a keeper over what was left, as of one that
+-- is open over what is kept
 abbrev pub StandsForLife : {K : Type 0} → Keepers K → CommonView → (K → Type 0) → Option (Seat K) → Life K → Type 0
 StandsForLife s t gives None Fresh = Unit {0}
 StandsForLife {K = K} s t gives None (Shut left) = (keeper : K) → gives keeper → s.follows left keeper
 StandsForLife s t gives None (Open at) = ⊥
-StandsForLife s t gives (Some seat) life = IsSeated s.facts t.set seat × (life ≡ Open (moment_of t.set seat))
+StandsForLife s t gives (Some seat) life = IsNoted s.facts s.follows t.set gives seat × (life ≡ Open (moment_of t.set seat))
 
 abbrev pub AreLives : {K : Type 0} → Keepers K → CommonView → GivesKeepers K → OpenSeats K → Lives K → Type 0
 AreLives s t gives at lives = (stamp : List ℕ) → StandsForLife s t (gives stamp) (at stamp) (lives stamp)

@@ -33,6 +33,9 @@ refused_datagram deliver.OutOfMemory = codes "refused " ++ deliver_fault_name de
 abbrev pub refused_port : List ℕ
 refused_port = codes "refused port"
 
+abbrev pub refused_store : List ℕ
+refused_store = codes "refused store"
+
 abbrev pub refused_keeper : List ℕ
 refused_keeper = codes "refused keeper"
 

@@ -1,5 +1,6 @@
 -- A server of games (this project's own).
-use Rattle.std.specs.Prelude.{◌≡◌, ℕ, List, length, map, Option, None, Result}
+use Rattle.std.specs.Prelude.{◌≡◌, ℕ, List, length, Option, None, Result}
+use Rattle.std.specs.List.{flat_map}
 use Rattle.system_io.specs.Histories.{Passes}
 use Rattle.system_io.specs.Hosts.{Made}
 use Rattle.system_io.specs.Ports.{PortFacts}
@@ -11,7 +12,7 @@ use Rattle.arbiter_server.specs.LineLogs.{form_of}
 use Rattle.arbiter_server.specs.declared.line_log.LineLog.{LineLog}
 use Rattle.arbiter_server.specs.Folders.{FolderFacts, keepers}
 use Rattle.arbiter_server.specs.Games.{CommonView}
-use Rattle.arbiter_server.specs.Hosts.{Hosts}
+use Rattle.arbiter_server.specs.Hosts.{CommitsEach, Hosts}
 use Rattle.arbiter_server.specs.Room.{at_stamp}
 use Rattle.arbiter_server.specs.declared.seat.Seat.{Seat}
 
@@ -61,8 +62,10 @@ pub record ServerState (G K H P W : Type 0) : Type 0 where
 abbrev pub at : {G K H P W : Type 0} → ServerView G K → H → P → LineLog → W → ServerState G K H P W
 at server history port log out = record { server = server; history = history; port = port; log = log; out = out }
 
--- a run of it for n datagrams: keepers are taken of some games, and nothing else is made
+-- a run of it for n datagrams: keepers are taken of some games, and nothing else is made, and what games keep is committed before answers
+-- go out
 abbrev pub HostsFor : {G K H P W : Type 0} → ServerFacts G K H P W → ℕ → ServerState G K H P W → ServerState G K H P W → Result ℕ WriteFault → Type 0
 HostsFor f n old new ended =
-    (taken : List (List ℕ)) × Passes (f.made old.history) (f.made new.history) (map (f.folder.taken (f.folder.place old.server.games)) taken)
-    × Hosts (keepers f.keeper f.folder old.server.games) old.server.common f.writer (form_of old.log) n taken (f.folder.gives new.server.games) (f.port old.port) (f.port new.port) old.out new.out ended
+    (taken : List (List ℕ)) × Passes (f.made old.history) (f.made new.history) (flat_map (f.folder.taken (f.folder.place old.server.games)) taken)
+    × (hosted : Hosts (keepers f.keeper f.folder old.server.games) old.server.common f.writer (form_of old.log) n taken (f.folder.gives new.server.games) (f.port old.port) (f.port new.port) old.out new.out ended)
+    × CommitsEach (keepers f.keeper f.folder old.server.games) old.server.common f.folder.finds hosted.run.acts hosted.run.rounds

@@ -5,7 +5,7 @@ use Rattle.hex.specs.Hex.{encode_lower}
 use Rattle.arbiter_core.specs.declared.fault.OpenFault.{OpenFault}
 use Rattle.arbiter_core.specs.declared.fault.OpenFault.TheVariants as open_fault
 use Rattle.arbiter_core.specs.declared.fault.DeliverFault.TheVariants.{NotAMessage}
-use Rattle.arbiter_server.specs.ServedLines.{heard_line, refused_datagram, refused_port}
+use Rattle.arbiter_server.specs.ServedLines.{heard_line, refused_datagram, refused_port, refused_store}
 use Rattle.arbiter_server.specs.declared.fault.Unopened.{Unopened}
 use Rattle.arbiter_server.specs.declared.fault.Unopened.TheVariants as unopened
 use Rattle.arbiter_server.specs.declared.line.Line.{Line}
@@ -36,3 +36,4 @@ line_words (line.Answered stamp heard) = stamped stamp (heard_line heard)
 line_words (line.Unopened stamp why) = stamped stamp (unopened_words why)
 line_words (line.Unread fault) = codes "- " ++ refused_datagram (NotAMessage fault)
 line_words line.PortLost = refused_port
+line_words line.StoreLost = refused_store

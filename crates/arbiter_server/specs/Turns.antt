@@ -1,10 +1,11 @@
 -- From one moment of a host to a later one; cited by private clauses alone.
-use Rattle.std.specs.Prelude.{◌≡◌, ◌≤◌, ◌++◌, ℕ, suc, Bool, true, false, cond, List, [], ◌∷◌, length, map, Option, Some, None, Result, Ok, IfOk}
+use Rattle.std.specs.Prelude.{◌≡◌, ◌≤◌, ◌++◌, ℕ, suc, Bool, true, false, cond, List, [], ◌∷◌, length, map, Option, Some, None, Result, Ok, Err, IfOk, OnOk}
 use Rattle.std.specs.List.{AllByRecursion, flat_map}
 use Rattle.judge_core.specs.Tables.{Holding}
 use Rattle.move_msg.specs.declared.message.Message.{Message}
 use Rattle.move_msg.specs.Heard.{heard_in}
 use Rattle.move_msg.specs.Messages.{stamp_in}
+use Rattle.move_msg.specs.TextLines.{ended}
 use Rattle.arbiter_core.specs.Delivers.{Exchange}
 use Rattle.arbiter_core.specs.Keeping.{KeeperFacts}
 use Rattle.arbiter_core.specs.Setups.{SetupView}
@@ -12,22 +13,28 @@ use Rattle.arbiter_core.specs.Views.{View}
 use Rattle.system_io.specs.Failures.{Risen}
 use Rattle.system_io.specs.Histories.{Passes}
 use Rattle.system_io.specs.Hosts.{Made}
-use Rattle.system_io.specs.Ports.{Missed, Passed, PortFacts}
+use Rattle.system_io.specs.Ports.{Missed, Passed, Passing, PortFacts}
 use Rattle.system_io.specs.declared.output.WriteFault.{WriteFault}
 use Rattle.arbiter_server.specs.GoingOut.{LinesEnd, Writers}
-use Rattle.arbiter_server.specs.LineLogs.{LogsLine, Remembers, form_of, logged}
+use Rattle.arbiter_server.specs.LineLogs.{Remembers, changes_after, form_of, logged}
 use Rattle.arbiter_server.specs.declared.line_log.LineLog.{LineLog}
 use Rattle.arbiter_server.specs.declared.line_log.LogForm.{LogForm}
-use Rattle.arbiter_server.specs.ServedLines.{refused_port}
+use Rattle.arbiter_server.specs.declared.line_log.LogForm.TheVariants as form
+use Rattle.arbiter_server.specs.ServedLines.{refused_port, refused_store}
+use Rattle.arbiter_server.specs.Serving.{handed}
 use Rattle.arbiter_server.specs.declared.fault.Unopened.{Unopened}
 use Rattle.arbiter_server.specs.declared.seat.Seat.{Seat}
-use Rattle.arbiter_server.specs.Folders.{FolderFacts, GivesKeepers, GivesOthers, Keepers, keepers}
+use Rattle.arbiter_server.specs.declared.server.AfterRound.{AfterRound}
+use Rattle.arbiter_server.specs.declared.server.AfterRound.TheVariants.{GoesOn, Stops}
+use Rattle.arbiter_server.specs.Folders.{FolderFacts, GivesKeepers, GivesLess, GivesOthers, Keepers, keepers}
+use Rattle.arbiter_server.specs.declared.gathering.Held.{Held}
 use Rattle.arbiter_server.specs.declared.turn.Answered.{Answered}
 use Rattle.arbiter_server.specs.Told.{line_words, unopened_by}
-use Rattle.arbiter_server.specs.Acts.{Act, Answers, AreInRoom, AreOpenings, Closes as ClosesGame, IsClosing, IsSorted, LastDone, HasAnswered, MayAnswer, Opening, Opens, Otherwise, Refuses as RefusesGame, DatagramReply, Strange, Unread, acts_of, exchange_reply, opens_for, opens_game, passing_at, stamp_for, unopened, unread}
+use Rattle.arbiter_server.specs.Acts.{Act, Answers, AreInRoom, AreOpenings, Closes as ClosesGame, IsClosing, IsSorted, LastDone, HasAnswered, MayAnswer, Opening, Opens, Otherwise, Refuses as RefusesGame, DatagramReply, Strange, Unread, acts_of, exchange_reply, opens_for, opens_game, stamp_for, unopened, unread}
 use Rattle.arbiter_server.specs.Games.{CommonView, Fresh, Goes, IsSetupOfStamp, IsToldAs}
-use Rattle.arbiter_server.specs.Hosts.{Ends, EndsAtCut, all_lines, all_passing}
+use Rattle.arbiter_server.specs.Hosts.{CommitsEach, Ending, Ends, IsEnding, ToldOf, all_lines, all_passing, dropped_replies}
 use Rattle.arbiter_server.specs.Room.{at_stamp}
+use Rattle.arbiter_server.specs.Rounds.{IsRound, Round, replies_of_rounds, round_came, round_passing, sent_of}
 use Rattle.arbiter_server.specs.Seats.{OpenSeats, AreLives, Evicts, IsSeated, Lives, in_hand}
 use Rattle.arbiter_server.specs.Servers.{ServerState, ServerFacts, ServerView}
 
@@ -68,8 +75,8 @@ abbrev pub effects_with : List (List ℕ) → DatagramReply → List Effect
 effects_with more r = map Took more ++ Replied r ∷ []
 
 -- from one history to a later one the files of some games were made, with which this is so
-abbrev pub TakesAnd : (List ℕ → Made) → Option (List Made) → Option (List Made) → (List (List ℕ) → Type 0) → Type 0
-TakesAnd file had has Does = (more : List (List ℕ)) × Passes had has (map file more) × Does more
+abbrev pub TakesAnd : (List ℕ → List Made) → Option (List Made) → Option (List Made) → (List (List ℕ) → Type 0) → Type 0
+TakesAnd file had has Does = (more : List (List ℕ)) × Passes had has (flat_map file more) × Does more
 
 -- so it is of keepers that this folder gives
 abbrev pub MakesAnd : {G H K : Type 0} → FolderFacts G K → (H → Option (List Made)) → G → H → H → (List (List ℕ) → Type 0) → Type 0
@@ -152,10 +159,11 @@ TurnsInHand facts folder most games seats stamp seat games' seats' =
 abbrev pub MakesRoom : {G K : Type 0} → FolderFacts G K → ℕ → G → List (List ℕ × Seat K) → G → List (List ℕ × Seat K) → Type 0
 MakesRoom folder most games seats games' seats' = Evicts folder.follows most (folder.gives games) (at_stamp seats) (length seats) (folder.gives games') (at_stamp seats') (length seats')
 
--- what was lent comes back: the tables as they were, and the folder where it was
-pub record ComesBack {G K : Type 0} (folder : FolderFacts G K) (tables : Holding) (games : G) (tables' : Holding) (games' : G) : Type 0 where
+-- what was lent comes back: the tables as they were, and the folder where it was, which gives of all games but this one no more than it did
+pub record ComesBack {G K : Type 0} (folder : FolderFacts G K) (stamp : List ℕ) (tables : Holding) (games : G) (tables' : Holding) (games' : G) : Type 0 where
   pub same : tables' ≡ tables
   pub place : folder.place games' ≡ folder.place games
+  pub others : GivesOthers stamp (folder.gives games) (folder.gives games')
 
 -- a game that isn't open is opened, and in hand
 pub record OpensSeat {G K : Type 0} (facts : KeeperFacts K) (folder : FolderFacts G K) (t : CommonView) (games games' : G) (stamp : List ℕ) (seat : Seat K) : Type 0 where
@@ -254,43 +262,144 @@ AnswersInHand facts folder old seat message new r =
 abbrev pub Going : Type 1
 Going = List Effect → Type 0
 
--- a datagram came and was answered, with what was made for it, and this is its line; or the port is lost, and nothing is done
-abbrev pub Receives : Going → (List ℕ → Made) → Option (List Made) → Option (List Made) → PortFacts → PortFacts → List ℕ → Bool → Type 0
-Receives turns file had has port port' line false = (r : DatagramReply) × TakesAnd file had has (λ more. turns (effects_with more r)) × (line ≡ r.line) × Passed port port' (passing_at port.addresses r)
-Receives turns file had has port port' line true = (turns [] × Passes had has []) × (line ≡ refused_port) × Passed port port' (Missed ∷ []) × Risen port.faults port'.faults
+-- datagrams were answered so, with what was made for them
+pub record HearsAll (turns : Going) (file : List ℕ → List Made) (had has : Option (List Made)) (replies : List DatagramReply) : Type 0 where
+  pub effects : List Effect
+  pub goes : turns effects
+  pub replies_are : replies_in effects ≡ replies
+  pub made : Passes had has (flat_map file (taken_by_effects effects))
 
--- so it is of a server and a history
-abbrev pub ServerReceives : {G H K : Type 0} → KeeperFacts K → FolderFacts G K → (H → Option (List Made)) → ServerView G K → ServerView G K → H → H → PortFacts → PortFacts → List ℕ → Bool → Type 0
-ServerReceives facts folder made old new history history' port port' line lost = Receives (TurnsTo facts folder old new) (folder.taken (folder.place old.games)) (made history) (made history') port port' line lost
+-- what is sent for answers at so many addresses, and their lines
+abbrev pub answers_sent : ℕ → List Held → List Passing
+answers_sent addresses answers = flat_map (λ a. flat_map (handed addresses) a.answered.outputs.items) answers
 
--- so it was, and the line was told by the log: what was picked of it has gone out or was cut short
-pub record TakesTurn {W : Type 0} (turns : Going) (file : List ℕ → Made) (w : Writers W) (before : List (List ℕ)) (log log' : LineLog) (had has : Option (List Made)) (port port' : PortFacts) (out out' : W) (told : Result Bool WriteFault) : Type 0 where
-  pub line : List ℕ
-  pub lost : Bool
-  pub received : Receives turns file had has port port' line lost
-  pub tells : LogsLine w before log log' line out out' told
-  pub is : IfOk told (λ x. x ≡ lost)
+abbrev pub answer_lines : List Held → List (List ℕ)
+answer_lines answers = map (λ a. line_words a.answered.line) answers
+
+-- they are those of these replies
+pub record AreAnswersTo (replies : List DatagramReply) (answers : List Held) : Type 0 where
+  pub sent : (addresses : ℕ) → answers_sent addresses answers ≡ flat_map (sent_of addresses) replies
+  pub lines : answer_lines answers ≡ map (λ r. r.line) replies
+  pub count : length answers ≡ length replies
+
+-- a datagram is answered behind those before it
+pub record HearsOne (turns : Going) (file : List ℕ → List Made) (had has : Option (List Made)) (datagram : List ℕ) (old new : List Held) : Type 0 where
+  pub held : Held
+  pub heard : HearsAll turns file had has (datagram_reply datagram held.answered ∷ [])
+  pub behind : new ≡ old ++ held ∷ []
+
+-- so it is from one moment of a server and a history to the next
+abbrev pub HearsOneFrom : {G H K : Type 0} → KeeperFacts K → FolderFacts G K → (H → Option (List Made)) → ServerView G K → H → ServerView G K → H → List ℕ → List Held → List Held → Type 0
+HearsOneFrom facts folder made server history server' history' datagram old new = HearsOne (TurnsTo facts folder server server') (folder.taken (folder.place server.games)) (made history) (made history') datagram old new
+
+-- a round came, and this is what is to be sent and told; or the port is lost, and no datagram was answered
+abbrev pub Gathers : Going → (List ℕ → List Made) → Option (List Made) → Option (List Made) → ℕ → PortFacts → PortFacts → List Held → Bool → Type 0
+Gathers turns file had has most port port' answers true = (round : Round) × IsRound most round × HearsAll turns file had has round.replies × Passed port port' (round_came round) × AreAnswersTo round.replies answers
+Gathers turns file had has most port port' answers false = HearsAll turns file had has [] × Passed port port' (Missed ∷ []) × Risen port.faults port'.faults
+
+-- a server at one moment, with the history and the port that are lent to it
+pub record Receiving (G K H P : Type 0) : Type 0 where
+  pub server : ServerView G K
+  pub history : H
+  pub port : P
+
+abbrev pub receiving : {G K H P : Type 0} → ServerView G K → H → P → Receiving G K H P
+receiving server history port = record { server = server; history = history; port = port }
+
+-- so it is from one such moment to the next
+abbrev pub GathersFrom : {G K H P : Type 0} → KeeperFacts K → FolderFacts G K → (H → Option (List Made)) → (P → PortFacts) → ℕ → Receiving G K H P → Receiving G K H P → List Held → Bool → Type 0
+GathersFrom facts folder made ports most old new answers came = Gathers (TurnsTo facts folder old.server new.server) (folder.taken (folder.place old.server.games)) (made old.history) (made new.history) most (ports old.port) (ports new.port) answers came
+
+-- what came of a round: what its games keep is committed, and its answers are sent; or they are dropped, since it can't be committed; or
+-- the port is lost
+pub data Outcome : Type 0 where
+  Sent : (round : Round) → Outcome
+  Dropped : (round : Round) → Outcome
+  Missing : Outcome
+
+abbrev pub RoundComesTo : Going → (List ℕ → List Made) → Type 0 → Type 0 → Option (List Made) → Option (List Made) → ℕ → PortFacts → PortFacts → Outcome → Type 0
+RoundComesTo turns file kept may_fail had has most port port' (Sent round) = IsRound most round × HearsAll turns file had has round.replies × Passed port port' (round_passing port.addresses round) × kept
+RoundComesTo turns file kept may_fail had has most port port' (Dropped round) = IsRound most round × HearsAll turns file had has round.replies × Passed port port' (round_came round) × may_fail
+RoundComesTo turns file kept may_fail had has most port port' Missing = HearsAll turns file had has [] × Passed port port' (Missed ∷ []) × Risen port.faults port'.faults
+
+abbrev pub outcome_lines : Outcome → List (List ℕ)
+outcome_lines (Sent round) = map (λ r. r.line) round.replies
+outcome_lines (Dropped round) = refused_store ∷ []
+outcome_lines Missing = refused_port ∷ []
+
+abbrev pub goes_after : Outcome → AfterRound
+goes_after (Sent round) = GoesOn (length round.replies)
+goes_after (Dropped round) = Stops
+goes_after Missing = Stops
+
+-- ---- lines
+
+-- the texts of lines behind these, the latest first
+unfoldable pub texts_after : List (List ℕ) → List (List ℕ) → List (List ℕ)
+texts_after before [] = before
+texts_after before (line ∷ lines) = texts_after (ended line ∷ before) lines
+
+-- what a log of this form has of lines after these texts
+abbrev pub logged_from : LogForm → List (List ℕ) → List (List ℕ) → List (List ℕ)
+logged_from form.All before lines = lines
+logged_from form.Nothing before lines = []
+logged_from form.Changes before lines = changes_after before lines
+
+-- where the writer failed, the line that it failed at is the last one, and none that the log leaves out
+abbrev pub CutsAt : {T : Type 0} → LogForm → List (List ℕ) → List (List ℕ) → Result T WriteFault → Type 0
+CutsAt form before told (Ok x) = Unit {0}
+CutsAt form before told (Err fault) = (first : List (List ℕ)) × (line : List ℕ) × (last : List ℕ) × (told ≡ first ++ line ∷ []) × (logged_from form before told ≡ logged_from form before first ++ last ∷ [])
+
+-- of lines after these texts what is picked goes out, in turn, up to one that is cut short; and they are remembered
+pub record LogsLines {W T : Type 0} (w : Writers W) (before : List (List ℕ)) (old new : LineLog) (lines : List (List ℕ)) (out out' : W) (r : Result T WriteFault) : Type 0 where
+  pub told : List (List ℕ)
+  pub untold : List (List ℕ)
+  pub are : lines ≡ told ++ untold
+  pub all : OnOk r (untold ≡ [])
+  pub went : LinesEnd w out (logged_from (form_of old) before told) out' r
+  pub last : CutsAt (form_of old) before told r
+  pub after : OnOk r (Remembers new (texts_after before told))
+  pub same : form_of new ≡ form_of old
+
+-- the line of a loss
+abbrev pub TellsLoss : {W : Type 0} → Writers W → LineLog → LineLog → List ℕ → W → W → Result AfterRound WriteFault → Type 0
+TellsLoss w old new line out out' told = ((before : List (List ℕ)) → Remembers old before → LogsLines w before old new (line ∷ []) out out' told) × IfOk told (λ x. x ≡ Stops)
+
+-- a round was taken, and its lines told
+pub record TakesTurn {W : Type 0} (turns : Going) (file : List ℕ → List Made) (kept may_fail : Type 0) (w : Writers W) (before : List (List ℕ)) (most : ℕ) (log log' : LineLog) (had has : Option (List Made)) (port port' : PortFacts) (out out' : W) (told : Result AfterRound WriteFault) : Type 0 where
+  pub outcome : Outcome
+  pub comes : RoundComesTo turns file kept may_fail had has most port port' outcome
+  pub tells : LogsLines w before log log' (outcome_lines outcome) out out' told
+  pub is : IfOk told (λ x. x ≡ goes_after outcome)
 
 -- a run for n datagrams, before the games that are open then, so many, are closed
-pub record HasServed {K W : Type 0} (s : Keepers K) (t : CommonView) (w : Writers W) (form : LogForm) (n : ℕ) (gives : GivesKeepers K) (at : OpenSeats K) (count : ℕ) (file : List ℕ → Made) (had has : Option (List Made)) (port port' : PortFacts) (out out' : W) (ended : Result ℕ WriteFault) : Type 0 where
+pub record HasServed {G K W : Type 0} (s : Keepers K) (t : CommonView) (finds : G → GivesKeepers K) (w : Writers W) (form : LogForm) (n : ℕ) (gives : GivesKeepers K) (at : OpenSeats K) (count : ℕ) (file : List ℕ → List Made) (had has : Option (List Made)) (port port' : PortFacts) (out out' : W) (ended : Result ℕ WriteFault) : Type 0 where
   pub effects : List Effect
   pub leads : Leads s t Otherwise 0 (λ stamp. Fresh) gives at count effects
-  pub made : Passes had has (map file (taken_by_effects effects))
-  pub lost : Bool
-  pub passed : Passed port port' (all_passing port.addresses (replies_in effects) lost)
-  pub cause : lost ≡ true → Risen port.faults port'.faults
-  pub ends : Ends n (replies_in effects) lost ended
-  pub lines : LinesEnd w out (logged form (all_lines (replies_in effects) lost)) out' ended
-  pub last : EndsAtCut form (all_lines (replies_in effects) lost) ended
+  pub made : Passes had has (flat_map file (taken_by_effects effects))
+  pub rounds : List Round
+  pub ending : Ending
+  pub are_rounds : AllByRecursion (IsRound t.together) rounds
+  pub is_ending : IsEnding s.may_fail t.together port port' ending
+  pub replies_are : replies_in effects ≡ replies_of_rounds rounds ++ dropped_replies ending
+  pub passed : Passed port port' (all_passing port.addresses rounds ending)
+  pub ends : Ends n (length (replies_in effects)) ending ended
+  pub committed : CommitsEach s t finds leads.acts rounds
+  pub told : ToldOf form t.together (all_lines rounds ending) ended
+  pub lines : LinesEnd w out (logged form told.told) out' ended
 
--- such a turn of a server, whatever was told before it
-abbrev pub ServerTurns : {G K H P W : Type 0} → ServerFacts G K H P W → ServerState G K H P W → ServerState G K H P W → Result Bool WriteFault → Type 0
-ServerTurns f old new told =
+-- a start over the folder finds what it gives
+abbrev pub IsKept : {G K : Type 0} → FolderFacts G K → G → Type 0
+IsKept folder games = GivesLess (folder.gives games) (folder.finds games)
+
+-- such a round of a server, whatever was told before it
+abbrev pub OneRound : {G K H P W : Type 0} → ServerFacts G K H P W → ℕ → ServerState G K H P W → ServerState G K H P W → Result AfterRound WriteFault → Type 0
+OneRound f most old new told =
     (before : List (List ℕ)) → Remembers old.log before
-    → TakesTurn (TurnsTo f.keeper f.folder old.server new.server) (f.folder.taken (f.folder.place old.server.games)) f.writer before old.log new.log (f.made old.history) (f.made new.history) (f.port old.port) (f.port new.port) old.out new.out told
+    → TakesTurn (TurnsTo f.keeper f.folder old.server new.server) (f.folder.taken (f.folder.place old.server.games)) (IsKept f.folder new.server.games) (f.folder.may_fail (f.folder.place old.server.games)) f.writer before most old.log new.log (f.made old.history) (f.made new.history) (f.port old.port) (f.port new.port) old.out new.out told
 
 -- and such a run
 abbrev pub ServesOn : {G K H P W : Type 0} → ServerFacts G K H P W → ℕ → ServerState G K H P W → ServerState G K H P W → Result ℕ WriteFault → Type 0
 ServesOn f n old new ended =
-    HasServed (keepers f.keeper f.folder old.server.games) old.server.common f.writer (form_of old.log) n (f.folder.gives new.server.games) (at_stamp new.server.seats) (length new.server.seats)
+    HasServed (keepers f.keeper f.folder old.server.games) old.server.common f.folder.finds f.writer (form_of old.log) n (f.folder.gives new.server.games) (at_stamp new.server.seats) (length new.server.seats)
     (f.folder.taken (f.folder.place old.server.games)) (f.made old.history) (f.made new.history) (f.port old.port) (f.port new.port) old.out new.out ended

@@ -19,6 +19,8 @@ pub struct ServerConfig<'a> {
     pub me: Who,
     /// How many games are open at once, at most.
     pub at_once: NonZeroUsize,
+    /// How many datagrams are answered together, at most.
+    pub together: NonZeroUsize,
 }
 
 impl<'a> ServerConfig<'a> {

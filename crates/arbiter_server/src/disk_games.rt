@@ -1,9 +1,11 @@
 //! Games whose files are in a folder.
 
-ghost use Rattle.std.specs.Prelude.{◌≡◌};
-ghost use Rattle.arbiter_server.specs.DiskGames.{unopened_by_find};
+ghost use Rattle.std.specs.Prelude.{◌≡◌, IfErr, IfOk};
+ghost use Rattle.arbiter_server.specs.DiskGames.{LacksGameFile, unopened_by_find};
+ghost use Rattle.arbiter_server.specs.GameFiles.{game_as_told};
+ghost use Rattle.arbiter_server.specs.GameFolders.{HasGame};
 
-use crate::fault::Unopened;
+use crate::fault::{Uncommitted, Unopened};
 use crate::file_keeper::FileKeeper;
 use crate::folder::{FindFault, find_game, kept_path};
 use crate::games::{Found, Games};
@@ -34,6 +36,26 @@ fn unopened_by(fault: FindFault) -> Unopened
     }
 }
 
+/// What the file of the game with this stamp in a folder tells, or why it tells nothing.
+pub(crate) fn found_in<D: Disk>(
+    alloc: Global,
+    disk: &D,
+    folder: &str,
+    stamp: &[u8; 16],
+) -> Result<Found, Unopened>
+    ensures told { IfOk result (λ game. HasGame (D.facts disk.now) folder.now stamp.now (game_as_told game.name.items game.start game.delay)) }
+    ensures lacks { IfErr result (LacksGameFile (D.facts disk.now) folder.now stamp.now) }
+{
+    match find_game(alloc, disk, folder, Stamp(*stamp)) {
+        Ok(game) => Ok(Found {
+            name: game.name,
+            start: game.start,
+            delay: game.delay,
+        }),
+        Err(fault) => Err(unopened_by(fault)),
+    }
+}
+
 impl<'f, D: Disk, H: Host> Games for DiskGames<'f, D, H> {
     ghost use Rattle.arbiter_server.specs.DiskGames.{disk_games_facts};
 
@@ -47,14 +69,7 @@ impl<'f, D: Disk, H: Host> Games for DiskGames<'f, D, H> {
 
     /// What the file of the game with this stamp tells, or why it tells nothing.
     fn find(&self, alloc: Global, stamp: &[u8; 16]) -> Result<Found, Unopened> {
-        match find_game(alloc, self.disk, self.folder, Stamp(*stamp)) {
-            Ok(game) => Ok(Found {
-                name: game.name,
-                start: game.start,
-                delay: game.delay,
-            }),
-            Err(fault) => Err(unopened_by(fault)),
-        }
+        found_in(alloc, self.disk, self.folder, stamp)
     }
 
     /// A keeper over the file of the record of the game with this stamp, or why there is none.
@@ -77,5 +92,10 @@ impl<'f, D: Disk, H: Host> Games for DiskGames<'f, D, H> {
         }
     }
 
-    fn give_back(&mut self, _stamp: &[u8; 16], _keeper: &FileKeeper<H::File>) {}
+    // Each put has brought its bytes into the file.
+    fn note(&mut self, _stamp: &[u8; 16], _keeper: &FileKeeper<H::File>) {}
+
+    fn commit(&mut self) -> Result<(), Uncommitted> {
+        Ok(())
+    }
 }

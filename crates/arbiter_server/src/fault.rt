@@ -1,4 +1,4 @@
-//! Why a game isn't open.
+//! Why a game isn't open, and that a store is lost.
 
 ghost use Rattle.std.specs.Prelude.{◌≡◌};
 ghost use Rattle.arbiter_server.specs.Told.{unopened_by};
@@ -21,6 +21,10 @@ pub enum Unopened {
     /// Memory was refused.
     OutOfMemory,
 }
+
+/// What games keep could not be committed.
+#[derive(Clone, Copy, Debug, PartialEq, Eq)]
+pub struct Uncommitted;
 
 impl Unopened {
     /// What is told of a game whose arbiter can't be opened.

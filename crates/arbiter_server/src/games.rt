@@ -1,12 +1,12 @@
 //! Where games are told and kept.
 
-ghost use Rattle.std.specs.Prelude.{◌≡◌, ◌∷◌, [], ℕ, List, Option, IfOk, IfErr, OnErr, OnOk, false};
+ghost use Rattle.std.specs.Prelude.{◌≡◌, ℕ, List, Option, IfOk, IfErr, OnErr, OnOk, false};
 ghost use Rattle.std.specs.Str.{bytes_eq};
-ghost use Rattle.arbiter_server.specs.Folders.{FolderFacts, GivesLess, GivesOthers, MakesOnce};
+ghost use Rattle.arbiter_server.specs.Folders.{FolderFacts, GivesLess, GivesOthers, MakesAtMost};
 ghost use Rattle.system_io.specs.Histories.{Passes};
 ghost use Rattle.system_io.specs.Hosts.{Made};
 
-use crate::fault::Unopened;
+use crate::fault::{Uncommitted, Unopened};
 use arbiter_core::{Keeper, Name};
 use board_core::Position;
 use std::alloc::Global;
@@ -54,13 +54,19 @@ pub trait Games {
         ensures refused { IfErr result (facts.withholds (facts.place self.old) stamp.now) }
         ensures same { GivesLess (facts.gives self.old) (facts.gives self.new) }
         ensures place { facts.place self.new ≡ facts.place self.old }
-        ensures made { OnOk result (Passes (made history.old) (made history.new) (facts.taken (facts.place self.old) stamp.now ∷ [])) }
-        ensures tried { OnErr result (MakesOnce (made history.old) (made history.new) (facts.taken (facts.place self.old) stamp.now)) };
+        ensures made { OnOk result (Passes (made history.old) (made history.new) (facts.taken (facts.place self.old) stamp.now)) }
+        ensures tried { OnErr result (MakesAtMost (made history.old) (made history.new) (facts.taken (facts.place self.old) stamp.now)) };
 
-    /// Shows the keeper of a game that is closed now, to look at and not to write: what it gives next of this game is a keeper over
-    /// what this one left.
-    fn give_back(&mut self, stamp: &[u8; 16], keeper: &Self::Keeper)
+    /// Notes what the keeper of a game keeps now, to look at and not to write: what it gives next of this game is a keeper over that.
+    fn note(&mut self, stamp: &[u8; 16], keeper: &Self::Keeper)
         ensures left { (next : Self.Keeper) → facts.gives self.new stamp.now next → facts.follows keeper.now next }
         ensures others { GivesOthers stamp.now (facts.gives self.old) (facts.gives self.new) }
         ensures place { facts.place self.new ≡ facts.place self.old };
+
+    /// Commits what was noted: from then on a start finds what is given here. No answer to a datagram goes out before.
+    fn commit(&mut self) -> Result<(), Uncommitted>
+        ensures kept { OnOk result (GivesLess (facts.gives self.new) (facts.finds self.new)) }
+        ensures same { GivesLess (facts.gives self.old) (facts.gives self.new) }
+        ensures place { facts.place self.new ≡ facts.place self.old }
+        ensures cause { OnErr result (facts.may_fail (facts.place self.old)) };
 }

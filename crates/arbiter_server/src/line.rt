@@ -25,6 +25,8 @@ pub(crate) enum Line {
     Unread(MessageFault),
     /// None can be received.
     PortLost,
+    /// What games keep can't be committed.
+    StoreLost,
 }
 
 /// The bytes of a line, with its line feed. They take no memory, so that no line is lost for want of it.
@@ -153,7 +155,7 @@ impl Line {
             Line::Answered(stamp, _heard) => open_kind(stamp),
             Line::Unopened(stamp, why) => unopened_kind(stamp, why),
             Line::Unread(fault) => Some(unread_kind(fault)),
-            Line::PortLost => None,
+            Line::PortLost | Line::StoreLost => None,
         }
     }
 
@@ -166,6 +168,7 @@ impl Line {
             Line::Unopened(stamp, why) => unopened_line(&stamp, why),
             Line::Unread(fault) => unread_line(fault),
             Line::PortLost => joined(Heard::PortLost.line().as_str().as_bytes(), b""),
+            Line::StoreLost => joined(b"refused store\n", b""),
         }
     }
 }

@@ -1,131 +1,69 @@
-//! A server of games: how it is set up, its tables, its folder and the games that are open.
+//! A server of games: the games that are open, and a round of datagrams after another.
 
-ghost use Rattle.std.specs.Prelude.{◌≡◌, ◌∷◌, [], ℕ, List, None, IfOk, IfErr, OnOk};
-ghost use Rattle.move_msg.specs.Messages.{stamp_in};
-ghost use Rattle.system_io.specs.Histories.{Passes};
-ghost use Rattle.arbiter_core.specs.Setups.{terms_with};
-ghost use Rattle.arbiter_server.specs.Told.{line_words};
-ghost use Rattle.arbiter_server.specs.LineLogs.{Remembers};
+ghost use Rattle.std.specs.Prelude.{◌≡◌, ◌<◌, ◌≤◌, [], IfOk};
 ghost use Rattle.arbiter_server.specs.Games.{common_with};
-ghost use Rattle.arbiter_server.specs.Room.{at_stamp};
-ghost use Rattle.arbiter_server.specs.Seats.{IsSeated};
+ghost use Rattle.arbiter_server.specs.GoingOut.{writers};
+ghost use Rattle.arbiter_server.specs.LineLogs.{Remembers};
 ghost use Rattle.arbiter_server.specs.Servers.{HostsFor, IsIdle, IsNewServer, Stays, at, given};
-ghost use Rattle.arbiter_server.specs.Turns.{ComesBack, OpensFor, OpensFound, OpensSeat, TriesFor, TriesFound, TriesSeat, lent};
-ghost use Rattle.arbiter_server.specs.Turns.{AnswersInHand, AnswersMessage, MakesAnd, Refuses, RepliesSo, ServerReceives, ServerTurns, ServesOn, TakesSeat, datagram_reply};
+ghost use Rattle.arbiter_server.specs.Told.{line_words};
+ghost use Rattle.arbiter_server.specs.Turns.{OneRound, ServesOn, TellsLoss};
 
 use crate::config::ServerConfig;
-use crate::fault::Unopened;
 use crate::games::Games;
+use crate::gathering::{Held, gather, send_answers, tell_answers};
 use crate::line::Line;
 use crate::line_log::LineLog;
-use crate::room::take_out;
-use crate::seat::Seat;
-use crate::serving::send_all;
-use crate::settling::{close_all, settle};
-use crate::turn::{Answered, found, opens_game, told_alone};
-use arbiter_core::{ArbiterState, Terms};
+use crate::open_games::OpenGames;
 use judge_core::Set;
-use lru::LruCache;
-use move_msg::Message;
 use std::alloc::{AllocError, Global};
 use std::marker::Model;
 use system_io::{Output, Port, WriteFault};
 
-/// Opens a game over its keeper in the folder.
-fn open_by<'a, G: Games>(
-    alloc: Global,
-    games: &mut G,
-    tables: &mut Set<'_>,
-    history: &mut G::History,
-    terms: Terms<'a>,
-    stamp: &[u8; 16],
-) -> Result<Seat<'a, G::Keeper>, Unopened>
-    ensures lent { ComesBack G.facts tables.old games.old tables.new games.new }
-    ensures made { OnOk result (Passes (G.made history.old) (G.made history.new) (G.facts.taken (G.facts.place games.old) stamp.now ∷ [])) }
-    ensures opened { IfOk result (OpensFound G.Keeper.facts G.facts games.old games.new stamp.now (terms_with terms.entry tables.old)) }
-    ensures unopened { IfErr result (TriesFound G.Keeper.facts G.facts G.made (lent games.old history.old) (lent games.new history.new) stamp.now (terms_with terms.entry tables.old)) }
-{
-    let mut keeper = match games.take(alloc, history, stamp) {
-        Ok(keeper) => keeper,
-        Err(why) => return Err(why),
-    };
-    match ArbiterState::open(alloc, tables, &mut keeper, terms) {
-        Ok(state) => Ok(Seat { state, keeper }),
-        Err(refused) => {
-            games.give_back(stamp, &keeper);
-            Err(Unopened::by(refused.fault))
-        }
-    }
+/// Whether a run goes on after a round.
+#[derive(Clone, Copy)]
+pub(crate) enum AfterRound {
+    /// So many datagrams came and were answered.
+    GoesOn(usize),
+    /// The port or the store is lost.
+    Stops,
 }
 
-/// Opens the game with this stamp.
-fn open_told<'a, G: Games>(
-    alloc: Global,
-    config: &ServerConfig<'a>,
-    games: &mut G,
-    tables: &mut Set<'_>,
-    history: &mut G::History,
-    stamp: &[u8; 16],
-) -> Result<Seat<'a, G::Keeper>, Unopened>
-    ensures lent { ComesBack G.facts tables.old games.old tables.new games.new }
-    ensures made { OnOk result (Passes (G.made history.old) (G.made history.new) (G.facts.taken (G.facts.place games.old) stamp.now ∷ [])) }
-    ensures opened { IfOk result (OpensSeat G.Keeper.facts G.facts (common_with config.now tables.old) games.old games.new stamp.now) }
-    ensures unopened { IfErr result (TriesSeat G.Keeper.facts G.facts G.made (common_with config.now tables.old) (lent games.old history.old) (lent games.new history.new) stamp.now) }
+/// Writes the line of a port or a store that is lost.
+fn tell_loss<W: Output>(
+    log: &mut LineLog,
+    out: &mut W,
+    line: Line,
+) -> Result<AfterRound, WriteFault>
+    ensures { TellsLoss (writers W.Write.contents W.facts) log.old log.new (line_words line) out.old out.new result }
 {
-    match found(alloc, config.manifest, games, stamp) {
-        Ok(game) => open_by(alloc, games, tables, history, config.terms(game), stamp),
-        Err(why) => Err(why),
+    match log.tell(out, line) {
+        Ok(()) => Ok(AfterRound::Stops),
+        Err(fault) => Err(fault),
     }
-}
-
-/// Opens the game that a message is of, where it is one that opens games.
-fn open_for<'a, G: Games>(
-    alloc: Global,
-    config: &ServerConfig<'a>,
-    games: &mut G,
-    tables: &mut Set<'_>,
-    history: &mut G::History,
-    message: &Message,
-) -> Result<Seat<'a, G::Keeper>, Unopened>
-    ensures lent { ComesBack G.facts tables.old games.old tables.new games.new }
-    ensures made { OnOk result (Passes (G.made history.old) (G.made history.new) (G.facts.taken (G.facts.place games.old) (stamp_in message.now).0 ∷ [])) }
-    ensures opened { IfOk result (OpensFor G.Keeper.facts G.facts (common_with config.now tables.old) games.old games.new message.now) }
-    ensures unopened { IfErr result (TriesFor G.Keeper.facts G.facts G.made (common_with config.now tables.old) (lent games.old history.old) (lent games.new history.new) message.now) }
-{
-    if !opens_game(message) {
-        return Err(Unopened::NotOpen);
-    }
-    let stamp = message.stamp().0;
-    open_told(alloc, config, games, tables, history, &stamp)
 }
 
 /// A server of games at a port. Each game that is open can answer by its tables, and its keeper keeps its record.
 #[derive(Drop)]
 pub struct Server<'a, G: Games + Drop> {
-    alloc: Global,
-    config: ServerConfig<'a>,
-    tables: Set<'a>,
-    games: G,
-    seats: LruCache<[u8; 16], Seat<'a, G::Keeper>>,
+    games: OpenGames<'a, G>,
+    /// What is answered in a round, in room for as many as may be answered together.
+    answers: Vec<Held>,
 }
 
 impl<'a, G: Games + Drop> Model for Server<'a, G> {
-    ghost use Rattle.std.specs.NonZero.{non_zero_usize_get};
-    ghost use Rattle.std.specs.Prelude.{length};
-    ghost use Rattle.arbiter_server.specs.Games.{common_with};
-    ghost use Rattle.arbiter_server.specs.Room.{at_stamp};
-    ghost use Rattle.arbiter_server.specs.Seats.{HasRoomFor};
+    ghost use Rattle.std.specs.Prelude.{◌≤◌, vec_capacity};
     ghost use Rattle.arbiter_server.specs.Servers.{ServerView};
 
     ghost Value = { ServerView G G.Keeper };
 
-    ghost view = { λ s. record { common = common_with s.config s.tables; games = s.games; seats = s.seats.entries } };
+    ghost view = { λ s. s.games };
 
-    ghost invariant = { λ s. HasRoomFor G.Keeper.facts s.tables (at_stamp s.seats.entries) (length s.seats.entries) s.seats.cap (non_zero_usize_get s.config.at_once) };
+    ghost invariant = { λ s. s.games.common.together ≤ vec_capacity s.answers };
 }
 
 impl<'a, G: Games + Drop> Server<'a, G> {
-    /// Opens a server over a folder of games. No game is open yet. The error comes where memory for the open games is refused.
+    /// Opens a server over a folder of games. No game is open yet. The error comes where memory for the open games, or for the answers
+    /// of a round, is refused.
     pub fn open(
         alloc: Global,
         config: ServerConfig<'a>,
@@ -134,112 +72,43 @@ impl<'a, G: Games + Drop> Server<'a, G> {
     ) -> Result<Server<'a, G>, AllocError>
         ensures { IfOk result (IsNewServer (common_with config.entry tables.entry) games) }
     {
-        match LruCache::new(alloc, config.at_once) {
-            Ok(seats) => Ok(Server {
-                alloc,
-                config,
-                tables,
-                games,
-                seats,
-            }),
-            Err(_) => Err(AllocError),
-        }
+        let answers = Vec::with_capacity(alloc, config.together.get())?;
+        let games = OpenGames::new(alloc, config, tables, games)?;
+        Ok(Server { games, answers })
     }
 
-    /// Takes the game that a message is of out, or opens it.
-    fn seat_for(
-        &mut self,
-        history: &mut G::History,
-        message: &Message,
-    ) -> Result<Seat<'a, G::Keeper>, Unopened>
-        ensures stays { Stays G.facts self.old self.new }
-        ensures opened { IfOk result (λ seat. MakesAnd G.facts G.made self.old.games history.old history.new (TakesSeat G.Keeper.facts G.facts self.old self.new message.now seat)) }
-        ensures unopened { IfErr result (λ why. MakesAnd G.facts G.made self.old.games history.old history.new (Refuses G.Keeper.facts G.facts self.old self.new message.now why)) }
+    /// How many datagrams are answered together, at most.
+    fn together(&self) -> usize
+        ensures is { result ≡ self.now.common.together }
+        ensures some { 0 < result }
     {
-        let stamp = message.stamp().0;
-        match take_out(&mut self.seats, &stamp) {
-            Some(seat) => Ok(seat),
-            None => open_for(
-                self.alloc,
-                &self.config,
-                &mut self.games,
-                &mut self.tables,
-                history,
-                message,
-            ),
-        }
+        self.games.together()
     }
 
-    /// Lets the arbiter of a game that is in hand answer a message.
-    fn answer_at(&mut self, seat: Seat<'a, G::Keeper>, message: &Message) -> Answered
-        requires absent { at_stamp self.old.seats (stamp_in message.now).0 ≡ None }
-        requires seated { IsSeated G.Keeper.facts self.old.common.set seat }
-        ensures stays { Stays G.facts self.old self.new }
-        ensures answers { AnswersInHand G.Keeper.facts G.facts self.old seat.entry message.now self.new result }
-    {
-        let stamp = message.stamp().0;
-        let mut seat = seat;
-        let answer = seat.deliver(self.alloc, &mut self.tables, message);
-        settle(&mut self.games, &mut self.seats, &stamp, seat);
-        let line = Line::Answered(stamp, answer.heard);
-        Answered {
-            outputs: answer.outputs,
-            line,
-        }
-    }
-
-    /// Lets the arbiter of the game that a message is of answer it, if there is one.
-    fn answer(&mut self, history: &mut G::History, message: &Message) -> Answered
-        ensures stays { Stays G.facts self.old self.new }
-        ensures answers { MakesAnd G.facts G.made self.old.games history.old history.new (AnswersMessage G.Keeper.facts G.facts self.old message.now self.new result) }
-    {
-        match self.seat_for(history, message) {
-            Ok(seat) => self.answer_at(seat, message),
-            Err(why) => told_alone(self.alloc, Line::Unopened(message.stamp().0, why)),
-        }
-    }
-
-    /// Answers a datagram.
-    fn hear(&mut self, history: &mut G::History, bytes: &[u8]) -> Answered
-        ensures stays { Stays G.facts self.old self.new }
-        ensures turns { MakesAnd G.facts G.made self.old.games history.old history.new (RepliesSo G.Keeper.facts G.facts self.old self.new (datagram_reply bytes.now result)) }
-    {
-        match Message::decode(bytes) {
-            Ok(message) => self.answer(history, &message),
-            Err(fault) => told_alone(self.alloc, Line::Unread(fault)),
-        }
-    }
-
-    /// Receives a datagram and answers it; tells the line for it, and whether the port is lost.
-    fn receive<P: Port>(&mut self, history: &mut G::History, port: &mut P) -> (Line, bool)
-        ensures stays { Stays G.facts self.old self.new }
-        ensures received { ServerReceives G.Keeper.facts G.facts G.made self.old self.new history.old history.new (P.facts port.old) (P.facts port.new) (line_words result.0) result.1 }
-    {
-        let mut buffer = [0u8; 64];
-        match port.receive(&mut buffer) {
-            Ok(length) => {
-                let told = self.hear(history, &buffer[..length]);
-                send_all(port, told.outputs.as_slice());
-                (told.line, false)
-            }
-            Err(_) => (Line::PortLost, true),
-        }
-    }
-
-    /// Receives a datagram, answers it and writes the line for it; tells whether the port is lost.
-    fn turn<P: Port, W: Output>(
+    /// Answers the datagrams of a round, and writes their lines. What their games keep is committed before any answer goes out: where
+    /// that fails none does.
+    fn round<P: Port, W: Output>(
         &mut self,
         history: &mut G::History,
         port: &mut P,
+        n: usize,
         log: &mut LineLog,
         out: &mut W,
-    ) -> Result<bool, WriteFault>
+    ) -> Result<AfterRound, WriteFault>
+        requires some { 0 < n }
+        requires few { n ≤ self.old.common.together }
         ensures stays { Stays G.facts self.old self.new }
-        ensures is { ServerTurns (given G.Keeper.facts G.facts G.made P.facts W.contents W.facts) (at self.old history.old port.old log.old out.old) (at self.new history.new port.new log.new out.new) result }
+        ensures is { OneRound (given G.Keeper.facts G.facts G.made P.facts W.contents W.facts) n (at self.old history.old port.old log.old out.old) (at self.new history.new port.new log.new out.new) result }
     {
-        let (line, lost) = self.receive(history, port);
-        match log.tell(out, line) {
-            Ok(()) => Ok(lost),
+        if !gather(&mut self.games, history, port, n, &mut self.answers) {
+            return tell_loss(log, out, Line::PortLost);
+        }
+        if self.games.commit().is_err() {
+            return tell_loss(log, out, Line::StoreLost);
+        }
+        send_answers(port, &self.answers);
+        match tell_answers(log, out, &self.answers) {
+            Ok(()) => Ok(AfterRound::GoesOn(self.answers.len())),
             Err(fault) => Err(fault),
         }
     }
@@ -258,13 +127,12 @@ impl<'a, G: Games + Drop> Server<'a, G> {
         ensures stays { Stays G.facts self.old self.new }
         ensures is { ServesOn (given G.Keeper.facts G.facts G.made P.facts W.contents W.facts) n (at self.old history.old port.old log.old out.old) (at self.new history.new port.new log.new out.new) result }
     {
-        for _ in 0..n {
-            match self.turn(history, port, log, out) {
-                Ok(lost) => {
-                    if lost {
-                        return Ok(1);
-                    }
-                }
+        let mut left = n;
+        while left > 0 {
+            let most = left.min(self.together() as u64) as usize;
+            match self.round(history, port, most, log, out) {
+                Ok(AfterRound::GoesOn(came)) => left -= came as u64,
+                Ok(AfterRound::Stops) => return Ok(1),
                 Err(fault) => return Err(fault),
             }
         }
@@ -274,18 +142,21 @@ impl<'a, G: Games + Drop> Server<'a, G> {
     /// Answers so many datagrams of a port, each by the arbiter of its game; tells the status, 0 where all came. No game is open
     /// before it, as after `open` and after each run, and all are closed at its end. The log knows of no line before it.
     ///
-    /// A line is told for each datagram. A log of all lines writes each, one of changes some, and each goes out at once. For a message it begins with the stamp of its game, in 32
-    /// lower-case hexadecimal digits: then comes what `serve` tells, or why the game isn't open, `refused NotOpen`, `refused NoGame`,
-    /// `refused OtherGame`, `refused game` and a line of its file, `refused keeper` or `refused memory`. For bytes that are no
-    /// message it is `- refused NotAMessage` and what is wrong with them. No refusal ends the run: a game whose keeper failed is
-    /// closed, and opened again over its file when its next move or request comes. Where no datagram can be received the line is
-    /// `refused port`, and the status 1.
+    /// Datagrams are answered in rounds. One is awaited, and of those that have come by then so many are taken in all as may be answered
+    /// together. What their games keep is committed, all answers are sent, and then a line is told for each of them.
+    ///
+    /// A log of all lines writes each, one of changes some, and each goes out at once. For a message it begins with the stamp of its
+    /// game, in 32 lower-case hexadecimal digits: then comes what `serve` tells, or why the game isn't open, `refused NotOpen`,
+    /// `refused NoGame`, `refused OtherGame`, `refused game` and a line of its file, `refused keeper` or `refused memory`. For bytes
+    /// that are no message it is `- refused NotAMessage` and what is wrong with them. No refusal ends the run: a game whose keeper failed
+    /// is closed, and opened again over its file when its next move or request comes. Where no datagram can be received the line is
+    /// `refused port`, and where what the games of a round keep can't be committed it is `refused store`; the status is 1 then.
     ///
     /// The history is lent to take keepers, and nothing else is made: where a game is opened, or is to be, its keeper is taken once. No
     /// more games are open than `at_once` of the configuration says, but that one more is opened before one is closed for it.
     ///
     /// The error comes only where the writer failed: each line before has gone out whole, of the last one a front may be written, and
-    /// nothing was received after its datagram.
+    /// nothing was received after its round.
     pub fn serve<P: Port, W: Output>(
         &mut self,
         history: &mut G::History,
@@ -301,7 +172,7 @@ impl<'a, G: Games + Drop> Server<'a, G> {
         ensures idle { IsIdle self.new }
     {
         let ended = self.run(history, port, n, log, out);
-        close_all(&mut self.games, &mut self.seats);
+        self.games.close();
         ended
     }
 }

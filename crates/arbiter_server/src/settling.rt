@@ -10,13 +10,13 @@ use crate::room::{least_used, put_in, take_last};
 use crate::seat::Seat;
 use lru::LruCache;
 
-/// Closes a game: its keeper is given back.
+/// Closes a game: the folder notes what its keeper keeps.
 pub(crate) fn close<'a, G: Games>(games: &mut G, stamp: &[u8; 16], seat: Seat<'a, G::Keeper>)
     ensures closes { GivesKeeperBack G.facts games.old games.new stamp.now seat.entry.keeper }
     ensures place { G.facts.place games.new ≡ G.facts.place games.old }
 {
     let Seat { state: _, keeper } = seat;
-    games.give_back(stamp, &keeper);
+    games.note(stamp, &keeper);
 }
 
 /// Closes the game that was used least recently, where there is no room for one more.

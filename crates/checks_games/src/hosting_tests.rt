@@ -5,7 +5,7 @@ use crate::comparing::{check_bytes, check_same};
 use crate::playing::{MOVES, below, message_at, record_at};
 use crate::positions::{START, position_of};
 use arbiter_core::{Keep, Keeper, MemoryKeeper, name_of};
-use arbiter_server::{Found, Games, LineLog, Server, ServerConfig, Unopened};
+use arbiter_server::{Found, Games, LineLog, Server, ServerConfig, Uncommitted, Unopened};
 use board_core::Position;
 use judge_core::Set;
 use move_msg::{Message, Record, Stamp, Who};
@@ -14,13 +14,15 @@ use std::num::NonZeroUsize;
 use std::process::Abort;
 use system_io::{MemoryPort, Passage, Turn};
 
-/// A game, told from the others by its delay: what is kept of it, nothing at first, and how many moves were acknowledged.
+/// A game, told from the others by its delay: what is kept of it, nothing at first, what was noted since, and how many moves were
+/// acknowledged.
 #[derive(Drop)]
 struct Hosted {
     stamp: Stamp,
     start: Position,
     delay: u8,
     kept: Vec<u8>,
+    noted: Vec<u8>,
     acknowledged: u32,
 }
 
@@ -32,28 +34,43 @@ impl Hosted {
             start: position_of(rt, START),
             delay,
             kept: Vec::new(alloc),
+            noted: Vec::new(alloc),
             acknowledged: 0,
         }
     }
 
-    /// A keeper of what is kept of it, with this outcome of each put.
+    /// A keeper of what is noted or kept of it, with this outcome of each put.
     fn keeper(&self, alloc: Global, keep: Keep) -> Result<MemoryKeeper, Unopened> {
         let Ok(mut keeper) = MemoryKeeper::new(alloc) else {
             return Err(Unopened::OutOfMemory);
         };
-        if !self.kept.is_empty() && self.kept.len() <= 8217 {
-            let _done = keeper.put(&self.kept);
+        let latest = if self.noted.is_empty() {
+            &self.kept
+        } else {
+            &self.noted
+        };
+        if !latest.is_empty() && latest.len() <= 8217 {
+            let _done = keeper.put(latest);
         }
         keeper.set(keep);
         Ok(keeper)
     }
 
-    /// Takes down what a keeper keeps.
-    fn leave(&mut self, keeper: &MemoryKeeper) {
+    /// Notes what a keeper keeps.
+    fn note(&mut self, keeper: &MemoryKeeper) {
         if let Some(bytes) = keeper.kept() {
-            self.kept.clear();
-            let _done = self.kept.extend_from_slice(bytes);
+            self.noted.clear();
+            let _done = self.noted.extend_from_slice(bytes);
         }
+    }
+
+    /// Keeps what was noted, or forgets it.
+    fn settle(&mut self, is_kept: bool) {
+        if is_kept && !self.noted.is_empty() {
+            self.kept.clear();
+            let _done = self.kept.extend_from_slice(&self.noted);
+        }
+        self.noted.clear();
     }
 }
 
@@ -62,17 +79,18 @@ impl Hosted {
 struct Folder<'r> {
     games: &'r mut [Hosted],
     keep: Keep,
+    /// The outcome of each commit.
+    commit: Keep,
 }
 
 impl<'r> Games for Folder<'r> {
-    ghost use Rattle.std.specs.Prelude.{None, ℕ};
-    ghost use Rattle.system_io.specs.Hosts.{FileAt};
+    ghost use Rattle.std.specs.Prelude.{None, [], ℕ};
 
     type Keeper = MemoryKeeper;
 
     type History = ();
 
-    ghost facts = { record { Place = ℕ; place = λ _. 0; tells = λ _ _ _. Unit {0}; lacks = λ _ _ _. Unit {0}; withholds = λ _ _ _. Unit {0}; is_of = λ _ _ _. Unit {0}; follows = λ _ _. Unit {0}; gives = λ _ _ _. Unit {0}; taken = λ _ stamp. FileAt stamp } };
+    ghost facts = { record { Place = ℕ; place = λ _. 0; tells = λ _ _ _. Unit {0}; lacks = λ _ _ _. Unit {0}; withholds = λ _ _ _. Unit {0}; is_of = λ _ _ _. Unit {0}; follows = λ _ _. Unit {0}; gives = λ _ _ _. Unit {0}; finds = λ _ _ _. Unit {0}; taken = λ _ _. []; may_fail = λ _. Unit {0} } };
 
     ghost made = { λ _. None };
 
@@ -103,11 +121,21 @@ impl<'r> Games for Folder<'r> {
         Err(Unopened::NoGame)
     }
 
-    fn give_back(&mut self, stamp: &[u8; 16], keeper: &MemoryKeeper) {
+    fn note(&mut self, stamp: &[u8; 16], keeper: &MemoryKeeper) {
         for game in self.games.iter_mut() {
             if game.stamp.0 == *stamp {
-                game.leave(keeper);
+                game.note(keeper);
             }
+        }
+    }
+
+    fn commit(&mut self) -> Result<(), Uncommitted> {
+        for game in self.games.iter_mut() {
+            game.settle(self.commit != Keep::FailsOld);
+        }
+        match self.commit {
+            Keep::Good => Ok(()),
+            Keep::FailsOld | Keep::FailsNew => Err(Uncommitted),
         }
     }
 }
@@ -128,12 +156,19 @@ fn outcome(seed: &mut u64) -> Keep {
     }
 }
 
-/// A server, at which two games are open at once, answers the datagrams of a port.
-fn serve(rt: &impl Abort, alloc: Global, folder: Folder<'_>, port: &mut MemoryPort<'_>) {
+/// A server, at which two games are open at once, answers the datagrams of a port, so many together.
+fn serve(
+    rt: &impl Abort,
+    alloc: Global,
+    folder: Folder<'_>,
+    together: usize,
+    port: &mut MemoryPort<'_>,
+) {
     let config = ServerConfig {
         manifest: b"",
         me: Who::A,
         at_once: NonZeroUsize::new(2).expect(rt, "a number"),
+        together: NonZeroUsize::new(together).expect(rt, "a number"),
     };
     let set = Set::new(alloc, 1).expect(rt, "memory");
     if let Ok(mut server) = Server::open(alloc, config, set, folder) {
@@ -161,16 +196,41 @@ fn hear_all(rt: &impl Abort, games: &mut [Hosted], port: &MemoryPort<'_>) {
     }
 }
 
-/// A run over three messages. A send that fails is a loss, and a receive that fails the end.
+/// A run over three messages, of which at most one, two or three are answered together; what was noted and not committed is lost at its
+/// end. A send that fails is a loss, and a receive that fails the end.
 fn run(rt: &impl Abort, alloc: Global, games: &mut [Hosted], seed: &mut u64) {
     let first = message(rt, games, seed);
     let second = message(rt, games, seed);
     let third = message(rt, games, seed);
     let datagrams: [&[u8]; 3] = [&first, &second, &third];
-    let turns = [Turn::Comes(0), Turn::Comes(1), Turn::Comes(2)];
+    let turns = [
+        Turn::Comes(0),
+        Turn::Comes(1),
+        if below(seed, 2) == 0 {
+            Turn::Quiet
+        } else {
+            Turn::Comes(2)
+        },
+        Turn::Comes(2),
+    ];
     let mut port = MemoryPort::new(alloc, 1, &datagrams, &turns, Some(below(seed, 9)));
     let keep = outcome(seed);
-    serve(rt, alloc, Folder { games, keep }, &mut port);
+    let commit = outcome(seed);
+    let together = below(seed, 3).saturating_add(1);
+    serve(
+        rt,
+        alloc,
+        Folder {
+            games,
+            keep,
+            commit,
+        },
+        together,
+        &mut port,
+    );
+    for game in games.iter_mut() {
+        game.settle(false);
+    }
     hear_all(rt, games, &port);
 }
 
@@ -185,10 +245,10 @@ fn check_game(rt: &impl Abort, alloc: Global, game: &Hosted) {
     check_bytes(rt, &game.kept, &wanted, "the record");
 }
 
-/// So it is after each run, and after 120 of them each game has come to its end.
+/// So it is after each run, and after 200 of them each game has come to its end.
 fn check_runs(rt: &impl Abort, alloc: Global, games: &mut [Hosted]) {
     let mut seed = 7;
-    for _ in 0..120 {
+    for _ in 0..200 {
         run(rt, alloc, games, &mut seed);
         for game in games.iter() {
             check_game(rt, alloc, game);

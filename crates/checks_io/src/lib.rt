@@ -6,7 +6,7 @@
 //! - `source_tests`: a source whose datagrams are lost (over `source_port`)
 //! - `output_tests`: reads and writes that fail
 //!
-//! `positions`, `failing` and `comparing` are what the tests share.
+//! `positions`, `failing`, `comparing` and `no_stores` are what the tests share.
 //!
 //! They are in a crate of their own, since a crate is proved a second time for its tests, and use public calls alone. A row of
 //! words and results is a case of `rows` and not a test. `tools/planted` and the edits in `must-fail/` show what the contracts
@@ -25,6 +25,8 @@ mod file_keeper_tests;
 mod kept_tests;
 #[cfg(test)]
 mod mode_tests;
+#[cfg(test)]
+mod no_stores;
 #[cfg(test)]
 mod output_tests;
 #[cfg(test)]

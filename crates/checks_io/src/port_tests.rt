@@ -1,6 +1,7 @@
 //! A port in memory, and ports of the system.
 
 use crate::comparing::{check_bytes, check_same, push_bytes};
+use crate::no_stores::NoStores;
 use std::alloc::Global;
 use std::fs::{self, File};
 use std::io;
@@ -77,7 +78,7 @@ fn text_at(rt: &impl Abort, alloc: Global, socket: &UdpSocket) -> String {
 /// That no port is bound to an address.
 fn expect_unbound<R, W>(
     rt: &impl Abort,
-    host: &SystemHost<'_, R, W>,
+    host: &SystemHost<'_, R, W, NoStores>,
     history: &mut Unrecorded,
     alloc: Global,
     address: &str,
@@ -94,7 +95,7 @@ where
 #[test]
 fn binds_no_taken_or_bad_address(rt: HostRuntime) {
     let socket = bound(&rt);
-    let (host, mut history) = SystemHost::new(&rt, rt.stderr());
+    let (host, mut history) = SystemHost::new(&rt, rt.stderr(), &NoStores);
     let taken = text_at(&rt, rt.alloc(), &socket);
     for address in [taken.as_str(), "127.0.0.1", "127.0.0.1:65536"] {
         expect_unbound(&rt, &host, &mut history, rt.alloc(), address);
@@ -222,7 +223,7 @@ const BESIDE: &str = "/tmp/checks-test-lock.lock";
 fn locks_nothing_beside_a_folder(rt: HostRuntime) {
     let _left = fs::remove_dir_all(&rt, FOLDER).is_ok();
     fs::create_dir(&rt, FOLDER).expect(&rt, "a folder");
-    let (host, mut history) = SystemHost::new(&rt, sink());
+    let (host, mut history) = SystemHost::new(&rt, sink(), &NoStores);
     let lock = host.lock(rt.alloc(), &mut history, BESIDE);
     check_same(&rt, matches!(lock, Err(LockFault::Failed)), true, BESIDE);
     let stands = fs::exists(&rt, BESIDE).expect(&rt, "a folder");
@@ -247,7 +248,7 @@ fn sends_to_an_address_of_its_kind(rt: HostRuntime) {
 /// A lock is given once at a time, and again where it was let go.
 #[test]
 fn locks_once_at_a_time(rt: HostRuntime) {
-    let (host, mut history) = SystemHost::new(&rt, rt.stderr());
+    let (host, mut history) = SystemHost::new(&rt, rt.stderr(), &NoStores);
     let first = host.lock(rt.alloc(), &mut history, "kept.lock");
     check_same(&rt, first.is_ok(), true, "a lock");
     let second = host.lock(rt.alloc(), &mut history, "kept.lock");

@@ -6,6 +6,7 @@ use board_core::Verdict;
 use move_msg::{Count, MOST_MOVES, Message, Stamp, Who};
 use std::alloc::Global;
 use std::io::{self, Read};
+use std::net::SocketAddr;
 use std::process::Abort;
 use std::time::Duration;
 use system_io::{MemoryPort, Port, PortFault, Turn};
@@ -152,6 +153,12 @@ impl<'a> Port for Timed<'a> {
         self.keep(wait);
         self.port.receive_in_time(wait, buffer)
     }
+
+    fn sender(&self) -> Option<SocketAddr> {
+        None
+    }
+
+    fn answer(&mut self, _sender: Option<SocketAddr>) {}
 
     fn send(&mut self, bytes: &[u8]) -> Result<(), PortFault> {
         self.port.send(bytes)

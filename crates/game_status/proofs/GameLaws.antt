@@ -16,7 +16,6 @@ use Rattle.move_msg.specs.Records.{SpellsRecord}
 use Rattle.record_audit.specs.declared.auditing.Finding.{Finding}
 use Rattle.record_audit.specs.declared.auditing.Finding.TheVariants as found
 use Rattle.record_audit.specs.Findings.{IsFound, IsOfRecord, is_whole, rules_with}
-use Rattle.system_io.specs.declared.reading.ReadFault.TheVariants as read
 use Rattle.system_io.specs.Disks.{DiskFacts}
 use Rattle.game_status.specs.declared.side.Side.{Side}
 use Rattle.game_status.specs.declared.status_lines.Look.{Look}

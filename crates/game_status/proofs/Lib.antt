@@ -4,3 +4,6 @@ pub mod SideLaws
 pub mod StatusLaws
 pub mod GameLaws
 pub mod LineLaws
+pub mod StoreLaws
+pub mod StoredLaws
+pub mod ImportLaws

@@ -2,3 +2,4 @@ pub mod Counting
 pub mod Decoding
 pub mod Listing
 pub mod Parting
+pub mod StoreReading

@@ -5,4 +5,7 @@ pub mod Comparisons
 pub mod Tellings
 pub mod Statuses
 pub mod GameAudits
+pub mod StoreReadings
+pub mod StoredDisks
 pub mod Inside
+pub mod Imports

@@ -7,11 +7,14 @@
 //!
 //! Inside: `listing` (the stamps that names tell), `entry` (a game's file and the bytes of its record), `side` (the record),
 //! `comparing` (two records), `status_lines`, `telling` (games in turn, and sums: `GameTeller`), `status`; `audit_lines`, `game_audit`.
+//! Where a host keeps the records of a folder in a store, `store_reading` reads them, also while the host writes, and `stored_disk` is
+//! the disk on which they stand as files: what tells of a folder's files then tells of them, with no change of its own.
 //! `add_moves`, `add_refused_record` and `add_finding` are for lines of the crate above too.
 //!
 //! Definitions, in reading order: `Listings` (`AreListed`), `Entries` (`HasEntry`, `LacksEntry`), `Sides` (`HasGameAndRecord`, `LacksSide`),
 //! `Comparisons` (`IsComparedAs`), `Tellings` (`TellsGames`, `TellsFolders`), `Statuses` (`IsStatus`, `TellsStatus`), `GameAudits`
-//! (`TellsAudit`). Its cases stand in `status.txt` and `game_audits.txt` of `rows`.
+//! (`TellsAudit`); `StoreReadings` (`AreRecordsIn`, `LacksRecords`), `StoredDisks` (`disk_over`). Its cases stand in `status.txt` and
+//! `game_audits.txt` of `rows`.
 //!
 //! - CLAIM: `tell_status`: each stamp whose file a folder lists is told, once and in rising order, by what the folder's files have:
 //!   the moves and the verdict of its record, that none is listed, or the first fault. Of two folders the line says whether the
@@ -22,24 +25,35 @@
 //!   some can't go out.
 //! - CLAIM: `tell_audit`: the same games, whose files have to be those of their stamps by the tables; a game is well only where an
 //!   arbiter of it resumes from each of its records, and both are equal; nothing kept is no fault.
+//! - CLAIM: `records_in`, clauses `ok`, `err`: the records are what the two files of the folder's store hold, and none only where the
+//!   folder lists no store. An unreadable store has a cause: the folder or a file can't be read, the files hold what isn't told, or the
+//!   log began anew meanwhile. That the files are of one moment follows from the order of the reads, of which no clause speaks.
+//! - CLAIM: `StoredDisk`, clause `facts`; `StoredDisk::over`: the disk over another has the store's records, the later one of two of a game,
+//!   each as `STAMP.kept` of the folder in place of the file below; all else is as below.
 #![tactic(auto)]
 
 mod audit_lines;
 mod comparing;
 mod entry;
 mod game_audit;
+mod importing;
 mod listing;
 mod side;
 mod status;
 mod status_lines;
+mod store_reading;
+mod stored_disk;
 mod telling;
 
 pub use audit_lines::{AuditLook, Unsound, add_finding};
 pub use comparing::Compared;
 pub use entry::{Entry, EntryFault};
 pub use game_audit::{AuditTables, tell_audit};
+pub use importing::{ImportFault, import_records};
 pub use listing::{Folder, Folders, stamp_of};
 pub use side::Side;
 pub use status::tell_status;
 pub use status_lines::{Look, add_moves, add_refused_record};
+pub use store_reading::{STORE_LOG_NAME, STORE_NAME, has_name, records_in};
+pub use stored_disk::StoredDisk;
 pub use telling::{GameTeller, Mark, Sums};

@@ -6,7 +6,7 @@ ghost use Rattle.std.specs.List.Sorted.{IsStrictlySortedBy};
 ghost use Rattle.std.specs.Ordering.{nat_cmp};
 ghost use Rattle.hex.specs.Hex.{encode_lower};
 ghost use Rattle.system_io.specs.Disks.{AtFolder};
-ghost use Rattle.game_status.specs.Listings.{AddsStamps, AreListed, CannotList, CannotListOther, IsStamp, listing_of, stamp_file_name};
+ghost use Rattle.game_status.specs.Listings.{AddsStamps, AreListed, CannotList, CannotListOther, IsStamp, ListsStamps, kept_ending, listing_of, stamp_file_name};
 ghost use Rattle.game_status.specs.Inside.Listing.{ListsFolder, ListsOther};
 
 use std::alloc::{AllocError, Global};
@@ -33,7 +33,7 @@ pub fn stamp_of(digits: &[u8]) -> Option<[u8; 16]>
 }
 
 /// The stamp whose file with this ending has the name.
-fn stamp_in(name: &[u8], ending: &[u8]) -> Option<[u8; 16]>
+pub(crate) fn stamp_in(name: &[u8], ending: &[u8]) -> Option<[u8; 16]>
     ensures some { IfSome result (λ stamp. IsStamp stamp × (name.now ≡ stamp_file_name stamp ending.now)) }
     ensures none { IfNone result ((stamp : List ℕ) → IsStamp stamp → name.now ≡ stamp_file_name stamp ending.now → ⊥) }
 {
@@ -80,6 +80,26 @@ fn rising(alloc: Global, stamps: &BTreeSet<[u8; 16]>) -> Result<Vec<[u8; 16]>, A
         all.push(*stamp)?;
     }
     Ok(all)
+}
+
+/// The stamps of the records that a folder lists.
+pub(crate) fn kept_stamps<D: Disk>(
+    alloc: Global,
+    disk: &D,
+    path: &str,
+) -> Result<BTreeSet<[u8; 16]>, ReadFault>
+    ensures ok { IfOk result (λ stamps. ListsStamps (D.facts disk.now) path.now kept_ending stamps.keys) }
+    ensures cause { IsErrOf result ReadFault.Unreadable → (D.facts disk.now).fails (AtFolder path.now) }
+{
+    let names = match disk.names(alloc, path) {
+        Ok(names) => names,
+        Err(fault) => return Err(fault),
+    };
+    let mut kept = BTreeSet::new(alloc);
+    match add_stamps(&names, b".kept", &mut kept) {
+        Ok(()) => Ok(kept),
+        Err(_) => Err(ReadFault::OutOfMemory),
+    }
 }
 
 /// A folder of games as it was listed.

@@ -5,8 +5,8 @@ use Rattle.std.proofs.lemmas.List.{take_more}
 use Rattle.std.specs.Str.{bytes_eq}
 use Rattle.sqlite.specs.Effect.{Database}
 use Rattle.sqlite.specs.State.{State}
-use Rattle.game_store.specs.declared.entry.Entry.{Entry}
-use Rattle.game_store.specs.Games.{Games, entry_game, with_entry, with_all}
+use Rattle.system_io.specs.declared.record_store.Entry.{Entry}
+use Rattle.system_io.specs.Records.{Records, entry_record, with_entry, with_all}
 use Rattle.game_store.specs.Rows.{AreApart, Numbers, games_in}
 use Rattle.game_store.specs.Batches.{Becomes, HasRows, PutsRow}
 use Rattle.game_store.proofs.PutLemmas.{put_rows}
@@ -20,9 +20,9 @@ pub becomes_more : (numbers : Numbers) → AreApart numbers → (entries : List 
 becomes_more numbers apart entries i e number within is has whole low few old mid new before put =
     let rows = put_rows numbers apart number e has whole low few (mid.now.trees 0) (new.now.trees 0) before.has.rows put.put in
     let all : take (i + 1) entries ≡ take i entries ++ e ∷ [] = take_more entries i e within ∙ ap (λ x. take i entries ++ x ∷ []) (sym is) in
-    let games : Games = games_in (old.trees 0) in
+    let games : Records = games_in (old.trees 0) in
     record {
       has = record { schema = put.schema; sound = put.sound; rows = rows.0 };
-      games = λ s. rows.1 s ∙ ap (cond (bytes_eq e.stamp s) (Some (entry_game e))) (before.games s)
-          ∙ ap (λ (f : Games). f s) (sym (ap (with_all games) all ∙ fold-append with_entry games (take i entries) (e ∷ [])));
+      games = λ s. rows.1 s ∙ ap (cond (bytes_eq e.stamp s) (Some (entry_record e))) (before.games s)
+          ∙ ap (λ (f : Records). f s) (sym (ap (with_all games) all ∙ fold-append with_entry games (take i entries) (e ∷ [])));
     }

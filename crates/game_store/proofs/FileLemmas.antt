@@ -9,14 +9,14 @@ use Rattle.sqlite_trees.specs.Props.{Trees-set}
 use Rattle.sqlite.specs.declared.file.Leftover.{Leftover}
 use Rattle.sqlite.specs.declared.file.Leftover.TheVariants as left
 use Rattle.sqlite.specs.Files.{AreFoundIn, HoldsDatabase, LeavesFiles}
-use Rattle.game_store.specs.declared.entry.Entry.{Entry}
-use Rattle.game_store.specs.declared.fault.StoreFault.{StoreFault}
-use Rattle.game_store.specs.Games.{Games, with_all}
-use Rattle.game_store.specs.Shelves.{AreSame, HoldsGames}
+use Rattle.system_io.specs.declared.record_store.Entry.{Entry}
+use Rattle.game_store.specs.declared.fault.DatabaseFault.{DatabaseFault}
+use Rattle.system_io.specs.Records.{Records, with_all, AreSame}
+use Rattle.game_store.specs.Shelves.{HoldsGames}
 use Rattle.game_store.specs.Files.{FindsBatch, FindsGames, LeavesGames}
 use Rattle.game_store.proofs.StoreLemmas.{holds_same, one_choice}
 
-pub finds_games : (image : Image) (trees : Trees) (games : Games) → AreFoundIn image trees → ((db : Trees) → HoldsDatabase image db → trees ≡ db) → HoldsGames trees games → FindsGames image games
+pub finds_games : (image : Image) (trees : Trees) (games : Records) → AreFoundIn image trees → ((db : Trees) → HoldsDatabase image db → trees ≡ db) → HoldsGames trees games → FindsGames image games
 finds_games image trees games reads holds has = record {
   trees = trees;
   reads = reads;
@@ -30,7 +30,7 @@ module _ {D : Type 0} {g : Ghosts D} where
   leaves_games files (left.Unopened now) h = h
   leaves_games files (left.Store now) h = λ found may db held games has. subst (λ (t : Trees). HoldsGames t games) (sym ((h found may).1 db held)) has
 
-pub finds_batch : (was now : Games) (entries : List Entry) (r : Result (Unit {0}) StoreFault) (db : Trees) → OnOk r (AreSame now (with_all was entries))
+pub finds_batch : (was now : Records) (entries : List Entry) (r : Result (Unit {0}) DatabaseFault) (db : Trees) → OnOk r (AreSame now (with_all was entries))
     → OnOk r (HoldsGames db now) → HoldsGames db was ⊎ HoldsGames db (with_all was entries) → FindsBatch was entries r db
 finds_batch was now entries (Ok done) db same has either = holds_same db now (with_all was entries) (λ stamp. sym (same stamp)) has
 finds_batch was now entries (Err e) db same has either = either

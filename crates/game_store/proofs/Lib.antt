@@ -8,3 +8,5 @@ pub mod ShelfLemmas
 pub mod StoreLemmas
 pub mod FileLemmas
 pub mod ListLemmas
+pub mod EntryLemmas
+pub mod PlaceLemmas

@@ -1,5 +1,5 @@
 -- The games that memory lists.
-use Rattle.std.proofs.Common.{◌≡◌, ℕ, List, [], ◌∷◌, ◌++◌, map, Bool, true, false, cond, Option, Some, None, option_map, option_and_then, refl, sym, ap, ◌∙◌, subst, Less, Equal, Ordering}
+use Rattle.std.proofs.Common.{◌≡◌, ℕ, List, [], ◌∷◌, ◌++◌, map, Bool, true, false, cond, Option, Some, None, option_map, option_and_then, refl, sym, ap, ◌∙◌, Less, Equal}
 use Rattle.std.specs.List.{AllByRecursion}
 use Rattle.std.specs.List.Sorted.{IsStrictlySortedBy}
 use Rattle.std.specs.Map.{lookup, keys_of}
@@ -7,11 +7,9 @@ use Rattle.std.specs.BTreeMap.{is_at}
 use Rattle.std.specs.Ordering.{nat_cmp}
 use Rattle.std.specs.Cmp.Lexicographic.{slice_cmp}
 use Rattle.std.specs.Str.{bytes_eq}
-use Rattle.std.proofs.lemmas.Bool.{cases_Bool}
 use Rattle.std.proofs.lemmas.Cmp.{nat_list_cmp_total, tied_itself}
 use Rattle.game_store.specs.declared.memory.Slot.{Slot}
 use Rattle.game_store.specs.declared.memory.Text.{Text}
-use Rattle.game_store.specs.Games.{Game}
 use Rattle.game_store.specs.Slots.{Slots, game_at, game_of_text}
 use Rattle.game_store.specs.Listing.{Listed, ListsGames, listed_games, listed_if}
 use Rattle.game_store.proofs.SlotLemmas.{is_at_same, one_stamp}
@@ -19,7 +17,7 @@ use Rattle.game_store.proofs.SlotLemmas.{is_at_same, one_stamp}
 abbrev stamps : List Listed → List (List ℕ)
 stamps = map (λ (e : Listed). e.0)
 
-unlike : (k q : List ℕ) → slice_cmp nat_cmp k q ≡ Less → (b : Bool) → bytes_eq k q ≡ b → b ≡ false
+pub unlike : (k q : List ℕ) → slice_cmp nat_cmp k q ≡ Less → (b : Bool) → bytes_eq k q ≡ b → b ≡ false
 unlike k q less false is = refl
 unlike k q less true is =
     let tied : Less ≡ Equal = sym less ∙ ap (slice_cmp nat_cmp k) (sym (one_stamp k q is)) ∙ tied_itself nat_list_cmp_total k in

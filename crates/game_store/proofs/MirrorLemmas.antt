@@ -10,9 +10,9 @@ use Rattle.std.specs.Str.{bytes_eq}
 use Rattle.sqlite.specs.Order.{Row, column}
 use Rattle.sqlite.specs.Effect.{Database}
 use Rattle.sqlite_catalog.specs.Listing.{IsSound}
-use Rattle.game_store.specs.declared.entry.Entry.{Entry}
+use Rattle.system_io.specs.declared.record_store.Entry.{Entry}
 use Rattle.game_store.specs.declared.memory.Slot.{Slot}
-use Rattle.game_store.specs.Games.{entry_game}
+use Rattle.system_io.specs.Records.{entry_record}
 use Rattle.game_store.specs.Rows.{AreRows, IsRow, game_in, games_in, game_schema, is_stamp_value, list_row}
 use Rattle.game_store.specs.Slots.{Slots, Takes, game_at, game_of_text, number_at, slot_at}
 use Rattle.game_store.specs.Shelves.{HasRead, HasRow, Mirrors, TakesRow}
@@ -94,7 +94,7 @@ rows_of slots (r ∷ rows) all = (row_of slots r (All-head (HasRow slots) (list_
 game_of_row : (slots : Slots) (r : Row) (stamp : List ℕ) → HasRow slots (list_row r) → is_stamp_value stamp (column r 2) ≡ true → game_at slots stamp ≡ Some (game_in r)
 game_of_row slots r stamp has of =
     let same : has.entry.stamp ≡ stamp = one_stamp has.entry.stamp stamp (sym (ap (is_stamp_value stamp) has.told.stamp_is) ∙ of) in
-    let game : game_in r ≡ entry_game has.entry = rw (has.told.count_is, has.told.text_is) refl in
+    let game : game_in r ≡ entry_record has.entry = rw (has.told.count_is, has.told.text_is) refl in
     ap (game_at slots) (sym same) ∙ has.kept ∙ ap (λ g. Some g) (sym game)
 
 scan : (slots : Slots) (stamp : List ℕ) (rows : List Row) → All (HasRow slots) (map list_row rows)

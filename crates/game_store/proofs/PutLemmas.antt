@@ -18,8 +18,8 @@ use Rattle.sqlite_rules.specs.Lists.{Has}
 use Rattle.sqlite_rules.specs.Edit.{without_all, id_in}
 use Rattle.sqlite_rules.specs.Calls.{ids_of}
 use Rattle.sqlite_rules.specs.Keys.{conflicts}
-use Rattle.game_store.specs.declared.entry.Entry.{Entry}
-use Rattle.game_store.specs.Games.{entry_game, with_entry}
+use Rattle.system_io.specs.declared.record_store.Entry.{Entry}
+use Rattle.system_io.specs.Records.{entry_record, with_entry}
 use Rattle.game_store.specs.Rows.{HasPut, IsRow, AreRows, AreApart, Numbers, game_in, games_in, is_stamp_value, stored_row, table}
 use Rattle.std.proofs.lemmas.Int.{ints}
 use Rattle.game_store.proofs.SlotLemmas.{one_stamp, own_stamp}
@@ -112,8 +112,8 @@ module _ (numbers : Numbers) (apart : AreApart numbers) (number : ℕ) (e : Entr
   games_put s unlike [] all = rw unlike refl
   games_put s unlike (r ∷ rows) all = games_by s unlike r rows all.0 (games_put s unlike rows all.1) (value_cmp (rowid r) (Int (pos number))) refl
 
-  first_here : (s : List ℕ) → s ≡ e.stamp → (more : List Row) → games_in (new ∷ more) s ≡ Some (entry_game e)
-  first_here s is more = ap (λ b. cond b (Some (entry_game e)) (games_in more s)) (ap (bytes_eq e.stamp) is ∙ own_stamp e.stamp)
+  first_here : (s : List ℕ) → s ≡ e.stamp → (more : List Row) → games_in (new ∷ more) s ≡ Some (entry_record e)
+  first_here s is more = ap (λ b. cond b (Some (entry_record e)) (games_in more s)) (ap (bytes_eq e.stamp) is ∙ own_stamp e.stamp)
 
   skips : (s : List ℕ) → s ≡ e.stamp → (r : Row) → IsRow numbers r → value_cmp (rowid r) (Int (pos number)) ≡ Less → (b : Bool) → is_stamp_value s (column r 2) ≡ b → b ≡ false
   skips s is r row low false of = refl
@@ -121,13 +121,13 @@ module _ (numbers : Numbers) (apart : AreApart numbers) (number : ℕ) (e : Entr
       let tied : Less ≡ Equal = sym low ∙ ap (λ v. value_cmp v (Int (pos number))) (numbered r s row is of) ∙ tied_itself value_cmp_total (Int (pos number)) in
       absurd cc
 
-  own_by : (s : List ℕ) → s ≡ e.stamp → (r : Row) (rows : List Row) → IsRow numbers r → games_in (put_row new rows) s ≡ Some (entry_game e)
-      → (o : Ordering) → value_cmp (rowid r) (Int (pos number)) ≡ o → games_in (match_ordering o (r ∷ put_row new rows) (new ∷ rows) (new ∷ r ∷ rows)) s ≡ Some (entry_game e)
+  own_by : (s : List ℕ) → s ≡ e.stamp → (r : Row) (rows : List Row) → IsRow numbers r → games_in (put_row new rows) s ≡ Some (entry_record e)
+      → (o : Ordering) → value_cmp (rowid r) (Int (pos number)) ≡ o → games_in (match_ordering o (r ∷ put_row new rows) (new ∷ rows) (new ∷ r ∷ rows)) s ≡ Some (entry_record e)
   own_by s is r rows row tail Less low = ap (λ b. cond b (Some (game_in r)) (games_in (put_row new rows) s)) (skips s is r row low (is_stamp_value s (column r 2)) refl) ∙ tail
   own_by s is r rows row tail Equal tied = first_here s is rows
   own_by s is r rows row tail Greater tied = first_here s is (r ∷ rows)
 
-  own_put : (s : List ℕ) → s ≡ e.stamp → (rows : List Row) → AreRows numbers rows → games_in (put_row new rows) s ≡ Some (entry_game e)
+  own_put : (s : List ℕ) → s ≡ e.stamp → (rows : List Row) → AreRows numbers rows → games_in (put_row new rows) s ≡ Some (entry_record e)
   own_put s is [] all = first_here s is []
   own_put s is (r ∷ rows) all = own_by s is r rows all.0 (own_put s is rows all.1) (value_cmp (rowid r) (Int (pos number))) refl
 

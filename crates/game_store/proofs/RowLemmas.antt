@@ -26,7 +26,7 @@ use Rattle.sqlite.specs.Does.{Tally, Does}
 use Rattle.sqlite.specs.Rows.{Written, Task, TriesEach, Tries, Clears, Puts, Judged, nothing, rowids_for, mended, count_of}
 use Rattle.sqlite.specs.Effect.{Database, IsDatabase}
 use Rattle.sqlite.specs.State.{State, mode_of, Executes}
-use Rattle.game_store.specs.declared.entry.Entry.{Entry}
+use Rattle.system_io.specs.declared.record_store.Entry.{Entry}
 use Rattle.game_store.specs.Rows.{HasPut, table, game_schema, put_parameters, put_text, stored_row}
 
 abbrev terms : List Term

@@ -8,7 +8,7 @@ use Rattle.sqlite_trees.specs.Objects.{catalog_tree}
 use Rattle.sqlite.specs.Effect.{Database}
 use Rattle.sqlite.specs.State.{State}
 use Rattle.sqlite_catalog.specs.Listing.{IsSound, IsTableRow, is_table_row}
-use Rattle.game_store.specs.Games.{Games}
+use Rattle.system_io.specs.Records.{Records}
 use Rattle.game_store.specs.Rows.{AreRows, Numbers, game_schema, games_in, no_schema, table}
 use Rattle.game_store.specs.Slots.{Slots, game_at, number_at}
 use Rattle.game_store.specs.Shelves.{HoldsGames, IsReady, KeepsGames, Mirrors}
@@ -21,7 +21,7 @@ one_list (r ∷ rows) one none = none
 pub apart : (db : Trees) → IsSound game_schema db → IsSound no_schema db → ⊥
 apart db some none = one_list (filter is_table_row (db catalog_tree)) some.lists.listed.tables none.lists.listed.tables
 
-pub holds_none : (db : Trees) (games : Games) → IsSound game_schema db → db 0 ≡ [] → ((stamp : List ℕ) → games stamp ≡ None) → HoldsGames db games
+pub holds_none : (db : Trees) (games : Records) → IsSound game_schema db → db 0 ≡ [] → ((stamp : List ℕ) → games stamp ≡ None) → HoldsGames db games
 holds_none db games sound empty none =
     let numbers : Numbers = λ stamp. None in
     inl (sound, (numbers, subst (AreRows numbers) (sym empty) tt), λ stamp. ap (λ rows. games_in rows stamp) empty ∙ sym (none stamp))

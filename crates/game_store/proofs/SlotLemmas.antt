@@ -8,9 +8,9 @@ use Rattle.std.proofs.lemmas.Bool.{cases_Bool}
 use Rattle.std.proofs.lemmas.Bool.Decides.{nat_tests}
 use Rattle.std.proofs.lemmas.Cmp.{same_from_slice_cmp}
 use Rattle.std.proofs.lemmas.Slice.Eq.{bytes_eq-Decides}
-use Rattle.game_store.specs.declared.entry.Entry.{Entry}
+use Rattle.system_io.specs.declared.record_store.Entry.{Entry}
 use Rattle.game_store.specs.declared.memory.Slot.{Slot}
-use Rattle.game_store.specs.Games.{Games, entry_game, with_entry, with_all}
+use Rattle.system_io.specs.Records.{Records, entry_record, with_entry, with_all}
 use Rattle.game_store.specs.Rows.{Numbers, AreApart}
 use Rattle.game_store.specs.Slots.{Slots, slot_at, number_at, game_at, game_of_text, KeepsNumbers, HasSame, HaveNumbers}
 
@@ -75,9 +75,9 @@ module _ (old new : Numbers) (k : List ℕ) (last number : ℕ) (put : (q : List
   ]
 
 -- a list of entries, put in turn, makes the same of games that are the same
-pub with_all_same : (a b : Games) (entries : List Entry) → ((q : List ℕ) → a q ≡ b q) → (q : List ℕ) → with_all a entries q ≡ with_all b entries q
+pub with_all_same : (a b : Records) (entries : List Entry) → ((q : List ℕ) → a q ≡ b q) → (q : List ℕ) → with_all a entries q ≡ with_all b entries q
 with_all_same a b [] same q = same q
-with_all_same a b (e ∷ more) same q = with_all_same (with_entry a e) (with_entry b e) more (λ p. ap (λ g. cond (bytes_eq e.stamp p) (Some (entry_game e)) g) (same p)) q
+with_all_same a b (e ∷ more) same q = with_all_same (with_entry a e) (with_entry b e) more (λ p. ap (λ g. cond (bytes_eq e.stamp p) (Some (entry_record e)) g) (same p)) q
 
 pub no_slot : (o : Option Slot) → false ≡ is_some o → o ≡ None
 no_slot None e = refl

@@ -5,12 +5,12 @@ use Rattle.sqlite.specs.Order.{Row}
 use Rattle.sqlite.specs.Tree.{Trees}
 use Rattle.sqlite.specs.Effect.{Database}
 use Rattle.sqlite.specs.State.{State, HasCleanDisk, Survives}
-use Rattle.game_store.specs.declared.entry.Entry.{Entry}
-use Rattle.game_store.specs.Games.{Games, with_all}
+use Rattle.system_io.specs.declared.record_store.Entry.{Entry}
+use Rattle.system_io.specs.Records.{Records, with_all, AreSame}
 use Rattle.game_store.specs.Rows.{AreRows, IsRow, Numbers, games_in}
 use Rattle.game_store.specs.Slots.{Slots, HasSame, KeepsNumbers, game_at, number_at}
 use Rattle.game_store.specs.Batches.{Becomes, HasRows}
-use Rattle.game_store.specs.Shelves.{AreSame, HoldsGames, Mirrors}
+use Rattle.game_store.specs.Shelves.{HoldsGames, Mirrors}
 use Rattle.game_store.proofs.SlotLemmas.{with_all_same}
 use Rattle.game_store.proofs.ShelfLemmas.{apart}
 
@@ -59,14 +59,14 @@ holds_batch numbers entries old trees it =
     subst (λ (t : Trees). HoldsGames t (with_all (games_in (old.trees 0)) entries)) (sym it.2) (inl (it.1.has.sound, (numbers, it.1.has.rows), it.1.games))
 
 -- a database holds one choice of games
-pub one_choice : (db : Trees) (a b : Games) → HoldsGames db a → HoldsGames db b → AreSame a b
+pub one_choice : (db : Trees) (a b : Records) → HoldsGames db a → HoldsGames db b → AreSame a b
 one_choice db a b (inl x) (inl y) = λ stamp. sym (x.2 stamp) ∙ y.2 stamp
 one_choice db a b (inl x) (inr y) = absurd (apart db x.0 y.0)
 one_choice db a b (inr x) (inl y) = absurd (apart db y.0 x.0)
 one_choice db a b (inr x) (inr y) = λ stamp. x.1 stamp ∙ sym (y.1 stamp)
 
 -- and those of another one are no more than its own
-pub holds_same : (db : Trees) (a b : Games) → AreSame b a → HoldsGames db a → HoldsGames db b
+pub holds_same : (db : Trees) (a b : Records) → AreSame b a → HoldsGames db a → HoldsGames db b
 holds_same db a b same (inl x) = inl (x.0, x.1, λ stamp. x.2 stamp ∙ sym (same stamp))
 holds_same db a b same (inr x) = inr (x.0, λ stamp. same stamp ∙ x.1 stamp)
 

@@ -4,8 +4,8 @@ use Rattle.sqlite.specs.Effect.{Database}
 use Rattle.sqlite_trees.specs.Tree.{Trees}
 use Rattle.sqlite.specs.State.{State}
 use Rattle.sqlite_catalog.specs.Listing.{IsSound}
-use Rattle.game_store.specs.declared.entry.Entry.{Entry}
-use Rattle.game_store.specs.Games.{with_all}
+use Rattle.system_io.specs.declared.record_store.Entry.{Entry}
+use Rattle.system_io.specs.Records.{with_all}
 use Rattle.game_store.specs.Rows.{AreRows, HasPut, Numbers, game_schema, games_in, stored_row}
 
 -- the database has the table of the games alone, and rows of games under their numbers

@@ -10,26 +10,26 @@ use Rattle.sqlite.specs.declared.file.Leftover.{Leftover}
 use Rattle.sqlite.specs.declared.file.Leftover.TheVariants as left
 use Rattle.sqlite.specs.Files.{AreFoundIn, HoldsDatabase, LeavesFiles, image_of}
 use Rattle.sqlite.specs.Closing.{HoldsAlone}
-use Rattle.game_store.specs.declared.entry.Entry.{Entry}
-use Rattle.game_store.specs.declared.fault.StoreFault.{StoreFault}
-use Rattle.game_store.specs.Games.{Games, with_all}
-use Rattle.game_store.specs.Shelves.{AreSame, HoldsBatchOrNot, HoldsGames, KeepsGames}
+use Rattle.system_io.specs.declared.record_store.Entry.{Entry}
+use Rattle.game_store.specs.declared.fault.DatabaseFault.{DatabaseFault}
+use Rattle.system_io.specs.Records.{Records, with_all, AreSame}
+use Rattle.game_store.specs.Shelves.{HoldsBatchOrNot, HoldsGames, KeepsGames}
 
 -- these are the games of what two files recover to, a database or nothing yet, and of each database that they hold
-pub record FindsGames (image : Image) (games : Games) : Type 0 where
+pub record FindsGames (image : Image) (games : Records) : Type 0 where
   pub trees : Trees
   pub reads : AreFoundIn image trees
   pub holds : HoldsGames trees games
-  pub same : (db : Trees) (other : Games) → ∥ HoldsDatabase image db ∥₁ → HoldsGames db other → AreSame games other
+  pub same : (db : Trees) (other : Records) → ∥ HoldsDatabase image db ∥₁ → HoldsGames db other → AreSame games other
 
 -- the database file alone holds a database with these games, and so do the two files
-pub record HoldsGamesAlone (image : Image) (games : Games) : Type 0 where
+pub record HoldsGamesAlone (image : Image) (games : Records) : Type 0 where
   pub trees : Trees
   pub alone : HoldsAlone image trees
   pub holds : HoldsGames trees games
 
 -- a batch is there, or it was not acknowledged and the games are as they were
-abbrev pub FindsBatch : Games → List Entry → Result (Unit {0}) StoreFault → Trees → Type 0
+abbrev pub FindsBatch : Records → List Entry → Result (Unit {0}) DatabaseFault → Trees → Type 0
 FindsBatch games entries (Ok done) db = HoldsGames db (with_all games entries)
 FindsBatch games entries (Err e) db = HoldsBatchOrNot games entries db
 

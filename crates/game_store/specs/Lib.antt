@@ -1,4 +1,3 @@
-pub mod Games
 pub mod Moments
 pub mod Rows
 pub mod Slots
@@ -7,3 +6,4 @@ pub mod Shelves
 pub mod Tables
 pub mod Files
 pub mod Listing
+pub mod Places

@@ -16,8 +16,8 @@ use Rattle.sqlite_rules.specs.Keys.{AreConflicts}
 use Rattle.sqlite_rules.specs.Edit.{without_all}
 use Rattle.sqlite_rules.specs.Calls.{ids_of}
 use Rattle.sqlite_trees.specs.Tree.{put_row}
-use Rattle.game_store.specs.declared.entry.Entry.{Entry}
-use Rattle.game_store.specs.Games.{Game, Games}
+use Rattle.system_io.specs.declared.record_store.Entry.{Entry}
+use Rattle.system_io.specs.Records.{StoredRecord, Records}
 
 abbrev pub column_of : List ℕ → Kind → Bool → Column
 column_of name kind not_null = record { name = name; kind = kind; is_strict = true; not_null = not_null; default = Null; collation = Binary }
@@ -69,11 +69,11 @@ number_in (Real x) = 0
 number_in (Text t) = 0
 number_in (Bytes b) = 0
 
-abbrev pub game_in : Row → Game
+abbrev pub game_in : Row → StoredRecord
 game_in r = record { count = number_in (column r 3); bytes = bytes (column r 4) }
 
 -- what the rows say of each game
-abbrev pub games_in : List Row → Games
+abbrev pub games_in : List Row → Records
 games_in [] stamp = None
 games_in (r ∷ rows) stamp = if is_stamp_value stamp (column r 2) then Some (game_in r) else games_in rows stamp
 

@@ -10,8 +10,8 @@ use Rattle.sqlite.specs.Store.{Ghosts}
 use Rattle.std.specs.Coded.{Coded, code_by, coded×, coded_ℕ, coded_list}
 use Rattle.game_store.specs.contracts.memory.Slot as slot
 use Rattle.sqlite_catalog.specs.Listing.{IsSound}
-use Rattle.game_store.specs.declared.entry.Entry.{Entry}
-use Rattle.game_store.specs.Games.{Games, entry_game, with_all}
+use Rattle.system_io.specs.declared.record_store.Entry.{Entry}
+use Rattle.system_io.specs.Records.{StoreFacts, Records, entry_record, with_all}
 use Rattle.game_store.specs.Rows.{AreRows, Numbers, game_schema, games_in, is_stamp_value, list_row, no_schema}
 use Rattle.game_store.specs.Slots.{Slots, Takes, game_at, number_at}
 use Rattle.game_store.specs.Batches.{HasRows}
@@ -22,7 +22,7 @@ pub record Mirrors (slots : Slots) (db : Database) : Type 0 where
   pub games : (stamp : List ℕ) → game_at slots stamp ≡ games_in (db.trees 0) stamp
 
 -- the database has the table of the games with these games, or nothing at all and there is no game
-abbrev pub HoldsGames : Trees → Games → Type 0
+abbrev pub HoldsGames : Trees → Records → Type 0
 HoldsGames db games =
     (IsSound game_schema db × ((numbers : Numbers) × AreRows numbers (db 0)) × ((stamp : List ℕ) → games_in (db 0) stamp ≡ games stamp))
     ⊎ (IsSound no_schema db × ((stamp : List ℕ) → games stamp ≡ None))
@@ -52,7 +52,7 @@ pub record HasRow (slots : Slots) (r : Row) : Type 0 where
   pub entry : Entry
   pub told : TellsEntry r number entry
   pub numbered : number_at slots entry.stamp ≡ Some number
-  pub kept : game_at slots entry.stamp ≡ Some (entry_game entry)
+  pub kept : game_at slots entry.stamp ≡ Some (entry_record entry)
 
 -- memory has what these rows tell, and no other game
 pub record HasRead (rows : List Row) (slots : Slots) : Type 0 where
@@ -78,14 +78,14 @@ pub record MakesTable (old new : State) : Type 0 where
 
 -- each game that a database holds, or that it has none, holds of another too
 abbrev pub KeepsGames : Trees → Trees → Type 0
-KeepsGames old new = (games : Games) → HoldsGames old games → HoldsGames new games
+KeepsGames old new = (games : Records) → HoldsGames old games → HoldsGames new games
 
 -- each game that is committed, where the database is open
 abbrev pub KeepsCommitted : State → Trees → Type 0
 KeepsCommitted old db = IsTrue old.is_open → KeepsGames old.committed.trees db
 
 -- these games, or all with the whole batch
-abbrev pub HoldsBatchOrNot : Games → List Entry → Trees → Type 0
+abbrev pub HoldsBatchOrNot : Records → List Entry → Trees → Type 0
 HoldsBatchOrNot games entries db = HoldsGames db games ⊎ HoldsGames db (with_all games entries)
 
 -- The database has the table of the games and is committed. It is as before, or it had nothing and has no row.
@@ -126,7 +126,7 @@ module _ {S : Type 0} (g : Ghosts S) where
   IsOpen s = IsTrue (database s).is_open
 
   -- the games that the last commit left
-  abbrev pub committed : Shelf S → Games
+  abbrev pub committed : Shelf S → Records
   committed s = games_in ((database s).committed.trees 0)
 
   -- each database that a stop or a loss of power may leave now has these games
@@ -134,9 +134,14 @@ module _ {S : Type 0} (g : Ghosts S) where
   Leaves s Holds = (db : Trees) → (database s).may_leave db → Holds db
 
 -- the games in memory
-abbrev pub remembered : {S : Type 0} → Shelf S → Games
+abbrev pub remembered : {S : Type 0} → Shelf S → Records
 remembered s = game_at s.slots
 
--- the same is kept of each game
-abbrev pub AreSame : Games → Games → Type 0
-AreSame now was = (stamp : List ℕ) → now stamp ≡ was stamp
+-- what is known of it as of any store of records
+abbrev pub store_facts : {S : Type 0} → Ghosts S → Shelf S → StoreFacts
+store_facts g s = record {
+  has = remembered s;
+  starts = λ found. (db : Trees) × (database g s).may_leave db × HoldsGames db found;
+  trusted = IsTrusted g s;
+  works = IsOpen g s;
+}

@@ -4,11 +4,11 @@ use Rattle.std.specs.Ordering.{nat_cmp}
 use Rattle.std.specs.Cmp.Lexicographic.{slice_cmp}
 use Rattle.std.specs.Map.{lookup}
 use Rattle.std.specs.BTreeMap.{is_at}
-use Rattle.game_store.specs.declared.entry.Entry.{Entry}
+use Rattle.system_io.specs.declared.record_store.Entry.{Entry}
 use Rattle.game_store.specs.declared.memory.Slot.{Slot}
 use Rattle.game_store.specs.declared.memory.Text.{Text}
 use Rattle.std.specs.Str.{bytes_eq}
-use Rattle.game_store.specs.Games.{Game, Games, with_entry}
+use Rattle.system_io.specs.Records.{StoredRecord, Records, with_entry}
 use Rattle.game_store.specs.Rows.{Numbers}
 
 -- the games that have numbers, in the order of their stamps
@@ -21,11 +21,11 @@ slot_at slots stamp = lookup (is_at (slice_cmp nat_cmp stamp)) slots
 abbrev pub number_at : Slots → Numbers
 number_at slots stamp = option_map (λ (s : Slot). s.number) (slot_at slots stamp)
 
-abbrev pub game_of_text : Text → Game
+abbrev pub game_of_text : Text → StoredRecord
 game_of_text t = record { count = t.count; bytes = t.record.items }
 
 -- what memory has of each game
-abbrev pub game_at : Slots → Games
+abbrev pub game_at : Slots → Records
 game_at slots stamp = option_and_then (λ (s : Slot). option_map game_of_text s.text) (slot_at slots stamp)
 
 -- what had a number has it still

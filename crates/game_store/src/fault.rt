@@ -4,9 +4,9 @@ use sqlite::{Error, ErrorCode};
 
 /// Why a store can't be had, or a batch not be put.
 #[derive(Clone, Copy, Debug, PartialEq, Eq)]
-pub enum StoreFault {
-    /// What the database told: memory or the disk failed, or it is none that can be read.
-    Database(Error),
+pub enum DatabaseFault {
+    /// What `sqlite` told: memory or the disk failed, or it is no database that can be read.
+    Sqlite(Error),
     /// The database has other tables than that of the games.
     OtherTables,
     /// A row of its table is none of a game: its number or its count is none below 2^32, or its stamp none of 16 bytes.
@@ -18,11 +18,11 @@ pub enum StoreFault {
 }
 
 /// Memory was refused.
-pub(crate) const OUT_OF_MEMORY: StoreFault = StoreFault::Database(Error::SqliteFailure(
+pub(crate) const OUT_OF_MEMORY: DatabaseFault = DatabaseFault::Sqlite(Error::SqliteFailure(
     ErrorCode::OutOfMemory,
 ));
 
 /// The connection is in a transaction.
-pub(crate) const UNCOMMITTED: StoreFault = StoreFault::Database(Error::SqliteFailure(
+pub(crate) const UNCOMMITTED: DatabaseFault = DatabaseFault::Sqlite(Error::SqliteFailure(
     ErrorCode::TransactionState,
 ));

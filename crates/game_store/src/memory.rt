@@ -1,15 +1,16 @@
 //! The games in memory, by their stamps.
 
 ghost use Rattle.std.specs.Prelude.{◌≡◌, [], map, IfOk, IsSome, OnOk, option_map};
-ghost use Rattle.game_store.specs.Games.{with_entry, with_all};
+ghost use Rattle.system_io.specs.Records.{with_entry, with_all};
+ghost use Rattle.game_store.specs.Listing.{as_listed, listed_entry};
 ghost use Rattle.game_store.specs.Rows.{AreApart};
 ghost use Rattle.game_store.specs.Slots.{HasSame, HaveNumbers, KeepsNumbers, Takes, game_at, number_at};
 
-use crate::entry::Entry;
-use crate::fault::{OUT_OF_MEMORY, StoreFault};
+use crate::fault::{DatabaseFault, OUT_OF_MEMORY};
 use std::alloc::{AllocError, Global};
 use std::collections::BTreeMap;
 use std::marker::Model;
+use system_io::Entry;
 
 /// The row of a game, less its number.
 #[derive(Drop)]
@@ -56,7 +57,7 @@ impl Model for Memory {
 }
 
 impl Memory {
-    ghost use Rattle.game_store.specs.Listing.{ListsGames, as_listed};
+    ghost use Rattle.game_store.specs.Listing.{ListsGames};
 
     /// No game.
     pub(crate) fn new(alloc: Global) -> Memory
@@ -80,7 +81,7 @@ impl Memory {
     }
 
     /// Gives a number to a game that has none.
-    fn add(&mut self, stamp: &[u8; 16]) -> Result<(), StoreFault>
+    fn add(&mut self, stamp: &[u8; 16]) -> Result<(), DatabaseFault>
         ensures added { OnOk result (IsSome (number_at self.new stamp.now)) }
         ensures numbers { KeepsNumbers self.old self.new }
         ensures same { HasSame self.old self.new }
@@ -89,7 +90,7 @@ impl Memory {
             return Ok(());
         }
         let Some(number) = self.last.checked_add(1) else {
-            return Err(StoreFault::NoNumber);
+            return Err(DatabaseFault::NoNumber);
         };
         let slot = Slot { number, text: None };
         match self.slots.insert(*stamp, slot) {
@@ -102,7 +103,7 @@ impl Memory {
     }
 
     /// Gives a number to each game of a batch that has none.
-    pub(crate) fn add_all(&mut self, entries: &[Entry]) -> Result<(), StoreFault>
+    pub(crate) fn add_all(&mut self, entries: &[Entry]) -> Result<(), DatabaseFault>
         ensures added { OnOk result (HaveNumbers self.new entries.now) }
         ensures numbers { KeepsNumbers self.old self.new }
         ensures same { HasSame self.old self.new }
@@ -115,11 +116,11 @@ impl Memory {
 
     /// Takes a row of the table, whose rows come by their numbers. It refuses a number that isn't above those before, and a second
     /// row of a game.
-    pub(crate) fn take(&mut self, number: u32, entry: Entry) -> Result<(), StoreFault>
+    pub(crate) fn take(&mut self, number: u32, entry: Entry) -> Result<(), DatabaseFault>
         ensures ok { OnOk result (Takes number entry self.old self.new) }
     {
         if number <= self.last {
-            return Err(StoreFault::BadRow);
+            return Err(DatabaseFault::BadRow);
         }
         let Entry {
             stamp,
@@ -127,7 +128,7 @@ impl Memory {
             record,
         } = entry;
         if self.slots.contains_key(&stamp) {
-            return Err(StoreFault::SameStamp);
+            return Err(DatabaseFault::SameStamp);
         }
         let slot = Slot {
             number,
@@ -208,4 +209,28 @@ impl Memory {
         }
         Ok(all)
     }
+}
+
+/// A game of a list, as it would be put.
+fn entry_of(alloc: Global, game: &Kept<'_>) -> Result<Entry, AllocError>
+    ensures { IfOk result (λ entry. listed_entry entry ≡ as_listed game.now) }
+{
+    let record = Vec::from_slice(alloc, game.record)?;
+    Ok(Entry {
+        stamp: game.stamp,
+        count: game.count,
+        record,
+    })
+}
+
+/// The games of a list, as they would be put.
+pub(crate) fn entries_of(alloc: Global, games: &[Kept<'_>]) -> Result<Vec<Entry>, AllocError>
+    ensures { IfOk result (λ entries. map listed_entry entries.items ≡ map as_listed games.now) }
+{
+    let mut entries = Vec::new(alloc);
+    for game in games {
+        let entry = entry_of(alloc, game)?;
+        entries.push(entry)?;
+    }
+    Ok(entries)
 }

@@ -11,12 +11,12 @@ ghost use Rattle.game_store.specs.Rows.{create_text, game_schema, no_schema};
 ghost use Rattle.game_store.specs.Slots.{game_at};
 ghost use Rattle.game_store.specs.Shelves.{HasRead, HoldsGames, IsReady, KeepsCommitted, MakesTable, Mirrors, ReadsGames, ReadsRows, TakesRow, TellsEntry};
 
-use crate::entry::Entry;
-use crate::fault::{OUT_OF_MEMORY, StoreFault, UNCOMMITTED};
+use crate::fault::{DatabaseFault, OUT_OF_MEMORY, UNCOMMITTED};
 use crate::memory::Memory;
 use crate::tables::{Tables, tables_of};
 use sqlite::{Alter, Connection, Error, ErrorCode, Row};
 use std::alloc::Global;
+use system_io::Entry;
 
 /// Runs the statement that makes the table of the games.
 fn run_create<S: Alter>(conn: &mut Connection<S>) -> Result<usize, Error>
@@ -30,14 +30,14 @@ fn run_create<S: Alter>(conn: &mut Connection<S>) -> Result<usize, Error>
 }
 
 /// Makes the table of the games.
-fn create<S: Alter>(conn: &mut Connection<S>) -> Result<(), StoreFault>
+fn create<S: Alter>(conn: &mut Connection<S>) -> Result<(), DatabaseFault>
     ensures made { HasCleanDisk (state S.Store conn.new) → (state S.Store conn.old).now.schema ≡ no_schema → OnOk result (MakesTable (state S.Store conn.old) (state S.Store conn.new)) }
     ensures outside { OnOk result (conn.new.in_transaction ≡ false) }
     ensures survives { (state S.Store conn.old).now.schema ≡ no_schema
         → Survives (state S.Store conn.old) (state S.Store conn.new) (λ db. IsSound game_schema db × (db 0 ≡ [])) }
 {
     match run_create(conn) {
-        Err(error) => Err(StoreFault::Database(error)),
+        Err(error) => Err(DatabaseFault::Sqlite(error)),
         // That a statement is committed is known of a disk that tells no lie.
         Ok(_) if conn.is_autocommit() => Ok(()),
         Ok(_) => Err(UNCOMMITTED),
@@ -54,26 +54,26 @@ fn select<S: Alter>(conn: &mut Connection<S>) -> Result<Vec<Row>, Error>
 }
 
 /// What is told of a value that reads as none of its kind, or for which memory is refused.
-fn fault_of(error: Error) -> StoreFault {
+fn fault_of(error: Error) -> DatabaseFault {
     match error {
         Error::SqliteFailure(ErrorCode::OutOfMemory) => OUT_OF_MEMORY,
-        _ => StoreFault::BadRow,
+        _ => DatabaseFault::BadRow,
     }
 }
 
 /// The stamp of a row.
-fn stamp_of(row: &Row) -> Result<[u8; 16], StoreFault>
+fn stamp_of(row: &Row) -> Result<[u8; 16], DatabaseFault>
     ensures { IfOk result (λ stamp. (column row.now 1 ≡ Blob stamp) × (length stamp ≡ 16)) }
 {
     let bytes: Vec<u8> = row.get(1).map_err(fault_of)?;
     match <[u8; 16]>::try_from(bytes.as_slice()) {
         Ok(stamp) => Ok(stamp),
-        Err(_) => Err(StoreFault::BadRow),
+        Err(_) => Err(DatabaseFault::BadRow),
     }
 }
 
 /// The number of a row, and its record with its stamp.
-fn told_by(row: &Row) -> Result<(u32, Entry), StoreFault>
+fn told_by(row: &Row) -> Result<(u32, Entry), DatabaseFault>
     ensures { IfOk result (λ told. TellsEntry row.now told.0 told.1) }
 {
     let number: u32 = row.get(0).map_err(fault_of)?;
@@ -89,7 +89,7 @@ fn told_by(row: &Row) -> Result<(u32, Entry), StoreFault>
 }
 
 /// Takes a row.
-fn load(memory: &mut Memory, row: &Row) -> Result<(), StoreFault>
+fn load(memory: &mut Memory, row: &Row) -> Result<(), DatabaseFault>
     ensures { OnOk result (TakesRow row.now memory.old memory.new) }
 {
     let (number, entry) = told_by(row)?;
@@ -97,7 +97,7 @@ fn load(memory: &mut Memory, row: &Row) -> Result<(), StoreFault>
 }
 
 /// Takes each row.
-fn load_all(memory: &mut Memory, rows: &[Row]) -> Result<(), StoreFault>
+fn load_all(memory: &mut Memory, rows: &[Row]) -> Result<(), DatabaseFault>
     requires { memory.old ≡ [] }
     ensures { OnOk result (HasRead rows.now memory.new) }
 {
@@ -108,14 +108,14 @@ fn load_all(memory: &mut Memory, rows: &[Row]) -> Result<(), StoreFault>
 }
 
 /// Reads all games.
-fn read<S: Alter>(alloc: Global, conn: &mut Connection<S>) -> Result<Memory, StoreFault>
+fn read<S: Alter>(alloc: Global, conn: &mut Connection<S>) -> Result<Memory, DatabaseFault>
     ensures mirrors { WhereTrusted (λ old new. old.now.schema ≡ game_schema → IfOk result (λ memory. ReadsGames memory old new)) (state S.Store conn.old) (state S.Store conn.new) }
     ensures outside { conn.old.in_transaction ≡ false → conn.new.in_transaction ≡ false }
     ensures survives { Survives (state S.Store conn.old) (state S.Store conn.new) (λ _. (state S.Store conn.old).now.schema ≢ game_schema) }
 {
     let rows = match select(conn) {
         Ok(rows) => rows,
-        Err(error) => return Err(StoreFault::Database(error)),
+        Err(error) => return Err(DatabaseFault::Sqlite(error)),
     };
     let mut memory = Memory::new(alloc);
     load_all(&mut memory, &rows)?;
@@ -123,7 +123,7 @@ fn read<S: Alter>(alloc: Global, conn: &mut Connection<S>) -> Result<Memory, Sto
 }
 
 /// Makes the table where the database has none, and refuses one that has others.
-fn make_table<S: Alter>(conn: &mut Connection<S>) -> Result<(), StoreFault>
+fn make_table<S: Alter>(conn: &mut Connection<S>) -> Result<(), DatabaseFault>
     ensures outside { OnOk result (conn.new.in_transaction ≡ false) }
     ensures ready { HasCleanDisk (state S.Store conn.new) → IsTrue (state S.Store conn.new).is_open → OnOk result (IsReady (state S.Store conn.old) (state S.Store conn.new)) }
     ensures schema { HasCleanDisk (state S.Store conn.new) → OnOk result ((state S.Store conn.new).now.schema ≡ game_schema) }
@@ -134,7 +134,7 @@ fn make_table<S: Alter>(conn: &mut Connection<S>) -> Result<(), StoreFault>
     }
     match tables_of(conn.schema()) {
         Tables::Games => Ok(()),
-        Tables::Others => Err(StoreFault::OtherTables),
+        Tables::Others => Err(DatabaseFault::OtherTables),
         Tables::Nothing => create(conn),
     }
 }
@@ -143,7 +143,7 @@ fn make_table<S: Alter>(conn: &mut Connection<S>) -> Result<(), StoreFault>
 pub(crate) fn prepare<S: Alter>(
     alloc: Global,
     conn: &mut Connection<S>,
-) -> Result<Memory, StoreFault>
+) -> Result<Memory, DatabaseFault>
     ensures outside { OnOk result (conn.new.in_transaction ≡ false) }
     ensures mirrors { HasCleanDisk (state S.Store conn.new) → IfOk result (λ memory. IsTrue (state S.Store conn.new).is_open × Mirrors memory (state S.Store conn.new).committed) }
     ensures found { HasCleanDisk (state S.Store conn.new) → IfOk result (λ memory. HoldsGames (state S.Store conn.old).committed.trees (game_at memory)) }

@@ -3,18 +3,18 @@
 ghost use Rattle.std.specs.Prelude.{◌≡◌, IfOk, IfErr, OnOk, OnErr, map, option_map};
 ghost use Rattle.sqlite.specs.State.{HasCleanDisk, Survives};
 ghost use Rattle.sqlite.specs.Held.{state};
-ghost use Rattle.game_store.specs.Games.{with_all};
+ghost use Rattle.system_io.specs.Records.{AreSame, records_of, with_all};
 ghost use Rattle.game_store.specs.Listing.{ListsGames, as_listed};
-ghost use Rattle.game_store.specs.Shelves.{AreSame, HoldsBatchOrNot, HoldsGames, IsOpen, IsTrusted, KeepsCommitted, Leaves, committed, database, remembered};
+ghost use Rattle.game_store.specs.Shelves.{HoldsBatchOrNot, HoldsGames, IsOpen, IsTrusted, KeepsCommitted, Leaves, committed, database, remembered};
 
-use crate::entry::Entry;
-use crate::fault::StoreFault;
-use crate::memory::{Kept, Memory};
+use crate::fault::DatabaseFault;
+use crate::memory::{Kept, Memory, entries_of};
 use crate::reading::prepare;
 use crate::writing::put;
 use sqlite::{Alter, Connection};
 use std::alloc::{AllocError, Global};
 use std::marker::Model;
+use system_io::{Entry, RecordStore, StoreFailed};
 
 /// The records of all games of a folder, in a database and in memory.
 pub struct Store<S: Alter> {
@@ -47,11 +47,12 @@ impl<S: Alter> Store<S> {
     pub fn over(
         alloc: Global,
         mut conn: Connection<S>,
-    ) -> Result<Store<S>, (StoreFault, Connection<S>)>
+    ) -> Result<Store<S>, (DatabaseFault, Connection<S>)>
         // It has the games that the database held, and each loss of power leaves them.
         ensures found { IfOk result (λ store. IsTrusted S.Store store → HoldsGames (state S.Store conn).committed.trees (committed S.Store store)) }
         ensures open { IfOk result (λ store. IsTrusted S.Store store → IsOpen S.Store store) }
         ensures lasts { IfOk result (λ store. IsTrusted S.Store store → Leaves S.Store store (λ db. HoldsGames db (committed S.Store store))) }
+        ensures has { IfOk result (λ store. IsTrusted S.Store store → AreSame (remembered store) (committed S.Store store)) }
 
         // A stop or a loss of power within the call leaves what it could leave before, or these games.
         ensures crash { IfOk result (λ store. Survives (state S.Store conn) (database S.Store store) (KeepsCommitted (state S.Store conn))) }
@@ -72,14 +73,6 @@ impl<S: Alter> Store<S> {
         conn
     }
 
-    /// The record of a game, if it has one.
-    pub fn find(&self, stamp: &[u8; 16]) -> Option<&[u8]>
-        ensures found { option_map (λ b. b.now) result ≡ option_map (λ game. game.bytes) (remembered self.now stamp.now) }
-        ensures committed { IsTrusted S.Store self.now → IsOpen S.Store self.now → AreSame (remembered self.now) (committed S.Store self.now) }
-    {
-        self.memory.find(stamp)
-    }
-
     /// All games, in the order of their stamps.
     pub fn list(&self, alloc: Global) -> Result<Vec<Kept<'_>>, AllocError>
         ensures { IfOk result (λ all. ListsGames (map as_listed all.items) (remembered self.now)) }
@@ -87,9 +80,25 @@ impl<S: Alter> Store<S> {
         self.memory.list(alloc)
     }
 
+    /// All games, as they would be put.
+    pub(crate) fn entries(&self, alloc: Global) -> Result<Vec<Entry>, AllocError>
+        ensures { IfOk result (λ entries. AreSame (records_of entries.items) (remembered self.now)) }
+    {
+        let games = self.memory.list(alloc)?;
+        entries_of(alloc, &games)
+    }
+
+    /// The record of a game, if it has one.
+    pub fn record_of(&self, stamp: &[u8; 16]) -> Option<&[u8]>
+        ensures found { option_map (λ b. b.now) result ≡ option_map (λ game. game.bytes) (remembered self.now stamp.now) }
+        ensures committed { IsTrusted S.Store self.now → IsOpen S.Store self.now → AreSame (remembered self.now) (committed S.Store self.now) }
+    {
+        self.memory.find(stamp)
+    }
+
     /// Puts all records or none, by one commit. The record of a game stands in place of the one before, and of two in one batch the
     /// later one. An error may shut the store: it is then opened again.
-    pub fn put_all(&mut self, entries: Vec<Entry>) -> Result<(), StoreFault>
+    pub fn put_batch(&mut self, entries: Vec<Entry>) -> Result<(), DatabaseFault>
         // At `Ok` each entry is committed, in turn, and what is kept of all other games is as before,
         ensures all { IsTrusted S.Store self.new → OnOk result (AreSame (committed S.Store self.new) (with_all (committed S.Store self.old) entries.items)) }
         ensures open { IsTrusted S.Store self.new → OnOk result (IsOpen S.Store self.new) }
@@ -97,6 +106,9 @@ impl<S: Alter> Store<S> {
         // and after an error that leaves the store open, nothing is.
         ensures none { IsTrusted S.Store self.new → IsOpen S.Store self.new → OnErr result (AreSame (committed S.Store self.new) (committed S.Store self.old)) }
         ensures same { OnErr result (AreSame (remembered self.new) (remembered self.old)) }
+        // Memory has what is committed, before and after.
+        ensures had { IsTrusted S.Store self.old → IsOpen S.Store self.old → AreSame (remembered self.old) (committed S.Store self.old) }
+        ensures has { IsTrusted S.Store self.new → IsOpen S.Store self.new → AreSame (remembered self.new) (committed S.Store self.new) }
 
         // A stop or a loss of power within the call, also one after which the store is shut, leaves the games as they were, or all
         // with the whole batch. From then on it leaves what is committed.
@@ -111,7 +123,24 @@ impl<S: Alter> Store<S> {
                 self.memory.keep_all(entries);
                 Ok(())
             }
-            Err(error) => Err(StoreFault::Database(error)),
+            Err(error) => Err(DatabaseFault::Sqlite(error)),
+        }
+    }
+}
+
+impl<S: Alter> RecordStore for Store<S> {
+    ghost use Rattle.game_store.specs.Shelves.{store_facts};
+
+    ghost facts = { store_facts S.Store };
+
+    fn find(&self, stamp: &[u8; 16]) -> Option<&[u8]> {
+        self.record_of(stamp)
+    }
+
+    fn put_all(&mut self, entries: Vec<Entry>) -> Result<(), StoreFailed> {
+        match self.put_batch(entries) {
+            Ok(()) => Ok(()),
+            Err(_) => Err(StoreFailed),
         }
     }
 }

@@ -8,9 +8,9 @@ ghost use Rattle.game_store.specs.Rows.{game_schema, put_parameters, put_text};
 ghost use Rattle.game_store.specs.Slots.{HaveNumbers, number_at};
 ghost use Rattle.game_store.specs.Batches.{AreOfBatch, PutsBatch, PutsRow};
 
-use crate::entry::Entry;
 use crate::memory::Memory;
 use sqlite::{Alter, Connection, Error, Transaction, params};
+use system_io::Entry;
 
 /// Runs the text of a put within a transaction.
 fn run_put<S: Alter>(

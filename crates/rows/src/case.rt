@@ -1,6 +1,7 @@
 //! A case: the input of the program, and what is wanted of it.
 
 use crate::memory_host::{MemoryHost, Stands};
+use crate::memory_store::StoreEnds;
 use crate::pieces::{Fault, add_piece, number_of};
 use crate::shelf::{Shelf, head_of, is_comment, parted};
 use crate::slow_input::SlowInput;
@@ -52,6 +53,8 @@ pub(crate) struct Case<'t> {
     datagrams: Vec<Vec<u8>>,
     stands: Stands,
     kept: Vec<u8>,
+    /// What the store of its host comes to.
+    store: StoreEnds,
 }
 
 /// Adds the words of a text. Those in double quotes, with the spaces in them, are one.
@@ -102,6 +105,7 @@ impl<'t> Case<'t> {
             datagrams: Vec::new(alloc),
             stands: Stands::Unreadable,
             kept: Vec::new(alloc),
+            store: StoreEnds::Keeps,
         }
     }
 
@@ -126,6 +130,7 @@ impl<'t> Case<'t> {
             waiting: &self.datagrams,
             stands: self.stands,
             kept: &self.kept,
+            store: self.store,
             notes: Cell::new(0),
         }
     }
@@ -175,6 +180,16 @@ impl<'t> Case<'t> {
         }
     }
 
+    /// Sets what the store of its host comes to.
+    fn set_store(&mut self, text: &str) -> Result<(), Fault> {
+        self.store = match text {
+            "unopened" => StoreEnds::Unopened,
+            "fails" => StoreEnds::Fails,
+            _ => return Err(Fault::Line),
+        };
+        Ok(())
+    }
+
     /// Sets the status that is wanted.
     fn set_status(&mut self, text: &str) -> Result<(), Fault> {
         match text.parse::<u8>() {
@@ -199,6 +214,7 @@ impl<'t> Case<'t> {
             "status" => return self.set_status(text),
             "datagram" => return self.add_datagram(alloc, shelf, text),
             "kept" => return self.set_kept(alloc, shelf, text),
+            "store" => return self.set_store(text),
             "writes" => self.refused_writes = number_of(text)?,
             "notes" => self.wanted.notes = number_of(text)?,
             "task" => self.call = Call::Task(text),

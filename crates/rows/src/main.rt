@@ -7,7 +7,7 @@
 //! To add a case, write it into a file of `data/`. The gate runs the files that `args` names; `rt try -- data/disk.txt` here runs
 //! one file without any proof.
 //!
-//! Inside: `case`, `pieces`, `shelf` (a case, the bytes of its lines, the files and folders), `running`, `report`, `memory_host`,
+//! Inside: `case`, `pieces`, `shelf` (a case, the bytes of its lines, the files and folders), `running`, `report`, `memory_host`, `memory_store`,
 //! `slow_input` and `paper` (host, input and output in memory), `counting` (a teller), `system` (what the system's folders and
 //! files are read as). `data/wrong.txt` has cases with a wrong expectation, and is run by hand alone: each must be reported.
 //!
@@ -17,6 +17,7 @@
 mod case;
 mod counting;
 mod memory_host;
+mod memory_store;
 mod paper;
 mod pieces;
 mod report;

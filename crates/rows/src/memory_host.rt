@@ -3,11 +3,14 @@
 ghost use Rattle.std.specs.Prelude.{◌≡◌, ◌≤◌, IfNone};
 ghost use Rattle.system_io.specs.Failures.{Risen};
 
+use crate::memory_store::{MemoryStore, StoreEnds};
 use std::alloc::{AllocError, Global};
 use std::cell::Cell;
 use std::net::{IpAddr, Ipv4Addr, SocketAddr};
 use std::time::Duration;
-use system_io::{BindFault, DiskFile, Host, LockFault, Outcome, Port, PortFault};
+use system_io::{
+    BindFault, DiskFile, Entry, Host, LockFault, Outcome, Port, PortFault, StoreFault,
+};
 
 /// A port at which datagrams wait; what is sent there goes nowhere.
 #[derive(Drop)]
@@ -50,6 +53,12 @@ impl<'a> Port for WaitingPort<'a> {
     ghost use Rattle.system_io.specs.Premises.{system_port};
 
     ghost facts = { λ p. system_port p.failures p.addresses };
+
+    fn sender(&self) -> Option<SocketAddr> {
+        None
+    }
+
+    fn answer(&mut self, _sender: Option<SocketAddr>) {}
 
     fn receive(&mut self, buffer: &mut [u8; 64]) -> Result<usize, PortFault> {
         match self.next() {
@@ -104,6 +113,7 @@ pub(crate) struct MemoryHost<'a> {
     pub(crate) waiting: &'a [Vec<u8>],
     pub(crate) stands: Stands,
     pub(crate) kept: &'a [u8],
+    pub(crate) store: StoreEnds,
     /// How many notes it was told.
     pub(crate) notes: Cell<usize>,
 }
@@ -154,6 +164,8 @@ impl<'a> Host for MemoryHost<'a> {
 
     type Lock = ();
 
+    type Store = MemoryStore;
+
     type History = Unwritten;
 
     ghost use Rattle.std.specs.Prelude.{◌≡◌, None, false};
@@ -161,6 +173,8 @@ impl<'a> Host for MemoryHost<'a> {
     ghost use Rattle.system_io.specs.OutputLaws.{untold};
 
     ghost facts = { λ _. record { is_told = false; binds = λ _ _ _. Unit {0}; listens = λ _ _. Unit {0}; refuses = λ _ _. Unit {0}; is_at = λ _ _. Unit {0}; takes_memory = λ _. Unit {0}; gives_lock = λ _. Unit {0}; bars = λ _ fault. fault ≡ Held } };
+
+    ghost stores = { λ _. record { is_at = λ _ _. Unit {0}; refuses = λ _ _. Unit {0}; holds = λ _ _ _. Unit {0}; withholds = λ _ _ _. Unit {0} } };
 
     ghost made = { λ _. None };
 
@@ -198,6 +212,27 @@ impl<'a> Host for MemoryHost<'a> {
 
     fn lock(&self, _alloc: Global, _history: &mut Unwritten, _path: &str) -> Result<(), LockFault> {
         Ok(())
+    }
+
+    fn store(
+        &self,
+        alloc: Global,
+        _history: &mut Unwritten,
+        _path: &str,
+    ) -> Result<MemoryStore, StoreFault> {
+        if self.store == StoreEnds::Unopened {
+            return Err(StoreFault::Unreadable);
+        }
+        Ok(MemoryStore::new(alloc, self.store == StoreEnds::Fails))
+    }
+
+    fn stored(
+        &self,
+        _alloc: Global,
+        _db: Vec<u8>,
+        _log: Vec<u8>,
+    ) -> Result<Vec<Entry>, StoreFault> {
+        Err(StoreFault::Unreadable)
     }
 
     fn note(&self, _line: &str) {

@@ -6,7 +6,7 @@ use crate::seal_port::{Keys, Sealed};
 use std::alloc::{AllocError, Global};
 use std::marker::Model;
 use std::net::SocketAddr;
-use system_io::{BindFault, Host, LockFault};
+use system_io::{BindFault, Entry, Host, LockFault, StoreFault};
 
 /// A host over another one: its ports seal by these keys, and its files, its locks and its history are those of the other.
 #[derive(Drop)]
@@ -41,9 +41,13 @@ impl<'a, H: Host> Host for Keyed<'a, H> {
 
     type Lock = H::Lock;
 
+    type Store = H::Store;
+
     type History = H::History;
 
     ghost facts = { keyed_facts H.facts };
+
+    ghost stores = { λ k. H.stores k.host };
 
     ghost made = { H.made };
 
@@ -82,6 +86,19 @@ impl<'a, H: Host> Host for Keyed<'a, H> {
         path: &str,
     ) -> Result<H::Lock, LockFault> {
         self.host.lock(alloc, history, path)
+    }
+
+    fn store(
+        &self,
+        alloc: Global,
+        history: &mut H::History,
+        path: &str,
+    ) -> Result<H::Store, StoreFault> {
+        self.host.store(alloc, history, path)
+    }
+
+    fn stored(&self, alloc: Global, db: Vec<u8>, log: Vec<u8>) -> Result<Vec<Entry>, StoreFault> {
+        self.host.stored(alloc, db, log)
     }
 
     fn note(&self, line: &str) {

@@ -6,6 +6,7 @@ ghost use Rattle.sealed_port.specs.Sealing.{LeavesOut, is_sealed, is_sealed_by, 
 use crate::mac::MacKey;
 use arrayvec::ArrayVec;
 use std::marker::Model;
+use std::net::SocketAddr;
 use std::time::Duration;
 use system_io::{NO_TAG, Port, PortFault};
 
@@ -150,6 +151,17 @@ impl<P: Port + Drop> Port for Sealed<P> {
     ghost use Rattle.sealed_port.specs.Sealing.{LeavesOut, SendsSealed, StaysButPort, sealed_facts};
 
     ghost facts = { sealed_facts P.facts };
+
+    fn sender(&self) -> Option<SocketAddr> {
+        self.port.sender()
+    }
+
+    fn answer(&mut self, sender: Option<SocketAddr>)
+        ensures same { sealed_facts P.facts self.new ≡ sealed_facts P.facts self.old }
+        ensures stays { StaysButPort self.old self.new }
+    {
+        self.port.answer(sender);
+    }
 
     fn receive(&mut self, buffer: &mut [u8; 64]) -> Result<usize, PortFault>
         ensures length { IfOk result (λ n. n ≤ 64) }

@@ -39,6 +39,8 @@ pub data Made : Type 0 where
   FileAt : (path : List ℕ) → Made
   -- the lock of the file at this path
   LockAt : (path : List ℕ) → Made
+  -- the store at this path
+  StoreAt : (path : List ℕ) → Made
 
 -- a call that is done has made this, and one that fails nothing
 abbrev pub if_made : {A E : Type 0} → Result A E → Made → List Made

@@ -22,6 +22,7 @@ pub mod Traces
 pub mod TraceLaws
 pub mod Hosts
 pub mod Recipients
+pub mod Records
 pub mod Places
 pub mod Premises
 pub mod Sockets

@@ -1,11 +1,13 @@
-//! Where ports and kept files are opened.
+//! Where ports, kept files and stores are opened.
 
 ghost use Rattle.std.specs.Prelude.{◌≡◌, true, ℕ, List, Option, length, map, IfErr, IfOk, OnErr, OnOk};
 ghost use Rattle.system_io.specs.Histories.{Passes};
-ghost use Rattle.system_io.specs.Hosts.{HostFacts, Made, PlacesOne, PortAt, FileAt, LockAt, if_made};
+ghost use Rattle.system_io.specs.Hosts.{HostFacts, Made, PlacesOne, PortAt, FileAt, LockAt, StoreAt, if_made};
+ghost use Rattle.system_io.specs.Records.{IsSettled, StorePlaces, records_of};
 
 use crate::kept_file::KeptFile;
 use crate::port::Port;
+use crate::record_store::{Entry, RecordStore, StoreFault};
 use std::alloc::{AllocError, Global};
 use std::io;
 use std::net::SocketAddr;
@@ -45,7 +47,7 @@ pub enum LockFault {
     OutOfMemory,
 }
 
-/// Where ports and kept files are opened. Whoever opens one is lent the history of the host, of which there is one for each: so the
+/// Where ports, kept files and stores are opened. Whoever opens one is lent the history of the host, of which there is one for each: so the
 /// history of a call has all that was made by it.
 pub trait Host {
     /// A port.
@@ -57,13 +59,19 @@ pub trait Host {
     /// What keeps other processes from a file, until it is dropped or the process ends.
     type Lock: Drop;
 
+    /// A store of records.
+    type Store: RecordStore + Drop;
+
     /// What was made at the host so far. Nothing but the host makes one.
     type History;
 
     /// Which addresses ports are bound to, which file is at a path, and which locks are given.
     ghost facts: { Self → HostFacts Self.Port Self.File };
 
-    /// The ports, files and locks of a history in order; none where they aren't recorded.
+    /// Which store is at a path, and which records the files of a store hold.
+    ghost stores: { Self → StorePlaces Self.Store };
+
+    /// The ports, files, locks and stores of a history in order; none where they aren't recorded.
     ghost made: { Self.History → Option (List Made) };
 
     /// A port that is bound to an address and sends to others. Among these the word `sender` stands for the address from which the last
@@ -106,6 +114,24 @@ pub trait Host {
         ensures given { OnOk result ((facts self.now).gives_lock path.now) }
         ensures cause { IfErr result ((facts self.now).bars path.now) }
         ensures made { Passes (made history.old) (made history.new) (if_made result (LockAt path.now)) };
+
+    /// The store at a path. It is made where nothing stands.
+    fn store(
+        &self,
+        alloc: Global,
+        history: &mut Self::History,
+        path: &str,
+    ) -> Result<Self::Store, StoreFault>
+        ensures at { IfOk result ((stores self.now).is_at path.now) }
+        ensures settled { IfOk result (λ store. IsSettled (Self.Store.facts store)) }
+        ensures cause { IfErr result ((stores self.now).refuses path.now) }
+        ensures made { Passes (made history.old) (made history.new) (if_made result (StoreAt path.now)) };
+
+    /// The records that the two files of a store hold, its database and the log beside it: what it would have, were it opened over
+    /// them after a stop. The second one is empty where there is none. Nothing is opened, and neither is changed.
+    fn stored(&self, alloc: Global, db: Vec<u8>, log: Vec<u8>) -> Result<Vec<Entry>, StoreFault>
+        ensures held { IfOk result (λ entries. (stores self.now).holds db.items log.items (records_of entries.items)) }
+        ensures cause { IfErr result ((stores self.now).withholds db.items log.items) };
 
     /// Tells whoever runs the program a line, which it ends. A line that can't be told is left out.
     fn note(&self, line: &str);

@@ -1,7 +1,7 @@
 //! Where the outside comes in: folders and files, an input and an output, datagrams, a file that is replaced by another, and a
 //! host that opens ports and files.
 //!
-//! Each is a trait (`Disk`, `Input` with `LineReader`, `Output`, `Port`, `KeptFile`, `Host`). Its `facts`, a record with named
+//! Each is a trait (`Disk`, `Input` with `LineReader`, `Output`, `Port`, `KeptFile`, `RecordStore`, `Stores`, `Host`). Its `facts`, a record with named
 //! fields, are all that a proof sees of it. Beside each stand the system's own instance (`SystemDisk`, `SystemInput`,
 //! `BufferedOutput`, `UdpPort`, `SystemFile`, `SystemHost`) and one in memory for tests, which fails on request.
 //! `specs/Premises.antt` says what is trusted of the system. `SystemFile` is `Traced` over the system's calls (`FileCalls`): what a
@@ -13,7 +13,7 @@
 //! datagram.
 //!
 //! Definitions, in reading order: `Descriptors`, `Disks`, `Inputs`, `LineReaders`, `ShortLines`, `Outputs`, `Ports`, `KeptFiles`, `PowerLosses`,
-//! `FileCalls`, `Traces`, `Hosts`, `Premises`, `Sockets`, `Recipients`, `UdpPorts`, `Answers`. Its tests stand in `checks_io`.
+//! `FileCalls`, `Traces`, `Records`, `Hosts`, `Premises`, `Sockets`, `Recipients`, `UdpPorts`, `Answers`. Its tests stand in `checks_io`.
 //!
 //! - CLAIM: `end`: the output is flushed last, also where an answer was not written to its end. The status is the answer's where
 //!   all has gone out; it is 1 in its place only where some can't, or an answer was cut.
@@ -41,8 +41,8 @@
 //!   `sends`; `laws::answers_follow`; `laws::nothing_else_is_sent`; `laws::each_is_sent`: by the calls of its socket the answers to a
 //!   datagram go to the address from which that one came, where the words have `sender`, and to each other address that they name, in
 //!   order, and to nobody else.
-//! - CLAIM: `Host::bind`, `Host::file`, `Host::lock`, clauses `made`: each port, file and lock that a host opens is in the history
-//!   that it is lent, in order, and nothing else is.
+//! - CLAIM: `Host::bind`, `Host::file`, `Host::lock`, `Host::store`, clauses `made`: each port, file, lock and store that a host opens
+//!   is in the history that it is lent, in order, and nothing else is.
 //! - CLAIM: `Host::lock`, clauses `given`, `cause`; `SystemHost::lock`, clause `at`: the file that is locked is the one at the path.
 #![tactic(auto)]
 
@@ -68,6 +68,7 @@ mod output;
 mod port;
 mod reading;
 mod recipient;
+mod record_store;
 mod shared_wait;
 mod socket;
 mod system_disk;
@@ -96,6 +97,7 @@ pub use output::{BufferedOutput, Output, WriteFault, end};
 pub use port::{NO_TAG, Port, PortFault};
 pub use reading::{ReadFault, read_at_most};
 pub use recipient::{Recipient, SENDER};
+pub use record_store::{Entry, RecordStore, StoreFailed, StoreFault, Stores};
 pub use socket::Socket;
 pub use system_disk::SystemDisk;
 pub use system_file::{SystemCalls, SystemFile};

@@ -8,6 +8,7 @@ ghost use Rattle.system_io.specs.Ports.{Came, Handed, Missed, Passed};
 
 use crate::port::{Port, PortFault};
 use std::alloc::Global;
+use std::net::SocketAddr;
 use std::time::Duration;
 
 /// An event at a port.
@@ -200,6 +201,12 @@ impl<'a> Port for MemoryPort<'a> {
     ghost use Rattle.system_io.specs.MemoryPorts.{port_facts};
 
     ghost facts = { port_facts };
+
+    fn sender(&self) -> Option<SocketAddr> {
+        None
+    }
+
+    fn answer(&mut self, _sender: Option<SocketAddr>) {}
 
     fn receive(&mut self, buffer: &mut [u8; 64]) -> Result<usize, PortFault> {
         match self.next() {

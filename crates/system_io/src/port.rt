@@ -5,6 +5,7 @@ ghost use Rattle.std.specs.Duration.{as_nanos};
 ghost use Rattle.system_io.specs.Failures.{Risen};
 ghost use Rattle.system_io.specs.Ports.{PortFacts, Came, Quiet, Missed, Passed, to_each};
 
+use std::net::SocketAddr;
 use std::time::Duration;
 
 /// What a sealed port passes on for a datagram without a right tag: 64 bytes that are zero. A port of the system never passes
@@ -33,8 +34,8 @@ pub trait Port {
         ensures missed { OnErr result (Passed (facts self.old) (facts self.new) (Missed ∷ [])) }
         ensures cause { OnErr result (Risen (facts self.old).faults (facts self.new).faults) };
 
-    /// As `receive`, but waits at most `wait`, which is above 0. None where nothing came in time; the traffic then has `wait`, in
-    /// nanoseconds. That so much time has passed by the system's clock is no clause.
+    /// As `receive`, but waits at most `wait`. Where that is 0, only a datagram is taken that has already come. None where nothing came in
+    /// time; the traffic then has `wait`, in nanoseconds. That so much time has passed by the system's clock is no clause.
     ///
     /// At a port of the system receives that follow one another with the same `wait`, with nothing sent between them and none of them
     /// without a datagram, wait so long together: the wait ends also where datagrams go on coming.
@@ -48,6 +49,13 @@ pub trait Port {
         ensures quiet { result ≡ Ok None → Passed (facts self.old) (facts self.new) (Quiet (as_nanos wait) ∷ []) }
         ensures missed { OnErr result (Passed (facts self.old) (facts self.new) (Missed ∷ [])) }
         ensures cause { OnErr result (Risen (facts self.old).faults (facts self.new).faults) };
+
+    /// The address from which the last datagram came, where that is told.
+    fn sender(&self) -> Option<SocketAddr>;
+
+    /// From now on, up to the next datagram, what would go to the sender of the last one goes to this one.
+    fn answer(&mut self, sender: Option<SocketAddr>)
+        ensures { facts self.new ≡ facts self.old };
 
     /// Sends a datagram to each address in turn. A send that fails does not prevent the others.
     fn send(&mut self, bytes: &[u8]) -> Result<(), PortFault>

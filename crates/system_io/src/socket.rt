@@ -16,7 +16,7 @@ pub trait Socket {
     /// The address at which it listens, where it tells that.
     fn own_address(&self) -> Option<SocketAddr>;
 
-    /// Sets how long a receive waits, which is above 0; none means without limit.
+    /// Sets how long a receive waits, which may be 0; none means without limit.
     fn wait_for(&mut self, wait: Option<Duration>) -> io::Result<()>
         ensures { calls self.new ≡ calls self.old };
 
@@ -40,7 +40,13 @@ impl Socket for UdpSocket {
         self.local_addr().ok()
     }
 
+    // The system's timeout is above 0.
     fn wait_for(&mut self, wait: Option<Duration>) -> io::Result<()> {
+        let is_now = wait == Some(Duration::ZERO);
+        self.set_nonblocking(is_now)?;
+        if is_now {
+            return Ok(());
+        }
         self.set_read_timeout(wait)
     }
 

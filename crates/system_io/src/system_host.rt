@@ -3,6 +3,7 @@
 use crate::host::{BindFault, Host, LockFault};
 use crate::lock_file::LockFile;
 use crate::notes::tell_refused;
+use crate::record_store::{Entry, StoreFault, Stores};
 use crate::system_file::SystemFile;
 use crate::udp_port::UdpPort;
 use std::alloc::{AllocError, Global};
@@ -18,25 +19,28 @@ pub struct Unrecorded {
     _one: (),
 }
 
-/// The ports, kept files and locks of the system, and a writer for their notes.
+/// The ports, kept files and locks of the system, where its stores are opened, and a writer for their notes.
 #[derive(Drop)]
 pub struct SystemHost<
     'a,
     R: Files<File = File> + Net + Clock + AllocGlobal,
     W: Write + Copy + Drop,
+    T: Stores,
 > {
     rt: &'a R,
     notes: W,
+    stores: &'a T,
 }
 
-impl<'a, R, W> SystemHost<'a, R, W>
+impl<'a, R, W, T> SystemHost<'a, R, W, T>
 where
     R: Files<File = File> + Net + Clock + AllocGlobal,
     W: Write + Copy + Drop,
+    T: Stores,
 {
-    /// The ports, kept files and locks of this system, and their history. They write their notes with this writer.
-    pub fn new(rt: &'a R, notes: W) -> (SystemHost<'a, R, W>, Unrecorded) {
-        (SystemHost { rt, notes }, Unrecorded { _one: () })
+    /// The ports, kept files, locks and stores of this system, and their history. They write their notes with this writer.
+    pub fn new(rt: &'a R, notes: W, stores: &'a T) -> (SystemHost<'a, R, W, T>, Unrecorded) {
+        (SystemHost { rt, notes, stores }, Unrecorded { _one: () })
     }
 
     /// Why the file at a path isn't locked, which is told where no other process has locked it.
@@ -48,10 +52,11 @@ where
     }
 }
 
-impl<'a, R, W> Host for SystemHost<'a, R, W>
+impl<'a, R, W, T> Host for SystemHost<'a, R, W, T>
 where
     R: Files<File = File> + Net + Clock + AllocGlobal,
     W: Write + Copy + Drop,
+    T: Stores,
 {
     ghost use Rattle.std.specs.Prelude.{IfErr, IfOk, None, OnOk};
     ghost use Rattle.system_io.specs.HostLaws.{places_one};
@@ -64,9 +69,13 @@ where
 
     type Lock = LockFile;
 
+    type Store = T::Store;
+
     type History = Unrecorded;
 
     ghost facts = { λ _. system_host };
+
+    ghost stores = { λ h. T.facts h.stores.now };
 
     ghost made = { λ _. None };
 
@@ -109,6 +118,19 @@ where
             Ok(lock) => Ok(lock),
             Err(error) => Err(self.unlocked(path, error)),
         }
+    }
+
+    fn store(
+        &self,
+        alloc: Global,
+        _history: &mut Unrecorded,
+        path: &str,
+    ) -> Result<T::Store, StoreFault> {
+        self.stores.open(alloc, path)
+    }
+
+    fn stored(&self, alloc: Global, db: Vec<u8>, log: Vec<u8>) -> Result<Vec<Entry>, StoreFault> {
+        self.stores.read(alloc, db, log)
     }
 
     fn note(&self, line: &str) {

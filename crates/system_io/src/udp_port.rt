@@ -169,12 +169,16 @@ impl<'a, C: Clock, S: Socket + Drop, W: Write + Drop> UdpPort<'a, C, S, W> {
     }
 
     /// How long the next datagram is awaited, of a wait that the receives share. Where it has passed, that is a moment for some
-    /// receives, and then none.
+    /// receives, and then none. A wait of 0 is no wait, and none shares it.
     fn left_of(&mut self, wait: Duration) -> io::Result<Option<Duration>>
         ensures facts { udp_facts S.calls self.new ≡ udp_facts S.calls self.old }
         ensures same { self.new.to ≡ self.old.to }
         ensures failures { self.new.failures ≡ self.old.failures }
     {
+        if wait.is_zero() {
+            self.shared = None;
+            return Ok(Some(wait));
+        }
         let now = Instant::now(self.clock)?;
         let mut shared = SharedWait::at(now, wait, self.shared);
         let left = shared.left(now);
@@ -275,6 +279,19 @@ impl<'a, C: Clock, S: Socket + Drop, W: Write + Drop> Port for UdpPort<'a, C, S,
     ghost use Rattle.system_io.specs.UdpPorts.{Hears, HearsNothing, Sends, udp_facts, udp_port_facts};
 
     ghost facts = { udp_port_facts };
+
+    fn sender(&self) -> Option<SocketAddr>
+        ensures { result ≡ (udp_facts S.calls self.now).sender }
+    {
+        self.sender
+    }
+
+    fn answer(&mut self, sender: Option<SocketAddr>)
+        ensures same { udp_port_facts self.new ≡ udp_port_facts self.old }
+        ensures to { udp_facts S.calls self.new ≡ record (udp_facts S.calls self.old) { sender = sender } }
+    {
+        self.sender = sender;
+    }
 
     // A receive that a signal interrupts is none: the wait goes on.
     fn receive(&mut self, buffer: &mut [u8; 64]) -> Result<usize, PortFault>

@@ -7,3 +7,6 @@ pub mod Acking
 pub mod Filing
 pub mod Listening
 pub mod FileWeaving
+pub mod Storing
+pub mod StoreKeeping
+pub mod StoreWeaving

@@ -43,7 +43,7 @@ pub data StopsOver {F : Type 0} (facts : F → KeptFacts) (Starts : F → FileKe
 -- ---- the runs
 
 -- an opening is of this setup
-abbrev pub IsOfSetup : {F : Type 0} → SetupView → Act (FileKeeper F) → Type 0
+abbrev pub IsOfSetup : {K : Type 0} → SetupView → Act K → Type 0
 IsOfSetup setup (Unread datagram fault) = Unit {0}
 IsOfSetup setup (Strange stamp datagram tried why) = Unit {0}
 IsOfSetup setup (Refuses stamp datagram o fault) = o.setup ≡ setup
@@ -69,7 +69,7 @@ HostRunsInTurn facts Starts s stamp setup first (r ∷ rs) last = HostRanOver fa
 -- ---- what is still there
 
 -- what is said of an answer holds of an act, if it is one
-abbrev pub IfAnswers : {F : Type 0} → (Exchange (FileKeeper F) → Type 0) → Act (FileKeeper F) → Type 0
+abbrev pub IfAnswers : {K : Type 0} → (Exchange K → Type 0) → Act K → Type 0
 IfAnswers P (Unread datagram fault) = Unit {0}
 IfAnswers P (Strange stamp datagram tried why) = Unit {0}
 IfAnswers P (Refuses stamp datagram o fault) = Unit {0}

@@ -6,3 +6,5 @@ pub mod HostFiles
 pub mod Listens
 pub mod FileWeaves
 pub mod Recording
+pub mod StoreHosts
+pub mod StoreWeaves

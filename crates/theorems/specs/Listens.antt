@@ -38,10 +38,11 @@ one_game facts setup stamp = record {
   withholds = λ of why. ⊥;
   is_of = λ of keeper. of ≡ stamp;
   follows = λ left next. Unit {0};
+  may_fail = ⊥;
 }
 
 abbrev pub common_of : SetupView → CommonView
-common_of setup = record { manifest = setup.manifest; number = setup.me; set = setup.set; at_once = 1 }
+common_of setup = record { manifest = setup.manifest; number = setup.me; set = setup.set; at_once = 1; together = 1 }
 
 -- ---- the acts of a run
 

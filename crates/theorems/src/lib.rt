@@ -12,11 +12,13 @@
 //! without a keeper leave what is found (`GivesOwn`, `GivesIf`).
 //!
 //! In `proofs/`: `Netting` (arbiters), `Seeing` (keepers of any type, seen as what they keep), `Weaving` (an act of a host as
-//! steps of an arbiter), `Stopping`, `Joining`, `Acking`, `Filing` and `FileWeaving` (hosts over files), `Listening`.
+//! steps of an arbiter), `Stopping`, `Joining`, `Acking`, `Filing` and `FileWeaving` (hosts over files), `Storing`, `StoreKeeping` and
+//! `StoreWeaving` (hosts over stores), `Listening`.
 //!
 //! `Recording` is a host that records what is made at it: so the clauses of `Host` on histories are those of one.
 //!
-//! Definitions, in reading order: `Nets`, `Weaves`, `Listens`, `HostFiles`, `FileWeaves`, `Sources`, `Seals`, `Recording`.
+//! Definitions, in reading order: `Nets`, `Weaves`, `Listens`, `HostFiles`, `FileWeaves`, `StoreHosts`, `StoreWeaves`, `Sources`,
+//! `Seals`, `Recording`.
 //!
 //! - CLAIM: `arbiters_are_worlds`: two arbiters of one game over keepers of any one type, by steps as the contracts of `open` and
 //!   `deliver` have them, come to a world, which is faithful to the game.
@@ -33,6 +35,14 @@
 //!   stopped.
 //! - CLAIM: `hosts_over_files`: two hosts, each over a file of the game, come to a net as `hosts_are_worlds` asks, by what starts find in
 //!   the two files: that keepers keep, and what a closing leaves, are no premises.
+//! - CLAIM: `answers_are_found`: before a host over a store sends the answers of a round, a start over the store finds what they tell, and
+//!   what all answers before them told.
+//! - CLAIM: `store_keeps_what_it_told`: what a host over a store told of a game is found at each later start over the store: as many moves
+//!   as it acknowledged, the same ones, and a verdict at its ply. This holds after any runs, wherever each stopped.
+//! - CLAIM: `fronts_are_found`: after any runs of a host over a store, wherever each stopped, what a start finds of a game is what they
+//!   keep by the acts of whole rounds: of each run those of its first ones, among them each whose answers went out.
+//! - CLAIM: `hosts_over_stores`: two hosts, each over a store, come by such acts, in whichever order those of the two came, to a net as
+//!   `hosts_are_worlds` asks, by what starts find in the two stores: that keepers keep, and what a closing leaves, are no premises.
 //! - CLAIM: `sends_the_log`: each datagram that a run of `send` passes on is a message of the log with which the worlds of its
 //!   moves begin.
 //! - CLAIM: `sources_tell_the_truth`: what a source goes by is true, where all that came of the game was sent in a world of it: a
@@ -48,6 +58,7 @@ mod listens;
 mod recording;
 mod seals;
 mod sources;
+mod store_hosts;
 
 pub use arbiters::{arbiters_are_worlds, arbiters_tell_the_truth};
 pub use host_files::{host_keeps_what_it_told, hosts_over_files};
@@ -56,3 +67,6 @@ pub use listens::{listen_beside_a_host, listens_are_hosted, listens_are_worlds};
 pub use recording::{MadeAt, Recorded, Recording};
 pub use seals::no_tag_no_forgery;
 pub use sources::{sends_the_log, sources_tell_the_truth};
+pub use store_hosts::{
+    answers_are_found, fronts_are_found, hosts_over_stores, store_keeps_what_it_told,
+};

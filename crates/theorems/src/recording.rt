@@ -4,7 +4,7 @@ ghost use Rattle.std.specs.Prelude.{◌≡◌, map, string_bytes, IfOk};
 
 use std::alloc::{AllocError, Global};
 use std::net::SocketAddr;
-use system_io::{BindFault, Host, LockFault};
+use system_io::{BindFault, Entry, Host, LockFault, StoreFault};
 
 /// What was made at a host.
 #[derive(Drop)]
@@ -15,6 +15,8 @@ pub enum MadeAt {
     File(String),
     /// The lock of the file at this path.
     Lock(String),
+    /// The store at this path.
+    Store(String),
 }
 
 /// The history of a recording host: that of the host below, and what was made since it began, in order.
@@ -63,7 +65,7 @@ where
     H::History: Drop,
 {
     ghost use Rattle.std.specs.Prelude.{Some, map};
-    ghost use Rattle.theorems.specs.Recording.{made_of, recording_facts, recording_one};
+    ghost use Rattle.theorems.specs.Recording.{made_of, recording_facts, recording_one, recording_stores};
 
     type Port = H::Port;
 
@@ -71,9 +73,13 @@ where
 
     type Lock = H::Lock;
 
+    type Store = H::Store;
+
     type History = Recorded<H::History>;
 
     ghost facts = { λ r. recording_facts (H.facts r.host.now) };
+
+    ghost stores = { λ r. recording_stores (H.stores r.host.now) };
 
     ghost made = { λ h. Some (map made_of h.made.items) };
 
@@ -137,6 +143,28 @@ where
             },
             Err(fault) => Err(fault),
         }
+    }
+
+    fn store(
+        &self,
+        alloc: Global,
+        history: &mut Recorded<H::History>,
+        path: &str,
+    ) -> Result<H::Store, StoreFault> {
+        let Ok(text) = String::from_str(alloc, path) else {
+            return Err(StoreFault::OutOfMemory);
+        };
+        match self.host.store(alloc, &mut history.below, path) {
+            Ok(store) => match history.made.push(MadeAt::Store(text)) {
+                Ok(()) => Ok(store),
+                Err(_) => Err(StoreFault::OutOfMemory),
+            },
+            Err(fault) => Err(fault),
+        }
+    }
+
+    fn stored(&self, alloc: Global, db: Vec<u8>, log: Vec<u8>) -> Result<Vec<Entry>, StoreFault> {
+        self.host.stored(alloc, db, log)
     }
 
     fn note(&self, line: &str) {

@@ -14,6 +14,8 @@ use Rattle.adjudicate_core.specs.Misuses.{Fault, NoOption, NotWith, WordNotWith}
 use Rattle.adjudicate_core.specs.declared.usage.Instead.TheVariants as instead
 use Rattle.adjudicate_core.specs.Looks.{gathered}
 use Rattle.adjudicate_core.specs.Reply.{status_told}
+use Rattle.adjudicate_core.specs.Stores.{OverStores}
+use Rattle.system_io.specs.Records.{StorePlaces}
 use Rattle.adjudicate_core.specs.Telling.{TellsOne}
 use Rattle.adjudicate_core.specs.Commands.Audit as one_game
 use Rattle.adjudicate_core.specs.declared.commands.audit_games.AuditGames.{AuditGames}
@@ -55,17 +57,22 @@ faults_by (Some games) other = faults
 abbrev pub named : AuditGames → Named
 named t = record { folder = Some t.tables.now; manifest = option_map (λ s. s.now) t.manifest; input = false; kept = None; other_kept = None }
 
--- by these tables and the manifest of their files the games were audited, and the status says whether nothing is at fault and nothing
--- differs
-pub record PutsAudit (disk : DiskFacts) (t : AuditGames) (given : Given) (tables : Tables) (old new : Option (List ℕ)) (r : Result ℕ WriteFault) : Type 0 where
+-- by these tables with this manifest the games were audited, and the status says whether nothing is at fault and nothing differs
+abbrev pub PutsBy : List ℕ → Tables → DiskFacts → AuditGames → Option (List ℕ) → Option (List ℕ) → Result ℕ WriteFault → Type 0
+PutsBy manifest tables disk t old new r = (told : Result Bool WriteFault) × TellsAuditTo manifest tables disk t.games.now (option_map (λ s. s.now) t.other) old new told × (r ≡ status_told told)
+
+-- so they were over the stores of the folders
+abbrev pub PutsByOver : {S : Type 0} → List ℕ → Tables → DiskFacts → StorePlaces S → AuditGames → Option (List ℕ) → Option (List ℕ) → Result ℕ WriteFault → Type 0
+PutsByOver manifest tables disk stores t old new r = OverStores disk stores t.games.now (option_map (λ s. s.now) t.other) (λ d. PutsBy manifest tables d t old new r) old new r
+
+-- so they were by the manifest of the tables' files
+pub record PutsAudit {S : Type 0} (disk : DiskFacts) (stores : StorePlaces S) (t : AuditGames) (given : Given) (tables : Tables) (old new : Option (List ℕ)) (r : Result ℕ WriteFault) : Type 0 where
   pub manifest : List ℕ
   pub spells : SpellsManifest manifest (entries_of given.files)
-  pub told : Result Bool WriteFault
-  pub tells : TellsAuditTo manifest tables disk t.games.now (option_map (λ s. s.now) t.other) old new told
-  pub is : r ≡ status_told told
+  pub puts : PutsByOver manifest tables disk stores t old new r
 
 -- the refusal of the tables; or else the audit; or memory for the tables or their manifest was refused
-pub data Puts (disk : DiskFacts) (t : AuditGames) (given : Given) (old new : Option (List ℕ)) (r : Result ℕ WriteFault) : Type 0 where
-  BadTables : (words : List ℕ) → gathered given ≡ Err words → TellsOne words old new r → Puts disk t given old new r
-  Audited : (tables : Tables) → gathered given ≡ Ok tables → PutsAudit disk t given tables old new r → Puts disk t given old new r
-  NoRoom : TellsOne refused_memory old new r → Puts disk t given old new r
+pub data Puts {S : Type 0} (disk : DiskFacts) (stores : StorePlaces S) (t : AuditGames) (given : Given) (old new : Option (List ℕ)) (r : Result ℕ WriteFault) : Type 0 where
+  BadTables : (words : List ℕ) → gathered given ≡ Err words → TellsOne words old new r → Puts disk stores t given old new r
+  Audited : (tables : Tables) → gathered given ≡ Ok tables → PutsAudit disk stores t given tables old new r → Puts disk stores t given old new r
+  NoRoom : TellsOne refused_memory old new r → Puts disk stores t given old new r

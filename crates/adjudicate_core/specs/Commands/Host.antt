@@ -1,5 +1,5 @@
 -- `host --games DIR --tables DIR [--manifest FILE] --bind ADDR --to ADDR[,ADDR] --me M [--at-once N] [--cache N] [--datagrams N]
--- [--log FORM] [--log-failures-ignored] [--key FILE]`: arbiters of any number of games; specs/Hostings.antt has what it makes of them (this project's own).
+-- [--log FORM] [--log-failures-ignored] [--store FORM] [--key FILE]`: arbiters of any number of games; specs/Hostings.antt has what it makes of them (this project's own).
 use Rattle.std.specs.Prelude.{◌≡◌, ◌++◌, false, List, [], ◌∷◌, Option, Some, None, codes, option_map}
 use Rattle.clap.specs.Words.{Rule, Text}
 use Rattle.adjudicate_core.specs.Addresses.{AreRecipients, IsAddressIfAny}
@@ -8,7 +8,7 @@ use Rattle.adjudicate_core.specs.declared.commands.Form.TheVariants as form
 use Rattle.adjudicate_core.specs.Misuses.{Fault, NoOption, Unfit, me_faults, recipient_faults}
 use Rattle.adjudicate_core.specs.declared.usage.Wanted.TheVariants as wanted
 use Rattle.task_files.specs.Sources.{Named}
-use Rattle.adjudicate_core.specs.Numbers.{IsAtOnce, IsCache, IsDatagrams, IsLog, IsMe, is_set}
+use Rattle.adjudicate_core.specs.Numbers.{IsAtOnce, IsCache, IsDatagrams, IsLog, IsMe, IsStore, is_set}
 use Rattle.adjudicate_core.specs.declared.commands.host.HostGames.{HostGames}
 
 abbrev pub rules : List Rule
@@ -24,6 +24,7 @@ rules =
     ∷ rule_of_form form.Option (codes "datagrams")
     ∷ rule_of_form form.Option (codes "key")
     ∷ rule_of_form form.Option (codes "log")
+    ∷ rule_of_form form.Option (codes "store")
     ∷ rule_of_form form.Flag (codes "log-failures-ignored") ∷ []
 
 -- the values of its arguments
@@ -40,6 +41,7 @@ pub record HasValues (value : Text → Option Text) (h : HostGames) : Type 0 whe
   pub cache : IsCache (value (codes "cache")) h.cache
   pub datagrams : IsDatagrams (value (codes "datagrams")) h.datagrams
   pub log : IsLog (value (codes "log")) h.log
+  pub store : IsStore (value (codes "store")) h.store
   pub outlives : h.outlives_log ≡ is_set (value (codes "log-failures-ignored"))
   pub key : option_map (λ s. s.now) h.key ≡ value (codes "key")
 
@@ -49,7 +51,7 @@ abbrev pub end_faults : List Fault
 end_faults = NoOption (codes "games") ∷ NoOption (codes "tables") ∷ NoOption (codes "bind") ∷ recipient_faults
 
 abbrev pub term_faults : List Fault
-term_faults = me_faults ++ Unfit wanted.AtOnce ∷ Unfit wanted.Cache ∷ Unfit wanted.Datagrams ∷ Unfit wanted.Log ∷ Unfit wanted.Address ∷ []
+term_faults = me_faults ++ Unfit wanted.AtOnce ∷ Unfit wanted.Cache ∷ Unfit wanted.Datagrams ∷ Unfit wanted.Log ∷ Unfit wanted.Store ∷ Unfit wanted.Address ∷ []
 
 abbrev pub faults : List Fault
 faults = end_faults ++ term_faults

@@ -23,7 +23,8 @@ use Rattle.adjudicate_core.specs.declared.commands.record.ShowRecord.{ShowRecord
 
 abbrev pub rules : List Rule
 rules =
-    rule_of_form form.Word (codes "FILE") ∷ []
+    rule_of_form form.Word (codes "FILE")
+    ∷ rule_of_form form.Option (codes "games") ∷ []
 
 -- the values of its arguments
 abbrev pub HasValues : (Text → Option Text) → ShowRecord → Type 0

@@ -9,6 +9,8 @@ use Rattle.adjudicate_core.specs.Rules.{rule_of_form}
 use Rattle.adjudicate_core.specs.declared.commands.Form.TheVariants as form
 use Rattle.adjudicate_core.specs.Misuses.{Fault, NoOption}
 use Rattle.adjudicate_core.specs.Reply.{status_told}
+use Rattle.adjudicate_core.specs.Stores.{OverStores}
+use Rattle.system_io.specs.Records.{StorePlaces}
 use Rattle.adjudicate_core.specs.declared.commands.status.ShowStatus.{ShowStatus}
 
 abbrev pub rules : List Rule
@@ -31,3 +33,7 @@ named = nothing
 -- how far the games have come was told, and the status says whether nothing is at fault and nothing differs
 abbrev pub Puts : DiskFacts → ShowStatus → Option (List ℕ) → Option (List ℕ) → Result ℕ WriteFault → Type 0
 Puts disk t old new r = (told : Result Bool WriteFault) × TellsStatusTo disk t.games.now (option_map (λ s. s.now) t.other) old new told × (r ≡ status_told told)
+
+-- so it was over the stores of the folders
+abbrev pub PutsOver : {S : Type 0} → DiskFacts → StorePlaces S → ShowStatus → Option (List ℕ) → Option (List ℕ) → Result ℕ WriteFault → Type 0
+PutsOver disk stores t old new r = OverStores disk stores t.games.now (option_map (λ s. s.now) t.other) (λ d. Puts d t old new r) old new r

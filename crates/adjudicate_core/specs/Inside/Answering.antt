@@ -5,9 +5,10 @@ use Rattle.system_io.specs.Hosts.{HostFacts, Made}
 use Rattle.system_io.specs.Inputs.{InputFacts}
 use Rattle.system_io.specs.KeptFiles.{KeptFacts}
 use Rattle.system_io.specs.Outputs.{OutputFacts}
+use Rattle.system_io.specs.Records.{StoreFacts, StorePlaces}
 use Rattle.system_io.specs.Ports.{PortFacts}
 use Rattle.system_io.specs.declared.output.WriteFault.{WriteFault}
-use Rattle.adjudicate_core.specs.Outsides.{outside_of}
+use Rattle.adjudicate_core.specs.Outsides.{machine_of}
 use Rattle.adjudicate_core.specs.Running.{AnswersByKey, AnswersFrom, AnswersTask}
 use Rattle.adjudicate_core.specs.Silences.{TellsSilence}
 use Rattle.adjudicate_core.specs.declared.commands.Task.{Task}
@@ -15,16 +16,16 @@ use Rattle.adjudicate_core.specs.declared.program.Context.{Context}
 use Rattle.adjudicate_core.specs.declared.system.System.{System}
 
 -- from what was read for it and at a system, from one history of the host and one moment of each output to later ones
-abbrev pub GivenAt : {D I H M P F W E : Type 0} → (D → DiskFacts) → (I → InputFacts) → (H → HostFacts P F) → (M → Option (List Made)) → (P → PortFacts) → (F → KeptFacts) → (W → Option (List ℕ)) → (E → OutputFacts) → (E → Option (List ℕ)) → Task → Context D I H → M → M → W → W → E → E → Result ℕ WriteFault → Type 0
-GivenAt disk input host made port file written facts told t given history history' out out' errors errors' r =
-    AnswersFrom (outside_of disk input host made port file given.system.now history history') (TellsSilence facts told errors errors') t given.sources.now (written out) (written out') r
+abbrev pub GivenAt : {D I H M P F S W E : Type 0} → (D → DiskFacts) → (I → InputFacts) → (H → HostFacts P F) → (H → StorePlaces S) → (M → Option (List Made)) → (P → PortFacts) → (F → KeptFacts) → (S → StoreFacts) → (W → Option (List ℕ)) → (E → OutputFacts) → (E → Option (List ℕ)) → Task → Context D I H → M → M → W → W → E → E → Result ℕ WriteFault → Type 0
+GivenAt disk input host stores made port file store written facts told t given history history' out out' errors errors' r =
+    AnswersFrom (machine_of disk input host stores made port file store given.system.now history history') (TellsSilence facts told errors errors') t given.sources.now (written out) (written out') r
 
 -- from what is read for it
-abbrev pub TaskAt : {D I H M P F W E : Type 0} → (D → DiskFacts) → (I → InputFacts) → (H → HostFacts P F) → (M → Option (List Made)) → (P → PortFacts) → (F → KeptFacts) → (W → Option (List ℕ)) → (E → OutputFacts) → (E → Option (List ℕ)) → Task → System D I H → M → M → W → W → E → E → Result ℕ WriteFault → Type 0
-TaskAt disk input host made port file written facts told t s history history' out out' errors errors' r =
-    AnswersTask (outside_of disk input host made port file s history history') (TellsSilence facts told errors errors') t (written out) (written out') r
+abbrev pub TaskAt : {D I H M P F S W E : Type 0} → (D → DiskFacts) → (I → InputFacts) → (H → HostFacts P F) → (H → StorePlaces S) → (M → Option (List Made)) → (P → PortFacts) → (F → KeptFacts) → (S → StoreFacts) → (W → Option (List ℕ)) → (E → OutputFacts) → (E → Option (List ℕ)) → Task → System D I H → M → M → W → W → E → E → Result ℕ WriteFault → Type 0
+TaskAt disk input host stores made port file store written facts told t s history history' out out' errors errors' r =
+    AnswersTask (machine_of disk input host stores made port file store s history history') (TellsSilence facts told errors errors') t (written out) (written out') r
 
 -- by the keys that it names
-abbrev pub SealedAt : {D I H M P F W E : Type 0} → (D → DiskFacts) → (I → InputFacts) → (H → HostFacts P F) → (M → Option (List Made)) → (P → PortFacts) → (F → KeptFacts) → (W → Option (List ℕ)) → (E → OutputFacts) → (E → Option (List ℕ)) → Task → System D I H → M → M → W → W → E → E → Result ℕ WriteFault → Type 0
-SealedAt disk input host made port file written facts told t s history history' out out' errors errors' r =
-    AnswersByKey (outside_of disk input host made port file s history history') (TellsSilence facts told errors errors') t (written out) (written out') r
+abbrev pub SealedAt : {D I H M P F S W E : Type 0} → (D → DiskFacts) → (I → InputFacts) → (H → HostFacts P F) → (H → StorePlaces S) → (M → Option (List Made)) → (P → PortFacts) → (F → KeptFacts) → (S → StoreFacts) → (W → Option (List ℕ)) → (E → OutputFacts) → (E → Option (List ℕ)) → Task → System D I H → M → M → W → W → E → E → Result ℕ WriteFault → Type 0
+SealedAt disk input host stores made port file store written facts told t s history history' out out' errors errors' r =
+    AnswersByKey (machine_of disk input host stores made port file store s history history') (TellsSilence facts told errors errors') t (written out) (written out') r

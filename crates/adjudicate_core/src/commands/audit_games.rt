@@ -2,7 +2,7 @@
 
 ghost use Rattle.std.specs.Prelude.{◌≡◌, IfErr, IfOk, None, OnErr, OnOk, codes};
 ghost use Rattle.clap.specs.Words.{first_value, found_of};
-ghost use Rattle.adjudicate_core.specs.Commands.AuditGames.{HasValues, LacksGameWords, Puts, faults, named, without_faults};
+ghost use Rattle.adjudicate_core.specs.Commands.AuditGames.{HasValues, LacksGameWords, Puts, PutsBy, PutsByOver, faults, named, without_faults};
 ghost use Rattle.adjudicate_core.specs.Misuses.{AreWell, IsFirstMisuse, fault_words};
 ghost use Rattle.task_files.specs.Sources.{named_by};
 ghost use Rattle.line_teller.specs.ToldLines.{HasFailed};
@@ -12,13 +12,14 @@ use crate::lines::put_refusal;
 use crate::listening::manifest_for;
 use crate::numbers::CacheSize;
 use crate::refusals::Refusal;
+use crate::stores::disk_over;
 use crate::tables::gather;
 use crate::usage::{Instead, ValueFault};
 use crate::values::{option_in, without, without_word};
 use clap::ArgMatches;
 use game_status::{AuditTables, tell_audit};
 use std::alloc::Global;
-use system_io::{Disk, Output, WriteFault};
+use system_io::{Disk, Host, Output, WriteFault};
 use task_files::{Places, Sources};
 
 /// The audit of the games of a folder.
@@ -75,16 +76,56 @@ impl<'a> AuditGames<'a> {
         }
     }
 
-    /// Audits the games of the folders, as `game_status::tell_audit` has it, by the tables of the files. Returns the status, 0 where
-    /// nothing is at fault and nothing differs, else 1. The tables are refused first.
-    pub(crate) fn answer<D: Disk, W: Output>(
+    /// Audits the games of the folders on a disk, as `game_status::tell_audit` has it.
+    fn tell<D: Disk, W: Output>(
+        &self,
+        alloc: Global,
+        tables: AuditTables<'_>,
+        disk: &D,
+        out: &mut W,
+    ) -> Result<u8, WriteFault>
+        ensures told { PutsBy tables.entry.manifest.now tables.entry.set.tables (D.facts disk.now) self.now (W.contents out.old) (W.contents out.new) result }
+        ensures cause { OnErr result (HasFailed W.facts) }
+    {
+        status_told(tell_audit(alloc, disk, tables, self.games, self.other, out))
+    }
+
+    /// Audits the games of the folders by their stores.
+    fn tell_over<D: Disk, H: Host, W: Output>(
+        &self,
+        alloc: Global,
+        tables: AuditTables<'_>,
+        disk: &D,
+        host: &H,
+        out: &mut W,
+    ) -> Result<u8, WriteFault>
+        ensures told { PutsByOver tables.entry.manifest.now tables.entry.set.tables (D.facts disk.now) (H.stores host.now) self.now (W.contents out.old) (W.contents out.new) result }
+        ensures cause { OnErr result (HasFailed W.facts) }
+    {
+        let first = match disk_over(alloc, disk, host, self.games) {
+            Ok(first) => first,
+            Err(refusal) => return put_refusal(out, refusal),
+        };
+        let Some(other) = self.other else {
+            return self.tell(alloc, tables, &first, out);
+        };
+        match disk_over(alloc, &first, host, other) {
+            Ok(both) => self.tell(alloc, tables, &both, out),
+            Err(refusal) => put_refusal(out, refusal),
+        }
+    }
+
+    /// Audits the games of the folders, by the tables of the files. Returns the status, 0 where nothing is at fault and nothing differs,
+    /// else 1. The tables are refused first.
+    pub(crate) fn answer<D: Disk, H: Host, W: Output>(
         &self,
         alloc: Global,
         sources: &Sources,
         disk: &D,
+        host: &H,
         out: &mut W,
     ) -> Result<u8, WriteFault>
-        ensures told { Puts (D.facts disk.now) self.now sources.now (W.contents out.old) (W.contents out.new) result }
+        ensures told { Puts (D.facts disk.now) (H.stores host.now) self.now sources.now (W.contents out.old) (W.contents out.new) result }
         ensures cause { OnErr result (HasFailed W.facts) }
     {
         let set = match gather(alloc, sources, CacheSize::usual()) {
@@ -100,6 +141,6 @@ impl<'a> AuditGames<'a> {
             set,
             manifest: &manifest,
         };
-        status_told(tell_audit(alloc, disk, tables, self.games, self.other, out))
+        self.tell_over(alloc, tables, disk, host, out)
     }
 }

@@ -7,10 +7,11 @@ ghost use Rattle.adjudicate_core.specs.Commands.Host.{end_faults, term_faults};
 ghost use Rattle.adjudicate_core.specs.Misuses.{AreWell, IsFirstMisuse, fault_words};
 
 use super::{Form, Value};
-use crate::numbers::{CacheSize, is_set};
+use crate::numbers::{CacheSize, StoreForm, is_set};
 use crate::usage::ValueFault;
 use crate::values::{
     at_once_in, cache_in, check_bind, datagrams_in, log_in, me_in, option_in, recipients_in,
+    store_in,
 };
 use arbiter_server::LogForm;
 use clap::ArgMatches;
@@ -41,6 +42,8 @@ pub struct HostGames<'a> {
     pub datagrams: u64,
     /// Which lines are written.
     pub log: LogForm,
+    /// Where the records of the games are kept.
+    pub store: StoreForm,
     /// Whether the games go on where these can't be written.
     pub outlives_log: bool,
     /// The file of the keys by which datagrams are sealed, if they are.
@@ -48,7 +51,7 @@ pub struct HostGames<'a> {
 }
 
 /// The values of `host`.
-pub(crate) const VALUES: [Value; 12] = [
+pub(crate) const VALUES: [Value; 13] = [
     Value {
         name: "games",
         form: Form::Option,
@@ -94,6 +97,10 @@ pub(crate) const VALUES: [Value; 12] = [
         form: Form::Option,
     },
     Value {
+        name: "store",
+        form: Form::Option,
+    },
+    Value {
         name: "log-failures-ignored",
         form: Form::Flag,
     },
@@ -108,7 +115,7 @@ struct Ends<'a> {
     to: &'a str,
 }
 
-/// The numbers, and which lines are written.
+/// The numbers, which lines are written, and where records are kept.
 #[derive(Clone, Copy)]
 struct Terms {
     me: Who,
@@ -116,6 +123,7 @@ struct Terms {
     cache: CacheSize,
     datagrams: u64,
     log: LogForm,
+    store: StoreForm,
 }
 
 /// The folders and the addresses, of options that have to be there.
@@ -132,9 +140,9 @@ fn ends_in<'a>(matches: &ArgMatches<'a>) -> Result<Ends<'a>, ValueFault<'a>>
     })
 }
 
-/// The numbers, and which lines are written.
+/// The numbers, which lines are written, and where records are kept.
 fn terms_in<'a>(matches: &ArgMatches<'a>) -> Result<Terms, ValueFault<'a>>
-    ensures ok { IfOk result (λ t. AreHostTerms (first_value (found_of matches.now)) t.me t.at_once.value t.cache t.datagrams t.log) }
+    ensures ok { IfOk result (λ t. AreHostTerms (first_value (found_of matches.now)) t.me t.at_once.value t.cache t.datagrams t.log t.store) }
     ensures err { IfErr result (λ fault. IsFirstMisuse (first_value (found_of matches.now)) term_faults (fault_words fault)) }
 {
     let terms = Terms {
@@ -143,6 +151,7 @@ fn terms_in<'a>(matches: &ArgMatches<'a>) -> Result<Terms, ValueFault<'a>>
         cache: cache_in(matches)?,
         datagrams: datagrams_in(matches)?,
         log: log_in(matches)?,
+        store: store_in(matches)?,
     };
     check_bind(matches)?;
     Ok(terms)
@@ -173,6 +182,7 @@ impl<'a> HostGames<'a> {
             cache: terms.cache,
             datagrams: terms.datagrams,
             log: terms.log,
+            store: terms.store,
             outlives_log: is_set(matches.get_str("log-failures-ignored")),
             key: matches.get_str("key"),
         })

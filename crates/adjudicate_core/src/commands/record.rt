@@ -33,10 +33,16 @@ pub struct ShowRecord<'a> {
 }
 
 /// The values of `record`.
-pub(crate) const VALUES: [Value; 1] = [Value {
-    name: "FILE",
-    form: Form::Word,
-}];
+pub(crate) const VALUES: [Value; 2] = [
+    Value {
+        name: "FILE",
+        form: Form::Word,
+    },
+    Value {
+        name: "games",
+        form: Form::Option,
+    },
+];
 
 /// Writes bytes.
 fn put<W: Write>(out: &mut W, bytes: &[u8]) -> Result<(), WriteFault>

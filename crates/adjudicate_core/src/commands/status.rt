@@ -2,19 +2,21 @@
 
 ghost use Rattle.std.specs.Prelude.{◌≡◌, IfErr, IfOk, OnErr};
 ghost use Rattle.clap.specs.Words.{first_value, found_of};
-ghost use Rattle.adjudicate_core.specs.Commands.Status.{HasValues, Puts, faults, named};
+ghost use Rattle.adjudicate_core.specs.Commands.Status.{HasValues, Puts, PutsOver, faults, named};
 ghost use Rattle.adjudicate_core.specs.Misuses.{IsFirstMisuse, fault_words};
 ghost use Rattle.task_files.specs.Sources.{named_by};
 ghost use Rattle.line_teller.specs.ToldLines.{HasFailed};
 
 use super::{Form, Value};
 use crate::answers::status_told;
+use crate::lines::put_refusal;
+use crate::stores::disk_over;
 use crate::usage::ValueFault;
 use crate::values::option_in;
 use clap::ArgMatches;
 use game_status::tell_status;
 use std::alloc::Global;
-use system_io::{Disk, Output, WriteFault};
+use system_io::{Disk, Host, Output, WriteFault};
 use task_files::Places;
 
 /// How far the games of a folder have come.
@@ -57,9 +59,8 @@ impl<'a> ShowStatus<'a> {
         Places::none()
     }
 
-    /// Tells how far the games have come, as `game_status::tell_status` has it. Returns the status, 0 where nothing is at fault and
-    /// nothing differs, else 1.
-    pub(crate) fn answer<D: Disk, W: Output>(
+    /// Tells how far the games have come on a disk, as `game_status::tell_status` has it.
+    fn tell<D: Disk, W: Output>(
         &self,
         alloc: Global,
         disk: &D,
@@ -69,5 +70,30 @@ impl<'a> ShowStatus<'a> {
         ensures cause { OnErr result (HasFailed W.facts) }
     {
         status_told(tell_status(alloc, disk, self.games, self.other, out))
+    }
+
+    /// Tells how far the games have come, by the stores of their folders. Returns the status, 0 where nothing is at fault and nothing
+    /// differs, else 1.
+    pub(crate) fn answer<D: Disk, H: Host, W: Output>(
+        &self,
+        alloc: Global,
+        disk: &D,
+        host: &H,
+        out: &mut W,
+    ) -> Result<u8, WriteFault>
+        ensures told { PutsOver (D.facts disk.now) (H.stores host.now) self.now (W.contents out.old) (W.contents out.new) result }
+        ensures cause { OnErr result (HasFailed W.facts) }
+    {
+        let first = match disk_over(alloc, disk, host, self.games) {
+            Ok(first) => first,
+            Err(refusal) => return put_refusal(out, refusal),
+        };
+        let Some(other) = self.other else {
+            return self.tell(alloc, &first, out);
+        };
+        match disk_over(alloc, &first, host, other) {
+            Ok(both) => self.tell(alloc, &both, out),
+            Err(refusal) => put_refusal(out, refusal),
+        }
     }
 }

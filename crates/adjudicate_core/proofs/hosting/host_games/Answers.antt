@@ -15,7 +15,7 @@ returns-in-Err-clause-told g c = NoRoom (Passes-nil _) c.put_refusal-in-Err.ensu
 pub returns-in-Err-list_games-clause-told : goal.returns-in-Err-list_games-clause-told
 returns-in-Err-list_games-clause-told g c =
     let tables = rw c.in-Ok-Ok.field-0-is at c.in-Ok-Ok.ensures.tables in
-    unlisted _ _ _ _ _ _ _ _ _ _ c.in-Err-list_games.refusal c.in-Ok-Ok.tables tables (Passes-nil _) c.in-Err-list_games.ensures.err c.put_refusal-in-Err-list_games.ensures.told
+    unlisted _ _ _ _ _ _ _ _ _ c.in-Err-list_games.refusal c.in-Ok-Ok.tables tables (Passes-nil _) c.in-Err-list_games.ensures.err c.put_refusal-in-Err-list_games.ensures.told
 
 pub returns-in-Err-manifest_for-clause-told : goal.returns-in-Err-manifest_for-clause-told
 returns-in-Err-manifest_for-clause-told g c = NoRoom (Passes-nil _) c.put_refusal-in-Err-manifest_for.ensures.told
@@ -24,4 +24,4 @@ pub returns-clause-told : goal.returns-clause-told
 returns-clause-told g c =
     let tables = rw c.in-Ok-Ok.field-0-is at c.in-Ok-Ok.ensures.tables in
     let cache = rw c.in-Ok-Ok.field-0-is at c.in-Ok-Ok.ensures.cache in
-    Hosting c.in-Ok-Ok.tables tables cache c.in-Ok.ensures.ok.0 c.in-Ok.ensures.ok.1 c.in-Ok-manifest_for.manifest.items c.in-Ok-manifest_for.ensures (rw c.deref.ensures.value at c.lock_and_serve.ensures.told)
+    Hosting c.in-Ok-Ok.tables tables cache c.in-Ok.ensures.ok.0 c.in-Ok.ensures.ok.1 c.in-Ok.ensures.ok.2 c.in-Ok-manifest_for.manifest.items c.in-Ok-manifest_for.ensures (rw (c.deref.ensures.value, c.most_together.ensures) at c.lock_and_serve.ensures.told)

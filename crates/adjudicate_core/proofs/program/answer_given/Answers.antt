@@ -2,7 +2,7 @@ use Rattle.std.proofs.Common.{◌∙◌, refl, sym, ap, inl}
 use Rattle.adjudicate_core.specs.Tasks.{tells_progress}
 use Rattle.adjudicate_core.proofs.AnswerLaws.{after_reading, listened, once, once_always, sent, sent_failed, told_or_quiet}
 use Rattle.adjudicate_core.proofs.HostLaws.{hosted_games}
-use Rattle.adjudicate_core.proofs.MakeLaws.{enter_makes, host_makes, listen_makes, makes_nothing, send_makes}
+use Rattle.adjudicate_core.proofs.MakeLaws.{enter_makes, files_with, host_makes, listen_makes, makes_nothing, send_makes, store_with}
 use Rattle.adjudicate_core.proofs.program.answer_given.Goals as goal
 
 pub returns-in-Judge : goal.returns-in-Judge
@@ -41,6 +41,9 @@ returns-in-Record g c = record { answered = rw c.in-Record.is (once c.answer-in-
 pub returns-in-Audit : goal.returns-in-Audit
 returns-in-Audit g c = record { answered = rw c.in-Audit.is (once c.answer-in-Audit.result _ c.answer-in-Audit.ensures.ok c.put_answered-in-Audit.result _ _ c.put_answered-in-Audit.ensures.told _ c.answer-in-Audit.ensures.memory); quiet = λ unasked. inl refl; made = makes_nothing _ _; cause = c.put_answered-in-Audit.ensures.cause }
 
+pub returns-in-GameRecord : goal.returns-in-GameRecord
+returns-in-GameRecord g c = record { answered = rw c.in-GameRecord.is c.answer-in-GameRecord.ensures.told; quiet = λ unasked. inl refl; made = makes_nothing _ _; cause = c.answer-in-GameRecord.ensures.cause }
+
 pub returns-in-AuditGames : goal.returns-in-AuditGames
 returns-in-AuditGames g c = record { answered = rw c.in-AuditGames.is c.answer-in-AuditGames.ensures.told; quiet = λ unasked. inl refl; made = makes_nothing _ _; cause = c.answer-in-AuditGames.ensures.cause }
 
@@ -59,7 +62,12 @@ pub returns-in-Enter : goal.returns-in-Enter
 returns-in-Enter g c = record { answered = rw c.in-Enter.is c.enter.ensures.told; quiet = λ unasked. inl refl; made = rw c.in-Enter.is (enter_makes _ _ _ _ c.enter.result c.enter.ensures.told); cause = c.enter.ensures.cause }
 
 pub returns-in-Host : goal.returns-in-Host
-returns-in-Host g c = record { answered = rw c.in-Host.is (hosted_games _ _ _ _ _ _ _ _ _ _ c.host_games.result c.host_games.ensures.told); quiet = λ unasked. inl refl; made = rw c.in-Host.is (host_makes _ _ _ _ _ _ _ _ _ c.host_games.result c.host_games.ensures.told); cause = c.host_games.ensures.cause }
+returns-in-Host g c = record {
+  answered = rw c.in-Host.is (hosted_games _ _ c.in-Host.task c.host_games.result _ _ _ _ _ c.host_games.ensures.told);
+  quiet = λ unasked. inl refl;
+  made = rw c.in-Host.is (host_makes _ _ c.in-Host.task (files_with c.in-Host.task) (store_with c.in-Host.task) _ c.host_games.result _ _ _ _ c.host_games.ensures.told);
+  cause = c.host_games.ensures.cause;
+}
 
 pub returns-in-Root : goal.returns-in-Root
 returns-in-Root g c = record { answered = rw c.in-Root.is c.answer-in-Root.ensures.written; quiet = λ unasked. inl (c.answer-in-Root.ensures.quiet); made = makes_nothing _ _; cause = c.answer-in-Root.ensures.cause }

@@ -18,7 +18,7 @@ returns-in-Ok-Ok g c =
     let named : key_in c.args.task.now ≡ Some c.in-Some.path.now = sym c.key.ensures ∙ ap (option_map (λ s. s.now)) c.in-Some.is in
     let keys = c.in-Ok-Ok.keys in
     let has = subst (GivesKeys (g.D.Disk.facts c.args.system.now.disk.now) c.in-Some.path.now) c.in-Ok-Ok.field-0-is c.in-Ok-Ok.ensures in
-    let over = over_keyed (g.D.Disk.facts c.args.system.now.disk.now) (g.I.Input.facts c.args.system.now.input.now) g.H.Host.facts g.H.Port.Port.facts g.H.File.KeptFile.facts c.args.system.now.host.now keys c.over-keyed.result _ _ in
+    let over = over_keyed (g.D.Disk.facts c.args.system.now.disk.now) (g.I.Input.facts c.args.system.now.input.now) g.H.Host.facts g.H.Host.stores g.H.Port.Port.facts g.H.File.KeptFile.facts g.H.Store.RecordStore.facts c.args.system.now.host.now keys c.over-keyed.result _ _ in
     record {
       answered = BySeal c.in-Some.path.now named keys has (over _ _ _ _ _ c.over-keyed.ensures c.run_task-in-Ok-Ok.ensures.answered);
       quiet = c.run_task-in-Ok-Ok.ensures.quiet;

@@ -4,7 +4,7 @@ use Rattle.sqlite.specs.Held.{state}
 use Rattle.sqlite.specs.State.{State, ExecutesInside}
 use Rattle.sqlite.proofs.InsideLemmas.{inside_keeps}
 use Rattle.sqlite_catalog.specs.Listing.{IsSound}
-use Rattle.game_store.specs.declared.entry.Entry.{Entry}
+use Rattle.system_io.specs.declared.record_store.Entry.{Entry}
 use Rattle.game_store.specs.Rows.{game_schema, put_parameters, put_text}
 use Rattle.game_store.specs.Batches.{PutsRow}
 use Rattle.game_store.proofs.RowLemmas.{puts}

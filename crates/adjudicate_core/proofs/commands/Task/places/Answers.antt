@@ -33,6 +33,9 @@ returns-in-Game c = rw c.in-Game.is c.places-in-Game.ensures
 pub returns-in-Record : goal.returns-in-Record
 returns-in-Record c = rw c.in-Record.is c.places-in-Record.ensures
 
+pub returns-in-GameRecord : goal.returns-in-GameRecord
+returns-in-GameRecord c = rw c.in-GameRecord.is c.places-in-GameRecord.ensures
+
 pub returns-in-Audit : goal.returns-in-Audit
 returns-in-Audit c = rw c.in-Audit.is c.places-in-Audit.ensures
 

@@ -1,4 +1,4 @@
-use Rattle.std.proofs.Common.{◌∙◌, ap, sym}
+use Rattle.std.proofs.Common.{◌∙◌, ap, inl, inr, sym}
 use Rattle.move_msg.specs.TextLines.{ended}
 use Rattle.arbiter_server.specs.declared.line.Line.{Line}
 use Rattle.arbiter_server.specs.LineLogs.{line_kind}
@@ -22,4 +22,7 @@ returns-in-Unopened-clause-is c =
 
 pub returns-in-PortLost-clause-is : goal.returns-in-PortLost-clause-is
 unfolding line_kind
-returns-in-PortLost-clause-is c = ap (λ (l : Line). line_kind (ended (line_words l))) c.in-PortLost.is
+returns-in-PortLost-clause-is c = elim c.in-PortLost.is [
+  | inl is ↦ ap (λ (l : Line). line_kind (ended (line_words l))) is
+  | inr is ↦ ap (λ (l : Line). line_kind (ended (line_words l))) is
+]

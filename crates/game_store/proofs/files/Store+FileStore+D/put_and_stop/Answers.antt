@@ -11,11 +11,11 @@ onward (Err e) f h = tt
 
 pub returns : goal.returns
 returns g c clean left may =
-    let put = c.put_all-done.ensures in
+    let put = c.put_batch-done.ensures in
     let early = c.stop.ensures.clean clean in
     ∥∥₁_map (c.stop.ensures.finds clean left may) (λ it. (
       it.0,
       it.1,
-      finds_batch (committed over_files c.args.self) (committed over_files c.put_all-done.new.self) c.args.entries.items c.put_all-done.result it.0 (put.all early)
-          (onward c.put_all-done.result (λ is_open. put.lasts early is_open it.0 it.2) (put.open early)) (put.stops early c.requires it.0 it.2),
+      finds_batch (committed over_files c.args.self) (committed over_files c.put_batch-done.new.self) c.args.entries.items c.put_batch-done.result it.0 (put.all early)
+          (onward c.put_batch-done.result (λ is_open. put.lasts early is_open it.0 it.2) (put.open early)) (put.stops early c.requires it.0 it.2),
     ))

@@ -1,6 +1,6 @@
 use Rattle.std.proofs.Common.{IsSome, take, ◌∙◌, subst}
 use Rattle.std.proofs.lemmas.List.Elements.{All-more}
-use Rattle.game_store.specs.declared.entry.Entry.{Entry}
+use Rattle.system_io.specs.declared.record_store.Entry.{Entry}
 use Rattle.game_store.specs.Slots.{number_at}
 use Rattle.game_store.proofs.SlotLemmas.{all_stay}
 use Rattle.game_store.proofs.memory.Memory.add_all.Goals as goal

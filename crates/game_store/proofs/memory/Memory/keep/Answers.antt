@@ -1,6 +1,6 @@
 use Rattle.std.proofs.Common.{Some, subst, sym, ◌≡◌, ◌∙◌, ℕ, List}
 use Rattle.game_store.specs.declared.memory.Slot.{Slot}
-use Rattle.game_store.specs.Games.{with_entry}
+use Rattle.system_io.specs.Records.{with_entry}
 use Rattle.game_store.specs.Slots.{Slots, number_at, game_at}
 use Rattle.game_store.proofs.SlotLemmas.{number_here, game_here, number_kept}
 use Rattle.game_store.proofs.memory.Memory.keep.Goals as goal

@@ -1,5 +1,5 @@
 use Rattle.std.proofs.Common.{◌≡◌, ℕ, List}
-use Rattle.game_store.specs.Games.{with_all}
+use Rattle.system_io.specs.Records.{with_all}
 use Rattle.game_store.specs.Slots.{number_at, game_at}
 use Rattle.game_store.proofs.memory.Memory.keep_all.Given as goal
 

@@ -17,5 +17,5 @@ returns-in-Err-manifest_for-clause-told g c = NoRoom c.put_refusal-in-Err-manife
 pub returns-clause-told : goal.returns-clause-told
 returns-clause-told g c =
     let tables = rw c.in-Ok-Ok.field-0-is at c.in-Ok-Ok.ensures.tables in
-    let told = rw c.deref.ensures.value at c.tell_audit.ensures.told in
-    Audited c.in-Ok-Ok.set.tables (sym tables) (record { manifest = c.in-Ok.manifest.items; spells = c.in-Ok.ensures; told = c.tell_audit.result; tells = told; is = c.status_told.ensures })
+    let told = rw c.deref.ensures.value at c.tell_over.ensures.told in
+    Audited c.in-Ok-Ok.set.tables (sym tables) (record { manifest = c.in-Ok.manifest.items; spells = c.in-Ok.ensures; puts = told })

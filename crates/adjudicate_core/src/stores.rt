@@ -1,0 +1,44 @@
+//! Folders whose records are in a store, as they are read.
+
+ghost use Rattle.std.specs.Prelude.{IfErr, IfOk};
+ghost use Rattle.adjudicate_core.specs.Stores.{IsOverStore, IsWithoutStore};
+ghost use Rattle.game_status.specs.StoredDisks.{overlaid_by};
+
+use crate::refusals::Refusal;
+use game_status::{StoredDisk, records_in};
+use std::alloc::Global;
+use system_io::{Disk, Host, ReadFault, StoreFault};
+
+/// What is told where a store can't be read.
+const STORE_UNREAD: &str =
+    "games.db can't be read: no store of games, at fault, or written too often meanwhile";
+
+/// The disk on which the records of a folder are those of its store, where it has one: as its last commit left them, also while a host
+/// writes it. A folder that can't be listed is told as `refused files`, a store that can't be read as `refused store`.
+pub(crate) fn disk_over<'a, D: Disk, H: Host>(
+    alloc: Global,
+    disk: &'a D,
+    host: &H,
+    folder: &'a str,
+) -> Result<StoredDisk<'a, D>, Refusal>
+    ensures ok { IfOk result (λ d. IsOverStore D.facts (H.stores host.now) disk.now folder.now (overlaid_by d)) }
+    ensures err { IfErr result (IsWithoutStore (D.facts disk.now) (H.stores host.now) folder.now) }
+{
+    match disk.names(alloc, folder) {
+        Ok(_names) => {}
+        Err(ReadFault::Unreadable) => return Err(Refusal::Files),
+        Err(ReadFault::OutOfMemory) => return Err(Refusal::Memory),
+    }
+    let entries = match records_in(alloc, disk, host, folder) {
+        Ok(entries) => entries,
+        Err(StoreFault::Unreadable) => {
+            host.note(STORE_UNREAD);
+            return Err(Refusal::Store);
+        }
+        Err(StoreFault::OutOfMemory) => return Err(Refusal::Memory),
+    };
+    match StoredDisk::over(alloc, disk, folder, entries) {
+        Ok(over) => Ok(over),
+        Err(_) => Err(Refusal::Memory),
+    }
+}
