@@ -1,6 +1,6 @@
 //! The adjudicator's program: it passes the system to `adjudicate_core`, and ends with the status.
 //!
-//! `main` first sees to it that the descriptors 0 to 2 are open. Then `run_with` makes the system's disk, input, host and output, calls
+//! `main` first sees to it that the descriptors 0 to 2 are open. Then it makes the system's disk, input, stores, host and output, calls
 //! `run_program` with the words that the program was called with, flushes the output by `system_io::end`, and ends with the status.
 //! Memory that is refused before that is `refused memory`.
 //!
@@ -11,14 +11,14 @@
 #![tactic(auto)]
 
 use adjudicate_core::{System, WordsFault, refuse_memory, run_program};
-use game_store::{AnyFiles, SqliteStores};
+use game_store::MachineStores;
 use std::alloc::Global;
 use std::env::{Env, FillError};
 use std::process::ExitCode;
 use std::{env, io};
 use system_io::{
-    BufferedOutput, Disk, Host, Input, Output, Stores, SystemDisk, SystemHost, SystemInput,
-    WriteFault, end, open_above_standard,
+    BufferedOutput, Disk, Host, Input, Output, SystemDisk, SystemHost, SystemInput, WriteFault,
+    end, open_above_standard,
 };
 
 /// The bytes of the word at a place, its own name being at 0; none where there are fewer words.
@@ -79,29 +79,24 @@ fn run_over<D: Disk, I: Input, H: Host, W: Output>(
     run_program(rt.alloc(), &words, &system, history, out, &mut errors)
 }
 
-/// Runs the program over this machine and these stores, and ends with its status, 1 where the output can't be written. Its output
-/// is buffered.
-fn run_with<T: Stores>(rt: &HostRuntime, stores: &T) -> ExitCode {
-    let Ok(mut out) = BufferedOutput::new(rt.alloc(), io::writer(rt)) else {
-        return ExitCode::from(refuse_memory(&mut io::writer(rt)).unwrap_or(1));
+/// Runs the program, and ends with its status, 1 where the output can't be written. Its output is buffered. Nothing that it opens
+/// gets a descriptor of standard input, output or errors, also where it was started without one.
+fn main(rt: HostRuntime) -> ExitCode {
+    if open_above_standard(&rt).is_err() {
+        return ExitCode::from(1);
+    }
+    let Ok(mut out) = BufferedOutput::new(rt.alloc(), io::writer(&rt)) else {
+        return ExitCode::from(refuse_memory(&mut io::writer(&rt)).unwrap_or(1));
     };
-    let (host, mut history) = SystemHost::new(rt, rt.stderr(), stores);
+    let stores = MachineStores::new(&rt);
+    let (host, mut history) = SystemHost::new(&rt, rt.stderr(), &stores);
     let answered = run_over(
-        rt,
-        &SystemDisk::new(rt, rt.stderr()),
-        &SystemInput::new(rt),
+        &rt,
+        &SystemDisk::new(&rt, rt.stderr()),
+        &SystemInput::new(&rt),
         &host,
         &mut history,
         &mut out,
     );
     ExitCode::from(end(&mut out, answered))
-}
-
-/// Runs the program over SQLite stores. Nothing that it opens gets a descriptor of standard input, output or errors, also where it
-/// was started without one.
-fn main(rt: HostRuntime) -> ExitCode {
-    if open_above_standard(&rt).is_err() {
-        return ExitCode::from(1);
-    }
-    run_with(&rt, &SqliteStores::new(&rt, AnyFiles))
 }

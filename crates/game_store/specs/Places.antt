@@ -28,6 +28,15 @@ store_places first = record {
   withholds = λ db log fault. ⊤;
 }
 
+-- so it is where each store is within another value
+abbrev pub stores_within : {S T : Type 0} → (T → S) → StorePlaces S → StorePlaces T
+stores_within inner places = record {
+  is_at = λ path store. places.is_at path (inner store);
+  refuses = places.refuses;
+  holds = places.holds;
+  withholds = places.withholds;
+}
+
 -- refused memory is told as that
 abbrev pub store_fault_of : DatabaseFault → StoreFault
 store_fault_of (Sqlite (SqliteFailure code.OutOfMemory)) = OutOfMemory

@@ -7,7 +7,8 @@
 //! under its premise that the disk returned what was written (`IsTrusted`).
 //!
 //! - `store`: the store (`Store`); `files`: a store over two files; `fault`: why something fails
-//! - `sqlite_stores`: where stores are opened, and how their files are read (`SqliteStores`)
+//! - `sqlite_stores`: where stores are opened, and how their files are read (`SqliteStores`); `machine_stores`: the same under the short
+//!   names that `main` passes on (`MachineStores`)
 //! - `memory`: the games in memory; `tables`: what tables a database has; `reading`: an opening; `writing`: a batch; `store_tests`: stops
 //!   and losses of power
 //!
@@ -36,6 +37,7 @@
 
 mod fault;
 mod files;
+mod machine_stores;
 mod memory;
 mod reading;
 mod sqlite_stores;
@@ -46,6 +48,7 @@ mod tables;
 mod writing;
 
 pub use fault::DatabaseFault;
+pub use machine_stores::{MachineStore, MachineStores};
 pub use memory::Kept;
 pub use sqlite_stores::{AnyFiles, SqliteStores};
 pub use store::Store;
