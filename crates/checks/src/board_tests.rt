@@ -1,8 +1,9 @@
 //! Positions whose moves are known apart from the code, and each call of `board_core` once.
 
 use crate::comparing::check_same;
-use crate::positions::{START, position_of, square};
+use crate::positions::{position_of, square};
 use board_core::{Bitboard, Square};
+use check_helpers::START;
 use std::process::Abort;
 
 fn with(set: Bitboard, square: Square) -> Bitboard {

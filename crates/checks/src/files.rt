@@ -2,6 +2,7 @@
 //! where there are pawns.
 
 use crate::comparing::{check_same, push_bytes};
+use check_helpers::file_of;
 use judge_core::{Set, SetFault};
 use std::alloc::Global;
 use std::process::Abort;
@@ -11,11 +12,6 @@ use table_file::{Table, open};
 /// A knight draws.
 pub(crate) const KNIGHT: [u8; 14] = [
     0x71, 0xE8, 0x23, 0x5D, 0x01, 0x00, 0x66, 0x22, 0xEE, 0x00, 0x80, 0x02, 0x80, 0x02,
-];
-
-/// A queen wins, and loses for the other side.
-pub(crate) const QUEEN: [u8; 14] = [
-    0x71, 0xE8, 0x23, 0x5D, 0x01, 0x00, 0x66, 0x55, 0xEE, 0x00, 0x80, 0x04, 0x80, 0x00,
 ];
 
 /// A bishop draws.
@@ -37,12 +33,6 @@ pub(crate) const PAWNS: [u8; 38] = [
     0x80, 0x02, 0x80, 0x02, 0x80, 0x02,
 ];
 
-/// A queen's distances for white to move: 9 plies, by a value map for wins.
-pub(crate) const QUEEN_PLIES: [u8; 17] = [
-    0xD7, 0x66, 0x0C, 0xA5, 0x01, 0x00, 0x06, 0x05, 0x0E, 0x00, 0x86, 0x00, 0x01, 0x09, 0x00, 0x00,
-    0x00,
-];
-
 /// The bytes of the queen's table with blocks before its sparse entries: side 0 has 314 blocks of eight bytes, spans of 256
 /// values and one padding entry, side 1 the single value 0.
 const QUEEN_BLOCKS: [u8; 38] = [
@@ -51,15 +41,7 @@ const QUEEN_BLOCKS: [u8; 38] = [
     0x00, 0x10, 0x00, 0x00, 0x80, 0x00,
 ];
 
-/// The whole file of such a front.
-pub(crate) fn file_of(front: &[u8]) -> [u8; 80] {
-    let mut file = [0u8; 80];
-    let length = front.len().min(80);
-    file[..length].copy_from_slice(&front[..length]);
-    file
-}
-
-/// Two such files.
+/// The whole files of two such fronts.
 pub(crate) fn files_of(first: &[u8], second: &[u8]) -> [[u8; 80]; 2] {
     [file_of(first), file_of(second)]
 }

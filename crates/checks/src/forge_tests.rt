@@ -3,9 +3,9 @@
 ghost use Rattle.std.specs.Prelude.{◌<◌};
 
 use crate::comparing::{check_bytes, check_same};
-use crate::failing::Failing;
-use crate::files::{BISHOP, KNIGHT, PAWN, PAWNS, QUEEN, QUEEN_PLIES, file_of, queen_file};
+use crate::files::{BISHOP, KNIGHT, PAWN, PAWNS, queen_file};
 use board_core::Side;
+use check_helpers::{Failing, QUEEN, QUEEN_PLIES, file_of};
 use place_index::{Material, PawnFile, index};
 use std::alloc::Global;
 use std::process::Abort;

@@ -8,13 +8,8 @@
 //! - `record_tests`, `manifest_tests`
 //! - `refusal_tests`: that no refused memory changes an answer of a probe
 //!
-//! `positions`, `files`, `failing` and `comparing` are what the tests share: positions by FEN texts, forged files, writers that
-//! fail, and comparisons.
-//!
-//! They are in a crate of their own, since a crate is proved a second time for its tests, and use public calls alone. A row of
-//! words and results is a case of `rows` and not a test. `tools/planted` and the edits in `must-fail/` show what the contracts
-//! refuse; tests show what no contract says. One of them: `rt test -- NAME` here, where NAME is a part of its name or of its
-//! file's.
+//! `positions`, `files` and `comparing` are what these tests share: positions by FEN texts, forged files, and comparisons that end
+//! a test. What other crates' tests use too stands in `check_helpers`, whose head says what is a test and how to run one.
 #![tactic(auto)]
 
 #[cfg(test)]
@@ -23,8 +18,6 @@ mod board_tests;
 mod comparing;
 #[cfg(test)]
 mod determined_tests;
-#[cfg(test)]
-mod failing;
 #[cfg(test)]
 mod files;
 #[cfg(test)]

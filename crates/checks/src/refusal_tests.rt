@@ -4,9 +4,10 @@ ghost use Rattle.std.specs.Prelude.{◌≤◌};
 ghost use Rattle.board_core.specs.Delays.{most_delay};
 
 use crate::comparing::check_same;
-use crate::files::{QUEEN, QUEEN_PLIES, files_of, is_added};
-use crate::positions::{moves_of, position_of};
+use crate::files::{files_of, is_added};
+use crate::positions::position_of;
 use board_core::{Move, Verdict};
+use check_helpers::{QUEEN, QUEEN_PLIES, moves_of};
 use judge_core::{GameOutcome, ProbeFault, Set, Wdl};
 use std::alloc::{AllocError, Global};
 use std::process::Abort;
@@ -186,6 +187,6 @@ pub(crate) fn game_of(
     moves: &str,
     delay: u8,
 ) -> Result<GameOutcome, AllocError> {
-    let moves = moves_of(rt, alloc, moves)?;
+    let moves = moves_of(alloc, moves)?.expect(rt, moves);
     outcome(rt, alloc, set, start, moves.as_slice(), delay)
 }

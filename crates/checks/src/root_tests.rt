@@ -1,7 +1,9 @@
 //! Root moves whose values the rules of chess decide, by a set without tables.
 
 use crate::comparing::check_same;
-use crate::positions::{move_of, position_of};
+use crate::positions::position_of;
+use board_core::Move;
+use fen_text::read_move;
 use judge_core::{BoardState, Effect, RootMove, Set, ValueFault, Wdl};
 use std::alloc::Global;
 use std::process::Abort;
@@ -21,6 +23,11 @@ struct Wanted {
     state: BoardState,
     wdl: Wdl,
     dtz: i32,
+}
+
+/// The move of a text that is good.
+fn move_of(rt: &impl Abort, text: &str) -> Move {
+    read_move(text.as_bytes()).expect(rt, text)
 }
 
 fn check_first(rt: &impl Abort, first: &RootMove, wanted: &Wanted, row: &str) {

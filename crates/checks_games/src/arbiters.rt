@@ -3,9 +3,10 @@
 ghost use Rattle.arbiter_core.specs.Delivers.{IsKept};
 
 use crate::comparing::check_same;
-use crate::positions::{START, move_of, moves_of, position_of};
+use crate::positions::{move_of, position_of};
 use arbiter_core::{Arbiter, Keeper, MemoryKeeper, Setup, name_of};
 use board_core::{Move, Verdict};
+use check_helpers::{START, moves_of};
 use fen_text::write_move;
 use judge_core::Set;
 use move_msg::{Count, Message, MoveList, Record, Sender, Stamp, Wanted, Who};
@@ -207,6 +208,6 @@ pub(crate) fn record_of(
     moves: &str,
     verdict: Option<Verdict>,
 ) -> Vec<u8> {
-    let moves = moves_of(rt, alloc, moves).expect(rt, "memory");
-    record_from(rt, alloc, stamp, delay, moves, verdict)
+    let played = moves_of(alloc, moves).expect(rt, "memory");
+    record_from(rt, alloc, stamp, delay, played.expect(rt, moves), verdict)
 }

@@ -2,9 +2,10 @@
 
 use crate::arbiters::{Sent, empty_keeper, message_of, open_first, record_from, stamp_of, text_of};
 use crate::comparing::{check_bytes, push_bytes};
-use crate::positions::{START, move_of};
+use crate::positions::move_of;
 use arbiter_core::{Keeper, MemoryKeeper, Outputs};
 use board_core::Move;
+use check_helpers::START;
 use move_msg::{MOST_MOVES, Message};
 use std::alloc::Global;
 use std::process::Abort;

@@ -3,10 +3,11 @@
 use crate::arbiters::{NAME, stamp_of};
 use crate::comparing::{check_bytes, check_same};
 use crate::playing::{MOVES, below, message_at, record_at};
-use crate::positions::{START, position_of};
+use crate::positions::position_of;
 use arbiter_core::{Keep, Keeper, MemoryKeeper, name_of};
 use arbiter_server::{Found, Games, LineLog, Server, ServerConfig, Uncommitted, Unopened};
 use board_core::Position;
+use check_helpers::START;
 use judge_core::Set;
 use move_msg::{Message, Record, Stamp, Who};
 use std::alloc::Global;

@@ -9,11 +9,8 @@
 //! - `world_tests`: schedules, and what is said of them
 //! - `seeded_world_tests`: random schedules against a plain model
 //!
-//! `positions`, `files`, `arbiters`, `playing`, `failing` and `comparing` are what the tests share.
-//!
-//! They are in a crate of their own, since a crate is proved a second time for its tests, and use public calls alone. A row of
-//! words and results is a case of `rows` and not a test. `tools/planted` and the edits in `must-fail/` show what the contracts
-//! refuse; tests show what no contract says. One of them: `rt test -- NAME` here.
+//! `positions`, `arbiters`, `playing` and `comparing` are what these tests share. What other crates' tests use too stands in
+//! `check_helpers`, whose head says what is a test and how to run one.
 #![tactic(auto)]
 
 #[cfg(test)]
@@ -21,11 +18,7 @@ mod arbiters;
 #[cfg(test)]
 mod comparing;
 #[cfg(test)]
-mod failing;
-#[cfg(test)]
 mod fetching_tests;
-#[cfg(test)]
-mod files;
 #[cfg(test)]
 mod hosting_tests;
 #[cfg(test)]

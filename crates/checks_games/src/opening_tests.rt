@@ -4,10 +4,11 @@ use crate::arbiters::{
     NAME, Sent, empty_keeper, message_of, open_first, record_of, setup_of, stamp_of,
 };
 use crate::comparing::{check_bytes, check_same};
-use crate::positions::{START, position_of};
+use crate::positions::position_of;
 use arbiter_core::{Arbiter, KeepFault, Keeper, Name, OpenFault, Refused, Setup, name_of};
 use arbiter_server::FileKeeper;
 use board_core::Position;
+use check_helpers::START;
 use std::alloc::Global;
 use std::process::Abort;
 use system_io::{DiskFile, KeptFile};

@@ -1,8 +1,8 @@
 //! A game to the mate, as messages and records, and rows of numbers.
 
 use crate::arbiters::{Sent, message_of, record_of, stamp_of};
-use crate::positions::START;
 use board_core::Verdict;
+use check_helpers::START;
 use std::alloc::Global;
 use std::process::Abort;
 

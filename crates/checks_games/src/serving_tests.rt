@@ -4,10 +4,9 @@ ghost use Rattle.arbiter_core.specs.Delivers.{IsKept};
 
 use crate::arbiters::{empty_keeper, game, open_first, setup_of};
 use crate::comparing::{check_bytes, check_same, push_bytes};
-use crate::failing::Failing;
-use crate::positions::START;
 use arbiter_core::{Arbiter, Keep, MemoryKeeper};
 use arbiter_server::{FileKeeper, Span, open_and_serve, serve};
+use check_helpers::{Failing, START};
 use std::alloc::Global;
 use std::process::Abort;
 use system_io::{MemoryCalls, MemoryPort, Output, Passage, Traced, Turn, WriteFault};

@@ -3,8 +3,8 @@
 use crate::arbiters::setup_of;
 use crate::comparing::{check_bytes, check_same};
 use crate::playing::{MOVES, below, message_at, record_at};
-use crate::positions::START;
 use arbiter_server::{Span, Stop, run_after};
+use check_helpers::START;
 use move_msg::{Message, Record};
 use std::alloc::Global;
 use std::process::Abort;

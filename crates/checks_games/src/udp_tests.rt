@@ -2,9 +2,9 @@
 
 use crate::arbiters::{empty_keeper, game, open_first, text_of};
 use crate::comparing::{check_bytes, check_same, check_text};
-use crate::positions::START;
 use arbiter_core::MemoryKeeper;
 use arbiter_server::{Span, serve};
+use check_helpers::START;
 use move_msg::Message;
 use std::alloc::Global;
 use std::io::{Sink, sink};

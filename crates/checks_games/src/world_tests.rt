@@ -1,8 +1,8 @@
 //! Schedules and what is told of them.
 
 use crate::comparing::check_same;
-use crate::files::{QUEEN, QUEEN_PLIES, file_of};
 use board_core::Move;
+use check_helpers::{QUEEN, QUEEN_PLIES, file_of};
 use relay_world::schedule::{Schedule, read};
 use relay_world::{Game, GameFault, World, WorldFault, run};
 use std::alloc::Global;

@@ -6,19 +6,14 @@
 //! - `source_tests`: a source whose datagrams are lost (over `source_port`)
 //! - `output_tests`: reads and writes that fail
 //!
-//! `positions`, `failing`, `comparing` and `no_stores` are what the tests share.
-//!
-//! They are in a crate of their own, since a crate is proved a second time for its tests, and use public calls alone. A row of
-//! words and results is a case of `rows` and not a test. `tools/planted` and the edits in `must-fail/` show what the contracts
-//! refuse; tests show what no contract says. One of them: `rt test -- NAME` here.
+//! `comparing` and `no_stores` are what these tests share. What other crates' tests use too stands in `check_helpers`, whose head
+//! says what is a test and how to run one.
 #![tactic(auto)]
 
 #[cfg(test)]
 mod calls_tests;
 #[cfg(test)]
 mod comparing;
-#[cfg(test)]
-mod failing;
 #[cfg(test)]
 mod file_keeper_tests;
 #[cfg(test)]
@@ -31,8 +26,6 @@ mod no_stores;
 mod output_tests;
 #[cfg(test)]
 mod port_tests;
-#[cfg(test)]
-mod positions;
 #[cfg(test)]
 mod sealed_tests;
 #[cfg(test)]

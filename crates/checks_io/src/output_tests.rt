@@ -1,7 +1,7 @@
 //! How a program ends.
 
 use crate::comparing::check_same;
-use crate::failing::Failing;
+use check_helpers::Failing;
 use std::alloc::Global;
 use std::io::Write;
 use std::process::Abort;

@@ -1,9 +1,10 @@
 //! The source of a live game over a port in memory: what it sends, and the lines of its run.
 
 use crate::comparing::{check_bytes, check_same, push_bytes};
-use crate::failing::Failing;
-use crate::positions::{START, position_of};
 use crate::source_port::{After, Coming, Given, STAMP, Timed};
+use board_core::Position;
+use check_helpers::{Failing, START};
+use fen_text::read;
 use source_core::{Terms, send_game};
 use std::alloc::Global;
 use std::io::BufReader;
@@ -49,6 +50,11 @@ fn reader_of<'a>(
     BufReader::new(alloc, given).ok().expect(rt, "memory")
 }
 
+/// The position before the first move.
+fn first_position(rt: &impl Abort) -> Position {
+    read(START.as_bytes()).expect(rt, START)
+}
+
 /// The end of a run over an input.
 fn sent<P: Port, W: Output>(
     rt: &impl Abort,
@@ -58,8 +64,8 @@ fn sent<P: Port, W: Output>(
     port: &mut P,
     out: &mut W,
 ) -> Result<u8, WriteFault> {
-    let start = position_of(rt, START);
-    match send_game(alloc, terms(tries), start, reader, port, out) {
+    let first = first_position(rt);
+    match send_game(alloc, terms(tries), first, reader, port, out) {
         Ok(ended) => Ok(ended.status()),
         Err(fault) => Err(fault),
     }

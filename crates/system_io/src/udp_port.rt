@@ -245,6 +245,10 @@ impl<'a, C: Clock, S: Socket + Drop, W: Write + Drop> UdpPort<'a, C, S, W> {
         ensures count { self.old.failures ≤ self.new.failures }
         ensures counts { Counts result self.old.failures self.new.failures }
     {
+        // A receive that waits for nothing leaves the socket so; a send waits for room.
+        if self.wait == Some(Duration::ZERO) {
+            let _set = self.wait_for(None).is_ok();
+        }
         let is_taken = self.socket.send(bytes, address).is_ok();
         self.notes.tell_sent(place, address, is_taken);
         if is_taken { Ok(()) } else { Err(self.fail()) }

@@ -1,18 +1,18 @@
-//! A writer that fails at one call.
+//! A writer that fails from one call on.
 
 use std::io::{self, Write};
 use system_io::{Output, WriteFault};
 
-/// A writer that takes at most 16 bytes at once and fails at one call.
+/// A writer that takes at most 16 bytes at once and fails from one call on.
 #[derive(Drop)]
-pub(crate) struct Failing {
+pub struct Failing {
     calls: u32,
     fails_at: u32,
 }
 
 impl Failing {
-    /// One that fails at the call of this number, the first being 0.
-    pub(crate) fn at(fails_at: u32) -> Failing {
+    /// One that fails from the call of this number on, the first being 0.
+    pub fn at(fails_at: u32) -> Failing {
         Failing { calls: 0, fails_at }
     }
 }
