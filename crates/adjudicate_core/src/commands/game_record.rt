@@ -24,7 +24,8 @@ use task_files::Places;
 pub struct GameRecord<'a> {
     /// The folder.
     pub games: &'a str,
-    /// The stamp of the game, 32 lower-case hexadecimal digits: a game with another one has no record.
+    /// The stamp of the game, 32 lower-case hexadecimal digits. It isn't checked: the record is that of the file `STAMP.kept`, whatever it
+    /// says.
     pub stamp: &'a str,
 }
 
