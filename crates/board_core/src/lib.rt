@@ -3,7 +3,7 @@
 //! The parts of a position, or sets of squares by side and kind, go in; a position comes out, or the first of seven faults. It
 //! gives its legal moves, its captures, check, and the position after a move. The rules are those of the FIDE Laws of Chess,
 //! article 3, with castling, en passant and promotion; `specs/` states them as relations over a map from squares to men. Squares
-//! are numbered a1 = 0, b1 = 1, .. h1 = 7, a2 = 8, .. h8 = 63. `Verdict` stands here, below rulings and messages.
+//! are numbered a1 = 0, b1 = 1, .. h1 = 7, a2 = 8, .. h8 = 63. `Verdict` and `Delay` stand here, below rulings and messages.
 //!
 //! Inside: what stands where (`men`, `bitboard`, `sides`, `sets`, `census`, `empty_board`); what attacks, and how a move is made
 //! (`attack`, `king`, `castling`, `rules`, `playing`); which moves there are (`targets`, `generation` with a guard of the king,
@@ -41,8 +41,8 @@
 //!   `laws::are_moves_equal`; `laws::is_square_before`; `laws::is_move_before`: `==` is equality, and `<` the order of squares
 //!   and of listed moves.
 //! - CLAIM: `Verdict::code`; `Verdict::from_code`, clauses `some`, `only`; `Verdict::name`; `PositionFault::name`; `Square::new`,
-//!   clauses `on_board`, `number`; `Side::other`; `Rights::has`: verdicts by code and name, faults by name; squares, sides and
-//!   rights.
+//!   clauses `on_board`, `number`; `Delay::new`, clauses `in_range`, `number`; `Side::other`; `Rights::has`: verdicts by code and
+//!   name, faults by name; squares, delays, sides and rights.
 #![tactic(auto)]
 
 mod attack;
@@ -50,6 +50,7 @@ mod bitboard;
 mod capturing;
 mod castling;
 mod census;
+mod delay;
 mod empty_board;
 mod generation;
 mod king;
@@ -69,6 +70,7 @@ mod targets;
 mod verdict;
 
 pub use bitboard::Bitboard;
+pub use delay::Delay;
 pub use men::Men;
 pub use moves::Move;
 pub use parts::{Parts, Rights};
