@@ -9,7 +9,7 @@ ghost use Rattle.judge_core.specs.Standings.{IsAt, ListsMovesInGame};
 
 use crate::set::Set;
 use crate::standing::Standing;
-use board_core::{Move, Position, Verdict};
+use board_core::{Delay, Move, Position, Verdict};
 use std::alloc::{AllocError, Global};
 
 /// The outcome of a list of moves. Plies and moves are counted from 0: ply 0 is the start, ply k the position after k
@@ -42,8 +42,7 @@ pub struct Followed {
 }
 
 /// The outcome of a game that has no earlier verdict and stands so after all of its moves.
-fn end_of(standing: &Standing, moves: &[Move], delay: u8) -> GameOutcome
-    requires { delay ≤ most_delay }
+fn end_of(standing: &Standing, moves: &[Move], delay: Delay) -> GameOutcome
     ensures value { (rules : Rules) → rules.delay ≡ delay → IsAt rules moves.now standing.now → IsUnruled rules moves.now (length moves.now) → IsOutcome rules moves.now result }
     ensures plies { plies_to moves.now result ≡ length moves.now }
 {
@@ -65,10 +64,9 @@ impl<'a> Set<'a> {
         standing: &mut Standing,
         moves: &[Move],
         ply: usize,
-        delay: u8,
+        delay: Delay,
     ) -> Result<Option<GameOutcome>, AllocError>
-        requires delay { delay ≤ most_delay }
-        requires within { ply < length moves.now }
+        requires { ply < length moves.now }
         ensures value { FollowsPly self.old.tables delay moves.now ply standing.old standing.new result }
         ensures memory { (rules : Rules) → rules.tables ≡ self.old.tables → IsAt rules (take ply moves.now) standing.old → OnErr result (ListsMovesInGame rules moves.now) }
         ensures unchanged { self.new ≡ self.old }
@@ -87,16 +85,14 @@ impl<'a> Set<'a> {
     /// illegal move or at the end. Each ply is judged as by `judge`, ply 0 among them, before the move from it is
     /// played. Checkmate and stalemate end the game at once. A verdict by tables must hold for `delay` further plies.
     ///
-    /// That the delay is at most 8 plies is the caller's condition. The error comes only where memory for a list of moves is
-    /// refused. The set stays as it was but for its cache.
+    /// The error comes only where memory for a list of moves is refused. The set stays as it was but for its cache.
     pub fn follow(
         &mut self,
         alloc: Global,
         start: &Position,
         moves: &[Move],
-        delay: u8,
+        delay: Delay,
     ) -> Result<Followed, AllocError>
-        requires { delay ≤ most_delay }
         ensures value { IfOk result (λ f. IsOutcome (record { start = start.now; tables = self.old.tables; delay = delay }) moves.now f.outcome) }
         ensures standing { IfOk result (λ f. IsAt (record { start = start.now; tables = self.old.tables; delay = delay }) (take (plies_to moves.now f.outcome) moves.now) f.standing) }
         ensures memory { OnErr result (ListsMovesInGame (record { start = start.now; tables = self.old.tables; delay = delay }) moves.now) }
@@ -113,7 +109,7 @@ impl<'a> Set<'a> {
         Ok(Followed { outcome, standing })
     }
 
-    /// What `follow` returns, without where the game stands.
+    /// What `follow` returns, without where the game stands. That the delay is at most 8 plies is the caller's condition.
     pub fn judge_game(
         &mut self,
         alloc: Global,
@@ -127,6 +123,9 @@ impl<'a> Set<'a> {
         ensures filed { AreFiled self.old.tables }
         ensures unchanged { self.new ≡ self.old }
     {
+        let Some(delay) = Delay::new(delay) else {
+            unreachable!();
+        };
         let followed = self.follow(alloc, start, moves, delay)?;
         Ok(followed.outcome)
     }

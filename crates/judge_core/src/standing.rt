@@ -2,13 +2,14 @@
 
 ghost use Rattle.std.specs.Prelude.{◌≡◌, ◌≤◌, List, [], IfOk, OnErr};
 ghost use Rattle.board_core.specs.declared.moves.Move.{Move};
+ghost use Rattle.board_core.specs.Delays.{most_delay};
 ghost use Rattle.judge_core.specs.Answers.{ListsMovesForVerdict};
 ghost use Rattle.judge_core.specs.Tables.{AreFiled};
 ghost use Rattle.judge_core.specs.Games.{Rules, verdict_after, is_end, is_judged};
 ghost use Rattle.judge_core.specs.Standings.{IsAt, MovesOn, plies_by, verdict_of};
 
 use crate::set::Set;
-use board_core::{Position, Verdict};
+use board_core::{Delay, Position, Verdict};
 use std::alloc::{AllocError, Global};
 use std::marker::Model;
 
@@ -69,9 +70,11 @@ fn plies_by(old: Option<Verdict>, new: Option<Verdict>, plies: u8) -> u8
 
 /// The verdict by a ruling that has held for this many plies, where one by tables must hold for as many as the delay
 /// says.
-fn verdict_of(judged: Option<Verdict>, plies: u8, delay: u8) -> Option<Verdict>
-    ensures { result ≡ verdict_of judged plies delay }
+fn verdict_of(judged: Option<Verdict>, plies: u8, delay: Delay) -> Option<Verdict>
+    ensures is { result ≡ verdict_of judged plies delay }
+    ensures in_range { delay ≤ most_delay }
 {
+    let delay = delay.plies();
     match judged {
         Some(verdict) => {
             if is_end(verdict) || delay <= plies {
@@ -92,9 +95,8 @@ impl Standing {
         &self.position
     }
 
-    /// The verdict at this ply, where a verdict by tables must hold for `delay` further plies, 0 to 8.
-    pub fn verdict(&self, delay: u8) -> Option<Verdict>
-        requires { delay ≤ 8 }
+    /// The verdict at this ply, where a verdict by tables must hold for `delay` further plies.
+    pub fn verdict(&self, delay: Delay) -> Option<Verdict>
         ensures { (rules : Rules) (moves : List Move) → rules.delay ≡ delay → IsAt rules moves self.now → result ≡ verdict_after rules moves }
     {
         verdict_of(self.judged, self.plies, delay)

@@ -43,7 +43,7 @@ cons_is : (x y : ℕ) (xs ys : List ℕ) → x ≡ y → xs ≡ ys → x ∷ xs 
 cons_is x y xs ys e f = ap₂ (λ (a : ℕ) (rest : List ℕ). a ∷ rest) e f
 
 abbrev frame_at : List ℕ → List ℕ
-frame_at t = frame (slice_index t 2) (slice_index t 3) (fields_at t).stamp.0 (fields_at t).sender (fields_at t).number (fields_at t).word
+frame_at t = frame (slice_index t 2) (slice_index t 3) (fields_at t).stamp (fields_at t).sender (fields_at t).number (fields_at t).word
 
 is_frame : (t : List ℕ) → IsBytes t → length t ≡ 27 → HasHead t → t ≡ frame_at t
 unfolding frame fields_at
@@ -86,7 +86,7 @@ parts_back version kind stamp sender number word len four =
     }
 
 abbrev made : List ℕ → ℕ → ℕ → ℕ → Fields
-made s a n w = record { stamp = record { 0 = s }; sender = a; number = n; word = w }
+made s a n w = record { stamp = s; sender = a; number = n; word = w }
 
 made_is : (s s' : List ℕ) (a a' n n' w w' : ℕ) → s ≡ s' → a ≡ a' → n ≡ n' → w ≡ w' → made s a n w ≡ made s' a' n' w'
 made_is s s' a a' n n' w w' es ea en ew = cc
@@ -162,12 +162,12 @@ pub record IsLaidOut (t : List ℕ) (m : Message) : Type 0 where
   pub head : HasHead t
   pub version : slice_index t 2 ≡ version_of m
   pub kind : slice_index t 3 ≡ message_kind m
-  pub fields : fields_at t ≡ made (stamp_in m).0 (sender_number (sender_of m)) (message_number m) (word_in m)
+  pub fields : fields_at t ≡ made (stamp_in m) (sender_number (sender_of m)) (message_number m) (word_in m)
 
 pub laid_out : (t : List ℕ) (m : Message) → SpellsMessage t m → IsLaidOut t m
 laid_out t m h =
     let b = below m h.in_range in
-    let s = (stamp_in m).0 in
+    let s = (stamp_in m) in
     let a = sender_number (sender_of m) in
     let heads = head_back (version_of m) (message_kind m) s a (message_number m) (word_in m) in
     let version : slice_index t 2 ≡ version_of m = ap (λ (x : List ℕ). slice_index x 2) h.text ∙ heads.2 in
@@ -205,7 +205,7 @@ pub found : (t : List ℕ) (k : MessageKind) (m : Message) → IsBytes t → len
 unfolding fields_at
 found t k m fits len head version is f =
     let sixteen : length (take 16 (drop 4 t)) ≡ 16 = omega (arith, length-take 16 (drop 4 t), length-drop 4 t, len) in
-    let stamp_is : (fields_at t).stamp.0 ≡ (stamp_in m).0 = sym (ap (λ (s : Stamp). s.0) f.stamp) in
+    let stamp_is : (fields_at t).stamp ≡ (stamp_in m) = sym f.stamp in
     record {
       in_range = f.in_range;
       stamp = sym (ap length stamp_is) ∙ sixteen;

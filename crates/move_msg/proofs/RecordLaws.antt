@@ -49,7 +49,7 @@ new_body t two = ap (λ (n : ℕ). cond (n == 1) (drop 19 t) (drop 20 t)) two
 -- what is read of the bytes is the record
 pub record IsReadAs (t : List ℕ) (r : Record) : Type 0 where
   pub layout : HasRecordLayout t
-  pub stamp : take 16 (drop 3 t) ≡ r.stamp.0
+  pub stamp : take 16 (drop 3 t) ≡ r.stamp
   pub delay : delay_in t ≡ r.delay
   pub verdict : body_verdict (body_in t) ≡ code_or_none r.verdict
   pub words : SpellsMoves (words_at (body_in t)) r.moves
@@ -105,14 +105,14 @@ has_body b r few h = subst (λ (x : List ℕ). HasBody x r) (sym h.text) (body_b
 record IsFramed (t : List ℕ) (r : Record) (b : List ℕ) : Type 0 where
   head : HasRecordHead t
   long : 19 + length b ≤ length t
-  stamp : take 16 (drop 3 t) ≡ r.stamp.0
+  stamp : take 16 (drop 3 t) ≡ r.stamp
   delay : delay_in t ≡ r.delay
   body : body_in t ≡ b
 
-new_framed : (r : Record) (b : List ℕ) → length r.stamp.0 ≡ 16 → IsFramed (record_frame r.stamp.0 r.delay b) r b
+new_framed : (r : Record) (b : List ℕ) → length r.stamp ≡ 16 → IsFramed (record_frame r.stamp r.delay b) r b
 unfolding record_frame
 new_framed r b len =
-    let s = r.stamp.0 in
+    let s = r.stamp in
     let t : List ℕ = r.delay ∷ b in
     record {
       head = (refl, refl, inr refl);
@@ -122,10 +122,10 @@ new_framed r b len =
       body = sym (drop-drop 1 16 (s ++ t)) ∙ ap (drop 1) (drop_at s t 16 len);
     }
 
-old_framed : (r : Record) (b : List ℕ) → length r.stamp.0 ≡ 16 → r.delay ≡ 0 → IsFramed (old_frame r.stamp.0 b) r b
+old_framed : (r : Record) (b : List ℕ) → length r.stamp ≡ 16 → r.delay ≡ 0 → IsFramed (old_frame r.stamp b) r b
 unfolding old_frame
 old_framed r b len none =
-    let s = r.stamp.0 in
+    let s = r.stamp in
     record {
       head = (refl, refl, inl refl);
       long = omega (arith, length-append s b);
@@ -134,7 +134,7 @@ old_framed r b len none =
       body = drop_at s b 16 len;
     }
 
-framed : (t : List ℕ) (r : Record) (b : List ℕ) → length r.stamp.0 ≡ 16 → (t ≡ record_frame r.stamp.0 r.delay b) ⊎ ((r.delay ≡ 0) × (t ≡ old_frame r.stamp.0 b)) → IsFramed t r b
+framed : (t : List ℕ) (r : Record) (b : List ℕ) → length r.stamp ≡ 16 → (t ≡ record_frame r.stamp r.delay b) ⊎ ((r.delay ≡ 0) × (t ≡ old_frame r.stamp b)) → IsFramed t r b
 framed t r b len (inl new) = subst (λ (x : List ℕ). IsFramed x r b) (sym new) (new_framed r b len)
 framed t r b len (inr old) = subst (λ (x : List ℕ). IsFramed x r b) (sym old.1) (old_framed r b len old.0)
 
@@ -191,20 +191,20 @@ is_new t f two =
 
 -- by version: the text, and that a body is of bytes
 record IsCut (t : List ℕ) (r : Record) : Type 0 where
-  text : (t ≡ record_frame r.stamp.0 r.delay (body_in t)) ⊎ ((r.delay ≡ 0) × (t ≡ old_frame r.stamp.0 (body_in t)))
+  text : (t ≡ record_frame r.stamp r.delay (body_in t)) ⊎ ((r.delay ≡ 0) × (t ≡ old_frame r.stamp (body_in t)))
   fits : IsBytes (body_in t)
 
-cut_by : (t : List ℕ) (r : Record) → IsBytes t → HasRecordFront t → take 16 (drop 3 t) ≡ r.stamp.0 → delay_in t ≡ r.delay → (slice_index t 2 ≡ 1) ⊎ (slice_index t 2 ≡ 2) → IsCut t r
+cut_by : (t : List ℕ) (r : Record) → IsBytes t → HasRecordFront t → take 16 (drop 3 t) ≡ r.stamp → delay_in t ≡ r.delay → (slice_index t 2 ≡ 1) ⊎ (slice_index t 2 ≡ 2) → IsCut t r
 cut_by t r fits f stamp delay (inl one) =
     record {
       text = inr (sym delay ∙ old_delay t one, is_old t f one ∙ ap₂ old_frame stamp (sym (old_body t one)));
       fits = subst IsBytes (sym (old_body t one)) (IsBytes-drop 19 t fits);
     }
 cut_by t r fits f stamp delay (inr two) =
-    let is : t ≡ record_frame r.stamp.0 r.delay (body_in t) =
+    let is : t ≡ record_frame r.stamp r.delay (body_in t) =
     is_new t f two
     ∙ ap₂ (λ (s : List ℕ) (n : ℕ). record_frame s n (drop 20 t)) stamp (sym (new_delay t two) ∙ delay)
-    ∙ ap (record_frame r.stamp.0 r.delay) (sym (new_body t two)) in
+    ∙ ap (record_frame r.stamp r.delay) (sym (new_body t two)) in
     record { text = inl is; fits = subst IsBytes (sym (new_body t two)) (IsBytes-drop 20 t fits) }
 
 -- what is read as a record spells it
@@ -214,7 +214,7 @@ spelled_so t r fits p =
     let cut = cut_by t r fits p.layout.front p.stamp p.delay p.layout.front.head.2 in
     let count = count_read t r.moves p.layout p.words in
     let long = p.layout.front.long in
-    let sixteen : length r.stamp.0 ≡ 16 = sym (ap length p.stamp) ∙ omega (arith, length-take 16 (drop 3 t), length-drop 3 t) in
+    let sixteen : length r.stamp ≡ 16 = sym (ap length p.stamp) ∙ omega (arith, length-take 16 (drop 3 t), length-drop 3 t) in
     record {
       in_range = (subst (λ (x : ℕ). x ≤ 8) p.delay p.layout.counts.0, count.1, sixteen);
       body = b;
@@ -227,7 +227,7 @@ spelled_so t r fits p =
     }
 
 abbrev made : List ℕ → ℕ → Option Verdict → List Move → Record
-made s d v ms = record { stamp = record { 0 = s }; delay = d; verdict = v; moves = ms }
+made s d v ms = record { stamp = s; delay = d; verdict = v; moves = ms }
 
 made_is : (s s' : List ℕ) (d d' : ℕ) (v v' : Option Verdict) (ms ms' : List Move) → s ≡ s' → d ≡ d' → v ≡ v' → ms ≡ ms' → made s d v ms ≡ made s' d' v' ms'
 made_is s s' d d' v v' ms ms' es ed ev em = cc
@@ -256,11 +256,11 @@ old_version s b = refl
 abbrev version : List ℕ → ℕ
 version t = slice_index t 2
 
-same_text : (s t : List ℕ) (r : Record) (a b : List ℕ) → a ≡ b → version s ≡ version t → (s ≡ record_frame r.stamp.0 r.delay a) ⊎ ((r.delay ≡ 0) × (s ≡ old_frame r.stamp.0 a)) → (t ≡ record_frame r.stamp.0 r.delay b) ⊎ ((r.delay ≡ 0) × (t ≡ old_frame r.stamp.0 b)) → s ≡ t
-same_text s t r a b body same (inl h) (inl l) = h ∙ ap (record_frame r.stamp.0 r.delay) body ∙ sym l
-same_text s t r a b body same (inl h) (inr l) = absurd (omega (arith, ap version h ∙ new_version r.stamp.0 r.delay a, ap version l.1 ∙ old_version r.stamp.0 b))
-same_text s t r a b body same (inr h) (inl l) = absurd (omega (arith, ap version h.1 ∙ old_version r.stamp.0 a, ap version l ∙ new_version r.stamp.0 r.delay b))
-same_text s t r a b body same (inr h) (inr l) = h.1 ∙ ap (old_frame r.stamp.0) body ∙ sym l.1
+same_text : (s t : List ℕ) (r : Record) (a b : List ℕ) → a ≡ b → version s ≡ version t → (s ≡ record_frame r.stamp r.delay a) ⊎ ((r.delay ≡ 0) × (s ≡ old_frame r.stamp a)) → (t ≡ record_frame r.stamp r.delay b) ⊎ ((r.delay ≡ 0) × (t ≡ old_frame r.stamp b)) → s ≡ t
+same_text s t r a b body same (inl h) (inl l) = h ∙ ap (record_frame r.stamp r.delay) body ∙ sym l
+same_text s t r a b body same (inl h) (inr l) = absurd (omega (arith, ap version h ∙ new_version r.stamp r.delay a, ap version l.1 ∙ old_version r.stamp b))
+same_text s t r a b body same (inr h) (inl l) = absurd (omega (arith, ap version h.1 ∙ old_version r.stamp a, ap version l ∙ new_version r.stamp r.delay b))
+same_text s t r a b body same (inr h) (inr l) = h.1 ∙ ap (old_frame r.stamp) body ∙ sym l.1
 
 pub one_record_spelling : (s t : List ℕ) (r : Record) → SpellsRecord s r → SpellsRecord t r → slice_index s 2 ≡ slice_index t 2 → s ≡ t
 one_record_spelling s t r h l same = same_text s t r h.body l.body (same_body h.body l.body r h.rest l.rest) same h.text l.text
@@ -275,7 +275,7 @@ length-record_frame s d b len = omega (arith, length-append s (d ∷ b))
 
 pub written_length : (t : List ℕ) (r : Record) → WritesRecord t r → length t ≤ 8217
 written_length t r h =
-    let all = ap length h.text ∙ length-record_frame r.stamp.0 r.delay h.body h.in_range.2 in
+    let all = ap length h.text ∙ length-record_frame r.stamp r.delay h.body h.in_range.2 in
     let few = h.in_range.1 in
     let size = (has_body h.body r few h.rest).size in
     omega arith
@@ -299,7 +299,7 @@ unfolding header_at
 front_read t h v words ms list layout is rest code moves same =
     record {
       layout = layout;
-      stamp = sym (ap (λ (x : Header). x.stamp.0) is);
+      stamp = sym (ap (λ (x : Header). x.stamp) is);
       delay = sym (ap (λ (x : Header). x.delay) is);
       verdict = sym (code ∙ ap (λ (x : Header). x.code) is);
       words = subst (λ (x : List Move). SpellsMoves (words_at (body_in t)) x) (sym same) (subst (λ (x : List ℕ). SpellsMoves x ms) rest moves);

@@ -29,7 +29,7 @@ abbrev sixteen : List ℕ
 sixteen = 0 ∷ 1 ∷ 2 ∷ 3 ∷ 4 ∷ 5 ∷ 6 ∷ 7 ∷ 8 ∷ 9 ∷ 10 ∷ 11 ∷ 12 ∷ 13 ∷ 14 ∷ 15 ∷ []
 
 abbrev stamp : Stamp
-stamp = record { 0 = sixteen }
+stamp = sixteen
 
 -- e2e4 as number 0
 first_move : message_text (Move stamp Source 0 (move 12 28 None)) ≡ 83 ∷ 65 ∷ 1 ∷ 1 ∷ sixteen ++ (0 ∷ 0 ∷ 0 ∷ 0 ∷ 0 ∷ 7 ∷ 12 ∷ [])

@@ -53,7 +53,7 @@ joined s b d = ap (λ (x : List ℕ). 83 ∷ 82 ∷ 2 ∷ x) (append_assoc s (d 
 -- the words
 record HasWords (t : List ℕ) (r : Record) : Type 0 where
   long : 25 ≤ length t
-  front : take 20 t ≡ 83 ∷ 82 ∷ 2 ∷ r.stamp.0 ++ r.delay ∷ []
+  front : take 20 t ≡ 83 ∷ 82 ∷ 2 ∷ r.stamp ++ r.delay ∷ []
   words : SpellsMoves (drop 25 t) r.moves
 
 framed : (s b : List ℕ) (d : ℕ) → length s ≡ 16 → (length (record_frame s d b) ≡ 20 + length b) × (drop 20 (record_frame s d b) ≡ b)
@@ -78,11 +78,11 @@ framed_words s words d code count len =
 
 has_words : (t : List ℕ) (r : Record) → WritesRecord t r → HasWords t r
 has_words t r h =
-    let is : t ≡ record_frame r.stamp.0 r.delay (body_text (code_or_none r.verdict) (length r.moves) h.rest.words) = h.text ∙ ap (record_frame r.stamp.0 r.delay) h.rest.text in
-    let all = framed_words r.stamp.0 h.rest.words r.delay (code_or_none r.verdict) (length r.moves) h.in_range.2 in
+    let is : t ≡ record_frame r.stamp r.delay (body_text (code_or_none r.verdict) (length r.moves) h.rest.words) = h.text ∙ ap (record_frame r.stamp r.delay) h.rest.text in
+    let all = framed_words r.stamp h.rest.words r.delay (code_or_none r.verdict) (length r.moves) h.in_range.2 in
     record {
       long = subst (λ (x : List ℕ). 25 ≤ length x) (sym is) all.0;
-      front = ap (take 20) h.text ∙ front_is r.stamp.0 h.body r.delay h.in_range.2;
+      front = ap (take 20) h.text ∙ front_is r.stamp h.body r.delay h.in_range.2;
       words = subst (λ (x : List ℕ). SpellsMoves x r.moves) (sym (ap (drop 25) is ∙ all.1)) h.rest.moves;
     }
 
@@ -94,7 +94,7 @@ anew t front words r v ms n h is count few spelled =
       in_range = (h.in_range.0, subst (λ (k : ℕ). k ≤ most_moves) (sym count) few, h.in_range.2);
       body = body;
       rest = record { words = words; moves = spelled; text = ap (λ (k : ℕ). body_text (code_or_none v) k words) (sym count) };
-      text = ap (λ (x : List ℕ). x ++ body) (is ∙ (has_words t r h).front) ∙ joined r.stamp.0 body r.delay;
+      text = ap (λ (x : List ℕ). x ++ body) (is ∙ (has_words t r h).front) ∙ joined r.stamp body r.delay;
     }
 
 pub went_on : (t more : List ℕ) (r : Record) (ms : List Move) (v : Option Verdict) (n : ℕ) → WritesRecord t r → SpellsMoves more ms → length r.moves + length ms ≤ most_moves → n ≡ length (r.moves ++ ms) → WritesRecord (take 20 (t ++ more) ++ body_text (code_or_none v) n (drop 25 (t ++ more))) (gone_on r ms v)

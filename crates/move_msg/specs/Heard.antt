@@ -93,7 +93,7 @@ begins_as_message t = slice_index t 0 == 83 && (slice_index t 1 == 65 && (slice_
 
 abbrev pub heard_there : List ℕ → Result Message MessageFault
 heard_there t =
-    heard_by (reader_of (slice_index t 2) (slice_index t 3)) (record { 0 = take 16 (drop 4 t) }) (slice_index t 20) (from_be_bytes w32 (take 4 (drop 21 t))) (from_be_bytes w16 (drop 25 t))
+    heard_by (reader_of (slice_index t 2) (slice_index t 3)) (take 16 (drop 4 t)) (slice_index t 20) (from_be_bytes w32 (take 4 (drop 21 t))) (from_be_bytes w16 (drop 25 t))
 
 -- the fault of bytes that are not 27
 abbrev pub length_fault : List ℕ → MessageFault

@@ -30,7 +30,7 @@ stamp_in (Fetch stamp who number wanted) = stamp
 
 -- what stands where there is no message
 abbrev pub no_message : Message
-no_message = Ack (record { 0 = replicate 16 0 }) A 0
+no_message = Ack (replicate 16 0) A 0
 
 -- moves and requests of an arbiter belong to version 2
 abbrev pub version_by : Sender → ℕ
@@ -76,12 +76,12 @@ frame version kind stamp sender number word =
     83 ∷ 65 ∷ version ∷ kind ∷ stamp ++ (sender ∷ to_be_bytes w32 number ++ to_be_bytes w16 word)
 
 abbrev pub message_text : Message → List ℕ
-message_text m = frame (version_of m) (message_kind m) (stamp_in m).0 (sender_number (sender_of m)) (message_number m) (word_in m)
+message_text m = frame (version_of m) (message_kind m) (stamp_in m) (sender_number (sender_of m)) (message_number m) (word_in m)
 
 -- the bytes are those of the message
 pub record SpellsMessage (t : List ℕ) (m : Message) : Type 0 where
   pub in_range : IsInRange m
-  pub stamp : length (stamp_in m).0 ≡ 16
+  pub stamp : length (stamp_in m) ≡ 16
   pub text : t ≡ message_text m
 
 -- S, A and a version

@@ -35,7 +35,7 @@ record_frame stamp delay body = 83 ∷ 82 ∷ 2 ∷ stamp ++ delay ∷ body
 
 -- a record of version 2 whose words are these
 abbrev pub framed : Record → List ℕ → List ℕ
-framed r words = record_frame r.stamp.0 r.delay (body_text (code_or_none r.verdict) (length r.moves) words)
+framed r words = record_frame r.stamp r.delay (body_text (code_or_none r.verdict) (length r.moves) words)
 
 -- version 1 has no delay
 unfoldable pub old_frame : List ℕ → List ℕ → List ℕ
@@ -43,7 +43,7 @@ old_frame stamp body = 83 ∷ 82 ∷ 1 ∷ stamp ++ body
 
 -- what has a spelling: a delay in its range, and not too many moves
 abbrev pub IsRecord : Record → Type 0
-IsRecord r = (r.delay ≤ most_delay) × (length r.moves ≤ most_moves) × (length r.stamp.0 ≡ 16)
+IsRecord r = (r.delay ≤ most_delay) × (length r.moves ≤ most_moves) × (length r.stamp ≡ 16)
 
 -- the record with further moves, and with this verdict after them
 abbrev pub gone_on : Record → List Move → Option Verdict → Record
@@ -64,14 +64,14 @@ pub record WritesRecord (t : List ℕ) (r : Record) : Type 0 where
   pub in_range : IsRecord r
   pub body : List ℕ
   pub rest : SpellsBody body r
-  pub text : t ≡ record_frame r.stamp.0 r.delay body
+  pub text : t ≡ record_frame r.stamp r.delay body
 
 -- the bytes are read as the record: version 2, or version 1 where the delay is 0
 pub record SpellsRecord (t : List ℕ) (r : Record) : Type 0 where
   pub in_range : IsRecord r
   pub body : List ℕ
   pub rest : SpellsBody body r
-  pub text : (t ≡ record_frame r.stamp.0 r.delay body) ⊎ ((r.delay ≡ 0) × (t ≡ old_frame r.stamp.0 body))
+  pub text : (t ≡ record_frame r.stamp r.delay body) ⊎ ((r.delay ≡ 0) × (t ≡ old_frame r.stamp body))
 
 -- S, R and a version
 abbrev pub HasRecordHead : List ℕ → Type 0

@@ -249,8 +249,8 @@ impl MessageKind {
 /// The bytes of a message.
 #[tactic(auto, unfolding(crate::specs::Messages::frame))]
 fn frame(kind: MessageKind, stamp: Stamp, sender: u8, number: u32, word: u16) -> [u8; 27]
-    ensures text { result ≡ frame (version_number kind) (kind_number kind) stamp.0 sender number word }
-    ensures fits { (length stamp.0 ≡ 16) × (number < 2 ^ 32) }
+    ensures text { result ≡ frame (version_number kind) (kind_number kind) stamp sender number word }
+    ensures fits { (length stamp ≡ 16) × (number < 2 ^ 32) }
 {
     let mut number_bytes = [0; 4];
     BigEndian::write_u32(&mut number_bytes, number);

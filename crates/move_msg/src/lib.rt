@@ -6,7 +6,7 @@
 //! relations; messages have a computed reading too (`heard_in`), for worlds.
 //!
 //! Inside: `message`, `who`, `count`, `words`, `coding`, `feeder`, `record_bytes`, `written_record`, `move_list`, `stamp`,
-//! `manifest`, `told` (the contents of one), `table_name`, `files`, `message_text`, `game_text`.
+//! `game_name`, `manifest`, `told` (the contents of one), `table_name`, `files`, `message_text`, `game_text`.
 //!
 //! Definitions, in reading order: `Words`, `Numbers`, `Senders`, `Messages` (`SpellsMessage`), `Heard`, `Streams`, `Records`
 //! (`SpellsRecord`, `WritesRecord`), `Stamps`, `TableNames`, `Manifests`, `ToldManifests`, `GameTexts`, `MessageWords`,
@@ -25,7 +25,7 @@
 //! - CLAIM: `WrittenRecord::as_bytes`, clauses `written`, `spelled`, `size`; `WrittenRecord::read`, clauses `ok`, `only`, `err`,
 //!   `only_fault`, `memory`; `WrittenRecord::go_on`, clauses `ok`, `err`; `WrittenRecord::cut_back`: a record with its bytes has
 //!   the bytes that are written of it after each call; where memory is refused it stays as it was.
-//! - CLAIM: `Stamp::of`, clauses `some`, `none`: the stamp is the first 16 bytes of the stated digest, the delay in it where it
+//! - CLAIM: `Stamp::of`, clauses `some`, `none`; `GameName::of`, clauses `some`, `none`; `GameName::stamp`: the stamp is the first 16 bytes of the stated digest, the delay in it where it
 //!   isn't 0, and there is none exactly for other names.
 //! - CLAIM: `is_file_name`; `is_game_name`; `Line::of`, clauses `is`, `entry`; `manifest_of`: names of table files and games, a
 //!   manifest's line of a file and the manifest of files, by SHA-256.
@@ -44,6 +44,7 @@ mod coding;
 mod count;
 mod feeder;
 mod files;
+mod game_name;
 mod game_text;
 pub mod laws;
 mod manifest;
@@ -62,12 +63,13 @@ pub use board_core::Verdict;
 pub use count::{Count, MOST_MOVES, Wanted};
 pub use feeder::Feeder;
 pub use files::{NamedFile, file_digest};
+pub use game_name::{GameName, is_game_name};
 pub use game_text::read_moves;
 pub use manifest::{Line, ManifestFault, manifest_of, manifest_read, manifest_write};
 pub use message::{Message, MessageFault};
 pub use move_list::MoveList;
 pub use record_bytes::{Record, RecordFault};
-pub use stamp::{Stamp, is_game_name};
+pub use stamp::Stamp;
 pub use table_name::is_file_name;
 pub use told::Manifest;
 pub use who::{Sender, Who};

@@ -113,7 +113,7 @@ pub(crate) fn push_words(moves: &[Move], out: &mut Vec<u8>) -> Result<(), AllocE
 #[tactic(auto, unfolding(crate::specs::Records::record_frame, crate::specs::Records::body_text))]
 fn push_front(game: &Record, out: &mut Vec<u8>) -> Result<(), AllocError>
     ensures ok { OnOk result ((words : List _) → out.new.items ++ words ≡ out.old.items ++ framed game.now words) }
-    ensures fits { (length game.now.stamp.0 ≡ 16) × (length game.now.moves ≤ most_moves) }
+    ensures fits { (length game.now.stamp ≡ 16) × (length game.now.moves ≤ most_moves) }
 {
     let mut count = [0; 4];
     BigEndian::write_u32(&mut count, game.moves.count().number());

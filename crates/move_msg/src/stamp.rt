@@ -1,38 +1,34 @@
 //! The identifier of one game.
 
-ghost use Rattle.std.specs.Prelude.{◌≡◌, ◌↔◌, IfSome, IfNone, IsTrue};
-ghost use Rattle.std.specs.List.{list_all};
+ghost use Rattle.std.specs.Prelude.{◌≡◌, IfSome, IfNone};
 ghost use Rattle.sha2.specs.Sha256.{sha256};
 ghost use Rattle.fen_text.specs.Written.{fen_of};
-ghost use Rattle.move_msg.specs.Stamps.{IsGameName, is_printable, stamp_text, stamp_of};
+ghost use Rattle.move_msg.specs.Stamps.{IsGameName, stamp_text, stamp_of};
 
+use crate::game_name::is_game_name;
 use board_core::Position;
 use fen_text::write;
 use sha2::{Digest, Sha256};
+use std::marker::Model;
 
-/// The identifier of one game in its messages and records: 16 bytes.
-#[derive(Clone, Copy, PartialEq, Eq, Debug)]
+/// The identifier of one game in its messages and records: 16 bytes, which contracts see.
+#[derive(Clone, Copy, PartialEq, Eq, PartialOrd, Ord, Hash, Debug)]
 pub struct Stamp(pub [u8; 16]);
 
-/// Whether each byte is a printable one of ASCII, from the space to the tilde.
-fn is_printable(name: &[u8]) -> bool
-    ensures { result ≡ list_all is_printable name.now }
-{
-    name.iter().all(|byte| 0x20 <= *byte && *byte <= 0x7e)
-}
+impl Model for Stamp {
+    ghost use Rattle.std.specs.Prelude.{ℕ, List};
 
-/// Whether a game may have this name: 1 to 64 bytes, all from 0x20 (the space) to 0x7E (the tilde).
-/// It takes no memory.
-pub fn is_game_name(name: &[u8]) -> bool
-    ensures { IsTrue result ↔ IsGameName name.now }
-{
-    1 <= name.len() && name.len() <= 64 && is_printable(name)
+    ghost Value = { List ℕ };
+
+    ghost view = { λ s. s.0 };
+
+    ghost inverse = { λ bytes. record { 0 = bytes } };
 }
 
 /// The line feed, which ends a line.
 const LINE_FEED: &str = "\n";
 
-/// The SHA-256 digest (FIPS 180-4) of name, line feed, start, line feed, manifest and delay.
+/// The SHA-256 digest (FIPS 180-4) of name, line feed, start, line feed, manifest and, where it isn't 0, the byte of the delay.
 fn digest(name: &[u8], start: &[u8], manifest: &[u8], delay: u8) -> [u8; 32]
     ensures { result ≡ sha256 (stamp_text name.now start.now manifest.now delay) }
 {
@@ -48,6 +44,16 @@ fn digest(name: &[u8], start: &[u8], manifest: &[u8], delay: u8) -> [u8; 32]
     hasher.finalize()
 }
 
+/// The first 16 bytes of the digest of a name, a start, a manifest and the byte of a delay.
+pub(crate) fn stamp_by(name: &[u8], start: &Position, manifest: &[u8], delay: u8) -> Stamp
+    ensures { result ≡ stamp_of name.now (fen_of start.now) manifest.now delay }
+{
+    let digest = digest(name, write(start).as_str().as_bytes(), manifest, delay);
+    let mut stamp = [0; 16];
+    stamp.copy_from_slice(&digest[..16]);
+    Stamp(stamp)
+}
+
 impl Stamp {
     /// The stamp of the game with this name, start and manifest of tables: the first 16 bytes of a SHA-256 digest. The
     /// digest is of the name, a line feed, the start's FEN text, a line feed and the manifest's bytes. Where the delay
@@ -55,15 +61,13 @@ impl Stamp {
     ///
     /// None unless a game may have the name (`is_game_name`).
     pub fn of(name: &[u8], start: &Position, manifest: &[u8], delay: u8) -> Option<Stamp>
-        ensures some { IfSome result (λ stamp. IsGameName name.now × (stamp.0 ≡ stamp_of name.now (fen_of start.now) manifest.now delay)) }
+        ensures some { IfSome result (λ stamp. IsGameName name.now × (stamp ≡ stamp_of name.now (fen_of start.now) manifest.now delay)) }
         ensures none { IfNone result (IsGameName name.now → ⊥) }
     {
-        if !is_game_name(name) {
-            return None;
+        if is_game_name(name) {
+            Some(stamp_by(name, start, manifest, delay))
+        } else {
+            None
         }
-        let digest = digest(name, write(start).as_str().as_bytes(), manifest, delay);
-        let mut stamp = [0; 16];
-        stamp.copy_from_slice(&digest[..16]);
-        Some(Stamp(stamp))
     }
 }

@@ -1,8 +1,7 @@
 //! Games that are told move by move.
 
-ghost use Rattle.std.specs.Prelude.{◌≡◌, ◌≤◌, List, length, Err, IfOk, OnErr, pos};
+ghost use Rattle.std.specs.Prelude.{◌≡◌, List, length, Err, IfOk, OnErr, pos};
 ghost use Rattle.board_core.specs.declared.moves.Move.{Move};
-ghost use Rattle.board_core.specs.Delays.{most_delay};
 ghost use Rattle.fen_text.specs.Written.{fen_of};
 ghost use Rattle.judge_core.specs.Answers.{ListsMovesForVerdict};
 ghost use Rattle.judge_core.specs.Games.{Rules, IsUnruled};
@@ -14,36 +13,31 @@ ghost use Rattle.probe_api.specs.Texts.{PutsText};
 use crate::plain_move::PlainMove;
 use crate::reply::{Reply, fen_status, verdict_number};
 use crate::text::put_text;
-use board_core::{Move, Position, Verdict};
+use board_core::{Delay, Move, Position, Verdict};
 use fen_text::{read, read_move, write};
 use judge_core::{Set, Standing};
 use std::alloc::Global;
 use std::marker::Model;
 
-/// A game in play: where it stands, for how many further plies a verdict by tables must hold, 0 to 8, and its first verdict.
+/// A game in play: where it stands, for how many further plies a verdict by tables must hold, and its first verdict.
 #[derive(Drop)]
 pub struct Game {
     standing: Standing,
-    delay: u8,
+    delay: Delay,
     verdict: Option<Verdict>,
 }
 
 impl Model for Game {
-    ghost use Rattle.std.specs.Prelude.{◌≤◌};
-    ghost use Rattle.board_core.specs.Delays.{most_delay};
     ghost use Rattle.probe_api.specs.Plays.{Play};
 
     ghost Value = { Play };
 
     ghost view = { λ g. record { standing = g.standing; delay = g.delay; verdict = g.verdict } };
-
-    ghost invariant = { λ g. g.delay ≤ most_delay };
 }
 
 impl Game {
     /// A game that has no verdict before this ply.
-    fn at(standing: Standing, delay: u8) -> Game
-        requires { delay ≤ most_delay }
+    fn at(standing: Standing, delay: Delay) -> Game
         ensures { (rules : Rules) (moves : List Move) → rules.delay ≡ delay → IsAt rules moves standing → IsUnruled rules moves (length moves) → IsPlayed rules moves result }
     {
         let verdict = standing.verdict(delay);
@@ -72,8 +66,7 @@ impl Game {
 }
 
 /// A game that is begun at this position; its status is 5 where memory for a list of moves is refused.
-fn begin_at(alloc: Global, set: &mut Set<'_>, start: &Position, delay: u8) -> Result<Game, u32>
-    requires { delay ≤ most_delay }
+fn begin_at(alloc: Global, set: &mut Set<'_>, start: &Position, delay: Delay) -> Result<Game, u32>
     ensures game { IfOk result (IsBegun set.old.tables start.now delay) }
     ensures memory { OnErr result ((result ≡ Err 5) × ListsMovesForVerdict set.old.tables start.now) }
     ensures kept { set.new ≡ set.old }
@@ -92,9 +85,9 @@ pub fn begin_game(alloc: Global, set: &mut Set<'_>, text: &[u8], delay: u8) -> R
     ensures is { Begins set.old.tables text.now delay result }
     ensures kept { set.new ≡ set.old }
 {
-    if 8 < delay {
+    let Some(delay) = Delay::new(delay) else {
         return Err(87);
-    }
+    };
     match read(text) {
         Ok(position) => begin_at(alloc, set, &position, delay),
         Err(fault) => Err(fen_status(fault)),

@@ -27,7 +27,7 @@ version_number kind.Fetch = 2
 -- stamp, sender, number and word of 27 bytes
 unfoldable pub fields_at : List ℕ → Fields
 fields_at t = record {
-  stamp = record { 0 = take 16 (drop 4 t) };
+  stamp = take 16 (drop 4 t);
   sender = slice_index t 20;
   number = from_be_bytes w32 (take 4 (drop 21 t));
   word = from_be_bytes w16 (drop 25 t);
@@ -46,7 +46,7 @@ pub record HasFields (k : MessageKind) (f : Fields) (m : Message) : Type 0 where
 -- stamp, delay, code of the verdict and number of moves of a record
 unfoldable pub header_at : List ℕ → Header
 header_at t = record {
-  stamp = record { 0 = take 16 (drop 3 t) };
+  stamp = take 16 (drop 3 t);
   delay = delay_in t;
   code = body_verdict (body_in t);
   count = body_count (body_in t);

@@ -1,12 +1,28 @@
-//! The name of a game, as a value.
+//! The name of a game.
 
-ghost use Rattle.std.specs.Prelude.{◌≡◌, IfSome, IfNone};
+ghost use Rattle.std.specs.Prelude.{◌≡◌, ◌↔◌, IfSome, IfNone, IsTrue};
+ghost use Rattle.std.specs.List.{list_all};
 ghost use Rattle.fen_text.specs.Written.{fen_of};
-ghost use Rattle.move_msg.specs.Stamps.{IsGameName, stamp_of};
+ghost use Rattle.move_msg.specs.Stamps.{IsGameName, is_printable, stamp_of};
 
-use board_core::Position;
-use move_msg::{Stamp, is_game_name};
+use crate::stamp::{Stamp, stamp_by};
+use board_core::{Delay, Position};
 use std::marker::Model;
+
+/// Whether each byte is a printable one of ASCII, from the space to the tilde.
+fn is_printable(name: &[u8]) -> bool
+    ensures { result ≡ list_all is_printable name.now }
+{
+    name.iter().all(|byte| 0x20 <= *byte && *byte <= 0x7e)
+}
+
+/// Whether a game may have this name: 1 to 64 bytes, all from 0x20 (the space) to 0x7E (the tilde).
+/// It takes no memory.
+pub fn is_game_name(name: &[u8]) -> bool
+    ensures { IsTrue result ↔ IsGameName name.now }
+{
+    1 <= name.len() && name.len() <= 64 && is_printable(name)
+}
 
 /// The name of a game, 1 to 64 bytes from the space to the tilde. Contracts see its bytes.
 #[derive(Drop)]
@@ -47,12 +63,9 @@ impl<'a> GameName<'a> {
     }
 
     /// The stamp of the game of this name with this start, manifest of tables and delay.
-    pub fn stamp(&self, start: &Position, manifest: &[u8], delay: u8) -> Stamp
-        ensures { result.0 ≡ stamp_of self.now (fen_of start.now) manifest.now delay }
+    pub fn stamp(&self, start: &Position, manifest: &[u8], delay: Delay) -> Stamp
+        ensures { result ≡ stamp_of self.now (fen_of start.now) manifest.now delay }
     {
-        match Stamp::of(self.bytes, start, manifest, delay) {
-            Some(stamp) => stamp,
-            None => unreachable!(),
-        }
+        stamp_by(self.bytes, start, manifest, delay.plies())
     }
 }
