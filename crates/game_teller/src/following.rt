@@ -1,9 +1,8 @@
 //! A game that is told ply by ply as its moves come.
 
-ghost use Rattle.std.specs.Prelude.{◌≡◌, ◌≤◌, ◌<◌, ◌^◌, ◌-◌, IfErr, IfOk, List, OnErr, OnOk, Option, Some, ℕ};
+ghost use Rattle.std.specs.Prelude.{◌≡◌, ◌<◌, ◌^◌, ◌-◌, IfErr, IfOk, List, OnErr, OnOk, Option, Some, ℕ};
 ghost use Rattle.board_core.specs.ComputedMoves.{position_after};
 ghost use Rattle.board_core.specs.declared.moves.Move.{Move as Moves};
-ghost use Rattle.board_core.specs.Delays.{most_delay};
 ghost use Rattle.fen_text.specs.Coordinates.{SpellsMove};
 ghost use Rattle.line_teller.specs.ToldLines.{HasFailed, TellsInTurn, stops_by};
 ghost use Rattle.system_io.specs.declared.reading.ReadFault.{ReadFault};
@@ -12,7 +11,7 @@ ghost use Rattle.game_teller.specs.Followings.{FollowsInTurn, FollowsTo, rules_b
 ghost use Rattle.game_teller.specs.Inside.Steps.{CutsPly, FollowsFrom, IsNoNext, LineCuts, LineSteps, PutsPly, StepCuts, StepsByLine, TurnsByLine, stop_by};
 
 use crate::lines::{Stop, put_ply_now, put_stop};
-use board_core::{Position, Verdict};
+use board_core::{Delay, Position, Verdict};
 use fen_text::laws::one_move;
 use fen_text::read_move;
 use judge_core::{Set, Standing};
@@ -27,7 +26,7 @@ pub(crate) struct Course<'a> {
     /// The tables.
     set: Set<'a>,
     /// For how many further plies a verdict by tables must hold.
-    delay: u8,
+    delay: Delay,
     /// Where the game stands.
     standing: Standing,
 }
@@ -94,7 +93,6 @@ impl<'a> Course<'a> {
         number: usize,
         out: &mut W,
     ) -> Result<Option<Verdict>, WriteFault>
-        requires { self.now.delay ≤ most_delay }
         ensures ply { IfOk result (PutsPly self.now.delay number self.now.standing (W.contents out.old) (W.contents out.new)) }
         ensures front { OnErr result (CutsPly self.now.delay number self.now.standing (W.contents out.old) (W.contents out.new)) }
         ensures cause { OnErr result (HasFailed W.facts) }
@@ -114,8 +112,7 @@ impl<'a> Course<'a> {
         line: &[u8],
         out: &mut W,
     ) -> Result<Step, WriteFault>
-        requires delay { self.old.delay ≤ most_delay }
-        requires more { number < 2 ^ 64 - 1 }
+        requires { number < 2 ^ 64 - 1 }
         ensures steps { IfOk result (LineSteps self.old.set.tables self.old.delay number self.old.standing line.now self.new.standing (W.contents out.old) (W.contents out.new)) }
         ensures front { OnErr result (LineCuts self.old.set.tables self.old.delay number self.old.standing line.now self.new.standing (W.contents out.old) (W.contents out.new)) }
         ensures cause { OnErr result (HasFailed W.facts) }
@@ -143,7 +140,6 @@ impl<'a> Course<'a> {
         line: &mut Vec<u8>,
         out: &mut W,
     ) -> Result<Step, WriteFault>
-        requires delay { self.old.delay ≤ most_delay }
         requires more { number < 2 ^ 64 - 1 }
         // No line is awaited before what was told has gone out.
         requires gone { (W.facts out.old).gone }
@@ -172,8 +168,7 @@ impl<'a> Course<'a> {
         reader: &mut L,
         out: &mut W,
     ) -> Result<bool, WriteFault>
-        requires delay { self.old.delay ≤ most_delay }
-        requires gone { (W.facts out.old).gone }
+        requires { (W.facts out.old).gone }
         ensures follows { FollowsFrom self.old (L.facts reader.old) (W.contents out.old) (W.contents out.new) result }
         ensures cause { OnErr result (HasFailed W.facts) }
         ensures turns { OnOk result (TellsInTurn L.facts W.facts W.contents reader.old out.old out.new) }
@@ -200,11 +195,10 @@ fn follow_moves<L: LineReader, W: Output>(
     alloc: Global,
     mut set: Set<'_>,
     start: &Position,
-    delay: u8,
+    delay: Delay,
     reader: &mut L,
     out: &mut W,
 ) -> Result<bool, WriteFault>
-    requires { delay ≤ most_delay }
     ensures follows { FollowsTo (rules_by start.now set.entry.tables delay) (stops_by (L.facts reader.old)) (L.facts reader.old).left (W.contents out.old) (W.contents out.new) result }
     ensures cause { OnErr result (HasFailed W.facts) }
     ensures turns { OnOk result (FollowsInTurn L.facts W.facts W.contents reader.old out.old out.new) }
@@ -243,11 +237,10 @@ pub fn follow_game<L: LineReader, W: Output>(
     alloc: Global,
     set: Set<'_>,
     start: &Position,
-    delay: u8,
+    delay: Delay,
     reader: &mut L,
     out: &mut W,
 ) -> Result<bool, WriteFault>
-    requires { delay ≤ most_delay }
     // Each ply is told up to the first verdict. Where the writer fails, the lines before are written whole, none of which tells a verdict,
     // and a front of the last.
     ensures follows { FollowsTo (rules_by start.now set.entry.tables delay) (stops_by (L.facts reader.old)) (L.facts reader.old).left (W.contents out.old) (W.contents out.new) result }

@@ -7,6 +7,7 @@ ghost use Rattle.system_io.specs.Outputs.{WritesFront};
 
 use arrayvec::ArrayVec;
 use itoa::{Buffer, Integer};
+use move_msg::Stamp;
 use std::marker::Model;
 use system_io::{Output, WriteFault};
 
@@ -77,13 +78,13 @@ impl LineWords {
     }
 
     /// Adds a stamp in lower-case hexadecimal digits, 32 bytes.
-    pub fn add_stamp(&mut self, stamp: &[u8; 16])
+    pub fn add_stamp(&mut self, stamp: Stamp)
         requires { length self.old ≤ 223 }
-        ensures is { self.new ≡ self.old ++ encode_lower stamp.now }
+        ensures is { self.new ≡ self.old ++ encode_lower stamp }
         ensures size { length self.new ≡ length self.old + 32 }
     {
         let mut digits = [0; 32];
-        hex::encode_to_slice(stamp, &mut digits).unwrap();
+        hex::encode_to_slice(stamp.as_bytes(), &mut digits).unwrap();
         self.add_bytes(&digits);
     }
 

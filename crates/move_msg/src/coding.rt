@@ -259,7 +259,7 @@ fn frame(kind: MessageKind, stamp: Stamp, sender: u8, number: u32, word: u16) ->
     let mut out: ArrayVec<u8, 27> = ArrayVec::new();
     out.try_extend_from_slice(&[b'S', b'A', kind.version(), kind.number()])
         .unwrap();
-    out.try_extend_from_slice(&stamp.0).unwrap();
+    out.try_extend_from_slice(stamp.as_bytes()).unwrap();
     out.push(sender);
     out.try_extend_from_slice(&number_bytes).unwrap();
     out.try_extend_from_slice(&word_bytes).unwrap();

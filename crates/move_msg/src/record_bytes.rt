@@ -115,10 +115,11 @@ fn push_front(game: &Record, out: &mut Vec<u8>) -> Result<(), AllocError>
     ensures ok { OnOk result ((words : List _) → out.new.items ++ words ≡ out.old.items ++ framed game.now words) }
     ensures fits { (length game.now.stamp ≡ 16) × (length game.now.moves ≤ most_moves) }
 {
+    let stamp = game.stamp.as_bytes();
     let mut count = [0; 4];
     BigEndian::write_u32(&mut count, game.moves.count().number());
     out.extend_from_slice(&[b'S', b'R', 2])?;
-    out.extend_from_slice(&game.stamp.0)?;
+    out.extend_from_slice(stamp)?;
     out.push(game.delay)?;
     out.push(code_or_none(game.verdict))?;
     out.extend_from_slice(&count)?;

@@ -1,6 +1,6 @@
 //! The identifier of one game.
 
-ghost use Rattle.std.specs.Prelude.{◌≡◌, IfSome, IfNone};
+ghost use Rattle.std.specs.Prelude.{◌≡◌, length, IfSome, IfNone};
 ghost use Rattle.sha2.specs.Sha256.{sha256};
 ghost use Rattle.fen_text.specs.Written.{fen_of};
 ghost use Rattle.move_msg.specs.Stamps.{IsGameName, stamp_text, stamp_of};
@@ -69,5 +69,13 @@ impl Stamp {
         } else {
             None
         }
+    }
+
+    /// Its 16 bytes.
+    pub fn as_bytes(&self) -> &[u8; 16]
+        ensures bytes { result.now ≡ self.now }
+        ensures size { length self.now ≡ 16 }
+    {
+        &self.0
     }
 }

@@ -1,12 +1,11 @@
 //! A run of a source.
 
-ghost use Rattle.std.specs.Prelude.{◌≡◌, ◌≤◌, IfOk, IfErr, OnErr, OnOk};
+ghost use Rattle.std.specs.Prelude.{◌≡◌, IfOk, IfErr, OnErr, OnOk};
 ghost use Rattle.line_teller.specs.ToldLines.{HasFailed};
 ghost use Rattle.source_core.specs.Sendings.{AsksOnce, IsRefusedLine, SendsInTurn, SendsLines};
 ghost use Rattle.source_core.specs.Inside.Steps.{Closes, IsPlayedLine, StandsAtInputEnd, StepsAt, StepsOn, begun_at, end_by};
 ghost use Rattle.system_io.specs.Outputs.{WritesFront};
 ghost use Rattle.source_core.specs.Lines.{end_words, ended_by};
-ghost use Rattle.move_msg.specs.Numbers.{most_moves};
 ghost use Rattle.move_msg.specs.TextLines.{ended};
 
 use crate::board::Board;
@@ -15,7 +14,7 @@ use crate::lines::{End, Ended, Line, put_now};
 use crate::turn::{Next, Terms, Turn, receive_all, send_again, take_turn};
 use board_core::{Move, Position};
 use fen_text::read_move;
-use move_msg::MOST_MOVES;
+use move_msg::{Count, MOST_MOVES};
 use std::alloc::Global;
 use system_io::{LineReader, Output, Port, ReadFault, WriteFault};
 
@@ -42,11 +41,11 @@ fn begun_at(start: Position) -> Course
 }
 
 /// A line as a legal move of a position, and the position after it. The error is the end of the run.
-fn move_of(line: &[u8], position: &Position, number: u32) -> Result<(Move, Position), End>
-    requires { number ≤ most_moves }
+fn move_of(line: &[u8], position: &Position, number: Count) -> Result<(Move, Position), End>
     ensures ok { IfOk result (λ t. IsPlayedLine position.now number line.now t.0 t.1) }
     ensures err { IfErr result (IsRefusedLine position.now number line.now) }
 {
+    let number = number.number();
     if number >= MOST_MOVES {
         return Err(End::TooLong);
     }
@@ -77,12 +76,11 @@ fn end_of(turn: Turn) -> Option<End>
 /// Sends the move of a line that was read. Returns the end of the run, if it ends.
 fn send_line<P: Port>(
     terms: Terms,
-    number: u32,
+    number: Count,
     line: &[u8],
     course: &mut Course,
     port: &mut P,
 ) -> Option<End>
-    requires { number ≤ most_moves }
     ensures { StepsOn terms number line.now course.old course.new (P.facts port.old) (P.facts port.new) result }
 {
     match &move_of(line, &course.position, number) {
@@ -90,6 +88,7 @@ fn send_line<P: Port>(
         Ok((m, next)) => {
             course.position = *next;
             course.last = Some(*m);
+            let number = number.number();
             let board = Board {
                 plies: number + 1,
                 position: next,
@@ -133,13 +132,12 @@ fn close<P: Port>(terms: Terms, number: u32, course: &mut Course, port: &mut P) 
 /// Reads the next line and sends its move. Returns the end of the run, if it ends.
 fn step<L: LineReader, P: Port>(
     terms: Terms,
-    number: u32,
+    number: Count,
     reader: &mut L,
     line: &mut Vec<u8>,
     course: &mut Course,
     port: &mut P,
 ) -> Option<End>
-    requires { number ≤ most_moves }
     ensures steps { StepsAt terms number (L.facts reader.old) (L.facts reader.new) course.old course.new (P.facts port.old) (P.facts port.new) result }
     ensures asked { AsksOnce (L.facts reader.old) (L.facts reader.new) result }
     ensures same { (L.facts reader.new).fails → (L.facts reader.old).fails }
@@ -150,7 +148,7 @@ fn step<L: LineReader, P: Port>(
             if read {
                 send_line(terms, number, line, course, port)
             } else {
-                Some(close(terms, number, course, port))
+                Some(close(terms, number.number(), course, port))
             }
         }
         Err(ReadFault::Unreadable) => Some(End::Unread),
@@ -206,7 +204,10 @@ pub fn send_game<L: LineReader, P: Port, W: Output>(
     let mut line = Vec::new(alloc);
     let mut course = begun_at(start);
     for number in 0..MOST_MOVES + 1 {
-        match step(terms, number, reader, &mut line, &mut course, port) {
+        let Some(count) = Count::new(number) else {
+            break;
+        };
+        match step(terms, count, reader, &mut line, &mut course, port) {
             None => match put_now(out, &Line::Acked(number + 1)) {
                 Ok(()) => {}
                 Err(fault) => return Err(fault),
