@@ -3,7 +3,7 @@ use Rattle.std.proofs.Common.{◌≡◌, ◌<◌, ◌++◌, ℕ, List, [], ◌�
 use Rattle.std.specs.Prelude.{IfNone}
 use Rattle.hex.specs.Hex.{encode_lower, lower_digits}
 use Rattle.hex.proofs.HexLemmas.{length-encode_with}
-use Rattle.game_status.specs.Listings.{IsStamp}
+use Rattle.move_msg.specs.Stamps.{IsStamp}
 use Rattle.adjudicate_core.specs.GamePaths.{IsFolderFront, NamesGame}
 
 same_parts : (a x b y : List ℕ) → length a ≡ length x → a ++ b ≡ x ++ y → (a ≡ x) × (b ≡ y)

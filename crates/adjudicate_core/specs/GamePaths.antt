@@ -1,7 +1,7 @@
 -- Paths of games' files: a game's stamp is the name of its file (this project's own).
 use Rattle.std.specs.Prelude.{◌≡◌, ◌⊎◌, ◌++◌, ℕ, List, [], ◌∷◌, codes}
 use Rattle.hex.specs.Hex.{encode_lower}
-use Rattle.game_status.specs.Listings.{IsStamp}
+use Rattle.move_msg.specs.Stamps.{IsStamp}
 
 -- nothing, or the path of a folder with a slash
 abbrev pub IsFolderFront : List ℕ → Type 0

@@ -18,7 +18,8 @@ use Rattle.std.proofs.lemmas.List.{append_cancel_right, map-append, take_more}
 use Rattle.std.proofs.lemmas.List.Elements.{Contains-append_left, Contains-append_right, Contains-append_cases, Contains-push, Contains-push_cases}
 use Rattle.hex.specs.Hex.{decode_of, decode_sized, encode_lower, lower_digits}
 use Rattle.hex.proofs.HexLemmas.{decode_of-encode_lower, decode_sized-twice, length-encode_with}
-use Rattle.game_status.specs.Listings.{AddsStamps, AreStampsIn, IsStamp, stamp_file_name}
+use Rattle.move_msg.specs.Stamps.{IsStamp}
+use Rattle.game_status.specs.Listings.{AddsStamps, AreStampsIn, stamp_file_name}
 
 -- thirty-two lower-case digits are read as the bytes that they are written for
 pub decoded : (text stamp : List ℕ) → IsStamp stamp → text ≡ encode_lower stamp → decode_sized text 16 ≡ Ok stamp

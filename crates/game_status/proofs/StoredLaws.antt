@@ -17,7 +17,8 @@ use Rattle.hex.specs.Hex.{encode_lower}
 use Rattle.system_io.specs.declared.record_store.Entry.{Entry}
 use Rattle.system_io.specs.Records.{Records, StoredRecord, entry_record, records_of, with_all, with_entry}
 use Rattle.arbiter_server.specs.GameFolders.{kept_path}
-use Rattle.game_status.specs.Listings.{IsStamp, kept_ending, stamp_file_name}
+use Rattle.move_msg.specs.Stamps.{IsStamp}
+use Rattle.game_status.specs.Listings.{kept_ending, stamp_file_name}
 use Rattle.game_status.specs.StoreReadings.{path_in}
 use Rattle.arbiter_server.specs.StoreGames.{bytes_at}
 use Rattle.game_status.specs.StoredDisks.{AddsRecordNames, HasNoRecordAt, NamesRecord, RecordBytes, bytes_in}

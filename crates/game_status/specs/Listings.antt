@@ -6,12 +6,9 @@ use Rattle.std.specs.List.Sorted.{IsStrictlySortedBy}
 use Rattle.std.specs.Cmp.Lexicographic.{slice_cmp}
 use Rattle.std.specs.Ordering.{nat_cmp}
 use Rattle.hex.specs.Hex.{encode_lower}
+use Rattle.move_msg.specs.Stamps.{IsStamp}
 use Rattle.system_io.specs.Disks.{AtFolder, DiskFacts}
 use Rattle.game_status.specs.declared.listing.Folder.{Folder}
-
--- a stamp is 16 bytes
-abbrev pub IsStamp : List ℕ → Type 0
-IsStamp stamp = (length stamp ≡ 16) × ((i : ℕ) → slice_index stamp i < 256)
 
 -- the name of the file of a stamp: the stamp in lower-case hexadecimal digits, and an ending
 abbrev pub stamp_file_name : List ℕ → List ℕ → List ℕ

@@ -11,7 +11,7 @@ use Rattle.game_status.specs.Listings.{Listing}
 
 -- the record is of this stamp and delay
 abbrev pub IsOfStamp : Records → List ℕ → ℕ → Type 0
-IsOfStamp r stamp delay = (r.stamp.0 ≡ stamp) × (r.delay ≡ delay)
+IsOfStamp r stamp delay = (r.stamp ≡ stamp) × (r.delay ≡ delay)
 
 -- nothing is kept; or the bytes spell this record, which is of the stamp and the delay
 abbrev pub IsRecorded : List ℕ → ℕ → Option (List ℕ) → Option Records → Type 0

@@ -8,7 +8,8 @@ use Rattle.std.specs.BTreeMap.{BTreeMap, get}
 use Rattle.system_io.specs.Disks.{AtFile, AtFolder, DiskFacts, Source, most_bytes}
 use Rattle.arbiter_server.specs.GameFolders.{kept_path}
 use Rattle.game_status.specs.declared.stored_disk.StoredDisk.{StoredDisk}
-use Rattle.game_status.specs.Listings.{IsStamp, kept_ending, stamp_file_name}
+use Rattle.move_msg.specs.Stamps.{IsStamp}
+use Rattle.game_status.specs.Listings.{kept_ending, stamp_file_name}
 
 -- the bytes of the record that a store has of each game, by the game's stamp
 abbrev pub RecordBytes : Type 0

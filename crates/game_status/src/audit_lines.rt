@@ -13,7 +13,7 @@ use crate::status_lines::{
 use crate::telling::{GameTold, Mark};
 use arbiter_server::verdict_or_none;
 use line_teller::LineWords;
-use move_msg::Record;
+use move_msg::{Record, Stamp};
 use record_audit::Finding;
 
 /// What is wrong with a game whose files an audit can read.
@@ -108,8 +108,8 @@ fn add_pair(line: &mut LineWords, other: &Option<Record>, compared: Compared)
 }
 
 /// What is found of the record of one folder.
-fn one_line(stamp: &[u8; 16], kept: &Option<Record>) -> LineWords
-    ensures is { result ≡ encode_lower stamp.now ++ codes " " ++ kept_finding kept.now }
+fn one_line(stamp: Stamp, kept: &Option<Record>) -> LineWords
+    ensures is { result ≡ encode_lower stamp ++ codes " " ++ kept_finding kept.now }
     ensures size { length result ≤ 87 }
 {
     let mut line = stamped(stamp);
@@ -119,12 +119,12 @@ fn one_line(stamp: &[u8; 16], kept: &Option<Record>) -> LineWords
 
 /// What is found of the records of two folders and what comes of comparing them.
 fn both_line(
-    stamp: &[u8; 16],
+    stamp: Stamp,
     kept: &Option<Record>,
     other: &Option<Record>,
     compared: Compared,
 ) -> LineWords
-    ensures { result ≡ encode_lower stamp.now ++ codes " " ++ kept_finding kept.now ++ pair_words other.now compared }
+    ensures { result ≡ encode_lower stamp ++ codes " " ++ kept_finding kept.now ++ pair_words other.now compared }
 {
     let mut line = one_line(stamp, kept);
     add_pair(&mut line, other, compared);
@@ -132,8 +132,8 @@ fn both_line(
 }
 
 /// The line of a game whose records are whole, or whose files are at fault.
-fn sound_line(stamp: &[u8; 16], look: &Look) -> LineWords
-    ensures { result ≡ sound_line stamp.now look.now }
+fn sound_line(stamp: Stamp, look: &Look) -> LineWords
+    ensures { result ≡ sound_line stamp look.now }
 {
     match look {
         Look::One(side) => one_line(stamp, &side.kept),
@@ -146,8 +146,8 @@ fn sound_line(stamp: &[u8; 16], look: &Look) -> LineWords
 }
 
 /// The line of a record of the first folder that isn't whole.
-fn record_line(stamp: &[u8; 16], finding: Finding) -> LineWords
-    ensures { result ≡ encode_lower stamp.now ++ codes " " ++ finding_words finding }
+fn record_line(stamp: Stamp, finding: Finding) -> LineWords
+    ensures { result ≡ encode_lower stamp ++ codes " " ++ finding_words finding }
 {
     let mut line = stamped(stamp);
     add_finding(&mut line, finding);
@@ -155,8 +155,8 @@ fn record_line(stamp: &[u8; 16], finding: Finding) -> LineWords
 }
 
 /// The line of a record of the second folder that isn't whole.
-fn other_record_line(stamp: &[u8; 16], finding: Finding) -> LineWords
-    ensures { result ≡ encode_lower stamp.now ++ codes " " ++ codes "other " ++ finding_words finding }
+fn other_record_line(stamp: Stamp, finding: Finding) -> LineWords
+    ensures { result ≡ encode_lower stamp ++ codes " " ++ codes "other " ++ finding_words finding }
 {
     let mut line = stamped(stamp);
     line.add("other ");
@@ -165,8 +165,8 @@ fn other_record_line(stamp: &[u8; 16], finding: Finding) -> LineWords
 }
 
 /// The line of a game with which something is wrong.
-fn unsound_line(stamp: &[u8; 16], unsound: Unsound) -> LineWords
-    ensures { result ≡ unsound_line stamp.now unsound }
+fn unsound_line(stamp: Stamp, unsound: Unsound) -> LineWords
+    ensures { result ≡ unsound_line stamp unsound }
 {
     match unsound {
         Unsound::OtherGame => fault_line(stamp, EntryFault::OtherGame),
@@ -200,8 +200,8 @@ fn mark_of_look(look: &Look) -> Mark
 }
 
 /// What is told of a game that is audited.
-pub(crate) fn audit_told(stamp: &[u8; 16], look: &AuditLook) -> GameTold
-    ensures { result ≡ audit_told stamp.now look.now }
+pub(crate) fn audit_told(stamp: Stamp, look: &AuditLook) -> GameTold
+    ensures { result ≡ audit_told stamp look.now }
 {
     match look {
         AuditLook::Sound(look) => GameTold::new(sound_line(stamp, look), mark_of_look(look)),

@@ -43,10 +43,10 @@ fn read_kept<D: Disk>(
     folder: &Folder<'_>,
     stamp: Stamp,
 ) -> Result<Option<Vec<u8>>, ReadFault>
-    ensures ok { IfOk result (λ kept. IsKeptRecord (D.facts disk.now) (listing_of folder.now) stamp.0 (option_map (λ v. v.items) kept)) }
-    ensures cause { IsErrOf result ReadFault.Unreadable → CannotReadRecord (D.facts disk.now) (listing_of folder.now) stamp.0 }
+    ensures ok { IfOk result (λ kept. IsKeptRecord (D.facts disk.now) (listing_of folder.now) stamp (option_map (λ v. v.items) kept)) }
+    ensures cause { IsErrOf result ReadFault.Unreadable → CannotReadRecord (D.facts disk.now) (listing_of folder.now) stamp }
 {
-    if !folder.kept.contains(&stamp.0) {
+    if !folder.kept.contains(&stamp) {
         return Ok(None);
     }
     let Ok(path) = kept_path(alloc, folder.path, stamp) else {
@@ -65,8 +65,8 @@ pub(crate) fn read_entry<D: Disk>(
     folder: &Folder<'_>,
     stamp: Stamp,
 ) -> Result<Result<Entry, EntryFault>, AllocError>
-    ensures entry { IfOk result (λ r. IfOk r (λ e. HasEntry (D.facts disk.now) (listing_of folder.now) stamp.0 (game_told e.game) (option_map (λ v. v.items) e.kept))) }
-    ensures fault { IfOk result (λ r. IfErr r (LacksEntry (D.facts disk.now) (listing_of folder.now) stamp.0)) }
+    ensures entry { IfOk result (λ r. IfOk r (λ e. HasEntry (D.facts disk.now) (listing_of folder.now) stamp (game_told e.game) (option_map (λ v. v.items) e.kept))) }
+    ensures fault { IfOk result (λ r. IfErr r (LacksEntry (D.facts disk.now) (listing_of folder.now) stamp)) }
 {
     let game = match find_game(alloc, disk, folder.path, stamp) {
         Ok(game) => game,

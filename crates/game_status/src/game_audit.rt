@@ -32,16 +32,21 @@ pub struct AuditTables<'a> {
 
 /// Whether two stamps are one.
 fn is_same_stamp(one: Stamp, other: Stamp) -> bool
-    ensures { IsTrue result ↔ (one.0 ≡ other.0) }
+    ensures { IsTrue result ↔ (one ≡ other) }
 {
-    one.0 == other.0
+    one == other
 }
 
 /// Whether a game's file is that of a stamp, by tables with this manifest.
 fn is_own(game: &Game, manifest: &[u8], stamp: Stamp) -> bool
-    ensures { IsTrue result ↔ IsGameOf manifest.now stamp.0 game.now.name.items game.now.start game.now.delay }
+    ensures { IsTrue result ↔ IsGameOf manifest.now stamp game.now.name.items game.now.start game.now.delay }
 {
-    match Stamp::of(game.name.as_slice(), &game.start, manifest, game.delay) {
+    match Stamp::of(
+        game.name.as_slice(),
+        &game.start,
+        manifest,
+        game.delay.plies(),
+    ) {
         Some(own) => is_same_stamp(own, stamp),
         None => false,
     }
@@ -78,8 +83,8 @@ fn unsound_side(
     side: &Side,
 ) -> Result<Option<Unsound>, AllocError>
     requires { IfSome side.now.kept (λ r. r.delay ≤ most_delay) }
-    ensures none { IfOk result (λ found. IfNone found (IsSoundSide tables.old.manifest.now tables.old.set.tables stamp.0 side.now)) }
-    ensures some { IfOk result (λ found. IfSome found (IsUnsoundSide tables.old.manifest.now tables.old.set.tables stamp.0 side.now)) }
+    ensures none { IfOk result (λ found. IfNone found (IsSoundSide tables.old.manifest.now tables.old.set.tables stamp side.now)) }
+    ensures some { IfOk result (λ found. IfSome found (IsUnsoundSide tables.old.manifest.now tables.old.set.tables stamp side.now)) }
     ensures same { tables.new ≡ tables.old }
 {
     if !is_own(&side.game, tables.manifest, stamp) {
@@ -101,8 +106,8 @@ fn unsound_pair(
 ) -> Result<Option<Unsound>, AllocError>
     requires first { IfSome side.now.kept (λ r. r.delay ≤ most_delay) }
     requires second { IfSome other.now (λ r. r.delay ≤ most_delay) }
-    ensures none { IfOk result (λ found. IfNone found (IsSoundSide tables.old.manifest.now tables.old.set.tables stamp.0 side.now × IsWholeRecord side.now.game.start tables.old.set.tables other.now)) }
-    ensures some { IfOk result (λ found. IfSome found (IsUnsoundPair tables.old.manifest.now tables.old.set.tables stamp.0 side.now other.now)) }
+    ensures none { IfOk result (λ found. IfNone found (IsSoundSide tables.old.manifest.now tables.old.set.tables stamp side.now × IsWholeRecord side.now.game.start tables.old.set.tables other.now)) }
+    ensures some { IfOk result (λ found. IfSome found (IsUnsoundPair tables.old.manifest.now tables.old.set.tables stamp side.now other.now)) }
     ensures same { tables.new ≡ tables.old }
 {
     if let Some(unsound) = unsound_side(alloc, tables, stamp, side)? {
@@ -122,8 +127,8 @@ fn unsound_in(
     look: &Look,
 ) -> Result<Option<Unsound>, AllocError>
     requires { AreFewDelays look.now }
-    ensures none { IfOk result (λ found. IfNone found (IsSoundLook tables.old.manifest.now tables.old.set.tables stamp.0 look.now)) }
-    ensures some { IfOk result (λ found. IfSome found (IsUnsoundLook tables.old.manifest.now tables.old.set.tables stamp.0 look.now)) }
+    ensures none { IfOk result (λ found. IfNone found (IsSoundLook tables.old.manifest.now tables.old.set.tables stamp look.now)) }
+    ensures some { IfOk result (λ found. IfSome found (IsUnsoundLook tables.old.manifest.now tables.old.set.tables stamp look.now)) }
     ensures same { tables.new ≡ tables.old }
 {
     match look {
@@ -142,7 +147,7 @@ fn audit_of(
     look: Look,
 ) -> Result<AuditLook, AllocError>
     requires { AreFewDelays look }
-    ensures told { IfOk result (IsAuditOf tables.old.manifest.now tables.old.set.tables stamp.0 look) }
+    ensures told { IfOk result (IsAuditOf tables.old.manifest.now tables.old.set.tables stamp look) }
     ensures same { tables.new ≡ tables.old }
 {
     match unsound_in(alloc, tables, stamp, &look)? {
@@ -166,7 +171,7 @@ fn audit_game<D: Disk>(
     tables: &mut AuditTables<'_>,
     stamp: Stamp,
 ) -> Result<AuditLook, AllocError>
-    ensures told { IfOk result (IsAuditLook (D.facts files.now.disk.now) (listing_of files.now.one.now) (other_listing files.now.other) tables.old.manifest.now tables.old.set.tables stamp.0) }
+    ensures told { IfOk result (IsAuditLook (D.facts files.now.disk.now) (listing_of files.now.one.now) (other_listing files.now.other) tables.old.manifest.now tables.old.set.tables stamp) }
     ensures same { tables.new ≡ tables.old }
 {
     let look = files.look(stamp)?;
@@ -179,8 +184,8 @@ impl<'a, 't, D: Disk> GameTeller for AuditTeller<'a, 't, D> {
 
     ghost tells = { λ t. IsAudit t.tables.manifest.now t.tables.set.tables (D.facts t.files.disk.now) (listing_of t.files.one.now) (other_listing t.files.other) };
 
-    fn tell(&mut self, stamp: &[u8; 16]) -> Result<GameTold, AllocError> {
-        let look = audit_game(&self.files, &mut self.tables, Stamp(*stamp))?;
+    fn tell(&mut self, stamp: Stamp) -> Result<GameTold, AllocError> {
+        let look = audit_game(&self.files, &mut self.tables, stamp)?;
         Ok(audit_told(stamp, &look))
     }
 }

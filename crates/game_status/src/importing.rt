@@ -29,12 +29,12 @@ fn record_in<D: Disk>(
     alloc: Global,
     disk: &D,
     folder: &str,
-    stamp: [u8; 16],
+    stamp: Stamp,
 ) -> Result<Entry, ImportFault>
     ensures ok { IfOk result (IsImportOf (D.facts disk.now) folder.now stamp) }
     ensures err { IfErr result (CannotImport (D.facts disk.now) folder.now) }
 {
-    let Ok(path) = kept_path(alloc, folder, Stamp(stamp)) else {
+    let Ok(path) = kept_path(alloc, folder, stamp) else {
         return Err(ImportFault::OutOfMemory);
     };
     let record = match disk.read_within(alloc, path.as_str(), MOST_KEPT_BYTES as u64) {
@@ -47,7 +47,7 @@ fn record_in<D: Disk>(
         None => 0,
     };
     Ok(Entry {
-        stamp,
+        stamp: *stamp.as_bytes(),
         count,
         record,
     })
@@ -58,7 +58,7 @@ fn coming<D: Disk, S: RecordStore>(
     alloc: Global,
     disk: &D,
     folder: &str,
-    stamps: &BTreeSet<[u8; 16]>,
+    stamps: &BTreeSet<Stamp>,
     store: &S,
 ) -> Result<Vec<Entry>, ImportFault>
     ensures ok { IfOk result (λ entries. AreComing (D.facts disk.now) folder.now stamps.now.keys (S.facts store.now).has entries.items) }
@@ -66,7 +66,7 @@ fn coming<D: Disk, S: RecordStore>(
 {
     let mut entries = Vec::new(alloc);
     for stamp in stamps {
-        if store.find(stamp).is_none() {
+        if store.find(stamp.as_bytes()).is_none() {
             let entry = record_in(alloc, disk, folder, *stamp)?;
             if entries.push(entry).is_err() {
                 return Err(ImportFault::OutOfMemory);

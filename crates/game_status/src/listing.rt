@@ -6,15 +6,17 @@ ghost use Rattle.std.specs.List.Sorted.{IsStrictlySortedBy};
 ghost use Rattle.std.specs.Ordering.{nat_cmp};
 ghost use Rattle.hex.specs.Hex.{encode_lower};
 ghost use Rattle.system_io.specs.Disks.{AtFolder};
-ghost use Rattle.game_status.specs.Listings.{AddsStamps, AreListed, CannotList, CannotListOther, IsStamp, ListsStamps, kept_ending, listing_of, stamp_file_name};
+ghost use Rattle.move_msg.specs.Stamps.{IsStamp};
+ghost use Rattle.game_status.specs.Listings.{AddsStamps, AreListed, CannotList, CannotListOther, ListsStamps, kept_ending, listing_of, stamp_file_name};
 ghost use Rattle.game_status.specs.Inside.Listing.{ListsFolder, ListsOther};
 
+use move_msg::Stamp;
 use std::alloc::{AllocError, Global};
 use std::collections::BTreeSet;
 use system_io::{Disk, ReadFault};
 
 /// The stamp with these 32 lower-case hexadecimal digits; none where they are no such digits.
-pub fn stamp_of(digits: &[u8]) -> Option<[u8; 16]>
+pub fn stamp_of(digits: &[u8]) -> Option<Stamp>
     ensures some { IfSome result (λ stamp. IsStamp stamp × (digits.now ≡ encode_lower stamp)) }
     ensures none { IfNone result ((stamp : List ℕ) → IsStamp stamp → digits.now ≡ encode_lower stamp → ⊥) }
 {
@@ -29,11 +31,11 @@ pub fn stamp_of(digits: &[u8]) -> Option<[u8; 16]>
     if again.as_slice() != digits {
         return None;
     }
-    Some(stamp)
+    Some(Stamp(stamp))
 }
 
 /// The stamp whose file with this ending has the name.
-pub(crate) fn stamp_in(name: &[u8], ending: &[u8]) -> Option<[u8; 16]>
+pub(crate) fn stamp_in(name: &[u8], ending: &[u8]) -> Option<Stamp>
     ensures some { IfSome result (λ stamp. IsStamp stamp × (name.now ≡ stamp_file_name stamp ending.now)) }
     ensures none { IfNone result ((stamp : List ℕ) → IsStamp stamp → name.now ≡ stamp_file_name stamp ending.now → ⊥) }
 {
@@ -44,7 +46,7 @@ pub(crate) fn stamp_in(name: &[u8], ending: &[u8]) -> Option<[u8; 16]>
 }
 
 /// Adds the stamp whose file with this ending has the name, if it is such a name.
-fn add_stamp(name: &[u8], ending: &[u8], stamps: &mut BTreeSet<[u8; 16]>) -> Result<(), AllocError>
+fn add_stamp(name: &[u8], ending: &[u8], stamps: &mut BTreeSet<Stamp>) -> Result<(), AllocError>
     ensures { OnOk result (AddsStamps (name.now ∷ []) ending.now stamps.old.keys stamps.new.keys) }
 {
     let Some(stamp) = stamp_in(name, ending) else {
@@ -60,7 +62,7 @@ fn add_stamp(name: &[u8], ending: &[u8], stamps: &mut BTreeSet<[u8; 16]>) -> Res
 fn add_stamps(
     names: &[String],
     ending: &[u8],
-    stamps: &mut BTreeSet<[u8; 16]>,
+    stamps: &mut BTreeSet<Stamp>,
 ) -> Result<(), AllocError>
     ensures { OnOk result (AddsStamps (map string_bytes names.now) ending.now stamps.old.keys stamps.new.keys) }
 {
@@ -71,7 +73,7 @@ fn add_stamps(
 }
 
 /// The stamps in rising order.
-fn rising(alloc: Global, stamps: &BTreeSet<[u8; 16]>) -> Result<Vec<[u8; 16]>, AllocError>
+fn rising(alloc: Global, stamps: &BTreeSet<Stamp>) -> Result<Vec<Stamp>, AllocError>
     ensures all { IfOk result (λ all. all.items ≡ stamps.now.keys) }
     ensures rising { OnOk result (IsStrictlySortedBy (slice_cmp nat_cmp) stamps.now.keys) }
 {
@@ -87,7 +89,7 @@ pub(crate) fn kept_stamps<D: Disk>(
     alloc: Global,
     disk: &D,
     path: &str,
-) -> Result<BTreeSet<[u8; 16]>, ReadFault>
+) -> Result<BTreeSet<Stamp>, ReadFault>
     ensures ok { IfOk result (λ stamps. ListsStamps (D.facts disk.now) path.now kept_ending stamps.keys) }
     ensures cause { IsErrOf result ReadFault.Unreadable → (D.facts disk.now).fails (AtFolder path.now) }
 {
@@ -108,7 +110,7 @@ pub struct Folder<'a> {
     /// Its path.
     pub path: &'a str,
     /// The stamps of the records that it lists.
-    pub kept: BTreeSet<[u8; 16]>,
+    pub kept: BTreeSet<Stamp>,
 }
 
 /// Lists a folder, and adds the stamps of its games.
@@ -116,7 +118,7 @@ fn list_folder<'a, D: Disk>(
     alloc: Global,
     disk: &D,
     path: &'a str,
-    games: &mut BTreeSet<[u8; 16]>,
+    games: &mut BTreeSet<Stamp>,
 ) -> Result<Folder<'a>, ReadFault>
     ensures ok { IfOk result (λ f. ListsFolder (D.facts disk.now) path.now (listing_of f) games.old.keys games.new.keys) }
     ensures cause { IsErrOf result ReadFault.Unreadable → (D.facts disk.now).fails (AtFolder path.now) }
@@ -140,7 +142,7 @@ fn list_other<'a, D: Disk>(
     alloc: Global,
     disk: &D,
     path: Option<&'a str>,
-    games: &mut BTreeSet<[u8; 16]>,
+    games: &mut BTreeSet<Stamp>,
 ) -> Result<Option<Folder<'a>>, ReadFault>
     ensures ok { IfOk result (λ f. ListsOther (D.facts disk.now) (option_map (λ s. s.now) path.entry) (option_map listing_of f) games.old.keys games.new.keys) }
     ensures cause { IsErrOf result ReadFault.Unreadable → CannotListOther (D.facts disk.now) (option_map (λ s. s.now) path.entry) }
@@ -162,7 +164,7 @@ pub struct Folders<'a> {
     /// The second, if it is named.
     pub other: Option<Folder<'a>>,
     /// The stamps of all games of both, in rising order, each once.
-    pub stamps: Vec<[u8; 16]>,
+    pub stamps: Vec<Stamp>,
 }
 
 /// Lists a folder of games, and a second one, if it is named. `Unreadable` where one can't be listed.

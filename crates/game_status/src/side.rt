@@ -10,6 +10,7 @@ ghost use Rattle.game_status.specs.Inside.Decoding.{AreSides, IsNoRecordOf, IsNo
 use crate::entry::{Entry, EntryFault, read_entry};
 use crate::listing::Folder;
 use arbiter_server::Game;
+use board_core::Delay;
 use move_msg::{Record, RecordFault, Stamp};
 use std::alloc::{AllocError, Global};
 use system_io::Disk;
@@ -28,10 +29,10 @@ fn record_of(
     alloc: Global,
     bytes: &[u8],
     stamp: Stamp,
-    delay: u8,
+    delay: Delay,
 ) -> Result<Result<Record, EntryFault>, AllocError>
-    ensures record { IfOk result (λ r. IfOk r (λ kept. SpellsRecord bytes.now kept × IsOfStamp kept stamp.0 delay)) }
-    ensures fault { IfOk result (λ r. IfErr r (IsNoRecordOf bytes.now stamp.0 delay)) }
+    ensures record { IfOk result (λ r. IfOk r (λ kept. SpellsRecord bytes.now kept × IsOfStamp kept stamp delay)) }
+    ensures fault { IfOk result (λ r. IfErr r (IsNoRecordOf bytes.now stamp delay)) }
 {
     let record = match Record::decode(alloc, bytes) {
         Ok(record) => record,
@@ -40,7 +41,7 @@ fn record_of(
             _ => return Ok(Err(EntryFault::BadRecord(fault))),
         },
     };
-    if record.stamp != stamp || record.delay != delay {
+    if record.stamp != stamp || record.delay != delay.plies() {
         return Ok(Err(EntryFault::OtherStamp));
     }
     Ok(Ok(record))
@@ -52,8 +53,8 @@ fn side_of(
     entry: Entry,
     stamp: Stamp,
 ) -> Result<Result<Side, EntryFault>, AllocError>
-    ensures side { IfOk result (λ r. IfOk r (AreSides entry stamp.0)) }
-    ensures fault { IfOk result (λ r. IfErr r (IsNoSide entry stamp.0)) }
+    ensures side { IfOk result (λ r. IfOk r (AreSides entry stamp)) }
+    ensures fault { IfOk result (λ r. IfErr r (IsNoSide entry stamp)) }
 {
     let Entry { game, kept } = entry;
     let Some(bytes) = kept else {
@@ -75,8 +76,8 @@ pub(crate) fn read_side<D: Disk>(
     folder: &Folder<'_>,
     stamp: Stamp,
 ) -> Result<Result<Side, EntryFault>, AllocError>
-    ensures side { IfOk result (λ r. IfOk r (λ s. HasGameAndRecord (D.facts disk.now) (listing_of folder.now) stamp.0 (game_told s.game) s.kept)) }
-    ensures fault { IfOk result (λ r. IfErr r (LacksSide (D.facts disk.now) (listing_of folder.now) stamp.0)) }
+    ensures side { IfOk result (λ r. IfOk r (λ s. HasGameAndRecord (D.facts disk.now) (listing_of folder.now) stamp (game_told s.game) s.kept)) }
+    ensures fault { IfOk result (λ r. IfErr r (LacksSide (D.facts disk.now) (listing_of folder.now) stamp)) }
 {
     match read_entry(alloc, disk, folder, stamp)? {
         Ok(entry) => side_of(alloc, entry, stamp),

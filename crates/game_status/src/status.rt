@@ -77,7 +77,7 @@ fn look_at_both(one: Side, other: Side) -> Look
 impl<'a, D: Disk> StatusTeller<'a, D> {
     /// What is told of a game of which the first folder has this, and the second has the rest.
     fn look_beside(&self, one: Side, folder: &Folder<'_>, stamp: Stamp) -> Result<Look, AllocError>
-        ensures { IfOk result (IsLookBeside (D.facts self.now.disk.now) one (listing_of folder.now) stamp.0) }
+        ensures { IfOk result (IsLookBeside (D.facts self.now.disk.now) one (listing_of folder.now) stamp) }
     {
         match read_side(self.alloc, self.disk, folder, stamp)? {
             Ok(other) => Ok(look_at_both(one, other)),
@@ -87,7 +87,7 @@ impl<'a, D: Disk> StatusTeller<'a, D> {
 
     /// What is told of the game with a stamp. The error comes only where memory is refused.
     pub(crate) fn look(&self, stamp: Stamp) -> Result<Look, AllocError>
-        ensures { IfOk result (IsLook (D.facts self.now.disk.now) (listing_of self.now.one.now) (other_listing self.now.other) stamp.0) }
+        ensures { IfOk result (IsLook (D.facts self.now.disk.now) (listing_of self.now.one.now) (other_listing self.now.other) stamp) }
     {
         match read_side(self.alloc, self.disk, self.one, stamp)? {
             Ok(one) => match self.other {
@@ -105,8 +105,8 @@ impl<'a, D: Disk> GameTeller for StatusTeller<'a, D> {
 
     ghost tells = { λ t. IsStatus (D.facts t.disk.now) (listing_of t.one.now) (other_listing t.other) };
 
-    fn tell(&mut self, stamp: &[u8; 16]) -> Result<GameTold, AllocError> {
-        let look = self.look(Stamp(*stamp))?;
+    fn tell(&mut self, stamp: Stamp) -> Result<GameTold, AllocError> {
+        let look = self.look(stamp)?;
         Ok(told_by(stamp, &look))
     }
 }

@@ -17,7 +17,7 @@ use crate::telling::{GameTold, Mark};
 use arbiter_server::verdict_or_none;
 use board_core::Verdict;
 use line_teller::LineWords;
-use move_msg::{Record, RecordFault};
+use move_msg::{Record, RecordFault, Stamp};
 
 /// What is told of a game.
 #[derive(Drop)]
@@ -33,8 +33,8 @@ pub enum Look {
 }
 
 /// A stamp in lower-case hexadecimal digits, and a space.
-pub(crate) fn stamped(stamp: &[u8; 16]) -> LineWords
-    ensures is { result ≡ encode_lower stamp.now ++ codes " " }
+pub(crate) fn stamped(stamp: Stamp) -> LineWords
+    ensures is { result ≡ encode_lower stamp ++ codes " " }
     ensures size { length result ≡ 33 }
 {
     let mut line = LineWords::new();
@@ -114,8 +114,8 @@ fn add_fault(line: &mut LineWords, fault: EntryFault)
 }
 
 /// The line of a game of one folder.
-fn line_of_one(stamp: &[u8; 16], side: &Side) -> LineWords
-    ensures { result ≡ line_of_one stamp.now side.now }
+fn line_of_one(stamp: Stamp, side: &Side) -> LineWords
+    ensures { result ≡ line_of_one stamp side.now }
 {
     let mut line = stamped(stamp);
     add_kept(&mut line, &side.kept);
@@ -135,8 +135,8 @@ fn add_column(line: &mut LineWords, kept: &Option<Record>)
 }
 
 /// A line of a game of two folders, to its name.
-fn columns(stamp: &[u8; 16], one: &Side, other: &Side, compared: Compared) -> LineWords
-    ensures is { result ≡ encode_lower stamp.now ++ codes " " ++ kept_words one.now.kept ++ codes " " ++ kept_words other.now.kept ++ codes " " ++ compared_words compared }
+fn columns(stamp: Stamp, one: &Side, other: &Side, compared: Compared) -> LineWords
+    ensures is { result ≡ encode_lower stamp ++ codes " " ++ kept_words one.now.kept ++ codes " " ++ kept_words other.now.kept ++ codes " " ++ compared_words compared }
     ensures size { length result ≤ 185 }
 {
     let mut line = stamped(stamp);
@@ -147,8 +147,8 @@ fn columns(stamp: &[u8; 16], one: &Side, other: &Side, compared: Compared) -> Li
 }
 
 /// The line of a game of two folders.
-fn line_of_two(stamp: &[u8; 16], one: &Side, other: &Side, compared: Compared) -> LineWords
-    ensures { result ≡ line_of_two stamp.now one.now other.now compared }
+fn line_of_two(stamp: Stamp, one: &Side, other: &Side, compared: Compared) -> LineWords
+    ensures { result ≡ line_of_two stamp one.now other.now compared }
 {
     let mut line = columns(stamp, one, other, compared);
     line.add(" ");
@@ -157,8 +157,8 @@ fn line_of_two(stamp: &[u8; 16], one: &Side, other: &Side, compared: Compared) -
 }
 
 /// The line of a game of which something is at fault.
-pub(crate) fn fault_line(stamp: &[u8; 16], fault: EntryFault) -> LineWords
-    ensures { result ≡ fault_line stamp.now fault }
+pub(crate) fn fault_line(stamp: Stamp, fault: EntryFault) -> LineWords
+    ensures { result ≡ fault_line stamp fault }
 {
     let mut line = stamped(stamp);
     add_fault(&mut line, fault);
@@ -166,8 +166,8 @@ pub(crate) fn fault_line(stamp: &[u8; 16], fault: EntryFault) -> LineWords
 }
 
 /// The line of a game of which something is at fault in the second folder alone.
-pub(crate) fn other_fault_line(stamp: &[u8; 16], fault: EntryFault) -> LineWords
-    ensures { result ≡ other_fault_line stamp.now fault }
+pub(crate) fn other_fault_line(stamp: Stamp, fault: EntryFault) -> LineWords
+    ensures { result ≡ other_fault_line stamp fault }
 {
     let mut line = stamped(stamp);
     line.add("other ");
@@ -176,8 +176,8 @@ pub(crate) fn other_fault_line(stamp: &[u8; 16], fault: EntryFault) -> LineWords
 }
 
 /// What is told of a game of which this is found.
-pub(crate) fn told_by(stamp: &[u8; 16], look: &Look) -> GameTold
-    ensures { result ≡ game_told_by stamp.now look.now }
+pub(crate) fn told_by(stamp: Stamp, look: &Look) -> GameTold
+    ensures { result ≡ game_told_by stamp look.now }
 {
     match look {
         Look::One(side) => GameTold::new(line_of_one(stamp, side), mark_of(&side.kept)),

@@ -3,12 +3,14 @@
 ghost use Rattle.std.specs.Prelude.{◌≡◌, ◌≤◌, ◌<◌, ℕ, List, length, map, string_bytes, IfNone, IfOk, IfSome, IsErrOf, OnOk};
 ghost use Rattle.system_io.specs.Records.{records_of};
 ghost use Rattle.arbiter_server.specs.GameFolders.{kept_path};
-ghost use Rattle.game_status.specs.Listings.{IsStamp, kept_ending, stamp_file_name};
+ghost use Rattle.move_msg.specs.Stamps.{IsStamp};
+ghost use Rattle.game_status.specs.Listings.{kept_ending, stamp_file_name};
 ghost use Rattle.arbiter_server.specs.StoreGames.{bytes_at};
 ghost use Rattle.game_status.specs.StoredDisks.{AddsRecordNames, HasNoRecordAt, IsRecordAt, bytes_in, overlaid_by};
 ghost use Rattle.game_status.specs.Inside.StoreReading.{PutsRecord};
 
 use crate::listing::stamp_in;
+use move_msg::Stamp;
 use std::alloc::{AllocError, Global};
 use std::collections::BTreeMap;
 use system_io::{Disk, Entry, FileWithMode, ReadFault};
@@ -23,7 +25,7 @@ const RECORD_MODE: u32 = 0o100600;
 const KEPT_ENDING: &str = ".kept";
 
 /// The stamp whose record is kept at a path in a folder.
-fn stamp_at(folder: &str, path: &str) -> Option<[u8; 16]>
+fn stamp_at(folder: &str, path: &str) -> Option<Stamp>
     ensures some { IfSome result (λ stamp. IsStamp stamp × (path.now ≡ kept_path folder.now stamp)) }
     ensures none { IfNone result ((stamp : List ℕ) → IsStamp stamp → path.now ≡ kept_path folder.now stamp → ⊥) }
 {
@@ -52,11 +54,11 @@ fn copy_within(alloc: Global, bytes: &[u8], most: u64) -> Result<Vec<u8>, ReadFa
 }
 
 /// The name of the file of a game's record.
-fn kept_name(alloc: Global, stamp: [u8; 16]) -> Result<String, AllocError>
+fn kept_name(alloc: Global, stamp: Stamp) -> Result<String, AllocError>
     ensures name { IfOk result (λ name. string_bytes name ≡ stamp_file_name stamp kept_ending) }
     ensures stamp { OnOk result (IsStamp stamp) }
 {
-    let mut name = hex::encode(alloc, &stamp)?;
+    let mut name = hex::encode(alloc, stamp.as_bytes())?;
     name.push_str(KEPT_ENDING)?;
     Ok(name)
 }
@@ -64,7 +66,7 @@ fn kept_name(alloc: Global, stamp: [u8; 16]) -> Result<String, AllocError>
 /// Adds the names of the records' files.
 fn add_names(
     alloc: Global,
-    records: &BTreeMap<[u8; 16], Vec<u8>>,
+    records: &BTreeMap<Stamp, Vec<u8>>,
     names: &mut Vec<String>,
 ) -> Result<(), AllocError>
     ensures { OnOk result (AddsRecordNames (bytes_in records.now) (map string_bytes names.old.items) (map string_bytes names.new.items)) }
@@ -76,7 +78,7 @@ fn add_names(
 }
 
 /// Keeps the record of a game in place of the one before.
-fn keep(records: &mut BTreeMap<[u8; 16], Vec<u8>>, entry: Entry) -> Result<(), AllocError>
+fn keep(records: &mut BTreeMap<Stamp, Vec<u8>>, entry: Entry) -> Result<(), AllocError>
     ensures { OnOk result (PutsRecord entry (bytes_in records.old) (bytes_in records.new)) }
 {
     let Entry {
@@ -84,7 +86,7 @@ fn keep(records: &mut BTreeMap<[u8; 16], Vec<u8>>, entry: Entry) -> Result<(), A
         count: _,
         record,
     } = entry;
-    match records.insert(stamp, record) {
+    match records.insert(Stamp(stamp), record) {
         Ok(_before) => Ok(()),
         Err(_) => Err(AllocError),
     }
@@ -96,7 +98,7 @@ fn keep(records: &mut BTreeMap<[u8; 16], Vec<u8>>, entry: Entry) -> Result<(), A
 pub struct StoredDisk<'a, D> {
     disk: &'a D,
     folder: &'a str,
-    records: BTreeMap<[u8; 16], Vec<u8>>,
+    records: BTreeMap<Stamp, Vec<u8>>,
 }
 
 impl<'a, D> StoredDisk<'a, D> {

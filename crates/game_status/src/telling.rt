@@ -10,6 +10,7 @@ ghost use Rattle.game_status.specs.declared.telling.GameTold.{GameTold};
 ghost use Rattle.game_status.specs.Inside.Counting.{AddsMark, CanCountOneMore, CutsSome, TellsEach, TellsSome};
 
 use line_teller::{LineWords, TellFault, tell_cut};
+use move_msg::Stamp;
 use std::alloc::AllocError;
 use system_io::{Output, ReadFault, WriteFault};
 
@@ -111,8 +112,8 @@ pub trait GameTeller {
 
     /// What is told of the game with this stamp. The error comes only where memory is refused. What is told later could have been told
     /// before.
-    fn tell(&mut self, stamp: &[u8; 16]) -> Result<GameTold, AllocError>
-        ensures told { IfOk result (tells self.old stamp.now) }
+    fn tell(&mut self, stamp: Stamp) -> Result<GameTold, AllocError>
+        ensures told { IfOk result (tells self.old stamp) }
         ensures same { TellsNoMoreGames (tells self.old) (tells self.new) };
 }
 
@@ -120,12 +121,12 @@ pub trait GameTeller {
 /// refused. After `Io` a front of it is, and nothing else; it comes only where the writer failed.
 fn tell_game<T: GameTeller, W: Output>(
     teller: &mut T,
-    stamp: &[u8; 16],
+    stamp: Stamp,
     out: &mut W,
 ) -> Result<Mark, TellFault>
-    ensures told { IfOk result (WritesGame (T.tells teller.old stamp.now) (W.contents out.old) (W.contents out.new)) }
+    ensures told { IfOk result (WritesGame (T.tells teller.old stamp) (W.contents out.old) (W.contents out.new)) }
     ensures memory { IsErrOf result TellFault.OutOfMemory → W.contents out.new ≡ W.contents out.old }
-    ensures front { IsErrOf result TellFault.Io → CutsToldGame (T.tells teller.old stamp.now) (W.contents out.old) (W.contents out.new) }
+    ensures front { IsErrOf result TellFault.Io → CutsToldGame (T.tells teller.old stamp) (W.contents out.old) (W.contents out.new) }
     ensures cause { IsErrOf result TellFault.Io → HasFailed W.facts }
     ensures same { TellsNoMoreGames (T.tells teller.old) (T.tells teller.new) }
 {
@@ -141,7 +142,7 @@ fn tell_game<T: GameTeller, W: Output>(
 /// Tells the games with these stamps in turn, and counts them.
 fn tell_each<T: GameTeller, W: Output>(
     teller: &mut T,
-    stamps: &[[u8; 16]],
+    stamps: &[Stamp],
     out: &mut W,
 ) -> Result<Sums, TellFault>
     ensures told { IfOk result (TellsEach (T.tells teller.old) stamps.now (W.contents out.old) (W.contents out.new)) }
@@ -151,7 +152,7 @@ fn tell_each<T: GameTeller, W: Output>(
 {
     let mut sums = Sums::none();
     for stamp in stamps {
-        match tell_game(teller, stamp, out) {
+        match tell_game(teller, *stamp, out) {
             Ok(mark) => sums = sums.with(mark),
             Err(fault) => return Err(fault),
         }
@@ -219,7 +220,7 @@ pub(crate) fn put_cut<W: Output>(out: &mut W, fault: ReadFault) -> Result<bool, 
 /// more. The error comes only where the writer failed.
 pub(crate) fn tell_games<T: GameTeller, W: Output>(
     teller: &mut T,
-    stamps: &[[u8; 16]],
+    stamps: &[Stamp],
     compares: bool,
     out: &mut W,
 ) -> Result<bool, WriteFault>

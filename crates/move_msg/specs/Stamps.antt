@@ -1,7 +1,11 @@
 -- The stamp of a game (this project's own): the first 16 bytes of a digest of its name, start and tables.
-use Rattle.std.specs.Prelude.{◌≡◌, ◌≤◌, ◌++◌, ◌&&◌, ℕ, Bool, true, List, [], ◌∷◌, zero, suc, length, take, nat_le}
+use Rattle.std.specs.Prelude.{◌≡◌, ◌≤◌, ◌<◌, ◌++◌, ◌&&◌, ℕ, Bool, true, List, [], ◌∷◌, zero, suc, length, take, slice_index, nat_le}
 use Rattle.std.specs.List.{list_all}
 use Rattle.sha2.specs.Sha256.{sha256}
+
+-- a stamp is 16 bytes
+abbrev pub IsStamp : List ℕ → Type 0
+IsStamp stamp = (length stamp ≡ 16) × ((i : ℕ) → slice_index stamp i < 256)
 
 -- from the space to the tilde
 abbrev pub is_printable : ℕ → Bool

@@ -1,9 +1,9 @@
 //! The identifier of one game.
 
-ghost use Rattle.std.specs.Prelude.{◌≡◌, length, IfSome, IfNone};
+ghost use Rattle.std.specs.Prelude.{◌≡◌, IfSome, IfNone};
 ghost use Rattle.sha2.specs.Sha256.{sha256};
 ghost use Rattle.fen_text.specs.Written.{fen_of};
-ghost use Rattle.move_msg.specs.Stamps.{IsGameName, stamp_text, stamp_of};
+ghost use Rattle.move_msg.specs.Stamps.{IsGameName, IsStamp, stamp_text, stamp_of};
 
 use crate::game_name::is_game_name;
 use board_core::Position;
@@ -74,7 +74,7 @@ impl Stamp {
     /// Its 16 bytes.
     pub fn as_bytes(&self) -> &[u8; 16]
         ensures bytes { result.now ≡ self.now }
-        ensures size { length self.now ≡ 16 }
+        ensures is { IsStamp self.now }
     {
         &self.0
     }

@@ -12,7 +12,7 @@ ghost use Rattle.record_audit.specs.Findings.{IsAuditedAs, IsOfRecord, rules_of,
 ghost use Rattle.record_audit.specs.Inside.Auditing.{ArePartedAt, EndsPart, IsFoundBy, IsHeldTo, PartsAfter};
 
 use arbiter_server::verdict_or_none;
-use board_core::{Move, Position, Verdict};
+use board_core::{Delay, Move, Position, Verdict};
 use judge_core::{GameOutcome, Set};
 use move_msg::{Record, RecordFault, Stamp};
 use std::alloc::{AllocError, Global};
@@ -99,7 +99,7 @@ pub struct Auditor<'a> {
     /// Its start.
     pub start: Position,
     /// For how many further plies a verdict by tables must hold.
-    pub delay: u8,
+    pub delay: Delay,
     /// Its tables.
     pub set: Set<'a>,
 }
@@ -138,12 +138,11 @@ fn judge_record(
     auditor: &mut Auditor<'_>,
     kept: &Record,
 ) -> Result<Finding, AllocError>
-    requires { auditor.old.delay ≤ most_delay }
     ensures found { IfOk result (λ finding. (bytes : List ℕ) → SpellsRecord bytes kept.now → IsFound (rules_of auditor.old) auditor.old.stamp bytes finding) }
     ensures memory { OnErr result (IsOfGame (rules_of auditor.old) auditor.old.stamp kept.now × ListsMovesInGame (rules_of auditor.old) kept.now.moves) }
     ensures same { auditor.new ≡ auditor.old }
 {
-    if kept.stamp != auditor.stamp || kept.delay != auditor.delay {
+    if kept.stamp != auditor.stamp || kept.delay != auditor.delay.plies() {
         return Ok(Finding::OtherStamp);
     }
     judge_moves(alloc, &mut auditor.set, &auditor.start, kept)
@@ -151,7 +150,6 @@ fn judge_record(
 
 /// The finding on a file's bytes, and their record. The error comes only where an opening over these bytes may want memory.
 pub fn audit(alloc: Global, auditor: &mut Auditor<'_>, bytes: &[u8]) -> Result<Audited, AllocError>
-    requires { auditor.old.delay ≤ most_delay }
     ensures found { IfOk result (λ a. IsFound (rules_of auditor.old) auditor.old.stamp bytes.now a.finding) }
     ensures spelled { IfOk result (λ a. IfSome a.kept (SpellsRecord bytes.now)) }
     ensures none { IfOk result (λ a. IfNone a.kept ((r : Records) → SpellsRecord bytes.now r → ⊥)) }

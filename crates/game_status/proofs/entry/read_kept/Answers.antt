@@ -8,12 +8,12 @@ use Rattle.game_status.proofs.entry.read_kept.Goals as goal
 pub returns-then-not-contains-clause-ok : goal.returns-then-not-contains-clause-ok
 returns-then-not-contains-clause-ok g c =
     let no : c.contains.result ≡ false = search rules in
-    is_unlisted c.args.folder.now.kept c.args.stamp.0 c.contains.result c.contains.ensures no
+    is_unlisted c.args.folder.now.kept c.args.stamp c.contains.result c.contains.ensures no
 
 pub returns-in-Ok-look_within-clause-ok : goal.returns-in-Ok-look_within-clause-ok
 returns-in-Ok-look_within-clause-ok g c =
     let yes : c.contains.result ≡ true = search rules in (
-      is_listed c.args.folder.now.kept c.args.stamp.0 c.contains.result c.contains.ensures yes,
+      is_listed c.args.folder.now.kept c.args.stamp c.contains.result c.contains.ensures yes,
       subst (λ (p : List ℕ). (g.D.Disk.facts c.args.disk.now).holds p c.in-Ok-look_within.bytes.items) (c.as_str.ensures.value ∙ c.in-Ok.ensures) c.in-Ok-look_within.ensures.bytes,
     )
 
@@ -22,6 +22,6 @@ returns-clause-cause g c = λ is.
     let facts = g.D.Disk.facts c.args.disk.now in
     let fault : c.in-Err.fault ≡ Unreadable = cc in
     let yes : c.contains.result ≡ true = search rules in (
-      is_listed c.args.folder.now.kept c.args.stamp.0 c.contains.result c.contains.ensures yes,
+      is_listed c.args.folder.now.kept c.args.stamp c.contains.result c.contains.ensures yes,
       subst (λ (p : List ℕ). facts.fails (AtFile p) ⊎ HasMore facts p most_kept) (c.as_str.ensures.value ∙ c.in-Ok.ensures) (c.in-Err.ensures.cause (ap Err fault)),
     )
