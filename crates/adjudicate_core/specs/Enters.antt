@@ -129,12 +129,12 @@ EntersNoGame p line fault = (g : GameContents) × SpellsEntry line g × IsUnente
 
 -- what comes of a line: its game is entered under this stamp; or the line is at fault, or the game's file
 abbrev pub ComesOf : {P F : Type 0} → Place P F → List ℕ → Result Stamp EntryFault → Type 0
-ComesOf p line (Ok stamp) = (g : GameContents) × SpellsEntry line g × IsEntered p g stamp.0
+ComesOf p line (Ok stamp) = (g : GameContents) × SpellsEntry line g × IsEntered p g stamp
 ComesOf p line (Err fault) = IsFirstEntryFault line fault ⊎ ((fault ≡ entry.Keeper) × EntersNoGame p line keep.Keeper)
 
 -- what is told of the line with this number, and whether its game is entered
 abbrev pub told_entry : ℕ → Result Stamp EntryFault → LineTold
-told_entry number (Ok stamp) = record { words = encode_lower stamp.0; done = true }
+told_entry number (Ok stamp) = record { words = encode_lower stamp; done = true }
 told_entry number (Err fault) = record { words = refused_entry number fault; done = false }
 
 abbrev pub EntersLine : {P F : Type 0} → Place P F → ℕ → List ℕ → LineTold → Type 0

@@ -51,7 +51,7 @@ pub record IsStamped (disk : DiskFacts) (t : Send) (g : ToldGame) (stamp : Stamp
   pub position : IsPosition start
   pub manifest : List ℕ
   pub found : IsNamedManifest disk (option_map (λ s. s.now) t.manifest) g.tables.now manifest
-  pub is : stamp.0 ≡ stamp_of g.name (fen_of start) manifest t.delay
+  pub is : stamp ≡ stamp_of g.name (fen_of start) manifest t.delay
 
 -- its file tells its start, and the file's name its stamp; whether that is the stamp of the game that is told there no one can say
 -- without the manifest of its tables

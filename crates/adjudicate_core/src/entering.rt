@@ -17,17 +17,15 @@ ghost use Rattle.line_teller.specs.ToldLines.{HasFailed};
 use crate::answers::status_if;
 use crate::commands::{Enter, Entries, OneGame};
 use crate::entries::{EntryFault, first_line, read_entry};
-use crate::game_name::GameName;
 use crate::lines::put_refusal;
 use crate::manifests::manifest_for;
-use crate::numbers::Delay;
 use crate::refusals::Refusal;
 use crate::system::System;
 use arbiter_server::{game_path, write_game};
-use board_core::Position;
+use board_core::{Delay, Position};
 use fen_text::read;
 use line_teller::LineWords;
-use move_msg::Stamp;
+use move_msg::{GameName, Stamp};
 use std::alloc::{AllocError, Global};
 use system_io::{Disk, Host, Input, KeptFile, Output, ReadFault, WriteFault, begin, replace};
 
@@ -137,15 +135,15 @@ fn enter_game<H: Host>(
     start: &Position,
     delay: Delay,
 ) -> Result<Stamp, KeepFault>
-    ensures ok { IfOk result (λ stamp. IsEntered (entering H.facts H.Port.facts H.File.facts place.now) (game_as_told name.now start.now delay) stamp.0) }
+    ensures ok { IfOk result (λ stamp. IsEntered (entering H.facts H.Port.facts H.File.facts place.now) (game_as_told name.now start.now delay) stamp) }
     ensures err { IfErr result (IsUnentered (entering H.facts H.Port.facts H.File.facts place.now) (game_as_told name.now start.now delay)) }
     ensures made { MakesOnce (H.made history.old) (H.made history.new) (file_of_game (entering H.facts H.Port.facts H.File.facts place.now) (game_as_told name.now start.now delay)) }
 {
-    let stamp = name.stamp(start, place.manifest, delay.plies());
+    let stamp = name.stamp(start, place.manifest, delay);
     let Ok(path) = game_path(alloc, place.games, stamp) else {
         return Err(KeepFault::OutOfMemory);
     };
-    let text = write_game(name.as_bytes(), start, delay.plies());
+    let text = write_game(name, start, delay);
     match keep_at(alloc, place.host, history, path.as_str(), text.as_slice()) {
         Ok(()) => Ok(stamp),
         Err(fault) => Err(fault),
@@ -155,11 +153,11 @@ fn enter_game<H: Host>(
 /// Writes a stamp in hexadecimal digits, in a line of its own, and tells the status 0. Where the writer fails, a front of the line is
 /// written.
 fn put_stamp<W: Output>(out: &mut W, stamp: Stamp) -> Result<u8, WriteFault>
-    ensures told { TellsStamp stamp.0 (W.contents out.old) (W.contents out.new) result }
+    ensures told { TellsStamp stamp (W.contents out.old) (W.contents out.new) result }
     ensures cause { OnErr result (HasFailed W.facts) }
 {
     let mut line = LineWords::new();
-    line.add_stamp(&stamp.0);
+    line.add_stamp(stamp);
     match line.put(out) {
         Ok(()) => Ok(0),
         Err(fault) => Err(fault),

@@ -6,10 +6,10 @@ ghost use Rattle.move_msg.specs.TextLines.{lines_in};
 ghost use Rattle.arbiter_server.specs.GameFiles.{game_as_told};
 ghost use Rattle.adjudicate_core.specs.Entries.{HasThreeFields, IsFirstEntryFault, SpellsEntry};
 
-use crate::game_name::GameName;
-use crate::numbers::Delay;
-use board_core::Position;
+use arbiter_server::delay_of_digit;
+use board_core::{Delay, Position};
 use fen_text::{FenFault, cut_first, read};
+use move_msg::GameName;
 
 /// Why the game of a line isn't entered.
 #[derive(Clone, Copy)]
@@ -90,7 +90,7 @@ pub(crate) fn read_entry(line: &[u8]) -> Result<LineGame<'_>, EntryFault>
         Ok(start) => start,
         Err(fault) => return Err(EntryFault::Start(fault)),
     };
-    let Some(delay) = Delay::of_digit(fields.delay) else {
+    let Some(delay) = delay_of_digit(fields.delay) else {
         return Err(EntryFault::Delay);
     };
     Ok(LineGame { name, start, delay })

@@ -18,7 +18,7 @@ fn is_folder_front(front: &[u8]) -> bool
 
 /// The stamp of a path without its ending, whose last name is 32 digits.
 fn stamp_behind(path: &[u8]) -> Option<Stamp>
-    ensures some { IfSome result (λ stamp. NamesGame (path.now ++ codes ".game") stamp.0) }
+    ensures some { IfSome result (λ stamp. NamesGame (path.now ++ codes ".game") stamp) }
     ensures none { IfNone result ((stamp : List ℕ) → NamesGame (path.now ++ codes ".game") stamp → ⊥) }
 {
     if path.len() < 32 {
@@ -26,10 +26,7 @@ fn stamp_behind(path: &[u8]) -> Option<Stamp>
     }
     let (front, digits) = path.split_at(path.len() - 32);
     if is_folder_front(front) {
-        match stamp_of(digits) {
-            Some(bytes) => Some(Stamp(bytes)),
-            None => None,
-        }
+        stamp_of(digits)
     } else {
         None
     }
@@ -39,7 +36,7 @@ fn stamp_behind(path: &[u8]) -> Option<Stamp>
 ///
 /// Whether the game that stands there has this stamp can't be told without the manifest of its tables.
 pub(crate) fn stamp_in(path: &str) -> Option<Stamp>
-    ensures some { IfSome result (λ stamp. NamesGame path.now stamp.0) }
+    ensures some { IfSome result (λ stamp. NamesGame path.now stamp) }
     ensures none { IfNone result ((stamp : List ℕ) → NamesGame path.now stamp → ⊥) }
 {
     let bytes = path.as_bytes();

@@ -7,7 +7,7 @@
 //! Each command is a file in `commands/`, with its definitions in the file of the same name in `specs/Commands/`. `values`,
 //! `numbers`, `usage`, `uses`, `addresses` read words, `entries` the lines of a list; `tables` and `manifests` make sets of files;
 //! `answers`, `line_answers`, `lines`, `refusals` write, each line laid out by `LineWords` of `line_teller` (its parts in
-//! `line_parts`), which doesn't fail, and written at once; `listening`, `hosting`, `entering`, `sending`, `binding`, `game_name` run
+//! `line_parts`), which doesn't fail, and written at once; `listening`, `hosting`, `entering`, `sending`, `binding` run
 //! the commands that touch ports and files.
 //!
 //! Definitions, in reading order: `Rules`, `Tasks`, `Misuses`, `Uses` for words; `Looks`, `Lines`, `Reply`, `Commands`,
@@ -56,7 +56,7 @@
 //!   move is awaited is in the contract of that function alone.
 //! - CLAIM: `run`, clause `runs`: `status` tells the games of its folders as `game_status::tell_status` has it; the status is 0 only
 //!   where all are told, nothing is at fault and nothing differs.
-//! - CLAIM: `CacheSize::of`, clauses `some`, `none`; `Delay::of`, clauses `some`, `none`: the numbers of `--cache` and `--delay`
+//! - CLAIM: `CacheSize::of`, clauses `some`, `none`; `numbers::delay_of`, clauses `some`, `none`: the numbers of `--cache` and `--delay`
 //!   are read exactly where they are decimal digits, perhaps after a plus, in their range.
 #![tactic(auto)]
 
@@ -66,7 +66,6 @@ mod binding;
 mod commands;
 mod entering;
 mod entries;
-mod game_name;
 mod game_paths;
 mod hosting;
 mod json_answers;
@@ -95,8 +94,7 @@ pub use commands::{
     HostGames, Judge, List, Listen, Moves, Name, OneGame, Probe, Probes, Root, RunSchedule, Send,
     SentGame, Show, ShowRecord, ShowStatus, Task, ToldGame, Value, Version, parse,
 };
-pub use game_name::GameName;
-pub use numbers::{CacheSize, Delay, StoreForm};
+pub use numbers::{CacheSize, StoreForm};
 pub use program::{refuse_memory, run, run_program};
 pub use system::System;
 pub use usage::{Instead, Misuse, Usage, ValueFault, Wanted, WordsFault};

@@ -3,10 +3,10 @@
 ghost use Rattle.std.specs.Prelude.{◌≡◌, ◌≤◌, ℕ, option_map, IfSome, IfNone, Some};
 ghost use Rattle.move_msg.specs.declared.who.Who.{Who};
 ghost use Rattle.arbiter_server.specs.declared.line_log.LogForm.{LogForm};
-ghost use Rattle.board_core.specs.Delays.{most_delay};
-ghost use Rattle.adjudicate_core.specs.Numbers.{IsAtOnce, IsCache, IsDatagrams, IsDelay, IsDelayDigit, IsHundredOr, IsLog, IsMe, IsStore, is_set};
+ghost use Rattle.adjudicate_core.specs.Numbers.{IsAtOnce, IsCache, IsDatagrams, IsDelay, IsHundredOr, IsLog, IsMe, IsStore, is_set};
 
 use arbiter_server::LogForm;
+use board_core::Delay;
 use move_msg::Who;
 use std::marker::Model;
 use std::num::NonZeroUsize;
@@ -65,64 +65,18 @@ impl CacheSize {
     }
 }
 
-/// For how many further plies a verdict by tables must hold, 0 to 8; contracts see the number.
-#[derive(Clone, Copy)]
-pub struct Delay {
-    plies: u8,
-}
-
-impl Model for Delay {
-    ghost use Rattle.std.specs.Prelude.{ℕ, ◌≤◌};
-    ghost use Rattle.board_core.specs.Delays.{most_delay};
-
-    ghost Value = { ℕ };
-
-    ghost view = { λ d. d.plies };
-
-    ghost invariant = { λ d. d.plies ≤ most_delay };
-
-    ghost inverse = { λ n. record { plies = n } };
-}
-
-impl Delay {
-    /// The number of plies in a text, and 0 where there is no text; none above 8.
-    pub fn of(text: Option<&str>) -> Option<Delay>
-        ensures some { IfSome result (IsDelay (option_map (λ s. s.now) text.entry)) }
-        ensures none { IfNone result ((n : ℕ) → IsDelay (option_map (λ s. s.now) text.entry) n → ⊥) }
-    {
-        let Some(text) = text else {
-            return Some(Delay { plies: 0 });
-        };
-        match text.parse::<u8>() {
-            Ok(plies) if plies <= 8 => Some(Delay { plies }),
-            _ => None,
-        }
-    }
-
-    /// The number of plies that a digit tells; none where the text is no digit from 0 to 8.
-    pub(crate) fn of_digit(text: &[u8]) -> Option<Delay>
-        ensures some { IfSome result (IsDelayDigit text.now) }
-        ensures none { IfNone result ((n : ℕ) → IsDelayDigit text.now n → ⊥) }
-    {
-        if text.len() != 1 {
-            return None;
-        }
-        let digit = text[0];
-        if b'0' <= digit && digit <= b'8' {
-            Some(Delay {
-                plies: digit - b'0',
-            })
-        } else {
-            None
-        }
-    }
-
-    /// The number of plies.
-    pub fn plies(self) -> u8
-        ensures value { result ≡ self }
-        ensures most { result ≤ most_delay }
-    {
-        self.plies
+/// For how many further plies a verdict by tables must hold, by a text, and for none where there is no text; none where the text is no
+/// number up to 8.
+pub fn delay_of(text: Option<&str>) -> Option<Delay>
+    ensures some { IfSome result (IsDelay (option_map (λ s. s.now) text.entry)) }
+    ensures none { IfNone result ((n : ℕ) → IsDelay (option_map (λ s. s.now) text.entry) n → ⊥) }
+{
+    let Some(text) = text else {
+        return Some(Delay::none());
+    };
+    match text.parse::<u8>() {
+        Ok(plies) => Delay::new(plies),
+        Err(_) => None,
     }
 }
 

@@ -49,7 +49,7 @@ fn stamped_by<D: Disk>(
 {
     match manifest_for(alloc, disk, task.manifest, told.tables) {
         Ok(manifest) => Ok(Stamped {
-            stamp: told.name.stamp(&start, &manifest, task.delay.plies()),
+            stamp: told.name.stamp(&start, &manifest, task.delay),
             start,
         }),
         Err(refusal) => Err(refusal),

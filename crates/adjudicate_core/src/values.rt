@@ -8,14 +8,14 @@ ghost use Rattle.adjudicate_core.specs.Misuses.{AreGameWords, AreWell, IsFirstMi
 ghost use Rattle.adjudicate_core.specs.Numbers.{IsAtOnce, IsCache, IsDatagrams, IsDelay, IsHundredOr, IsLog, IsMe, IsStore};
 
 use crate::addresses::{are_addresses, are_recipients, is_address};
-use crate::game_name::GameName;
 use crate::numbers::{
-    CacheSize, Delay, StoreForm, at_once_of, datagrams_of, hundred_or, log_of, me_of, store_of,
+    CacheSize, StoreForm, at_once_of, datagrams_of, delay_of, hundred_or, log_of, me_of, store_of,
 };
 use crate::usage::{Instead, ValueFault, Wanted};
 use arbiter_server::LogForm;
+use board_core::Delay;
 use clap::ArgMatches;
-use move_msg::Who;
+use move_msg::{GameName, Who};
 use std::num::NonZeroUsize;
 
 /// The value of an option that has to be there.
@@ -174,7 +174,7 @@ pub(crate) fn delay_in<'a>(matches: &ArgMatches<'a>) -> Result<Delay, ValueFault
     ensures err { IfErr result (λ fault. IsToldMisuse (first_value (found_of matches.now)) (Unfit Wanted.Delay) (fault_words fault)) }
 {
     let text = matches.get_str("delay");
-    match Delay::of(text) {
+    match delay_of(text) {
         Some(delay) => Ok(delay),
         None => Err(ValueFault::Unfit(Wanted::Delay, text.unwrap_or(""))),
     }

@@ -261,7 +261,7 @@ module _ (grow : PutsGrow) {F : Type 0} (facts : F → KeptFacts) (game : Judged
 
   -- ---- acts
 
-  act_back : (old : Held F) (act : Act (FileKeeper F)) (new : Held F) (later : Option (List ℕ)) → Holds facts old → is_stamp game.stamp.0 (game_of act) ≡ true → ActsAt facts game who log old act new → IsFoundIn facts new later
+  act_back : (old : Held F) (act : Act (FileKeeper F)) (new : Held F) (later : Option (List ℕ)) → Holds facts old → is_stamp game.stamp (game_of act) ≡ true → ActsAt facts game who log old act new → IsFoundIn facts new later
       → (found : Option (List ℕ)) × IsFoundIn facts old found × ((net : Net) → site_of net who ≡ site_at old found → net.log ≡ log → GivesOwn (keeper_over facts) game net who act (changed net who (site_at new later) (sent_by_act act)))
   act_back old (Unread datagram fault) new later safe own h found = (later, found_before old new later h found, λ net at same. same_back old new later net h at)
   act_back old (Strange stamp datagram tried why) new later safe own h found = (later, found_before old new later h found, λ net at same. same_back old new later net h at)
@@ -330,17 +330,17 @@ module _ (grow : PutsGrow) {F : Type 0} (facts : F → KeptFacts) (game : Judged
   -- ---- a deed
 
   deed_back : (old : Held F) (deed : Deed (FileKeeper F)) (new : Held F) (later : Option (List ℕ)) → Holds facts old → DoesAt facts game who log old deed new → IsFoundIn facts new later → Back facts game who log old deed new later
-  deed_back old (Does act) new later safe h found = by (is_stamp game.stamp.0 (game_of act)) refl h
+  deed_back old (Does act) new later safe h found = by (is_stamp game.stamp (game_of act)) refl h
     where
-      own : (b : Bool) → is_stamp game.stamp.0 (game_of act) ≡ b → (net : Net) (next : Net) → GivesIf b (keeper_over facts) game net who act next → GivesFor (keeper_over facts) game net who (Does act) next
+      own : (b : Bool) → is_stamp game.stamp (game_of act) ≡ b → (net : Net) (next : Net) → GivesIf b (keeper_over facts) game net who act next → GivesFor (keeper_over facts) game net who (Does act) next
       own b is net next g = subst (λ (x : Bool). GivesIf x (keeper_over facts) game net who act next) (sym is) g
 
-      to : (b : Bool) → is_stamp game.stamp.0 (game_of act) ≡ b → (net : Net) → GivesIf b (keeper_over facts) game net who act (changed net who (site_at new later) (cond b (sent_by_act act) [])) → GivesFor (keeper_over facts) game net who (Does act) (changed net who (site_at new later) (sent_for game (Does act)))
+      to : (b : Bool) → is_stamp game.stamp (game_of act) ≡ b → (net : Net) → GivesIf b (keeper_over facts) game net who act (changed net who (site_at new later) (cond b (sent_by_act act) [])) → GivesFor (keeper_over facts) game net who (Does act) (changed net who (site_at new later) (sent_for game (Does act)))
       to b is net g =
           own b is net (changed net who (site_at new later) (sent_for game (Does act)))
           (subst (λ (x : Bool). GivesIf b (keeper_over facts) game net who act (changed net who (site_at new later) (cond x (sent_by_act act) []))) (sym is) g)
 
-      by : (b : Bool) → is_stamp game.stamp.0 (game_of act) ≡ b → ActsIf b facts game who log old act new → Back facts game who log old (Does act) new later
+      by : (b : Bool) → is_stamp game.stamp (game_of act) ≡ b → ActsIf b facts game who log old act new → Back facts game who log old (Does act) new later
       by true is h =
           let x = act_back old act new later safe is h found in
           record { found = x.0; is_found = x.1; gives = λ net at l. to true is net (x.2 net at l) }
@@ -374,7 +374,7 @@ module _ (grow : PutsGrow) {F : Type 0} (facts : F → KeptFacts) (game : Judged
   act_holds (Plays now) (Closes stamp left) new safe h = subst (Holds facts) (sym h.1) tt
 
   deed_holds : (old : Held F) (deed : Deed (FileKeeper F)) (new : Held F) → Holds facts old → DoesAt facts game who log old deed new → Holds facts new
-  deed_holds old (Does act) new safe h = by (is_stamp game.stamp.0 (game_of act)) h
+  deed_holds old (Does act) new safe h = by (is_stamp game.stamp (game_of act)) h
     where
       by : (b : Bool) → ActsIf b facts game who log old act new → Holds facts new
       by true h = act_holds old act new safe h

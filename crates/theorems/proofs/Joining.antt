@@ -54,10 +54,10 @@ goes_front s t stamp (a ∷ early) late old new g = let front = goes_front s t s
 
 pub fronts_are_runs : {K : Type 0} (s : Keepers K) → FrontsAreRuns s
 fronts_are_runs {K = K} s game who common acts rest of hosted =
-    let split : acts_of game.stamp.0 (acts ++ rest) ≡ acts_of game.stamp.0 acts ++ acts_of game.stamp.0 rest = filter-append (λ (a : Act K). is_stamp game.stamp.0 (game_of a)) acts rest in
-    let all : Goes s common game.stamp.0 Fresh (acts_of game.stamp.0 acts ++ acts_of game.stamp.0 rest) (hosted.games game.stamp.0) =
-    subst (λ (run : List (Act K)). Goes s common game.stamp.0 Fresh run (hosted.games game.stamp.0)) split (hosted.each game.stamp.0) in
-    let front = goes_front s common game.stamp.0 (acts_of game.stamp.0 acts) (acts_of game.stamp.0 rest) Fresh (hosted.games game.stamp.0) all in
+    let split : acts_of game.stamp (acts ++ rest) ≡ acts_of game.stamp acts ++ acts_of game.stamp rest = filter-append (λ (a : Act K). is_stamp game.stamp (game_of a)) acts rest in
+    let all : Goes s common game.stamp Fresh (acts_of game.stamp acts ++ acts_of game.stamp rest) (hosted.games game.stamp) =
+    subst (λ (run : List (Act K)). Goes s common game.stamp Fresh run (hosted.games game.stamp)) split (hosted.each game.stamp) in
+    let front = goes_front s common game.stamp (acts_of game.stamp acts) (acts_of game.stamp rest) Fresh (hosted.games game.stamp) all in
     record { common = common; of = of; life = front.0; goes = front.1 }
 
 -- ---- the runs of one host
@@ -67,7 +67,7 @@ module _ {K : Type 0} (s : Keepers K) (game : Judged) (who : Who) where
   record RunGoes (old : Life K) (run : List (Act K)) (new : Life K) : Type 0 where
     common : CommonView
     of : IsHostOf game who common
-    goes : Goes s common game.stamp.0 old (acts_of game.stamp.0 run) new
+    goes : Goes s common game.stamp old (acts_of game.stamp run) new
 
   -- each later run begins with no game open
   abbrev RunsGo : Life K → List (Act K) → List (List (Act K)) → Life K → Type 0
@@ -94,13 +94,13 @@ module _ {K : Type 0} (s : Keepers K) (game : Judged) (who : Who) where
     abbrev GoesTo : Life K → Type 0
     GoesTo life = Moves s.facts game old who life new
 
-    first_act : (life end : Life K) (a : Act K) (run : List (Act K)) → IsSiteOfLife s.facts life (site_of old who) → GivesIf (is_stamp game.stamp.0 (game_of a)) s.facts game old who a new → RunGoes life (a ∷ run) end
+    first_act : (life end : Life K) (a : Act K) (run : List (Act K)) → IsSiteOfLife s.facts life (site_of old who) → GivesIf (is_stamp game.stamp (game_of a)) s.facts game old who a new → RunGoes life (a ∷ run) end
         → (mid : Life K) × GoesTo mid × RunGoes mid run end
     first_act life end a run here g r =
-        let x = act_goes s r.common game who r.of old new (is_stamp game.stamp.0 (game_of a)) life end a (acts_of game.stamp.0 run) here g r.goes in
+        let x = act_goes s r.common game who r.of old new (is_stamp game.stamp (game_of a)) life end a (acts_of game.stamp run) here g r.goes in
         (x.0, x.1, record { common = r.common; of = r.of; goes = x.2 })
 
-    does : (life end : Life K) (a : Act K) (run : List (Act K)) (later : List (List (Act K))) → IsSiteOfLife s.facts life (site_of old who) → GivesIf (is_stamp game.stamp.0 (game_of a)) s.facts game old who a new → RunsGo life (a ∷ run) later end
+    does : (life end : Life K) (a : Act K) (run : List (Act K)) (later : List (List (Act K))) → IsSiteOfLife s.facts life (site_of old who) → GivesIf (is_stamp game.stamp (game_of a)) s.facts game old who a new → RunsGo life (a ∷ run) later end
         → (mid : Life K) × GoesTo mid × RunsGo mid run later end
     does life end a run [] here g r = first_act life end a run here g r
     does life end a run (next ∷ later) here g r =
@@ -149,7 +149,7 @@ module _ {K L : Type 0} (a : Keepers K) (b : Keepers L) (game : Judged) (end_a :
 
 -- the last run has led to one life
 stands : {K : Type 0} (s : Keepers K) (game : Judged) (who : Who) (deeds : List (Deed K)) (site : Site) (end : Life K) → RunGoes s game who Fresh (last_run deeds) end → IsSiteOfLife s.facts end site → StandsAt s game deeds site
-stands s game who deeds site end r at common life led = subst (λ l. IsSiteOfLife s.facts l site) (one_end s game.stamp.0 Fresh (acts_of game.stamp.0 (last_run deeds)) end life r.common common r.goes led) at
+stands s game who deeds site end r at common life led = subst (λ l. IsSiteOfLife s.facts l site) (one_end s game.stamp Fresh (acts_of game.stamp (last_run deeds)) end life r.common common r.goes led) at
 
 -- steps of the net lead there, and each site is where its host has led
 record HaveCome {K L : Type 0} (a : Keepers K) (b : Keepers L) (game : Judged) (steps : List (Step K L)) (net : Net) : Type 0 where

@@ -124,9 +124,9 @@ module _ {F : Type 0} (facts : F → KeptFacts) (setup : SetupView) (stamp : Lis
   abbrev GoesOwn : Life (FileKeeper F) → List (Act (FileKeeper F)) → Life (FileKeeper F) → Type 0
   GoesOwn old acts new = Goes (one_game facts setup stamp) (common_of setup) stamp old (acts_of stamp acts) new
 
-  module _ (at : Moment (FileKeeper F)) (e : Exchange (FileKeeper F)) (d : Delivers (keeper_over facts) at e) (up : at.arbiter.is_down ≡ false) (mine : at.arbiter.me.stamp.0 ≡ stamp) where
+  module _ (at : Moment (FileKeeper F)) (e : Exchange (FileKeeper F)) (d : Delivers (keeper_over facts) at e) (up : at.arbiter.is_down ≡ false) (mine : at.arbiter.me.stamp ≡ stamp) where
     -- another game's message is a stranger's
-    strange_so : (m : Message) → bytes_eq (stamp_in m).0 stamp ≡ false → in_game at.arbiter.me.stamp (Ok m) ≡ Err deliver.Stranger
+    strange_so : (m : Message) → bytes_eq (stamp_in m) stamp ≡ false → in_game at.arbiter.me.stamp (Ok m) ≡ Err deliver.Stranger
     strange_so m other = rw (mine, other) refl
 
     stays_open : e.after ≡ at → life_at e.after ≡ Open at
@@ -139,7 +139,7 @@ module _ {F : Type 0} (facts : F → KeptFacts) (setup : SetupView) (stamp : Lis
         answers : (b : Bool) → bytes_eq stamp stamp ≡ b → b ≡ true → GoesOwn (Open at) (Answers stamp e ∷ []) (life_at e.after)
         answers b is holds = rw (is ∙ holds) (life_at e.after, (d, refl), refl)
 
-        by_stamp : (m : Message) → heard_in e.datagram ≡ Ok m → (b : Bool) → bytes_eq (stamp_in m).0 stamp ≡ b → GoesOwn (Open at) (cond b (Answers stamp e) (Strange (stamp_in m).0 e.datagram false (why_none e.datagram)) ∷ []) (life_at e.after)
+        by_stamp : (m : Message) → heard_in e.datagram ≡ Ok m → (b : Bool) → bytes_eq (stamp_in m) stamp ≡ b → GoesOwn (Open at) (cond b (Answers stamp e) (Strange (stamp_in m) e.datagram false (why_none e.datagram)) ∷ []) (life_at e.after)
         by_stamp m is true same = answers true (own_bytes stamp) refl
         by_stamp m is false other =
             let r = refused (keeper_over facts) at e d up deliver.Stranger (ap (in_game at.arbiter.me.stamp) is ∙ strange_so m other) in
@@ -147,7 +147,7 @@ module _ {F : Type 0} (facts : F → KeptFacts) (setup : SetupView) (stamp : Lis
 
         by : (h : Result Message MessageFault) → heard_in e.datagram ≡ h → GoesOwn (Open at) (act_by stamp e h ∷ []) (life_at e.after)
         by (Err fault) is = stays_open (refused (keeper_over facts) at e d up (deliver.NotAMessage fault) (ap (in_game at.arbiter.me.stamp) is)).1
-        by (Ok m) is = by_stamp m is (bytes_eq (stamp_in m).0 stamp) refl
+        by (Ok m) is = by_stamp m is (bytes_eq (stamp_in m) stamp) refl
 
   -- ---- the other games
 
@@ -165,17 +165,17 @@ module _ {F : Type 0} (facts : F → KeptFacts) (setup : SetupView) (stamp : Lis
         why true = IsRefused (not_own, refl)
         why false = (refl, refl)
 
-        strange : (m : Message) (b : Bool) → bytes_eq (stamp_in m).0 of ≡ b → GoesOther Fresh (Strange (stamp_in m).0 e.datagram false (why_none e.datagram) ∷ []) Fresh
+        strange : (m : Message) (b : Bool) → bytes_eq (stamp_in m) of ≡ b → GoesOther Fresh (Strange (stamp_in m) e.datagram false (why_none e.datagram) ∷ []) Fresh
         strange m true is = rw is (Fresh, (tt, why (opens_for e.datagram), refl), refl)
         strange m false is = rw is refl
 
-        by_stamp : (m : Message) (b : Bool) → GoesOther Fresh (cond b (Answers stamp e) (Strange (stamp_in m).0 e.datagram false (why_none e.datagram)) ∷ []) Fresh
+        by_stamp : (m : Message) (b : Bool) → GoesOther Fresh (cond b (Answers stamp e) (Strange (stamp_in m) e.datagram false (why_none e.datagram)) ∷ []) Fresh
         by_stamp m true = rw apart refl
-        by_stamp m false = strange m (bytes_eq (stamp_in m).0 of) refl
+        by_stamp m false = strange m (bytes_eq (stamp_in m) of) refl
 
         by : (h : Result Message MessageFault) → GoesOther Fresh (act_by stamp e h ∷ []) Fresh
         by (Err fault) = refl
-        by (Ok m) = by_stamp m (bytes_eq (stamp_in m).0 stamp)
+        by (Ok m) = by_stamp m (bytes_eq (stamp_in m) stamp)
 
     other_all : (es : List (Exchange (FileKeeper F))) → GoesOther Fresh (map (act_of stamp) es) Fresh
     other_all [] = refl
@@ -204,28 +204,28 @@ module _ {K : Type 0} (stamp : List ℕ) (e : Exchange K) where
   sorted_step : IsSorted (act_of stamp e)
   sorted_step = by (heard_in e.datagram) refl
     where
-      by_stamp : (m : Message) → heard_in e.datagram ≡ Ok m → (b : Bool) → bytes_eq (stamp_in m).0 stamp ≡ b → IsSorted {K = K} (cond b (Answers stamp e) (Strange (stamp_in m).0 e.datagram false (why_none e.datagram)))
-      by_stamp m is true same = ap stamp_by is ∙ ap (λ (x : List ℕ). Some x) (same_bytes (stamp_in m).0 stamp same)
+      by_stamp : (m : Message) → heard_in e.datagram ≡ Ok m → (b : Bool) → bytes_eq (stamp_in m) stamp ≡ b → IsSorted {K = K} (cond b (Answers stamp e) (Strange (stamp_in m) e.datagram false (why_none e.datagram)))
+      by_stamp m is true same = ap stamp_by is ∙ ap (λ (x : List ℕ). Some x) (same_bytes (stamp_in m) stamp same)
       by_stamp m is false other = ap stamp_by is
 
       by : (h : Result Message MessageFault) → heard_in e.datagram ≡ h → IsSorted (act_by stamp e h)
       by (Err fault) is = is
-      by (Ok m) is = by_stamp m is (bytes_eq (stamp_in m).0 stamp) refl
+      by (Ok m) is = by_stamp m is (bytes_eq (stamp_in m) stamp) refl
 
-  module _ (facts : KeeperFacts K) (at : Moment K) (d : Delivers facts at e) (up : at.arbiter.is_down ≡ false) (mine : at.arbiter.me.stamp.0 ≡ stamp) (addresses : ℕ) where
+  module _ (facts : KeeperFacts K) (at : Moment K) (d : Delivers facts at e) (up : at.arbiter.is_down ≡ false) (mine : at.arbiter.me.stamp ≡ stamp) (addresses : ℕ) where
     nothing_more : (fault : DeliverFault) → e.told ≡ Err fault → Came e.datagram ∷ [] ≡ passing_of addresses e
     nothing_more fault is = ap (λ (told : Told). Came e.datagram ∷ flat_map (handed addresses) (outputs_of told)) (sym is)
 
     passed_step : flat_map (passing_at addresses) (replies_of (act_of stamp e)) ≡ passing_of addresses e
     passed_step = by (heard_in e.datagram) refl
       where
-        by_stamp : (m : Message) → heard_in e.datagram ≡ Ok m → (b : Bool) → bytes_eq (stamp_in m).0 stamp ≡ b → flat_map (passing_at addresses) (replies_of {K = K} (cond b (Answers stamp e) (Strange (stamp_in m).0 e.datagram false (why_none e.datagram)))) ≡ passing_of addresses e
+        by_stamp : (m : Message) → heard_in e.datagram ≡ Ok m → (b : Bool) → bytes_eq (stamp_in m) stamp ≡ b → flat_map (passing_at addresses) (replies_of {K = K} (cond b (Answers stamp e) (Strange (stamp_in m) e.datagram false (why_none e.datagram)))) ≡ passing_of addresses e
         by_stamp m is true same = append-nil (passing_of addresses e)
         by_stamp m is false other = nothing_more deliver.Stranger (refused facts at e d up deliver.Stranger (ap (in_game at.arbiter.me.stamp) is ∙ rw (mine, other) refl)).0
 
         by : (h : Result Message MessageFault) → heard_in e.datagram ≡ h → flat_map (passing_at addresses) (replies_of (act_by stamp e h)) ≡ passing_of addresses e
         by (Err fault) is = nothing_more (deliver.NotAMessage fault) (refused facts at e d up (deliver.NotAMessage fault) (ap (in_game at.arbiter.me.stamp) is)).0
-        by (Ok m) is = by_stamp m is (bytes_eq (stamp_in m).0 stamp) refl
+        by (Ok m) is = by_stamp m is (bytes_eq (stamp_in m) stamp) refl
 
 -- ---- the whole run
 
@@ -233,24 +233,24 @@ module _ {K : Type 0} (facts : KeeperFacts K) (stamp : List ℕ) where
   -- before each of these datagrams the arbiter runs, and is one of this game
   abbrev Runs : Moment K → List (Exchange K) → Type 0
   Runs at [] = Unit {0}
-  Runs at (e ∷ es) = (at.arbiter.is_down ≡ false) × (at.arbiter.me.stamp.0 ≡ stamp) × Delivers facts at e × Runs e.after es
+  Runs at (e ∷ es) = (at.arbiter.is_down ≡ false) × (at.arbiter.me.stamp ≡ stamp) × Delivers facts at e × Runs e.after es
 
-  mine_after : (at : Moment K) (e : Exchange K) → Delivers facts at e → at.arbiter.is_down ≡ false → at.arbiter.me.stamp.0 ≡ stamp → e.after.arbiter.me.stamp.0 ≡ stamp
-  mine_after at e d up mine = ap (λ (me : Identity). me.stamp.0) (same_me facts at e d up) ∙ mine
+  mine_after : (at : Moment K) (e : Exchange K) → Delivers facts at e → at.arbiter.is_down ≡ false → at.arbiter.me.stamp ≡ stamp → e.after.arbiter.me.stamp ≡ stamp
+  mine_after at e d up mine = ap (λ (me : Identity). me.stamp) (same_me facts at e d up) ∙ mine
 
-  runs_all : (at now : Moment K) (es : List (Exchange K)) → at.arbiter.is_down ≡ false → at.arbiter.me.stamp.0 ≡ stamp → InTurn facts at es now → AllByRecursion (λ e. loses_keeper e.told ≡ false) es → Runs at es
+  runs_all : (at now : Moment K) (es : List (Exchange K)) → at.arbiter.is_down ≡ false → at.arbiter.me.stamp ≡ stamp → InTurn facts at es now → AllByRecursion (λ e. loses_keeper e.told ≡ false) es → Runs at es
   unfolding InTurn
   runs_all at now [] up mine turn going = tt
   runs_all at now (e ∷ es) up mine turn going =
       (up, mine, turn.0, runs_all e.after now es (up_after facts at e turn.0 up going.0) (mine_after at e turn.0 up mine) turn.1 going.1)
 
-  runs_to_last : (at now : Moment K) (es : List (Exchange K)) (last : Exchange K) → at.arbiter.is_down ≡ false → at.arbiter.me.stamp.0 ≡ stamp → InTurn facts at (es ++ last ∷ []) now → AllByRecursion (λ e. loses_keeper e.told ≡ false) es → Runs at (es ++ last ∷ [])
+  runs_to_last : (at now : Moment K) (es : List (Exchange K)) (last : Exchange K) → at.arbiter.is_down ≡ false → at.arbiter.me.stamp ≡ stamp → InTurn facts at (es ++ last ∷ []) now → AllByRecursion (λ e. loses_keeper e.told ≡ false) es → Runs at (es ++ last ∷ [])
   unfolding InTurn
   runs_to_last at now [] last up mine turn going = (up, mine, turn.0, tt)
   runs_to_last at now (e ∷ es) last up mine turn going =
       (up, mine, turn.0, runs_to_last e.after now es last (up_after facts at e turn.0 up going.0) (mine_after at e turn.0 up mine) turn.1 going.1)
 
-  runs_through : (at now : Moment K) (es : List (Exchange K)) (loss : Loss K) → at.arbiter.is_down ≡ false → at.arbiter.me.stamp.0 ≡ stamp → InTurn facts at (with_last es loss) now → AllByRecursion (λ e. loses_keeper e.told ≡ false) es → Runs at (with_last es loss)
+  runs_through : (at now : Moment K) (es : List (Exchange K)) (loss : Loss K) → at.arbiter.is_down ≡ false → at.arbiter.me.stamp ≡ stamp → InTurn facts at (with_last es loss) now → AllByRecursion (λ e. loses_keeper e.told ≡ false) es → Runs at (with_last es loss)
   runs_through at now es NoLoss up mine turn going = runs_all at now es up mine turn going
   runs_through at now es (KeeperLost last) up mine turn going = runs_to_last at now es last up mine turn going
   runs_through at now es PortLost up mine turn going = runs_all at now es up mine turn going
@@ -316,14 +316,14 @@ module _ {K : Type 0} (facts : KeeperFacts K) (setup : SetupView) (start now : K
 
   record Opened : Type 0 where
     is_name : IsGameName setup.name
-    stamped : v.me.stamp.0 ≡ stamp_of setup.name (fen_of setup.start) setup.manifest setup.delay
+    stamped : v.me.stamp ≡ stamp_of setup.name (fen_of setup.start) setup.manifest setup.delay
     up : v.is_down ≡ false
 
   opened_as : IsOpening facts setup start now (Ok v) → Opened
   opened_as o =
       let g = o.good (good o) in
       let x = opened_so g.0 g.2 in
-      record { is_name = (good o).name; stamped = ap (λ (me : Identity). me.stamp.0) x.0 ∙ g.1.stamp; up = x.1 }
+      record { is_name = (good o).name; stamped = ap (λ (me : Identity). me.stamp) x.0 ∙ g.1.stamp; up = x.1 }
 
 -- ---- the game itself
 
@@ -345,7 +345,7 @@ module _ {F : Type 0} (facts : F → KeptFacts) (setup : SetupView) (stamp : Lis
       by true is = refl
       by false is = rw (own_bytes stamp) (Shut now.keeper, (refl, refl), refl)
 
-  own_goes : (game : Found) (start : FileKeeper F) (opened now : Moment (FileKeeper F)) (es : List (Exchange (FileKeeper F))) → IsGameOfSetup setup game → IsOpening (keeper_over facts) setup start opened.keeper (Ok opened.arbiter) → Opened (keeper_over facts) setup start opened.keeper opened.arbiter → opened.arbiter.me.stamp.0 ≡ stamp → Runs (keeper_over facts) stamp opened es → InTurn (keeper_over facts) opened es now
+  own_goes : (game : Found) (start : FileKeeper F) (opened now : Moment (FileKeeper F)) (es : List (Exchange (FileKeeper F))) → IsGameOfSetup setup game → IsOpening (keeper_over facts) setup start opened.keeper (Ok opened.arbiter) → Opened (keeper_over facts) setup start opened.keeper opened.arbiter → opened.arbiter.me.stamp ≡ stamp → Runs (keeper_over facts) stamp opened es → InTurn (keeper_over facts) opened es now
       → GoesOwn facts setup stamp Fresh (acts_for setup stamp start opened es now) (Shut now.keeper)
   own_goes game start opened now es named o opened_is mine runs turn =
       rw (own_bytes stamp) (life_at opened, opens, rest)
@@ -377,7 +377,7 @@ listens_are_hosted {F = F} facts game setup start opened now port port' first ru
 }
   where
     stamp : List ℕ
-    stamp = opened.arbiter.me.stamp.0
+    stamp = opened.arbiter.me.stamp
 
     es : List (Exchange (FileKeeper F))
     es = exchanges_of run

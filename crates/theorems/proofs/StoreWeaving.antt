@@ -192,10 +192,10 @@ module _ (disk : DiskFacts) (folder stamp : List ℕ) {S : Type 0} (facts : S �
 
 pub fronts_are_found : (disk : DiskFacts) (folder : List ℕ) {S : Type 0} (facts : S → StoreFacts) → FrontsAreFound facts (store_keepers disk folder)
 fronts_are_found disk folder facts game who at =
-    let f = all_fronts disk folder game.stamp.0 facts at.setup at.first at.last at.runs at.in_turn at.next at.finds in
+    let f = all_fronts disk folder game.stamp facts at.setup at.first at.last at.runs at.in_turn at.next at.finds in
     record {
       fronts = f.fronts;
-      are = subst (λ (o : Option (List ℕ)). AreFoundFronts facts (store_keepers disk folder) game.stamp.0 o at.runs f.fronts at.next.kept) (sym f.may.2 ∙ at.none f.may.0 f.may.1) f.are;
+      are = subst (λ (o : Option (List ℕ)). AreFoundFronts facts (store_keepers disk folder) game.stamp o at.runs f.fronts at.next.kept) (sym f.may.2 ∙ at.none f.may.0 f.may.1) f.are;
     }
 
 -- ---- where a game is at a host
@@ -225,20 +225,20 @@ module _ (disk : DiskFacts) (folder : List ℕ) (game : Judged) (who : Who) (set
   abbrev Ks : Keepers Memory
   Ks = store_keepers disk folder
 
-  begins_then : (t : CommonView) (was : Option (List ℕ)) (life new : Life Memory) (a : Act Memory) (acts : List (Act Memory)) → GoesByAct Ks t game.stamp.0 life a new → BeginsAt was life (a ∷ acts) → BeginsAt was new acts
+  begins_then : (t : CommonView) (was : Option (List ℕ)) (life new : Life Memory) (a : Act Memory) (acts : List (Act Memory)) → GoesByAct Ks t game.stamp life a new → BeginsAt was life (a ∷ acts) → BeginsAt was new acts
   begins_then t was Fresh new (Unread datagram fault) acts h b = absurd h
   begins_then t was Fresh new (Strange of datagram tried why) acts h b = subst (λ (l : Life Memory). BeginsAt was l acts) (sym h.2) b
   begins_then t was Fresh new (Refuses of datagram o fault) acts h b = begun_begins was new acts (subst IsBegun (sym h.new_is) tt)
   begins_then t was Fresh new (Opens of o arbiter) acts h b = begun_begins was new acts (subst IsBegun (sym h.new_is) tt)
   begins_then t was Fresh new (Answers of e) acts h b = absurd h
   begins_then t was Fresh new (Closes of left) acts h b = absurd h
-  begins_then t was (Shut left) new a acts h b = begun_begins was new acts (act_begun Ks t game.stamp.0 (Shut left) new a h tt)
-  begins_then t was (Open at) new a acts h b = begun_begins was new acts (act_begun Ks t game.stamp.0 (Open at) new a h tt)
+  begins_then t was (Shut left) new a acts h b = begun_begins was new acts (act_begun Ks t game.stamp (Shut left) new a h tt)
+  begins_then t was (Open at) new a acts h b = begun_begins was new acts (act_begun Ks t game.stamp (Open at) new a h tt)
 
   -- ---- one act of the game
 
   module _ (old : Net) (was : Option (List ℕ)) where
-    over_kept : (t : CommonView) (life new : Life Memory) (o : Opening Memory) (told : OpenResult) → site_of old who ≡ site_at was life → OpensTo Ks t game.stamp.0 life o told new → (life ≡ Fresh → o.before.kept ≡ was) → o.before.kept ≡ (site_of old who).kept
+    over_kept : (t : CommonView) (life new : Life Memory) (o : Opening Memory) (told : OpenResult) → site_of old who ≡ site_at was life → OpensTo Ks t game.stamp life o told new → (life ≡ Fresh → o.before.kept ≡ was) → o.before.kept ≡ (site_of old who).kept
     over_kept t Fresh new o told at h first = first refl ∙ sym (ap (λ (x : Site). x.kept) at)
     over_kept t (Shut left) new o told at h first = h.over.1 ∙ sym (ap (λ (x : Site). x.kept) at)
     over_kept t (Open now) new o told at h first = absurd h.over
@@ -275,7 +275,7 @@ module _ (disk : DiskFacts) (folder : List ℕ) (game : Judged) (who : Who) (set
         to new (Shut left) h.1
         ∙ ap (λ (x : Option (List ℕ)). changed old who (closed_with x) []) (ap (λ (k : Memory). k.kept) h.0 ∙ sym (ap (λ (x : Site). x.kept) at))
 
-    own_gives : (t : CommonView) (life new : Life Memory) (a : Act Memory) (acts : List (Act Memory)) → site_of old who ≡ site_at was life → GoesByAct Ks t game.stamp.0 life a new → IsOfSetup setup a → BeginsAt was life (a ∷ acts) → IfAnswers (λ e. IsNoForgery game old.log e.datagram) a → GivesOwn memory_facts game old who a (changed old who (site_at was new) (sent_by_act a))
+    own_gives : (t : CommonView) (life new : Life Memory) (a : Act Memory) (acts : List (Act Memory)) → site_of old who ≡ site_at was life → GoesByAct Ks t game.stamp life a new → IsOfSetup setup a → BeginsAt was life (a ∷ acts) → IfAnswers (λ e. IsNoForgery game old.log e.datagram) a → GivesOwn memory_facts game old who a (changed old who (site_at was new) (sent_by_act a))
     own_gives t life new (Unread datagram fault) acts at h one b came = absurd h
     own_gives t life new (Strange of datagram tried why) acts at h one b came = to new life h.2 ∙ ap (λ (x : Site). changed old who x []) (sym at) ∙ sym (still old who)
     own_gives t life new (Refuses of datagram o fault) acts at h one b came = record {
@@ -302,9 +302,9 @@ module _ (disk : DiskFacts) (folder : List ℕ) (game : Judged) (who : Who) (set
   record Ahead (was : Option (List ℕ)) (life : Life Memory) (run : List (Act Memory)) (found : Option (List ℕ)) : Type 0 where
     common : CommonView
     end : Life Memory
-    goes : Goes Ks common game.stamp.0 life (acts_of game.stamp.0 run) end
-    one : AllByRecursion (IsOfSetup setup) (acts_of game.stamp.0 run)
-    begins : BeginsAt was life (acts_of game.stamp.0 run)
+    goes : Goes Ks common game.stamp life (acts_of game.stamp run) end
+    one : AllByRecursion (IsOfSetup setup) (acts_of game.stamp run)
+    begins : BeginsAt was life (acts_of game.stamp run)
     keeps : found ≡ kept_at was end
 
   abbrev AllAhead : Option (List ℕ) → Life Memory → List (Act Memory) → List (List (Act Memory)) → Option (List ℕ) → Type 0
@@ -321,15 +321,15 @@ module _ (disk : DiskFacts) (folder : List ℕ) (game : Judged) (who : Who) (set
     gives : GivesIf b memory_facts game old who a (changed old who (site_at was life) (cond b (sent_by_act a) []))
 
   act_done : (b : Bool) (old : Net) (was : Option (List ℕ)) (life end : Life Memory) (t : CommonView) (a : Act Memory) (run : List (Act Memory)) (found : Option (List ℕ)) → site_of old who ≡ site_at was life
-      → Goes Ks t game.stamp.0 life (cond b (a ∷ acts_of game.stamp.0 run) (acts_of game.stamp.0 run)) end
-      → AllByRecursion (IsOfSetup setup) (cond b (a ∷ acts_of game.stamp.0 run) (acts_of game.stamp.0 run))
-      → BeginsAt was life (cond b (a ∷ acts_of game.stamp.0 run) (acts_of game.stamp.0 run))
+      → Goes Ks t game.stamp life (cond b (a ∷ acts_of game.stamp run) (acts_of game.stamp run)) end
+      → AllByRecursion (IsOfSetup setup) (cond b (a ∷ acts_of game.stamp run) (acts_of game.stamp run))
+      → BeginsAt was life (cond b (a ∷ acts_of game.stamp run) (acts_of game.stamp run))
       → found ≡ kept_at was end
       → IfAnswers (λ e. IsNoForgery game old.log e.datagram) a → ActDone b old was a run found
   act_done true old was life end t a run found at g one b keeps came = record {
     life = g.0;
-    ahead = record { common = t; end = end; goes = g.2; one = one.1; begins = begins_then t was life g.0 a (acts_of game.stamp.0 run) g.1 b; keeps = keeps };
-    gives = own_gives old was t life g.0 a (acts_of game.stamp.0 run) at g.1 one.0 b came;
+    ahead = record { common = t; end = end; goes = g.2; one = one.1; begins = begins_then t was life g.0 a (acts_of game.stamp run) g.1 b; keeps = keeps };
+    gives = own_gives old was t life g.0 a (acts_of game.stamp run) at g.1 one.0 b came;
   }
   act_done false old was life end t a run found at g one b keeps came = record {
     life = life;
@@ -345,8 +345,8 @@ module _ (disk : DiskFacts) (folder : List ℕ) (game : Judged) (who : Who) (set
     ahead : DeedsAhead was life deeds found
     gives : GivesFor memory_facts game old who deed (changed old who (site_at was life) (sent_for game deed))
 
-  does : (old : Net) (was : Option (List ℕ)) (life : Life Memory) (a : Act Memory) (run : List (Act Memory)) (mid : Option (List ℕ)) → site_of old who ≡ site_at was life → Ahead was life (a ∷ run) mid → IfAnswers (λ e. IsNoForgery game old.log e.datagram) a → ActDone (is_stamp game.stamp.0 (game_of a)) old was a run mid
-  does old was life a run mid at x came = act_done (is_stamp game.stamp.0 (game_of a)) old was life x.end x.common a run mid at x.goes x.one x.begins x.keeps came
+  does : (old : Net) (was : Option (List ℕ)) (life : Life Memory) (a : Act Memory) (run : List (Act Memory)) (mid : Option (List ℕ)) → site_of old who ≡ site_at was life → Ahead was life (a ∷ run) mid → IfAnswers (λ e. IsNoForgery game old.log e.datagram) a → ActDone (is_stamp game.stamp (game_of a)) old was a run mid
+  does old was life a run mid at x came = act_done (is_stamp game.stamp (game_of a)) old was life x.end x.common a run mid at x.goes x.one x.begins x.keeps came
 
   record DoneSo (old : Net) (a : Act Memory) (run : List (Act Memory)) (later : List (List (Act Memory))) (found : Option (List ℕ)) : Type 0 where
     was : Option (List ℕ)
@@ -390,7 +390,7 @@ module _ (disk : DiskFacts) (folder : List ℕ) (game : Judged) (who : Who) (set
   is_host t = record { tables = ap (λ r. r.tables) is_setup.rules; number = sym is_setup.identity.who }
 
   module _ (t : CommonView) where
-    same_setup : (o : SetupView) → o ≡ setup → IsSetupOfStamp t game.stamp.0 o → IsSetupOfStamp (view t) game.stamp.0 o
+    same_setup : (o : SetupView) → o ≡ setup → IsSetupOfStamp t game.stamp o → IsSetupOfStamp (view t) game.stamp o
     same_setup o one h = record {
       common =
           h.common
@@ -399,7 +399,7 @@ module _ (disk : DiskFacts) (folder : List ℕ) (game : Judged) (who : Who) (set
       game = h.game;
     }
 
-    act_viewed : (old new : Life Memory) (a : Act Memory) → GoesByAct Ks t game.stamp.0 old a new → IsOfSetup setup a → GoesByAct Ks (view t) game.stamp.0 old a new
+    act_viewed : (old new : Life Memory) (a : Act Memory) → GoesByAct Ks t game.stamp old a new → IsOfSetup setup a → GoesByAct Ks (view t) game.stamp old a new
     act_viewed old new (Unread datagram fault) h one = h
     act_viewed old new (Strange of datagram tried why) h one = h
     act_viewed old new (Refuses of datagram o fault) h one = record { over = h.over; tells = h.tells; game = same_setup o.setup one h.game; opening = h.opening; new_is = h.new_is }
@@ -407,20 +407,20 @@ module _ (disk : DiskFacts) (folder : List ℕ) (game : Judged) (who : Who) (set
     act_viewed old new (Answers of e) h one = h
     act_viewed old new (Closes of left) h one = h
 
-    goes_viewed : (old new : Life Memory) (acts : List (Act Memory)) → Goes Ks t game.stamp.0 old acts new → AllByRecursion (IsOfSetup setup) acts → Goes Ks (view t) game.stamp.0 old acts new
+    goes_viewed : (old new : Life Memory) (acts : List (Act Memory)) → Goes Ks t game.stamp old acts new → AllByRecursion (IsOfSetup setup) acts → Goes Ks (view t) game.stamp old acts new
     goes_viewed old new [] h one = h
     goes_viewed old new (a ∷ acts) h one = (h.0, act_viewed old h.0 a h.1 one.0, goes_viewed h.0 new acts h.2 one.1)
 
   module _ {S : Type 0} (facts : S → StoreFacts) where
-    front_one : (before : S) (r : StoreRun S) → StoreRanOver facts Ks game.stamp.0 setup before r → (was : Option (List ℕ)) (front : List (Act Memory)) (found : Option (List ℕ)) → IsFoundFront facts Ks game.stamp.0 was r front found → AllByRecursion (IsOfSetup setup) (acts_of game.stamp.0 front)
+    front_one : (before : S) (r : StoreRun S) → StoreRanOver facts Ks game.stamp setup before r → (was : Option (List ℕ)) (front : List (Act Memory)) (found : Option (List ℕ)) → IsFoundFront facts Ks game.stamp was r front found → AllByRecursion (IsOfSetup setup) (acts_of game.stamp front)
     front_one before r ran was front found f =
-        all_front (IsOfSetup setup) (acts_of game.stamp.0 front) (acts_of game.stamp.0 f.rest)
-        (subst (AllByRecursion (IsOfSetup setup)) (ap (acts_of game.stamp.0) f.are ∙ own_parts game.stamp.0 front f.rest) ran.one)
+        all_front (IsOfSetup setup) (acts_of game.stamp front) (acts_of game.stamp f.rest)
+        (subst (AllByRecursion (IsOfSetup setup)) (ap (acts_of game.stamp) f.are ∙ own_parts game.stamp front f.rest) ran.one)
 
-    run_ahead : (before : S) (r : StoreRun S) → StoreRanOver facts Ks game.stamp.0 setup before r → (was : Option (List ℕ)) (front : List (Act Memory)) (found : Option (List ℕ)) → IsFoundFront facts Ks game.stamp.0 was r front found → Ahead was Fresh front found
+    run_ahead : (before : S) (r : StoreRun S) → StoreRanOver facts Ks game.stamp setup before r → (was : Option (List ℕ)) (front : List (Act Memory)) (found : Option (List ℕ)) → IsFoundFront facts Ks game.stamp was r front found → Ahead was Fresh front found
     run_ahead before r ran was front found f = record { common = f.common; end = f.life; goes = f.goes; one = front_one before r ran was front found f; begins = f.begins; keeps = f.keeps }
 
-    all_ahead : (first last : S) (runs : List (StoreRun S)) → StoreRunsInTurn facts Ks game.stamp.0 setup first runs last → (was : Option (List ℕ)) (front : List (Act Memory)) (fronts : List (List (Act Memory))) (found : Option (List ℕ)) → AreFoundFronts facts Ks game.stamp.0 was runs (front ∷ fronts) found → AllAhead was Fresh front fronts found
+    all_ahead : (first last : S) (runs : List (StoreRun S)) → StoreRunsInTurn facts Ks game.stamp setup first runs last → (was : Option (List ℕ)) (front : List (Act Memory)) (fronts : List (List (Act Memory))) (found : Option (List ℕ)) → AreFoundFronts facts Ks game.stamp was runs (front ∷ fronts) found → AllAhead was Fresh front fronts found
     all_ahead first last [] turn was front fronts found are = absurd are
     all_ahead first last (r ∷ []) turn was front [] found are = subst (Ahead was Fresh front) (sym are.2) (run_ahead first r turn.0 was front are.0 are.1)
     all_ahead first last (r ∷ []) turn was front (next ∷ later) found are = absurd are.2
@@ -428,15 +428,15 @@ module _ (disk : DiskFacts) (folder : List ℕ) (game : Judged) (who : Who) (set
     all_ahead first last (r ∷ (one ∷ rs)) turn was front (next ∷ later) found are =
         (are.0, run_ahead first r turn.0 was front are.0 are.1, all_ahead r.left last (one ∷ rs) turn.1 are.0 next later found are.2)
 
-    front_run : (before : S) (r : StoreRun S) → StoreRanOver facts Ks game.stamp.0 setup before r → (was : Option (List ℕ)) (front : List (Act Memory)) (found : Option (List ℕ)) → IsFoundFront facts Ks game.stamp.0 was r front found → IsRunOfHost Ks game who front
+    front_run : (before : S) (r : StoreRun S) → StoreRanOver facts Ks game.stamp setup before r → (was : Option (List ℕ)) (front : List (Act Memory)) (found : Option (List ℕ)) → IsFoundFront facts Ks game.stamp was r front found → IsRunOfHost Ks game who front
     front_run before r ran was front found f = record {
       common = view f.common;
       of = is_host f.common;
       life = f.life;
-      goes = goes_viewed f.common Fresh f.life (acts_of game.stamp.0 front) f.goes (front_one before r ran was front found f);
+      goes = goes_viewed f.common Fresh f.life (acts_of game.stamp front) f.goes (front_one before r ran was front found f);
     }
 
-    all_runs : (first last : S) (runs : List (StoreRun S)) → StoreRunsInTurn facts Ks game.stamp.0 setup first runs last → (was : Option (List ℕ)) (fronts : List (List (Act Memory))) (found : Option (List ℕ)) → AreFoundFronts facts Ks game.stamp.0 was runs fronts found → AllByRecursion (IsRunOfHost Ks game who) fronts
+    all_runs : (first last : S) (runs : List (StoreRun S)) → StoreRunsInTurn facts Ks game.stamp setup first runs last → (was : Option (List ℕ)) (fronts : List (List (Act Memory))) (found : Option (List ℕ)) → AreFoundFronts facts Ks game.stamp was runs fronts found → AllByRecursion (IsRunOfHost Ks game who) fronts
     all_runs first last [] turn was [] found are = tt
     all_runs first last [] turn was (front ∷ fronts) found are = absurd are
     all_runs first last (r ∷ rs) turn was [] found are = tt
@@ -488,7 +488,7 @@ module _ (disk : DiskFacts) (folder : List ℕ) {S : Type 0} (facts : S → Stor
   its_deeds : DeedsAhead disk folder game who at.setup at.is_setup None Fresh deeds at.next.kept
   its_deeds =
       all_ahead disk folder game who at.setup at.is_setup facts at.first at.last at.runs at.in_turn None (first_run deeds) (later_runs deeds) at.next.kept
-      (subst (λ (fronts : List (List (Act Memory))). AreFoundFronts facts (store_keepers disk folder) game.stamp.0 None at.runs fronts at.next.kept) (sym are) x.are)
+      (subst (λ (fronts : List (List (Act Memory))). AreFoundFronts facts (store_keepers disk folder) game.stamp None at.runs fronts at.next.kept) (sym are) x.are)
 
 pub hosts_over_stores : (disk : DiskFacts) (folder : List ℕ) {S : Type 0} (facts : S → StoreFacts) (its_disk : DiskFacts) (its_folder : List ℕ) {T : Type 0} (others : T → StoreFacts) → StoresAreWoven facts others (store_keepers disk folder) (store_keepers its_disk its_folder)
 hosts_over_stores disk folder facts its_disk its_folder others game at_a at_b = (x, (y, woven))

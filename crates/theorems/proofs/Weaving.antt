@@ -77,7 +77,7 @@ same_who A B e = cc
 same_who B A e = cc
 
 abbrev stamp_from : List ℕ → Stamp
-stamp_from bytes = record { 0 = bytes }
+stamp_from bytes = bytes
 
 pub is_one : (game : Judged) (who : Who) (setup : SetupView) (me : Identity) → IsIdentity setup me → IsIdentity setup (identity game who) → me ≡ identity game who
 is_one game who setup me f g = made me.stamp game.stamp me.who who (ap stamp_from (f.stamp ∙ sym g.stamp)) (same_who me.who who (f.who ∙ sym g.who))
@@ -92,7 +92,7 @@ one_or_two : (who : Who) (n : ℕ) → who_number who ≡ n → (n ≡ 1) ⊎ (n
 one_or_two A n e = inl (sym e)
 one_or_two B n e = inr (sym e)
 
-module _ (game : Judged) (who : Who) (t : CommonView) (of : IsHostOf game who t) (setup : SetupView) (is : host.IsSetupOfStamp t game.stamp.0 setup) where
+module _ (game : Judged) (who : Who) (t : CommonView) (of : IsHostOf game who t) (setup : SetupView) (is : host.IsSetupOfStamp t game.stamp setup) where
   number : who_number who ≡ setup.me
   number = sym (ap (λ (x : SetupView). x.me) is.common ∙ of.number)
 
@@ -213,7 +213,7 @@ module _ {K : Type 0} (s : Keepers K) (t : CommonView) (game : Judged) (who : Wh
       at = opened_at told (λ v e. is_up s.facts o.setup (identity game who) o.before o.now v (subst (Opens s.facts o.setup (identity game who) o.before o.now) e is)) f.is_found;
     }
 
-    opening_goes : (life later : Life K) → OpensTo s t game.stamp.0 life o told later → GoesTo later
+    opening_goes : (life later : Life K) → OpensTo s t game.stamp life o told later → GoesTo later
     opening_goes life later h = moved (life_after o.now told) later h.new_is (by_delay (cases_lt most_delay o.setup.delay))
       where
         setup : nets.IsSetupOf game who o.setup
@@ -289,7 +289,7 @@ module _ {K : Type 0} (s : Keepers K) (t : CommonView) (game : Judged) (who : Wh
 
   -- ---- an act
 
-  own_goes : (life later : Life K) (a : Act K) → IsHere life → GoesByAct s t game.stamp.0 life a later → GivesOwn s.facts game old who a new → GoesTo later
+  own_goes : (life later : Life K) (a : Act K) → IsHere life → GoesByAct s t game.stamp life a later → GivesOwn s.facts game old who a new → GoesTo later
   own_goes life later (act.Unread datagram fault) here to g = absurd to
   own_goes life later (act.Strange stamp datagram tried why) here to g = moved life later to.2 (stays life here g)
   own_goes life later (act.Refuses stamp datagram o fault) here to g = opening_goes o (Err fault) g life later to
@@ -298,7 +298,7 @@ module _ {K : Type 0} (s : Keepers K) (t : CommonView) (game : Judged) (who : Wh
   own_goes life later (act.Closes stamp left) here to g = closing_goes life later left to g
 
   -- one of the game or of another one, before the other acts of the game
-  pub act_goes : (b : Bool) (life end : Life K) (a : Act K) (own : List (Act K)) → IsHere life → GivesIf b s.facts game old who a new → Goes s t game.stamp.0 life (cond b (a ∷ own) own) end
-      → (mid : Life K) × GoesTo mid × Goes s t game.stamp.0 mid own end
+  pub act_goes : (b : Bool) (life end : Life K) (a : Act K) (own : List (Act K)) → IsHere life → GivesIf b s.facts game old who a new → Goes s t game.stamp life (cond b (a ∷ own) own) end
+      → (mid : Life K) × GoesTo mid × Goes s t game.stamp mid own end
   act_goes true life end a own here g r = (r.0, own_goes life r.0 a here r.1 g, r.2)
   act_goes false life end a own here g r = (life, stays life here g, r)

@@ -98,7 +98,7 @@ ActsIf true facts game who log old act new = ActsAt facts game who log old act n
 ActsIf false facts game who log old act new = new ≡ old
 
 abbrev pub DoesAt : {F : Type 0} → (F → KeptFacts) → Judged → Who → List Message → Held F → Deed (FileKeeper F) → Held F → Type 0
-DoesAt facts game who log old (Does act) new = ActsIf (is_stamp game.stamp.0 (game_of act)) facts game who log old act new
+DoesAt facts game who log old (Does act) new = ActsIf (is_stamp game.stamp (game_of act)) facts game who log old act new
 DoesAt {F} facts game who log old Ends new = (left : F) × EndsLeaving facts game who log old left × (new ≡ Rests left)
 
 -- ---- both hosts
@@ -113,7 +113,7 @@ sent_by_act (Answers stamp e) = sent_with e.told
 sent_by_act (Closes stamp left) = []
 
 abbrev pub sent_for : {K : Type 0} → Judged → Deed K → List Message
-sent_for game (Does act) = cond (is_stamp game.stamp.0 (game_of act)) (sent_by_act act) []
+sent_for game (Does act) = cond (is_stamp game.stamp (game_of act)) (sent_by_act act) []
 sent_for game Ends = []
 
 -- both, and every message that was ever sent

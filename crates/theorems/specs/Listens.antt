@@ -53,7 +53,7 @@ why_none datagram = cond (opens_for datagram) unopened.NoGame unopened.NotOpen
 -- what a datagram is to such a host: no message, a message of a game that isn't there, or one that the arbiter answers
 abbrev pub act_by : {K : Type 0} → List ℕ → Exchange K → Result Message MessageFault → Act K
 act_by stamp e (Err fault) = Unread e.datagram fault
-act_by stamp e (Ok message) = cond (bytes_eq (stamp_in message).0 stamp) (Answers stamp e) (Strange (stamp_in message).0 e.datagram false (why_none e.datagram))
+act_by stamp e (Ok message) = cond (bytes_eq (stamp_in message) stamp) (Answers stamp e) (Strange (stamp_in message) e.datagram false (why_none e.datagram))
 
 abbrev pub act_of : {K : Type 0} → List ℕ → Exchange K → Act K
 act_of stamp e = act_by stamp e (heard_in e.datagram)
@@ -71,10 +71,10 @@ acts_for setup stamp start opened es now =
 -- each is of the game that its datagram names, and none is open then. At a port of any number of addresses all that passes is the same.
 pub record IsAsHosted {F : Type 0} (facts : F → KeptFacts) (setup : SetupView) (start : FileKeeper F) (opened now : Moment (FileKeeper F)) (es : List (Exchange (FileKeeper F))) : Type 0 where
   pub games : List ℕ → Life (FileKeeper F)
-  pub each : (of : List ℕ) → Goes (one_game facts setup opened.arbiter.me.stamp.0) (common_of setup) of Fresh (acts_of of (acts_for setup opened.arbiter.me.stamp.0 start opened es now)) (games of)
-  pub sorted : AllByRecursion IsSorted (acts_for setup opened.arbiter.me.stamp.0 start opened es now)
+  pub each : (of : List ℕ) → Goes (one_game facts setup opened.arbiter.me.stamp) (common_of setup) of Fresh (acts_of of (acts_for setup opened.arbiter.me.stamp start opened es now)) (games of)
+  pub sorted : AllByRecursion IsSorted (acts_for setup opened.arbiter.me.stamp start opened es now)
   pub closed : (of : List ℕ) → IsNotOpen (games of)
-  pub passed : (addresses : ℕ) → flat_map (passing_at addresses) (all_replies (acts_for setup opened.arbiter.me.stamp.0 start opened es now)) ≡ flat_map (passing_of addresses) es
+  pub passed : (addresses : ℕ) → flat_map (passing_at addresses) (all_replies (acts_for setup opened.arbiter.me.stamp start opened es now)) ≡ flat_map (passing_of addresses) es
 
 -- Each run of an arbiter over a file, as the contract of `open_and_serve` has it (`ServesOpened` of arbiter_server), is such a one.
 abbrev pub ListensAreHosted : {F : Type 0} → (F → KeptFacts) → Type 0

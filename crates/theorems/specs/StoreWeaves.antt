@@ -73,17 +73,17 @@ pub record StoreHost {S : Type 0} (facts : S → StoreFacts) (s : Keepers Memory
   pub is_setup : IsSetupOf game who setup
   pub first : S
   -- premise (who else writes the store): nothing of the game is found at first
-  pub none : (next : Memory) → store_finds facts first game.stamp.0 next → next.kept ≡ None
+  pub none : (next : Memory) → store_finds facts first game.stamp next → next.kept ≡ None
   pub runs : List (StoreRun S)
   pub last : S
-  pub in_turn : StoreRunsInTurn facts s game.stamp.0 setup first runs last
+  pub in_turn : StoreRunsInTurn facts s game.stamp setup first runs last
   pub next : Memory
-  pub finds : store_finds facts last game.stamp.0 next
+  pub finds : store_finds facts last game.stamp next
 
 -- of each of its runs the acts that are found
 pub record FoundFronts {S : Type 0} (facts : S → StoreFacts) (s : Keepers Memory) (game : Judged) (who : Who) (at : StoreHost facts s game who) : Type 0 where
   pub fronts : List (List (Act Memory))
-  pub are : AreFoundFronts facts s game.stamp.0 None at.runs fronts at.next.kept
+  pub are : AreFoundFronts facts s game.stamp None at.runs fronts at.next.kept
 
 -- Whatever a start finds of the game after any runs, wherever each of them stopped, is what the runs keep by such acts.
 abbrev pub FrontsAreFound : {S : Type 0} → (S → StoreFacts) → Keepers Memory → Type 0

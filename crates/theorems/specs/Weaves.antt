@@ -92,7 +92,7 @@ pub record IsRunOfHost {K : Type 0} (s : Keepers K) (game : Judged) (who : Who) 
   pub common : CommonView
   pub of : IsHostOf game who common
   pub life : Life K
-  pub goes : Goes s common game.stamp.0 Fresh (acts_of game.stamp.0 acts) life
+  pub goes : Goes s common game.stamp Fresh (acts_of game.stamp acts) life
 
 -- the acts of a run that returns, and each front of them, are those of a run
 abbrev pub FrontsAreRuns : {K : Type 0} → Keepers K → Type 0
@@ -176,7 +176,7 @@ GivesIf false facts game old who act new = new ≡ old
 
 -- one deed: what the outside gives for it, and where it leads
 abbrev pub GivesFor : {K : Type 0} → KeeperFacts K → Judged → Net → Who → Deed K → Net → Type 0
-GivesFor facts game old who (Does act) new = GivesIf (is_stamp game.stamp.0 (game_of act)) facts game old who act new
+GivesFor facts game old who (Does act) new = GivesIf (is_stamp game.stamp (game_of act)) facts game old who act new
 GivesFor facts game old who Ends new = Stops game old who new
 
 -- all steps in turn
@@ -196,7 +196,7 @@ IsSiteOfLife facts (Open at) site = (site.arbiter ≡ Some at.arbiter) × (at.ar
 -- so it is wherever the last run of its host has led the game
 abbrev pub StandsAt : {K : Type 0} → Keepers K → Judged → List (Deed K) → Site → Type 0
 StandsAt {K = K} s game deeds site =
-    (common : CommonView) (life : Life K) → Goes s common game.stamp.0 Fresh (acts_of game.stamp.0 (last_run deeds)) life → IsSiteOfLife s.facts life site
+    (common : CommonView) (life : Life K) → Goes s common game.stamp Fresh (acts_of game.stamp (last_run deeds)) life → IsSiteOfLife s.facts life site
 
 -- what is found at both hosts, and all that was sent, is what a world of the game keeps and has sent, and that world is true to
 -- the game; and each site is where its host has led
@@ -230,7 +230,7 @@ AcksAreFound {K = K} {L = L} a b =
 -- exactly at its ply. The line of each answer tells the count and the verdict of this record (`line_for` of arbiter_server).
 abbrev pub TellsTheTruth : {K : Type 0} → Keepers K → Judged → List (Deed K) → Type 0
 TellsTheTruth {K = K} s game deeds =
-    (common : CommonView) (at : Moment K) → Goes s common game.stamp.0 Fresh (acts_of game.stamp.0 (last_run deeds)) (Open at) → IsFrontOf game.rules game.moves at.arbiter.kept
+    (common : CommonView) (at : Moment K) → Goes s common game.stamp Fresh (acts_of game.stamp (last_run deeds)) (Open at) → IsFrontOf game.rules game.moves at.arbiter.kept
 
 -- What two hosts tell of a game is so.
 abbrev pub HostsTellTheTruth : {K L : Type 0} → Keepers K → Keepers L → Type 0

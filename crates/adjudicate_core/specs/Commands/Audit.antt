@@ -57,7 +57,7 @@ other_in t given = option_map (λ s. given.other_kept) t.other
 -- tables' files
 pub data IsAuditResult (t : Audit) (given : Given) (start : Parts) (r : Reply) : Type 0 where
   BadTables : (words : List ℕ) → gathered given ≡ Err words → r ≡ refusal_reply words → IsAuditResult t given start r
-  Held : (tables : Tables) (manifest : List ℕ) (stamp : Stamp) → gathered given ≡ Ok tables → SpellsManifest manifest (entries_of given.files) → stamp.0 ≡ stamp_of t.name (fen_of start) manifest t.delay → IsAudited (record { start = start; tables = tables; delay = t.delay }) stamp given.kept (other_in t given) r → IsAuditResult t given start r
+  Held : (tables : Tables) (manifest : List ℕ) (stamp : Stamp) → gathered given ≡ Ok tables → SpellsManifest manifest (entries_of given.files) → stamp ≡ stamp_of t.name (fen_of start) manifest t.delay → IsAudited (record { start = start; tables = tables; delay = t.delay }) stamp given.kept (other_in t given) r → IsAuditResult t given start r
 
 abbrev pub IsReply : Audit → Given → Reply → Type 0
 IsReply t given r = IsForText t.start.now (IsAuditResult t given) r

@@ -40,7 +40,7 @@ named t = record { folder = None; manifest = None; input = false; kept = Some t.
 
 -- the lines of a record: its stamp in lower-case hexadecimal digits, its delay, its moves in coordinates, its verdict
 abbrev pub stamp_words : Stamp → List ℕ
-stamp_words stamp = codes "stamp " ++ encode_lower stamp.0
+stamp_words stamp = codes "stamp " ++ encode_lower stamp
 
 abbrev pub delay_words : ℕ → List ℕ
 delay_words delay = codes "delay " ++ decimal delay

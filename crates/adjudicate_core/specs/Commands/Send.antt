@@ -37,7 +37,7 @@ IsToldGame value g = (value (codes "game") ≡ None) × AreGameWords value g.nam
 
 -- the file that tells it, whose name is its stamp
 abbrev pub IsGameInFile : (Text → Option Text) → GameFile → Type 0
-IsGameInFile value f = (Some f.path.now ≡ value (codes "game")) × NamesGame f.path.now f.stamp.0
+IsGameInFile value f = (Some f.path.now ≡ value (codes "game")) × NamesGame f.path.now f.stamp
 
 abbrev pub HasSentGame : (Text → Option Text) → SentGame → Type 0
 HasSentGame value (sent.Told g) = IsToldGame value g

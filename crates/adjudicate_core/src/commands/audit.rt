@@ -2,7 +2,6 @@
 
 ghost use Rattle.std.specs.Prelude.{◌≡◌, ◌≤◌, Ok, option_map, IfErr, IfOk, OnErr};
 ghost use Rattle.clap.specs.Words.{first_value, found_of};
-ghost use Rattle.board_core.specs.Delays.{most_delay};
 ghost use Rattle.adjudicate_core.specs.Audits.{IsAudited, audited_one, audited_two};
 ghost use Rattle.adjudicate_core.specs.Commands.Audit.{HasValues, IsAuditResult, IsReply, faults, named, other_in};
 ghost use Rattle.adjudicate_core.specs.Inside.Asked.{reply_of};
@@ -14,18 +13,17 @@ ghost use Rattle.task_files.specs.Sources.{named_by};
 
 use super::{Form, Value};
 use crate::answers::Answer;
-use crate::game_name::GameName;
 use crate::lines::Line;
-use crate::numbers::{CacheSize, Delay};
+use crate::numbers::CacheSize;
 use crate::refusals::Refusal;
 use crate::tables::gather;
 use crate::usage::ValueFault;
 use crate::values::{delay_in, game_words_in, word_in};
-use board_core::Position;
+use board_core::{Delay, Position};
 use clap::ArgMatches;
 use fen_text::read;
 use judge_core::Set;
-use move_msg::manifest_of;
+use move_msg::{GameName, manifest_of};
 use record_audit::{Audited, Auditor, are_whole_and_agree, audit, compare_files};
 use std::alloc::{AllocError, Global};
 use task_files::{Places, Sources};
@@ -123,7 +121,6 @@ fn answer_files(
     one: &[u8],
     other: Option<&[u8]>,
 ) -> Result<Answer, AllocError>
-    requires { auditor.old.delay ≤ most_delay }
     ensures { IfOk result (λ a. IsAudited (rules_of auditor.old) auditor.old.stamp one.now (option_map (λ s. s.now) other.entry) (reply_of a)) }
 {
     let one = audit(alloc, auditor, one)?;
@@ -189,11 +186,10 @@ impl<'a> Audit<'a> {
         ensures { IfOk result (λ a. IsAuditResult self.now sources.now start.now (reply_of a)) }
     {
         let manifest = manifest_of(alloc, sources.files())?;
-        let delay = self.delay.plies();
         let mut auditor = Auditor {
-            stamp: self.name.stamp(start, &manifest, delay),
+            stamp: self.name.stamp(start, &manifest, self.delay),
             start: *start,
-            delay,
+            delay: self.delay,
             set,
         };
         answer_files(alloc, &mut auditor, sources.kept(), self.other_in(sources))

@@ -12,12 +12,12 @@ ghost use Rattle.line_teller.specs.ToldLines.{HasFailed};
 use super::{Form, Value};
 use crate::answers::status_told;
 use crate::lines::put_refusal;
-use crate::numbers::{CacheSize, Delay};
+use crate::numbers::CacheSize;
 use crate::refusals::Refusal;
 use crate::tables::gather;
 use crate::usage::ValueFault;
 use crate::values::{delay_in, word_in};
-use board_core::Position;
+use board_core::{Delay, Position};
 use clap::ArgMatches;
 use fen_text::read;
 use game_teller::follow_game;
@@ -74,7 +74,7 @@ fn put_game<I: Input, W: Output>(
     let Ok(mut lines) = input.lines(alloc) else {
         return put_refusal(out, Refusal::Memory);
     };
-    status_told(follow_game(alloc, set, start, delay.plies(), &mut lines, out))
+    status_told(follow_game(alloc, set, start, delay, &mut lines, out))
 }
 
 impl<'a> Follow<'a> {

@@ -7,14 +7,14 @@ ghost use Rattle.adjudicate_core.specs.Commands.Listen.{end_faults, term_faults}
 ghost use Rattle.adjudicate_core.specs.Misuses.{AreWell, IsFirstMisuse, fault_words};
 
 use super::{Form, Value};
-use crate::game_name::GameName;
-use crate::numbers::{Delay, is_set};
+use crate::numbers::is_set;
 use crate::usage::ValueFault;
 use crate::values::{
     check_bind, datagrams_in, delay_in, game_words_in, me_in, option_in, recipients_in,
 };
+use board_core::Delay;
 use clap::ArgMatches;
-use move_msg::Who;
+use move_msg::{GameName, Who};
 use task_files::Places;
 
 /// The values of an arbiter that answers datagrams.

@@ -59,16 +59,17 @@ fn put_stamp<W: Write>(out: &mut W, stamp: Stamp) -> Result<(), WriteFault>
     ensures { OnOk result (Appends (W.contents out.old) (W.contents out.new) (ended (stamp_words stamp))) }
 {
     let mut digits = [0; 32];
-    hex::encode_to_slice(&stamp.0, &mut digits).unwrap();
+    hex::encode_to_slice(stamp.as_bytes(), &mut digits).unwrap();
     put(out, b"stamp ")?;
     put(out, &digits)?;
     put(out, b"\n")
 }
 
-/// Writes a delay.
-fn put_delay<W: Write>(out: &mut W, delay: u8) -> Result<(), WriteFault>
-    ensures { OnOk result (Appends (W.contents out.old) (W.contents out.new) (ended (delay_words delay))) }
+/// Writes the delay of a record.
+fn put_delay<W: Write>(out: &mut W, kept: &Record) -> Result<(), WriteFault>
+    ensures { OnOk result (Appends (W.contents out.old) (W.contents out.new) (ended (delay_words kept.now.delay))) }
 {
+    let delay = kept.delay;
     match writeln!(out, "delay {delay}") {
         Ok(()) => Ok(()),
         Err(_) => Err(WriteFault::Io),
@@ -122,7 +123,7 @@ fn put_record<W: Write>(out: &mut W, kept: &Record) -> Result<(), WriteFault>
     ensures { OnOk result (Appends (W.contents out.old) (W.contents out.new) (text_of (record_lines kept.now))) }
 {
     put_stamp(out, kept.stamp)?;
-    put_delay(out, kept.delay)?;
+    put_delay(out, kept)?;
     put_moves(out, kept.moves.as_slice())?;
     put_verdict(out, kept.verdict)
 }

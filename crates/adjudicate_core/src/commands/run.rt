@@ -21,12 +21,12 @@ ghost use Rattle.adjudicate_core.specs.Schedules.{RefusesTable, counted_record, 
 use super::{Form, Value};
 use crate::answers::Answer;
 use crate::lines::{KeptCount, Line};
-use crate::numbers::{CacheSize, Delay};
+use crate::numbers::CacheSize;
 use crate::refusals::Refusal;
 use crate::tables::FileFault;
 use crate::usage::ValueFault;
 use crate::values::{cache_in, delay_in};
-use board_core::Verdict;
+use board_core::{Delay, Verdict};
 use clap::ArgMatches;
 use move_msg::{NamedFile, Who};
 use relay_world::schedule::{Schedule, ScheduleFault, read};
