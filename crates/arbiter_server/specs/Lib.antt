@@ -3,7 +3,6 @@ pub mod ServedLines
 pub mod GoingOut
 pub mod Serving
 pub mod OverFiles
-pub mod AfterStops
 pub mod Lives
 pub mod Inside
 pub mod GameFiles

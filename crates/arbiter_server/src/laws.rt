@@ -1,13 +1,12 @@
 //! Laws over what a server does: each function carries one law and does nothing.
 
 ghost use Rattle.arbiter_server.specs.Lives.{KeepsAsTold, KeepsWhatItTold};
-ghost use Rattle.system_io.specs.PowerLosses.{disk_facts};
 ghost use Rattle.arbiter_server.specs.Folders.{keepers};
 ghost use Rattle.arbiter_server.specs.Laws.{ChangesHideNothing, OpeningsAreFew, OwnReplies, RecordsGoOn, VerdictsAreLogged};
 
 use crate::games::Games;
 use arbiter_core::laws::puts_grow;
-use system_io::{DiskFile, FileCalls, KeptFile, Traced};
+use system_io::{FileCalls, KeptFile, Traced};
 
 /// A move that was acknowledged is in the record at each later start, and so is a verdict that was sent. This holds
 /// over any file, after any runs, wherever each of them stopped.
@@ -15,13 +14,6 @@ pub fn keeps_what_it_told<F: KeptFile>(_file: &F)
     ensures { KeepsWhatItTold F.facts }
 {
     puts_grow();
-}
-
-/// The law over a disk in memory that loses power.
-pub fn disk_keeps_what_it_told(disk: &DiskFile)
-    ensures { KeepsWhatItTold disk_facts }
-{
-    keeps_what_it_told(disk);
 }
 
 /// The law over a file of the system. Each start reads what may stand there, by the calls of the last run that had a

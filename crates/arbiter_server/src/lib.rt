@@ -3,17 +3,17 @@
 //! `arbiter_core` decides what is answered and recorded; ports, files and folders are those of `system_io`. There are two ways.
 //!
 //! - **One game**: `serve` answers the datagrams of a port by one arbiter, over any keeper; `open_and_serve` does so over a
-//!   record in a file (`FileKeeper`), and `run_after` over what a stop left of it.
+//!   record in a file (`FileKeeper`).
 //! - **Any number of games**: a message names its game by a stamp. `Server` looks up a game that isn't open by its stamp: its
 //!   name, its start, its delay and its keeper (`Games`; in a folder of files, `DiskGames`). Where no room is left, the one used
 //!   least recently is closed (which one that is, is no clause). All judge by one set of tables, lent to the one that answers. What
 //!   it does for a game is a list of its openings, deliveries and closings (`Hosts`).
 //!
-//! For one game: `file_keeper`, `heard` (lines), `serving`, `over_file`, `stopping`. For many: `config`, `server`, `turn`, `seat`
+//! For one game: `file_keeper`, `heard` (lines), `serving`, `over_file`. For many: `config`, `server`, `turn`, `seat`
 //! (an open game), `settling`, `room`, `line`, `line_log` (which lines are written), `last_lines`, `games`, `disk_games`, `folder`,
 //! `game_file`, `game_lines`, `fault`.
 //!
-//! Definitions, in reading order: `StoredBytes`, `ServedLines`, `GoingOut`, `Serving`, `OverFiles`, `AfterStops`, `Lives` for one
+//! Definitions, in reading order: `StoredBytes`, `ServedLines`, `GoingOut`, `Serving`, `OverFiles`, `Lives` for one
 //! game; `GameFiles`, `GameFolders`, `DiskGames`, `Folders`, `Told`, `LineLogs`, `Acts`, `Games`, `Hosts`, `Servers`, `Laws` for many.
 //!
 //! - CLAIM: `serve`, clauses `run`, `keeps`: each datagram that came is answered by one `deliver`, in order. All that passed at
@@ -25,10 +25,9 @@
 //!   one of them, one of the two is stored at the start, and later starts find it.
 //! - CLAIM: `open_and_serve`, clause `served`: a start between two datagrams finds the arbiter's record, whole and of its game,
 //!   or after a failed put the one that was to be kept.
-//! - CLAIM: `laws::keeps_what_it_told`; `laws::disk_keeps_what_it_told`; `laws::traced_file_keeps_what_it_told`; `run_after`,
-//!   clauses `one`, `there`: what was announced stays, over any runs of one setup, wherever each of them stopped: as many moves
-//!   as were acknowledged, the same ones, and a verdict at its ply. Of the system's file it rests on `IsAsTold`. A run over a
-//!   disk after a loss of power is such a run.
+//! - CLAIM: `laws::keeps_what_it_told`; `laws::traced_file_keeps_what_it_told`: what was announced stays, over any runs of one
+//!   setup, wherever each of them stopped: as many moves as were acknowledged, the same ones, and a verdict at its ply. Of the
+//!   system's file it rests on `IsAsTold`.
 //! - CLAIM: `Server::open`; `Server::serve`, clauses `run`, `stays`, `idle`: a server begins with no game open (the error of
 //!   `open` has no cause). Each datagram is answered by acts of the game that it names. The acts of a game lead on from one
 //!   another by the steps of one arbiter, over keepers of this game, with the setup that the folder tells. A datagram gets no
@@ -74,7 +73,6 @@ mod seat;
 mod server;
 mod serving;
 mod settling;
-mod stopping;
 mod store_games;
 mod turn;
 
@@ -92,5 +90,4 @@ pub use line_log::{LineLog, LogForm};
 pub use over_file::open_and_serve;
 pub use server::Server;
 pub use serving::{Span, put_line, send_all, serve};
-pub use stopping::{Stop, run_after};
 pub use store_games::StoreGames;

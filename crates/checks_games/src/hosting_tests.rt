@@ -13,7 +13,7 @@ use move_msg::{Message, Record, Stamp, Who};
 use std::alloc::Global;
 use std::num::NonZeroUsize;
 use std::process::Abort;
-use system_io::{MemoryPort, Passage, Turn};
+use system_fakes::{MemoryPort, Passage, Turn};
 
 /// A game, told from the others by its delay: what is kept of it, nothing at first, what was noted since, and how many moves were
 /// acknowledged.

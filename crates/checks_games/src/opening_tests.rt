@@ -11,7 +11,8 @@ use board_core::Position;
 use check_helpers::START;
 use std::alloc::Global;
 use std::process::Abort;
-use system_io::{DiskFile, KeptFile};
+use system_fakes::DiskFile;
+use system_io::KeptFile;
 
 fn fault_in(told: &Result<Arbiter<'_>, Refused<'_>>) -> Option<OpenFault> {
     match told {

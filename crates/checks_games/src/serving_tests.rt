@@ -9,7 +9,8 @@ use arbiter_server::{FileKeeper, Span, open_and_serve, serve};
 use check_helpers::{Failing, START};
 use std::alloc::Global;
 use std::process::Abort;
-use system_io::{MemoryCalls, MemoryPort, Output, Passage, Traced, Turn, WriteFault};
+use system_fakes::{MemoryCalls, MemoryPort, Passage, Turn};
+use system_io::{Output, Traced, WriteFault};
 
 /// How a port is served at which the game's moves wait: the call of it that fails, how many datagrams are to come, whether the
 /// other arbiter is asked first, the outcome of each put, the lines and the status, and what passes, a letter for each: `c` for

@@ -3,15 +3,14 @@
 use crate::arbiters::setup_of;
 use crate::comparing::{check_bytes, check_same};
 use crate::playing::{MOVES, below, message_at, record_at};
-use arbiter_server::{Span, Stop, run_after};
+use arbiter_server::Span;
 use check_helpers::START;
 use move_msg::{Message, Record};
 use std::alloc::Global;
 use std::process::Abort;
-use system_io::{
-    Choice, DiskFile, KeptFile, MemoryPort, Outcome, Passage, ReadFault, Turn, read_after,
-    replace_in_part,
-};
+use system_fakes::{Choice, DiskFile, MemoryPort, Outcome, Passage, Turn, read_after};
+use system_io::{KeptFile, ReadFault, replace_in_part};
+use theorems::{Stop, run_after};
 
 /// How many runs are made, and how many of them over one disk at most.
 const RUNS: u32 = 200;

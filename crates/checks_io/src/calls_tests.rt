@@ -8,10 +8,8 @@ use std::fs;
 use std::io::sink;
 use std::process::Abort;
 use std::rt::Files;
-use system_io::{
-    Choice, DiskFile, KeptFile, MadeCall, MemoryCalls, Outcome, ReadFault, SystemFile, Traced,
-    begin, read_after, replace, replace_in_part,
-};
+use system_fakes::{Choice, DiskFile, MadeCall, MemoryCalls, Outcome, read_after};
+use system_io::{KeptFile, ReadFault, SystemFile, Traced, begin, replace, replace_in_part};
 
 /// A letter for each call: `r` and `f` for what is read and for the folder that is synced, `w`, `s` and `n` for the file beside
 /// that is written, synced and given the name, `x` for one that failed.

@@ -5,7 +5,8 @@ use arbiter_core::{KeepFault, Keeper};
 use arbiter_server::FileKeeper;
 use std::alloc::Global;
 use std::process::Abort;
-use system_io::{Choice, DiskFile, KeptFile, MOST_KEPT_BYTES, Outcome, ReadFault, read_after};
+use system_fakes::{Choice, DiskFile, Outcome, read_after};
+use system_io::{KeptFile, MOST_KEPT_BYTES, ReadFault};
 
 /// A copy of bytes.
 fn copy(rt: &impl Abort, alloc: Global, bytes: &[u8]) -> Vec<u8> {

@@ -9,7 +9,8 @@ use std::os::unix::fs::{PermissionsExt, symlink};
 use std::process::Abort;
 use std::rt::Files;
 use std::time::{Clock, Duration};
-use system_io::{AtPath, Disk, MemoryDisk, NO_TAG, Port, SystemDisk, UdpPort};
+use system_fakes::{AtPath, MemoryDisk};
+use system_io::{Disk, NO_TAG, Port, SystemDisk, UdpPort};
 
 /// A file of six bytes at a path is read with its mode where it may have so many, and not within five.
 fn check_file<D: Disk>(rt: &impl Abort, alloc: Global, disk: &D, path: &str, mode: u32) {

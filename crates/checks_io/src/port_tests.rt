@@ -10,10 +10,8 @@ use std::net::{IpAddr, Ipv4Addr, Ipv6Addr, Net, SocketAddr, UdpSocket};
 use std::process::Abort;
 use std::rt::Files;
 use std::time::{Clock, Duration};
-use system_io::{
-    Arrival, BindFault, Host, LockFault, MadeSocketCall, MemoryPort, MemorySocket, Passage, Port,
-    Recipient, SystemHost, Turn, UdpPort, Unrecorded,
-};
+use system_fakes::{Arrival, MadeSocketCall, MemoryPort, MemorySocket, Passage, Turn};
+use system_io::{BindFault, Host, LockFault, Port, Recipient, SystemHost, UdpPort, Unrecorded};
 
 const DATAGRAMS: [&[u8]; 3] = [b"a", b"b", b"c"];
 

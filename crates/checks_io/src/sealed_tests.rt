@@ -5,7 +5,8 @@ use sealed_port::{KeyFault, Keys, MacKey, Sealed};
 use std::alloc::Global;
 use std::process::Abort;
 use std::time::Duration;
-use system_io::{MemoryPort, NO_TAG, Passage, Port, Turn};
+use system_fakes::{MemoryPort, Passage, Turn};
+use system_io::{NO_TAG, Port};
 
 /// A row of RFC 4231: a key in hexadecimal digits, a text, and its HMAC.
 struct Vector {

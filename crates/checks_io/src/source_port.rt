@@ -9,7 +9,8 @@ use std::io::{self, Read};
 use std::net::SocketAddr;
 use std::process::Abort;
 use std::time::Duration;
-use system_io::{MemoryPort, Port, PortFault, Turn};
+use system_fakes::{MemoryPort, Turn};
+use system_io::{Port, PortFault};
 
 /// The stamp of the game.
 pub(crate) const STAMP: Stamp = Stamp([0, 1, 2, 3, 4, 5, 6, 7, 8, 9, 10, 11, 12, 13, 14, 15]);
@@ -137,7 +138,7 @@ impl<'a> Timed<'a> {
 }
 
 impl<'a> Port for Timed<'a> {
-    ghost use Rattle.system_io.specs.MemoryPorts.{port_facts};
+    ghost use Rattle.system_fakes.specs.MemoryPorts.{port_facts};
 
     ghost facts = { λ t. port_facts t.port };
 

@@ -10,7 +10,8 @@ use std::alloc::Global;
 use std::io::BufReader;
 use std::process::Abort;
 use std::time::Duration;
-use system_io::{MemoryPort, Output, Passage, Port, WriteFault};
+use system_fakes::{MemoryPort, Passage};
+use system_io::{Output, Port, WriteFault};
 
 /// A game to mate at ply 4.
 const MATE: &str = "f2f3\ne7e5\ng2g4\nd8h4\n";

@@ -4,7 +4,7 @@ use crate::deliveries::tell_arbiter;
 use crate::rounds::tell_rounds;
 use crate::{files, positions, tables, texts};
 use std::alloc::{AllocError, Global};
-use system_io::MemoryDisk;
+use system_fakes::MemoryDisk;
 
 /// Why nothing is told.
 #[derive(Clone, Copy)]

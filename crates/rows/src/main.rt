@@ -33,7 +33,7 @@ use crate::shelf::{Shelf, head_of};
 use std::alloc::{AllocError, Global};
 use std::process::ExitCode;
 use std::{env, fs, io};
-use system_io::MemoryDisk;
+use system_fakes::MemoryDisk;
 
 /// A file of cases.
 #[derive(Drop)]

@@ -8,9 +8,8 @@ use std::alloc::{AllocError, Global};
 use std::cell::Cell;
 use std::net::{IpAddr, Ipv4Addr, SocketAddr};
 use std::time::Duration;
-use system_io::{
-    BindFault, DiskFile, Entry, Host, LockFault, Outcome, Port, PortFault, StoreFault,
-};
+use system_fakes::{DiskFile, Outcome};
+use system_io::{BindFault, Entry, Host, LockFault, Port, PortFault, StoreFault};
 
 /// A port at which datagrams wait; what is sent there goes nowhere.
 #[derive(Drop)]

@@ -13,7 +13,8 @@ use adjudicate_core::{System, Task, Usage, parse, run};
 use line_teller::tell_lines;
 use row_calls::{Fault, Given, tell_call};
 use std::alloc::{AllocError, Global};
-use system_io::{Input, MemoryDisk, WriteFault};
+use system_fakes::MemoryDisk;
+use system_io::{Input, WriteFault};
 
 /// How the program ends, and how many notes its host is told.
 fn ended_over(

@@ -2,7 +2,7 @@
 
 use crate::pieces::{Fault, add_piece};
 use std::alloc::{AllocError, Global};
-use system_io::AtPath;
+use system_fakes::AtPath;
 
 /// A file.
 #[derive(Drop)]

@@ -1,10 +1,8 @@
 pub mod InputLaws
 pub mod LineLaws
-pub mod DiskLaws
 pub mod CallSteps
 pub mod HistoryLaws
 pub mod AnswerLaws
 pub mod HearingLaws
 pub mod RecipientLaws
-pub mod RowLaws
 pub mod ShortLineLaws

@@ -13,7 +13,7 @@ use std::io;
 pub const MOST_KEPT_BYTES: usize = 8217;
 
 /// A copy of what stands under a name. The error comes where memory for it is refused; an empty copy takes none.
-pub(crate) fn copied(alloc: Global, bytes: &Option<Vec<u8>>) -> Result<Option<Vec<u8>>, AllocError>
+pub fn copied(alloc: Global, bytes: &Option<Vec<u8>>) -> Result<Option<Vec<u8>>, AllocError>
     ensures same { IfOk result (λ copy. bytes_of copy ≡ bytes_of bytes.now) }
     ensures cause { OnErr result (HasAny (bytes_of bytes.now)) }
 {

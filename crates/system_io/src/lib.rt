@@ -2,18 +2,16 @@
 //! host that opens ports and files.
 //!
 //! Each is a trait (`Disk`, `Input` with `LineReader`, `Output`, `Port`, `KeptFile`, `RecordStore`, `Stores`, `Host`). Its `facts`, a record with named
-//! fields, are all that a proof sees of it. Beside each stand the system's own instance (`SystemDisk`, `SystemInput`,
-//! `BufferedOutput`, `UdpPort`, `SystemFile`, `SystemHost`) and one in memory for tests, which fails on request.
+//! fields, are all that a proof sees of it. Beside it stands the system's own instance (`SystemDisk`, `SystemInput`,
+//! `BufferedOutput`, `UdpPort`, `SystemFile`, `SystemHost`); those in memory, for tests and laws, are in `system_fakes`.
 //! `specs/Premises.antt` says what is trusted of the system. `SystemFile` is `Traced` over the system's calls (`FileCalls`): what a
-//! start finds follows from the calls that it made and their results. `DiskFile` is a file in memory, on a disk that loses power.
+//! start finds follows from the calls that it made and their results.
 //! Of the system's files what is no regular one is refused before it is opened (`opening`), and what is opened to be written is
 //! made where nothing stands (`beside_file`). A `Port` sends each datagram to each of its addresses in turn, and a send that fails
 //! keeps none of the others back. Where nothing came in time, its traffic has the wait that was asked for (`Quiet`). `UdpPort` is
-//! over a `Socket`, whose calls an instance in memory records; among its addresses `sender` stands for whoever sent the last
-//! datagram.
+//! over a `Socket`; among its addresses `sender` stands for whoever sent the last datagram.
 //!
-//! Definitions, in reading order: `Descriptors`, `Disks`, `Inputs`, `LineReaders`, `ShortLines`, `Outputs`, `Ports`, `KeptFiles`, `PowerLosses`,
-//! `FileCalls`, `Traces`, `Records`, `Hosts`, `Premises`, `Sockets`, `Recipients`, `UdpPorts`, `Answers`. Its tests stand in `checks_io`.
+//! Definitions, in reading order: `Descriptors`, `Disks`, `Inputs`, `LineReaders`, `ShortLines`, `Outputs`, `Ports`, `KeptFiles`, `FileCalls`, `Traces`, `Records`, `Hosts`, `Premises`, `Sockets`, `Recipients`, `UdpPorts`, `Answers`. Its tests stand in `checks_io`.
 //!
 //! - CLAIM: `end`: the output is flushed last, also where an answer was not written to its end. The status is the answer's where
 //!   all has gone out; it is 1 in its place only where some can't, or an answer was cut.
@@ -27,8 +25,6 @@
 //!   calls, so ordered that a start finds the old bytes or the new, wherever the calls stop.
 //! - CLAIM: `begin`, clauses `one`, `lasts`: where the file says of two contents that each start finds one or the other, what is
 //!   read is one of the two, and every later start finds it.
-//! - CLAIM: `DiskFile`, clauses `facts`, `one`; `DiskFile::stop`, clauses `left`, `rest`, `same`; `read_after`, clauses `left`,
-//!   `one`: a file on a disk that loses power does what `KeptFile` says, and what is read after a loss of power is what it left.
 //! - CLAIM: `Traced`, clauses `facts`, `one`; `read_as_told`: the system's file does what `KeptFile` says by its calls. Under
 //!   `IsAsTold` a start reads one of any two contents of which the file said that each start finds one or the other.
 //! - CLAIM: `Disk`, clause `one`; `Disk::read`, clause `bytes`: what is no regular file gives no bytes (`HoldsOne`, field `file`).
@@ -50,18 +46,12 @@ mod beside_file;
 mod bounded_lines;
 mod descriptors;
 mod disk;
-mod disk_file;
 mod host;
 mod input;
 mod kept_file;
 pub mod laws;
 mod line_reader;
 mod lock_file;
-mod memory_calls;
-mod memory_disk;
-mod memory_input;
-mod memory_port;
-mod memory_socket;
 mod notes;
 mod opening;
 mod output;
@@ -75,27 +65,20 @@ mod system_disk;
 mod system_file;
 mod system_host;
 mod system_input;
-mod texts;
 mod traced_file;
 mod udp_port;
 
 pub use bounded_lines::BoundedLines;
 pub use descriptors::open_above_standard;
 pub use disk::{Disk, FileWithMode};
-pub use disk_file::{Choice, DiskFile, Outcome, read_after};
 pub use host::{BindFault, Host, LockFault};
 pub use input::Input;
-pub use kept_file::{KeptFile, MOST_KEPT_BYTES, begin, replace, replace_in_part};
-pub use line_reader::LineReader;
+pub use kept_file::{KeptFile, MOST_KEPT_BYTES, begin, copied, replace, replace_in_part};
+pub use line_reader::{LineReader, drop_line_feed};
 pub use lock_file::LockFile;
-pub use memory_calls::{MadeCall, MemoryCalls};
-pub use memory_disk::{AtPath, MemoryDisk};
-pub use memory_input::{MemoryInput, MemoryLines};
-pub use memory_port::{MemoryPort, Passage, Turn};
-pub use memory_socket::{Arrival, MadeSocketCall, MemorySocket};
 pub use output::{BufferedOutput, Output, WriteFault, end};
 pub use port::{NO_TAG, Port, PortFault};
-pub use reading::{ReadFault, read_at_most};
+pub use reading::{MOST_BYTES, ReadFault, read_at_most};
 pub use recipient::{Recipient, SENDER};
 pub use record_store::{Entry, RecordStore, StoreFailed, StoreFault, Stores};
 pub use socket::Socket;

@@ -32,7 +32,7 @@ pub trait LineReader {
 }
 
 /// Removes a line feed from the end, if there is one.
-pub(crate) fn drop_line_feed(line: &mut Vec<u8>)
+pub fn drop_line_feed(line: &mut Vec<u8>)
     ensures { line.new.items ≡ strip_last 10 line.old.items }
 {
     if let Some(last) = line.as_slice().last() {

@@ -10,7 +10,7 @@ use std::alloc::{AllocError, Global};
 use std::io::{self, Read};
 
 /// The most bytes that an input or a file may have, 2^30.
-pub(crate) const MOST_BYTES: u64 = 1_073_741_824;
+pub const MOST_BYTES: u64 = 1_073_741_824;
 
 /// Why something wasn't read.
 #[derive(Clone, Copy)]

@@ -3,6 +3,7 @@ pub mod Weaves
 pub mod Sources
 pub mod Seals
 pub mod HostFiles
+pub mod AfterStops
 pub mod Listens
 pub mod FileWeaves
 pub mod Recording

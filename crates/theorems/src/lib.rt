@@ -3,7 +3,8 @@
 //! `arbiter_core` proves what one arbiter does, `arbiter_server` what one server does for each of its games, `source_core` what a
 //! source sends, and `relay_world` what holds of each schedule of deliveries, losses, repeats and restarts. Here the first three
 //! are tied to the fourth: what arbiters, servers and sources keep and send for a game is what the world of some schedule keeps
-//! and has sent, so that each law of `relay_world` holds of them. Each function carries one law and does nothing.
+//! and has sent, so that each law of `relay_world` holds of them. Each function carries one law and does nothing,
+//! but for `run_after`, a run of an arbiter over a disk that loses power.
 //!
 //! What the outside gives is a premise, act by act, in `specs/Nets.antt` and `specs/Weaves.antt`; nothing that a contract gives
 //! is stated there again. Of two hosts these are: which hosts they are and what their tables mean (`IsHostOf`); that the game
@@ -17,8 +18,8 @@
 //!
 //! `Recording` is a host that records what is made at it: so the clauses of `Host` on histories are those of one.
 //!
-//! Definitions, in reading order: `Nets`, `Weaves`, `Listens`, `HostFiles`, `FileWeaves`, `StoreHosts`, `StoreWeaves`, `Sources`,
-//! `Seals`, `Recording`.
+//! Definitions, in reading order: `Nets`, `Weaves`, `Listens`, `HostFiles`, `AfterStops`, `FileWeaves`, `StoreHosts`, `StoreWeaves`,
+//! `Sources`, `Seals`, `Recording`.
 //!
 //! - CLAIM: `arbiters_are_worlds`: two arbiters of one game over keepers of any one type, by steps as the contracts of `open` and
 //!   `deliver` have them, come to a world, which is faithful to the game.
@@ -33,6 +34,8 @@
 //! - CLAIM: `host_keeps_what_it_told`: what a host told of a game is found at each later start over the file of its record: as many
 //!   moves as it acknowledged, the same ones, and a verdict at its ply. This holds over any files, after any runs, wherever each
 //!   stopped.
+//! - CLAIM: `disk_keeps_what_it_told`; `run_after`, clauses `one`, `there`: so it is of what an arbiter told over a disk in memory that
+//!   loses power, and a run over what a stop left of the disk is such a run.
 //! - CLAIM: `hosts_over_files`: two hosts, each over a file of the game, come to a net as `hosts_are_worlds` asks, by what starts find in
 //!   the two files: that keepers keep, and what a closing leaves, are no premises.
 //! - CLAIM: `answers_are_found`: before a host over a store sends the answers of a round, a start over the store finds what they tell, and
@@ -51,6 +54,7 @@
 //! - CLAIM: `no_tag_no_forgery`: where no datagram has a forged tag, a port with keys passes on no forged message.
 #![tactic(auto)]
 
+mod after_stops;
 mod arbiters;
 mod host_files;
 mod hosts;
@@ -60,6 +64,7 @@ mod seals;
 mod sources;
 mod store_hosts;
 
+pub use after_stops::{Stop, disk_keeps_what_it_told, run_after};
 pub use arbiters::{arbiters_are_worlds, arbiters_tell_the_truth};
 pub use host_files::{host_keeps_what_it_told, hosts_over_files};
 pub use hosts::{acks_are_found, fronts_are_runs, hosts_are_worlds, hosts_tell_the_truth};

@@ -1,0 +1,3 @@
+pub mod DiskLaws
+pub mod RowLaws
+pub mod PortLaws
