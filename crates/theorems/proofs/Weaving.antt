@@ -76,11 +76,8 @@ same_who B B e = refl
 same_who A B e = cc
 same_who B A e = cc
 
-abbrev stamp_from : List ℕ → Stamp
-stamp_from bytes = bytes
-
 pub is_one : (game : Judged) (who : Who) (setup : SetupView) (me : Identity) → IsIdentity setup me → IsIdentity setup (identity game who) → me ≡ identity game who
-is_one game who setup me f g = made me.stamp game.stamp me.who who (ap stamp_from (f.stamp ∙ sym g.stamp)) (same_who me.who who (f.who ∙ sym g.who))
+is_one game who setup me f g = made me.stamp game.stamp me.who who (f.stamp ∙ sym g.stamp) (same_who me.who who (f.who ∙ sym g.who))
   where
     made : (s t : Stamp) (a b : Who) → s ≡ t → a ≡ b → ◌≡◌ {A = Identity} (record { stamp = s; who = a }) (record { stamp = t; who = b })
     made s t a b e d = cc
