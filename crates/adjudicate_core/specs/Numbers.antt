@@ -27,7 +27,7 @@ IsDelay (Some text) plies = IsDecimalNumber text plies × (plies ≤ most_delay)
 
 -- in a list of games it is one digit
 abbrev pub IsDelayDigit : List ℕ → ℕ → Type 0
-IsDelayDigit digit plies = (digit ≡ decimal plies) × (plies ≤ most_delay)
+IsDelayDigit digit plies = (plies ≤ most_delay) × (digit ≡ decimal plies)
 
 -- a number of datagrams is 0 to 2^32 - 1; where none is given it is 2^64 - 1, which no run comes to
 abbrev pub IsDatagrams : Option (List ℕ) → ℕ → Type 0

@@ -21,7 +21,7 @@ pub(crate) fn e2e4() -> Move {
 fn bytes_of(version: u8, kind: u8, sender: u8, number: u32, word: u16) -> [u8; 27] {
     let mut bytes = [0; 27];
     bytes[0..4].copy_from_slice(&[0x53, 0x41, version, kind]);
-    bytes[4..20].copy_from_slice(&STAMP.0);
+    bytes[4..20].copy_from_slice(STAMP.as_bytes());
     bytes[20] = sender;
     bytes[21..25].copy_from_slice(&number.to_be_bytes());
     bytes[25..27].copy_from_slice(&word.to_be_bytes());

@@ -6,7 +6,7 @@ use crate::playing::{MOVES, below, message_at, record_at};
 use crate::positions::position_of;
 use arbiter_core::{Keep, Keeper, MemoryKeeper, name_of};
 use arbiter_server::{Found, Games, LineLog, Server, ServerConfig, Uncommitted, Unopened};
-use board_core::Position;
+use board_core::{Delay, Position};
 use check_helpers::START;
 use judge_core::Set;
 use move_msg::{Message, Record, Stamp, Who};
@@ -21,19 +21,19 @@ use system_fakes::{MemoryPort, Passage, Turn};
 struct Hosted {
     stamp: Stamp,
     start: Position,
-    delay: u8,
+    delay: Delay,
     kept: Vec<u8>,
     noted: Vec<u8>,
     acknowledged: u32,
 }
 
 impl Hosted {
-    /// The game with this delay, before it is played.
-    fn new(rt: &impl Abort, alloc: Global, delay: u8) -> Hosted {
+    /// The game with a delay of so many plies, before it is played.
+    fn new(rt: &impl Abort, alloc: Global, plies: u8) -> Hosted {
         Hosted {
-            stamp: stamp_of(rt, START, delay),
+            stamp: stamp_of(rt, START, plies),
             start: position_of(rt, START),
-            delay,
+            delay: Delay::new(plies).expect(rt, "a delay"),
             kept: Vec::new(alloc),
             noted: Vec::new(alloc),
             acknowledged: 0,
@@ -95,9 +95,9 @@ impl<'r> Games for Folder<'r> {
 
     ghost made = { λ _. None };
 
-    fn find(&self, _alloc: Global, stamp: &[u8; 16]) -> Result<Found, Unopened> {
+    fn find(&self, _alloc: Global, stamp: Stamp) -> Result<Found, Unopened> {
         for game in self.games.iter() {
-            if game.stamp.0 == *stamp {
+            if game.stamp == stamp {
                 return Ok(Found {
                     name: name_of(NAME),
                     start: game.start,
@@ -112,19 +112,19 @@ impl<'r> Games for Folder<'r> {
         &mut self,
         alloc: Global,
         _history: &mut (),
-        stamp: &[u8; 16],
+        stamp: Stamp,
     ) -> Result<MemoryKeeper, Unopened> {
         for game in self.games.iter_mut() {
-            if game.stamp.0 == *stamp {
+            if game.stamp == stamp {
                 return game.keeper(alloc, self.keep);
             }
         }
         Err(Unopened::NoGame)
     }
 
-    fn note(&mut self, stamp: &[u8; 16], keeper: &MemoryKeeper) {
+    fn note(&mut self, stamp: Stamp, keeper: &MemoryKeeper) {
         for game in self.games.iter_mut() {
-            if game.stamp.0 == *stamp {
+            if game.stamp == stamp {
                 game.note(keeper);
             }
         }
@@ -145,7 +145,7 @@ impl<'r> Games for Folder<'r> {
 fn message(rt: &impl Abort, games: &[Hosted], seed: &mut u64) -> [u8; 27] {
     let game = games.get(below(seed, 3)).expect(rt, "a game");
     let after = (game.acknowledged as usize).saturating_add(below(seed, 4));
-    message_at(rt, game.delay, after.saturating_sub(1).min(MOVES - 1))
+    message_at(rt, game.delay.plies(), after.saturating_sub(1).min(MOVES - 1))
 }
 
 /// The outcome of the puts of a run: in one of four they fail.
@@ -242,7 +242,7 @@ fn check_game(rt: &impl Abort, alloc: Global, game: &Hosted) {
     }
     let count = Record::summary(&game.kept).expect(rt, "a record").0;
     check_same(rt, count.max(game.acknowledged), count, "moves");
-    let wanted = record_at(rt, alloc, game.delay, count as usize);
+    let wanted = record_at(rt, alloc, game.delay.plies(), count as usize);
     check_bytes(rt, &game.kept, &wanted, "the record");
 }
 

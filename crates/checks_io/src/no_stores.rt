@@ -1,7 +1,7 @@
 //! A host without stores.
 
 use std::alloc::Global;
-use system_io::{Entry, RecordStore, StoreFailed, StoreFault, Stores};
+use system_io::{Entry, Key, RecordStore, StoreFailed, StoreFault, Stores};
 
 /// A place at which no store can be opened.
 #[derive(Drop)]
@@ -16,7 +16,7 @@ impl RecordStore for NoStore {
 
     ghost facts = { λ _. record { has = λ _. None; starts = λ _. Unit {0}; trusted = ⊥; works = ⊥ } };
 
-    fn find(&self, _stamp: &[u8; 16]) -> Option<&[u8]> {
+    fn find(&self, _stamp: &Key) -> Option<&[u8]> {
         None
     }
 

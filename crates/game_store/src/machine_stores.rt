@@ -6,7 +6,7 @@ use crate::sqlite_stores::{AnyFiles, SqliteStores};
 use crate::store::Store;
 use sqlite::{FileFrom, FileStore};
 use std::alloc::Global;
-use system_io::{Entry, RecordStore, StoreFailed, StoreFault, Stores};
+use system_io::{Entry, Key, RecordStore, StoreFailed, StoreFault, Stores};
 
 /// A database at a path.
 type Database = Store<FileStore<FileFrom<AnyFiles>>>;
@@ -23,7 +23,7 @@ pub struct MachineStore {
 impl RecordStore for MachineStore {
     ghost facts = { λ s. ⟦<Database as RecordStore>⟧.facts s.database };
 
-    fn find(&self, stamp: &[u8; 16]) -> Option<&[u8]> {
+    fn find(&self, stamp: &Key) -> Option<&[u8]> {
         self.database.find(stamp)
     }
 

@@ -10,7 +10,7 @@ use crate::fault::{DatabaseFault, OUT_OF_MEMORY};
 use std::alloc::{AllocError, Global};
 use std::collections::BTreeMap;
 use std::marker::Model;
-use system_io::Entry;
+use system_io::{Entry, Key};
 
 /// The row of a game, less its number.
 #[derive(Drop)]
@@ -29,7 +29,7 @@ pub(crate) struct Slot {
 /// A game of a list: its stamp, how many moves its record has, and the bytes of the record.
 #[derive(Clone, Copy)]
 pub struct Kept<'a> {
-    pub stamp: [u8; 16],
+    pub stamp: Key,
     pub count: u32,
     pub record: &'a [u8],
 }
@@ -37,7 +37,7 @@ pub struct Kept<'a> {
 /// The games that have numbers, by their stamps.
 #[derive(Drop)]
 pub(crate) struct Memory {
-    slots: BTreeMap<[u8; 16], Slot>,
+    slots: BTreeMap<Key, Slot>,
     /// The highest number that was given.
     last: u32,
 }
@@ -70,7 +70,7 @@ impl Memory {
     }
 
     /// The number of a game, if it has one.
-    pub(crate) fn number(&self, stamp: &[u8; 16]) -> Option<u32>
+    pub(crate) fn number(&self, stamp: &Key) -> Option<u32>
         ensures value { result ≡ number_at self.now stamp.now }
         ensures apart { AreApart (number_at self.now) }
     {
@@ -81,7 +81,7 @@ impl Memory {
     }
 
     /// Gives a number to a game that has none.
-    fn add(&mut self, stamp: &[u8; 16]) -> Result<(), DatabaseFault>
+    fn add(&mut self, stamp: &Key) -> Result<(), DatabaseFault>
         ensures added { OnOk result (IsSome (number_at self.new stamp.now)) }
         ensures numbers { KeepsNumbers self.old self.new }
         ensures same { HasSame self.old self.new }
@@ -179,7 +179,7 @@ impl Memory {
     }
 
     /// The record of a game, if it has one.
-    pub(crate) fn find(&self, stamp: &[u8; 16]) -> Option<&[u8]>
+    pub(crate) fn find(&self, stamp: &Key) -> Option<&[u8]>
         ensures { option_map (λ b. b.now) result ≡ option_map (λ g. g.bytes) (game_at self.now stamp.now) }
     {
         match self.slots.get(stamp) {

@@ -16,7 +16,7 @@ use crate::memory::Memory;
 use crate::tables::{Tables, tables_of};
 use sqlite::{Alter, Connection, Error, ErrorCode, Row};
 use std::alloc::Global;
-use system_io::Entry;
+use system_io::{Entry, Key};
 
 /// Runs the statement that makes the table of the games.
 fn run_create<S: Alter>(conn: &mut Connection<S>) -> Result<usize, Error>
@@ -62,11 +62,11 @@ fn fault_of(error: Error) -> DatabaseFault {
 }
 
 /// The stamp of a row.
-fn stamp_of(row: &Row) -> Result<[u8; 16], DatabaseFault>
+fn stamp_of(row: &Row) -> Result<Key, DatabaseFault>
     ensures { IfOk result (λ stamp. (column row.now 1 ≡ Blob stamp) × (length stamp ≡ 16)) }
 {
     let bytes: Vec<u8> = row.get(1).map_err(fault_of)?;
-    match <[u8; 16]>::try_from(bytes.as_slice()) {
+    match Key::try_from(bytes.as_slice()) {
         Ok(stamp) => Ok(stamp),
         Err(_) => Err(DatabaseFault::BadRow),
     }

@@ -14,7 +14,7 @@ use crate::writing::put;
 use sqlite::{Alter, Connection};
 use std::alloc::{AllocError, Global};
 use std::marker::Model;
-use system_io::{Entry, RecordStore, StoreFailed};
+use system_io::{Entry, Key, RecordStore, StoreFailed};
 
 /// The records of all games of a folder, in a database and in memory.
 pub struct Store<S: Alter> {
@@ -89,7 +89,7 @@ impl<S: Alter> Store<S> {
     }
 
     /// The record of a game, if it has one.
-    pub fn record_of(&self, stamp: &[u8; 16]) -> Option<&[u8]>
+    pub fn record_of(&self, stamp: &Key) -> Option<&[u8]>
         ensures found { option_map (λ b. b.now) result ≡ option_map (λ game. game.bytes) (remembered self.now stamp.now) }
         ensures committed { IsTrusted S.Store self.now → IsOpen S.Store self.now → AreSame (remembered self.now) (committed S.Store self.now) }
     {
@@ -133,7 +133,7 @@ impl<S: Alter> RecordStore for Store<S> {
 
     ghost facts = { store_facts S.Store };
 
-    fn find(&self, stamp: &[u8; 16]) -> Option<&[u8]> {
+    fn find(&self, stamp: &Key) -> Option<&[u8]> {
         self.record_of(stamp)
     }
 

@@ -54,6 +54,11 @@ pub(crate) fn stamp_by(name: &[u8], start: &Position, manifest: &[u8], delay: u8
     Stamp(stamp)
 }
 
+/// Any 16 bytes may be a stamp's; called for its contract.
+fn are_of_stamp(bytes: [u8; 16])
+    ensures { IsStamp bytes }
+{}
+
 impl Stamp {
     /// The stamp of the game with this name, start and manifest of tables: the first 16 bytes of a SHA-256 digest. The
     /// digest is of the name, a line feed, the start's FEN text, a line feed and the manifest's bytes. Where the delay
@@ -76,6 +81,7 @@ impl Stamp {
         ensures bytes { result.now ≡ self.now }
         ensures is { IsStamp self.now }
     {
+        are_of_stamp(self.0);
         &self.0
     }
 }

@@ -122,7 +122,7 @@ fn tell_good_record(
     let (delay, verdict) = (record.delay, record.verdict);
     let moves = record.moves.count().number();
     writeln!(told, "delay {delay}, verdict {verdict:?}, moves {moves}")?;
-    tell_hex(alloc, told, "stamp", &record.stamp.0)?;
+    tell_hex(alloc, told, "stamp", record.stamp.as_bytes())?;
     if delay > 8 {
         return Ok(());
     }
@@ -166,7 +166,7 @@ fn tell_stamp(alloc: Global, told: &mut String, given: &Given<'_>) -> Result<(),
     let is_name = is_game_name(&name);
     writeln!(told, "name {is_name}")?;
     match Stamp::of(&name, &start, given.input, delay) {
-        Some(stamp) => Ok(tell_hex(alloc, told, "stamp", &stamp.0)?),
+        Some(stamp) => Ok(tell_hex(alloc, told, "stamp", stamp.as_bytes())?),
         None => Ok(writeln!(told, "none")?),
     }
 }

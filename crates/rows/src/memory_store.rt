@@ -5,7 +5,7 @@ ghost use Rattle.arbiter_server.specs.StoreGames.{bytes_at};
 ghost use Rattle.system_io.specs.Records.{Records, with_all};
 
 use std::alloc::Global;
-use system_io::{Entry, RecordStore, StoreFailed};
+use system_io::{Entry, Key, RecordStore, StoreFailed};
 
 /// What a host's store comes to.
 #[derive(Clone, Copy, PartialEq, Eq)]
@@ -39,7 +39,7 @@ impl MemoryStore {
 fn found_in<'a>(
     before: Option<&'a [u8]>,
     entries: &'a [Entry],
-    stamp: &[u8; 16],
+    stamp: &Key,
 ) -> Option<&'a [u8]>
     ensures { (records : Records) → option_map (λ b. b.now) before.entry ≡ bytes_at records stamp.now → option_map (λ b. b.now) result ≡ bytes_at (with_all records entries.now) stamp.now }
 {
@@ -58,7 +58,7 @@ impl RecordStore for MemoryStore {
 
     ghost facts = { λ s. record { has = records_of (flat_map (λ b. b.items) s.batches.items); starts = AreSame (records_of (flat_map (λ b. b.items) s.batches.items)); trusted = Unit {0}; works = Unit {0} } };
 
-    fn find(&self, stamp: &[u8; 16]) -> Option<&[u8]> {
+    fn find(&self, stamp: &Key) -> Option<&[u8]> {
         let mut found = None;
         for batch in self.batches.as_slice() {
             found = found_in(found, batch.as_slice(), stamp);
