@@ -13,26 +13,4 @@
 #![tactic(auto)]
 
 #[cfg(test)]
-mod board_tests;
-#[cfg(test)]
-mod comparing;
-#[cfg(test)]
-mod determined_tests;
-#[cfg(test)]
-mod files;
-#[cfg(test)]
-mod forge_tests;
-#[cfg(test)]
-mod manifest_tests;
-#[cfg(test)]
-mod message_tests;
-#[cfg(test)]
-mod positions;
-#[cfg(test)]
-mod record_tests;
-#[cfg(test)]
-mod refusal_tests;
-#[cfg(test)]
-mod root_tests;
-#[cfg(test)]
-mod seeded_tests;
+mod tests;

@@ -14,26 +14,4 @@
 #![tactic(auto)]
 
 #[cfg(test)]
-mod arbiters;
-#[cfg(test)]
-mod comparing;
-#[cfg(test)]
-mod fetching_tests;
-#[cfg(test)]
-mod hosting_tests;
-#[cfg(test)]
-mod opening_tests;
-#[cfg(test)]
-mod playing;
-#[cfg(test)]
-mod positions;
-#[cfg(test)]
-mod seeded_world_tests;
-#[cfg(test)]
-mod serving_tests;
-#[cfg(test)]
-mod stopping_tests;
-#[cfg(test)]
-mod udp_tests;
-#[cfg(test)]
-mod world_tests;
+mod tests;

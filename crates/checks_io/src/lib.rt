@@ -11,24 +11,4 @@
 #![tactic(auto)]
 
 #[cfg(test)]
-mod calls_tests;
-#[cfg(test)]
-mod comparing;
-#[cfg(test)]
-mod file_keeper_tests;
-#[cfg(test)]
-mod kept_tests;
-#[cfg(test)]
-mod mode_tests;
-#[cfg(test)]
-mod no_stores;
-#[cfg(test)]
-mod output_tests;
-#[cfg(test)]
-mod port_tests;
-#[cfg(test)]
-mod sealed_tests;
-#[cfg(test)]
-mod source_port;
-#[cfg(test)]
-mod source_tests;
+mod tests;

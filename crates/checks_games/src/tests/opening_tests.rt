@@ -1,10 +1,10 @@
 //! How an arbiter is opened, over what is kept and over keepers that fail.
 
-use crate::arbiters::{
+use crate::tests::arbiters::{
     NAME, Sent, empty_keeper, message_of, open_first, record_of, setup_of, stamp_of,
 };
-use crate::comparing::{check_bytes, check_same};
-use crate::positions::position_of;
+use crate::tests::comparing::{check_bytes, check_same};
+use crate::tests::positions::position_of;
 use arbiter_core::{Arbiter, KeepFault, Keeper, Name, OpenFault, Refused, Setup, name_of};
 use arbiter_server::FileKeeper;
 use board_core::Position;

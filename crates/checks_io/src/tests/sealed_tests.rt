@@ -1,6 +1,6 @@
 //! Sealed ports and files of keys: values from outside, and what is passed on of each kind of datagram.
 
-use crate::comparing::{check_bytes, check_same};
+use crate::tests::comparing::{check_bytes, check_same};
 use sealed_port::{KeyFault, Keys, MacKey, Sealed};
 use std::alloc::Global;
 use std::process::Abort;

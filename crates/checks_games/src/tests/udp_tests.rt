@@ -1,7 +1,7 @@
 //! An arbiter that answers the datagrams of a socket.
 
-use crate::arbiters::{empty_keeper, game, open_first, text_of};
-use crate::comparing::{check_bytes, check_same, check_text};
+use crate::tests::arbiters::{empty_keeper, game, open_first, text_of};
+use crate::tests::comparing::{check_bytes, check_same, check_text};
 use arbiter_core::MemoryKeeper;
 use arbiter_server::{Span, serve};
 use check_helpers::START;

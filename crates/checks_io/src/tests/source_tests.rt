@@ -1,7 +1,7 @@
 //! The source of a live game over a port in memory: what it sends, and the lines of its run.
 
-use crate::comparing::{check_bytes, check_same, push_bytes};
-use crate::source_port::{After, Coming, Given, STAMP, Timed};
+use crate::tests::comparing::{check_bytes, check_same, push_bytes};
+use crate::tests::source_port::{After, Coming, Given, STAMP, Timed};
 use board_core::Position;
 use check_helpers::{Failing, START};
 use fen_text::read;

@@ -2,7 +2,7 @@
 
 ghost use Rattle.std.specs.Prelude.{◌≤◌, length};
 
-use crate::comparing::check_same;
+use crate::tests::comparing::check_same;
 use arbiter_core::{KeepFault, Keeper};
 use arbiter_server::FileKeeper;
 use std::alloc::Global;

@@ -1,7 +1,7 @@
 //! Forged table files of 80 bytes, by the bytes that aren't zero at their end: single values for both sides, and for all files
 //! where there are pawns.
 
-use crate::comparing::{check_same, push_bytes};
+use crate::tests::comparing::{check_same, push_bytes};
 use check_helpers::file_of;
 use judge_core::{Set, SetFault};
 use std::alloc::Global;

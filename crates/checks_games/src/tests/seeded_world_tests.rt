@@ -2,8 +2,8 @@
 
 ghost use Rattle.std.specs.Prelude.{◌<◌};
 
-use crate::comparing::check_same;
-use crate::world_tests::{game_of, schedule_of, world_of};
+use crate::tests::comparing::check_same;
+use crate::tests::world_tests::{game_of, schedule_of, world_of};
 use arbiter_core::Keep;
 use move_msg::{Message, Who};
 use relay_world::schedule::Schedule;

@@ -1,7 +1,7 @@
 //! A port in memory, and ports of the system.
 
-use crate::comparing::{check_bytes, check_same, push_bytes};
-use crate::no_stores::NoStores;
+use crate::tests::comparing::{check_bytes, check_same, push_bytes};
+use crate::tests::no_stores::NoStores;
 use std::alloc::Global;
 use std::fs::{self, File};
 use std::io;

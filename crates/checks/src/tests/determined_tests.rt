@@ -1,8 +1,8 @@
 //! Values and distances that are the same whatever a missing table holds, by a set with the queen's table alone.
 
-use crate::comparing::check_same;
-use crate::files::is_added;
-use crate::positions::position_of;
+use crate::tests::comparing::check_same;
+use crate::tests::files::is_added;
+use crate::tests::positions::position_of;
 use check_helpers::{QUEEN, file_of};
 use judge_core::{ProbeFault, RootMove, Set, Wdl};
 use std::alloc::Global;

@@ -1,6 +1,6 @@
 //! Files with their modes, on a disk in memory and on that of the system.
 
-use crate::comparing::{check_bytes, check_same};
+use crate::tests::comparing::{check_bytes, check_same};
 use std::alloc::Global;
 use std::fs;
 use std::io::{Sink, sink};

@@ -1,8 +1,8 @@
 //! Random runs of an arbiter over a disk in memory, each stopped anywhere, some with a loss of power and with calls that fail.
 
-use crate::arbiters::setup_of;
-use crate::comparing::{check_bytes, check_same};
-use crate::playing::{MOVES, below, message_at, record_at};
+use crate::tests::arbiters::setup_of;
+use crate::tests::comparing::{check_bytes, check_same};
+use crate::tests::playing::{MOVES, below, message_at, record_at};
 use arbiter_server::Span;
 use check_helpers::START;
 use move_msg::{Message, Record};

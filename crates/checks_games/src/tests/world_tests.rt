@@ -1,6 +1,6 @@
 //! Schedules and what is told of them.
 
-use crate::comparing::check_same;
+use crate::tests::comparing::check_same;
 use board_core::Move;
 use check_helpers::{QUEEN, QUEEN_PLIES, file_of};
 use relay_world::schedule::{Schedule, read};

@@ -1,7 +1,7 @@
 //! Positions whose moves are known apart from the code, and each call of `board_core` once.
 
-use crate::comparing::check_same;
-use crate::positions::{position_of, square};
+use crate::tests::comparing::check_same;
+use crate::tests::positions::{position_of, square};
 use board_core::{Bitboard, Square};
 use check_helpers::START;
 use std::process::Abort;

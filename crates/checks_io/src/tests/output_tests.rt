@@ -1,6 +1,6 @@
 //! How a program ends.
 
-use crate::comparing::check_same;
+use crate::tests::comparing::check_same;
 use check_helpers::Failing;
 use std::alloc::Global;
 use std::io::Write;

@@ -3,9 +3,9 @@
 ghost use Rattle.std.specs.Prelude.{◌≤◌};
 ghost use Rattle.board_core.specs.Delays.{most_delay};
 
-use crate::comparing::check_same;
-use crate::files::{files_of, is_added};
-use crate::positions::position_of;
+use crate::tests::comparing::check_same;
+use crate::tests::files::{files_of, is_added};
+use crate::tests::positions::position_of;
 use board_core::{Move, Verdict};
 use check_helpers::{QUEEN, QUEEN_PLIES, moves_of};
 use judge_core::{GameOutcome, ProbeFault, Set, Wdl};

@@ -1,6 +1,6 @@
 //! A game to the mate, as messages and records, and rows of numbers.
 
-use crate::arbiters::{Sent, message_of, record_of, stamp_of};
+use crate::tests::arbiters::{Sent, message_of, record_of, stamp_of};
 use board_core::Verdict;
 use check_helpers::START;
 use std::alloc::Global;

@@ -1,8 +1,8 @@
 //! What an arbiter of the longest game passes on where it is asked for moves.
 
-use crate::arbiters::{Sent, empty_keeper, message_of, open_first, record_from, stamp_of, text_of};
-use crate::comparing::{check_bytes, push_bytes};
-use crate::positions::move_of;
+use crate::tests::arbiters::{Sent, empty_keeper, message_of, open_first, record_from, stamp_of, text_of};
+use crate::tests::comparing::{check_bytes, push_bytes};
+use crate::tests::positions::move_of;
 use arbiter_core::{Keeper, MemoryKeeper, Outputs};
 use board_core::Move;
 use check_helpers::START;

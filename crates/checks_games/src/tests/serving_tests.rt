@@ -2,8 +2,8 @@
 
 ghost use Rattle.arbiter_core.specs.Delivers.{IsKept};
 
-use crate::arbiters::{empty_keeper, game, open_first, setup_of};
-use crate::comparing::{check_bytes, check_same, push_bytes};
+use crate::tests::arbiters::{empty_keeper, game, open_first, setup_of};
+use crate::tests::comparing::{check_bytes, check_same, push_bytes};
 use arbiter_core::{Arbiter, Keep, MemoryKeeper};
 use arbiter_server::{FileKeeper, Span, open_and_serve, serve};
 use check_helpers::{Failing, START};

@@ -1,6 +1,6 @@
 //! Seeded positions of all materials, whose indices are folded to what a script finds by counting placements one by one.
 
-use crate::comparing::check_same;
+use crate::tests::comparing::check_same;
 use arrayvec::ArrayVec;
 use board_core::{Kind, Men, Parts, Piece, Position, Rights, Side, Square};
 use place_index::{Material, Shape, index, place};

@@ -1,6 +1,6 @@
 //! The keeper over a file in memory, on a disk that loses power.
 
-use crate::comparing::check_same;
+use crate::tests::comparing::check_same;
 use arbiter_core::{KeepFault, Keeper};
 use arbiter_server::FileKeeper;
 use std::alloc::Global;

@@ -1,6 +1,6 @@
 //! A kept file, and a keeper over it, by the calls that are made for it, and by the calls of the system.
 
-use crate::comparing::{check_bytes, check_same, push_bytes};
+use crate::tests::comparing::{check_bytes, check_same, push_bytes};
 use arbiter_core::Keeper;
 use arbiter_server::FileKeeper;
 use std::alloc::Global;

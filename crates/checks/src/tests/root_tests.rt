@@ -1,7 +1,7 @@
 //! Root moves whose values the rules of chess decide, by a set without tables.
 
-use crate::comparing::check_same;
-use crate::positions::position_of;
+use crate::tests::comparing::check_same;
+use crate::tests::positions::position_of;
 use board_core::Move;
 use fen_text::read_move;
 use judge_core::{BoardState, Effect, RootMove, Set, ValueFault, Wdl};

@@ -1,6 +1,6 @@
 //! Messages: the worked rows, refusals in their order, and streams in pieces.
 
-use crate::comparing::{check_same, push_bytes};
+use crate::tests::comparing::{check_same, push_bytes};
 use board_core::{Move, Square};
 use move_msg::{Feeder, Message, MessageFault, Sender, Stamp, Wanted, Who, word};
 use std::alloc::Global;

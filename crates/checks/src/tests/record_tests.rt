@@ -1,6 +1,6 @@
 //! Records: the worked rows of both versions, and refusals in their order.
 
-use crate::comparing::{check_bytes, check_same};
+use crate::tests::comparing::{check_bytes, check_same};
 use move_msg::{Record, RecordFault, WrittenRecord, of_word};
 use std::alloc::Global;
 use std::process::Abort;

@@ -1,9 +1,9 @@
 //! A server of three games over keepers in memory, with moves that come early, twice or never, puts that fail, and stops.
 
-use crate::arbiters::{NAME, stamp_of};
-use crate::comparing::{check_bytes, check_same};
-use crate::playing::{MOVES, below, message_at, record_at};
-use crate::positions::position_of;
+use crate::tests::arbiters::{NAME, stamp_of};
+use crate::tests::comparing::{check_bytes, check_same};
+use crate::tests::playing::{MOVES, below, message_at, record_at};
+use crate::tests::positions::position_of;
 use arbiter_core::{Keep, Keeper, MemoryKeeper, name_of};
 use arbiter_server::{Found, Games, LineLog, Server, ServerConfig, Uncommitted, Unopened};
 use board_core::{Delay, Position};

@@ -2,8 +2,8 @@
 
 ghost use Rattle.arbiter_core.specs.Delivers.{IsKept};
 
-use crate::comparing::check_same;
-use crate::positions::{move_of, position_of};
+use crate::tests::comparing::check_same;
+use crate::tests::positions::{move_of, position_of};
 use arbiter_core::{Arbiter, Keeper, MemoryKeeper, Setup, name_of};
 use board_core::{Move, Verdict};
 use check_helpers::{START, moves_of};

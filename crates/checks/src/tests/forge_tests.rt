@@ -2,8 +2,8 @@
 
 ghost use Rattle.std.specs.Prelude.{◌<◌};
 
-use crate::comparing::{check_bytes, check_same};
-use crate::files::{BISHOP, KNIGHT, PAWN, PAWNS, queen_file};
+use crate::tests::comparing::{check_bytes, check_same};
+use crate::tests::files::{BISHOP, KNIGHT, PAWN, PAWNS, queen_file};
 use board_core::Side;
 use check_helpers::{Failing, QUEEN, QUEEN_PLIES, file_of};
 use place_index::{Material, PawnFile, index};
