@@ -4,7 +4,7 @@ use Rattle.game_teller.proofs.FollowLaws.{all_read, asked_all, asked_cut, asked_
 use Rattle.game_teller.proofs.following.Course.follow.Goals as goal
 
 pub loop-number-init : goal.loop-number-init
-loop-number-init g c = record { far = λ rules before by_tables by_delay has. begun rules _ _ _ _ has; fails = λ fault h. h; turns = AsksNone _ _ refl refl; gone = c.requires.gone; set = refl; delay = refl }
+loop-number-init g c = record { far = λ rules before by_tables by_delay has. begun rules _ _ _ _ has; fails = λ fault h. h; turns = AsksNone _ _ refl refl; gone = c.requires; set = refl; delay = refl }
 
 pub loop-number-preserved : goal.loop-number-preserved
 loop-number-preserved g c =
