@@ -185,7 +185,7 @@ message_no_want r me old window (Fetch stamp who number wanted) = tt
 
 heard_no_want : (r : Rules) (me : Identity) (old : Recorded) (window : Window) (stamp : Stamp) (read : Result Message MessageFault) → IsNoWant (answer_heard r me old window (in_game stamp read))
 heard_no_want r me old window stamp (Ok message) =
-    cond_both (bytes_eq (stamp_in message).0 stamp.0) (Ok message) (Err Stranger) (λ said. IsNoWant (answer_heard r me old window said))
+    cond_both (bytes_eq (stamp_in message) stamp) (Ok message) (Err Stranger) (λ said. IsNoWant (answer_heard r me old window said))
     (λ _. message_no_want r me old window message) (λ _ e. cc)
 heard_no_want r me old window stamp (Err fault) = λ e. cc
 

@@ -104,7 +104,7 @@ version s d b = refl
 one_written : (t u : List ℕ) (r : Record) → WritesRecord t r → WritesRecord u r → t ≡ u
 one_written t u r w x =
     one_record_spelling t u r (is_spelled t r w) (is_spelled u r x)
-    (ap (λ (bytes : List ℕ). slice_index bytes 2) w.text ∙ version r.stamp.0 r.delay w.body ∙ sym (version r.stamp.0 r.delay x.body) ∙ sym (ap (λ (bytes : List ℕ). slice_index bytes 2) x.text))
+    (ap (λ (bytes : List ℕ). slice_index bytes 2) w.text ∙ version r.stamp r.delay w.body ∙ sym (version r.stamp r.delay x.body) ∙ sym (ap (λ (bytes : List ℕ). slice_index bytes 2) x.text))
 
 one_kept : (stamp : Stamp) (delay : ℕ) (a b : Option (List ℕ)) (kept : Option Recorded) → KeptIs stamp delay a kept → KeptIs stamp delay b kept → a ≡ b
 one_kept stamp delay a b None f g = f ∙ sym g

@@ -29,12 +29,6 @@ use Rattle.relay_world.specs.Inside.Seats.{PlaceIs, PlaceView, Shut, Open, IsOpe
 use Rattle.relay_world.specs.Inside.Fields.{place_view, setup_in}
 use Rattle.relay_world.specs.Runs.{KeptIs}
 
-abbrev stamp_from : List ℕ → Stamp
-stamp_from x = record { 0 = x }
-
-same_stamp : (a b : Stamp) → a.0 ≡ b.0 → a ≡ b
-same_stamp a b e = ap stamp_from e
-
 same_who : (a b : Who) → who_number a ≡ who_number b → a ≡ b
 same_who A A e = refl
 same_who B B e = refl
@@ -44,7 +38,7 @@ same_who B A e = cc
 -- a setup has one identity
 one_identity : (setup : SetupView) (i me : Identity) → IsIdentity setup i → IsIdentity setup me → i ≡ me
 one_identity setup i me f g =
-    made i.stamp me.stamp i.who me.who (same_stamp i.stamp me.stamp (f.stamp ∙ sym g.stamp)) (same_who i.who me.who (f.who ∙ sym g.who))
+    made i.stamp me.stamp i.who me.who (f.stamp ∙ sym g.stamp) (same_who i.who me.who (f.who ∙ sym g.who))
   where
     made : (s t : Stamp) (a b : Who) → s ≡ t → a ≡ b → ◌≡◌ {A = Identity} (record { stamp = s; who = a }) (record { stamp = t; who = b })
     made s t a b e d = cc

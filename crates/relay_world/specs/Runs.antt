@@ -42,7 +42,7 @@ pub record IsGame (game : GameView) : Type 0 where
 abbrev pub judged_by : GameView → Tables → List ℕ → Judged
 judged_by game tables manifest = record {
   rules = record { start = game.start; tables = tables; delay = game.delay };
-  stamp = record { 0 = stamp_of game.name (fen_of game.start) manifest game.delay };
+  stamp = stamp_of game.name (fen_of game.start) manifest game.delay;
   moves = game.moves;
 }
 

@@ -1,17 +1,18 @@
 //! A game of which two arbiters keep the record.
 
-ghost use Rattle.std.specs.Prelude.{◌≡◌, ◌≤◌, ◌<◌, ◌↔◌, ◌⊎◌, length, IfOk, IsErrOf};
+ghost use Rattle.std.specs.Prelude.{◌≡◌, ◌≤◌, ◌<◌, ◌↔◌, length, IfOk, IsErrOf};
 ghost use Rattle.arbiter_core.specs.Setups.{IsGood, setup_view};
 ghost use Rattle.board_core.specs.Delays.{most_delay};
 ghost use Rattle.move_msg.specs.Numbers.{most_moves};
+ghost use Rattle.move_msg.specs.Senders.{who_number};
 ghost use Rattle.move_msg.specs.Stamps.{IsGameName};
 ghost use Rattle.relay_world.specs.Runs.{IsGame, judged_by};
 
 use crate::fault::GameFault;
 use arbiter_core::{Setup, name_of};
-use board_core::{Move, Position};
+use board_core::{Delay, Move, Position};
 use judge_core::Set;
-use move_msg::{MoveList, Stamp, is_game_name};
+use move_msg::{MoveList, Stamp, Who, is_game_name};
 use std::alloc::Global;
 use std::marker::Model;
 use std::vec::Vec;
@@ -23,7 +24,7 @@ pub struct Game {
     name: Vec<u8>,
     start: Position,
     moves: MoveList,
-    delay: u8,
+    delay: Delay,
 }
 
 impl Model for Game {
@@ -60,9 +61,9 @@ impl Game {
         if moves.len() > 4096 {
             return Err(GameFault::TooManyMoves);
         }
-        if delay > 8 {
+        let Some(delay) = Delay::new(delay) else {
             return Err(GameFault::BadDelay);
-        }
+        };
         let Ok(name) = Vec::from_slice(alloc, name) else {
             return Err(GameFault::OutOfMemory);
         };
@@ -89,21 +90,20 @@ impl Game {
     pub(crate) fn stamp(&self, manifest: &[u8]) -> Stamp
         ensures { (tables : _) → result ≡ (judged_by self.now tables manifest.now).stamp }
     {
-        Stamp::of(&self.name, &self.start, manifest, self.delay).unwrap()
+        Stamp::of(&self.name, &self.start, manifest, self.delay.plies()).unwrap()
     }
 
-    /// The setup of the arbiter with this number.
-    pub(crate) fn setup<'a>(&'a self, manifest: &'a [u8], me: u8, set: Set<'a>) -> Setup<'a>
-        requires { (me ≡ 1) ⊎ (me ≡ 2) }
-        ensures is { setup_view result ≡ record { name = self.now.name; start = self.now.start; manifest = manifest.now; me = me; delay = self.now.delay; set = set.entry } }
+    /// The setup of one of the two arbiters.
+    pub(crate) fn setup<'a>(&'a self, manifest: &'a [u8], me: Who, set: Set<'a>) -> Setup<'a>
+        ensures is { setup_view result ≡ record { name = self.now.name; start = self.now.start; manifest = manifest.now; me = who_number me; delay = self.now.delay; set = set.entry } }
         ensures good { IsGood (setup_view result) }
     {
         Setup {
             name: name_of(&self.name),
             start: self.start,
             manifest,
-            me,
-            delay: self.delay,
+            me: me.number(),
+            delay: self.delay.plies(),
             set,
         }
     }

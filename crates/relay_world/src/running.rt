@@ -24,7 +24,7 @@ use crate::world::World;
 use arbiter_core::MemoryKeeper;
 use board_core::Move;
 use judge_core::Set;
-use move_msg::{Message, Sender, Stamp};
+use move_msg::{Message, Sender, Stamp, Who};
 use place_index::tables_are_numbered;
 use std::alloc::{AllocError, Global};
 use std::vec::Vec;
@@ -64,8 +64,8 @@ fn begin<'a>(
     let first_keeper = MemoryKeeper::new(alloc)?;
     let second_keeper = MemoryKeeper::new(alloc)?;
     let log = sent(alloc, stamp, game.moves())?;
-    let a = game.setup(manifest, 1, first);
-    let b = game.setup(manifest, 2, second);
+    let a = game.setup(manifest, Who::A, first);
+    let b = game.setup(manifest, Who::B, second);
     Ok(Pair {
         stamp,
         first: Seat::closed(a, first_keeper),

@@ -24,7 +24,7 @@ get_in (x ∷ xs) (suc i) d m l e = get_in xs i d m (omega arith) e
 
 -- a message of the game is heard
 ours_said : (stamp : Stamp) (m : Message) → stamp_in m ≡ stamp → in_game stamp (Ok m) ≡ Ok m
-ours_said stamp m e = cond-true (bytes_eq (stamp_in m).0 stamp.0) (Ok m) (Err Stranger) ((bytes_eq-Decides (stamp_in m).0 stamp.0).1 (ap (λ (s : Stamp). s.0) e))
+ours_said stamp m e = cond-true (bytes_eq (stamp_in m) stamp) (Ok m) (Err Stranger) ((bytes_eq-Decides (stamp_in m) stamp).1 e)
 
 pub returns : goal.returns
 returns c =
