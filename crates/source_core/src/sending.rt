@@ -75,13 +75,13 @@ fn end_of(turn: Turn) -> Option<End>
 
 /// Sends the move of a line that was read. Returns the end of the run, if it ends.
 fn send_line<P: Port>(
-    terms: Terms,
+    terms: &Terms,
     number: Count,
     line: &[u8],
     course: &mut Course,
     port: &mut P,
 ) -> Option<End>
-    ensures { StepsOn terms number line.now course.old course.new (P.facts port.old) (P.facts port.new) result }
+    ensures { StepsOn terms.now number line.now course.old course.new (P.facts port.old) (P.facts port.new) result }
 {
     match &move_of(line, &course.position, number) {
         Err(end) => Some(*end),
@@ -118,8 +118,8 @@ fn end_at(known: &Known, number: u32, position: &Position) -> End
 
 /// Sends the last acknowledged move once more, which an arbiter answers with its count and its verdict. Receives what
 /// still comes in time, and returns the end of the run.
-fn close<P: Port>(terms: Terms, number: u32, course: &mut Course, port: &mut P) -> End
-    ensures { Closes terms number course.old.position course.old.last course.old.known (P.facts port.old) (P.facts port.new) result }
+fn close<P: Port>(terms: &Terms, number: u32, course: &mut Course, port: &mut P) -> End
+    ensures { Closes terms.now number course.old.position course.old.last course.old.known (P.facts port.old) (P.facts port.new) result }
 {
     send_again(terms.stamp, number.saturating_sub(1), &course.last, port);
     match receive_all(terms, 0, number, &mut course.known, port) {
@@ -131,14 +131,14 @@ fn close<P: Port>(terms: Terms, number: u32, course: &mut Course, port: &mut P) 
 
 /// Reads the next line and sends its move. Returns the end of the run, if it ends.
 fn step<L: LineReader, P: Port>(
-    terms: Terms,
+    terms: &Terms,
     number: Count,
     reader: &mut L,
     line: &mut Vec<u8>,
     course: &mut Course,
     port: &mut P,
 ) -> Option<End>
-    ensures steps { StepsAt terms number (L.facts reader.old) (L.facts reader.new) course.old course.new (P.facts port.old) (P.facts port.new) result }
+    ensures steps { StepsAt terms.now number (L.facts reader.old) (L.facts reader.new) course.old course.new (P.facts port.old) (P.facts port.new) result }
     ensures asked { AsksOnce (L.facts reader.old) (L.facts reader.new) result }
     ensures same { (L.facts reader.new).fails → (L.facts reader.old).fails }
     ensures room { (L.facts reader.new).takes_memory → (L.facts reader.old).takes_memory }
@@ -207,7 +207,7 @@ pub fn send_game<L: LineReader, P: Port, W: Output>(
         let Some(count) = Count::new(number) else {
             break;
         };
-        match step(terms, count, reader, &mut line, &mut course, port) {
+        match step(&terms, count, reader, &mut line, &mut course, port) {
             None => match put_now(out, &Line::Acked(number + 1)) {
                 Ok(()) => {}
                 Err(fault) => return Err(fault),

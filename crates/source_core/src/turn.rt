@@ -120,8 +120,8 @@ fn times_at(index: u32) -> u32
 
 /// How long the next datagram is awaited in a try: where both have acknowledged the move, two milliseconds for the verdicts that may
 /// follow.
-fn wait_at(terms: Terms, index: u32, number: u32, known: &Known) -> Duration
-    ensures { IsWaitBy terms.wait index number known.now (as_nanos result) }
+fn wait_at(terms: &Terms, index: u32, number: u32, known: &Known) -> Duration
+    ensures { IsWaitBy terms.now.wait index number known.now (as_nanos result) }
 {
     match known.standing(number) {
         Standing::Acked => Duration::from_millis(2),
@@ -131,13 +131,13 @@ fn wait_at(terms: Terms, index: u32, number: u32, known: &Known) -> Duration
 
 /// Receives datagrams and adds their reports, until none comes in time, both have reported a verdict, or 2^64 - 1 datagrams came.
 pub(crate) fn receive_all<P: Port>(
-    terms: Terms,
+    terms: &Terms,
     index: u32,
     number: u32,
     known: &mut Known,
     port: &mut P,
 ) -> Next
-    ensures { IsEndOfTry terms index number known.old known.new (P.facts port.old) (P.facts port.new) result }
+    ensures { IsEndOfTry terms.now index number known.old known.new (P.facts port.old) (P.facts port.new) result }
 {
     for _ in 0..MOST_ANSWERS {
         if is_ruled(known) {
@@ -179,14 +179,14 @@ fn loss_of(next: Next) -> Option<Turn>
 
 /// Sends a datagram to each address, and receives what comes then. Returns the end of the turn, if it ends.
 fn try_once<P: Port>(
-    terms: Terms,
+    terms: &Terms,
     index: u32,
     number: u32,
     known: &mut Known,
     port: &mut P,
     bytes: &[u8],
 ) -> Option<Turn>
-    ensures { HasTriedOnce terms index number (P.facts port.old).addresses bytes.now known.old known.new (P.facts port.old) (P.facts port.new) result }
+    ensures { HasTriedOnce terms.now index number (P.facts port.old).addresses bytes.now known.old known.new (P.facts port.old) (P.facts port.new) result }
 {
     send(port, bytes);
     loss_of(receive_all(terms, index, number, known, port))
@@ -221,14 +221,14 @@ pub(crate) fn send_again<P: Port>(stamp: Stamp, number: u32, last: &Option<Move>
 /// A move that is acknowledged already isn't sent. Nothing else is sent. A reported verdict that the board belies ends the turn after
 /// its try.
 pub fn take_turn<P: Port>(
-    terms: Terms,
+    terms: &Terms,
     number: u32,
     m: Move,
     board: Board<'_>,
     known: &mut Known,
     port: &mut P,
 ) -> Turn
-    ensures { (tries : List (List Passing)) × IsTurn terms number m board.entry.plies board.entry.position.now (P.facts port.old) (P.facts port.new) known.old known.new result tries }
+    ensures { (tries : List (List Passing)) × IsTurn terms.now number m board.entry.plies board.entry.position.now (P.facts port.old) (P.facts port.new) known.old known.new result tries }
 {
     let bytes = datagram_of(terms.stamp, number, m);
     for index in 0..terms.tries {

@@ -10,4 +10,4 @@ returns-in-Err g c =
 pub returns-in-Ok : goal.returns-in-Ok
 returns-in-Ok g c =
     let played = rw c.in-Ok.is at c.move_of.ensures.ok in
-    steps_on _ _ _ _ _ _ c.in-Ok.m _ _ _ c.take_turn.result _ refl played c.take_turn.ensures c.end_of.ensures
+    steps_on _ _ _ _ _ _ c.in-Ok.m _ _ _ c.take_turn.result _ refl played (rw c.number-number.ensures.value at c.take_turn.ensures) c.end_of.ensures
