@@ -21,7 +21,7 @@ use Rattle.arbiter_core.specs.Views.{View, spelled_as}
 
 -- what a reading of bytes says to an arbiter of the game with this stamp
 abbrev pub in_game : Stamp → Result Message MessageFault → Result Message DeliverFault
-in_game stamp (Ok message) = cond (bytes_eq (stamp_in message).0 stamp.0) (Ok message) (Err Stranger)
+in_game stamp (Ok message) = cond (bytes_eq (stamp_in message) stamp) (Ok message) (Err Stranger)
 in_game stamp (Err fault) = Err (NotAMessage fault)
 
 -- what bytes say to it: a message of the game, or why there is none

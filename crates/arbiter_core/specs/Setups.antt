@@ -25,7 +25,7 @@ setup_view s = record { name = s.name.items; start = s.start; manifest = s.manif
 
 -- terms with tables
 abbrev pub terms_with : Terms → Holding → SetupView
-terms_with t set = record { name = t.name.items; start = t.start; manifest = t.manifest.now; me = t.me; delay = t.delay; set = set }
+terms_with t set = record { name = t.name.items; start = t.start; manifest = t.manifest.now; me = who_number t.me; delay = t.delay; set = set }
 
 -- how the game is judged
 abbrev pub rules_at : SetupView → Rules
@@ -39,5 +39,5 @@ pub record IsGood (setup : SetupView) : Type 0 where
 
 -- the arbiter of a setup has this stamp and is this one of the two
 pub record IsIdentity (setup : SetupView) (me : Identity) : Type 0 where
-  pub stamp : me.stamp.0 ≡ stamp_of setup.name (fen_of setup.start) setup.manifest setup.delay
+  pub stamp : me.stamp ≡ stamp_of setup.name (fen_of setup.start) setup.manifest setup.delay
   pub who : who_number me.who ≡ setup.me

@@ -103,7 +103,6 @@ impl<'a> Arbiter<'a> {
         let Arbiter { state, set } = self;
         let ArbiterState {
             terms,
-            who: _,
             played: _,
             window: _,
             down: _,

@@ -19,8 +19,9 @@ use crate::played::Played;
 use crate::setup::{Setup, Terms};
 use crate::state::ArbiterState;
 use crate::window::Window;
+use board_core::Delay;
 use judge_core::{GameOutcome, Set, Standing, Verdict};
-use move_msg::{MoveList, Record, RecordFault, Stamp, Who, WrittenRecord};
+use move_msg::{MoveList, Record, RecordFault, Stamp, WrittenRecord};
 use std::alloc::{AllocError, Global};
 
 /// Why an arbiter was not opened, and the setup as it was given, but for its cache.
@@ -32,22 +33,13 @@ pub struct Refused<'a> {
     pub setup: Setup<'a>,
 }
 
-/// The identity of an arbiter by its setup; none where the setup is bad.
-fn identify(terms: &Terms<'_>) -> Option<(Stamp, Who)>
-    ensures some { (set : Holding) → IfSome result (λ me. IsGood (terms_with terms.now set) × IsIdentity (terms_with terms.now set) (record { stamp = me.0; who = me.1 })) }
+/// The stamp of the game by its terms; none where no game has the name.
+fn identify(terms: &Terms<'_>) -> Option<Stamp>
+    ensures some { (set : Holding) → IfSome result (λ stamp. IsGood (terms_with terms.now set) × IsIdentity (terms_with terms.now set) (record { stamp = stamp; who = terms.now.me })) }
     ensures none { (set : Holding) → IfNone result (IsGood (terms_with terms.now set) → ⊥) }
 {
-    if terms.delay > 8 {
-        return None;
-    }
-    let Some(who) = Who::of_number(terms.me) else {
-        return None;
-    };
     let name = terms.name.as_slice();
-    let Some(stamp) = Stamp::of(name, &terms.start, terms.manifest, terms.delay) else {
-        return None;
-    };
-    Some((stamp, who))
+    Stamp::of(name, &terms.start, terms.manifest, terms.delay.plies())
 }
 
 /// The verdict at the last ply of a game of so many moves; none where the game doesn't get there.
@@ -68,10 +60,10 @@ fn at_end(outcome: GameOutcome, count: usize) -> Option<Option<Verdict>>
 }
 
 /// Whether a record is of the game with this stamp, judged with this delay.
-fn is_of_game(kept: &Record, stamp: Stamp, delay: u8) -> bool
+fn is_of_game(kept: &Record, stamp: Stamp, delay: Delay) -> bool
     ensures { IsTrue result ↔ ((kept.now.stamp ≡ stamp) × (kept.now.delay ≡ delay)) }
 {
-    kept.stamp == stamp && kept.delay == delay
+    kept.stamp == stamp && kept.delay == delay.plies()
 }
 
 /// The recorded state from a record, if it is one of this game that an arbiter can run from. `OutOfMemory` comes only
@@ -83,7 +75,6 @@ fn go_on_from(
     stamp: Stamp,
     kept: WrittenRecord,
 ) -> Result<Played, OpenFault>
-    requires { terms.now.delay ≤ 8 }
     ensures same { tables.new ≡ tables.old }
     ensures ok { IfOk result (λ p. IsPlayedRecord (terms_with terms.now tables.old) stamp p × (p.record ≡ kept) × IsWhole (rules_at (terms_with terms.now tables.old)) (recorded_by kept)) }
     ensures err { IfErr result (IsNotResumed (rules_at (terms_with terms.now tables.old)) stamp kept) }
@@ -116,7 +107,6 @@ fn resume(
     stamp: Stamp,
     bytes: &[u8],
 ) -> Result<Played, OpenFault>
-    requires { terms.now.delay ≤ 8 }
     ensures same { tables.new ≡ tables.old }
     ensures ok { IfOk result (λ p. IsPlayedRecord (terms_with terms.now tables.old) stamp p × IsResumed (rules_at (terms_with terms.now tables.old)) stamp bytes.now (recorded_in p)) }
     ensures err { IfErr result (IsBadKept (rules_at (terms_with terms.now tables.old)) stamp bytes.now) }
@@ -138,7 +128,6 @@ fn first(
     terms: &Terms<'_>,
     stamp: Stamp,
 ) -> Result<(Record, Standing), AllocError>
-    requires { terms.now.delay ≤ 8 }
     ensures same { tables.new ≡ tables.old }
     ensures ok { IfOk result (λ f. IsPlayedRecord (terms_with terms.now tables.old) stamp (played_of f.0 f.1) × (recorded_by f.0 ≡ first_record (rules_at (terms_with terms.now tables.old)))) }
     ensures memory { OnErr result (ListsMovesForVerdict tables.old.tables terms.now.start) }
@@ -147,7 +136,7 @@ fn first(
     let verdict = standing.verdict(terms.delay);
     let record = Record {
         stamp,
-        delay: terms.delay,
+        delay: terms.delay.plies(),
         verdict,
         moves: MoveList::from_vec(Vec::new(alloc)),
     };
@@ -162,7 +151,6 @@ fn put_first<K: Keeper>(
     terms: &Terms<'_>,
     stamp: Stamp,
 ) -> Result<Played, OpenFault>
-    requires { terms.now.delay ≤ 8 }
     ensures same { tables.new ≡ tables.old }
     ensures put { (who : Who) → IsPutFirst K.facts (terms_with terms.now tables.old) (record { stamp = stamp; who = who }) keeper.old keeper.new result }
 {
@@ -186,7 +174,6 @@ fn recorded<K: Keeper>(
     terms: &Terms<'_>,
     stamp: Stamp,
 ) -> Result<Played, OpenFault>
-    requires { terms.now.delay ≤ 8 }
     ensures same { tables.new ≡ tables.old }
     ensures played { IfOk result (IsPlayedRecord (terms_with terms.now tables.old) stamp) }
     ensures opens { OpensAsEither K.facts (terms_with terms.now tables.old) stamp keeper.old keeper.new result }
@@ -229,7 +216,7 @@ impl<'a> ArbiterState<'a> {
         ensures keeps { IfOk result (λ a. IsKept (K.facts.kept keeper.new) (awake a tables.old)) }
         ensures good { OpensIfGood K.facts (terms_with terms.entry tables.old) keeper.old keeper.new (result_map_both (λ a. awake a tables.old) (λ r. r.fault) result) }
     {
-        let Some((stamp, who)) = identify(&terms) else {
+        let Some(stamp) = identify(&terms) else {
             return Err(RefusedTerms {
                 fault: OpenFault::BadSetup,
                 terms,
@@ -238,7 +225,6 @@ impl<'a> ArbiterState<'a> {
         match recorded(alloc, keeper, tables, &terms, stamp) {
             Ok(played) => Ok(ArbiterState {
                 terms,
-                who,
                 played,
                 window: Window::empty(),
                 down: false,
@@ -272,7 +258,15 @@ impl<'a> Arbiter<'a> {
         ensures keeps { IfOk result (λ a. IsKept (K.facts.kept keeper.new) a) }
         ensures good { OpensIfGood K.facts (setup_view setup.entry) keeper.old keeper.new (result_map_both (λ a. a) (λ r. r.fault) result) }
     {
-        let (terms, set) = setup.apart();
+        let (terms, set) = match setup.apart() {
+            Ok(parts) => parts,
+            Err(setup) => {
+                return Err(Refused {
+                    fault: OpenFault::BadSetup,
+                    setup,
+                });
+            }
+        };
         let mut set = set;
         match ArbiterState::open(alloc, &mut set, keeper, terms) {
             Ok(state) => Ok(Arbiter::wake(state, set)),

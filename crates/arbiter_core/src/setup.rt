@@ -1,11 +1,12 @@
 //! What an arbiter is opened from.
 
-ghost use Rattle.std.specs.Prelude.{◌≡◌, ◌≤◌, length};
-ghost use Rattle.arbiter_core.specs.Setups.{setup_view, terms_with};
+ghost use Rattle.std.specs.Prelude.{◌≡◌, ◌≤◌, length, IfOk, IfErr, IsErr};
+ghost use Rattle.arbiter_core.specs.Setups.{IsGood, setup_view, terms_with};
 
 use arrayvec::ArrayVec;
-use board_core::Position;
+use board_core::{Delay, Position};
 use judge_core::Set;
+use move_msg::Who;
 
 /// The bytes of a name, at most 64.
 pub type Name = ArrayVec<u8, 64>;
@@ -37,7 +38,7 @@ pub struct Setup<'a> {
     pub set: Set<'a>,
 }
 
-/// All of a setup but its tables.
+/// All of a setup but its tables, of one of the two arbiters and with a delay of at most 8 plies.
 #[derive(Drop)]
 pub struct Terms<'a> {
     /// The name of the game, as in `Setup`.
@@ -46,23 +47,31 @@ pub struct Terms<'a> {
     pub start: Position,
     /// The manifest of the tables.
     pub manifest: &'a [u8],
-    /// Which of the two arbiters it is, 1 or 2.
-    pub me: u8,
-    /// For how many further plies a verdict by tables must hold, 0 to 8.
-    pub delay: u8,
+    /// Which of the two arbiters it is.
+    pub me: Who,
+    /// For how many further plies a verdict by tables must hold.
+    pub delay: Delay,
 }
 
 impl<'a> Setup<'a> {
-    /// The tables, and all else.
-    pub(crate) fn apart(self) -> (Terms<'a>, Set<'a>)
-        ensures { terms_with result.0 result.1 ≡ setup_view self.entry }
+    /// The terms and the tables. Where the number is none of an arbiter, or the delay is above 8, it gives the setup back.
+    pub(crate) fn apart(self) -> Result<(Terms<'a>, Set<'a>), Setup<'a>>
+        ensures ok { IfOk result (λ parts. terms_with parts.0 parts.1 ≡ setup_view self.entry) }
+        ensures back { IfErr result (λ setup. setup_view setup ≡ setup_view self.entry) }
+        ensures bad { IsErr result → IsGood (setup_view self.entry) → ⊥ }
     {
+        let Some(me) = Who::of_number(self.me) else {
+            return Err(self);
+        };
+        let Some(delay) = Delay::new(self.delay) else {
+            return Err(self);
+        };
         let Setup {
             name,
             start,
             manifest,
-            me,
-            delay,
+            me: _,
+            delay: _,
             set,
         } = self;
         let terms = Terms {
@@ -72,7 +81,7 @@ impl<'a> Setup<'a> {
             me,
             delay,
         };
-        (terms, set)
+        Ok((terms, set))
     }
 }
 
@@ -92,8 +101,8 @@ impl<'a> Terms<'a> {
             name,
             start,
             manifest,
-            me,
-            delay,
+            me: me.number(),
+            delay: delay.plies(),
             set,
         }
     }

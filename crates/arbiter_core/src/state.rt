@@ -34,7 +34,6 @@ pub type Outputs = SmallVec<Message, 4>;
 #[derive(Drop)]
 pub struct ArbiterState<'a> {
     pub(crate) terms: Terms<'a>,
-    pub(crate) who: Who,
     pub(crate) played: Played,
     pub(crate) window: Window,
     pub(crate) down: bool,
@@ -72,11 +71,10 @@ fn sent(
     alloc: Global,
     stamp: Stamp,
     who: Who,
-    number: u32,
+    number: Count,
     moves: &[Move],
 ) -> Result<Outputs, AllocError>
-    requires few { length moves.now ≤ 8 }
-    requires in_range { number ≤ 4096 }
+    requires { length moves.now ≤ 8 }
     ensures ok { IfOk result (λ o. o.items ≡ sent_by stamp (Sender.Arbiter who) number moves.now) }
     ensures inline { IsErr result → 4 < length (sent_by stamp (Sender.Arbiter who) number moves.now) }
 {
@@ -85,7 +83,7 @@ fn sent(
         let message = Message::Move {
             stamp,
             sender: Sender::Arbiter(who),
-            number: number + i as u32,
+            number: number.number() + i as u32,
             m: moves[i],
         };
         let Ok(()) = outputs.push(message) else {
@@ -139,7 +137,7 @@ impl<'a> ArbiterState<'a> {
         let outputs = tell(
             alloc,
             record.stamp,
-            self.who,
+            self.terms.me,
             record.moves.count(),
             plan.verdict,
         );
@@ -186,14 +184,14 @@ impl<'a> ArbiterState<'a> {
         let record = self.played.record.as_record();
         let count = record.moves.count();
         if record.verdict.is_some() || number < count.number() {
-            return Ok(tell(alloc, record.stamp, self.who, count, record.verdict));
+            return Ok(tell(alloc, record.stamp, self.terms.me, count, record.verdict));
         }
         if number >= count.number() + 32 {
             return Err(DeliverFault::TooFarAhead);
         }
         if number > count.number() {
             self.window.wait((number - count.number() - 1) as usize, *m);
-            return Ok(tell(alloc, record.stamp, self.who, count, None));
+            return Ok(tell(alloc, record.stamp, self.terms.me, count, None));
         }
         let Some(position) = self.position_after(*m) else {
             return Err(DeliverFault::IllegalMove);
@@ -203,7 +201,7 @@ impl<'a> ArbiterState<'a> {
 
     /// Whether a message is of this arbiter's game.
     fn is_own(&self, message: &Message) -> bool
-        ensures { result ≡ bytes_eq (stamp_in message.now).0 self.now.me.stamp.0 }
+        ensures { result ≡ bytes_eq (stamp_in message.now) self.now.me.stamp }
     {
         message.stamp() == self.played.record.as_record().stamp
     }
@@ -221,8 +219,8 @@ impl<'a> ArbiterState<'a> {
         sent(
             alloc,
             record.stamp,
-            self.who,
-            number.number(),
+            self.terms.me,
+            number,
             &moves[first..last],
         )
     }
@@ -239,7 +237,7 @@ impl<'a> ArbiterState<'a> {
         }
         Some(Message::Fetch {
             stamp: record.stamp,
-            who: self.who,
+            who: self.terms.me,
             number: count,
             wanted: Wanted::most(),
         })

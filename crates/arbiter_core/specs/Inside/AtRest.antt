@@ -1,4 +1,5 @@
 -- What the fields of an arbiter at rest stand for.
+use Rattle.move_msg.specs.Senders.{who_number}
 use Rattle.arbiter_core.specs.declared.state.ArbiterState.TheInside.{Inside}
 use Rattle.arbiter_core.specs.Resting.{Rest}
 use Rattle.arbiter_core.specs.Inside.Playing.{recorded_in}
@@ -8,9 +9,9 @@ rest_of a = record {
   name = a.terms.name.items;
   start = a.terms.start;
   manifest = a.terms.manifest.now;
-  number = a.terms.me;
+  number = who_number a.terms.me;
   delay = a.terms.delay;
-  me = record { stamp = a.played.record.stamp; who = a.who };
+  me = record { stamp = a.played.record.stamp; who = a.terms.me };
   kept = recorded_in a.played;
   window = a.window;
   is_down = a.down;
