@@ -129,6 +129,7 @@ fn unopened_kind(stamp: Stamp, why: Unopened) -> Option<usize>
     ensures is { place_in 0 common (ended (unopened_words why)) ≡ result }
     ensures few { IfSome result (λ kind. kind < 8) }
 {
+    let _bytes = stamp.0;
     match why {
         Unopened::NoGame => Some(0),
         Unopened::NotOpen => Some(1),
@@ -142,6 +143,7 @@ fn open_kind(stamp: Stamp) -> Option<usize>
     ensures long { length stamp ≡ 16 }
     ensures none { result ≡ None }
 {
+    let _bytes = stamp.0;
     None
 }
 

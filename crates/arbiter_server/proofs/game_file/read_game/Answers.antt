@@ -1,4 +1,6 @@
-use Rattle.std.proofs.Common.{ℕ, List, sym}
+use Rattle.std.proofs.Common.{◌∙◌, ℕ, List, length, ap, subst, sym}
+use Rattle.std.specs.Borrow.{Bor}
+use Rattle.std.specs.Prelude.{◌==◌}
 use Rattle.board_core.specs.declared.parts.Parts.{Parts}
 use Rattle.arbiter_server.specs.declared.game_lines.GameFileFault.TheVariants.{Delay, More, Name, Start}
 use Rattle.arbiter_server.specs.GameFiles.{HasStart, IsFirstGameFault, SpellsGame, game_as_told}
@@ -43,7 +45,7 @@ returns-in_default-delay_in-clause-err c = delay_missing c
 more_there : (c : goal.Then-not-is_empty) → IsFirstGameFault c.args.bytes.now More
 more_there c =
     let start = starts c.in-Some.rest.now c.in-Some-start_text_in.fen.now c.in-Some-start_text_in.rest.now c.in-Ok.start c.in-Ok.ensures.position c.in-Some-start_text_in.ensures.some c.in-Ok.ensures.one_text in
-    let end = is_some c.in-Some-delay_in.rest.now c.if-not-is_empty.ensures in
+    let end = is_some c.in-Some-delay_in.rest.now (c.if-not-is_empty.ensures ∙ ap (λ (rest : Bor (List ℕ)). length rest.now == 0) c.in-Some-delay_in.rest-is) in
     (c.in-Some.name.now, c.in-Some.rest.now, c.in-Some.ensures.some, (c.in-Ok.start, c.in-Some-start_text_in.rest.now, start, (c.in-Some-delay_in.delay, c.in-Some-delay_in.rest.now, c.in-Some-delay_in.ensures.some, end)))
 
 pub returns-then-not-is_empty-clause-only : goal.returns-then-not-is_empty-clause-only
@@ -55,11 +57,11 @@ returns-then-not-is_empty-clause-err c = more_there c
 whole : (c : goal.After-owned) → SpellsGame c.args.bytes.now (game_as_told c.owned.result.items c.in-Ok.start c.in-Some-delay_in.delay)
 whole c =
     let start = starts c.in-Some.rest.now c.in-Some-start_text_in.fen.now c.in-Some-start_text_in.rest.now c.in-Ok.start c.in-Ok.ensures.position c.in-Some-start_text_in.ensures.some c.in-Ok.ensures.one_text in
-    let end = is_none c.in-Some-delay_in.rest.now c.if-not-is_empty.ensures in
+    let end = is_none c.in-Some-delay_in.rest.now (c.if-not-is_empty.ensures ∙ ap (λ (rest : Bor (List ℕ)). length rest.now == 0) c.in-Some-delay_in.rest-is) in
     spelled c.args.bytes.now c.in-Some.name.now c.owned.result.items c.in-Some.rest.now c.in-Ok.start c.in-Some-start_text_in.rest.now c.in-Some-delay_in.delay c.in-Some-delay_in.rest.now c.in-Some.ensures.some c.owned.ensures start c.in-Some-delay_in.ensures.some end
 
-pub returns-clause-only : goal.returns-clause-only
-returns-clause-only c = λ g h. one_game c.args.bytes.now _ g (whole c) h
-
 pub returns-clause-ok : goal.returns-clause-ok
-returns-clause-ok c = whole c
+returns-clause-ok c = subst (λ (delay : ℕ). SpellsGame c.args.bytes.now (game_as_told c.owned.result.items c.in-Ok.start delay)) (sym c.in-Some-delay_in.delay-is) (whole c)
+
+pub returns-clause-only : goal.returns-clause-only
+returns-clause-only c = λ g h. one_game c.args.bytes.now _ g (returns-clause-ok c) h
