@@ -6,7 +6,7 @@ ghost use Rattle.arrayvec.specs.ArrayVec.{array_vec_len};
 ghost use Rattle.arbiter_server.specs.GameFiles.{GameContents, IsFirstGameFault, SpellsGame, game_as_told, game_text};
 ghost use Rattle.move_msg.specs.TextLines.{ended};
 
-use crate::game_lines::{GameFileFault, delay_in, name_in, start_text_in};
+use crate::game_lines::{GameFileFault, delay_of_digit, delay_text_in, name_in, start_text_in};
 use arrayvec::ArrayVec;
 use board_core::{Delay, Position};
 use fen_text::{read, write};
@@ -86,7 +86,10 @@ pub fn read_game(bytes: &[u8]) -> Result<Game, GameFileFault>
     let Ok(start) = read(fen) else {
         return Err(GameFileFault::Start);
     };
-    let Some((delay, rest)) = delay_in(rest) else {
+    let Some((digit, rest)) = delay_text_in(rest) else {
+        return Err(GameFileFault::Delay);
+    };
+    let Some(delay) = delay_of_digit(digit) else {
         return Err(GameFileFault::Delay);
     };
     if !rest.is_empty() {

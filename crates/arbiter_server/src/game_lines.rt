@@ -87,6 +87,15 @@ pub(crate) fn start_text_in(text: &[u8]) -> Option<(&[u8], &[u8])>
     value_after(text, b"start ")
 }
 
+/// The text that the next line tells as that of a delay, and the text after that line.
+pub(crate) fn delay_text_in(text: &[u8]) -> Option<(&[u8], &[u8])>
+    ensures some { IfSome result (λ x. HasValue (codes "delay ") text.now x.0.now x.1.now) }
+    ensures only { IfSome result (λ x. (delay : ℕ) (rest : List ℕ) → HasDelay text.now delay rest → decimal delay ≡ x.0.now) }
+    ensures none { IfNone result ((delay : ℕ) (rest : List ℕ) → HasDelay text.now delay rest → ⊥) }
+{
+    value_after(text, b"delay ")
+}
+
 /// The delay of a digit.
 fn delay_by(digit: u8) -> Option<Delay>
     ensures some { IfSome result (λ delay. (delay ≤ most_delay) × (digit ≡ 48 + delay)) }
@@ -107,18 +116,4 @@ pub fn delay_of_digit(text: &[u8]) -> Option<Delay>
         return None;
     }
     delay_by(text[0])
-}
-
-/// The delay that the next line tells, and the text after that line.
-pub(crate) fn delay_in(text: &[u8]) -> Option<(Delay, &[u8])>
-    ensures some { IfSome result (λ x. HasDelay text.now x.0 x.1.now) }
-    ensures none { IfNone result ((delay : ℕ) (rest : List ℕ) → HasDelay text.now delay rest → ⊥) }
-{
-    let Some((digit, rest)) = value_after(text, b"delay ") else {
-        return None;
-    };
-    match delay_of_digit(digit) {
-        Some(delay) => Some((delay, rest)),
-        None => None,
-    }
 }
