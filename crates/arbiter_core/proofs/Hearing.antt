@@ -28,11 +28,11 @@ use Rattle.arbiter_core.proofs.Cases.{case_turn}
 
 -- ---- whose message it is
 
-pub is_own : (stamp : Stamp) (m : Message) → bytes_eq (stamp_in m).0 stamp.0 ≡ true → Ok m ≡ in_game stamp (Ok m)
-is_own stamp m is = sym (cond-true (bytes_eq (stamp_in m).0 stamp.0) (Ok m) (Err Stranger) is)
+pub is_own : (stamp : Stamp) (m : Message) → bytes_eq (stamp_in m) stamp ≡ true → Ok m ≡ in_game stamp (Ok m)
+is_own stamp m is = sym (cond-true (bytes_eq (stamp_in m) stamp) (Ok m) (Err Stranger) is)
 
-pub is_other : (stamp : Stamp) (m : Message) → bytes_eq (stamp_in m).0 stamp.0 ≡ false → Err Stranger ≡ in_game stamp (Ok m)
-is_other stamp m is = sym (cond-false (bytes_eq (stamp_in m).0 stamp.0) (Ok m) (Err Stranger) is)
+pub is_other : (stamp : Stamp) (m : Message) → bytes_eq (stamp_in m) stamp ≡ false → Err Stranger ≡ in_game stamp (Ok m)
+is_other stamp m is = sym (cond-false (bytes_eq (stamp_in m) stamp) (Ok m) (Err Stranger) is)
 
 -- ---- the answer to it
 

@@ -1,6 +1,7 @@
 //! Opening an arbiter.
 
 ghost use Rattle.std.specs.Prelude.{◌≡◌, ◌≤◌, IfOk, IfErr, IsErr, OnErr, IsTrue, ◌↔◌, IfSome, IfNone, Option, Some, None, Result, Ok, Err, false};
+ghost use Rattle.board_core.specs.Delays.{most_delay};
 ghost use Rattle.arbiter_core.specs.Setups.{setup_view, terms_with, rules_at, IsGood, IsIdentity};
 ghost use Rattle.std.specs.Result.{result_map_both};
 ghost use Rattle.move_msg.specs.declared.who.Who.{Who};
@@ -128,6 +129,7 @@ fn first(
     terms: &Terms<'_>,
     stamp: Stamp,
 ) -> Result<(Record, Standing), AllocError>
+    ensures in_range { IfOk result (λ f. f.0.delay ≤ most_delay) }
     ensures same { tables.new ≡ tables.old }
     ensures ok { IfOk result (λ f. IsPlayedRecord (terms_with terms.now tables.old) stamp (played_of f.0 f.1) × (recorded_by f.0 ≡ first_record (rules_at (terms_with terms.now tables.old)))) }
     ensures memory { OnErr result (ListsMovesForVerdict tables.old.tables terms.now.start) }

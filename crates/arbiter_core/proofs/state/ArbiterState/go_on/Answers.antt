@@ -44,8 +44,8 @@ returns-in-Ok-put g c =
     let counted : c.count.result ≡ move_count next = c.count.ensures ∙ ap (λ (r : Record). length r.moves) c.as_record-record.ensures in
     let told : c.tell-outputs.result.items ≡ told_now v.me next =
     c.tell-outputs.ensures
-    ∙ ap (λ (r : Record). told_of (record { stamp = r.stamp; who = c.self.inside.who }) c.count.result c.in-Ok.plan.verdict) c.as_record-record.ensures
-    ∙ ap (λ (s : Stamp). told_of (record { stamp = s; who = c.self.inside.who }) c.count.result c.in-Ok.plan.verdict) on.played.stamp_is
+    ∙ ap (λ (r : Record). told_of (record { stamp = r.stamp; who = c.self.inside.terms.me }) c.count.result c.in-Ok.plan.verdict) c.as_record-record.ensures
+    ∙ ap (λ (s : Stamp). told_of (record { stamp = s; who = c.self.inside.terms.me }) c.count.result c.in-Ok.plan.verdict) on.played.stamp_is
     ∙ ap (λ (n : ℕ). told_of v.me n c.in-Ok.plan.verdict) counted
     ∙ ap (λ (o : Option Verdict). told_of v.me (move_count next) o) (sym ruled) in
     let grown : move_count next ≡ length old.moves + length added = ap (λ (r : Record). length r.moves) is ∙ length-append old.moves added in
@@ -69,7 +69,7 @@ returns-in-Ok-put g c =
     record {
       same = c.in-Ok.ensures.same;
       wakes =
-          can_wake (record { terms = c.self.inside.terms; who = c.self.inside.who; played = p; window = c.if-is_some.window; down = c.self.inside.down }) set
+          can_wake (record { terms = c.self.inside.terms; played = p; window = c.if-is_some.window; down = c.self.inside.down }) set
           (next_in_order terms c.self.inside.played p c.args.m.now c.self.inside.window c.if-is_some.window order on near);
       answers = goes_ok g.K.Keeper.facts v (awake c.args.self.now set) c.args.m.now next c.args.keeper.now c.put.new.self _ bytes (awake_is set c.self.view_is) on.advanced spelled written c.in-Ok-put.ensures.once _ _ c.if-is_some.window c.in-Ok-put.ensures.outcome told later (new_is v _ next c.if-is_some.window on.played.stamp_is);
     }
@@ -94,9 +94,9 @@ returns g c =
     record {
       same = c.in-Ok.ensures.same;
       wakes =
-          can_wake (record { terms = c.self.inside.terms; who = c.self.inside.who; played = played_of c.cut_back.new.self c.self.inside.played.standing; window = c.self.inside.window; down = true }) set
+          can_wake (record { terms = c.self.inside.terms; played = played_of c.cut_back.new.self c.self.inside.played.standing; window = c.self.inside.window; down = true }) set
           (still_in_order terms c.self.inside.played c.cut_back.new.self c.self.inside.window back order);
       answers =
           goes_err g.K.Keeper.facts v (awake c.args.self.now set) c.args.m.now next c.args.keeper.now c.put.new.self _ bytes (awake_is set c.self.view_is) on.advanced spelled written c.in-Err.ensures.once _ c.in-Err.ensures.outcome c.in-Err.ensures.cause
-          (seen_as terms c.self.inside.who c.cut_back.new.self old c.self.inside.window true back);
+          (seen_as terms c.self.inside.terms.me c.cut_back.new.self old c.self.inside.window true back);
     }

@@ -8,5 +8,5 @@ use Rattle.arbiter_core.proofs.state.ArbiterState.is_own.Goals as goal
 
 pub returns : goal.returns
 returns c =
-    c.eq.ensures ∙ ap (λ (r : Record). bytes_eq c.stamp.result.0 r.stamp.0) c.as_record.ensures ∙ ap (λ (s : Stamp). bytes_eq s.0 c.self.inside.played.record.stamp.0) c.stamp.ensures
-    ∙ ap (λ (v : Rest). bytes_eq (stamp_in c.args.message.now).0 v.me.stamp.0) c.self.view_is
+    c.eq.ensures ∙ ap (λ (r : Record). bytes_eq c.stamp.result r.stamp) c.as_record.ensures ∙ ap (λ (s : Stamp). bytes_eq s c.self.inside.played.record.stamp) c.stamp.ensures
+    ∙ ap (λ (v : Rest). bytes_eq (stamp_in c.args.message.now) v.me.stamp) c.self.view_is

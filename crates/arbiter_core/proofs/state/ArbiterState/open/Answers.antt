@@ -17,7 +17,7 @@ pub returns-in-Ok-clause-wakes : goal.returns-in-Ok-clause-wakes
 returns-in-Ok-clause-wakes g c =
     let set : Holding = c.args.tables.now in
     let terms : SetupView = terms_with c.args.terms set in
-    can_wake (record { terms = c.args.terms; who = c.in-Some.who; played = c.in-Ok.played; window = c.empty.result; down = false }) set
+    can_wake (record { terms = c.args.terms; played = c.in-Ok.played; window = c.empty.result; down = false }) set
     (subst (λ (w : Window). IsArbiterInOrder terms c.in-Ok.played w) (sym c.empty.ensures)
     (first_in_order terms c.in-Some.stamp c.in-Ok.played (let good = (c.in-Some.ensures.some set).0 in good.delay) c.in-Ok.ensures.played))
 
@@ -25,32 +25,29 @@ pub returns-in-Ok-clause-good : goal.returns-in-Ok-clause-good
 returns-in-Ok-clause-good g c = λ good.
     let set : Holding = c.args.tables.now in
     let terms : SetupView = terms_with c.args.terms set in
-    let me : Identity = record { stamp = c.in-Some.stamp; who = c.in-Some.who } in
-    let opened : Inside = record { terms = c.args.terms; who = c.in-Some.who; played = c.in-Ok.played; window = c.empty.result; down = false } in
+    let me : Identity = record { stamp = c.in-Some.stamp; who = c.args.terms.me } in
+    let opened : Inside = record { terms = c.args.terms; played = c.in-Ok.played; window = c.empty.result; down = false } in
     let told : ◌≡◌ {A = OpenResult} (Ok (running terms me (recorded_in c.in-Ok.played))) (Ok (awake (rest_of opened) set)) =
-    ap (λ (v : View). Ok v) (sym (runs_is terms c.in-Ok.played.record.stamp c.in-Some.stamp c.in-Some.who (recorded_in c.in-Ok.played) c.empty.result c.in-Ok.ensures.played.stamp_is c.empty.ensures)) in
-    (me, (c.in-Some.ensures.some set).1, opens_as g.K.Keeper.facts terms me c.args.keeper.now c.recorded.new.keeper _ _ told (c.in-Ok.ensures.opens c.in-Some.who))
+    ap (λ (v : View). Ok v) (sym (runs_is terms c.in-Ok.played.record.stamp c.in-Some.stamp c.args.terms.me (recorded_in c.in-Ok.played) c.empty.result c.in-Ok.ensures.played.stamp_is c.empty.ensures)) in
+    (me, (c.in-Some.ensures.some set).1, opens_as g.K.Keeper.facts terms me c.args.keeper.now c.recorded.new.keeper _ _ told (c.in-Ok.ensures.opens c.args.terms.me))
 
 pub returns-in-Err-clause-good : goal.returns-in-Err-clause-good
 returns-in-Err-clause-good g c = λ good.
-    (record { stamp = c.in-Some.stamp; who = c.in-Some.who }, (c.in-Some.ensures.some c.args.tables.now).1, c.in-Err.ensures.opens c.in-Some.who)
+    (record { stamp = c.in-Some.stamp; who = c.args.terms.me }, (c.in-Some.ensures.some c.args.tables.now).1, c.in-Err.ensures.opens c.args.terms.me)
 
 pub returns-in-Ok-clause-keeps : goal.returns-in-Ok-clause-keeps
 returns-in-Ok-clause-keeps g c = λ up.
     let set : Holding = c.args.tables.now in
     let terms : SetupView = terms_with c.args.terms set in
-    let me : Identity = record { stamp = c.in-Some.stamp; who = c.in-Some.who } in
-    let opened : Inside = record { terms = c.args.terms; who = c.in-Some.who; played = c.in-Ok.played; window = c.empty.result; down = false } in
+    let me : Identity = record { stamp = c.in-Some.stamp; who = c.args.terms.me } in
+    let opened : Inside = record { terms = c.args.terms; played = c.in-Ok.played; window = c.empty.result; down = false } in
     let told : ◌≡◌ {A = OpenResult} (Ok (running terms me (recorded_in c.in-Ok.played))) (Ok (awake (rest_of opened) set)) =
-    ap (λ (v : View). Ok v) (sym (runs_is terms c.in-Ok.played.record.stamp c.in-Some.stamp c.in-Some.who (recorded_in c.in-Ok.played) c.empty.result c.in-Ok.ensures.played.stamp_is c.empty.ensures)) in
+    ap (λ (v : View). Ok v) (sym (runs_is terms c.in-Ok.played.record.stamp c.in-Some.stamp c.args.terms.me (recorded_in c.in-Ok.played) c.empty.result c.in-Ok.ensures.played.stamp_is c.empty.ensures)) in
     opened_keeps g.K.Keeper.facts terms me c.args.keeper.now c.recorded.new.keeper (awake (rest_of opened) set)
-    (opens_as g.K.Keeper.facts terms me c.args.keeper.now c.recorded.new.keeper _ _ told (c.in-Ok.ensures.opens c.in-Some.who))
+    (opens_as g.K.Keeper.facts terms me c.args.keeper.now c.recorded.new.keeper _ _ told (c.in-Ok.ensures.opens c.args.terms.me))
 
 pub returns-in_default-clause-good : goal.returns-in_default-clause-good
 returns-in_default-clause-good g c = λ good. absurd (c.in_default.ensures.none c.args.tables.now good)
-
-pub recorded-requires : goal.recorded-requires
-recorded-requires g c = let good = (c.in-Some.ensures.some c.args.tables.now).0 in good.delay
 
 pub returns-in-Ok-clause-bad : goal.returns-in-Ok-clause-bad
 returns-in-Ok-clause-bad g c = λ bad. absurd (bad (c.in-Some.ensures.some c.args.tables.now).0)

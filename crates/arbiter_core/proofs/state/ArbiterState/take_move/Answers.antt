@@ -38,7 +38,7 @@ returns-then-is_some g c =
     ] in
     let is : c.tell.result.items ≡ told_now (awake (rest_of c.self.inside) c.args.tables.now).me (awake (rest_of c.self.inside) c.args.tables.now).kept =
     c.tell.ensures
-    ∙ ap (λ (r : Record). told_of (record { stamp = r.stamp; who = c.self.inside.who }) c.count-count.result r.verdict) c.as_record-record.ensures
+    ∙ ap (λ (r : Record). told_of (record { stamp = r.stamp; who = c.self.inside.terms.me }) c.count-count.result r.verdict) c.as_record-record.ensures
     ∙ ap (λ (n : ℕ). told_of (awake (rest_of c.self.inside) c.args.tables.now).me n (awake (rest_of c.self.inside) c.args.tables.now).kept.verdict) (count_in c.as_record-record.ensures _ c.count-count.ensures) in
     record { same = refl; wakes = c.requires.wakes; answers = told g.K.Keeper.facts (awake c.args.self.now c.args.tables.now) c.args.keeper.now c.args.number c.args.m.now c.tell.result.items c.if-number-ge4096.false late (tells (awake_is c.args.tables.now c.self.view_is) _ is) }
 
@@ -63,7 +63,7 @@ returns-then-number-3 g c =
           (waits g.K.Keeper.facts v c.args.keeper.now c.args.number c.args.m.now c.tell-then-number-3.result.items _ c.if-number-ge4096.false
           (sym (some_in c.as_record-record.ensures _ c.is_some.ensures) ∙ c.if-is_some.false) (subst (λ (n : ℕ). n < c.args.number) at c.if-number-3.true) (subst (λ (n : ℕ). c.args.number < n + 32) high c.if-number-2.false)
           (c.tell-then-number-3.ensures
-          ∙ ap (λ (r : Record). told_of (record { stamp = r.stamp; who = c.self.inside.who }) c.count-count.result None) c.as_record-record.ensures
+          ∙ ap (λ (r : Record). told_of (record { stamp = r.stamp; who = c.self.inside.terms.me }) c.count-count.result None) c.as_record-record.ensures
           ∙ ap (λ (n : ℕ). told_of v.me n None) (count_in c.as_record-record.ensures _ c.count-count.ensures))
           (ap (with_window v) (c.wait.ensures ∙ ap (λ (n : ℕ). waits_too v.window n c.args.m.now) place)));
     }
