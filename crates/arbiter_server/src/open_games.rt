@@ -93,8 +93,7 @@ fn open_for<'a, G: Games>(
     if !opens_game(message) {
         return Err(Unopened::NotOpen);
     }
-    let stamp = message.stamp();
-    open_told(alloc, config, games, tables, history, stamp)
+    open_told(alloc, config, games, tables, history, message.stamp())
 }
 
 /// The games that are open. Each of them can answer by their tables, and its keeper keeps its record.
