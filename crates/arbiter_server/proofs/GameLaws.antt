@@ -106,3 +106,7 @@ is_none (x ∷ xs) e = grind arith
 -- the line of a start, by its text
 pub starts : (text fen rest : List ℕ) (start : Parts) → IsPosition start → text ≡ ended (codes "start " ++ fen) ++ rest → fen ≡ fen_of start → HasStart text start rest
 starts text fen rest start is has e = (is, has ∙ ap (λ (t : List ℕ). ended (codes "start " ++ t) ++ rest) e)
+
+-- the line of a delay, by its text
+pub delays : (text digit rest : List ℕ) (delay : ℕ) → delay ≤ most_delay → text ≡ ended (codes "delay " ++ digit) ++ rest → digit ≡ decimal delay → HasDelay text delay rest
+delays text digit rest delay le has e = (le, has ∙ ap (λ (t : List ℕ). ended (codes "delay " ++ t) ++ rest) e)

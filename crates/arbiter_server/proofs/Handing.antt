@@ -140,10 +140,10 @@ module _ {K : Type 0} (s : Keepers K) (t : CommonView) where
       strange_to k old new at stamp datagram true why few sorted absent (subst (λ (b : Bool). IsStrange s t.manifest stamp b true why) (sym opens) withheld) less
 
   -- it opens none
-  pub idle_to : (k : ℕ) (gives : GivesKeepers K) (at : OpenSeats K) (datagram : List ℕ) (message : Message) → k ≤ t.at_once → heard_in datagram ≡ Ok message → opens_game message ≡ false → at (stamp_in message).0 ≡ None → LeadsFrom s t Otherwise k gives at gives at k (effects_with [] (unopened (stamp_in message).0 datagram NotOpen))
+  pub idle_to : (k : ℕ) (gives : GivesKeepers K) (at : OpenSeats K) (datagram : List ℕ) (message : Message) → k ≤ t.at_once → heard_in datagram ≡ Ok message → opens_game message ≡ false → at (stamp_in message) ≡ None → LeadsFrom s t Otherwise k gives at gives at k (effects_with [] (unopened (stamp_in message) datagram NotOpen))
   idle_to k gives at datagram message few says opens absent =
-      strange_to k gives gives at (stamp_in message).0 datagram false NotOpen few (ap stamp_by says) absent
-      (subst (λ (b : Bool). IsStrange s t.manifest (stamp_in message).0 b false NotOpen) (sym (ap opens_by says ∙ opens)) (refl, refl)) (λ other keeper given. given)
+      strange_to k gives gives at (stamp_in message) datagram false NotOpen few (ap stamp_by says) absent
+      (subst (λ (b : Bool). IsStrange s t.manifest (stamp_in message) b false NotOpen) (sym (ap opens_by says ∙ opens)) (refl, refl)) (λ other keeper given. given)
 
   -- bytes that are no message
   pub unread_to : (k : ℕ) (gives : GivesKeepers K) (at : OpenSeats K) (datagram : List ℕ) (fault : MessageFault) → k ≤ t.at_once → heard_in datagram ≡ Err fault → LeadsFrom s t Otherwise k gives at gives at k (effects_with [] (unread datagram fault))
@@ -207,14 +207,14 @@ module _ {K : Type 0} (s : Keepers K) (t : CommonView) where
       }
 
   -- a game comes into hand, and answers
-  pub comes_then : (message : Message) (datagram : List ℕ) (k m k' : ℕ) (old mid new : GivesKeepers K) (at at1 at' : OpenSeats K) (more : List (List ℕ)) (r : DatagramReply) → heard_in datagram ≡ Ok message → ComesInHand s t message old at k mid at1 m more → ((last : LastDone) → MayAnswer t.at_once (suc m) last (stamp_in message).0 → LeadsFromBy s t (stamp_in message).0 datagram last (suc m) mid at1 new at' k' (effects_with [] r)) → LeadsFrom s t Otherwise k old at new at' k' (effects_with more r)
+  pub comes_then : (message : Message) (datagram : List ℕ) (k m k' : ℕ) (old mid new : GivesKeepers K) (at at1 at' : OpenSeats K) (more : List (List ℕ)) (r : DatagramReply) → heard_in datagram ≡ Ok message → ComesInHand s t message old at k mid at1 m more → ((last : LastDone) → MayAnswer t.at_once (suc m) last (stamp_in message) → LeadsFromBy s t (stamp_in message) datagram last (suc m) mid at1 new at' k' (effects_with [] r)) → LeadsFrom s t Otherwise k old at new at' k' (effects_with more r)
   comes_then message datagram k m k' old mid new at at1 at' more r says (WasOpen few was none) answers =
       subst (λ (ms : List (List ℕ)). LeadsFrom s t Otherwise k old at new at' k' (effects_with ms r)) (sym none)
       (λ lives stand. leads_join s t Otherwise k (suc m) k' mid new at1 at' lives [] (effects_with [] r) (was lives stand) (λ l there. let b = answers Otherwise (inl few) l there in b.leads))
   comes_then message datagram k m k' old mid new at at1 at' more r says (IsOpened opens room first same one) answers =
       subst (λ (ms : List (List ℕ)). LeadsFrom s t Otherwise k old at new at' k' (effects_with ms r)) (sym one)
-      (opens_then (stamp_in message).0 datagram k k' old mid new at at1 at' (effects_with [] r) (ap opens_by says ∙ opens) room first
-      (subst (λ (n : ℕ). LeadsFromBy s t (stamp_in message).0 datagram (HasOpened (stamp_in message).0) (suc n) mid at1 new at' k' (effects_with [] r)) same (answers (HasOpened (stamp_in message).0) (inr refl))))
+      (opens_then (stamp_in message) datagram k k' old mid new at at1 at' (effects_with [] r) (ap opens_by says ∙ opens) room first
+      (subst (λ (n : ℕ). LeadsFromBy s t (stamp_in message) datagram (HasOpened (stamp_in message)) (suc n) mid at1 new at' k' (effects_with [] r)) same (answers (HasOpened (stamp_in message)) (inr refl))))
 
 runs_on : {K : Type 0} (set : Holding) (seat : Seat K) → seat.state.is_down ≡ false → life_at (moment_of set seat) ≡ Open (moment_of set seat)
 runs_on set seat runs = cond-false seat.state.is_down (Shut seat.keeper) (Open (moment_of set seat)) runs
@@ -268,7 +268,7 @@ by_keeper s t last k k' old mid new at at' stamp before after e false is may not
     answers_to s t last k k' old mid new at at' stamp before after e may noted others sorted delivered later rests is (runs is)
 
 -- to whichever datagram says its message
-pub answers_reply : {K : Type 0} (s : Keepers K) (t : CommonView) (last : LastDone) (k k' : ℕ) (old mid new : GivesKeepers K) (at at' : OpenSeats K) (stamp : List ℕ) (message : Message) (before after : Seat K) (outputs : List Message) (line : List ℕ) → MayAnswer t.at_once (suc k) last stamp → ((next : K) → mid stamp next → s.follows after.keeper next) → GivesOthers stamp old mid → stamp ≡ (stamp_in message).0
+pub answers_reply : {K : Type 0} (s : Keepers K) (t : CommonView) (last : LastDone) (k k' : ℕ) (old mid new : GivesKeepers K) (at at' : OpenSeats K) (stamp : List ℕ) (message : Message) (before after : Seat K) (outputs : List Message) (line : List ℕ) → MayAnswer t.at_once (suc k) last stamp → ((next : K) → mid stamp next → s.follows after.keeper next) → GivesOthers stamp old mid → stamp ≡ stamp_in message
     → at stamp ≡ None → IsSeatAtRest s.facts t.set after → IsMessageAnswered s.facts (moment_of t.set before) message (moment_of t.set after) outputs line
     → (after.state.is_down ≡ false → LeadsFrom s t (HasAnswered stamp) (suc k) mid (in_hand stamp (Some after) at) new at' k' [])
     → (after.state.is_down ≡ true → ((next : K) → new stamp next → s.follows after.keeper next) × GivesOthers stamp mid new × ((other : List ℕ) → at' other ≡ at other) × (k' ≡ k))

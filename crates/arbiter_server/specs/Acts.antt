@@ -61,7 +61,7 @@ acts_of stamp acts = filter (λ act. is_stamp stamp (game_of act)) acts
 
 -- the game that a datagram's message is of, if it is one
 abbrev pub stamp_by : Result Message MessageFault → Option (List ℕ)
-stamp_by (Ok message) = Some (stamp_in message).0
+stamp_by (Ok message) = Some (stamp_in message)
 stamp_by (Err fault) = None
 
 abbrev pub stamp_for : List ℕ → Option (List ℕ)

@@ -220,12 +220,12 @@ RepliesSo facts folder old new r more = TurnsTo facts folder old new (effects_wi
 -- a game that isn't open is opened for a message, which opens games, and in hand
 pub record OpensFor {G K : Type 0} (facts : KeeperFacts K) (folder : FolderFacts G K) (t : CommonView) (games games' : G) (message : Message) (seat : Seat K) : Type 0 where
   pub opens : opens_game message ≡ true
-  pub opened : OpensSeat facts folder t games games' (stamp_in message).0 seat
+  pub opened : OpensSeat facts folder t games games' (stamp_in message) seat
 
 -- or it isn't, and the message is refused so by whichever datagram it comes
 abbrev pub RefusesFor : {G K : Type 0} → KeeperFacts K → FolderFacts G K → CommonView → G → G → Message → Unopened → List (List ℕ) → Type 0
 RefusesFor {K = K} facts folder t games games' message why more =
-    (at : OpenSeats K) (k : ℕ) (datagram : List ℕ) → k ≤ t.at_once → at (stamp_in message).0 ≡ None → heard_in datagram ≡ Ok message → Turns facts folder t games at k games' at k (effects_with more (unopened (stamp_in message).0 datagram why))
+    (at : OpenSeats K) (k : ℕ) (datagram : List ℕ) → k ≤ t.at_once → at (stamp_in message) ≡ None → heard_in datagram ≡ Ok message → Turns facts folder t games at k games' at k (effects_with more (unopened (stamp_in message) datagram why))
 
 abbrev pub TriesFor : {G H K : Type 0} → KeeperFacts K → FolderFacts G K → (H → Option (List Made)) → CommonView → Lent G H → Lent G H → Message → Unopened → Type 0
 TriesFor facts folder made t old new message why = MakesAnd folder made old.games old.history new.history (RefusesFor facts folder t old.games new.games message why)
@@ -233,17 +233,17 @@ TriesFor facts folder made t old new message why = MakesAnd folder made old.game
 -- how a game comes into hand, beside which so many are open: it was open; or it is opened for a message, where there is room
 pub data ComesInHand {K : Type 0} (s : Keepers K) (t : CommonView) (message : Message) (gives : GivesKeepers K) (at : OpenSeats K) (k : ℕ) (gives' : GivesKeepers K) (at' : OpenSeats K) (k' : ℕ) (more : List (List ℕ)) : Type 0 where
   WasOpen : suc k' ≤ t.at_once → LeadsFrom s t Otherwise k gives at gives' at' (suc k') [] → more ≡ [] → ComesInHand s t message gives at k gives' at' k' more
-  IsOpened : opens_game message ≡ true → k ≤ t.at_once → LeadsOpenFrom s t (stamp_in message).0 gives at gives' at' → k' ≡ k → more ≡ (stamp_in message).0 ∷ [] → ComesInHand s t message gives at k gives' at' k' more
+  IsOpened : opens_game message ≡ true → k ≤ t.at_once → LeadsOpenFrom s t (stamp_in message) gives at gives' at' → k' ≡ k → more ≡ stamp_in message ∷ [] → ComesInHand s t message gives at k gives' at' k' more
 
 -- the game of a message is in hand after it
 pub record TakesSeat {G K : Type 0} (facts : KeeperFacts K) (folder : FolderFacts G K) (old new : ServerView G K) (message : Message) (seat : Seat K) (more : List (List ℕ)) : Type 0 where
-  pub absent : at_stamp new.seats (stamp_in message).0 ≡ None
+  pub absent : at_stamp new.seats (stamp_in message) ≡ None
   pub seated : IsSeated facts old.common.set seat
-  pub comes : ComesInHand (keepers facts folder old.games) old.common message (folder.gives old.games) (at_stamp old.seats) (length old.seats) (folder.gives new.games) (in_hand (stamp_in message).0 (Some seat) (at_stamp new.seats)) (length new.seats) more
+  pub comes : ComesInHand (keepers facts folder old.games) old.common message (folder.gives old.games) (at_stamp old.seats) (length old.seats) (folder.gives new.games) (in_hand (stamp_in message) (Some seat) (at_stamp new.seats)) (length new.seats) more
 
 -- a message is refused so by whichever datagram it comes
 abbrev pub Refuses : {G K : Type 0} → KeeperFacts K → FolderFacts G K → ServerView G K → ServerView G K → Message → Unopened → List (List ℕ) → Type 0
-Refuses facts folder old new message why more = (datagram : List ℕ) → heard_in datagram ≡ Ok message → RepliesSo facts folder old new (unopened (stamp_in message).0 datagram why) more
+Refuses facts folder old new message why more = (datagram : List ℕ) → heard_in datagram ≡ Ok message → RepliesSo facts folder old new (unopened (stamp_in message) datagram why) more
 
 -- the reply to a datagram
 abbrev pub datagram_reply : List ℕ → Answered → DatagramReply
@@ -256,7 +256,7 @@ AnswersMessage facts folder old message new r more = (datagram : List ℕ) → h
 -- so it is by a game that is in hand
 abbrev pub AnswersInHand : {G K : Type 0} → KeeperFacts K → FolderFacts G K → ServerView G K → Seat K → Message → ServerView G K → Answered → Type 0
 AnswersInHand facts folder old seat message new r =
-    (datagram : List ℕ) (last : LastDone) → heard_in datagram ≡ Ok message → MayAnswer old.common.at_once (suc (length old.seats)) last (stamp_in message).0 → LeadsFromBy (keepers facts folder old.games) old.common (stamp_in message).0 datagram last (suc (length old.seats)) (folder.gives old.games) (in_hand (stamp_in message).0 (Some seat) (at_stamp old.seats)) (folder.gives new.games) (at_stamp new.seats) (length new.seats) (effects_with [] (datagram_reply datagram r))
+    (datagram : List ℕ) (last : LastDone) → heard_in datagram ≡ Ok message → MayAnswer old.common.at_once (suc (length old.seats)) last (stamp_in message) → LeadsFromBy (keepers facts folder old.games) old.common (stamp_in message) datagram last (suc (length old.seats)) (folder.gives old.games) (in_hand (stamp_in message) (Some seat) (at_stamp old.seats)) (folder.gives new.games) (at_stamp new.seats) (length new.seats) (effects_with [] (datagram_reply datagram r))
 
 -- with these effects something goes on
 abbrev pub Going : Type 1

@@ -33,7 +33,7 @@ impl<'a> ServerConfig<'a> {
             name,
             start,
             manifest: self.manifest,
-            me: self.me.number(),
+            me: self.me,
             delay,
         }
     }

@@ -41,12 +41,12 @@ pub(crate) fn found_in<D: Disk>(
     alloc: Global,
     disk: &D,
     folder: &str,
-    stamp: &[u8; 16],
+    stamp: Stamp,
 ) -> Result<Found, Unopened>
-    ensures told { IfOk result (λ game. HasGame (D.facts disk.now) folder.now stamp.now (game_as_told game.name.items game.start game.delay)) }
-    ensures lacks { IfErr result (LacksGameFile (D.facts disk.now) folder.now stamp.now) }
+    ensures told { IfOk result (λ game. HasGame (D.facts disk.now) folder.now stamp (game_as_told game.name.items game.start game.delay)) }
+    ensures lacks { IfErr result (LacksGameFile (D.facts disk.now) folder.now stamp) }
 {
-    match find_game(alloc, disk, folder, Stamp(*stamp)) {
+    match find_game(alloc, disk, folder, stamp) {
         Ok(game) => Ok(Found {
             name: game.name,
             start: game.start,
@@ -68,7 +68,7 @@ impl<'f, D: Disk, H: Host> Games for DiskGames<'f, D, H> {
     ghost made = { H.made };
 
     /// What the file of the game with this stamp tells, or why it tells nothing.
-    fn find(&self, alloc: Global, stamp: &[u8; 16]) -> Result<Found, Unopened> {
+    fn find(&self, alloc: Global, stamp: Stamp) -> Result<Found, Unopened> {
         found_in(alloc, self.disk, self.folder, stamp)
     }
 
@@ -77,9 +77,9 @@ impl<'f, D: Disk, H: Host> Games for DiskGames<'f, D, H> {
         &mut self,
         alloc: Global,
         history: &mut H::History,
-        stamp: &[u8; 16],
+        stamp: Stamp,
     ) -> Result<FileKeeper<H::File>, Unopened> {
-        let Ok(path) = kept_path(alloc, self.folder, Stamp(*stamp)) else {
+        let Ok(path) = kept_path(alloc, self.folder, stamp) else {
             return Err(Unopened::OutOfMemory);
         };
         let Ok(file) = self.host.file(alloc, history, path.as_str()) else {
@@ -93,7 +93,7 @@ impl<'f, D: Disk, H: Host> Games for DiskGames<'f, D, H> {
     }
 
     // Each put has brought its bytes into the file.
-    fn note(&mut self, _stamp: &[u8; 16], _keeper: &FileKeeper<H::File>) {}
+    fn note(&mut self, _stamp: Stamp, _keeper: &FileKeeper<H::File>) {}
 
     fn commit(&mut self) -> Result<(), Uncommitted> {
         Ok(())

@@ -26,7 +26,7 @@ const STAMPED: usize = 38;
 
 /// The path of the file of a stamp in a folder: the stamp in 32 lower-case hexadecimal digits, and an ending.
 fn path_of(alloc: Global, folder: &str, stamp: Stamp, ending: &str) -> Result<String, AllocError>
-    ensures { IfOk result (λ path. string_bytes path ≡ path_of folder.now stamp.0 ending.now) }
+    ensures { IfOk result (λ path. string_bytes path ≡ path_of folder.now stamp ending.now) }
 {
     let digits = hex::encode(alloc, &stamp.0)?;
     let mut path = String::with_capacity(alloc, folder.len().saturating_add(STAMPED))?;
@@ -39,14 +39,14 @@ fn path_of(alloc: Global, folder: &str, stamp: Stamp, ending: &str) -> Result<St
 
 /// Where the file of a game is: `FOLDER/STAMP.game`. The error comes only where memory is refused.
 pub fn game_path(alloc: Global, folder: &str, stamp: Stamp) -> Result<String, AllocError>
-    ensures { IfOk result (λ path. string_bytes path ≡ game_path folder.now stamp.0) }
+    ensures { IfOk result (λ path. string_bytes path ≡ game_path folder.now stamp) }
 {
     path_of(alloc, folder, stamp, ".game")
 }
 
 /// Where the record of a game is kept: `FOLDER/STAMP.kept`. The error comes only where memory is refused.
 pub fn kept_path(alloc: Global, folder: &str, stamp: Stamp) -> Result<String, AllocError>
-    ensures { IfOk result (λ path. string_bytes path ≡ kept_path folder.now stamp.0) }
+    ensures { IfOk result (λ path. string_bytes path ≡ kept_path folder.now stamp) }
 {
     path_of(alloc, folder, stamp, ".kept")
 }
@@ -58,8 +58,8 @@ fn bytes_of<D: Disk>(
     folder: &str,
     stamp: Stamp,
 ) -> Result<Vec<u8>, FindFault>
-    ensures ok { IfOk result (λ bytes. (D.facts disk.now).holds (game_path folder.now stamp.0) bytes.items) }
-    ensures err { IfErr result (LacksGame (D.facts disk.now) folder.now stamp.0) }
+    ensures ok { IfOk result (λ bytes. (D.facts disk.now).holds (game_path folder.now stamp) bytes.items) }
+    ensures err { IfErr result (LacksGame (D.facts disk.now) folder.now stamp) }
 {
     let Ok(path) = game_path(alloc, folder, stamp) else {
         return Err(FindFault::OutOfMemory);
@@ -81,8 +81,8 @@ pub fn find_game<D: Disk>(
     folder: &str,
     stamp: Stamp,
 ) -> Result<Game, FindFault>
-    ensures ok { IfOk result (λ g. HasGame (D.facts disk.now) folder.now stamp.0 (game_as_told g.name.items g.start g.delay)) }
-    ensures err { IfErr result (LacksGame (D.facts disk.now) folder.now stamp.0) }
+    ensures ok { IfOk result (λ g. HasGame (D.facts disk.now) folder.now stamp (game_as_told g.name.items g.start g.delay)) }
+    ensures err { IfErr result (LacksGame (D.facts disk.now) folder.now stamp) }
 {
     let bytes = match bytes_of(alloc, disk, folder, stamp) {
         Ok(bytes) => bytes,

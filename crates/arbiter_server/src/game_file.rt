@@ -3,15 +3,14 @@
 ghost use Rattle.std.specs.Prelude.{◌≡◌, ◌≤◌, ◌+◌, ◌++◌, length, IfErr, IfOk};
 ghost use Rattle.std.specs.Result.{IsOkAnd};
 ghost use Rattle.arrayvec.specs.ArrayVec.{array_vec_len};
-ghost use Rattle.board_core.specs.Delays.{most_delay};
 ghost use Rattle.arbiter_server.specs.GameFiles.{GameContents, IsFirstGameFault, SpellsGame, game_as_told, game_text};
-ghost use Rattle.move_msg.specs.Stamps.{IsGameName};
 ghost use Rattle.move_msg.specs.TextLines.{ended};
 
-use crate::game_lines::{GameFileFault, delay_in, name_in, start_text_in};
+use crate::game_lines::{GameFileFault, delay_of_digit, delay_text_in, name_in, start_text_in};
 use arrayvec::ArrayVec;
-use board_core::Position;
+use board_core::{Delay, Position};
 use fen_text::{read, write};
+use move_msg::GameName;
 
 /// How many bytes a game's file has at most: `name ` and 64 bytes, `start ` and 96, `delay ` and a digit, and three line feeds
 /// have 181.
@@ -24,8 +23,8 @@ pub struct Game {
     pub name: ArrayVec<u8, 64>,
     /// The position before the first move.
     pub start: Position,
-    /// For how many further plies a verdict by tables must hold, 0 to 8.
-    pub delay: u8,
+    /// For how many further plies a verdict by tables must hold.
+    pub delay: Delay,
 }
 
 /// Adds a line: a word, a value and a line feed.
@@ -41,19 +40,19 @@ fn push_line(out: &mut ArrayVec<u8, MOST_GAME_BYTES>, word: &[u8], value: &[u8])
 
 /// The text of a game's file: a line each for its name, the FEN text of its start and its delay, each ended by a line feed. It
 /// takes no memory.
-///
-/// A game may have the name (`is_game_name`), and the delay is at most 8; both are the caller's conditions.
-pub fn write_game(name: &[u8], start: &Position, delay: u8) -> ArrayVec<u8, MOST_GAME_BYTES>
-    requires name { IsGameName name.now }
-    requires delay { delay ≤ most_delay }
+pub fn write_game(
+    name: &GameName<'_>,
+    start: &Position,
+    delay: Delay,
+) -> ArrayVec<u8, MOST_GAME_BYTES>
     ensures text { result.items ≡ game_text (game_as_told name.now start.now delay) }
     ensures spells { SpellsGame result.items (game_as_told name.now start.now delay) }
 {
     let _conditions = start.parts();
     let mut text = ArrayVec::new();
-    push_line(&mut text, b"name ", name);
+    push_line(&mut text, b"name ", name.as_bytes());
     push_line(&mut text, b"start ", write(start).as_str().as_bytes());
-    push_line(&mut text, b"delay ", &[b'0' + delay]);
+    push_line(&mut text, b"delay ", &[b'0' + delay.plies()]);
     text
 }
 
@@ -87,7 +86,10 @@ pub fn read_game(bytes: &[u8]) -> Result<Game, GameFileFault>
     let Ok(start) = read(fen) else {
         return Err(GameFileFault::Start);
     };
-    let Some((delay, rest)) = delay_in(rest) else {
+    let Some((digit, rest)) = delay_text_in(rest) else {
+        return Err(GameFileFault::Delay);
+    };
+    let Some(delay) = delay_of_digit(digit) else {
         return Err(GameFileFault::Delay);
     };
     if !rest.is_empty() {

@@ -8,6 +8,7 @@ ghost use Rattle.fen_text.specs.Written.{fen_of};
 ghost use Rattle.arbiter_server.specs.GameFiles.{HasDelay, HasName, HasStart, line_number};
 ghost use Rattle.arbiter_server.specs.Inside.ValueLines.{HasValue, StartsLine, is_one_line};
 
+use board_core::Delay;
 use fen_text::cut_first;
 use move_msg::is_game_name;
 
@@ -86,39 +87,33 @@ pub(crate) fn start_text_in(text: &[u8]) -> Option<(&[u8], &[u8])>
     value_after(text, b"start ")
 }
 
+/// The text that the next line tells as that of a delay, and the text after that line.
+pub(crate) fn delay_text_in(text: &[u8]) -> Option<(&[u8], &[u8])>
+    ensures some { IfSome result (λ x. HasValue (codes "delay ") text.now x.0.now x.1.now) }
+    ensures only { IfSome result (λ x. (delay : ℕ) (rest : List ℕ) → HasDelay text.now delay rest → decimal delay ≡ x.0.now) }
+    ensures none { IfNone result ((delay : ℕ) (rest : List ℕ) → HasDelay text.now delay rest → ⊥) }
+{
+    value_after(text, b"delay ")
+}
+
 /// The delay of a digit.
-fn delay_by(digit: u8) -> Option<u8>
+fn delay_by(digit: u8) -> Option<Delay>
     ensures some { IfSome result (λ delay. (delay ≤ most_delay) × (digit ≡ 48 + delay)) }
     ensures none { IfNone result ((delay : ℕ) → delay ≤ most_delay → digit ≡ 48 + delay → ⊥) }
 {
-    if b'0' <= digit && digit <= b'8' {
-        Some(digit - b'0')
-    } else {
-        None
-    }
-}
-
-/// The delay that a text tells in one digit.
-fn delay_of(digit: &[u8]) -> Option<u8>
-    ensures some { IfSome result (λ delay. (delay ≤ most_delay) × (digit.now ≡ decimal delay)) }
-    ensures none { IfNone result ((delay : ℕ) → delay ≤ most_delay → digit.now ≡ decimal delay → ⊥) }
-{
-    if digit.len() != 1 {
+    if digit < b'0' {
         return None;
     }
-    delay_by(digit[0])
+    Delay::new(digit - b'0')
 }
 
-/// The delay that the next line tells, and the text after that line.
-pub(crate) fn delay_in(text: &[u8]) -> Option<(u8, &[u8])>
-    ensures some { IfSome result (λ x. HasDelay text.now x.0 x.1.now) }
-    ensures none { IfNone result ((delay : ℕ) (rest : List ℕ) → HasDelay text.now delay rest → ⊥) }
+/// The delay that a text tells in one digit, from 0 to 8; none of any other text.
+pub fn delay_of_digit(text: &[u8]) -> Option<Delay>
+    ensures some { IfSome result (λ delay. (delay ≤ most_delay) × (text.now ≡ decimal delay)) }
+    ensures none { IfNone result ((delay : ℕ) → delay ≤ most_delay → text.now ≡ decimal delay → ⊥) }
 {
-    let Some((digit, rest)) = value_after(text, b"delay ") else {
+    if text.len() != 1 {
         return None;
-    };
-    match delay_of(digit) {
-        Some(delay) => Some((delay, rest)),
-        None => None,
     }
+    delay_by(text[0])
 }

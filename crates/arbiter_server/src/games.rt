@@ -8,7 +8,8 @@ ghost use Rattle.system_io.specs.Hosts.{Made};
 
 use crate::fault::{Uncommitted, Unopened};
 use arbiter_core::{Keeper, Name};
-use board_core::Position;
+use board_core::{Delay, Position};
+use move_msg::Stamp;
 use std::alloc::Global;
 
 /// What a folder tells of a game.
@@ -18,8 +19,8 @@ pub struct Found {
     pub name: Name,
     /// The position before its first move.
     pub start: Position,
-    /// For how many further plies a verdict by tables must hold, 0 to 8.
-    pub delay: u8,
+    /// For how many further plies a verdict by tables must hold.
+    pub delay: Delay,
 }
 
 /// A folder of games, each under its stamp: what is told of it, and its keeper.
@@ -38,29 +39,29 @@ pub trait Games {
     ghost made: { Self.History → Option (List Made) };
 
     /// What it tells of the game with this stamp.
-    fn find(&self, alloc: Global, stamp: &[u8; 16]) -> Result<Found, Unopened>
-        ensures told { IfOk result (facts.tells (facts.place self.now) stamp.now) }
-        ensures refused { IfErr result (facts.lacks (facts.place self.now) stamp.now) };
+    fn find(&self, alloc: Global, stamp: Stamp) -> Result<Found, Unopened>
+        ensures told { IfOk result (facts.tells (facts.place self.now) stamp) }
+        ensures refused { IfErr result (facts.lacks (facts.place self.now) stamp) };
 
     /// The keeper of the game with this stamp.
     fn take(
         &mut self,
         alloc: Global,
         history: &mut Self::History,
-        stamp: &[u8; 16],
+        stamp: Stamp,
     ) -> Result<Self::Keeper, Unopened>
-        ensures of { IfOk result (facts.is_of (facts.place self.old) stamp.now) }
-        ensures given { IfOk result (facts.gives self.old stamp.now) }
-        ensures refused { IfErr result (facts.withholds (facts.place self.old) stamp.now) }
+        ensures of { IfOk result (facts.is_of (facts.place self.old) stamp) }
+        ensures given { IfOk result (facts.gives self.old stamp) }
+        ensures refused { IfErr result (facts.withholds (facts.place self.old) stamp) }
         ensures same { GivesLess (facts.gives self.old) (facts.gives self.new) }
         ensures place { facts.place self.new ≡ facts.place self.old }
-        ensures made { OnOk result (Passes (made history.old) (made history.new) (facts.taken (facts.place self.old) stamp.now)) }
-        ensures tried { OnErr result (MakesAtMost (made history.old) (made history.new) (facts.taken (facts.place self.old) stamp.now)) };
+        ensures made { OnOk result (Passes (made history.old) (made history.new) (facts.taken (facts.place self.old) stamp)) }
+        ensures tried { OnErr result (MakesAtMost (made history.old) (made history.new) (facts.taken (facts.place self.old) stamp)) };
 
     /// Notes what the keeper of a game keeps now, to look at and not to write: what it gives next of this game is a keeper over that.
-    fn note(&mut self, stamp: &[u8; 16], keeper: &Self::Keeper)
-        ensures left { (next : Self.Keeper) → facts.gives self.new stamp.now next → facts.follows keeper.now next }
-        ensures others { GivesOthers stamp.now (facts.gives self.old) (facts.gives self.new) }
+    fn note(&mut self, stamp: Stamp, keeper: &Self::Keeper)
+        ensures left { (next : Self.Keeper) → facts.gives self.new stamp next → facts.follows keeper.now next }
+        ensures others { GivesOthers stamp (facts.gives self.old) (facts.gives self.new) }
         ensures place { facts.place self.new ≡ facts.place self.old };
 
     /// Commits what was noted: from then on a start finds what is given here. No answer to a datagram goes out before.

@@ -82,7 +82,7 @@ pub use fault::{Uncommitted, Unopened};
 pub use file_keeper::FileKeeper;
 pub use folder::{FindFault, find_game, game_path, kept_path};
 pub use game_file::{Game, MOST_GAME_BYTES, read_game, write_game};
-pub use game_lines::GameFileFault;
+pub use game_lines::{GameFileFault, delay_of_digit};
 pub use games::{Found, Games};
 pub use heard::{Heard, HeardText, verdict_or_none};
 pub use last_lines::LastLines;

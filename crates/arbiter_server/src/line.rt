@@ -12,15 +12,15 @@ use crate::heard::Heard;
 use arbiter_core::DeliverFault;
 use arrayvec::ArrayVec;
 use itoa::Buffer;
-use move_msg::MessageFault;
+use move_msg::{MessageFault, Stamp};
 
 /// What is told of a datagram; its text has no line feed.
 #[derive(Clone, Copy)]
 pub(crate) enum Line {
     /// What the arbiter of the game with this stamp tells.
-    Answered([u8; 16], Heard),
+    Answered(Stamp, Heard),
     /// Why the game with this stamp isn't open.
-    Unopened([u8; 16], Unopened),
+    Unopened(Stamp, Unopened),
     /// Why the bytes are no message.
     Unread(MessageFault),
     /// None can be received.
@@ -52,19 +52,19 @@ fn joined(first: &[u8], second: &[u8]) -> LineText
 }
 
 /// A stamp in lower-case hexadecimal digits, and a space.
-fn marked(stamp: &[u8; 16]) -> LineText
-    ensures is { result.items ≡ encode_lower stamp.now ++ codes " " }
+fn marked(stamp: Stamp) -> LineText
+    ensures is { result.items ≡ encode_lower stamp ++ codes " " }
     ensures size { array_vec_len result ≡ 33 }
 {
     let mut digits = [0; 32];
-    hex::encode_to_slice(stamp, &mut digits).unwrap();
+    hex::encode_to_slice(stamp.0, &mut digits).unwrap();
     joined(&digits, b" ")
 }
 
 /// A line of the game with this stamp.
-fn stamped(stamp: &[u8; 16], words: &[u8]) -> LineText
+fn stamped(stamp: Stamp, words: &[u8]) -> LineText
     requires { length words.now ≤ 64 }
-    ensures { (line : List ℕ) → words.now ≡ ended line → result.items ≡ ended (stamped stamp.now line) }
+    ensures { (line : List ℕ) → words.now ≡ ended line → result.items ≡ ended (stamped stamp line) }
 {
     joined(&marked(stamp), words)
 }
@@ -80,8 +80,8 @@ fn bad_game(number: u32) -> LineText
 }
 
 /// The line for a game that isn't open.
-fn unopened_line(stamp: &[u8; 16], why: Unopened) -> LineText
-    ensures { result.items ≡ ended (stamped stamp.now (unopened_words why)) }
+fn unopened_line(stamp: Stamp, why: Unopened) -> LineText
+    ensures { result.items ≡ ended (stamped stamp (unopened_words why)) }
 {
     match why {
         Unopened::NotOpen => stamped(stamp, b"refused NotOpen\n"),
@@ -94,8 +94,8 @@ fn unopened_line(stamp: &[u8; 16], why: Unopened) -> LineText
 }
 
 /// The line for what an arbiter tells.
-fn heard_line(stamp: &[u8; 16], heard: Heard) -> LineText
-    ensures { result.items ≡ ended (line_words (Line.Answered stamp.now heard)) }
+fn heard_line(stamp: Stamp, heard: Heard) -> LineText
+    ensures { result.items ≡ ended (line_words (Line.Answered stamp heard)) }
 {
     stamped(stamp, heard.line().as_str().as_bytes())
 }
@@ -124,11 +124,12 @@ fn unread_kind(fault: MessageFault) -> usize
 }
 
 /// The number of the kind of a line for a game that isn't open, if it is of one.
-fn unopened_kind(stamp: [u8; 16], why: Unopened) -> Option<usize>
+fn unopened_kind(stamp: Stamp, why: Unopened) -> Option<usize>
     ensures long { length stamp ≡ 16 }
     ensures is { place_in 0 common (ended (unopened_words why)) ≡ result }
     ensures few { IfSome result (λ kind. kind < 8) }
 {
+    let _bytes = stamp.0;
     match why {
         Unopened::NoGame => Some(0),
         Unopened::NotOpen => Some(1),
@@ -138,20 +139,21 @@ fn unopened_kind(stamp: [u8; 16], why: Unopened) -> Option<usize>
 }
 
 /// What the arbiter of an open game tells is of no kind.
-fn open_kind(stamp: [u8; 16]) -> Option<usize>
+fn open_kind(stamp: Stamp) -> Option<usize>
     ensures long { length stamp ≡ 16 }
     ensures none { result ≡ None }
 {
+    let _bytes = stamp.0;
     None
 }
 
 impl Line {
     /// The number of the kind that strangers cause, if the line is of one.
-    pub(crate) fn kind(self) -> Option<usize>
-        ensures is { line_kind (ended (line_words self)) ≡ result }
+    pub(crate) fn kind(&self) -> Option<usize>
+        ensures is { line_kind (ended (line_words self.now)) ≡ result }
         ensures few { IfSome result (λ kind. kind < 8) }
     {
-        match self {
+        match *self {
             Line::Answered(stamp, _heard) => open_kind(stamp),
             Line::Unopened(stamp, why) => unopened_kind(stamp, why),
             Line::Unread(fault) => Some(unread_kind(fault)),
@@ -164,8 +166,8 @@ impl Line {
         ensures { result.items ≡ ended (line_words self) }
     {
         match self {
-            Line::Answered(stamp, heard) => heard_line(&stamp, heard),
-            Line::Unopened(stamp, why) => unopened_line(&stamp, why),
+            Line::Answered(stamp, heard) => heard_line(stamp, heard),
+            Line::Unopened(stamp, why) => unopened_line(stamp, why),
             Line::Unread(fault) => unread_line(fault),
             Line::PortLost => joined(Heard::PortLost.line().as_str().as_bytes(), b""),
             Line::StoreLost => joined(b"refused store\n", b""),

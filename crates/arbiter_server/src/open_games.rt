@@ -22,7 +22,7 @@ use crate::turn::{Answered, found, opens_game, told_alone};
 use arbiter_core::{ArbiterState, Terms};
 use judge_core::Set;
 use lru::LruCache;
-use move_msg::Message;
+use move_msg::{Message, Stamp};
 use std::alloc::{AllocError, Global};
 use std::marker::Model;
 
@@ -33,12 +33,12 @@ fn open_by<'a, G: Games>(
     tables: &mut Set<'_>,
     history: &mut G::History,
     terms: Terms<'a>,
-    stamp: &[u8; 16],
+    stamp: Stamp,
 ) -> Result<Seat<'a, G::Keeper>, Unopened>
-    ensures lent { ComesBack G.facts stamp.now tables.old games.old tables.new games.new }
-    ensures made { OnOk result (Passes (G.made history.old) (G.made history.new) (G.facts.taken (G.facts.place games.old) stamp.now)) }
-    ensures opened { IfOk result (OpensFound G.Keeper.facts G.facts games.old games.new stamp.now (terms_with terms.entry tables.old)) }
-    ensures unopened { IfErr result (TriesFound G.Keeper.facts G.facts G.made (lent games.old history.old) (lent games.new history.new) stamp.now (terms_with terms.entry tables.old)) }
+    ensures lent { ComesBack G.facts stamp tables.old games.old tables.new games.new }
+    ensures made { OnOk result (Passes (G.made history.old) (G.made history.new) (G.facts.taken (G.facts.place games.old) stamp)) }
+    ensures opened { IfOk result (OpensFound G.Keeper.facts G.facts games.old games.new stamp (terms_with terms.entry tables.old)) }
+    ensures unopened { IfErr result (TriesFound G.Keeper.facts G.facts G.made (lent games.old history.old) (lent games.new history.new) stamp (terms_with terms.entry tables.old)) }
 {
     let mut keeper = match games.take(alloc, history, stamp) {
         Ok(keeper) => keeper,
@@ -63,12 +63,12 @@ fn open_told<'a, G: Games>(
     games: &mut G,
     tables: &mut Set<'_>,
     history: &mut G::History,
-    stamp: &[u8; 16],
+    stamp: Stamp,
 ) -> Result<Seat<'a, G::Keeper>, Unopened>
-    ensures lent { ComesBack G.facts stamp.now tables.old games.old tables.new games.new }
-    ensures made { OnOk result (Passes (G.made history.old) (G.made history.new) (G.facts.taken (G.facts.place games.old) stamp.now)) }
-    ensures opened { IfOk result (OpensSeat G.Keeper.facts G.facts (common_with config.now tables.old) games.old games.new stamp.now) }
-    ensures unopened { IfErr result (TriesSeat G.Keeper.facts G.facts G.made (common_with config.now tables.old) (lent games.old history.old) (lent games.new history.new) stamp.now) }
+    ensures lent { ComesBack G.facts stamp tables.old games.old tables.new games.new }
+    ensures made { OnOk result (Passes (G.made history.old) (G.made history.new) (G.facts.taken (G.facts.place games.old) stamp)) }
+    ensures opened { IfOk result (OpensSeat G.Keeper.facts G.facts (common_with config.now tables.old) games.old games.new stamp) }
+    ensures unopened { IfErr result (TriesSeat G.Keeper.facts G.facts G.made (common_with config.now tables.old) (lent games.old history.old) (lent games.new history.new) stamp) }
 {
     match found(alloc, config.manifest, games, stamp) {
         Ok(game) => open_by(alloc, games, tables, history, config.terms(game), stamp),
@@ -85,16 +85,15 @@ fn open_for<'a, G: Games>(
     history: &mut G::History,
     message: &Message,
 ) -> Result<Seat<'a, G::Keeper>, Unopened>
-    ensures lent { ComesBack G.facts (stamp_in message.now).0 tables.old games.old tables.new games.new }
-    ensures made { OnOk result (Passes (G.made history.old) (G.made history.new) (G.facts.taken (G.facts.place games.old) (stamp_in message.now).0)) }
+    ensures lent { ComesBack G.facts (stamp_in message.now) tables.old games.old tables.new games.new }
+    ensures made { OnOk result (Passes (G.made history.old) (G.made history.new) (G.facts.taken (G.facts.place games.old) (stamp_in message.now))) }
     ensures opened { IfOk result (OpensFor G.Keeper.facts G.facts (common_with config.now tables.old) games.old games.new message.now) }
     ensures unopened { IfErr result (TriesFor G.Keeper.facts G.facts G.made (common_with config.now tables.old) (lent games.old history.old) (lent games.new history.new) message.now) }
 {
     if !opens_game(message) {
         return Err(Unopened::NotOpen);
     }
-    let stamp = message.stamp().0;
-    open_told(alloc, config, games, tables, history, &stamp)
+    open_told(alloc, config, games, tables, history, message.stamp())
 }
 
 /// The games that are open. Each of them can answer by their tables, and its keeper keeps its record.
@@ -104,7 +103,7 @@ pub(crate) struct OpenGames<'a, G: Games + Drop> {
     pub(crate) config: ServerConfig<'a>,
     tables: Set<'a>,
     pub(crate) games: G,
-    seats: LruCache<[u8; 16], Seat<'a, G::Keeper>>,
+    seats: LruCache<Stamp, Seat<'a, G::Keeper>>,
 }
 
 impl<'a, G: Games + Drop> Model for OpenGames<'a, G> {
@@ -154,8 +153,8 @@ impl<'a, G: Games + Drop> OpenGames<'a, G> {
         ensures opened { IfOk result (λ seat. MakesAnd G.facts G.made self.old.games history.old history.new (TakesSeat G.Keeper.facts G.facts self.old self.new message.now seat)) }
         ensures unopened { IfErr result (λ why. MakesAnd G.facts G.made self.old.games history.old history.new (Refuses G.Keeper.facts G.facts self.old self.new message.now why)) }
     {
-        let stamp = message.stamp().0;
-        match take_out(&mut self.seats, &stamp) {
+        let stamp = message.stamp();
+        match take_out(&mut self.seats, stamp) {
             Some(seat) => Ok(seat),
             None => open_for(
                 self.alloc,
@@ -170,16 +169,16 @@ impl<'a, G: Games + Drop> OpenGames<'a, G> {
 
     /// Lets the arbiter of a game that is in hand answer a message.
     fn answer_at(&mut self, seat: Seat<'a, G::Keeper>, message: &Message) -> Answered
-        requires absent { at_stamp self.old.seats (stamp_in message.now).0 ≡ None }
+        requires absent { at_stamp self.old.seats (stamp_in message.now) ≡ None }
         requires seated { IsSeated G.Keeper.facts self.old.common.set seat }
         ensures stays { Stays G.facts self.old self.new }
         ensures answers { AnswersInHand G.Keeper.facts G.facts self.old seat.entry message.now self.new result }
     {
-        let stamp = message.stamp().0;
+        let stamp = message.stamp();
         let mut seat = seat;
         let answer = seat.deliver(self.alloc, &mut self.tables, message);
-        self.games.note(&stamp, &seat.keeper);
-        settle(&mut self.games, &mut self.seats, &stamp, seat);
+        self.games.note(stamp, &seat.keeper);
+        settle(&mut self.games, &mut self.seats, stamp, seat);
         let line = Line::Answered(stamp, answer.heard);
         Answered {
             outputs: answer.outputs,
@@ -194,7 +193,7 @@ impl<'a, G: Games + Drop> OpenGames<'a, G> {
     {
         match self.seat_for(history, message) {
             Ok(seat) => self.answer_at(seat, message),
-            Err(why) => told_alone(self.alloc, Line::Unopened(message.stamp().0, why)),
+            Err(why) => told_alone(self.alloc, Line::Unopened(message.stamp(), why)),
         }
     }
 

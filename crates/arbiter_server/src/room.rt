@@ -5,22 +5,23 @@ ghost use Rattle.std.specs.Str.{bytes_eq};
 ghost use Rattle.arbiter_server.specs.Room.{at_stamp};
 
 use lru::LruCache;
+use move_msg::Stamp;
 
 /// Takes the game with this stamp out.
-pub(crate) fn take_out<S: Drop>(seats: &mut LruCache<[u8; 16], S>, stamp: &[u8; 16]) -> Option<S>
-    ensures value { result ≡ at_stamp seats.old.entries stamp.now }
-    ensures after { (other : List ℕ) → at_stamp seats.new.entries other ≡ cond (bytes_eq stamp.now other) None (at_stamp seats.old.entries other) }
+pub(crate) fn take_out<S: Drop>(seats: &mut LruCache<Stamp, S>, stamp: Stamp) -> Option<S>
+    ensures value { result ≡ at_stamp seats.old.entries stamp }
+    ensures after { (other : List ℕ) → at_stamp seats.new.entries other ≡ cond (bytes_eq stamp other) None (at_stamp seats.old.entries other) }
     ensures one { IfSome result (λ _. length seats.old.entries ≡ suc (length seats.new.entries)) }
     ensures none { IfNone result (length seats.new.entries ≡ length seats.old.entries) }
     ensures cap { seats.new.cap ≡ seats.old.cap }
 {
     // Called for its contract: it brings the map's invariant into the proof.
     let _valid = seats.len();
-    seats.pop(stamp)
+    seats.pop(&stamp)
 }
 
 /// Takes the game out that was used least recently, where there is no room for one more.
-pub(crate) fn least_used<S: Drop>(seats: &mut LruCache<[u8; 16], S>) -> Option<([u8; 16], S)>
+pub(crate) fn least_used<S: Drop>(seats: &mut LruCache<Stamp, S>) -> Option<(Stamp, S)>
     ensures none { IfNone result (seats.new ≡ seats.old) }
     ensures was { IfSome result (λ x. at_stamp seats.old.entries x.0 ≡ Some x.1) }
     ensures after { IfSome result (λ x. (other : List ℕ) → at_stamp seats.new.entries other ≡ cond (bytes_eq x.0 other) None (at_stamp seats.old.entries other)) }
@@ -35,7 +36,7 @@ pub(crate) fn least_used<S: Drop>(seats: &mut LruCache<[u8; 16], S>) -> Option<(
 }
 
 /// Takes the game out that was used least recently, if there is one.
-pub(crate) fn take_last<S: Drop>(seats: &mut LruCache<[u8; 16], S>) -> Option<([u8; 16], S)>
+pub(crate) fn take_last<S: Drop>(seats: &mut LruCache<Stamp, S>) -> Option<(Stamp, S)>
     ensures none { IfNone result ((stamp : List ℕ) → (at_stamp seats.old.entries stamp ≡ None) × (at_stamp seats.new.entries stamp ≡ None)) }
     ensures empty { IfNone result (length seats.new.entries ≡ 0) }
     ensures was { IfSome result (λ x. at_stamp seats.old.entries x.0 ≡ Some x.1) }
@@ -50,8 +51,8 @@ pub(crate) fn take_last<S: Drop>(seats: &mut LruCache<[u8; 16], S>) -> Option<([
 
 /// Puts a game in, for which there is room.
 pub(crate) fn put_in<S: Drop>(
-    seats: &mut LruCache<[u8; 16], S>,
-    stamp: [u8; 16],
+    seats: &mut LruCache<Stamp, S>,
+    stamp: Stamp,
     seat: S,
 ) -> Result<(), S>
     requires absent { at_stamp seats.old.entries stamp ≡ None }

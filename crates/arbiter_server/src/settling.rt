@@ -9,10 +9,11 @@ use crate::games::Games;
 use crate::room::{least_used, put_in, take_last};
 use crate::seat::Seat;
 use lru::LruCache;
+use move_msg::Stamp;
 
 /// Closes a game: the folder notes what its keeper keeps.
-pub(crate) fn close<'a, G: Games>(games: &mut G, stamp: &[u8; 16], seat: Seat<'a, G::Keeper>)
-    ensures closes { GivesKeeperBack G.facts games.old games.new stamp.now seat.entry.keeper }
+pub(crate) fn close<'a, G: Games>(games: &mut G, stamp: Stamp, seat: Seat<'a, G::Keeper>)
+    ensures closes { GivesKeeperBack G.facts games.old games.new stamp seat.entry.keeper }
     ensures place { G.facts.place games.new ≡ G.facts.place games.old }
 {
     let Seat { state: _, keeper } = seat;
@@ -20,7 +21,7 @@ pub(crate) fn close<'a, G: Games>(games: &mut G, stamp: &[u8; 16], seat: Seat<'a
 }
 
 /// Closes the game that was used least recently, where there is no room for one more.
-fn make_room<'a, G: Games>(games: &mut G, seats: &mut LruCache<[u8; 16], Seat<'a, G::Keeper>>)
+fn make_room<'a, G: Games>(games: &mut G, seats: &mut LruCache<Stamp, Seat<'a, G::Keeper>>)
     ensures closes { MakesRoom G.facts seats.old.cap games.old seats.old.entries games.new seats.new.entries }
     ensures room { length seats.new.entries < seats.new.cap }
     ensures cap { seats.new.cap ≡ seats.old.cap }
@@ -30,7 +31,7 @@ fn make_room<'a, G: Games>(games: &mut G, seats: &mut LruCache<[u8; 16], Seat<'a
         None => {}
         Some(least) => {
             let stamp = least.0;
-            close(games, &stamp, least.1);
+            close(games, stamp, least.1);
         }
     }
 }
@@ -38,7 +39,7 @@ fn make_room<'a, G: Games>(games: &mut G, seats: &mut LruCache<[u8; 16], Seat<'a
 /// Closes all games that are open, the one that was used least recently first.
 pub(crate) fn close_all<'a, G: Games>(
     games: &mut G,
-    seats: &mut LruCache<[u8; 16], Seat<'a, G::Keeper>>,
+    seats: &mut LruCache<Stamp, Seat<'a, G::Keeper>>,
 )
     ensures closes { ShutsAnyhow G.Keeper.facts G.facts games.old (at_stamp seats.old.entries) games.new (at_stamp seats.new.entries) }
     ensures cap { seats.new.cap ≡ seats.old.cap }
@@ -48,20 +49,20 @@ pub(crate) fn close_all<'a, G: Games>(
 {
     while let Some(last) = take_last(seats) {
         let closed = last.0;
-        close(games, &closed, last.1);
+        close(games, closed, last.1);
     }
 }
 
 /// Keeps a game open that has answered; or closes it where its keeper failed, or memory for it is refused.
 pub(crate) fn settle<'a, G: Games>(
     games: &mut G,
-    seats: &mut LruCache<[u8; 16], Seat<'a, G::Keeper>>,
-    stamp: &[u8; 16],
+    seats: &mut LruCache<Stamp, Seat<'a, G::Keeper>>,
+    stamp: Stamp,
     seat: Seat<'a, G::Keeper>,
 )
-    requires { at_stamp seats.old.entries stamp.now ≡ None }
-    ensures runs { seat.entry.state.is_down ≡ false → TurnsInHand G.Keeper.facts G.facts seats.old.cap games.old seats.old.entries stamp.now seat.entry games.new seats.new.entries }
-    ensures down { seat.entry.state.is_down ≡ true → GivesKeeperBack G.facts games.old games.new stamp.now seat.entry.keeper × (seats.new ≡ seats.old) }
+    requires { at_stamp seats.old.entries stamp ≡ None }
+    ensures runs { seat.entry.state.is_down ≡ false → TurnsInHand G.Keeper.facts G.facts seats.old.cap games.old seats.old.entries stamp seat.entry games.new seats.new.entries }
+    ensures down { seat.entry.state.is_down ≡ true → GivesKeeperBack G.facts games.old games.new stamp seat.entry.keeper × (seats.new ≡ seats.old) }
     ensures place { G.facts.place games.new ≡ G.facts.place games.old }
     ensures cap { seats.new.cap ≡ seats.old.cap }
     ensures few { length seats.old.entries ≤ seats.old.cap → length seats.new.entries ≤ seats.new.cap }
@@ -71,7 +72,7 @@ pub(crate) fn settle<'a, G: Games>(
         return;
     }
     make_room(games, seats);
-    match put_in(seats, *stamp, seat) {
+    match put_in(seats, stamp, seat) {
         Ok(()) => {}
         Err(seat) => close(games, stamp, seat),
     }

@@ -8,7 +8,7 @@ use crate::disk_games::found_in;
 use crate::fault::{Uncommitted, Unopened};
 use crate::games::{Found, Games};
 use arbiter_core::{Keeper, MemoryKeeper};
-use move_msg::Record;
+use move_msg::{Record, Stamp};
 use std::alloc::Global;
 use std::marker::Model;
 use std::mem;
@@ -78,12 +78,12 @@ impl<'f, D: Disk, H: Host> StoreGames<'f, D, H> {
     }
 
     /// What is noted or stored of a game.
-    fn latest(&self, stamp: &[u8; 16]) -> Option<&[u8]>
-        ensures { option_map (λ b. b.now) result ≡ bytes_at (noted_records H.Store.facts self.now) stamp.now }
+    fn latest(&self, stamp: Stamp) -> Option<&[u8]>
+        ensures { option_map (λ b. b.now) result ≡ bytes_at (noted_records H.Store.facts self.now) stamp }
     {
-        let mut found = self.store.find(stamp);
+        let mut found = self.store.find(&stamp.0);
         for entry in self.noted.as_slice() {
-            if entry.stamp == *stamp {
+            if entry.stamp == stamp.0 {
                 found = Some(entry.record.as_slice());
             }
         }
@@ -91,8 +91,8 @@ impl<'f, D: Disk, H: Host> StoreGames<'f, D, H> {
     }
 
     /// Notes what a game keeps. Where memory for it is refused, no more can be committed.
-    fn add(&mut self, stamp: &[u8; 16], bytes: &[u8])
-        ensures { AddsRecord H.Store.facts self.old stamp.now bytes.now self.new }
+    fn add(&mut self, stamp: Stamp, bytes: &[u8])
+        ensures { AddsRecord H.Store.facts self.old stamp bytes.now self.new }
     {
         let Ok(record) = Vec::from_slice(self.alloc, bytes) else {
             self.is_lost = true;
@@ -102,8 +102,9 @@ impl<'f, D: Disk, H: Host> StoreGames<'f, D, H> {
             Some(found) => found.0,
             None => 0,
         };
+        let key = stamp.0;
         let entry = Entry {
-            stamp: *stamp,
+            stamp: key,
             count,
             record,
         };
@@ -124,7 +125,7 @@ impl<'f, D: Disk, H: Host> Games for StoreGames<'f, D, H> {
 
     ghost made = { H.made };
 
-    fn find(&self, alloc: Global, stamp: &[u8; 16]) -> Result<Found, Unopened> {
+    fn find(&self, alloc: Global, stamp: Stamp) -> Result<Found, Unopened> {
         found_in(alloc, self.disk, self.folder, stamp)
     }
 
@@ -132,7 +133,7 @@ impl<'f, D: Disk, H: Host> Games for StoreGames<'f, D, H> {
         &mut self,
         alloc: Global,
         _history: &mut H::History,
-        stamp: &[u8; 16],
+        stamp: Stamp,
     ) -> Result<MemoryKeeper, Unopened> {
         if self.is_lost {
             return Err(Unopened::Keeper);
@@ -148,7 +149,7 @@ impl<'f, D: Disk, H: Host> Games for StoreGames<'f, D, H> {
         Ok(keeper)
     }
 
-    fn note(&mut self, stamp: &[u8; 16], keeper: &MemoryKeeper) {
+    fn note(&mut self, stamp: Stamp, keeper: &MemoryKeeper) {
         if are_same(self.latest(stamp), keeper.kept()) {
             return;
         }

@@ -1,6 +1,6 @@
 //! One datagram.
 
-ghost use Rattle.std.specs.Prelude.{◌≡◌, ◌↔◌, [], IfOk, IfErr, IsTrue};
+ghost use Rattle.std.specs.Prelude.{◌≡◌, [], IfOk, IfErr};
 ghost use Rattle.arbiter_server.specs.Folders.{keepers};
 ghost use Rattle.arbiter_server.specs.Acts.{opens_game};
 ghost use Rattle.arbiter_server.specs.Games.{IsGameOf, LacksKeeper};
@@ -9,7 +9,7 @@ use crate::fault::Unopened;
 use crate::games::{Found, Games};
 use crate::line::Line;
 use arbiter_core::Outputs;
-use move_msg::{Message, Stamp};
+use move_msg::{GameName, Message, Stamp};
 use smallvec::SmallVec;
 use std::alloc::Global;
 
@@ -18,13 +18,6 @@ use std::alloc::Global;
 pub(crate) struct Answered {
     pub(crate) outputs: Outputs,
     pub(crate) line: Line,
-}
-
-/// Whether two stamps are one.
-fn is_same(a: &[u8; 16], b: &[u8; 16]) -> bool
-    ensures { IsTrue result ↔ (a.now ≡ b.now) }
-{
-    *a == *b
 }
 
 /// Whether a game that isn't open is opened for a message: an acknowledgement and a verdict change no record, and nothing is answered
@@ -43,21 +36,20 @@ pub(crate) fn found<G: Games>(
     alloc: Global,
     manifest: &[u8],
     games: &G,
-    stamp: &[u8; 16],
+    stamp: Stamp,
 ) -> Result<Found, Unopened>
-    ensures ok { IfOk result (λ game. IsGameOf manifest.now stamp.now game.name.items game.start game.delay) }
-    ensures told { IfOk result ((keepers G.Keeper.facts G.facts games.now).tells stamp.now) }
-    ensures err { IfErr result (LacksKeeper (keepers G.Keeper.facts G.facts games.now) manifest.now stamp.now) }
+    ensures ok { IfOk result (λ game. IsGameOf manifest.now stamp game.name.items game.start game.delay) }
+    ensures told { IfOk result ((keepers G.Keeper.facts G.facts games.now).tells stamp) }
+    ensures err { IfErr result (LacksKeeper (keepers G.Keeper.facts G.facts games.now) manifest.now stamp) }
 {
     let game = match games.find(alloc, stamp) {
         Ok(game) => game,
         Err(why) => return Err(why),
     };
-    let name = game.name.as_slice();
-    let Some(own) = Stamp::of(name, &game.start, manifest, game.delay) else {
+    let Some(name) = GameName::of(game.name.as_slice()) else {
         return Err(Unopened::OtherGame);
     };
-    if !is_same(&own.0, stamp) {
+    if name.stamp(&game.start, manifest, game.delay) != stamp {
         return Err(Unopened::OtherGame);
     }
     Ok(game)

@@ -80,7 +80,7 @@ pub use output::{BufferedOutput, Output, WriteFault, end};
 pub use port::{NO_TAG, Port, PortFault};
 pub use reading::{MOST_BYTES, ReadFault, read_at_most};
 pub use recipient::{Recipient, SENDER};
-pub use record_store::{Entry, RecordStore, StoreFailed, StoreFault, Stores};
+pub use record_store::{Entry, Key, RecordStore, StoreFailed, StoreFault, Stores};
 pub use socket::Socket;
 pub use system_disk::SystemDisk;
 pub use system_file::{SystemCalls, SystemFile};

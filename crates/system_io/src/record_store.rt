@@ -5,11 +5,14 @@ ghost use Rattle.system_io.specs.Records.{AreSame, FindsBatchOrNot, IsSettled, S
 
 use std::alloc::Global;
 
+/// The key of a record: the 16 bytes of its game's stamp.
+pub type Key = [u8; 16];
+
 /// The record of a game, as it is put in a store.
 #[derive(Drop)]
 pub struct Entry {
     /// The stamp of the game.
-    pub stamp: [u8; 16],
+    pub stamp: Key,
     /// How many moves the record has.
     pub count: u32,
     /// The bytes of the record.
@@ -27,7 +30,7 @@ pub trait RecordStore {
     ghost facts: { Self → StoreFacts };
 
     /// The bytes of the record of a game, if it has one.
-    fn find(&self, stamp: &[u8; 16]) -> Option<&[u8]>
+    fn find(&self, stamp: &Key) -> Option<&[u8]>
         ensures { option_map (λ b. b.now) result ≡ option_map (λ r. r.bytes) ((facts self.now).has stamp.now) };
 
     /// Puts all records or none. The record of a game stands in place of the one before, and of two in one batch the later one.

@@ -6,4 +6,4 @@ use Rattle.arbiter_server.proofs.line.stamped.Goals as goal
 
 pub returns : goal.returns
 returns c = λ line is.
-    c.joined.ensures ∙ ap (λ (l : List ℕ). l ++ c.args.words.now) (c.deref.ensures.0 ∙ c.marked.ensures.is) ∙ ends_behind (encode_lower c.args.stamp.now) (codes " ") line c.args.words.now is
+    c.joined.ensures ∙ ap (λ (l : List ℕ). l ++ c.args.words.now) (c.deref.ensures.0 ∙ c.marked.ensures.is) ∙ ends_behind (encode_lower c.args.stamp) (codes " ") line c.args.words.now is

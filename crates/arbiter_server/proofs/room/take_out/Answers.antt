@@ -6,10 +6,10 @@ use Rattle.arbiter_server.proofs.room.take_out.Goals as goal
 
 pub returns-clause-after : goal.returns-clause-after
 returns-clause-after g c = λ other.
-    ap (λ (l : LruCache (List ℕ) g.row.S.Denot). at_stamp l.entries other) c.pop.ensures.entries ∙ taken c.args.seats.now.entries c.args.stamp.now other c.len-valid.ensures.valid.0
+    ap (λ (l : LruCache (List ℕ) g.row.S.Denot). at_stamp l.entries other) c.pop.ensures.entries ∙ taken c.args.seats.now.entries c.args.stamp other c.len-valid.ensures.valid.0
 
 pub returns-clause-one : goal.returns-clause-one
-returns-clause-one g c = if_some _ c.pop.result (λ x is. one_taken c.args.seats.now.entries c.args.stamp.now x (sym c.pop.ensures.value ∙ is) ∙ ap (λ (l : LruCache (List ℕ) g.row.S.Denot). suc (length l.entries)) (sym c.pop.ensures.entries))
+returns-clause-one g c = if_some _ c.pop.result (λ x is. one_taken c.args.seats.now.entries c.args.stamp x (sym c.pop.ensures.value ∙ is) ∙ ap (λ (l : LruCache (List ℕ) g.row.S.Denot). suc (length l.entries)) (sym c.pop.ensures.entries))
 
 pub returns-clause-none : goal.returns-clause-none
-returns-clause-none g c = if_none _ c.pop.result (λ is. ap (λ (l : LruCache (List ℕ) g.row.S.Denot). length l.entries) c.pop.ensures.entries ∙ none_taken c.args.seats.now.entries c.args.stamp.now (sym c.pop.ensures.value ∙ is))
+returns-clause-none g c = if_none _ c.pop.result (λ is. ap (λ (l : LruCache (List ℕ) g.row.S.Denot). length l.entries) c.pop.ensures.entries ∙ none_taken c.args.seats.now.entries c.args.stamp (sym c.pop.ensures.value ∙ is))

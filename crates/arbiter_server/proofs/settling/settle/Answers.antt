@@ -16,7 +16,7 @@ pub returns-then-is_down-clause-down : goal.returns-then-is_down-clause-down
 returns-then-is_down-clause-down g c = λ down. (c.close.ensures.closes, refl)
 
 pub put_in-requires-clause-absent : goal.put_in-requires-clause-absent
-put_in-requires-clause-absent g c = absent_still _ _ _ _ _ _ _ _ c.args.stamp.now c.requires c.make_room.ensures.closes
+put_in-requires-clause-absent g c = absent_still _ _ _ _ _ _ _ _ c.args.stamp c.requires c.make_room.ensures.closes
 
 pub returns-in-Ok-clause-runs : goal.returns-in-Ok-clause-runs
 returns-in-Ok-clause-runs g c = λ runs t most.
@@ -25,8 +25,8 @@ returns-in-Ok-clause-runs g c = λ runs t most.
     let gives' = g.G.Games.facts.gives c.make_room.new.games in
     let at = at_stamp c.args.seats.now.entries in
     let at' = at_stamp c.put_in.new.seats.entries in
-    subst (λ (k : ℕ). LeadsFrom s t (HasAnswered c.args.stamp.now) (suc (length c.args.seats.now.entries)) gives (in_hand c.args.stamp.now (Some c.args.seat) at) gives' at' k []) (sym c.in-Ok.ensures.one)
-    (stays_open s t (length c.args.seats.now.entries) (length c.make_room.new.seats.entries) gives gives' at (at_stamp c.make_room.new.seats.entries) at' c.args.stamp.now c.args.seat c.requires
+    subst (λ (k : ℕ). LeadsFrom s t (HasAnswered c.args.stamp) (suc (length c.args.seats.now.entries)) gives (in_hand c.args.stamp (Some c.args.seat) at) gives' at' k []) (sym c.in-Ok.ensures.one)
+    (stays_open s t (length c.args.seats.now.entries) (length c.make_room.new.seats.entries) gives gives' at (at_stamp c.make_room.new.seats.entries) at' c.args.stamp c.args.seat c.requires
     (subst (λ (n : ℕ). Evicts g.G.Games.facts.follows n gives at (length c.args.seats.now.entries) gives' (at_stamp c.make_room.new.seats.entries) (length c.make_room.new.seats.entries)) (sym most) c.make_room.ensures.closes) c.in-Ok.ensures.ok)
 
 pub returns-in-Ok-clause-down : goal.returns-in-Ok-clause-down
@@ -42,10 +42,10 @@ returns-in-Err-clause-runs g c = λ runs t most.
     let at1 = at_stamp c.make_room.new.seats.entries in
     let at' = at_stamp c.put_in.new.seats.entries in
     let back = c.in-Err.ensures.err in
-    let closed = subst (λ (seat : Seat g.row.G-Keeper.Denot). GivesKeeperBack g.G.Games.facts c.make_room.new.games c.close-in-Err.new.games c.args.stamp.now seat.keeper) back.0 c.close-in-Err.ensures.closes in
+    let closed = subst (λ (seat : Seat g.row.G-Keeper.Denot). GivesKeeperBack g.G.Games.facts c.make_room.new.games c.close-in-Err.new.games c.args.stamp seat.keeper) back.0 c.close-in-Err.ensures.closes in
     let room = subst (λ (n : ℕ). Evicts g.G.Games.facts.follows n gives at (length c.args.seats.now.entries) mid at1 (length c.make_room.new.seats.entries)) (sym most) c.make_room.ensures.closes in
-    subst (λ (k : ℕ). LeadsFrom s t (HasAnswered c.args.stamp.now) (suc (length c.args.seats.now.entries)) gives (in_hand c.args.stamp.now (Some c.args.seat) at) gives' at' k []) (ap (λ (l : LruCache (List ℕ) (Seat g.row.G-Keeper.Denot)). length l.entries) (sym back.1))
-    (no_room s t (length c.args.seats.now.entries) (length c.make_room.new.seats.entries) gives mid gives' at at1 at' c.args.stamp.now c.args.seat c.requires room
+    subst (λ (k : ℕ). LeadsFrom s t (HasAnswered c.args.stamp) (suc (length c.args.seats.now.entries)) gives (in_hand c.args.stamp (Some c.args.seat) at) gives' at' k []) (ap (λ (l : LruCache (List ℕ) (Seat g.row.G-Keeper.Denot)). length l.entries) (sym back.1))
+    (no_room s t (length c.args.seats.now.entries) (length c.make_room.new.seats.entries) gives mid gives' at at1 at' c.args.stamp c.args.seat c.requires room
     (λ other. ap (λ (l : LruCache (List ℕ) (Seat g.row.G-Keeper.Denot)). at_stamp l.entries other) back.1) closed.next closed.others)
 
 pub returns-in-Err-clause-down : goal.returns-in-Err-clause-down

@@ -29,7 +29,7 @@ returns-in-Ok-clause-answers g c = (
       (λ last may.
       let answered = c.answer_at.ensures.answers datagram last says (rw (sym c.seat_for.ensures.stays.common) at may) in
       let so = rw c.seat_for.ensures.stays.common at answered in
-      from_place_by g.G.Keeper.Keeper.facts g.G.Games.facts c.args.self.now.games c.seat_for.new.self.games c.seat_for.ensures.stays.place t (stamp_in c.args.message.now).0 datagram last _ _ _ _ _ _ _ so),
+      from_place_by g.G.Keeper.Keeper.facts g.G.Games.facts c.args.self.now.games c.seat_for.new.self.games c.seat_for.ensures.stays.place t (stamp_in c.args.message.now) datagram last _ _ _ _ _ _ _ so),
 )
 
 pub returns-in-Err-clause-answers : goal.returns-in-Err-clause-answers

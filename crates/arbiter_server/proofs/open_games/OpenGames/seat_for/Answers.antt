@@ -16,7 +16,7 @@ use Rattle.arbiter_server.proofs.open_games.OpenGames.seat_for.Goals as goal
 
 pub invariant_of-self : goal.invariant_of-self
 invariant_of-self g c = record {
-  seated = without g.G.Keeper.Keeper.facts g.G.Games.facts.follows c.self.inside.tables (g.G.Games.facts.gives c.self.inside.games) (g.G.Games.facts.gives c.self.inside.games) (at_stamp c.self.inside.seats.entries) (at_stamp c.take_out.new.seats.entries) c.stamp.result.0 (λ other keeper given. given) c.take_out.ensures.after c.self.invariant.seated;
+  seated = without g.G.Keeper.Keeper.facts g.G.Games.facts.follows c.self.inside.tables (g.G.Games.facts.gives c.self.inside.games) (g.G.Games.facts.gives c.self.inside.games) (at_stamp c.self.inside.seats.entries) (at_stamp c.take_out.new.seats.entries) c.stamp-stamp.result (λ other keeper given. given) c.take_out.ensures.after c.self.invariant.seated;
   room = c.take_out.ensures.cap ∙ c.self.invariant.room;
   few = let one = c.in-Some.ensures.one in let few = c.self.invariant.few in omega (arith, one, few);
 }
@@ -25,7 +25,7 @@ pub invariant_of-self-in-None : goal.invariant_of-self-in-None
 invariant_of-self-in-None g c = record {
   seated =
       subst (λ (set : Holding). AreSeated g.G.Keeper.Keeper.facts g.G.Games.facts.follows set (g.G.Games.facts.gives c.open_for.new.games) (at_stamp c.take_out.new.seats.entries)) (sym c.open_for.ensures.lent.same)
-      (changed g.G.Keeper.Keeper.facts g.G.Games.facts.follows c.self.inside.tables (g.G.Games.facts.gives c.self.inside.games) (g.G.Games.facts.gives c.open_for.new.games) (at_stamp c.self.inside.seats.entries) (at_stamp c.take_out.new.seats.entries) c.stamp.result.0 None tt (rw (sym c.stamp.ensures) at c.open_for.ensures.lent.others) c.take_out.ensures.after c.self.invariant.seated);
+      (changed g.G.Keeper.Keeper.facts g.G.Games.facts.follows c.self.inside.tables (g.G.Games.facts.gives c.self.inside.games) (g.G.Games.facts.gives c.open_for.new.games) (at_stamp c.self.inside.seats.entries) (at_stamp c.take_out.new.seats.entries) c.stamp-stamp.result None tt (rw (sym c.stamp-stamp.ensures) at c.open_for.ensures.lent.others) c.take_out.ensures.after c.self.invariant.seated);
   room = c.take_out.ensures.cap ∙ c.self.invariant.room;
   few = let same = c.in-None.ensures.none in let few = c.self.invariant.few in omega (arith, same, few);
 }
@@ -36,9 +36,9 @@ returns-in-Some-clause-stays g c = rw (sym c.self.view_is) (record { common = re
 pub returns-in-Some-clause-opened : goal.returns-in-Some-clause-opened
 returns-in-Some-clause-opened g c =
     let t = common_with c.self.inside.config c.self.inside.tables in
-    let stamp = (stamp_in c.args.message.now).0 in
-    let was = rw c.stamp.ensures at (sym c.in-Some.ensures.value) in
-    let after = rw c.stamp.ensures at c.take_out.ensures.after in
+    let stamp = stamp_in c.args.message.now in
+    let was = rw c.stamp-stamp.ensures at (sym c.in-Some.ensures.value) in
+    let after = rw c.stamp-stamp.ensures at c.take_out.ensures.after in
     let s = keepers g.G.Keeper.Keeper.facts g.G.Games.facts c.self.inside.games in
     let at = at_stamp c.self.inside.seats.entries in
     let at' = at_stamp c.take_out.new.seats.entries in
@@ -62,20 +62,20 @@ pub returns-in-None-clause-opened : goal.returns-in-None-clause-opened
 returns-in-None-clause-opened g c =
     let t = common_with c.self.inside.config c.self.inside.tables in
     let s = keepers g.G.Keeper.Keeper.facts g.G.Games.facts c.self.inside.games in
-    let absent = rw c.stamp.ensures at (taken_absent c.stamp.result.0 (at_stamp c.self.inside.seats.entries) (at_stamp c.take_out.new.seats.entries) c.take_out.ensures.after) in
+    let absent = rw c.stamp-stamp.ensures at (taken_absent c.stamp-stamp.result (at_stamp c.self.inside.seats.entries) (at_stamp c.take_out.new.seats.entries) c.take_out.ensures.after) in
     let few : length c.self.inside.seats.entries ≤ t.at_once = c.self.invariant.few in
-    let taken = g.G.Games.facts.taken (g.G.Games.facts.place c.self.inside.games) (stamp_in c.args.message.now).0 in
+    let taken = g.G.Games.facts.taken (g.G.Games.facts.place c.self.inside.games) (stamp_in c.args.message.now) in
     let Makes = Passes (g.G.Games.made c.args.history.now) (g.G.Games.made c.open_for.new.history) in
     rw (sym c.self.view_is)
     (both c.open_for.result _ _ (Makes taken) (λ seat h passes. (
-      (stamp_in c.args.message.now).0 ∷ [],
+      stamp_in c.args.message.now ∷ [],
       subst Makes (sym (append-nil taken)) passes,
       record {
         absent = absent;
         seated = h.opened.seated;
         comes =
-            IsOpened h.opens few (opens_same s t (stamp_in c.args.message.now).0 _ _ (at_stamp c.self.inside.seats.entries) (at_stamp c.take_out.new.seats.entries) _
-            (not_taken c.stamp.result.0 (at_stamp c.self.inside.seats.entries) (at_stamp c.take_out.new.seats.entries) (sym c.in-None.ensures.value) c.take_out.ensures.after)
+            IsOpened h.opens few (opens_same s t (stamp_in c.args.message.now) _ _ (at_stamp c.self.inside.seats.entries) (at_stamp c.take_out.new.seats.entries) _
+            (not_taken c.stamp-stamp.result (at_stamp c.self.inside.seats.entries) (at_stamp c.take_out.new.seats.entries) (sym c.in-None.ensures.value) c.take_out.ensures.after)
             (h.opened.turns (at_stamp c.take_out.new.seats.entries) absent)) c.in-None.ensures.none refl;
       },
     )) c.open_for.ensures.opened c.open_for.ensures.made)
@@ -89,13 +89,13 @@ returns-in-None-clause-unopened g c =
     let at = at_stamp c.self.inside.seats.entries in
     let at' = at_stamp c.take_out.new.seats.entries in
     let k = length c.self.inside.seats.entries in
-    let absent = rw c.stamp.ensures at (taken_absent c.stamp.result.0 at at' c.take_out.ensures.after) in
+    let absent = rw c.stamp-stamp.ensures at (taken_absent c.stamp-stamp.result at at' c.take_out.ensures.after) in
     rw (sym c.self.view_is)
     (IfErr-weaker c.open_for.result _ _ (λ why h. (
       h.0,
       h.1,
       λ datagram says.
-          let effects = effects_with h.0 (unopened (stamp_in c.args.message.now).0 datagram why) in
+          let effects = effects_with h.0 (unopened (stamp_in c.args.message.now) datagram why) in
           subst (λ (m : ℕ). LeadsFrom s t Otherwise k gives at gives' at' m effects) (sym c.in-None.ensures.none)
-          (from_same s t k k gives gives' at at' at' effects (not_taken c.stamp.result.0 at at' (sym c.in-None.ensures.value) c.take_out.ensures.after) (h.2 at' k datagram c.self.invariant.few absent says)),
+          (from_same s t k k gives gives' at at' at' effects (not_taken c.stamp-stamp.result at at' (sym c.in-None.ensures.value) c.take_out.ensures.after) (h.2 at' k datagram c.self.invariant.few absent says)),
     )) c.open_for.ensures.unopened)
