@@ -4,6 +4,8 @@
 //! - `files`: `file_of` makes a table file of 80 bytes from its first ones; `QUEEN` and `QUEEN_PLIES` are two such fronts
 //! - `positions`: `START`, the FEN text of the usual start; `moves_of`, the moves of a text such as "e2e4 e7e5"
 //!
+//! Disks, ports, files and others in memory are those of `system_fakes`.
+//!
 //! In go texts, fronts and numbers that stand in a test, and out come values of the libraries. No function here ends the process,
 //! as an assertion does: what can fail is told by the result, since the gate refuses a library with the bound `Abort`. So
 //! comparisons that end a test, and positions and moves of texts that must be good, stand in the test crates (`comparing`,

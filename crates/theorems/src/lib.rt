@@ -3,8 +3,8 @@
 //! `arbiter_core` proves what one arbiter does, `arbiter_server` what one server does for each of its games, `source_core` what a
 //! source sends, and `relay_world` what holds of each schedule of deliveries, losses, repeats and restarts. Here the first three
 //! are tied to the fourth: what arbiters, servers and sources keep and send for a game is what the world of some schedule keeps
-//! and has sent, so that each law of `relay_world` holds of them. Each function carries one law and does nothing,
-//! but for `run_after`, a run of an arbiter over a disk that loses power.
+//! and has sent, so that each law of `relay_world` holds of them. Each function carries one law and does nothing, but for `run_after`,
+//! a run of an arbiter over a disk in memory that loses power.
 //!
 //! What the outside gives is a premise, act by act, in `specs/Nets.antt` and `specs/Weaves.antt`; nothing that a contract gives
 //! is stated there again. Of two hosts these are: which hosts they are and what their tables mean (`IsHostOf`); that the game
