@@ -4,14 +4,13 @@ ghost use Rattle.std.specs.Prelude.{◌≡◌, ◌≤◌, IfOk, IfErr, IsErr, On
 ghost use Rattle.board_core.specs.Delays.{most_delay};
 ghost use Rattle.arbiter_core.specs.Setups.{setup_view, terms_with, rules_at, IsGood, IsIdentity};
 ghost use Rattle.std.specs.Result.{result_map_both};
-ghost use Rattle.move_msg.specs.declared.who.Who.{Who};
 ghost use Rattle.judge_core.specs.Answers.{ListsMovesForVerdict};
 ghost use Rattle.arbiter_core.specs.Opens.{OpensIfGood, IsResumed, IsBadKept, IsWhole, at_end, first_record};
 ghost use Rattle.arbiter_core.specs.Delivers.{IsKept};
 ghost use Rattle.arbiter_core.specs.Resting.{CanWake, awake, setup_with};
 ghost use Rattle.judge_core.specs.Tables.{Holding};
 ghost use Rattle.arbiter_core.specs.Inside.Playing.{IsPlayedRecord, played_of, recorded_in};
-ghost use Rattle.arbiter_core.specs.Inside.Starting.{IsNotResumed, IsPutFirst, OpensAsEither, recorded_by};
+ghost use Rattle.arbiter_core.specs.Inside.Starting.{IsNotResumed, IsPutFirst, OpensAs, identity_by, recorded_by};
 
 use crate::arbiter::Arbiter;
 use crate::fault::OpenFault;
@@ -36,7 +35,7 @@ pub struct Refused<'a> {
 
 /// The stamp of the game by its terms; none where no game has the name.
 fn identify(terms: &Terms<'_>) -> Option<Stamp>
-    ensures some { (set : Holding) → IfSome result (λ stamp. IsGood (terms_with terms.now set) × IsIdentity (terms_with terms.now set) (record { stamp = stamp; who = terms.now.me })) }
+    ensures some { (set : Holding) → IfSome result (λ stamp. IsGood (terms_with terms.now set) × IsIdentity (terms_with terms.now set) (identity_by terms.now stamp)) }
     ensures none { (set : Holding) → IfNone result (IsGood (terms_with terms.now set) → ⊥) }
 {
     let name = terms.name.as_slice();
@@ -154,7 +153,7 @@ fn put_first<K: Keeper>(
     stamp: Stamp,
 ) -> Result<Played, OpenFault>
     ensures same { tables.new ≡ tables.old }
-    ensures put { (who : Who) → IsPutFirst K.facts (terms_with terms.now tables.old) (record { stamp = stamp; who = who }) keeper.old keeper.new result }
+    ensures put { IsPutFirst K.facts (terms_with terms.now tables.old) (identity_by terms.now stamp) keeper.old keeper.new result }
 {
     let Ok((record, standing)) = first(alloc, tables, terms, stamp) else {
         return Err(OpenFault::OutOfMemory);
@@ -178,7 +177,7 @@ fn recorded<K: Keeper>(
 ) -> Result<Played, OpenFault>
     ensures same { tables.new ≡ tables.old }
     ensures played { IfOk result (IsPlayedRecord (terms_with terms.now tables.old) stamp) }
-    ensures opens { OpensAsEither K.facts (terms_with terms.now tables.old) stamp keeper.old keeper.new result }
+    ensures opens { OpensAs K.facts (terms_with terms.now tables.old) (identity_by terms.now stamp) keeper.old keeper.new result }
 {
     match keeper.get(alloc) {
         Ok(Some(bytes)) => resume(alloc, tables, terms, stamp, &bytes),
@@ -198,7 +197,7 @@ pub struct RefusedTerms<'a> {
 }
 
 impl<'a> ArbiterState<'a> {
-    /// Opens an arbiter by tables that it is lent, as `Arbiter::open`.
+    /// Opens an arbiter by tables that it is lent, as `Arbiter::open`. Terms are bad only by their name.
     pub fn open<K: Keeper>(
         alloc: Global,
         tables: &mut Set<'_>,

@@ -1,13 +1,13 @@
 -- What is recorded where an arbiter is opened; cited by private functions alone.
 use Rattle.std.specs.Prelude.{◌≡◌, ℕ, List, Option, Result, Ok, Err, ◌⊎◌}
 use Rattle.move_msg.specs.declared.stamp.Stamp.{Stamp}
-use Rattle.move_msg.specs.declared.who.Who.{Who}
 use Rattle.arbiter_core.specs.Keeping.{KeeperFacts}
 use Rattle.arbiter_core.specs.declared.keeper.Keep.{Keep}
 use Rattle.arbiter_core.specs.declared.keeper.Keep.TheVariants.{Good, FailsOld, FailsNew}
 use Rattle.arbiter_core.specs.declared.fault.OpenFault.{OpenFault}
 use Rattle.arbiter_core.specs.declared.fault.OpenFault.TheVariants.{BadSetup, KeeperFailed, BadRecord, OtherStamp, OutOfMemory}
 use Rattle.arbiter_core.specs.declared.played.Played.{Played}
+use Rattle.arbiter_core.specs.declared.setup.Terms.{Terms}
 use Rattle.arbiter_core.specs.Answering.{Identity}
 use Rattle.system_io.specs.Failures.{Risen}
 use Rattle.arbiter_core.specs.Setups.{SetupView, rules_at}
@@ -20,6 +20,10 @@ use Rattle.arbiter_core.specs.Views.{spelled_as}
 use Rattle.arbiter_core.specs.Delivers.{IsSpelled, IsWritten}
 use Rattle.arbiter_core.specs.Opens.{first_record, IsOfGame, IsWhole, Opens, OpenResult, running}
 use Rattle.arbiter_core.specs.Inside.Playing.{IsPlayedRecord, recorded_in}
+
+-- who the arbiter of these terms is, in the game with this stamp
+abbrev pub identity_by : Terms → Stamp → Identity
+identity_by terms stamp = record { stamp = stamp; who = terms.me }
 
 -- what a record says of its game
 abbrev pub recorded_by : Record → Recorded
@@ -60,7 +64,6 @@ abbrev pub told_from : SetupView → Identity → Result Played OpenFault → Op
 told_from setup me (Ok p) = Ok (running setup me (recorded_in p))
 told_from setup me (Err fault) = Err fault
 
--- the same for either arbiter of a game with this stamp
-abbrev pub OpensAsEither : {K : Type 0} → KeeperFacts K → SetupView → Stamp → K → K → Result Played OpenFault → Type 0
-OpensAsEither facts setup stamp before now result =
-    (who : Who) → Opens facts setup (record { stamp = stamp; who = who }) before now (told_from setup (record { stamp = stamp; who = who }) result)
+-- the same of what is recorded
+abbrev pub OpensAs : {K : Type 0} → KeeperFacts K → SetupView → Identity → K → K → Result Played OpenFault → Type 0
+OpensAs facts setup me before now result = Opens facts setup me before now (told_from setup me result)

@@ -9,6 +9,7 @@ use Rattle.arbiter_core.specs.Views.{View}
 use Rattle.arbiter_core.specs.Opens.{OpenResult, running}
 use Rattle.arbiter_core.specs.Inside.AtRest.{rest_of}
 use Rattle.arbiter_core.specs.Inside.Playing.{IsArbiterInOrder, recorded_in}
+use Rattle.arbiter_core.specs.Inside.Starting.{identity_by}
 use Rattle.arbiter_core.proofs.Opened.{first_in_order, runs_is, opens_as, opened_keeps}
 use Rattle.arbiter_core.proofs.Waking.{can_wake}
 use Rattle.arbiter_core.proofs.state.ArbiterState.open.Goals as goal
@@ -25,26 +26,26 @@ pub returns-in-Ok-clause-good : goal.returns-in-Ok-clause-good
 returns-in-Ok-clause-good g c = λ good.
     let set : Holding = c.args.tables.now in
     let terms : SetupView = terms_with c.args.terms set in
-    let me : Identity = record { stamp = c.in-Some.stamp; who = c.args.terms.me } in
+    let me : Identity = identity_by c.args.terms c.in-Some.stamp in
     let opened : Inside = record { terms = c.args.terms; played = c.in-Ok.played; window = c.empty.result; down = false } in
     let told : ◌≡◌ {A = OpenResult} (Ok (running terms me (recorded_in c.in-Ok.played))) (Ok (awake (rest_of opened) set)) =
     ap (λ (v : View). Ok v) (sym (runs_is terms c.in-Ok.played.record.stamp c.in-Some.stamp c.args.terms.me (recorded_in c.in-Ok.played) c.empty.result c.in-Ok.ensures.played.stamp_is c.empty.ensures)) in
-    (me, (c.in-Some.ensures.some set).1, opens_as g.K.Keeper.facts terms me c.args.keeper.now c.recorded.new.keeper _ _ told (c.in-Ok.ensures.opens c.args.terms.me))
+    (me, (c.in-Some.ensures.some set).1, opens_as g.K.Keeper.facts terms me c.args.keeper.now c.recorded.new.keeper _ _ told c.in-Ok.ensures.opens)
 
 pub returns-in-Err-clause-good : goal.returns-in-Err-clause-good
 returns-in-Err-clause-good g c = λ good.
-    (record { stamp = c.in-Some.stamp; who = c.args.terms.me }, (c.in-Some.ensures.some c.args.tables.now).1, c.in-Err.ensures.opens c.args.terms.me)
+    (identity_by c.args.terms c.in-Some.stamp, (c.in-Some.ensures.some c.args.tables.now).1, c.in-Err.ensures.opens)
 
 pub returns-in-Ok-clause-keeps : goal.returns-in-Ok-clause-keeps
 returns-in-Ok-clause-keeps g c = λ up.
     let set : Holding = c.args.tables.now in
     let terms : SetupView = terms_with c.args.terms set in
-    let me : Identity = record { stamp = c.in-Some.stamp; who = c.args.terms.me } in
+    let me : Identity = identity_by c.args.terms c.in-Some.stamp in
     let opened : Inside = record { terms = c.args.terms; played = c.in-Ok.played; window = c.empty.result; down = false } in
     let told : ◌≡◌ {A = OpenResult} (Ok (running terms me (recorded_in c.in-Ok.played))) (Ok (awake (rest_of opened) set)) =
     ap (λ (v : View). Ok v) (sym (runs_is terms c.in-Ok.played.record.stamp c.in-Some.stamp c.args.terms.me (recorded_in c.in-Ok.played) c.empty.result c.in-Ok.ensures.played.stamp_is c.empty.ensures)) in
     opened_keeps g.K.Keeper.facts terms me c.args.keeper.now c.recorded.new.keeper (awake (rest_of opened) set)
-    (opens_as g.K.Keeper.facts terms me c.args.keeper.now c.recorded.new.keeper _ _ told (c.in-Ok.ensures.opens c.args.terms.me))
+    (opens_as g.K.Keeper.facts terms me c.args.keeper.now c.recorded.new.keeper _ _ told c.in-Ok.ensures.opens)
 
 pub returns-in_default-clause-good : goal.returns-in_default-clause-good
 returns-in_default-clause-good g c = λ good. absurd (c.in_default.ensures.none c.args.tables.now good)
