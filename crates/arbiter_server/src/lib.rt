@@ -43,8 +43,9 @@
 //!   changes it has each line that was told of a game that is open, so that each count and verdict stands in it.
 //! - CLAIM: `laws::own_replies`; `laws::records_go_on`; `laws::openings_are_few`: a game's replies are those to the datagrams that
 //!   name it, each delivery leaves its record or adds to it, and it is opened at most once for each move and request of it that came.
-//! - CLAIM: `read_game`, clauses `ok`, `err`, `only`; `write_game`, clauses `text`, `spells`; `GameFileFault::line`: a game's
-//!   file is read exactly where it spells a game, and otherwise the first line at fault is reported.
+//! - CLAIM: `read_game`, clauses `ok`, `err`, `only`; `write_game`, clauses `text`, `spells`; `GameFileFault::line`;
+//!   `delay_of_digit`, clauses `some`, `none`: a game's file is read exactly where it spells a game, and otherwise the first line
+//!   at fault is reported. A delay is one digit from 0 to 8.
 //! - CLAIM: `game_path`; `kept_path`; `find_game`, clauses `ok`, `err`: a game is found only where its file spells it; otherwise
 //!   the file can't be read, has more than 192 bytes, or is at fault at this line, or memory was refused.
 //! - CLAIM: `DiskGames`, clause `facts`: `NoGame` is said only where the file of the stamp can't be read or is too long, and a
