@@ -41,7 +41,7 @@ fn bytes_of(rt: &HostRuntime, place: usize) -> Result<Option<Vec<u8>>, WordsFaul
 }
 
 /// The first word that is not UTF-8.
-fn no_text(rt: &HostRuntime) -> Result<Vec<u8>, WordsFault> {
+fn first_invalid_utf8(rt: &HostRuntime) -> Result<Vec<u8>, WordsFault> {
     for place in 0..usize::MAX {
         match bytes_of(rt, place)? {
             Some(bytes) if str::from_utf8(&bytes).is_ok() => {}
@@ -57,7 +57,7 @@ fn words_of(rt: &HostRuntime) -> Result<Vec<String>, WordsFault> {
     match env::args(rt) {
         Ok(words) => Ok(words.collect(rt.alloc())?),
         Err(error) if error.kind() == io::ErrorKind::OutOfMemory => Err(WordsFault::OutOfMemory),
-        Err(_) => Err(WordsFault::NoText(no_text(rt)?)),
+        Err(_) => Err(WordsFault::NoText(first_invalid_utf8(rt)?)),
     }
 }
 

@@ -9,7 +9,7 @@ use Rattle.system_io.specs.Ports.{PortFacts}
 use Rattle.system_io.specs.Records.{StoreFacts}
 use Rattle.system_io.specs.declared.output.WriteFault.{WriteFault}
 use Rattle.arbiter_core.specs.Memory.{Memory}
-use Rattle.arbiter_server.specs.Acts.{Act}
+use Rattle.arbiter_server.specs.Acts.{Action}
 use Rattle.arbiter_server.specs.GoingOut.{Writers}
 use Rattle.arbiter_server.specs.Folders.{GivesKeepers, Keepers}
 use Rattle.arbiter_server.specs.Games.{CommonView}
@@ -23,7 +23,7 @@ use Rattle.adjudicate_core.specs.declared.commands.host.HostGames.{HostGames}
 use Rattle.adjudicate_core.specs.declared.numbers.StoreForm.{StoreForm}
 use Rattle.adjudicate_core.specs.declared.numbers.StoreForm.TheVariants as form
 use Rattle.task_files.specs.Given.{Given}
-use Rattle.adjudicate_core.specs.Hostings.{BadTables, BindsAndHosts, Bound, Clashing, Unlogged, Hosting, HostsAndWrites, HostsAt, HostsGames, HostsInLines, HostsNow, Imported, InUse, Keeping, KeepsAndHosts, Locked, LocksAndHosts, NoAddress, NoFolder, NoLock, NoRoom, NoRoomForGames, NoRoomForLine, NoRoomForStore, NoRoomToBind, NoRoomToLock, NoStore, NotImported, Places, Ready, Seen, Served, StoresAndHosts, TwoWays, Unbound, Unready, common_for, in_files, in_store, seen_as, seen_by, ways_by, written, written_by}
+use Rattle.adjudicate_core.specs.Hostings.{BadTables, BindsAndHosts, Bound, Clashing, Unlogged, Hosting, HostsAndWrites, HostsAt, HostsGames, HostsInLines, HostsNow, Imported, InUse, Keeping, KeepsAndHosts, Locked, LocksAndHosts, NoAddress, NoFolder, NoLock, NoRoom, NoRoomForGames, NoRoomForLine, NoRoomForStore, NoRoomToBind, NoRoomToLock, NoStore, NotImported, HostOutside, Ready, HostedRuns, Served, StoresAndHosts, FilesOrStore, Unbound, Unready, common_for, in_files, in_store, seen_as, seen_by, ways_by, written, written_by}
 use Rattle.adjudicate_core.specs.Inside.HostingParts.{IsUnlisted}
 use Rattle.adjudicate_core.specs.Lines.{ready_words, refusal_words}
 use Rattle.adjudicate_core.specs.Listens.{Hosted}
@@ -36,10 +36,10 @@ use Rattle.judge_core.specs.Tables.{Holding}
 -- ---- less is said of what is committed
 
 -- what is said of it follows
-abbrev Implies : {K : Type 0} → (CommonView → List (Act K) → List Round → Type 0) → (CommonView → List (Act K) → List Round → Type 0) → Type 0
-Implies {K} from to = (t : CommonView) (acts : List (Act K)) (rounds : List Round) → from t acts rounds → to t acts rounds
+abbrev Implies : {K : Type 0} → (CommonView → List (Action K) → List Round → Type 0) → (CommonView → List (Action K) → List Round → Type 0) → Type 0
+Implies {K} from to = (t : CommonView) (acts : List (Action K)) (rounds : List Round) → from t acts rounds → to t acts rounds
 
-module _ {P F K W : Type 0} (host : Hosted P F) (w : Writers W) (s : Keepers K) (made : List ℕ → List Made) (from to : CommonView → List (Act K) → List Round → Type 0) (follows : Implies from to) (h : HostGames) (t : CommonView) where
+module _ {P F K W : Type 0} (host : Hosted P F) (w : Writers W) (s : Keepers K) (made : List ℕ → List Made) (from to : CommonView → List (Action K) → List Round → Type 0) (follows : Implies from to) (h : HostGames) (t : CommonView) where
   abbrev one : Keeping K
   one = record { keepers = s; commits = from; made = made }
 
@@ -66,7 +66,7 @@ module _ {P F K W : Type 0} (host : Hosted P F) (w : Writers W) (s : Keepers K) 
   bound_less had has out out' r (Bound between makes port port' bound each run) = Bound between makes port port' bound each (at_less between has port (host.port port') out out' r run)
 
 -- files say nothing of it
-pub any_commits : {K : Type 0} (from : CommonView → List (Act K) → List Round → Type 0) → Implies from (λ t acts rounds. Unit {0})
+pub any_commits : {K : Type 0} (from : CommonView → List (Action K) → List Round → Type 0) → Implies from (λ t acts rounds. Unit {0})
 any_commits from t acts rounds c = tt
 
 -- what a start over the games of a store finds, one over the store finds
@@ -101,11 +101,11 @@ module _ {P F K W : Type 0} (host : Hosted P F) (w : Writers W) (k : Keeping K) 
   bound_done had has out out' (NoRoomToBind made why told) = NoRoomToBind made why told
   bound_done had has out out' (Bound between made port port' bound each run) = Bound between made port port' bound each (at_done between has port (host.port port') out out' run)
 
-module _ {P F S W : Type 0} (p : Places P F S) (w : Writers W) (h : HostGames) (r : Result ℕ WriteFault) where
-  abbrev gone : TwoWays W
+module _ {P F S W : Type 0} (p : HostOutside P F S) (w : Writers W) (h : HostGames) (r : Result ℕ WriteFault) where
+  abbrev gone : FilesOrStore W
   gone = ways_by p w h.games.now
 
-  abbrev done : TwoWays (Option (List ℕ))
+  abbrev done : FilesOrStore (Option (List ℕ))
   done = written p h.games.now
 
   store_done : (t : CommonView) (had has : Option (List Made)) (out out' : W) → StoresAndHosts p gone.store h t had has out out' r → StoresAndHosts p done.store h t had has (w.written out) (w.written out') r
@@ -132,14 +132,14 @@ module _ {P F S W : Type 0} (p : Places P F S) (w : Writers W) (h : HostGames) (
   hosted_games given had has out out' (Hosting set tables cache names lists apart manifest is run) = Hosting set tables cache names lists apart manifest is (lock_done (common_for h set manifest) had has out out' run)
 
 -- a folder of games that isn't listed
-pub unlisted : {P F S T : Type 0} (p : Places P F S) (seen : TwoWays T) (h : HostGames) (given : Given) (had has : Option (List Made)) (old new : T) (r : Result ℕ WriteFault) (refusal : Refusal) (set : Holding) → Ok set.tables ≡ gathered given → Passes had has [] → IsUnlisted p.disk h.games.now h.store refusal
+pub unlisted : {P F S T : Type 0} (p : HostOutside P F S) (seen : FilesOrStore T) (h : HostGames) (given : Given) (had has : Option (List Made)) (old new : T) (r : Result ℕ WriteFault) (refusal : Refusal) (set : Holding) → Ok set.tables ≡ gathered given → Passes had has [] → IsUnlisted p.disk h.games.now h.store refusal
     → TellsOne (refusal_words refusal) (written_by seen old) (written_by seen new) r → HostsGames p seen h given had has old new r
 unlisted p seen h given had has old new r refusal set tables made (inl (is, fails)) told = NoFolder made set tables fails (subst (λ x. TellsOne (refusal_words x) (written_by seen old) (written_by seen new) r) is told)
 unlisted p seen h given had has old new r refusal set tables made (inr (inl (is, (names, lists, clash)))) told = Clashing made set tables names lists clash (subst (λ x. TellsOne (refusal_words x) (written_by seen old) (written_by seen new) r) is told)
 unlisted p seen h given had has old new r refusal set tables made (inr (inr is)) told = NoRoom made (subst (λ x. TellsOne (refusal_words x) (written_by seen old) (written_by seen new) r) is told)
 
 -- so the words say it
-module _ {P F S T : Type 0} (p : Places P F S) (seen : TwoWays T) (h : HostGames) (t : CommonView) (had has : Option (List Made)) (old new : T) (r : Result ℕ WriteFault) where
+module _ {P F S T : Type 0} (p : HostOutside P F S) (seen : FilesOrStore T) (h : HostGames) (t : CommonView) (had has : Option (List Made)) (old new : T) (r : Result ℕ WriteFault) where
   pub kept_in_files : h.store ≡ form.Files → BindsAndHosts p.host seen.files h t had has old new r → KeepsAndHosts h.store p seen h t had has old new r
   kept_in_files is run = subst (λ (f : StoreForm). KeepsAndHosts f p seen h t had has old new r) (sym is) run
 

@@ -19,13 +19,13 @@ use Rattle.adjudicate_core.specs.declared.commands.host.HostGames.{HostGames}
 use Rattle.adjudicate_core.specs.declared.commands.listen.Listen.{Listen}
 use Rattle.adjudicate_core.specs.declared.refusals.Refusal.{Refusal}
 
-pub unhosted : {P F S T : Type 0} (p : hosting.Places P F S) (seen : hosting.TwoWays T) (h : HostGames) (t : CommonView) (had has : Option (List Made)) (old new : T) (r : Result ℕ WriteFault) (why : Refusal) → Passes had has [] → IsBarred p.host.host (games_lock h.games.now) why → TellsOne (refusal_words why) (hosting.written_by seen old) (hosting.written_by seen new) r → hosting.LocksAndHosts p seen h t had has old new r
+pub unhosted : {P F S T : Type 0} (p : hosting.HostOutside P F S) (seen : hosting.FilesOrStore T) (h : HostGames) (t : CommonView) (had has : Option (List Made)) (old new : T) (r : Result ℕ WriteFault) (why : Refusal) → Passes had has [] → IsBarred p.host.host (games_lock h.games.now) why → TellsOne (refusal_words why) (hosting.written_by seen old) (hosting.written_by seen new) r → hosting.LocksAndHosts p seen h t had has old new r
 unhosted p seen h t had has old new r why made (inl (is, held)) told = hosting.InUse made held (told_as why _ _ _ r is told)
 unhosted p seen h t had has old new r why made (inr (inl (is, failed))) told = hosting.NoLock made failed (told_as why _ _ _ r is told)
 unhosted p seen h t had has old new r why made (inr (inr is)) told = hosting.NoRoomToLock made (told_as why _ _ _ r is told)
 
 -- so it is of a store that isn't opened
-pub unstored : {P F S T : Type 0} (p : hosting.Places P F S) (seen : hosting.Seen T) (h : HostGames) (t : CommonView) (had has : Option (List Made)) (old new : T) (r : Result ℕ WriteFault) (why : Refusal) → Passes had has [] → IsStoreUnopened p.stores (store_path h.games.now) why → TellsOne (refusal_words why) (seen.written old) (seen.written new) r → hosting.StoresAndHosts p seen h t had has old new r
+pub unstored : {P F S T : Type 0} (p : hosting.HostOutside P F S) (seen : hosting.HostedRuns T) (h : HostGames) (t : CommonView) (had has : Option (List Made)) (old new : T) (r : Result ℕ WriteFault) (why : Refusal) → Passes had has [] → IsStoreUnopened p.stores (store_path h.games.now) why → TellsOne (refusal_words why) (seen.written old) (seen.written new) r → hosting.StoresAndHosts p seen h t had has old new r
 unstored p seen h t had has old new r why made (inl (is, refuses)) told = hosting.NoStore made refuses (told_as why _ _ _ r is told)
 unstored p seen h t had has old new r why made (inr is) told = hosting.NoRoomForStore made (told_as why _ _ _ r is told)
 

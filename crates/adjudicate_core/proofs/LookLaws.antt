@@ -10,7 +10,7 @@ use Rattle.move_msg.specs.Files.{AreFiles, AreNamed, AreSorted, File, entries_of
 use Rattle.move_msg.specs.Manifests.{AreEntries, AreOfFiles, AreRising, Entry, IsEntry, entry_of}
 use Rattle.move_msg.specs.TableNames.{IsFileName}
 use Rattle.move_msg.specs.TextLines.{text_of}
-use Rattle.adjudicate_core.specs.declared.commands.check.Seen.{Seen}
+use Rattle.adjudicate_core.specs.declared.commands.check.FileCheck.{FileCheck}
 use Rattle.adjudicate_core.specs.Commands.Check.{checked}
 use Rattle.adjudicate_core.specs.declared.tables.FileFault.TheVariants.{Changed}
 use Rattle.task_files.specs.FileNames.{file_named}
@@ -45,7 +45,7 @@ pub are_entries : (lines : List Line) (files : List File) → AreMadeOf IsLineOf
 are_entries lines files h are = (each_entry lines files h are.0, subst AreRising (sym (same_entries lines files h)) (rising files are.1))
 
 -- what is seen of them
-pub same_sights : (seen : List Seen) (files : List File) → AreMadeOf IsSeenOf seen files → map sight_of seen ≡ map sight_at files
+pub same_sights : (seen : List FileCheck) (files : List File) → AreMadeOf IsSeenOf seen files → map sight_of seen ≡ map sight_at files
 same_sights [] [] h = refl
 same_sights [] (f ∷ files) h = absurd h
 same_sights (s ∷ seen) [] h = absurd h
@@ -89,7 +89,7 @@ same_done files (e ∷ es) =
     ∙ ap (λ b. b && list_all (λ e. is_none (fault_seen (map sight_at files) e)) es) (none_is_ok (look_for files e).found)
     ∙ ap (λ b. is_ok (look_for files e).found && b) (same_done files es)
 
-pub same_reply : (seen : List Seen) (files : List File) (es : List Entry) → AreMadeOf IsSeenOf seen files → reply_seen (map sight_of seen) es ≡ checked (map (look_for files) es)
+pub same_reply : (seen : List FileCheck) (files : List File) (es : List Entry) → AreMadeOf IsSeenOf seen files → reply_seen (map sight_of seen) es ≡ checked (map (look_for files) es)
 same_reply seen files es h =
     ap (λ sights. reply_seen sights es) (same_sights seen files h)
     ∙ ap (λ ls. record { text = text_of ls; status = status_if (list_all (λ e. is_none (fault_seen (map sight_at files) e)) es) }) (same_lines files es)

@@ -167,7 +167,7 @@ pub store_with : (h : HostGames) → MakesWith form.Sqlite h (λ stamp. [])
 store_with h [] = refl
 store_with h (stamp ∷ taken) = store_with h taken
 
-module _ {P F T : Type 0} (host : listening.Hosted P F) (seen : hosting.Seen T) (f : StoreForm) (h : HostGames) (makes : MakesWith f h seen.made) (has : Option (List Made)) (r : Result ℕ WriteFault) where
+module _ {P F T : Type 0} (host : listening.Hosted P F) (seen : hosting.HostedRuns T) (f : StoreForm) (h : HostGames) (makes : MakesWith f h seen.made) (has : Option (List Made)) (r : Result ℕ WriteFault) where
   now_hosts : (t : CommonView) (had : Option (List Made)) (port port' : PortFacts) (old new : T) → hosting.HostsNow seen h t had has port port' old new r → Hosting f h [] had has
   now_hosts t had port port' old new (hosting.Served only taken made run) = (flat_map seen.made taken, made, inr (flat_map seen.made taken, refl, makes taken))
   now_hosts t had port port' old new (hosting.Unlogged so between when mid fault first later made run more rest) =
@@ -187,7 +187,7 @@ module _ {P F T : Type 0} (host : listening.Hosted P F) (seen : hosting.Seen T) 
   bound_hosts t had old new (hosting.NoRoomToBind made why told) = hosts_none f h _ had has made
   bound_hosts t had old new (hosting.Bound between made port port' bound each run) = hosts_more f h [] _ had between has made (at_hosts t between port (host.port port') old new run)
 
-module _ {P F S T : Type 0} (p : hosting.Places P F S) (seen : hosting.TwoWays T) (h : HostGames) (files : MakesWith form.Files h seen.files.made) (store : MakesWith form.Sqlite h seen.store.made) (has : Option (List Made)) (r : Result ℕ WriteFault) where
+module _ {P F S T : Type 0} (p : hosting.HostOutside P F S) (seen : hosting.FilesOrStore T) (h : HostGames) (files : MakesWith form.Files h seen.files.made) (store : MakesWith form.Sqlite h seen.store.made) (has : Option (List Made)) (r : Result ℕ WriteFault) where
   abbrev port_of : Made
   port_of = PortAt h.bind.now (addresses_of h.to.now)
 

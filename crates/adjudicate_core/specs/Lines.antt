@@ -10,13 +10,13 @@ use Rattle.fen_text.specs.Fen.{fen_fault_name}
 use Rattle.fen_text.specs.Coordinates.{move_text}
 use Rattle.table_file.specs.Faults.{table_fault_name}
 use Rattle.judge_core.specs.declared.fault.ProbeFault.{ProbeFault}
-use Rattle.judge_core.specs.declared.probed.Probed.{Probed}
+use Rattle.judge_core.specs.declared.probe_result.ProbeResult.{ProbeResult}
 use Rattle.judge_core.specs.declared.root_move.BoardState.{BoardState}
 use Rattle.judge_core.specs.declared.root_move.BoardState.TheVariants.{Open, Check, Checkmate, Stalemate}
 use Rattle.judge_core.specs.declared.root_move.Effect.{Effect}
 use Rattle.judge_core.specs.declared.root_move.RootMove.{RootMove}
 use Rattle.judge_core.specs.Answers.{as_probe}
-use Rattle.judge_core.specs.Probed.{wdl_number}
+use Rattle.judge_core.specs.ProbeResult.{wdl_number}
 use Rattle.judge_core.specs.Root.{zeroes_clock}
 use Rattle.judge_core.specs.Words.{column_words, columns_words, outcome_words, verdict_words}
 use Rattle.move_msg.specs.declared.message.MessageFault.{MessageFault}
@@ -24,7 +24,7 @@ use Rattle.move_msg.specs.Messages.{message_fault_name}
 use Rattle.move_msg.specs.MessageWords.{message_words}
 use Rattle.record_audit.specs.Findings.{finding_words, refused_record}
 use Rattle.line_teller.specs.ToldLines.{refused_files, refused_memory}
-use Rattle.move_msg.specs.declared.who.Who.{Who}
+use Rattle.move_msg.specs.declared.arbiter_id.ArbiterId.{ArbiterId}
 use Rattle.relay_world.specs.declared.world.State.{State}
 use Rattle.relay_world.specs.declared.world.State.TheVariants as state
 use Rattle.relay_world.specs.Texts.{who_word}
@@ -112,7 +112,7 @@ state_word state.Down = codes "down"
 state_word state.Closed = codes "closed"
 
 -- an arbiter: its letter, how it is, how many moves it keeps and its verdict
-unfoldable pub arbiter_words : Who → State → Option KeptCount → List ℕ
+unfoldable pub arbiter_words : ArbiterId → State → Option KeptCount → List ℕ
 arbiter_words who state None = who_word who ++ codes " " ++ state_word state ++ codes " - none"
 arbiter_words who state (Some kept) =
     who_word who ++ codes " " ++ state_word state ++ codes " " ++ decimal kept.count ++ codes " " ++ verdict_or_none kept.verdict
@@ -181,7 +181,7 @@ unfoldable pub root_line_words : RootLine → List ℕ
 root_line_words l = valued_words (move_text l.played) l.probed.wdl l.probed.dtz (mark_word l.state l.effect)
 
 -- its value and its distance as numbers
-abbrev pub probed_of : RootMove → Probed
+abbrev pub probed_of : RootMove → ProbeResult
 probed_of m = record { wdl = as_probe wdl_number m.wdl; dtz = as_probe (λ n. n) m.dtz }
 
 -- a legal move and what tables tell of it

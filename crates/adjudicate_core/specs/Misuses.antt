@@ -2,7 +2,7 @@
 use Rattle.std.specs.Prelude.{◌≡◌, ◌≢◌, ◌⊎◌, ◌++◌, ℕ, List, [], ◌∷◌, Option, Some, None, codes}
 use Rattle.std.specs.List.{AllByRecursion}
 use Rattle.clap.specs.Words.{Text}
-use Rattle.move_msg.specs.declared.who.Who.{Who}
+use Rattle.move_msg.specs.declared.arbiter_id.ArbiterId.{ArbiterId}
 use Rattle.move_msg.specs.Stamps.{IsGameName}
 use Rattle.adjudicate_core.specs.Addresses.{AreAddresses, AreRecipients, IsAddress}
 use Rattle.adjudicate_core.specs.GamePaths.{NamesGame}
@@ -108,7 +108,7 @@ IsUnfit value wanted.GameName = (name : List ℕ) → Some name ≡ value (codes
 IsUnfit value wanted.Cache = (n : ℕ) → IsCache (value (codes "cache")) n → ⊥
 IsUnfit value wanted.Delay = (n : ℕ) → IsDelay (value (codes "delay")) n → ⊥
 IsUnfit value wanted.Datagrams = (n : ℕ) → IsDatagrams (value (codes "datagrams")) n → ⊥
-IsUnfit value wanted.Me = (who : Who) → IsMe (value (codes "me")) who → ⊥
+IsUnfit value wanted.Me = (who : ArbiterId) → IsMe (value (codes "me")) who → ⊥
 IsUnfit value wanted.Wait = (n : ℕ) → IsHundredOr (value (codes "wait")) n → ⊥
 IsUnfit value wanted.Tries = (n : ℕ) → IsHundredOr (value (codes "tries")) n → ⊥
 IsUnfit value wanted.Addresses = (to : List ℕ) → Some to ≡ value (codes "to") → AreAddresses to → ⊥

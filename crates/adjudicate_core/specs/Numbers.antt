@@ -8,7 +8,7 @@ use Rattle.adjudicate_core.specs.declared.numbers.StoreForm.{StoreForm}
 use Rattle.adjudicate_core.specs.declared.numbers.StoreForm.TheVariants as store
 use Rattle.arbiter_server.specs.declared.line_log.LogForm.TheVariants as log
 use Rattle.board_core.specs.Delays.{most_delay}
-use Rattle.move_msg.specs.declared.who.Who.{Who}
+use Rattle.move_msg.specs.declared.arbiter_id.ArbiterId.{ArbiterId}
 use Rattle.move_msg.specs.Senders.{who_number}
 
 -- the text is this number in decimal digits, perhaps after a plus
@@ -58,7 +58,7 @@ IsStore (Some text) store.Sqlite = text ≡ codes "sqlite"
 IsStore (Some text) store.Files = text ≡ codes "files"
 
 -- the number of an arbiter has to be given, 1 or 2
-abbrev pub IsMe : Option (List ℕ) → Who → Type 0
+abbrev pub IsMe : Option (List ℕ) → ArbiterId → Type 0
 IsMe None who = ⊥
 IsMe (Some text) who = IsDecimalNumber text (who_number who)
 

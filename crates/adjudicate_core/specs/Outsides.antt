@@ -7,7 +7,7 @@ use Rattle.system_io.specs.KeptFiles.{KeptFacts}
 use Rattle.system_io.specs.Outputs.{OutputFacts}
 use Rattle.system_io.specs.Ports.{PortFacts}
 use Rattle.system_io.specs.Records.{StoreFacts, StorePlaces}
-use Rattle.adjudicate_core.specs.Hostings.{Around, Places, around}
+use Rattle.adjudicate_core.specs.Hostings.{Around, HostOutside, around}
 use Rattle.adjudicate_core.specs.Listens.{Hosted, hosted}
 use Rattle.adjudicate_core.specs.declared.system.System.{System}
 
@@ -28,16 +28,16 @@ abbrev pub outside_of : {D I H M P F : Type 0} → (D → DiskFacts) → (I → 
 outside_of disk source host made port file s history history' = outside (disk s.disk.now) (source s.input.now) (hosted (host s.host.now) port file) (made history) (made history')
 
 -- that, and where the host's stores are and what is known of one
-pub record Machine (P F S : Type 0) : Type 1 where
+pub record OutsideWithStores (P F S : Type 0) : Type 1 where
   pub outside : Outside P F
   pub stores : StorePlaces S
   pub store : S → StoreFacts
 
-abbrev pub machine_of : {D I H M P F S : Type 0} → (D → DiskFacts) → (I → InputFacts) → (H → HostFacts P F) → (H → StorePlaces S) → (M → Option (List Made)) → (P → PortFacts) → (F → KeptFacts) → (S → StoreFacts) → System D I H → M → M → Machine P F S
+abbrev pub machine_of : {D I H M P F S : Type 0} → (D → DiskFacts) → (I → InputFacts) → (H → HostFacts P F) → (H → StorePlaces S) → (M → Option (List Made)) → (P → PortFacts) → (F → KeptFacts) → (S → StoreFacts) → System D I H → M → M → OutsideWithStores P F S
 machine_of disk source host stores made port file store s history history' = record { outside = outside_of disk source host made port file s history history'; stores = stores s.host.now; store = store }
 
 -- what a host of games stands on
-abbrev pub hosting_places : {P F S : Type 0} → Machine P F S → Places P F S
+abbrev pub hosting_places : {P F S : Type 0} → OutsideWithStores P F S → HostOutside P F S
 hosting_places m = record { disk = m.outside.disk; host = m.outside.host; stores = m.stores; store = m.store }
 
 -- what is known of a system's disk and host, and of a writer

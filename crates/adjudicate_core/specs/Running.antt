@@ -20,7 +20,7 @@ use Rattle.system_io.specs.Outputs.{OutputFacts}
 use Rattle.system_io.specs.Records.{StoreFacts, StorePlaces}
 use Rattle.system_io.specs.Ports.{PortFacts}
 use Rattle.adjudicate_core.specs.Listens.{Listens, hosted, serving_seen_as}
-use Rattle.adjudicate_core.specs.Outsides.{Machine, machine_of, outside, hosting_places}
+use Rattle.adjudicate_core.specs.Outsides.{OutsideWithStores, machine_of, outside, hosting_places}
 use Rattle.adjudicate_core.specs.Sends.{SendsGame}
 use Rattle.adjudicate_core.specs.Silences.{TellsSilence}
 use Rattle.source_core.specs.declared.lines.Ended.{Ended}
@@ -67,7 +67,7 @@ status_ended (Err fault) = Err fault
 
 -- what the program answers to a task from what was read for it, where so is told how a source's run ends: `judge`, `probe`, `moves`, `game` and `audit` take memory for a
 -- text that is a position, `record` for what is laid out as a record, `list`, `check` and `run` always, `show` and `version` never
-abbrev pub AnswersFrom : {P F S : Type 0} → Machine P F S → (Ended → Type 0) → Task → Given → Option (List ℕ) → Option (List ℕ) → Result ℕ WriteFault → Type 0
+abbrev pub AnswersFrom : {P F S : Type 0} → OutsideWithStores P F S → (Ended → Type 0) → Task → Given → Option (List ℕ) → Option (List ℕ) → Result ℕ WriteFault → Type 0
 AnswersFrom m Told (task.Judge t) given old new r = AnswersOnce (judges.IsReply t given) (IsText t.fen.now) old new r
 AnswersFrom m Told (task.Probe t) given old new r = AnswersOnce (probes.IsReply t given) (IsText t.fen.now) old new r
 AnswersFrom m Told (task.Moves t) given old new r = AnswersOnce (of_moves.IsReply t) (IsText t.fen.now) old new r
@@ -92,13 +92,13 @@ AnswersFrom m Told (task.Status t) given old new r = statuses.PutsOver m.outside
 
 -- to a task the program answers from what it reads; or something that it reads for it can't be read; or memory was refused while
 -- it read
-pub data AnswersTask {P F S : Type 0} (m : Machine P F S) (Told : Ended → Type 0) (t : Task) (old new : Option (List ℕ)) (r : Result ℕ WriteFault) : Type 0 where
+pub data AnswersTask {P F S : Type 0} (m : OutsideWithStores P F S) (Told : Ended → Type 0) (t : Task) (old new : Option (List ℕ)) (r : Result ℕ WriteFault) : Type 0 where
   FromGiven : (given : Given) → IsGiven m.outside.disk m.outside.source (named_in t) given → AnswersFrom m Told t given old new r → AnswersTask m Told t old new r
   Unread : CannotRead m.outside.disk m.outside.source (named_in t) → TellsOne refused_files old new r → AnswersTask m Told t old new r
   NoMemory : TakesMemory m.outside.source (named_in t) → TellsOne refused_memory old new r → AnswersTask m Told t old new r
 
 -- the same with a host whose ports seal by these keys
-abbrev pub sealed_by : {P F S : Type 0} → Keys → Machine P F S → Machine (SealedView P) F S
+abbrev pub sealed_by : {P F S : Type 0} → Keys → OutsideWithStores P F S → OutsideWithStores (SealedView P) F S
 sealed_by keys m = record {
   outside = outside m.outside.disk m.outside.source (hosted (keyed_host keys m.outside.host.host) (sealed_facts m.outside.host.port) m.outside.host.file) m.outside.had m.outside.has;
   stores = m.stores;
@@ -107,7 +107,7 @@ sealed_by keys m = record {
 
 -- To a task that names no file of keys the program answers with the host as it is. To one that does it answers with that host's ports
 -- sealed by the keys of the file; or it has none, which is told before all else; or memory for them was refused.
-pub data AnswersByKey {P F S : Type 0} (m : Machine P F S) (Told : Ended → Type 0) (t : Task) (old new : Option (List ℕ)) (r : Result ℕ WriteFault) : Type 0 where
+pub data AnswersByKey {P F S : Type 0} (m : OutsideWithStores P F S) (Told : Ended → Type 0) (t : Task) (old new : Option (List ℕ)) (r : Result ℕ WriteFault) : Type 0 where
   Bare : key_in t ≡ None → AnswersTask m Told t old new r → AnswersByKey m Told t old new r
   BySeal : (path : List ℕ) → key_in t ≡ Some path → (keys : Keys) → HasKeys m.outside.disk path keys → AnswersTask (sealed_by keys m) Told t old new r → AnswersByKey m Told t old new r
   NoKeys : (path : List ℕ) → key_in t ≡ Some path → (words : List ℕ) → LacksKeys m.outside.disk path words → TellsOne words old new r → AnswersByKey m Told t old new r
@@ -115,7 +115,7 @@ pub data AnswersByKey {P F S : Type 0} (m : Machine P F S) (Told : Ended → Typ
 
 -- what the program makes of its words: the answer to the task that they name; or they are misused, which is told, and nothing is
 -- written; or memory was refused before there was a task, where they name a command
-pub data Performs {P F S : Type 0} (m : Machine P F S) (IsTold : Misuse → Type 0) (Told : Ended → Type 0) (words : List (List ℕ)) (old new : Option (List ℕ)) (r : Result ℕ WriteFault) : Type 0 where
+pub data Performs {P F S : Type 0} (m : OutsideWithStores P F S) (IsTold : Misuse → Type 0) (Told : Ended → Type 0) (words : List (List ℕ)) (old new : Option (List ℕ)) (r : Result ℕ WriteFault) : Type 0 where
   ToTask : (t : Task) → IsTask words t → AnswersByKey m Told t old new r → Performs m IsTold Told words old new r
   ToMisuse : (misuse : Misuse) → IsMisuse words misuse → IsTold misuse → new ≡ old → r ≡ Ok 2 → Performs m IsTold Told words old new r
   ToNone : (NamesNoCommand words → ⊥) → TellsOne refused_memory old new r → Performs m IsTold Told words old new r
@@ -127,7 +127,7 @@ called_by (Err fault) = Err fault
 
 -- what it makes of all words that it was called with, of which the first is its own name; one that is no text is told as a misuse;
 -- or memory was refused for them
-pub data Called {P F S : Type 0} (m : Machine P F S) (IsTold : Misuse → Type 0) (Told : Ended → Type 0) (called : Result (List (List ℕ)) WordsFault) (old new : Option (List ℕ)) (r : Result ℕ WriteFault) : Type 0 where
+pub data Called {P F S : Type 0} (m : OutsideWithStores P F S) (IsTold : Misuse → Type 0) (Told : Ended → Type 0) (called : Result (List (List ℕ)) WordsFault) (old new : Option (List ℕ)) (r : Result ℕ WriteFault) : Type 0 where
   OnWords : (words : List (List ℕ)) → called ≡ Ok words → Performs m IsTold Told (drop 1 words) old new r → Called m IsTold Told called old new r
   OnNoText : (word : Vec ℕ Global) (bytes : Bor (List ℕ)) → called ≡ Err (NoText word) → bytes.now ≡ word.items → IsTold (misuse.NoText bytes) → new ≡ old → r ≡ Ok 2 → Called m IsTold Told called old new r
   NoRoomForWords : TellsOne refused_memory old new r → Called m IsTold Told called old new r

@@ -1,8 +1,8 @@
 -- Schedules that are run, and the lines for them (this project's own).
 use Rattle.std.specs.Prelude.{◌≡◌, ℕ, List, [], ◌∷◌, length, Option, Some, None, Err, slice_get}
 use Rattle.move_msg.specs.Files.{File}
-use Rattle.move_msg.specs.declared.who.Who.{Who}
-use Rattle.move_msg.specs.declared.who.Who.TheVariants.{A, B}
+use Rattle.move_msg.specs.declared.arbiter_id.ArbiterId.{ArbiterId}
+use Rattle.move_msg.specs.declared.arbiter_id.ArbiterId.TheVariants.{A, B}
 use Rattle.table_file.specs.declared.fault.TableFault.{TableFault}
 use Rattle.table_file.specs.Faults.{table_fault_name}
 use Rattle.arbiter_core.specs.Recording.{Recorded, move_count}
@@ -23,7 +23,7 @@ abbrev pub counted_record : Option Recorded → Option KeptCount
 counted_record None = None
 counted_record (Some kept) = Some (record { count = move_count kept; verdict = kept.verdict })
 
-abbrev pub side_words : Who → Side → List ℕ
+abbrev pub side_words : ArbiterId → Side → List ℕ
 side_words who side = arbiter_words who (life_state side.life) (counted_record side.kept)
 
 -- what is told of a world: a line for A, a line for B, and how many messages were sent

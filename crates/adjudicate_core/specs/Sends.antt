@@ -19,7 +19,7 @@ use Rattle.system_io.specs.Inputs.{InputFacts}
 use Rattle.system_io.specs.Ports.{Passed, PortFacts}
 use Rattle.source_core.specs.declared.lines.Ended.{Ended}
 use Rattle.source_core.specs.declared.lines.Ended.TheVariants as run
-use Rattle.source_core.specs.declared.turn.Terms.{Terms}
+use Rattle.source_core.specs.declared.turn.SendConfig.{SendConfig}
 use Rattle.source_core.specs.Sendings.{IsSending, Sending, WritesLines, causes, game_at_port}
 use Rattle.arbiter_server.specs.declared.game_lines.GameFileFault.{GameFileFault}
 use Rattle.arbiter_server.specs.GameFiles.{GameContents, IsFirstGameFault, SpellsGame, line_number}
@@ -88,13 +88,13 @@ LacksSent disk t (sent.InFile f) words = LacksFile disk f words
 
 -- the terms on which the moves of a game with this stamp are sent: the words tell how often, and how many milliseconds the first try
 -- of a move waits
-pub record IsOnTerms (t : Send) (stamp : Stamp) (terms : Terms) : Type 0 where
+pub record IsOnTerms (t : Send) (stamp : Stamp) (terms : SendConfig) : Type 0 where
   pub is : terms.stamp ≡ stamp
   pub tries : terms.tries ≡ t.tries
   pub wait : as_nanos terms.wait ≡ t.wait * 1_000_000
 
 -- over the port the moves of the input are sent; or memory for reading it was refused
-pub data SendsOver (source : InputFacts) (terms : Terms) (start : Parts) (port port' : PortFacts) (old new : Option (List ℕ)) (r : Result Ended WriteFault) : Type 0 where
+pub data SendsOver (source : InputFacts) (terms : SendConfig) (start : Parts) (port port' : PortFacts) (old new : Option (List ℕ)) (r : Result Ended WriteFault) : Type 0 where
   Over : (left left' : Option (List ℕ)) → IfSome left source.gives → (s : Sending) → IsSending (causes source.fails source.takes_memory) (game_at_port terms port) start left left' port port' s → WritesLines s old new r → SendsOver source terms start port port' old new r
   NoRoomForLines : source.takes_memory → Passed port port' [] → EndsOnce refused_memory old new r → SendsOver source terms start port port' old new r
 
@@ -102,7 +102,7 @@ pub data SendsOver (source : InputFacts) (terms : Terms) (start : Parts) (port p
 pub data BindsAndSends {P F : Type 0} (out : Outside P F) (t : Send) (stamp : Stamp) (start : Parts) (old new : Option (List ℕ)) (r : Result Ended WriteFault) : Type 0 where
   Unbound : Passes out.had out.has [] → out.host.host.refuses t.bind.now bind.Unbound → EndsOnce refused_port old new r → BindsAndSends out t stamp start old new r
   NoRoomToBind : Passes out.had out.has [] → LacksRoomToBind out.host.host t.bind.now t.to.now → EndsOnce refused_memory old new r → BindsAndSends out t stamp start old new r
-  Bound : Passes out.had out.has (PortAt t.bind.now (addresses_of t.to.now) ∷ []) → (port port' : P) → out.host.host.binds t.bind.now (addresses_of t.to.now) port → (out.host.port port).addresses ≡ length (addresses_of t.to.now) → (terms : Terms) → IsOnTerms t stamp terms → SendsOver out.source terms start (out.host.port port) (out.host.port port') old new r → BindsAndSends out t stamp start old new r
+  Bound : Passes out.had out.has (PortAt t.bind.now (addresses_of t.to.now) ∷ []) → (port port' : P) → out.host.host.binds t.bind.now (addresses_of t.to.now) port → (out.host.port port).addresses ≡ length (addresses_of t.to.now) → (terms : SendConfig) → IsOnTerms t stamp terms → SendsOver out.source terms start (out.host.port port) (out.host.port port') old new r → BindsAndSends out t stamp start old new r
 
 -- sending: there is no game, which is told; or what follows, with its stamp. What the host has made before and after it is in its
 -- history: the port.

@@ -55,7 +55,7 @@ pub use send::{GameFile, Send, SentGame, ToldGame};
 pub use show::Show;
 pub use status::ShowStatus;
 use std::alloc::{AllocError, Global};
-use task_files::Places;
+use task_files::InputPaths;
 pub use version::Version;
 
 /// The task of a command line.
@@ -418,7 +418,7 @@ fn task_of<'a>(name: Name, matches: &ArgMatches<'a>) -> Result<Task<'a>, ValueFa
 
 impl<'a> Task<'a> {
     /// The places to read for the task.
-    pub(crate) fn places(&self) -> Places<'a>
+    pub(crate) fn places(&self) -> InputPaths<'a>
         ensures { named_by result ≡ named_in self.now }
     {
         match self {

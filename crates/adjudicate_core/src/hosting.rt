@@ -31,7 +31,7 @@ use judge_core::Set;
 use std::alloc::Global;
 use std::num::NonZeroUsize;
 use system_io::{BindFault, Disk, Host, Output, Port, ReadFault, StoreFault, WriteFault};
-use task_files::Sources;
+use task_files::Inputs;
 
 /// What games are hosted from: the words, how the server is set up, and where the files are.
 #[derive(Clone, Copy)]
@@ -334,7 +334,7 @@ fn list_games<D: Disk, I, H: Host>(
 pub fn host_games<'a, D: Disk, I, H: Host, W: Output>(
     alloc: Global,
     task: &HostGames<'_>,
-    sources: &'a Sources,
+    sources: &'a Inputs,
     system: &System<'_, D, I, H>,
     history: &mut H::History,
     out: &mut W,

@@ -16,7 +16,7 @@ use board_core::PositionFault;
 use fen_text::FenFault;
 use json_lines::{Ask, JsonLine, put_json_line};
 use judge_core::Set;
-use line_teller::{TellFault, Teller};
+use line_teller::{LineHandler, TellFault};
 use std::alloc::{AllocError, Global};
 use std::io::Write;
 use system_io::{Output, WriteFault};
@@ -128,7 +128,7 @@ pub(crate) struct JsonTeller<'a> {
     pub(crate) with_moves: bool,
 }
 
-impl<'a> Teller for JsonTeller<'a> {
+impl<'a> LineHandler for JsonTeller<'a> {
     ghost use Rattle.adjudicate_core.specs.JsonAnswers.{TellsJson};
     ghost use Rattle.adjudicate_core.specs.Reply.{IsText};
 

@@ -1,6 +1,6 @@
 //! The commands of the adjudicator: words in, lines and a status out.
 //!
-//! `parse` makes a task of the words; `Sources::read` of `task_files` reads what it names; each command answers from that.
+//! `parse` makes a task of the words; `Inputs::read` of `task_files` reads what it names; each command answers from that.
 //! `program::run` joins these, and `run_program` takes all words that a program was called with. `docs/FORMATS.md`, section 3,
 //! has each command with its lines; the statuses are 0 done, 1 refused, 2 misuse.
 //!

@@ -7,14 +7,14 @@ ghost use Rattle.line_teller.specs.ToldLines.{HasFailed, stops_by};
 use crate::answers::status_if;
 use crate::lines::put_refusal;
 use crate::refusals::Refusal;
-use line_teller::{Teller, tell_lines};
+use line_teller::{LineHandler, tell_lines};
 use std::alloc::Global;
 use std::io::Write;
 use system_io::{Input, LineReader, Output, WriteFault};
 
 /// Writes the answer of a teller to each line of an input as it comes, and returns the status. Progress is written if
 /// requested.
-fn put_lines_told<T: Teller, L: LineReader, W: Output, E: Write>(
+fn put_lines_told<T: LineHandler, L: LineReader, W: Output, E: Write>(
     alloc: Global,
     teller: &mut T,
     lines: &mut L,
@@ -34,7 +34,7 @@ fn put_lines_told<T: Teller, L: LineReader, W: Output, E: Write>(
 
 /// Reads an input by lines, and writes the answer of a teller to each. Where memory for reading is refused, the only
 /// line is `refused memory`.
-pub(crate) fn put_told<T: Teller, I: Input, W: Output, E: Write>(
+pub(crate) fn put_told<T: LineHandler, I: Input, W: Output, E: Write>(
     alloc: Global,
     teller: &mut T,
     input: &I,

@@ -21,10 +21,10 @@ use board_core::{Move, Verdict};
 use fen_text::write_move;
 use game_status::{add_finding, add_moves};
 use judge_core::{
-    BoardState, Column, Columns, Effect, GameOutcome, Outcome, ProbeFault, Probed, RootMove,
+    BoardState, Column, Columns, Effect, GameOutcome, Outcome, ProbeFault, ProbeResult, RootMove,
 };
 use line_teller::LineWords;
-use move_msg::{Message, Who};
+use move_msg::{ArbiterId, Message};
 use record_audit::Finding;
 use relay_world::State;
 use system_io::{Output, WriteFault};
@@ -48,7 +48,7 @@ pub(crate) struct RootLine {
     /// How the position after it stands.
     pub(crate) state: BoardState,
     /// Its value and its distance.
-    pub(crate) probed: Probed,
+    pub(crate) probed: ProbeResult,
 }
 
 impl RootLine {
@@ -119,7 +119,7 @@ pub(crate) enum Line {
     /// A message.
     Message(Message),
     /// The state of an arbiter, and what it keeps, if anything.
-    Arbiter(Who, State, Option<KeptCount>),
+    Arbiter(ArbiterId, State, Option<KeptCount>),
     /// How many messages were sent.
     Sent(usize),
     /// The finding on a kept file.
@@ -221,13 +221,13 @@ fn message_line(message: &Message) -> LineWords
 }
 
 /// The letter of an arbiter.
-fn letter_of(who: Who) -> &'static str
+fn letter_of(who: ArbiterId) -> &'static str
     ensures is { result.now ≡ who_word who }
     ensures short { length result.now ≤ 1 }
 {
     match who {
-        Who::A => "A",
-        Who::B => "B",
+        ArbiterId::A => "A",
+        ArbiterId::B => "B",
     }
 }
 
@@ -245,7 +245,7 @@ fn state_word(state: State) -> &'static str
 
 /// The line of an arbiter: its state, and what it keeps.
 #[tactic(auto, unfolding(crate::specs::Lines::arbiter_words))]
-fn arbiter_line(who: Who, state: State, kept: Option<KeptCount>) -> LineWords
+fn arbiter_line(who: ArbiterId, state: State, kept: Option<KeptCount>) -> LineWords
     ensures { result ≡ arbiter_words who state kept }
 {
     let mut line = LineWords::of(letter_of(who));

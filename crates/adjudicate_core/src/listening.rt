@@ -29,7 +29,7 @@ use move_msg::manifest_of;
 use std::alloc::{AllocError, Global};
 use std::net::SocketAddr;
 use system_io::{BindFault, Host, KeptFile, Output, Port, ReadFault, WriteFault};
-use task_files::Sources;
+use task_files::Inputs;
 
 /// What an arbiter listens by: the words, and where its port and its file are opened.
 #[derive(Clone, Copy)]
@@ -218,7 +218,7 @@ fn bind_and_serve<H: Host, W: Output>(
 }
 
 /// The manifest of the tables.
-pub(crate) fn manifest_for(alloc: Global, sources: &Sources) -> Result<Vec<u8>, AllocError>
+pub(crate) fn manifest_for(alloc: Global, sources: &Inputs) -> Result<Vec<u8>, AllocError>
     ensures { IfOk result (λ text. SpellsManifest text.items (entries_of sources.now.files)) }
 {
     manifest_of(alloc, sources.files())
@@ -228,7 +228,7 @@ pub(crate) fn manifest_for(alloc: Global, sources: &Sources) -> Result<Vec<u8>, 
 fn listen_from<H: Host, W: Output>(
     alloc: Global,
     at: ListenAt<'_, '_, H>,
-    sources: &Sources,
+    sources: &Inputs,
     start: Position,
     history: &mut H::History,
     out: &mut W,
@@ -267,7 +267,7 @@ fn listen_from<H: Host, W: Output>(
 pub fn listen<'a, H: Host, W: Output>(
     alloc: Global,
     listening: &Listen<'a>,
-    sources: &'a Sources,
+    sources: &'a Inputs,
     host: &H,
     history: &mut H::History,
     out: &mut W,

@@ -1,13 +1,13 @@
 //! Numbers of the command line.
 
 ghost use Rattle.std.specs.Prelude.{◌≡◌, ◌≤◌, ℕ, option_map, IfSome, IfNone, Some};
-ghost use Rattle.move_msg.specs.declared.who.Who.{Who};
+ghost use Rattle.move_msg.specs.declared.arbiter_id.ArbiterId.{ArbiterId};
 ghost use Rattle.arbiter_server.specs.declared.line_log.LogForm.{LogForm};
 ghost use Rattle.adjudicate_core.specs.Numbers.{IsAtOnce, IsCache, IsDatagrams, IsDelay, IsHundredOr, IsLog, IsMe, IsStore, is_set};
 
 use arbiter_server::LogForm;
 use board_core::Delay;
-use move_msg::Who;
+use move_msg::ArbiterId;
 use std::marker::Model;
 use std::num::NonZeroUsize;
 
@@ -187,12 +187,12 @@ pub fn datagrams_of(text: Option<&str>) -> Option<u64>
 }
 
 /// The number of the arbiter in a text, 1 or 2; none where it is another number.
-pub fn me_of(text: &str) -> Option<Who>
+pub fn me_of(text: &str) -> Option<ArbiterId>
     ensures some { IfSome result (IsMe (Some text.now)) }
-    ensures none { IfNone result ((who : Who) → IsMe (Some text.now) who → ⊥) }
+    ensures none { IfNone result ((who : ArbiterId) → IsMe (Some text.now) who → ⊥) }
 {
     match text.parse::<u8>() {
-        Ok(number) => Who::of_number(number),
+        Ok(number) => ArbiterId::of_number(number),
         Err(_) => None,
     }
 }

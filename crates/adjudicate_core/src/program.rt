@@ -28,12 +28,12 @@ use sealed_port::Keyed;
 use std::alloc::{AllocError, Global};
 use std::io::Write;
 use system_io::{Disk, Host, Input, Output, ReadFault, WriteFault};
-use task_files::Sources;
+use task_files::Inputs;
 
 /// What a task is answered from.
 struct Context<'s, 'a, D, I, H> {
     /// What was read for it.
-    sources: &'s Sources,
+    sources: &'s Inputs,
     /// What it reads, and where it opens ports and files, while it is answered.
     system: &'s System<'a, D, I, H>,
 }
@@ -104,7 +104,7 @@ fn run_task<D: Disk, I: Input, H: Host, W: Output, E: Output>(
     ensures cause { OnErr result (HasFailed W.facts) }
 {
     let places = task.places();
-    match Sources::read(alloc, system.disk, system.input, &places) {
+    match Inputs::read(alloc, system.disk, system.input, &places) {
         Ok(sources) => {
             let given = Context {
                 sources: &sources,

@@ -20,7 +20,7 @@ use arbiter_server::{MOST_GAME_BYTES, read_game};
 use board_core::Position;
 use fen_text::read;
 use move_msg::Stamp;
-use source_core::{Ended, Terms, send_game};
+use source_core::{Ended, SendConfig, send_game};
 use std::alloc::Global;
 use std::time::Duration;
 use system_io::{BindFault, Disk, Host, Input, Output, Port, ReadFault, WriteFault};
@@ -114,12 +114,12 @@ fn refuse<W: Output>(out: &mut W, refusal: Refusal) -> Result<Ended, WriteFault>
 }
 
 /// The terms on which the moves are sent.
-fn terms_of(task: &Send<'_>, stamp: Stamp) -> Terms
+fn terms_of(task: &Send<'_>, stamp: Stamp) -> SendConfig
     ensures stamp { result.stamp ≡ stamp }
     ensures tries { result.tries ≡ task.now.tries }
     ensures wait { as_nanos result.wait ≡ task.now.wait * 1_000_000 }
 {
-    Terms {
+    SendConfig {
         stamp,
         tries: u32::from(task.tries),
         wait: Duration::from_millis(u64::from(task.wait)),
@@ -129,7 +129,7 @@ fn terms_of(task: &Send<'_>, stamp: Stamp) -> Terms
 /// Sends the moves of an input at a port. Where memory for reading it is refused, the only line is `refused memory`.
 fn send_over<I: Input, P: Port, W: Output>(
     alloc: Global,
-    terms: Terms,
+    terms: SendConfig,
     start: Position,
     input: &I,
     port: &mut P,

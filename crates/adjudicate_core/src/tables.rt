@@ -15,7 +15,7 @@ use judge_core::{Set, SetFault};
 use move_msg::{Line as Entry, Manifest, NamedFile, file_digest};
 use std::alloc::{AllocError, Global};
 use table_file::{Table, TableFault, open};
-use task_files::Sources;
+use task_files::Inputs;
 
 /// Why a file isn't the table that it should be.
 #[derive(Clone, Copy)]
@@ -179,7 +179,7 @@ fn gather_lines<'f>(
 #[tactic(auto, unfolding(crate::specs::Looks::gathered))]
 pub(crate) fn gather<'f>(
     alloc: Global,
-    sources: &'f Sources,
+    sources: &'f Inputs,
     cache: CacheSize,
 ) -> Result<Result<Set<'f>, Refusal>, AllocError>
     ensures tables { IfOk result (λ set. tables_or_refusal set ≡ gathered sources.now) }

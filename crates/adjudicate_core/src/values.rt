@@ -15,7 +15,7 @@ use crate::usage::{Instead, ValueFault, Wanted};
 use arbiter_server::LogForm;
 use board_core::Delay;
 use clap::ArgMatches;
-use move_msg::{GameName, Who};
+use move_msg::{ArbiterId, GameName};
 use std::num::NonZeroUsize;
 
 /// The value of an option that has to be there.
@@ -253,7 +253,7 @@ pub(crate) fn datagrams_in<'a>(matches: &ArgMatches<'a>) -> Result<u64, ValueFau
 }
 
 /// Which of the two arbiters it is, of an option that has to be there.
-pub(crate) fn me_in<'a>(matches: &ArgMatches<'a>) -> Result<Who, ValueFault<'a>>
+pub(crate) fn me_in<'a>(matches: &ArgMatches<'a>) -> Result<ArbiterId, ValueFault<'a>>
     ensures ok { IfOk result (IsMe (first_value (found_of matches.now) (codes "me"))) }
     ensures err { IfErr result (λ fault. IsFirstMisuse (first_value (found_of matches.now)) me_faults (fault_words fault)) }
 {

@@ -6,11 +6,11 @@ use Rattle.board_core.specs.declared.moves.Move.{Move as Moves}
 use Rattle.judge_core.specs.Games.{position_after_all, Rules}
 use Rattle.move_msg.specs.declared.message.Message.TheVariants.{Ack}
 use Rattle.move_msg.specs.Numbers.{most_moves}
-use Rattle.arbiter_core.specs.Recording.{Recorded, Window, move_count, advance}
+use Rattle.arbiter_core.specs.Recording.{Recorded, ReorderBuffer, move_count, advance}
 use Rattle.arbiter_core.specs.Answering.{Identity, waits_too, told_now, Answer, Refuses, Sends, puts, answer_to_move}
 use Rattle.arbiter_core.specs.declared.fault.DeliverFault.TheVariants.{IllegalMove, TooFarAhead, TooLong}
 
-module _ (r : Rules) (me : Identity) (old : Recorded) (window : Window) (number : ℕ) (m : Moves) where
+module _ (r : Rules) (me : Identity) (old : Recorded) (window : ReorderBuffer) (number : ℕ) (m : Moves) where
   abbrev pub at_turn : Answer
   at_turn = cond (is_none (position_after_all r.start (old.moves ++ m ∷ []))) (Refuses IllegalMove) (puts me old window (advance r old.moves m window))
 

@@ -7,7 +7,7 @@ use Rattle.board_core.specs.declared.moves.Move.{Move as Moves}
 use Rattle.board_core.specs.declared.verdict.Verdict.{Verdict}
 use Rattle.move_msg.specs.Records.{cut_back, gone_on}
 use Rattle.move_msg.specs.declared.record_bytes.Record.{Record}
-use Rattle.move_msg.specs.declared.who.Who.{Who}
+use Rattle.move_msg.specs.declared.arbiter_id.ArbiterId.{ArbiterId}
 use Rattle.move_msg.specs.declared.stamp.Stamp.{Stamp}
 use Rattle.move_msg.specs.declared.message.Message.{Message}
 use Rattle.arbiter_core.specs.declared.keeper.Keep.{Keep}
@@ -17,7 +17,7 @@ use Rattle.arbiter_core.specs.declared.keeper.KeepFault.TheVariants.{Failed}
 use Rattle.arbiter_core.specs.declared.fault.DeliverFault.TheVariants.{KeeperFailed}
 use Rattle.arbiter_core.specs.declared.planning.Plan.{Plan}
 use Rattle.arbiter_core.specs.declared.played.Played.{Played}
-use Rattle.arbiter_core.specs.Recording.{Recorded, Window, advance, move_count}
+use Rattle.arbiter_core.specs.Recording.{Recorded, ReorderBuffer, advance, move_count}
 use Rattle.arbiter_core.specs.Answering.{still_waits, nothing_waits, told_now, puts}
 use Rattle.system_io.specs.Failures.{Risen}
 use Rattle.arbiter_core.specs.Keeping.{KeeperFacts, PutIs, PutLeaves}
@@ -29,7 +29,7 @@ use Rattle.arbiter_core.specs.Inside.Starting.{recorded_by}
 use Rattle.arbiter_core.proofs.Settling.{advanced}
 
 -- a plan as a record
-pub played_on : (setup : SetupView) (old : Played) (m : Moves) (window : Window) (plan : Plan) (r : Record) → IsArbiterInOrder setup old window → r ≡ gone_on old.record plan.moves.items plan.verdict → IsPlan (rules_at setup) (recorded_in old) m window plan → IsPlayedOn setup old m window (played_of r plan.standing)
+pub played_on : (setup : SetupView) (old : Played) (m : Moves) (window : ReorderBuffer) (plan : Plan) (r : Record) → IsArbiterInOrder setup old window → r ≡ gone_on old.record plan.moves.items plan.verdict → IsPlan (rules_at setup) (recorded_in old) m window plan → IsPlayedOn setup old m window (played_of r plan.standing)
 played_on setup old m window plan r order is p =
     let a = advanced (rules_at setup) old.record.moves m window (old.record.moves ++ plan.moves.items) plan.verdict p.advanced in
     subst (λ (x : Record). IsPlayedOn setup old m window (played_of x plan.standing)) (sym is)
@@ -46,25 +46,25 @@ taken_back old r b more v count none on back all =
     ∙ ap₂ (λ (w : Option Verdict) (ms : List Moves). record { stamp = old.stamp; delay = old.delay; verdict = w; moves = ms }) (sym none) (take_at old.moves more count (sym all))
 
 -- with the record as it was all stays in order
-pub still_in_order : (setup : SetupView) (old : Played) (r : Record) (window : Window) → r ≡ old.record → IsArbiterInOrder setup old window → IsArbiterInOrder setup (played_of r old.standing) window
+pub still_in_order : (setup : SetupView) (old : Played) (r : Record) (window : ReorderBuffer) → r ≡ old.record → IsArbiterInOrder setup old window → IsArbiterInOrder setup (played_of r old.standing) window
 still_in_order setup old r window is order = subst (λ (x : Record). IsArbiterInOrder setup (played_of x old.standing) window) (sym is) order
 
 -- what is in order stays so with the next record and what still waits
-pub next_in_order : (setup : SetupView) (old new : Played) (m : Moves) (window later : Window) → IsArbiterInOrder setup old window → IsPlayedOn setup old m window new → IsNear later (length new.record.moves + 1) → IsArbiterInOrder setup new later
+pub next_in_order : (setup : SetupView) (old new : Played) (m : Moves) (window later : ReorderBuffer) → IsArbiterInOrder setup old window → IsPlayedOn setup old m window new → IsNear later (length new.record.moves + 1) → IsArbiterInOrder setup new later
 next_in_order setup old new m window later order on near =
     record { played = subst (λ (s : Stamp). IsPlayedRecord setup s new) (sym on.played.stamp_is) on.played; near = near; delay = order.delay }
 
-pub new_is : (v : View) (stamp : Stamp) (n : Recorded) (w : Window) → stamp ≡ v.me.stamp → record { setup = v.setup; me = record { stamp = stamp; who = v.me.who }; kept = n; window = w; is_down = v.is_down } ≡ with_record v n w
+pub new_is : (v : View) (stamp : Stamp) (n : Recorded) (w : ReorderBuffer) → stamp ≡ v.me.stamp → record { setup = v.setup; me = record { stamp = stamp; who = v.me.who }; kept = n; window = w; is_down = v.is_down } ≡ with_record v n w
 new_is v stamp n w f = ap (λ (x : Stamp). record { setup = v.setup; me = record { stamp = x; who = v.me.who }; kept = n; window = w; is_down = v.is_down }) f
 
 -- an arbiter by its setup, its record and what waits
-abbrev pub seen : SetupView → Who → Record → Window → Bool → View
+abbrev pub seen : SetupView → ArbiterId → Record → ReorderBuffer → Bool → View
 seen s who r window down = record { setup = s; me = record { stamp = r.stamp; who = who }; kept = recorded_by r; window = window; is_down = down }
 
-pub seen_as : (s : SetupView) (who : Who) (r q : Record) (window : Window) (down : Bool) → r ≡ q → seen s who r window down ≡ seen s who q window down
+pub seen_as : (s : SetupView) (who : ArbiterId) (r q : Record) (window : ReorderBuffer) (down : Bool) → r ≡ q → seen s who r window down ≡ seen s who q window down
 seen_as s who r q window down f = ap (λ (x : Record). seen s who x window down) f
 
-module _ {K : Type 0} (facts : KeeperFacts K) (old new : View) (next : Recorded) (outputs : List Message) (later : Window) (before now : K) (sent : List ℕ) (spelled : IsSpelled old.me.stamp old.setup.delay next (Some sent)) (written : IsWritten old.me.stamp old.setup.delay next (Some sent)) (once : facts.leaves before sent now) where
+module _ {K : Type 0} (facts : KeeperFacts K) (old new : View) (next : Recorded) (outputs : List Message) (later : ReorderBuffer) (before now : K) (sent : List ℕ) (spelled : IsSpelled old.me.stamp old.setup.delay next (Some sent)) (written : IsWritten old.me.stamp old.setup.delay next (Some sent)) (once : facts.leaves before sent now) where
   wrote : facts.kept now ≡ Some sent → (facts.kept now ≡ facts.kept before) ⊎ IsWritten old.me.stamp old.setup.delay next (facts.kept now)
   wrote e = inr (subst (IsWritten old.me.stamp old.setup.delay next) (sym e) written)
 
@@ -87,7 +87,7 @@ module _ {K : Type 0} (facts : KeeperFacts K) (old new : View) (next : Recorded)
       by_keep FailsOld stated is = record { keep = FailsOld; stated = stated; lands = (refl, is_new, is.1); written = inl is.1; sent = sent; spells = written; once = once; cause = λ _. cause is.0 }
       by_keep FailsNew stated is = record { keep = FailsNew; stated = stated; lands = (refl, is_new, there is.1); written = wrote is.1; sent = sent; spells = written; once = once; cause = λ _. cause is.0 }
 
-abbrev later_of : Recorded → Recorded → Window → Window
+abbrev later_of : Recorded → Recorded → ReorderBuffer → ReorderBuffer
 later_of next old window = cond (is_some next.verdict) nothing_waits (still_waits window (move_count next - move_count old))
 
 module _ {K : Type 0} (facts : KeeperFacts K) (v w : View) (m : Moves) (next : Recorded) (before now : K) (new : View) (sent : List ℕ) (same : v ≡ w) (is : next ≡ advance (rules_at v.setup) v.kept.moves m v.window) (spelled : IsSpelled v.me.stamp v.setup.delay next (Some sent)) (written : IsWritten v.me.stamp v.setup.delay next (Some sent)) (once : facts.leaves before sent now) where
@@ -96,7 +96,7 @@ module _ {K : Type 0} (facts : KeeperFacts K) (v w : View) (m : Moves) (next : R
       subst (λ (u : View). ReturnsAnswer facts (moment u before) (answer_to_next u m) told (moment new now)) same
       (subst (λ (n : Recorded). ReturnsAnswer facts (moment v before) (puts v.me v.kept v.window n) told (moment new now)) is (record { answered = tt; put = h }))
 
-  pub goes_ok : {T : Type 0} (x : T) (outputs : List Message) (later : Window) → PutLeaves {T = T} (facts.may_be before) (facts.kept before) sent (facts.kept now) (Ok x) → outputs ≡ told_now v.me next → later ≡ later_of next v.kept v.window → new ≡ with_record v next later → ReturnsAnswer facts (moment w before) (answer_to_next w m) (Ok outputs) (moment new now)
+  pub goes_ok : {T : Type 0} (x : T) (outputs : List Message) (later : ReorderBuffer) → PutLeaves {T = T} (facts.may_be before) (facts.kept before) sent (facts.kept now) (Ok x) → outputs ≡ told_now v.me next → later ≡ later_of next v.kept v.window → new ≡ with_record v next later → ReturnsAnswer facts (moment w before) (answer_to_next w m) (Ok outputs) (moment new now)
   goes_ok x outputs later o told lat is_new =
       answers (Ok outputs) (inr (subst (λ (os : List Message). PutsOnce facts v next (told_now v.me next) (later_of next v.kept v.window) before now new (Ok os)) (sym told)
       (put_landed facts v new next (told_now v.me next) (later_of next v.kept v.window) before now sent spelled written once x o (is_new ∙ ap (with_record v next) lat))))

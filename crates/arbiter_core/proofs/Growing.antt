@@ -9,7 +9,7 @@ use Rattle.move_msg.specs.declared.message.Message.{Message}
 use Rattle.move_msg.specs.declared.message.Message.TheVariants.{Move, Ack, Verdict, Fetch}
 use Rattle.arbiter_core.specs.declared.fault.DeliverFault.{DeliverFault}
 use Rattle.arbiter_core.specs.declared.fault.DeliverFault.TheVariants.{Down}
-use Rattle.arbiter_core.specs.Recording.{Recorded, Window, advance, last_ply, reaches}
+use Rattle.arbiter_core.specs.Recording.{Recorded, ReorderBuffer, advance, last_ply, reaches}
 use Rattle.arbiter_core.specs.Answering.{Answer, Identity, Puts, Refuses, Sends, answer_heard, answer_to, answer_to_move}
 use Rattle.arbiter_core.specs.Setups.{rules_at}
 use Rattle.arbiter_core.specs.Delivers.{heard}
@@ -30,7 +30,7 @@ first_false : (a b : Bool) → (a || b) ≡ false → a ≡ false
 first_false true b h = h
 first_false false b h = refl
 
-advance_grows : (r : Rules) (old : Recorded) (window : Window) (m : Moves) → IsOwn r old → old.verdict ≡ None → is_some (position_after_all r.start (old.moves ++ m ∷ [])) ≡ true → Grows r old (advance r old.moves m window)
+advance_grows : (r : Rules) (old : Recorded) (window : ReorderBuffer) (m : Moves) → IsOwn r old → old.verdict ≡ None → is_some (position_after_all r.start (old.moves ++ m ∷ [])) ≡ true → Grows r old (advance r old.moves m window)
 advance_grows r old window m own none legal =
     let rest : List Moves = some_prefix window in
     let all : List Moves = old.moves ++ m ∷ rest in
@@ -54,7 +54,7 @@ advance_grows r old window m own none legal =
     record { own = record { ruled = a.ruled; reached = a.reached }; more = omega (arith, low, count) }
 
 -- a put comes where all tests fail
-by_tests : (b1 b2 b3 b4 b5 : Bool) (f1 f3 f5 : DeliverFault) (o2 o4 : List Message) (w2 w4 : Window) (next : Recorded) (outputs : List Message) (window : Window) (x : Answer)
+by_tests : (b1 b2 b3 b4 b5 : Bool) (f1 f3 f5 : DeliverFault) (o2 o4 : List Message) (w2 w4 : ReorderBuffer) (next : Recorded) (outputs : List Message) (window : ReorderBuffer) (x : Answer)
     → Puts next outputs window ≡ cond b1 (Refuses f1) (cond b2 (Sends o2 w2) (cond b3 (Refuses f3) (cond b4 (Sends o4 w4) (cond b5 (Refuses f5) x))))
     → (b2 ≡ false) × (b5 ≡ false) × (Puts next outputs window ≡ x)
 by_tests true b2 b3 b4 b5 f1 f3 f5 o2 o4 w2 w4 next outputs window x e = absurd cc
@@ -69,7 +69,7 @@ put_in other (Refuses fault) = other
 put_in other (Sends outputs window) = other
 put_in other (Puts next outputs window) = next
 
-module _ (r : Rules) (me : Identity) (old : Recorded) (waiting : Window) (own : IsOwn r old) (next : Recorded) (outputs : List Message) (window : Window) where
+module _ (r : Rules) (me : Identity) (old : Recorded) (waiting : ReorderBuffer) (own : IsOwn r old) (next : Recorded) (outputs : List Message) (window : ReorderBuffer) where
   by_move : (number : ℕ) (m : Moves) → Puts next outputs window ≡ answer_to_move r me old waiting number m → Grows r old next
   unfolding put_in
   by_move number m e =

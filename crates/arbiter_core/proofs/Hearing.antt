@@ -6,8 +6,8 @@ use Rattle.board_core.specs.declared.parts.Parts.{Parts}
 use Rattle.board_core.specs.declared.moves.Move.{Move as Moves}
 use Rattle.judge_core.specs.Games.{position_after_all}
 use Rattle.move_msg.specs.declared.stamp.Stamp.{Stamp}
-use Rattle.move_msg.specs.declared.who.Who.{Who}
-use Rattle.move_msg.specs.declared.who.Sender.{Sender}
+use Rattle.move_msg.specs.declared.arbiter_id.ArbiterId.{ArbiterId}
+use Rattle.move_msg.specs.declared.arbiter_id.Sender.{Sender}
 use Rattle.board_core.specs.declared.verdict.Verdict.{Verdict as Verdicts}
 use Rattle.move_msg.specs.declared.message.Message.{Message}
 use Rattle.move_msg.specs.declared.message.Message.TheVariants.{Move, Ack, Verdict, Fetch}
@@ -19,7 +19,7 @@ use Rattle.move_msg.specs.Numbers.{most_moves}
 use Rattle.arbiter_core.specs.Keeping.{KeeperFacts}
 use Rattle.arbiter_core.specs.declared.fault.DeliverFault.{DeliverFault}
 use Rattle.arbiter_core.specs.declared.fault.DeliverFault.TheVariants.{Stranger, IllegalMove, Down, OutOfMemory}
-use Rattle.arbiter_core.specs.Recording.{Window, move_count, advance}
+use Rattle.arbiter_core.specs.Recording.{ReorderBuffer, move_count, advance}
 use Rattle.arbiter_core.specs.Answering.{Answer, Refuses, Sends, fetched, sent_by, puts, answer_to, answer_to_move, answer_heard}
 use Rattle.arbiter_core.specs.Setups.{rules_at}
 use Rattle.arbiter_core.specs.Views.{View}
@@ -46,15 +46,15 @@ pub hears_move : (old : View) (stamp : Stamp) (sender : Sender) (number : ℕ) (
 unfolding answer_to
 hears_move old stamp sender number m up = heard_is old (Ok (Move stamp sender number m)) up
 
-pub hears_ack : (old : View) (stamp : Stamp) (who : Who) (count : ℕ) → old.is_down ≡ false → answer_of old (Ok (Ack stamp who count)) ≡ Sends [] old.window
+pub hears_ack : (old : View) (stamp : Stamp) (who : ArbiterId) (count : ℕ) → old.is_down ≡ false → answer_of old (Ok (Ack stamp who count)) ≡ Sends [] old.window
 unfolding answer_to
 hears_ack old stamp who count up = heard_is old (Ok (Ack stamp who count)) up
 
-pub hears_verdict : (old : View) (stamp : Stamp) (who : Who) (ply : ℕ) (v : Verdicts) → old.is_down ≡ false → answer_of old (Ok (Verdict stamp who ply v)) ≡ Sends [] old.window
+pub hears_verdict : (old : View) (stamp : Stamp) (who : ArbiterId) (ply : ℕ) (v : Verdicts) → old.is_down ≡ false → answer_of old (Ok (Verdict stamp who ply v)) ≡ Sends [] old.window
 unfolding answer_to
 hears_verdict old stamp who ply v up = heard_is old (Ok (Verdict stamp who ply v)) up
 
-pub hears_fetch : (old : View) (stamp : Stamp) (who : Who) (number wanted : ℕ) → old.is_down ≡ false → answer_of old (Ok (Fetch stamp who number wanted)) ≡ Sends (fetched old.me old.kept number wanted) old.window
+pub hears_fetch : (old : View) (stamp : Stamp) (who : ArbiterId) (number wanted : ℕ) → old.is_down ≡ false → answer_of old (Ok (Fetch stamp who number wanted)) ≡ Sends (fetched old.me old.kept number wanted) old.window
 unfolding answer_to
 hears_fetch old stamp who number wanted up = heard_is old (Ok (Fetch stamp who number wanted)) up
 
@@ -81,10 +81,10 @@ module _ {K : Type 0} (facts : KeeperFacts K) (old : View) (keeper : K) where
   pub refuses : (a : Answer) (fault : DeliverFault) → a ≡ Refuses fault → ReturnsAnswer facts (moment old keeper) a (Err fault) (moment old keeper)
   refuses a fault e = answers_as facts _ _ _ a (Refuses fault) e (record { answered = record { answer = refl; arbiter = refl; keeper = refl }; put = tt })
 
-  pub sends : (a : Answer) (outputs : List Message) (window : Window) (told : List Message) (new : View) → a ≡ Sends outputs window → told ≡ outputs → new ≡ with_window old window → ReturnsAnswer facts (moment old keeper) a (Ok told) (moment new keeper)
+  pub sends : (a : Answer) (outputs : List Message) (window : ReorderBuffer) (told : List Message) (new : View) → a ≡ Sends outputs window → told ≡ outputs → new ≡ with_window old window → ReturnsAnswer facts (moment old keeper) a (Ok told) (moment new keeper)
   sends a outputs window told new e is same = answers_as facts _ _ _ a (Sends outputs window) e (record { answered = inl (record { answer = ap Ok is; arbiter = same; keeper = refl }); put = tt })
 
-  pub wants_memory : (a : Answer) (outputs : List Message) (window : Window) → a ≡ Sends outputs window → 4 < length outputs → ReturnsAnswer facts (moment old keeper) a (Err OutOfMemory) (moment old keeper)
+  pub wants_memory : (a : Answer) (outputs : List Message) (window : ReorderBuffer) → a ≡ Sends outputs window → 4 < length outputs → ReturnsAnswer facts (moment old keeper) a (Err OutOfMemory) (moment old keeper)
   wants_memory a outputs window e many = answers_as facts _ _ _ a (Sends outputs window) e (record { answered = inr (many, record { answer = refl; arbiter = refl; keeper = refl }); put = tt })
 
 module _ (v : View) (message : Message) where
@@ -95,15 +95,15 @@ module _ (v : View) (message : Message) where
   unfolding answer_to
   to_move stamp sender number m e = ap (λ (x : Message). answer_to (rules_at v.setup) v.me v.kept v.window x) e
 
-  pub to_ack : (stamp : Stamp) (who : Who) (count : ℕ) → message ≡ Ack stamp who count → answered ≡ Sends [] v.window
+  pub to_ack : (stamp : Stamp) (who : ArbiterId) (count : ℕ) → message ≡ Ack stamp who count → answered ≡ Sends [] v.window
   unfolding answer_to
   to_ack stamp who count e = ap (λ (x : Message). answer_to (rules_at v.setup) v.me v.kept v.window x) e
 
-  pub to_verdict : (stamp : Stamp) (who : Who) (ply : ℕ) (t : Verdicts) → message ≡ Verdict stamp who ply t → answered ≡ Sends [] v.window
+  pub to_verdict : (stamp : Stamp) (who : ArbiterId) (ply : ℕ) (t : Verdicts) → message ≡ Verdict stamp who ply t → answered ≡ Sends [] v.window
   unfolding answer_to
   to_verdict stamp who ply t e = ap (λ (x : Message). answer_to (rules_at v.setup) v.me v.kept v.window x) e
 
-  pub to_fetch : (stamp : Stamp) (who : Who) (number wanted : ℕ) → message ≡ Fetch stamp who number wanted → answered ≡ Sends (fetched v.me v.kept number wanted) v.window
+  pub to_fetch : (stamp : Stamp) (who : ArbiterId) (number wanted : ℕ) → message ≡ Fetch stamp who number wanted → answered ≡ Sends (fetched v.me v.kept number wanted) v.window
   unfolding answer_to
   to_fetch stamp who number wanted e = ap (λ (x : Message). answer_to (rules_at v.setup) v.me v.kept v.window x) e
 

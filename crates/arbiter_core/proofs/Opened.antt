@@ -21,7 +21,7 @@ use Rattle.move_msg.proofs.RecordLaws.{one_record}
 use Rattle.move_msg.specs.Numbers.{most_moves}
 use Rattle.judge_core.specs.Standings.{IsAt}
 use Rattle.judge_core.proofs.Plies.{goes_on}
-use Rattle.arbiter_core.specs.Recording.{Recorded, Window, reaches}
+use Rattle.arbiter_core.specs.Recording.{Recorded, ReorderBuffer, reaches}
 use Rattle.arbiter_core.specs.declared.played.Played.{Played}
 use Rattle.std.specs.Result.{IsErrOf}
 use Rattle.arbiter_core.specs.declared.keeper.Keep.{Keep}
@@ -35,7 +35,7 @@ use Rattle.arbiter_core.specs.Keeping.{KeeperFacts, PutIs, PutLeaves}
 use Rattle.arbiter_core.specs.Delivers.{IsSpelled, IsWritten, Keeps}
 use Rattle.arbiter_core.specs.Answering.{Identity, nothing_waits}
 use Rattle.arbiter_core.specs.Setups.{SetupView, rules_at}
-use Rattle.move_msg.specs.declared.who.Who.{Who}
+use Rattle.move_msg.specs.declared.arbiter_id.ArbiterId.{ArbiterId}
 use Rattle.arbiter_core.specs.Views.{View, spelled_as}
 use Rattle.arbiter_core.specs.Inside.Playing.{IsArbiterInOrder, IsPlayedRecord, recorded_in}
 use Rattle.arbiter_core.specs.Inside.Starting.{IsNotResumed, IsPutSo, IsPutFirst, recorded_by, told_from}
@@ -293,10 +293,10 @@ module _ {K : Type 0} (facts : KeeperFacts K) (setup : SetupView) (me : Identity
       inr (inr (subst (λ (k : Option (List ℕ)). OpensOver facts setup me k before now (told_from setup me result)) e
       (record { keep = o.keep; stated = (same o.keep).0 o.stated; lands = first_lands o.keep (facts.kept before) (facts.kept mid) (facts.kept now) result still o.is; written = wrote_later (facts.kept before) (facts.kept mid) (facts.kept now) still o.written; mid = mid; got = got; sent = o.sent; spells = o.spells; once = o.once; cause = λ f. risen_from (facts.faults before) (facts.faults mid) (facts.faults now) rise (o.cause (failed_first result f)) })))
 
-pub runs_is : (setup : SetupView) (own stamp : Stamp) (who : Who) (kept : Recorded) (window : Window) → own ≡ stamp → window ≡ nothing_waits → ◌≡◌ {A = View} (record { setup = setup; me = record { stamp = own; who = who }; kept = kept; window = window; is_down = false }) (running setup (record { stamp = stamp; who = who }) kept)
+pub runs_is : (setup : SetupView) (own stamp : Stamp) (who : ArbiterId) (kept : Recorded) (window : ReorderBuffer) → own ≡ stamp → window ≡ nothing_waits → ◌≡◌ {A = View} (record { setup = setup; me = record { stamp = own; who = who }; kept = kept; window = window; is_down = false }) (running setup (record { stamp = stamp; who = who }) kept)
 runs_is setup own stamp who kept window e f =
     ap (λ (x : Stamp). record { setup = setup; me = record { stamp = x; who = who }; kept = kept; window = window; is_down = false }) e
-    ∙ ap (λ (w : Window). record { setup = setup; me = record { stamp = stamp; who = who }; kept = kept; window = w; is_down = false }) f
+    ∙ ap (λ (w : ReorderBuffer). record { setup = setup; me = record { stamp = stamp; who = who }; kept = kept; window = w; is_down = false }) f
 
 pub opens_as : {K : Type 0} (facts : KeeperFacts K) (setup : SetupView) (me : Identity) (before now : K) (told other : OpenResult) → told ≡ other → Opens facts setup me before now told → Opens facts setup me before now other
 opens_as facts setup me before now told other e h = subst (Opens facts setup me before now) e h

@@ -10,7 +10,7 @@ use Rattle.board_core.specs.declared.verdict.Verdict.{Verdict}
 use Rattle.judge_core.specs.Games.{Rules, verdict_after}
 use Rattle.move_msg.specs.Numbers.{most_moves}
 use Rattle.judge_core.specs.Standings.{Reached, IsAt}
-use Rattle.arbiter_core.specs.Recording.{Recorded, Window, reaches, last_ply, advance}
+use Rattle.arbiter_core.specs.Recording.{Recorded, ReorderBuffer, reaches, last_ply, advance}
 use Rattle.arbiter_core.specs.Answering.{still_waits, nothing_waits, waits_too}
 use Rattle.arbiter_core.specs.Views.{IsNear}
 use Rattle.arbiter_core.proofs.Reach.{reach_within, reach_front, last_reached}
@@ -27,7 +27,7 @@ pub record Advanced (r : Rules) (moves : List Move) (verdict : Option Verdict) :
   pub ruled : verdict ≡ verdict_after r moves
   pub reached : reaches r moves (length moves) ≡ true
 
-pub advanced : (r : Rules) (before : List Move) (m : Move) (window : Window) (moves : List Move) (verdict : Option Verdict) → record { moves = moves; verdict = verdict } ≡ advance r before m window → Advanced r moves verdict
+pub advanced : (r : Rules) (before : List Move) (m : Move) (window : ReorderBuffer) (moves : List Move) (verdict : Option Verdict) → record { moves = moves; verdict = verdict } ≡ advance r before m window → Advanced r moves verdict
 advanced r before m window moves verdict e =
     let all : List Move = before ++ m ∷ some_prefix window in
     let n : ℕ = last_ply r all in
@@ -42,7 +42,7 @@ advanced r before m window moves verdict e =
       reached = subst (λ (xs : List Move). reaches r xs (length xs) ≡ true) (sym ms) (subst (λ k. reaches r (take n all) k ≡ true) (sym size) front);
     }
 
-pub near_still : (window : Window) (k n : ℕ) → k ≤ n → IsNear window (k + 1) → IsNear (still_waits window (n - k)) (n + 1)
+pub near_still : (window : ReorderBuffer) (k n : ℕ) → k ≤ n → IsNear window (k + 1) → IsNear (still_waits window (n - k)) (n + 1)
 near_still window k n l h =
     let e : k + 1 + (n - k) ≡ n + 1 = omega arith in
     subst (λ at. IsNear (still_waits window (n - k)) at) e (each_still (λ n w. n < most_moves) window (k + 1) (n - k) h)
@@ -50,5 +50,5 @@ near_still window k n l h =
 pub near_nothing : (at : ℕ) → IsNear nothing_waits at
 near_nothing at = each_nothing (λ n w. n < most_moves) at
 
-pub near_too : (window : Window) (k number : ℕ) (m : Move) → k < number → number < most_moves → IsNear window (k + 1) → IsNear (waits_too window (number - (k + 1)) m) (k + 1)
+pub near_too : (window : ReorderBuffer) (k number : ℕ) (m : Move) → k < number → number < most_moves → IsNear window (k + 1) → IsNear (waits_too window (number - (k + 1)) m) (k + 1)
 near_too window k number m l u h = let e : k + 1 + (number - (k + 1)) < most_moves = omega arith in each_too (λ n w. n < most_moves) window (k + 1) (number - (k + 1)) m e h

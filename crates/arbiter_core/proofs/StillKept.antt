@@ -4,7 +4,7 @@ use Rattle.move_msg.specs.declared.message.Message.{Message}
 use Rattle.arbiter_core.specs.Keeping.{KeeperFacts}
 use Rattle.arbiter_core.specs.declared.keeper.Keep.{Keep}
 use Rattle.arbiter_core.specs.declared.keeper.Keep.TheVariants.{Good, FailsOld, FailsNew}
-use Rattle.arbiter_core.specs.Recording.{Recorded, Window}
+use Rattle.arbiter_core.specs.Recording.{Recorded, ReorderBuffer}
 use Rattle.arbiter_core.specs.Answering.{Answer, Refuses, Sends, Puts}
 use Rattle.arbiter_core.specs.Views.{View}
 use Rattle.arbiter_core.specs.Delivers.{ReturnsAnswer, IsKept, Told, Lands, RefusesOrSends, PutsIfAny, moment, with_window, with_record, downed}
@@ -13,7 +13,7 @@ module _ {K : Type 0} (facts : KeeperFacts K) (old new : View) (before now : K) 
   same_kept : new ≡ old → now ≡ before → IsKept (facts.kept before) old → IsKept (facts.kept now) new
   same_kept e f k = subst (IsKept (facts.kept now)) (sym e) (subst (λ (x : K). IsKept (facts.kept x) old) (sym f) k)
 
-  windowed : (window : Window) → new ≡ with_window old window → now ≡ before → IsKept (facts.kept before) old → IsKept (facts.kept now) new
+  windowed : (window : ReorderBuffer) → new ≡ with_window old window → now ≡ before → IsKept (facts.kept before) old → IsKept (facts.kept now) new
   windowed window e f k =
       let there : IsKept (facts.kept before) (with_window old window) = k in
       subst (IsKept (facts.kept now)) (sym e) (subst (λ (x : K). IsKept (facts.kept x) (with_window old window)) (sym f) there)
@@ -21,7 +21,7 @@ module _ {K : Type 0} (facts : KeeperFacts K) (old new : View) (before now : K) 
   downed_keeps : new ≡ downed old → IsKept (facts.kept now) new
   downed_keeps e up = absurd (let down : true ≡ false = ap (λ (v : View). v.is_down) (sym e) ∙ up in cc)
 
-  landed : (keep : Keep) (next : Recorded) (outputs : List Message) (window : Window) → Lands keep old next outputs window (facts.kept before) (facts.kept now) new told → IsKept (facts.kept now) new
+  landed : (keep : Keep) (next : Recorded) (outputs : List Message) (window : ReorderBuffer) → Lands keep old next outputs window (facts.kept before) (facts.kept now) new told → IsKept (facts.kept now) new
   landed Good next outputs window h =
       let there : IsKept (facts.kept now) (with_record old next window) = λ up. h.2 in
       subst (IsKept (facts.kept now)) (sym h.1) there
@@ -35,7 +35,7 @@ module _ {K : Type 0} (facts : KeeperFacts K) (old new : View) (before now : K) 
   by_answer (Puts next outputs window) h (inl p) k = same_kept p.arbiter p.keeper k
   by_answer (Puts next outputs window) h (inr p) k = landed p.keep next outputs window p.lands
 
-  landed_setup : (keep : Keep) (next : Recorded) (outputs : List Message) (window : Window) → Lands keep old next outputs window (facts.kept before) (facts.kept now) new told → new.setup ≡ old.setup
+  landed_setup : (keep : Keep) (next : Recorded) (outputs : List Message) (window : ReorderBuffer) → Lands keep old next outputs window (facts.kept before) (facts.kept now) new told → new.setup ≡ old.setup
   landed_setup Good next outputs window h = ap (λ (v : View). v.setup) h.1
   landed_setup FailsOld next outputs window h = ap (λ (v : View). v.setup) h.1
   landed_setup FailsNew next outputs window h = ap (λ (v : View). v.setup) h.1

@@ -4,7 +4,7 @@ use Rattle.board_core.specs.declared.moves.Move.{Move}
 use Rattle.judge_core.specs.Tables.{Holding}
 use Rattle.move_msg.specs.Numbers.{most_moves}
 use Rattle.arbiter_core.specs.declared.state.ArbiterState.TheInside.{Inside}
-use Rattle.arbiter_core.specs.Recording.{Window, move_count}
+use Rattle.arbiter_core.specs.Recording.{ReorderBuffer, move_count}
 use Rattle.arbiter_core.specs.Answering.{waits_too}
 use Rattle.arbiter_core.specs.Resting.{CanWake, Rest, awake}
 use Rattle.arbiter_core.specs.Setups.{terms_with}
@@ -37,7 +37,7 @@ can_wake a set o = record {
   spelled = o.played.delay_is;
 }
 
-abbrev pub waiting : Rest → Window → Rest
+abbrev pub waiting : Rest → ReorderBuffer → Rest
 waiting r window = record r { window = window }
 
 -- it still can where one move more waits

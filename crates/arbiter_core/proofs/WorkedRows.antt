@@ -6,8 +6,8 @@ use Rattle.board_core.specs.declared.moves.Move.{Move as Moves}
 use Rattle.board_core.specs.declared.verdict.Verdict.TheVariants as verdict
 use Rattle.judge_core.specs.Games.{Rules}
 use Rattle.move_msg.specs.declared.stamp.Stamp.{Stamp}
-use Rattle.move_msg.specs.declared.who.Who.TheVariants as who
-use Rattle.move_msg.specs.declared.who.Sender.TheVariants.{Source, Arbiter}
+use Rattle.move_msg.specs.declared.arbiter_id.ArbiterId.TheVariants as who
+use Rattle.move_msg.specs.declared.arbiter_id.Sender.TheVariants.{Source, Arbiter}
 use Rattle.move_msg.specs.declared.message.Message.{Message}
 use Rattle.move_msg.specs.declared.message.Message.TheVariants.{Move, Ack, Verdict, Fetch}
 use Rattle.arbiter_core.specs.declared.fault.DeliverFault.TheVariants.{TooFarAhead, TooLong}

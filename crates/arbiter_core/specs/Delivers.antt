@@ -13,7 +13,7 @@ use Rattle.arbiter_core.specs.declared.keeper.Keep.{Keep}
 use Rattle.arbiter_core.specs.declared.keeper.Keep.TheVariants.{Good, FailsOld, FailsNew}
 use Rattle.arbiter_core.specs.declared.fault.DeliverFault.{DeliverFault}
 use Rattle.arbiter_core.specs.declared.fault.DeliverFault.TheVariants.{NotAMessage, Stranger, Down, KeeperFailed, OutOfMemory}
-use Rattle.arbiter_core.specs.Recording.{Recorded, Window, advance}
+use Rattle.arbiter_core.specs.Recording.{Recorded, ReorderBuffer, advance}
 use Rattle.arbiter_core.specs.Answering.{Answer, Refuses, Sends, Puts, answer_heard, answer_to, answer_to_move, puts}
 use Rattle.system_io.specs.Failures.{Risen}
 use Rattle.arbiter_core.specs.Setups.{rules_at}
@@ -53,10 +53,10 @@ IsKept bytes v = v.is_down ≡ false → Keeps bytes v
 abbrev pub downed : View → View
 downed v = record { setup = v.setup; me = v.me; kept = v.kept; window = v.window; is_down = true }
 
-abbrev pub with_window : View → Window → View
+abbrev pub with_window : View → ReorderBuffer → View
 with_window v window = record { setup = v.setup; me = v.me; kept = v.kept; window = window; is_down = v.is_down }
 
-abbrev pub with_record : View → Recorded → Window → View
+abbrev pub with_record : View → Recorded → ReorderBuffer → View
 with_record v next window = record { setup = v.setup; me = v.me; kept = next; window = window; is_down = v.is_down }
 
 abbrev pub Told : Type 0
@@ -80,13 +80,13 @@ abbrev pub exchange : {K : Type 0} → List ℕ → Told → Moment K → Exchan
 exchange datagram told after = record { datagram = datagram; told = told; after = after }
 
 -- a put of the next record with this outcome, and what is then answered
-abbrev pub Lands : Keep → View → Recorded → List Message → Window → Option (List ℕ) → Option (List ℕ) → View → Told → Type 0
+abbrev pub Lands : Keep → View → Recorded → List Message → ReorderBuffer → Option (List ℕ) → Option (List ℕ) → View → Told → Type 0
 Lands Good old next outputs window before now new told = (told ≡ Ok outputs) × (new ≡ with_record old next window) × IsSpelled old.me.stamp old.setup.delay next now
 Lands FailsOld old next outputs window before now new told = (told ≡ Err KeeperFailed) × (new ≡ downed old) × (now ≡ before)
 Lands FailsNew old next outputs window before now new told = (told ≡ Err KeeperFailed) × (new ≡ downed old) × IsSpelled old.me.stamp old.setup.delay next now
 
 -- one put, with an outcome that the keeper stated
-pub record PutsOnce {K : Type 0} (facts : KeeperFacts K) (old : View) (next : Recorded) (outputs : List Message) (window : Window) (before now : K) (new : View) (told : Told) : Type 0 where
+pub record PutsOnce {K : Type 0} (facts : KeeperFacts K) (old : View) (next : Recorded) (outputs : List Message) (window : ReorderBuffer) (before now : K) (new : View) (told : Told) : Type 0 where
   pub keep : Keep
   pub stated : facts.may_be before keep
   pub lands : Lands keep old next outputs window (facts.kept before) (facts.kept now) new told

@@ -5,7 +5,7 @@ use Rattle.board_core.specs.declared.verdict.Verdict.{Verdict}
 use Rattle.move_msg.specs.declared.message.Message.{Message}
 use Rattle.move_msg.specs.declared.stamp.Stamp.{Stamp}
 use Rattle.judge_core.specs.Games.{Rules, position_after_all, verdict_after, IsUnruled, IsFirst}
-use Rattle.arbiter_core.specs.Recording.{Recorded, Window, move_count, reaches, record_at, last_ply}
+use Rattle.arbiter_core.specs.Recording.{Recorded, ReorderBuffer, move_count, reaches, record_at, last_ply}
 use Rattle.arbiter_core.specs.Answering.{Puts}
 use Rattle.arbiter_core.specs.Setups.{rules_at}
 use Rattle.arbiter_core.specs.Views.{View}
@@ -55,5 +55,5 @@ pub record Grows (rules : Rules) (old next : Recorded) : Type 0 where
 
 -- A record that is put has more moves than the one before.
 abbrev pub PutsGrow : Type 0
-PutsGrow = (v : View) (datagram : List ℕ) (next : Recorded) (outputs : List Message) (window : Window) → IsOwn (rules_at v.setup) v.kept
+PutsGrow = (v : View) (datagram : List ℕ) (next : Recorded) (outputs : List Message) (window : ReorderBuffer) → IsOwn (rules_at v.setup) v.kept
     → answer_at v datagram ≡ Puts next outputs window → Grows (rules_at v.setup) v.kept next

@@ -34,11 +34,11 @@ unfoldable pub last_ply : Rules → List Move → ℕ
 last_ply rules game = greatest_passing (reaches rules game) (length game)
 
 -- Moves that came before their turn: place i has the move with number count + 1 + i, if it came.
-abbrev pub Window : Type 0
-Window = List (Option Move)
+abbrev pub ReorderBuffer : Type 0
+ReorderBuffer = List (Option Move)
 
 -- The record after a legal move and the moves that waited behind it without a gap.
-abbrev pub advance : Rules → List Move → Move → Window → Recorded
+abbrev pub advance : Rules → List Move → Move → ReorderBuffer → Recorded
 advance rules moves m window =
     let all = moves ++ m ∷ some_prefix window in
     record_at rules all (last_ply rules all)

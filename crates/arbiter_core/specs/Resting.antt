@@ -6,7 +6,7 @@ use Rattle.judge_core.specs.Games.{verdict_after}
 use Rattle.judge_core.specs.Standings.{IsAt, Reached}
 use Rattle.judge_core.specs.Tables.{Holding}
 use Rattle.move_msg.specs.Numbers.{most_moves}
-use Rattle.arbiter_core.specs.Recording.{Recorded, Window, move_count, reaches}
+use Rattle.arbiter_core.specs.Recording.{Recorded, ReorderBuffer, move_count, reaches}
 use Rattle.arbiter_core.specs.Answering.{Answer, Identity}
 use Rattle.arbiter_core.specs.Delivers.{ReturnsAnswer, Told, moment}
 use Rattle.arbiter_core.specs.Keeping.{KeeperFacts}
@@ -21,7 +21,7 @@ pub record Rest : Type 0 where
   pub delay : ℕ
   pub me : Identity
   pub kept : Recorded
-  pub window : Window
+  pub window : ReorderBuffer
   pub is_down : Bool
   -- where the game stands after the recorded moves
   pub standing : Reached

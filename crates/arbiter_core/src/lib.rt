@@ -45,9 +45,9 @@ pub mod laws;
 mod opening;
 mod planning;
 mod played;
+mod reorder_buffer;
 mod setup;
 mod state;
-mod window;
 
 pub use arbiter::Arbiter;
 pub use fault::{DeliverFault, OpenFault};

@@ -16,9 +16,9 @@ use crate::arbiter::Arbiter;
 use crate::fault::OpenFault;
 use crate::keeper::{KeepFault, Keeper};
 use crate::played::Played;
+use crate::reorder_buffer::ReorderBuffer;
 use crate::setup::{Setup, Terms};
 use crate::state::ArbiterState;
-use crate::window::Window;
 use board_core::Delay;
 use judge_core::{GameOutcome, Set, Standing, Verdict};
 use move_msg::{MoveList, Record, RecordFault, Stamp, WrittenRecord};
@@ -227,7 +227,7 @@ impl<'a> ArbiterState<'a> {
             Ok(played) => Ok(ArbiterState {
                 terms,
                 played,
-                window: Window::empty(),
+                window: ReorderBuffer::empty(),
                 down: false,
             }),
             Err(fault) => Err(RefusedTerms { fault, terms }),

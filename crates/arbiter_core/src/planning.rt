@@ -5,8 +5,8 @@ ghost use Rattle.arbiter_core.specs.Setups.{rules_at, terms_with};
 ghost use Rattle.arbiter_core.specs.Inside.Playing.{IsArbiterInOrder, IsNext, IsPlan, ListsMovesAhead, recorded_in};
 
 use crate::played::Played;
+use crate::reorder_buffer::ReorderBuffer;
 use crate::setup::Terms;
-use crate::window::Window;
 use board_core::{Move, Position};
 use judge_core::{Set, Standing, Verdict};
 use std::alloc::{AllocError, Global};
@@ -24,7 +24,7 @@ pub(crate) struct Plan {
 pub(crate) struct Ahead<'a> {
     pub m: Move,
     pub position: Position,
-    pub window: &'a Window,
+    pub window: &'a ReorderBuffer,
 }
 
 /// Plans the legal move that lies ahead, and then the waiting moves after it. It stops at a verdict, and where the next

@@ -6,7 +6,7 @@ ghost use Rattle.arbiter_core.specs.Setups.{IsGood, setup_view, terms_with};
 use arrayvec::ArrayVec;
 use board_core::{Delay, Position};
 use judge_core::Set;
-use move_msg::Who;
+use move_msg::ArbiterId;
 
 /// The bytes of a name, at most 64.
 pub type Name = ArrayVec<u8, 64>;
@@ -48,7 +48,7 @@ pub struct Terms<'a> {
     /// The manifest of the tables.
     pub manifest: &'a [u8],
     /// Which of the two arbiters it is.
-    pub me: Who,
+    pub me: ArbiterId,
     /// For how many further plies a verdict by tables must hold.
     pub delay: Delay,
 }
@@ -60,7 +60,7 @@ impl<'a> Setup<'a> {
         ensures back { IfErr result (λ setup. setup_view setup ≡ setup_view self.entry) }
         ensures bad { IsErr result → IsGood (setup_view self.entry) → ⊥ }
     {
-        let Some(me) = Who::of_number(self.me) else {
+        let Some(me) = ArbiterId::of_number(self.me) else {
             return Err(self);
         };
         let Some(delay) = Delay::new(self.delay) else {

@@ -6,7 +6,7 @@ ghost use Rattle.std.specs.Str.{bytes_eq};
 ghost use Rattle.judge_core.specs.Games.{position_after_all};
 ghost use Rattle.move_msg.specs.Messages.{stamp_in};
 ghost use Rattle.move_msg.specs.Numbers.{most_moves};
-ghost use Rattle.move_msg.specs.declared.who.Sender.{Sender};
+ghost use Rattle.move_msg.specs.declared.arbiter_id.Sender.{Sender};
 ghost use Rattle.arbiter_core.specs.Recording.{move_count};
 ghost use Rattle.arbiter_core.specs.Answering.{fetched, nothing_waits, request_of, sent_by, told_of};
 ghost use Rattle.arbiter_core.specs.Setups.{rules_at};
@@ -18,11 +18,11 @@ use crate::fault::DeliverFault;
 use crate::keeper::Keeper;
 use crate::planning::{Ahead, plan_on};
 use crate::played::Played;
+use crate::reorder_buffer::ReorderBuffer;
 use crate::setup::Terms;
-use crate::window::Window;
 use board_core::{Move, Position};
 use judge_core::{Set, Verdict};
-use move_msg::{Count, Message, Sender, Stamp, Wanted, Who};
+use move_msg::{ArbiterId, Count, FetchCount, Message, Sender, Stamp};
 use smallvec::SmallVec;
 use std::alloc::{AllocError, Global};
 use std::marker::Model;
@@ -35,7 +35,7 @@ pub type Outputs = SmallVec<Message, 4>;
 pub struct ArbiterState<'a> {
     pub(crate) terms: Terms<'a>,
     pub(crate) played: Played,
-    pub(crate) window: Window,
+    pub(crate) window: ReorderBuffer,
     pub(crate) down: bool,
 }
 
@@ -49,7 +49,13 @@ impl<'a> Model for ArbiterState<'a> {
 }
 
 /// The messages by which an arbiter reports its record.
-fn tell(alloc: Global, stamp: Stamp, who: Who, count: Count, verdict: Option<Verdict>) -> Outputs
+fn tell(
+    alloc: Global,
+    stamp: Stamp,
+    who: ArbiterId,
+    count: Count,
+    verdict: Option<Verdict>,
+) -> Outputs
     ensures { result.items ≡ told_of (record { stamp = stamp; who = who }) count verdict }
 {
     let mut outputs = SmallVec::new(alloc);
@@ -70,7 +76,7 @@ fn tell(alloc: Global, stamp: Stamp, who: Who, count: Count, verdict: Option<Ver
 fn sent(
     alloc: Global,
     stamp: Stamp,
-    who: Who,
+    who: ArbiterId,
     number: Count,
     moves: &[Move],
 ) -> Result<Outputs, AllocError>
@@ -129,7 +135,7 @@ impl<'a> ArbiterState<'a> {
             return Err(DeliverFault::OutOfMemory);
         };
         let window = if plan.verdict.is_some() {
-            Window::empty()
+            ReorderBuffer::empty()
         } else {
             self.window.after(more)
         };
@@ -208,7 +214,12 @@ impl<'a> ArbiterState<'a> {
 
     /// The recorded moves from this number on, at most `wanted`, as messages of this arbiter. The error comes only
     /// where there are more than four, and memory for them is refused.
-    fn fetched(&self, alloc: Global, number: Count, wanted: Wanted) -> Result<Outputs, AllocError>
+    fn fetched(
+        &self,
+        alloc: Global,
+        number: Count,
+        wanted: FetchCount,
+    ) -> Result<Outputs, AllocError>
         ensures ok { IfOk result (λ o. o.items ≡ fetched self.now.me self.now.kept number wanted) }
         ensures inline { IsErr result → 4 < length (fetched self.now.me self.now.kept number wanted) }
     {
@@ -239,7 +250,7 @@ impl<'a> ArbiterState<'a> {
             stamp: record.stamp,
             who: self.terms.me,
             number: count,
-            wanted: Wanted::most(),
+            wanted: FetchCount::most(),
         })
     }
 

@@ -14,7 +14,7 @@ use Rattle.move_msg.proofs.RecordLaws.{is_spelled, one_record}
 use Rattle.arbiter_core.specs.declared.keeper.Keep.{Keep}
 use Rattle.arbiter_core.specs.declared.keeper.Keep.TheVariants.{Good, FailsOld, FailsNew}
 use Rattle.arbiter_core.specs.declared.fault.DeliverFault.TheVariants.{KeeperFailed}
-use Rattle.arbiter_core.specs.Recording.{Recorded, Window, move_count}
+use Rattle.arbiter_core.specs.Recording.{Recorded, ReorderBuffer, move_count}
 use Rattle.arbiter_core.specs.Answering.{Answer, Puts, Refuses, Sends}
 use Rattle.arbiter_core.specs.Opens.{IsWhole}
 use Rattle.arbiter_core.specs.Setups.{rules_at}
@@ -77,7 +77,7 @@ module _ (grow : PutsGrow) {F : Type 0} (facts : F → KeptFacts) (old : Moment 
       let safe : IsSafe facts (moment v old.keeper) = record { bytes = s.bytes; stored_is = s.stored_is; spelled = spelled; found = s.found; own = own } in
       subst (λ (w : View). IsSafe facts (moment w e.after.keeper)) (sym is) (subst (λ (k : FileKeeper F). IsSafe facts (moment v k)) (sym same) safe)
 
-  landed : (next : Recorded) (outputs : List Message) (window : Window) (p : PutsOnce (keeper_over facts) old.arbiter next outputs window old.keeper e.after.keeper e.after.arbiter e.told) → Grows (rules_at old.arbiter.setup) old.arbiter.kept next → GoesOn old.arbiter.kept next → Leaves facts e
+  landed : (next : Recorded) (outputs : List Message) (window : ReorderBuffer) (p : PutsOnce (keeper_over facts) old.arbiter next outputs window old.keeper e.after.keeper e.after.arbiter e.told) → Grows (rules_at old.arbiter.setup) old.arbiter.kept next → GoesOn old.arbiter.kept next → Leaves facts e
   landed next outputs window p grows goes = by_keep p.keep p.lands p.once
     where
       new : Moment (FileKeeper F)
@@ -131,7 +131,7 @@ module _ (grow : PutsGrow) {F : Type 0} (facts : F → KeptFacts) (old : Moment 
   pub safe_up : Delivers (keeper_over facts) old e → e.after.arbiter.is_down ≡ false → IsSafe facts e.after
   safe_up d up = by (answer_at old.arbiter e.datagram) d.answered d.put
     where
-      by_keep : (keep : Keep) (next : Recorded) (outputs : List Message) (window : Window) → Lands keep old.arbiter next outputs window (stored old.keeper) (stored e.after.keeper) e.after.arbiter e.told → IsSafe facts e.after
+      by_keep : (keep : Keep) (next : Recorded) (outputs : List Message) (window : ReorderBuffer) → Lands keep old.arbiter next outputs window (stored old.keeper) (stored e.after.keeper) e.after.arbiter e.told → IsSafe facts e.after
       by_keep Good next outputs window l = (leaves d).safe (ap loses_keeper l.0)
       by_keep FailsOld next outputs window l = absurd (let down : e.after.arbiter.is_down ≡ true = ap (λ (v : View). v.is_down) l.1 in both_ways _ up down)
       by_keep FailsNew next outputs window l = absurd (let down : e.after.arbiter.is_down ≡ true = ap (λ (v : View). v.is_down) l.1 in both_ways _ up down)

@@ -17,7 +17,7 @@ use Rattle.arbiter_core.specs.Keeping.{KeeperFacts}
 use Rattle.arbiter_core.specs.Laws.{Grows, IsOwn}
 use Rattle.arbiter_core.specs.Opens.{FirstLands, IsOpening, IsWhole, Opens, OpensOver, first_record, running}
 use Rattle.arbiter_core.specs.Opens as opening
-use Rattle.arbiter_core.specs.Recording.{Recorded, Window, reaches}
+use Rattle.arbiter_core.specs.Recording.{Recorded, ReorderBuffer, reaches}
 use Rattle.arbiter_core.specs.Setups.{SetupView, rules_at}
 use Rattle.arbiter_core.specs.Views.{View}
 use Rattle.arbiter_core.proofs.Growing.{puts_grow}
@@ -25,9 +25,9 @@ use Rattle.arbiter_server.specs.OverFiles.{GoesOn}
 use Rattle.arbiter_server.proofs.OpenedLaws.{good_unless}
 use Rattle.arbiter_server.proofs.Telling.{IsHonest, answer_honest, still_on}
 use Rattle.arbiter_server.specs.Folders.{Keepers}
-use Rattle.arbiter_server.specs.Acts.{Act, DatagramReply, IsSorted, acts_of, all_replies, is_stamp, opens_for, replies_of, stamp_by, stamp_for}
+use Rattle.arbiter_server.specs.Acts.{Action, DatagramReply, IsSorted, acts_of, all_replies, is_stamp, opens_for, replies_of, stamp_by, stamp_for}
 use Rattle.arbiter_server.specs.Acts as act
-use Rattle.arbiter_server.specs.Games.{CommonView, Fresh, Goes, Life, Open, Shut, life_at}
+use Rattle.arbiter_server.specs.Games.{CommonView, Fresh, Goes, GameStatus, Open, Shut, life_at}
 use Rattle.arbiter_server.specs.Games as game
 use Rattle.arbiter_server.specs.Laws.{OpeningsAreFew, OwnReplies, RecordsGoOn, is_opening, opens_this}
 
@@ -38,11 +38,11 @@ abbrev names : List ℕ → DatagramReply → Bool
 names stamp r = is_stamp stamp (stamp_for r.datagram)
 
 module _ {K : Type 0} (stamp : List ℕ) where
-  silent : (b : Bool) (a : Act K) (acts : List (Act K)) → replies_of a ≡ [] → all_replies (cond b (a ∷ acts) acts) ≡ all_replies acts
+  silent : (b : Bool) (a : Action K) (acts : List (Action K)) → replies_of a ≡ [] → all_replies (cond b (a ∷ acts) acts) ≡ all_replies acts
   silent true a acts e = ap (λ (rs : List DatagramReply). rs ++ all_replies acts) e
   silent false a acts e = refl
 
-  loud : (b : Bool) (a : Act K) (r : DatagramReply) (acts : List (Act K)) (rest : List DatagramReply) → replies_of a ≡ r ∷ [] → names stamp r ≡ b → all_replies acts ≡ filter (names stamp) rest → all_replies (cond b (a ∷ acts) acts) ≡ filter (names stamp) (r ∷ rest)
+  loud : (b : Bool) (a : Action K) (r : DatagramReply) (acts : List (Action K)) (rest : List DatagramReply) → replies_of a ≡ r ∷ [] → names stamp r ≡ b → all_replies acts ≡ filter (names stamp) rest → all_replies (cond b (a ∷ acts) acts) ≡ filter (names stamp) (r ∷ rest)
   loud true a r acts rest e is h = ap (λ (rs : List DatagramReply). rs ++ all_replies acts) e ∙ ap (λ (rs : List DatagramReply). r ∷ rs) h ∙ ap (λ (b : Bool). cond b (r ∷ filter (names stamp) rest) (filter (names stamp) rest)) (sym is)
   loud false a r acts rest e is h = h ∙ ap (λ (b : Bool). cond b (r ∷ filter (names stamp) rest) (filter (names stamp) rest)) (sym is)
 
@@ -65,7 +65,7 @@ module _ {K : Type 0} (facts : KeeperFacts K) (old new : View) (before now : K) 
   like : (v : View) → new ≡ v → After old v → After old new
   like v e a = subst (After old) (sym e) a
 
-  landed : (keep : Keep) (next : Recorded) (outputs : List Message) (window : Window) → Grows (rules_at old.setup) old.kept next → GoesOn old.kept next → Lands keep old next outputs window (facts.kept before) (facts.kept now) new told → After old new
+  landed : (keep : Keep) (next : Recorded) (outputs : List Message) (window : ReorderBuffer) → Grows (rules_at old.setup) old.kept next → GoesOn old.kept next → Lands keep old next outputs window (facts.kept before) (facts.kept now) new told → After old new
   landed Good next outputs window g on h = like (with_record old next window) h.1 (record { own = g.own; goes_on = on })
   landed FailsOld next outputs window g on h = like (downed old) h.1 (record { own = own; goes_on = still_on old.kept })
   landed FailsNew next outputs window g on h = like (downed old) h.1 (record { own = own; goes_on = still_on old.kept })
@@ -123,7 +123,7 @@ module _ {K : Type 0} (facts : KeeperFacts K) (setup : SetupView) (before now : 
 
 -- ---- a record through the acts of its game
 
-abbrev OwnLife : {K : Type 0} → Life K → Type 0
+abbrev OwnLife : {K : Type 0} → GameStatus K → Type 0
 OwnLife Fresh = Unit {0}
 OwnLife (Shut left) = Unit {0}
 OwnLife (Open at) = IsOwn (rules_at at.arbiter.setup) at.arbiter.kept
@@ -133,17 +133,17 @@ own_at at true own = tt
 own_at at false own = own
 
 module _ {K : Type 0} (s : Keepers K) (t : CommonView) (stamp : List ℕ) where
-  answered_own : (old : Life K) (e : Exchange K) (new : Life K) → game.AnswersTo s old e new → OwnLife old → OwnLife new
+  answered_own : (old : GameStatus K) (e : Exchange K) (new : GameStatus K) → game.AnswersTo s old e new → OwnLife old → OwnLife new
   answered_own Fresh e new h own = absurd h
   answered_own (Shut left) e new h own = absurd h
   answered_own (Open at) e new h own = subst OwnLife (sym h.1) (own_at e.after e.after.arbiter.is_down (delivered s.facts at e own h.0).own)
 
-  closed_own : (old : Life K) (left : K) (new : Life K) → game.ClosesTo old left new → OwnLife new
+  closed_own : (old : GameStatus K) (left : K) (new : GameStatus K) → game.ClosesTo old left new → OwnLife new
   closed_own Fresh left new h = absurd h
   closed_own (Shut before) left new h = absurd h
   closed_own (Open at) left new h = subst OwnLife (sym h.1) tt
 
-  act_own : (old : Life K) (a : Act K) (new : Life K) → game.GoesByAct s t stamp old a new → OwnLife old → OwnLife new
+  act_own : (old : GameStatus K) (a : Action K) (new : GameStatus K) → game.GoesByAct s t stamp old a new → OwnLife old → OwnLife new
   act_own old (act.Unread datagram fault) new h own = absurd h
   act_own old (act.Strange of datagram tried why) new h own = subst OwnLife (sym h.2) own
   act_own old (act.Refuses of datagram o fault) new h own = subst OwnLife (sym h.new_is) tt
@@ -151,7 +151,7 @@ module _ {K : Type 0} (s : Keepers K) (t : CommonView) (stamp : List ℕ) where
   act_own old (act.Answers of e) new h own = answered_own old e new h own
   act_own old (act.Closes of left) new h own = closed_own old left new h
 
-  all_own : (old : Life K) (acts : List (Act K)) (new : Life K) → Goes s t stamp old acts new → OwnLife old → OwnLife new
+  all_own : (old : GameStatus K) (acts : List (Action K)) (new : GameStatus K) → Goes s t stamp old acts new → OwnLife old → OwnLife new
   all_own old [] new h own = subst OwnLife (sym h) own
   all_own old (a ∷ acts) new h own = all_own h.0 acts new h.2 (act_own old a h.0 h.1 own)
 
@@ -170,31 +170,31 @@ at_least stamp n r rest h = (elim (opens_this stamp r) as (λ b. n ≤ length (c
 ])
 
 module _ {K : Type 0} (stamp : List ℕ) where
-  abbrev openings : List (Act K) → ℕ
+  abbrev openings : List (Action K) → ℕ
   openings acts = length (filter is_opening (acts_of stamp acts))
 
   -- with an act that is no opening
-  no_opening : (b : Bool) (a : Act K) (acts : List (Act K)) → is_opening a ≡ false → length (filter is_opening (cond b (a ∷ acts_of stamp acts) (acts_of stamp acts))) ≡ openings acts
+  no_opening : (b : Bool) (a : Action K) (acts : List (Action K)) → is_opening a ≡ false → length (filter is_opening (cond b (a ∷ acts_of stamp acts) (acts_of stamp acts))) ≡ openings acts
   no_opening true a acts e = ap (λ (x : Bool). length (cond x (a ∷ filter is_opening (acts_of stamp acts)) (filter is_opening (acts_of stamp acts)))) e
   no_opening false a acts e = refl
 
   -- with an opening, and a datagram for which games are opened
-  one_opening : (a : Act K) (acts : List (Act K)) (r : DatagramReply) (rest : List DatagramReply) → openings acts ≤ asked stamp rest → length (filter is_opening (a ∷ acts_of stamp acts)) ≤ length (r ∷ filter (opens_this stamp) rest)
+  one_opening : (a : Action K) (acts : List (Action K)) (r : DatagramReply) (rest : List DatagramReply) → openings acts ≤ asked stamp rest → length (filter is_opening (a ∷ acts_of stamp acts)) ≤ length (r ∷ filter (opens_this stamp) rest)
   one_opening a acts r rest h = (elim (is_opening a) as (λ x. length (cond x (a ∷ filter is_opening (acts_of stamp acts)) (filter is_opening (acts_of stamp acts))) ≤ length (r ∷ filter (opens_this stamp) rest)) [
     | true ↦ omega (arith, h)
     | false ↦ omega (arith, h)
   ])
 
-  one_more : (b c : Bool) (a : Act K) (acts : List (Act K)) (r : DatagramReply) (rest : List DatagramReply) → c ≡ true → openings acts ≤ asked stamp rest
+  one_more : (b c : Bool) (a : Action K) (acts : List (Action K)) (r : DatagramReply) (rest : List DatagramReply) → c ≡ true → openings acts ≤ asked stamp rest
       → length (filter is_opening (cond b (a ∷ acts_of stamp acts) (acts_of stamp acts))) ≤ length (cond (b && c) (r ∷ filter (opens_this stamp) rest) (filter (opens_this stamp) rest))
   one_more true true a acts r rest e h = one_opening a acts r rest h
   one_more true false a acts r rest e h = absurd (let wrong : false ≡ true = e in cc)
   one_more false c a acts r rest e h = h
 
-  still_few : (b : Bool) (a : Act K) (acts : List (Act K)) (rest : List DatagramReply) → is_opening a ≡ false → openings acts ≤ asked stamp rest → length (filter is_opening (cond b (a ∷ acts_of stamp acts) (acts_of stamp acts))) ≤ asked stamp rest
+  still_few : (b : Bool) (a : Action K) (acts : List (Action K)) (rest : List DatagramReply) → is_opening a ≡ false → openings acts ≤ asked stamp rest → length (filter is_opening (cond b (a ∷ acts_of stamp acts) (acts_of stamp acts))) ≤ asked stamp rest
   still_few b a acts rest e h = subst (λ (n : ℕ). n ≤ asked stamp rest) (sym (no_opening b a acts e)) h
 
-  for_datagram : (a : Act K) (of datagram : List ℕ) (acts : List (Act K)) (r : DatagramReply) (rest : List DatagramReply) → r.datagram ≡ datagram → stamp_for datagram ≡ Some of → opens_for datagram ≡ true → openings acts ≤ asked stamp rest
+  for_datagram : (a : Action K) (of datagram : List ℕ) (acts : List (Action K)) (r : DatagramReply) (rest : List DatagramReply) → r.datagram ≡ datagram → stamp_for datagram ≡ Some of → opens_for datagram ≡ true → openings acts ≤ asked stamp rest
       → length (filter is_opening (cond (bytes_eq of stamp) (a ∷ acts_of stamp acts) (acts_of stamp acts))) ≤ asked stamp (r ∷ rest)
   for_datagram a of datagram acts r rest is sorted opens h =
       subst (λ (d : List ℕ). length (filter is_opening (cond (bytes_eq of stamp) (a ∷ acts_of stamp acts) (acts_of stamp acts))) ≤ length (cond (is_stamp stamp (stamp_for d) && opens_for d) (r ∷ filter (opens_this stamp) rest) (filter (opens_this stamp) rest))) (sym is)

@@ -14,15 +14,15 @@ use Rattle.arbiter_server.specs.GoingOut.{GoOut, LastIsCut, LinesEnd, Writers}
 use Rattle.arbiter_server.specs.ServedLines.{refused_port, refused_store}
 use Rattle.arbiter_server.proofs.PortLaws.{Passed-nil, Passed-on, Passed-trans, Risen-later}
 use Rattle.arbiter_server.proofs.GoingLaws.{cut_later, go_join, none_out}
-use Rattle.arbiter_server.specs.declared.seat.Seat.{Seat}
+use Rattle.arbiter_server.specs.declared.open_game.OpenGame.{OpenGame}
 use Rattle.arbiter_server.specs.declared.server.AfterRound.{AfterRound}
 use Rattle.arbiter_server.specs.declared.server.AfterRound.TheVariants.{GoesOn, Stops}
 use Rattle.arbiter_server.specs.Folders.{FolderFacts, GivesKeepers, GivesLess, Keepers, keepers, keepers_at}
-use Rattle.arbiter_server.specs.Acts.{Act, DatagramReply, Otherwise, all_replies}
-use Rattle.arbiter_server.specs.Games.{CommonView, Fresh, Life, Open, Shut}
+use Rattle.arbiter_server.specs.Acts.{Action, DatagramReply, Otherwise, all_replies}
+use Rattle.arbiter_server.specs.Games.{CommonView, Fresh, GameStatus, Open, Shut}
 use Rattle.arbiter_server.specs.Room.{at_stamp}
 use Rattle.arbiter_server.specs.Rounds.{IsRound, Round, replies_of_rounds, round_came, round_passing}
-use Rattle.arbiter_server.specs.Seats.{OpenSeats, StandsForLife}
+use Rattle.arbiter_server.specs.Seats.{OpenByStamp, StandsForLife}
 use Rattle.arbiter_server.specs.Servers.{ServerView, Stays}
 use Rattle.arbiter_server.specs.Hosts.{Ends, GivesWhatIsLeft, Hosts, NothingLost, PortLost, StoreLost, ToldOf, all_lines, CommitsEach, FindsWhatIsKept, IsCommitted}
 use Rattle.arbiter_server.specs.Turns.{RoundComesTo, CutsAt, Dropped, Effect, HasServed, HearsAll, IsKept, Leads, LeadsFrom, LogsLines, Missing, Outcome, Sent, ShutsFrom, TakesTurn, TurnsTo, all_effects, effects_of, goes_after, logged_from, outcome_lines, replies_in, taken_by_effects, texts_after}
@@ -41,7 +41,7 @@ abbrev lines_of_one : Round → List (List ℕ)
 lines_of_one round = map (λ (r : DatagramReply). r.line) round.replies
 
 -- so many datagrams came and were answered
-pub record HasHosted {G K W : Type 0} (s : Keepers K) (t : CommonView) (finds : G → GivesKeepers K) (w : Writers W) (form : LogForm) (log : LineLog) (gives : GivesKeepers K) (at : OpenSeats K) (k0 : ℕ) (file : List ℕ → List Made) (made made' : Option (List Made)) (port now : PortFacts) (out out' : W) (n : ℕ) : Type 0 where
+pub record HasHosted {G K W : Type 0} (s : Keepers K) (t : CommonView) (finds : G → GivesKeepers K) (w : Writers W) (form : LogForm) (log : LineLog) (gives : GivesKeepers K) (at : OpenByStamp K) (k0 : ℕ) (file : List ℕ → List Made) (made made' : Option (List Made)) (port now : PortFacts) (out out' : W) (n : ℕ) : Type 0 where
   pub effects : List Effect
   pub rounds : List Round
   pub are_rounds : AllByRecursion (IsRound t.together) rounds
@@ -58,11 +58,11 @@ pub record HasHosted {G K W : Type 0} (s : Keepers K) (t : CommonView) (finds : 
 -- ---- what is committed
 
 -- with acts after them
-committed_more : {G K : Type 0} (s : Keepers K) (t : CommonView) (finds : G → GivesKeepers K) (acts all : List (Act K)) (rounds : List Round) (more : List (Act K)) → all ≡ acts ++ more → IsCommitted s t finds acts rounds → IsCommitted s t finds all rounds
+committed_more : {G K : Type 0} (s : Keepers K) (t : CommonView) (finds : G → GivesKeepers K) (acts all : List (Action K)) (rounds : List Round) (more : List (Action K)) → all ≡ acts ++ more → IsCommitted s t finds acts rounds → IsCommitted s t finds all rounds
 committed_more {K = K} s t finds acts all rounds more is c = record {
   first = c.first;
   rest = c.rest ++ more;
-  are = is ∙ ap (λ (as' : List (Act K)). as' ++ more) c.are ∙ append_assoc c.first c.rest more;
+  are = is ∙ ap (λ (as' : List (Action K)). as' ++ more) c.are ∙ append_assoc c.first c.rest more;
   answered = c.answered;
   games = c.games;
   each = c.each;
@@ -70,7 +70,7 @@ committed_more {K = K} s t finds acts all rounds more is c = record {
   found = c.found;
 }
 
-commits_more : {G K : Type 0} (s : Keepers K) (t : CommonView) (finds : G → GivesKeepers K) (acts all : List (Act K)) (rounds : List Round) (more : List (Act K)) → all ≡ acts ++ more → CommitsEach s t finds acts rounds → CommitsEach s t finds all rounds
+commits_more : {G K : Type 0} (s : Keepers K) (t : CommonView) (finds : G → GivesKeepers K) (acts all : List (Action K)) (rounds : List Round) (more : List (Action K)) → all ≡ acts ++ more → CommitsEach s t finds acts rounds → CommitsEach s t finds all rounds
 commits_more s t finds acts all rounds more is each = λ first later split some. committed_more s t finds acts all first more is (each first later split some)
 
 -- rounds with one behind them are split behind it, or before
@@ -86,13 +86,13 @@ split_last (y ∷ xs) x (f ∷ fs) later e =
       | inr rest ↦ inr (rest.0, (let same : xs ≡ fs ++ rest.0 = rest.1 in cc))
     ]
 
-commit_at : {G K : Type 0} (s : Keepers K) (t : CommonView) (finds : G → GivesKeepers K) (acts all : List (Act K)) (rounds : List Round) (r : Round) (more : List (Act K)) → all ≡ acts ++ more → CommitsEach s t finds acts rounds → IsCommitted s t finds all (rounds ++ r ∷ [])
+commit_at : {G K : Type 0} (s : Keepers K) (t : CommonView) (finds : G → GivesKeepers K) (acts all : List (Action K)) (rounds : List Round) (r : Round) (more : List (Action K)) → all ≡ acts ++ more → CommitsEach s t finds acts rounds → IsCommitted s t finds all (rounds ++ r ∷ [])
     → (first later : List Round) → rounds ++ r ∷ [] ≡ first ++ later → 0 < length first → (later ≡ []) ⊎ ((l : List Round) × (rounds ≡ first ++ l)) → IsCommitted s t finds all first
 commit_at s t finds acts all rounds r more is each now first later split some (inl none) = subst (IsCommitted s t finds all) (split ∙ ap (λ (l : List Round). first ++ l) none ∙ append-nil first) now
 commit_at s t finds acts all rounds r more is each now first later split some (inr rest) = committed_more s t finds acts all first more is (each first rest.0 rest.1 some)
 
 -- what a start finds of a game, where that is what the folder gives
-found_by : {K : Type 0} (s : Keepers K) (t : CommonView) (gives finds : K → Type 0) (o : Option (Seat K)) (life : Life K) → ((keeper : K) → finds keeper → gives keeper) → StandsForLife s t gives o life → FindsWhatIsKept s finds life
+found_by : {K : Type 0} (s : Keepers K) (t : CommonView) (gives finds : K → Type 0) (o : Option (OpenGame K)) (life : GameStatus K) → ((keeper : K) → finds keeper → gives keeper) → StandsForLife s t gives o life → FindsWhatIsKept s finds life
 found_by s t gives finds None Fresh kept h = tt
 found_by s t gives finds None (Shut left) kept h = λ next there. h next (kept next there)
 found_by s t gives finds None (Open at) kept h = absurd h
@@ -165,7 +165,7 @@ made_more file made mid last effects more had one =
     (Passes-trans made mid last (flat_map file (taken_by_effects effects)) (flat_map file (taken_by_effects more)) had one)
 
 module _ {G K W : Type 0} (s : Keepers K) (t : CommonView) (finds : G → GivesKeepers K) (w : Writers W) (form : LogForm) where
-  pub none_hosted : (log : LineLog) (gives : GivesKeepers K) (at : OpenSeats K) (k0 : ℕ) (file : List ℕ → List Made) (made : Option (List Made)) (port : PortFacts) (out : W) → form_of log ≡ form → Remembers log [] → k0 ≡ 0 → ((stamp : List ℕ) → at stamp ≡ None) → HasHosted s t finds w form log gives at k0 file made made port port out out 0
+  pub none_hosted : (log : LineLog) (gives : GivesKeepers K) (at : OpenByStamp K) (k0 : ℕ) (file : List ℕ → List Made) (made : Option (List Made)) (port : PortFacts) (out : W) → form_of log ≡ form → Remembers log [] → k0 ≡ 0 → ((stamp : List ℕ) → at stamp ≡ None) → HasHosted s t finds w form log gives at k0 file made made port port out out 0
   none_hosted log gives at k0 file made port out same remembers zero none = record {
     effects = [];
     rounds = [];
@@ -177,7 +177,7 @@ module _ {G K W : Type 0} (s : Keepers K) (t : CommonView) (finds : G → GivesK
       turns = record { each = λ stamp. refl; sorted = tt };
       opened = tt;
       room = zero;
-      stand = λ stamp. subst (λ (o : Option (Seat K)). StandsForLife s t (gives stamp) o Fresh) (sym (none stamp)) tt;
+      stand = λ stamp. subst (λ (o : Option (OpenGame K)). StandsForLife s t (gives stamp) o Fresh) (sym (none stamp)) tt;
       effects_are = refl;
     };
     makes = Passes-nil made;
@@ -190,7 +190,7 @@ module _ {G K W : Type 0} (s : Keepers K) (t : CommonView) (finds : G → GivesK
   }
 
   -- all came
-  pub served_all : (log : LineLog) (gives : GivesKeepers K) (at : OpenSeats K) (k : ℕ) (file : List ℕ → List Made) (made last : Option (List Made)) (port now : PortFacts) (first out : W) (n : ℕ) → HasHosted s t finds w form log gives at k file made last port now first out n → HasServed s t finds w form n gives at k file made last port now first out (Ok 0)
+  pub served_all : (log : LineLog) (gives : GivesKeepers K) (at : OpenByStamp K) (k : ℕ) (file : List ℕ → List Made) (made last : Option (List Made)) (port now : PortFacts) (first out : W) (n : ℕ) → HasHosted s t finds w form log gives at k file made last port now first out n → HasServed s t finds w form n gives at k file made last port now first out (Ok 0)
   served_all log gives at k file made last port now first out n had = record {
     effects = had.effects;
     leads = had.leads;
@@ -207,7 +207,7 @@ module _ {G K W : Type 0} (s : Keepers K) (t : CommonView) (finds : G → GivesK
     lines = subst (λ (ls : List (List ℕ)). GoOut w first (logged form ls) out) (sym (append-nil (lines_of_rounds had.rounds))) had.lines;
   }
 
-  module _ (old new : GivesKeepers K) (at at' : OpenSeats K) (k0 k1 : ℕ) (file : List ℕ → List Made) (made mid last : Option (List Made)) (port now later : PortFacts) (log log' : LineLog) (first out out' : W) (k most : ℕ) (had : HasHosted s t finds w form log old at k0 file made mid port now first out k) (some : 0 < most) (within : most ≤ t.together) (games : G) where
+  module _ (old new : GivesKeepers K) (at at' : OpenByStamp K) (k0 k1 : ℕ) (file : List ℕ → List Made) (made mid last : Option (List Made)) (port now later : PortFacts) (log log' : LineLog) (first out out' : W) (k most : ℕ) (had : HasHosted s t finds w form log old at k0 file made mid port now first out k) (some : 0 < most) (within : most ≤ t.together) (games : G) where
     -- what is known of lines by now
     abbrev so_far : List (List ℕ)
     so_far = lines_of_rounds had.rounds
@@ -231,7 +231,7 @@ module _ {G K W : Type 0} (s : Keepers K) (t : CommonView) (finds : G → GivesK
     leads_with rs h = leads_join s t Otherwise 0 k0 k1 old new at at' (λ stamp. Fresh) had.effects h.effects had.leads h.goes
 
     -- the acts of it
-    abbrev later_acts : (rs : List DatagramReply) (h : HearsAll Onward file mid last rs) → List (Act K)
+    abbrev later_acts : (rs : List DatagramReply) (h : HearsAll Onward file mid last rs) → List (Action K)
     later_acts rs h = (h.goes had.leads.new had.leads.stand).acts
 
     they_join : (rs : List DatagramReply) (h : HearsAll Onward file mid last rs) → (leads_with rs h).acts ≡ had.leads.acts ++ later_acts rs h
@@ -416,19 +416,19 @@ module _ {G K W : Type 0} (s : Keepers K) (t : CommonView) (finds : G → GivesK
         let x = taken_now told taken in
         ends_cut n room x.outcome fault x.comes (tells_so told (Err fault) is (outcome_lines x.outcome) x.tells)
 
-left_so : {K : Type 0} (s : Keepers K) (t : CommonView) (gives : K → Type 0) (life : Life K) → StandsForLife s t gives None life → GivesWhatIsLeft s gives life
+left_so : {K : Type 0} (s : Keepers K) (t : CommonView) (gives : K → Type 0) (life : GameStatus K) → StandsForLife s t gives None life → GivesWhatIsLeft s gives life
 left_so s t gives Fresh h = tt
 left_so s t gives (Shut left) h = h
 left_so s t gives (Open at) h = h
 
 -- the games that are open are closed
-pub hosts_closed : {G K W : Type 0} (s : Keepers K) (t : CommonView) (finds : G → GivesKeepers K) (w : Writers W) (form : LogForm) (n : ℕ) (gives gives' : GivesKeepers K) (at at' : OpenSeats K) (count : ℕ) (file : List ℕ → List Made) (made last : Option (List Made)) (port port' : PortFacts) (out out' : W) (ended : Result ℕ WriteFault)
+pub hosts_closed : {G K W : Type 0} (s : Keepers K) (t : CommonView) (finds : G → GivesKeepers K) (w : Writers W) (form : LogForm) (n : ℕ) (gives gives' : GivesKeepers K) (at at' : OpenByStamp K) (count : ℕ) (file : List ℕ → List Made) (made last : Option (List Made)) (port port' : PortFacts) (out out' : W) (ended : Result ℕ WriteFault)
     → HasServed s t finds w form n gives at count file made last port port' out out' ended → count ≤ t.at_once → ShutsFrom s t gives at gives' at' → ((stamp : List ℕ) → at' stamp ≡ None)
     → (taken : List (List ℕ)) × Passes made last (flat_map file taken) × (hosted : Hosts s t w form n taken gives' port port' out out' ended) × CommitsEach s t finds hosted.run.acts hosted.run.rounds
 hosts_closed {G} {K = K} s t finds w form n gives gives' at at' count file made last port port' out out' ended had few closing none =
     let ending = closing had.leads.new had.leads.stand in
-    let acts : List (Act K) = had.leads.acts ++ ending.acts in
-    let shut : (stamp : List ℕ) → StandsForLife s t (gives' stamp) None (ending.new stamp) = λ stamp. subst (λ (o : Option (Seat K)). StandsForLife s t (gives' stamp) o (ending.new stamp)) (none stamp) (ending.stand stamp) in
+    let acts : List (Action K) = had.leads.acts ++ ending.acts in
+    let shut : (stamp : List ℕ) → StandsForLife s t (gives' stamp) None (ending.new stamp) = λ stamp. subst (λ (o : Option (OpenGame K)). StandsForLife s t (gives' stamp) o (ending.new stamp)) (none stamp) (ending.stand stamp) in
     let effects : all_effects acts ≡ had.effects =
     flat_map-append effects_of had.leads.acts ending.acts ∙ ap (λ (es : List Effect). es ++ all_effects ending.acts) had.leads.effects_are
     ∙ ap (λ (es : List Effect). had.effects ++ es) (closings_say ending.acts ending.closing) ∙ append-nil had.effects in

@@ -9,8 +9,8 @@ use Rattle.move_msg.specs.TextLines.{ended}
 use Rattle.move_msg.specs.declared.message.MessageFault.TheVariants as message
 use Rattle.arbiter_core.specs.declared.fault.DeliverFault.{DeliverFault}
 use Rattle.arbiter_core.specs.declared.fault.DeliverFault.TheVariants as deliver
-use Rattle.arbiter_server.specs.declared.heard.Heard.{Heard}
-use Rattle.arbiter_server.specs.declared.heard.Heard.TheVariants as heard
+use Rattle.arbiter_server.specs.declared.datagram_report.DatagramReport.{DatagramReport}
+use Rattle.arbiter_server.specs.declared.datagram_report.DatagramReport.TheVariants as heard
 use Rattle.arbiter_server.specs.LineLogs.{common, line_kind, place_in, told_part}
 use Rattle.arbiter_server.specs.ServedLines.{heard_line, refused_datagram}
 use Rattle.arbiter_server.specs.Told.{stamped}
@@ -56,7 +56,7 @@ refused_none deliver.KeeperFailed = refl
 refused_none deliver.Down = refl
 refused_none deliver.OutOfMemory = refl
 
-pub heard_none : (h : Heard) → place_in 0 common (ended (heard_line h)) ≡ None
+pub heard_none : (h : DatagramReport) → place_in 0 common (ended (heard_line h)) ≡ None
 heard_none (heard.Recorded count verdict) = refl
 heard_none (heard.Refused fault) = refused_none fault
 heard_none heard.KeeperLost = refl

@@ -12,14 +12,14 @@ use Rattle.system_io.specs.Hosts.{Made}
 use Rattle.system_io.specs.Failures.{Risen}
 use Rattle.system_io.specs.Ports.{Came, Missed, Passed, Passing, PortFacts}
 use Rattle.system_io.proofs.HistoryLaws.{Passes-nil, Passes-trans}
-use Rattle.arbiter_server.specs.declared.seat.Seat.{Seat}
+use Rattle.arbiter_server.specs.declared.open_game.OpenGame.{OpenGame}
 use Rattle.arbiter_server.specs.declared.gathering.Held.{Held}
 use Rattle.arbiter_server.specs.Acts.{DatagramReply, LastDone, Otherwise}
 use Rattle.arbiter_server.specs.Folders.{FolderFacts, GivesKeepers, GivesOthers, Keepers, keepers, keepers_at}
 use Rattle.arbiter_server.specs.Games.{CommonView}
 use Rattle.arbiter_server.specs.Room.{at_stamp}
 use Rattle.arbiter_server.specs.Rounds.{IsFull, ReceiveFails, RoundEnd, came_of, end_passing, round_came, round_passing, round_sent, sent_of}
-use Rattle.arbiter_server.specs.Seats.{OpenSeats, StandsForLife, in_hand}
+use Rattle.arbiter_server.specs.Seats.{OpenByStamp, StandsForLife, in_hand}
 use Rattle.arbiter_server.specs.Servers.{ServerView, Stays}
 use Rattle.arbiter_server.specs.Serving.{handed}
 use Rattle.arbiter_server.specs.Told.{line_words}
@@ -28,7 +28,7 @@ use Rattle.arbiter_server.proofs.PortLaws.{Passed-nil, Passed-on, Passed-trans, 
 use Rattle.arbiter_server.proofs.Turning.{leads_join, leads_not, less_stands, replies_join, replies_with, taken_join, taken_with}
 
 -- a folder that is where it was has the keepers that it had then
-pub leads_from_place : {G K : Type 0} (facts : KeeperFacts K) (folder : FolderFacts G K) (start now : G) → folder.place now ≡ folder.place start → (t : CommonView) (last : LastDone) (k k' : ℕ) (old new : GivesKeepers K) (at at' : OpenSeats K) (effects : List Effect)
+pub leads_from_place : {G K : Type 0} (facts : KeeperFacts K) (folder : FolderFacts G K) (start now : G) → folder.place now ≡ folder.place start → (t : CommonView) (last : LastDone) (k k' : ℕ) (old new : GivesKeepers K) (at at' : OpenByStamp K) (effects : List Effect)
     → LeadsFrom (keepers facts folder now) t last k old at new at' k' effects → LeadsFrom (keepers facts folder start) t last k old at new at' k' effects
 leads_from_place facts folder start now same t last k k' old new at at' effects leads =
     subst (λ (p : folder.Place). LeadsFrom (keepers_at facts folder p) t last k old at new at' k' effects) same leads

@@ -22,7 +22,7 @@ use Rattle.system_io.specs.FileCalls.{CallFacts}
 use Rattle.system_io.specs.KeptFiles.{KeptFacts}
 use Rattle.system_io.specs.TraceLaws.{as_told}
 use Rattle.system_io.specs.Traces.{traced_facts}
-use Rattle.system_io.specs.declared.traced_file.Traced.{Traced}
+use Rattle.system_io.specs.declared.call_log.CallLog.{CallLog}
 use Rattle.arbiter_server.specs.declared.file_keeper.FileKeeper.{FileKeeper}
 use Rattle.arbiter_server.specs.Lives.{Answered, AsToldInTurn, AtPut, Between, CutAtFirst, Early, IsStillThere, KeepsAsTold, KeepsWhatItTold, Refused, PastRun, RunsInTurn, RunsOver, StartsAsTold, StillHolds}
 use Rattle.arbiter_server.specs.OverFiles.{GoesOn}
@@ -280,10 +280,10 @@ keeps grow facts = λ setup first last runs start. all_runs grow facts setup fir
 -- ---- over a file of the system
 
 module _ {C : Type 0} (facts : C → CallFacts) where
-  over_it : (left : Traced C) (start : FileKeeper (Traced C)) → StartsAsTold facts left start → StartsOver (traced_facts facts) left start
+  over_it : (left : CallLog C) (start : FileKeeper (CallLog C)) → StartsAsTold facts left start → StartsOver (traced_facts facts) left start
   over_it left start h = record { one = λ a b finds. as_told facts left (stored start) a b h.told finds; in_file = h.in_file }
 
-  in_turn : (setup : SetupView) (first last : Traced C) (runs : List (PastRun (Traced C))) → AsToldInTurn facts setup first runs last → RunsInTurn (traced_facts facts) setup first runs last
+  in_turn : (setup : SetupView) (first last : CallLog C) (runs : List (PastRun (CallLog C))) → AsToldInTurn facts setup first runs last → RunsInTurn (traced_facts facts) setup first runs last
   unfolding RunsInTurn AsToldInTurn
   in_turn setup first last [] turn = turn
   in_turn setup first last (r ∷ rs) turn = (over_it first r.start turn.0, turn.1, in_turn setup r.left last rs turn.2)

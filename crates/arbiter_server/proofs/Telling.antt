@@ -8,13 +8,13 @@ use Rattle.board_core.specs.declared.moves.Move.{Move as Moves}
 use Rattle.board_core.specs.declared.verdict.Verdict.{Verdict as Verdicts}
 use Rattle.judge_core.specs.Games.{position_after_all, Rules}
 use Rattle.move_msg.specs.declared.stamp.Stamp.{Stamp}
-use Rattle.move_msg.specs.declared.who.Sender.{Sender}
+use Rattle.move_msg.specs.declared.arbiter_id.Sender.{Sender}
 use Rattle.move_msg.specs.declared.message.Message.{Message}
 use Rattle.move_msg.specs.declared.message.Message.TheVariants.{Move, Ack, Verdict, Fetch}
 use Rattle.move_msg.specs.Numbers.{most_moves}
 use Rattle.arbiter_core.specs.declared.fault.DeliverFault.{DeliverFault}
 use Rattle.arbiter_core.specs.declared.fault.DeliverFault.TheVariants.{Down, IllegalMove, TooFarAhead, TooLong}
-use Rattle.arbiter_core.specs.Recording.{Recorded, Window, advance, last_ply, move_count}
+use Rattle.arbiter_core.specs.Recording.{Recorded, ReorderBuffer, advance, last_ply, move_count}
 use Rattle.arbiter_core.specs.Answering.{Answer, Identity, Puts, Refuses, Sends, answer_heard, answer_to, answer_to_move, puts, sent_by, told_now, told_of, waits_too}
 use Rattle.arbiter_core.proofs.Cases.{at_turn, in_window, not_long, not_old}
 use Rattle.arbiter_server.specs.OverFiles.{GoesOn}
@@ -75,7 +75,7 @@ first_false : (a b : Bool) → (a || b) ≡ false → a ≡ false
 first_false true b h = h
 first_false false b h = refl
 
-module _ (r : Rules) (me : Identity) (old : Recorded) (waiting : Window) where
+module _ (r : Rules) (me : Identity) (old : Recorded) (waiting : ReorderBuffer) where
   put_honest : (m : Moves) → old.verdict ≡ None → IsHonest old (puts me old waiting (advance r old.moves m waiting))
   put_honest m none =
       let next : Recorded = advance r old.moves m waiting in (

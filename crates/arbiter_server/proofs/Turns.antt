@@ -12,7 +12,7 @@ use Rattle.arbiter_core.specs.declared.keeper.Keep.{Keep}
 use Rattle.arbiter_core.specs.declared.keeper.Keep.TheVariants.{Good, FailsOld, FailsNew}
 use Rattle.arbiter_core.specs.Answering.{Answer, Identity, Puts, Refuses, Sends}
 use Rattle.arbiter_core.specs.Delivers.{Delivers, Exchange, IsSpelled, Lands, Moment, PutsIfAny, PutsOnce, RefusesOrSends, Told, answer_at, downed, heard, moment, with_record, with_window}
-use Rattle.arbiter_core.specs.Recording.{Recorded, Window, move_count}
+use Rattle.arbiter_core.specs.Recording.{Recorded, ReorderBuffer, move_count}
 use Rattle.arbiter_core.specs.Setups.{SetupView, rules_at}
 use Rattle.arbiter_core.specs.Views.{View, spelled_as}
 use Rattle.arbiter_core.specs.Laws.{Grows, IsOwn, PutsGrow}
@@ -70,7 +70,7 @@ pub record Stepped {F : Type 0} (facts : F → KeptFacts) (old : Moment (FileKee
   pub goes : GoesFrom old.arbiter e.after.arbiter
   pub tells : AllTell e.after.arbiter.kept (outputs_of e.told)
 
-up_if : (b : Bool) (next : Recorded) (outputs : List Message) (window : Window) (x : Answer) → Puts next outputs window ≡ cond b (Refuses Down) x → b ≡ false
+up_if : (b : Bool) (next : Recorded) (outputs : List Message) (window : ReorderBuffer) (x : Answer) → Puts next outputs window ≡ cond b (Refuses Down) x → b ≡ false
 up_if true next outputs window x e = absurd cc
 up_if false next outputs window x e = refl
 
@@ -86,7 +86,7 @@ one_count setup me kept next bytes p q = ap (λ (r : Record). length r.moves) (o
 
 module _ (grow : PutsGrow) {F : Type 0} (facts : F → KeptFacts) (old : Moment (FileKeeper F)) (s : Sure facts old) where
   -- the record that is put, by what the answer is
-  next_goes_on : (datagram : List ℕ) (next : Recorded) (outputs : List Message) (window : Window) → Puts next outputs window ≡ answer_at old.arbiter datagram → IsSafe facts old → Grows (rules_at old.arbiter.setup) old.arbiter.kept next × GoesOn old.arbiter.kept next × AllTell next outputs
+  next_goes_on : (datagram : List ℕ) (next : Recorded) (outputs : List Message) (window : ReorderBuffer) → Puts next outputs window ≡ answer_at old.arbiter datagram → IsSafe facts old → Grows (rules_at old.arbiter.setup) old.arbiter.kept next × GoesOn old.arbiter.kept next × AllTell next outputs
   next_goes_on datagram next outputs window is safe =
       let grows = grow old.arbiter datagram next outputs window safe.own (sym is) in
       let honest : IsHonest old.arbiter.kept (Puts next outputs window) = subst (IsHonest old.arbiter.kept) (sym is) (answer_honest (rules_at old.arbiter.setup) old.arbiter.me old.arbiter.kept old.arbiter.window old.arbiter.is_down (heard old.arbiter.me.stamp datagram)) in
@@ -132,20 +132,20 @@ module _ (grow : PutsGrow) {F : Type 0} (facts : F → KeptFacts) (old : Moment 
       tells = tells_none _ e.told fault told;
     }
 
-    windowed : (window : Window) → Sure facts (moment (with_window old.arbiter window) old.keeper)
+    windowed : (window : ReorderBuffer) → Sure facts (moment (with_window old.arbiter window) old.keeper)
     windowed window = record {
       surely = s.surely;
       up = λ up. let x = s.up up in record { bytes = x.bytes; stored_is = x.stored_is; spelled = x.spelled; found = x.found; own = x.own };
     }
 
-    sends : (outputs : List Message) (window : Window) → AllTell old.arbiter.kept outputs → e.told ≡ Ok outputs → e.after.arbiter ≡ with_window old.arbiter window → e.after.keeper ≡ old.keeper → Stepped facts old e
+    sends : (outputs : List Message) (window : ReorderBuffer) → AllTell old.arbiter.kept outputs → e.told ≡ Ok outputs → e.after.arbiter ≡ with_window old.arbiter window → e.after.keeper ≡ old.keeper → Stepped facts old e
     sends outputs window h told is same = record {
       sure = sure_after (with_window old.arbiter window) is same (windowed window);
       goes = goes_to (with_window old.arbiter window) is (record { setup = refl; me = refl; goes_on = still_on old.arbiter.kept });
       tells = tells_at (with_window old.arbiter window) is (tells_so old.arbiter.kept e.told outputs told h);
     }
 
-    module _ (safe : IsSafe facts old) (next : Recorded) (outputs : List Message) (window : Window) (g : Grows (rules_at old.arbiter.setup) old.arbiter.kept next × GoesOn old.arbiter.kept next × AllTell next outputs) where
+    module _ (safe : IsSafe facts old) (next : Recorded) (outputs : List Message) (window : ReorderBuffer) (g : Grows (rules_at old.arbiter.setup) old.arbiter.kept next × GoesOn old.arbiter.kept next × AllTell next outputs) where
       landed : (bytes : List ℕ) → e.told ≡ Ok outputs → e.after.arbiter ≡ with_record old.arbiter next window → stored e.after.keeper ≡ Some bytes → (facts (keeper_file e.after.keeper)).finds (Some bytes) (Some bytes) → IsSpelled old.arbiter.me.stamp old.arbiter.setup.delay next (stored e.after.keeper) → Stepped facts old e
       landed bytes told is there found spelled =
           let v : View = with_record old.arbiter next window in

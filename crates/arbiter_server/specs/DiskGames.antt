@@ -7,21 +7,21 @@ use Rattle.system_io.specs.declared.reading.ReadFault.TheVariants as read
 use Rattle.arbiter_server.specs.StoredBytes.{CannotKeep, StartsOver, keeper_over}
 use Rattle.arbiter_server.specs.declared.file_keeper.FileKeeper.{FileKeeper}
 use Rattle.arbiter_server.specs.declared.disk_games.DiskGames.{DiskGames}
-use Rattle.arbiter_server.specs.declared.fault.Unopened.{Unopened}
-use Rattle.arbiter_server.specs.declared.fault.Unopened.TheVariants as unopened
+use Rattle.arbiter_server.specs.declared.fault.OpenGameError.{OpenGameError}
+use Rattle.arbiter_server.specs.declared.fault.OpenGameError.TheVariants as unopened
 use Rattle.arbiter_server.specs.declared.folder.FindFault.{FindFault}
 use Rattle.arbiter_server.specs.declared.folder.FindFault.TheVariants.{NoGame, BadFile, OutOfMemory}
 use Rattle.arbiter_server.specs.Folders.{FolderFacts, Keepers}
 use Rattle.arbiter_server.specs.GameFiles.{game_as_told, line_number}
 use Rattle.arbiter_server.specs.GameFolders.{HasGame, LacksGame, kept_path}
 
-abbrev pub unopened_by_find : FindFault → Unopened
+abbrev pub unopened_by_find : FindFault → OpenGameError
 unopened_by_find NoGame = unopened.NoGame
 unopened_by_find (BadFile fault) = unopened.BadGame (line_number fault)
 unopened_by_find OutOfMemory = unopened.OutOfMemory
 
 -- the folder of this disk has no file of a game under the stamp, for this reason
-pub record LacksGameFile (disk : DiskFacts) (folder stamp : List ℕ) (why : Unopened) : Type 0 where
+pub record LacksGameFile (disk : DiskFacts) (folder stamp : List ℕ) (why : OpenGameError) : Type 0 where
   pub fault : FindFault
   pub lacks : LacksGame disk folder stamp fault
   pub is : why ≡ unopened_by_find fault
@@ -39,7 +39,7 @@ pub record CannotStartGame {P F : Type 0} (host : HostFacts P F) (files : F → 
   pub cannot : CannotKeep (files file) read.Unreadable
 
 -- there is no keeper over it, which is told so; or memory was refused
-abbrev pub IsUnkept : {P F : Type 0} → HostFacts P F → (F → KeptFacts) → List ℕ → List ℕ → Unopened → Type 0
+abbrev pub IsUnkept : {P F : Type 0} → HostFacts P F → (F → KeptFacts) → List ℕ → List ℕ → OpenGameError → Type 0
 IsUnkept host files folder stamp why = ((why ≡ unopened.Keeper) × CannotStartGame host files folder stamp) ⊎ (why ≡ unopened.OutOfMemory)
 
 -- What a host knows of a folder on this disk and at this host. That a keeper which is opened later finds what an earlier one left in

@@ -4,8 +4,8 @@ use Rattle.std.specs.Str.{bytes_eq}
 use Rattle.arbiter_core.specs.Keeping.{KeeperFacts}
 use Rattle.system_io.specs.Histories.{Passes}
 use Rattle.system_io.specs.Hosts.{Made}
-use Rattle.arbiter_server.specs.declared.fault.Unopened.{Unopened}
-use Rattle.arbiter_server.specs.declared.games.Found.{Found}
+use Rattle.arbiter_server.specs.declared.fault.OpenGameError.{OpenGameError}
+use Rattle.arbiter_server.specs.declared.games.GameConfig.{GameConfig}
 
 -- which keepers may be given next, by stamps
 abbrev pub GivesKeepers : Type 0 → Type 1
@@ -32,11 +32,11 @@ pub record FolderFacts (G K : Type 0) : Type 1 where
   pub Place : Type 0
   pub place : G → Place
   -- it may tell this of the game with this stamp
-  pub tells : Place → List ℕ → Found → Type 0
+  pub tells : Place → List ℕ → GameConfig → Type 0
   -- why it may have no game with this stamp
-  pub lacks : Place → List ℕ → Unopened → Type 0
+  pub lacks : Place → List ℕ → OpenGameError → Type 0
   -- why it may give no keeper of the game with this stamp
-  pub withholds : Place → List ℕ → Unopened → Type 0
+  pub withholds : Place → List ℕ → OpenGameError → Type 0
   -- it is a keeper of the game with this stamp
   pub is_of : Place → List ℕ → K → Type 0
   -- the second is a keeper over what the first one left
@@ -53,11 +53,11 @@ pub record FolderFacts (G K : Type 0) : Type 1 where
 -- what is known of one folder, where it is, and what its keepers tell of themselves
 pub record Keepers (K : Type 0) : Type 1 where
   pub facts : KeeperFacts K
-  pub tells : List ℕ → Found → Type 0
+  pub tells : List ℕ → GameConfig → Type 0
   -- it lacks the game, or withholds its keeper
-  pub refuses : List ℕ → Unopened → Type 0
+  pub refuses : List ℕ → OpenGameError → Type 0
   -- it withholds its keeper
-  pub withholds : List ℕ → Unopened → Type 0
+  pub withholds : List ℕ → OpenGameError → Type 0
   pub is_of : List ℕ → K → Type 0
   pub follows : K → K → Type 0
   -- what its games keep may not be committed

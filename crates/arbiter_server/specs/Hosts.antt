@@ -9,14 +9,14 @@ use Rattle.arbiter_server.specs.LineLogs.{logged}
 use Rattle.arbiter_server.specs.declared.line_log.LogForm.{LogForm}
 use Rattle.arbiter_server.specs.ServedLines.{refused_port, refused_store}
 use Rattle.arbiter_server.specs.Folders.{GivesKeepers, Keepers}
-use Rattle.arbiter_server.specs.Acts.{Act, AreInRoom, AreOpenings, DatagramReply, IsClosing, IsSorted, Otherwise, acts_of, all_replies, all_taken}
+use Rattle.arbiter_server.specs.Acts.{Action, AreInRoom, AreOpenings, DatagramReply, IsClosing, IsSorted, Otherwise, acts_of, all_replies, all_taken}
 use Rattle.arbiter_server.specs.Rounds.{IsRound, Round, replies_of_rounds, round_came, round_passing}
-use Rattle.arbiter_server.specs.Games.{CommonView, Fresh, Goes, IsNotOpen, Life, Open, Shut}
+use Rattle.arbiter_server.specs.Games.{CommonView, Fresh, Goes, IsNotOpen, GameStatus, Open, Shut}
 
 -- each game's own acts lead from where it was never opened to where it is now, by the steps of an arbiter alone; each act is of the
 -- game that its datagram names; a game is opened for a move or a request of it alone; and no game is open then
-pub record IsHosted {K : Type 0} (s : Keepers K) (t : CommonView) (acts : List (Act K)) : Type 0 where
-  pub games : List ℕ → Life K
+pub record IsHosted {K : Type 0} (s : Keepers K) (t : CommonView) (acts : List (Action K)) : Type 0 where
+  pub games : List ℕ → GameStatus K
   pub each : (stamp : List ℕ) → Goes s t stamp Fresh (acts_of stamp acts) (games stamp)
   pub sorted : AllByRecursion IsSorted acts
   pub opened : AreOpenings acts
@@ -81,16 +81,16 @@ pub record ToldOf {T : Type 0} (form : LogForm) (most : ℕ) (lines : List (List
   pub last : EndsAtCut form told ended
 
 -- of a game that was closed a folder gives from now on a keeper over what was left
-abbrev pub GivesWhatIsLeft : {K : Type 0} → Keepers K → (K → Type 0) → Life K → Type 0
+abbrev pub GivesWhatIsLeft : {K : Type 0} → Keepers K → (K → Type 0) → GameStatus K → Type 0
 GivesWhatIsLeft s gives Fresh = Unit {0}
 GivesWhatIsLeft {K = K} s gives (Shut left) = (next : K) → gives next → s.follows left next
 GivesWhatIsLeft s gives (Open at) = ⊥
 
 -- no more games than so many are open, but for one between its opening and what closes one behind its answer; one is closed where
 -- more are, after its own answer, or at the end
-pub record AreFew {K : Type 0} (n : ℕ) (acts : List (Act K)) : Type 0 where
-  pub first : List (Act K)
-  pub last : List (Act K)
+pub record AreFew {K : Type 0} (n : ℕ) (acts : List (Action K)) : Type 0 where
+  pub first : List (Action K)
+  pub last : List (Action K)
   pub is : acts ≡ first ++ last
   pub count : ℕ
   pub room : AreInRoom n 0 Otherwise first count
@@ -101,7 +101,7 @@ pub record AreFew {K : Type 0} (n : ℕ) (acts : List (Act K)) : Type 0 where
 -- round, and then what is answered to them. Keepers of these games, and no others, are taken, each where its game is opened or was to
 -- be, in this order.
 pub record HostedRun {K : Type 0} (s : Keepers K) (t : CommonView) (n : ℕ) (taken : List (List ℕ)) (port port' : PortFacts) (ended : Result ℕ WriteFault) : Type 0 where
-  pub acts : List (Act K)
+  pub acts : List (Action K)
   pub hosted : IsHosted s t acts
   pub few : AreFew t.at_once acts
   pub takes : all_taken acts ≡ taken
@@ -116,25 +116,25 @@ pub record HostedRun {K : Type 0} (s : Keepers K) (t : CommonView) (n : ℕ) (ta
 -- ---- what is committed
 
 -- whichever keeper a start may give of a game is one over what its own keeps, or left
-abbrev pub FindsWhatIsKept : {K : Type 0} → Keepers K → (K → Type 0) → Life K → Type 0
+abbrev pub FindsWhatIsKept : {K : Type 0} → Keepers K → (K → Type 0) → GameStatus K → Type 0
 FindsWhatIsKept s finds Fresh = Unit {0}
 FindsWhatIsKept {K = K} s finds (Shut left) = (next : K) → finds next → s.follows left next
 FindsWhatIsKept {K = K} s finds (Open at) = (next : K) → finds next → s.follows at.keeper next
 
 -- The answers of these rounds, the first ones, are those of the first acts. After these acts, and before the answers of the last round go
 -- out, a start over the folder finds of each game what it keeps by then.
-pub record IsCommitted {G K : Type 0} (s : Keepers K) (t : CommonView) (finds : G → GivesKeepers K) (acts : List (Act K)) (rounds : List Round) : Type 0 where
-  pub first : List (Act K)
-  pub rest : List (Act K)
+pub record IsCommitted {G K : Type 0} (s : Keepers K) (t : CommonView) (finds : G → GivesKeepers K) (acts : List (Action K)) (rounds : List Round) : Type 0 where
+  pub first : List (Action K)
+  pub rest : List (Action K)
   pub are : acts ≡ first ++ rest
   pub answered : all_replies first ≡ replies_of_rounds rounds
-  pub games : List ℕ → Life K
+  pub games : List ℕ → GameStatus K
   pub each : (stamp : List ℕ) → Goes s t stamp Fresh (acts_of stamp first) (games stamp)
   pub folder : G
   pub found : (stamp : List ℕ) → FindsWhatIsKept s (finds folder stamp) (games stamp)
 
 -- so it is after each round
-abbrev pub CommitsEach : {G K : Type 0} → Keepers K → CommonView → (G → GivesKeepers K) → List (Act K) → List Round → Type 0
+abbrev pub CommitsEach : {G K : Type 0} → Keepers K → CommonView → (G → GivesKeepers K) → List (Action K) → List Round → Type 0
 CommitsEach s t finds acts rounds = (first later : List Round) → rounds ≡ first ++ later → 0 < length first → IsCommitted s t finds acts first
 
 -- What a log of this form has of the line of each datagram goes out before the datagrams of the next round are awaited. These keepers

@@ -2,7 +2,7 @@
 use Rattle.std.specs.Prelude.{◌≡◌, ◌⊎◌, ◌≤◌, ◌++◌, ℕ, List, [], ◌∷◌, take, Some, None, Ok, Err}
 use Rattle.std.specs.List.{AllByRecursion, flat_map}
 use Rattle.move_msg.specs.declared.stamp.Stamp.{Stamp}
-use Rattle.move_msg.specs.declared.who.Who.{Who}
+use Rattle.move_msg.specs.declared.arbiter_id.ArbiterId.{ArbiterId}
 use Rattle.move_msg.specs.declared.message.Message.{Message}
 use Rattle.move_msg.specs.declared.message.Message.TheVariants.{Move, Ack, Verdict, Fetch}
 use Rattle.move_msg.specs.Records.{WritesRecord}
@@ -10,7 +10,7 @@ use Rattle.arbiter_core.specs.declared.fault.OpenFault.{OpenFault}
 use Rattle.arbiter_core.specs.Answering.{Puts}
 use Rattle.arbiter_core.specs.Delivers.{Exchange, Moment, answer_at}
 use Rattle.arbiter_core.specs.Opens.{IsOpening}
-use Rattle.arbiter_core.specs.Recording.{Recorded, Window, move_count}
+use Rattle.arbiter_core.specs.Recording.{Recorded, ReorderBuffer, move_count}
 use Rattle.arbiter_core.specs.Setups.{SetupView}
 use Rattle.arbiter_core.specs.Views.{spelled_as}
 use Rattle.system_io.specs.FileCalls.{CallFacts}
@@ -18,7 +18,7 @@ use Rattle.system_io.specs.KeptFiles.{KeptFacts, IsCutOff}
 use Rattle.system_io.specs.Ports.{Missed, Passed, Passing, PortFacts}
 use Rattle.system_io.specs.Premises.{IsAsTold}
 use Rattle.system_io.specs.Traces.{traced_facts}
-use Rattle.system_io.specs.declared.traced_file.Traced.{Traced}
+use Rattle.system_io.specs.declared.call_log.CallLog.{CallLog}
 use Rattle.arbiter_server.specs.declared.file_keeper.FileKeeper.{FileKeeper}
 use Rattle.arbiter_server.specs.OverFiles.{GoesOn, IsItsRecord}
 use Rattle.arbiter_server.specs.Serving.{InTurn, handed, outputs_of, passing_of}
@@ -31,7 +31,7 @@ pub record IsCutAtPut {F : Type 0} (facts : F → KeptFacts) (now : Moment (File
   pub datagram : List ℕ
   pub next : Recorded
   pub outputs : List Message
-  pub window : Window
+  pub window : ReorderBuffer
   pub wanted : Puts next outputs window ≡ answer_at now.arbiter datagram
   pub sent : List ℕ
   pub spells : WritesRecord sent (spelled_as now.arbiter.me.stamp now.arbiter.setup.delay next)
@@ -58,7 +58,7 @@ pub data RunsOver {F : Type 0} (facts : F → KeptFacts) (setup : SetupView) (st
 
 -- nothing, or one question for moves
 abbrev pub IsQuestion : ℕ → List Passing → Type 0
-IsQuestion addresses first = (first ≡ []) ⊎ ((stamp : Stamp) × (who : Who) × (number : ℕ) × (wanted : ℕ) × (first ≡ handed addresses (Fetch stamp who number wanted)))
+IsQuestion addresses first = (first ≡ []) ⊎ ((stamp : Stamp) × (who : ArbiterId) × (number : ℕ) × (wanted : ℕ) × (first ≡ handed addresses (Fetch stamp who number wanted)))
 
 -- one run, in which an arbiter served or none was opened: at the port passed a question for moves, if any, and then what came
 -- and what was answered, and nothing else was handed over
@@ -125,19 +125,19 @@ KeepsWhatItTold {F} facts =
 
 -- a start over the file that was left, under the premise on a system's file: it reads what may stand there by the calls of the
 -- last run that had a keeper and by their answers
-pub record StartsAsTold {C : Type 0} (facts : C → CallFacts) (left : Traced C) (start : FileKeeper (Traced C)) : Type 0 where
+pub record StartsAsTold {C : Type 0} (facts : C → CallFacts) (left : CallLog C) (start : FileKeeper (CallLog C)) : Type 0 where
   pub told : IsAsTold left (stored start)
   pub in_file : IsInFile (traced_facts facts) start
 
 -- runs of one setup, each over the file that the one before it left, under that premise
-unfoldable pub AsToldInTurn : {C : Type 0} → (C → CallFacts) → SetupView → Traced C → List (PastRun (Traced C)) → Traced C → Type 0
+unfoldable pub AsToldInTurn : {C : Type 0} → (C → CallFacts) → SetupView → CallLog C → List (PastRun (CallLog C)) → CallLog C → Type 0
 AsToldInTurn facts setup first [] last = last ≡ first
 AsToldInTurn facts setup first (r ∷ rs) last = StartsAsTold facts first r.start × RunsOver (traced_facts facts) setup r.start r.exchanges r.left × AsToldInTurn facts setup r.left rs last
 
 -- After any runs a start finds what each answer of each of them told, under that premise at each start.
 abbrev pub KeepsAsTold : {C : Type 0} → (C → CallFacts) → Type 0
 KeepsAsTold {C} facts =
-    (setup : SetupView) (first last : Traced C) (runs : List (PastRun (Traced C))) (start : FileKeeper (Traced C))
+    (setup : SetupView) (first last : CallLog C) (runs : List (PastRun (CallLog C))) (start : FileKeeper (CallLog C))
     → AsToldInTurn facts setup first runs last
     → StartsAsTold facts last start
     → AllByRecursion (λ r. AllByRecursion (IsStillThere start) r.exchanges) runs

@@ -7,22 +7,22 @@ use Rattle.arbiter_core.specs.Keeping.{KeeperFacts}
 use Rattle.arbiter_core.specs.Delivers.{IsKept, Moment, ReturnsAnswer, Told, answer_to_any, moment}
 use Rattle.arbiter_core.specs.Resting.{CanWake, awake}
 use Rattle.arbiter_server.specs.Serving.{line_for, outputs_of}
-use Rattle.arbiter_server.specs.declared.seat.Seat.{Seat}
+use Rattle.arbiter_server.specs.declared.open_game.OpenGame.{OpenGame}
 use Rattle.arbiter_server.specs.Folders.{GivesKeepers, GivesLess, GivesOthers, Keepers}
-use Rattle.arbiter_server.specs.Games.{CommonView, Life, Fresh, Shut, Open}
+use Rattle.arbiter_server.specs.Games.{CommonView, GameStatus, Fresh, Shut, Open}
 
 -- the arbiter of a seat, with these tables, and its keeper
-abbrev pub moment_of : {K : Type 0} → Holding → Seat K → Moment K
+abbrev pub moment_of : {K : Type 0} → Holding → OpenGame K → Moment K
 moment_of set seat = moment (awake seat.state set) seat.keeper
 
 -- it can wake, and while it runs its record is the one that is kept
-pub record IsSeatAtRest {K : Type 0} (facts : KeeperFacts K) (set : Holding) (seat : Seat K) : Type 0 where
+pub record IsGameAtRest {K : Type 0} (facts : KeeperFacts K) (set : Holding) (seat : OpenGame K) : Type 0 where
   pub wakes : CanWake seat.state set
   pub keeps : IsKept (facts.kept seat.keeper) (awake seat.state set)
 
 -- so it is, and it runs
-pub record IsSeated {K : Type 0} (facts : KeeperFacts K) (set : Holding) (seat : Seat K) : Type 0 where
-  pub rests : IsSeatAtRest facts set seat
+pub record IsOpenGame {K : Type 0} (facts : KeeperFacts K) (set : Holding) (seat : OpenGame K) : Type 0 where
+  pub rests : IsGameAtRest facts set seat
   pub runs : seat.state.is_down ≡ false
 
 -- the arbiter answers a message so, with these messages and this line
@@ -33,44 +33,44 @@ pub record IsMessageAnswered {K : Type 0} (facts : KeeperFacts K) (before : Mome
   pub line_is : line ≡ line_for told after.arbiter.kept
 
 -- which games are open, by their stamps
-abbrev pub OpenSeats : Type 0 → Type 0
-OpenSeats K = List ℕ → Option (Seat K)
+abbrev pub OpenByStamp : Type 0 → Type 0
+OpenByStamp K = List ℕ → Option (OpenGame K)
 
 -- its arbiter can answer, and the folder gives next a keeper over what its own one keeps
-pub record IsNoted {K : Type 0} (facts : KeeperFacts K) (follows : K → K → Type 0) (set : Holding) (gives : K → Type 0) (seat : Seat K) : Type 0 where
-  pub seated : IsSeated facts set seat
+pub record IsNoted {K : Type 0} (facts : KeeperFacts K) (follows : K → K → Type 0) (set : Holding) (gives : K → Type 0) (seat : OpenGame K) : Type 0 where
+  pub seated : IsOpenGame facts set seat
   pub noted : (next : K) → gives next → follows seat.keeper next
 
 -- so it is of all of them
-abbrev pub AreSeated : {K : Type 0} → KeeperFacts K → (K → K → Type 0) → Holding → GivesKeepers K → OpenSeats K → Type 0
-AreSeated facts follows set gives at = (stamp : List ℕ) → IfSome (at stamp) (IsNoted facts follows set (gives stamp))
+abbrev pub AreOpenGames : {K : Type 0} → KeeperFacts K → (K → K → Type 0) → Holding → GivesKeepers K → OpenByStamp K → Type 0
+AreOpenGames facts follows set gives at = (stamp : List ℕ) → IfSome (at stamp) (IsNoted facts follows set (gives stamp))
 
 -- and there is room for as many as there are to be at once, and there are no more
-pub record HasRoomFor {K : Type 0} (facts : KeeperFacts K) (follows : K → K → Type 0) (set : Holding) (gives : GivesKeepers K) (at : OpenSeats K) (k cap most : ℕ) : Type 0 where
-  pub seated : AreSeated facts follows set gives at
+pub record HasRoomFor {K : Type 0} (facts : KeeperFacts K) (follows : K → K → Type 0) (set : Holding) (gives : GivesKeepers K) (at : OpenByStamp K) (k cap most : ℕ) : Type 0 where
+  pub seated : AreOpenGames facts follows set gives at
   pub room : cap ≡ most
   pub few : k ≤ most
 
 -- where the arbiters of all games are
 abbrev pub Lives : Type 0 → Type 0
-Lives K = List ℕ → Life K
+Lives K = List ℕ → GameStatus K
 
 -- a game's seat, if it is open, stands for its life; of one that was closed the folder gives a keeper over what was left, as of one that
 -- is open over what is kept
-abbrev pub StandsForLife : {K : Type 0} → Keepers K → CommonView → (K → Type 0) → Option (Seat K) → Life K → Type 0
+abbrev pub StandsForLife : {K : Type 0} → Keepers K → CommonView → (K → Type 0) → Option (OpenGame K) → GameStatus K → Type 0
 StandsForLife s t gives None Fresh = Unit {0}
 StandsForLife {K = K} s t gives None (Shut left) = (keeper : K) → gives keeper → s.follows left keeper
 StandsForLife s t gives None (Open at) = ⊥
 StandsForLife s t gives (Some seat) life = IsNoted s.facts s.follows t.set gives seat × (life ≡ Open (moment_of t.set seat))
 
-abbrev pub AreLives : {K : Type 0} → Keepers K → CommonView → GivesKeepers K → OpenSeats K → Lives K → Type 0
+abbrev pub AreLives : {K : Type 0} → Keepers K → CommonView → GivesKeepers K → OpenByStamp K → Lives K → Type 0
 AreLives s t gives at lives = (stamp : List ℕ) → StandsForLife s t (gives stamp) (at stamp) (lives stamp)
 
 -- which games are open, with this one in hand or taken out
-abbrev pub in_hand : {K : Type 0} → List ℕ → Option (Seat K) → OpenSeats K → OpenSeats K
+abbrev pub in_hand : {K : Type 0} → List ℕ → Option (OpenGame K) → OpenByStamp K → OpenByStamp K
 in_hand stamp seat at other = cond (bytes_eq stamp other) seat (at other)
 
 -- of so many nothing is closed; or, where they are too many, one game is, of which the folder gives from now on what was left
-pub data Evicts {K : Type 0} (follows : K → K → Type 0) (most : ℕ) (old : GivesKeepers K) (at : OpenSeats K) (k : ℕ) (new : GivesKeepers K) (at' : OpenSeats K) (k' : ℕ) : Type 0 where
+pub data Evicts {K : Type 0} (follows : K → K → Type 0) (most : ℕ) (old : GivesKeepers K) (at : OpenByStamp K) (k : ℕ) (new : GivesKeepers K) (at' : OpenByStamp K) (k' : ℕ) : Type 0 where
   Nothing : GivesLess old new → ((other : List ℕ) → at' other ≡ at other) → k' ≡ k → Evicts follows most old at k new at' k'
-  One : (stamp : List ℕ) (seat : Seat K) → at stamp ≡ Some seat → ((other : List ℕ) → at' other ≡ cond (bytes_eq stamp other) None (at other)) → ((next : K) → new stamp next → follows seat.keeper next) → GivesOthers stamp old new → most ≤ k → k ≡ suc k' → Evicts follows most old at k new at' k'
+  One : (stamp : List ℕ) (seat : OpenGame K) → at stamp ≡ Some seat → ((other : List ℕ) → at' other ≡ cond (bytes_eq stamp other) None (at other)) → ((next : K) → new stamp next → follows seat.keeper next) → GivesOthers stamp old new → most ≤ k → k ≡ suc k' → Evicts follows most old at k new at' k'

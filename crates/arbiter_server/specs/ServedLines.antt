@@ -6,8 +6,8 @@ use Rattle.board_core.specs.Verdicts.{verdict_name}
 use Rattle.move_msg.specs.Messages.{message_fault_name}
 use Rattle.arbiter_core.specs.declared.fault.DeliverFault.{DeliverFault}
 use Rattle.arbiter_core.specs.declared.fault.DeliverFault.TheVariants as deliver
-use Rattle.arbiter_server.specs.declared.heard.Heard.{Heard}
-use Rattle.arbiter_server.specs.declared.heard.Heard.TheVariants as line
+use Rattle.arbiter_server.specs.declared.datagram_report.DatagramReport.{DatagramReport}
+use Rattle.arbiter_server.specs.declared.datagram_report.DatagramReport.TheVariants as line
 use Rattle.arbiter_core.specs.Faults.{deliver_fault_name}
 
 -- the verdict's name, or that there is none
@@ -39,7 +39,7 @@ refused_store = codes "refused store"
 abbrev pub refused_keeper : List ℕ
 refused_keeper = codes "refused keeper"
 
-abbrev pub heard_line : Heard → List ℕ
+abbrev pub heard_line : DatagramReport → List ℕ
 heard_line (line.Recorded count verdict) = heard_words count verdict
 heard_line (line.Refused fault) = refused_datagram fault
 heard_line line.KeeperLost = refused_keeper

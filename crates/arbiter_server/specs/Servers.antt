@@ -14,13 +14,13 @@ use Rattle.arbiter_server.specs.Folders.{FolderFacts, keepers}
 use Rattle.arbiter_server.specs.Games.{CommonView}
 use Rattle.arbiter_server.specs.Hosts.{CommitsEach, Hosts}
 use Rattle.arbiter_server.specs.Room.{at_stamp}
-use Rattle.arbiter_server.specs.declared.seat.Seat.{Seat}
+use Rattle.arbiter_server.specs.declared.open_game.OpenGame.{OpenGame}
 
 -- what its games have in common, its folder, and which games are open, by their stamps
 pub record ServerView (G K : Type 0) : Type 0 where
   pub common : CommonView
   pub games : G
-  pub seats : List (List ℕ × Seat K)
+  pub seats : List (List ℕ × OpenGame K)
 
 -- no game is open
 pub record IsIdle {G K : Type 0} (v : ServerView G K) : Type 0 where

@@ -6,9 +6,9 @@ use Rattle.arbiter_core.specs.declared.keeper.Keep.TheVariants.{Good}
 use Rattle.system_io.specs.Disks.{DiskFacts}
 use Rattle.system_io.specs.Records.{Records, StoreFacts, with_all}
 use Rattle.system_io.specs.declared.record_store.Entry.{Entry}
-use Rattle.arbiter_server.specs.declared.fault.Unopened.TheVariants as unopened
+use Rattle.arbiter_server.specs.declared.fault.OpenGameError.TheVariants as unopened
 use Rattle.arbiter_server.specs.DiskGames.{LacksGameFile}
-use Rattle.arbiter_server.specs.declared.fault.Unopened.{Unopened}
+use Rattle.arbiter_server.specs.declared.fault.OpenGameError.{OpenGameError}
 use Rattle.arbiter_server.specs.Folders.{FolderFacts, GivesKeepers, Keepers}
 use Rattle.arbiter_server.specs.GameFiles.{game_as_told}
 use Rattle.arbiter_server.specs.GameFolders.{HasGame}
@@ -42,7 +42,7 @@ pub record StoredPlace (D : Type 0) : Type 0 where
   pub folder : List ℕ
 
 -- why no keeper is given: no more can be committed, or memory was refused
-abbrev pub IsUnstored : Unopened → Type 0
+abbrev pub IsUnstored : OpenGameError → Type 0
 IsUnstored why = (why ≡ unopened.Keeper) ⊎ (why ≡ unopened.OutOfMemory)
 
 -- What a host knows of a folder on this disk whose records are in a store: a keeper of a game is one over what the last one left.

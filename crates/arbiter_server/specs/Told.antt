@@ -6,20 +6,20 @@ use Rattle.arbiter_core.specs.declared.fault.OpenFault.{OpenFault}
 use Rattle.arbiter_core.specs.declared.fault.OpenFault.TheVariants as open_fault
 use Rattle.arbiter_core.specs.declared.fault.DeliverFault.TheVariants.{NotAMessage}
 use Rattle.arbiter_server.specs.ServedLines.{heard_line, refused_datagram, refused_port, refused_store}
-use Rattle.arbiter_server.specs.declared.fault.Unopened.{Unopened}
-use Rattle.arbiter_server.specs.declared.fault.Unopened.TheVariants as unopened
+use Rattle.arbiter_server.specs.declared.fault.OpenGameError.{OpenGameError}
+use Rattle.arbiter_server.specs.declared.fault.OpenGameError.TheVariants as unopened
 use Rattle.arbiter_server.specs.declared.line.Line.{Line}
 use Rattle.arbiter_server.specs.declared.line.Line.TheVariants as line
 
 -- why a game isn't open whose arbiter can't be opened
-abbrev pub unopened_by : OpenFault → Unopened
+abbrev pub unopened_by : OpenFault → OpenGameError
 unopened_by open_fault.BadSetup = unopened.Keeper
 unopened_by open_fault.KeeperFailed = unopened.Keeper
 unopened_by open_fault.BadRecord = unopened.Keeper
 unopened_by open_fault.OtherStamp = unopened.OtherGame
 unopened_by open_fault.OutOfMemory = unopened.OutOfMemory
 
-abbrev pub unopened_words : Unopened → List ℕ
+abbrev pub unopened_words : OpenGameError → List ℕ
 unopened_words unopened.NotOpen = codes "refused NotOpen"
 unopened_words unopened.NoGame = codes "refused NoGame"
 unopened_words unopened.OtherGame = codes "refused OtherGame"

@@ -22,20 +22,20 @@ use Rattle.arbiter_server.specs.declared.line_log.LogForm.{LogForm}
 use Rattle.arbiter_server.specs.declared.line_log.LogForm.TheVariants as form
 use Rattle.arbiter_server.specs.ServedLines.{refused_port, refused_store}
 use Rattle.arbiter_server.specs.Serving.{handed}
-use Rattle.arbiter_server.specs.declared.fault.Unopened.{Unopened}
-use Rattle.arbiter_server.specs.declared.seat.Seat.{Seat}
+use Rattle.arbiter_server.specs.declared.fault.OpenGameError.{OpenGameError}
+use Rattle.arbiter_server.specs.declared.open_game.OpenGame.{OpenGame}
 use Rattle.arbiter_server.specs.declared.server.AfterRound.{AfterRound}
 use Rattle.arbiter_server.specs.declared.server.AfterRound.TheVariants.{GoesOn, Stops}
 use Rattle.arbiter_server.specs.Folders.{FolderFacts, GivesKeepers, GivesLess, GivesOthers, Keepers, keepers}
 use Rattle.arbiter_server.specs.declared.gathering.Held.{Held}
 use Rattle.arbiter_server.specs.declared.turn.Answered.{Answered}
 use Rattle.arbiter_server.specs.Told.{line_words, unopened_by}
-use Rattle.arbiter_server.specs.Acts.{Act, Answers, AreInRoom, AreOpenings, Closes as ClosesGame, IsClosing, IsSorted, LastDone, HasAnswered, MayAnswer, Opening, Opens, Otherwise, Refuses as RefusesGame, DatagramReply, Strange, Unread, acts_of, exchange_reply, opens_for, opens_game, stamp_for, unopened, unread}
+use Rattle.arbiter_server.specs.Acts.{Action, Answers, AreInRoom, AreOpenings, Closes as ClosesGame, IsClosing, IsSorted, LastDone, HasAnswered, MayAnswer, Opening, Opens, Otherwise, Refuses as RefusesGame, DatagramReply, Strange, Unread, acts_of, exchange_reply, opens_for, opens_game, stamp_for, unopened, unread}
 use Rattle.arbiter_server.specs.Games.{CommonView, Fresh, Goes, IsSetupOfStamp, IsToldAs}
 use Rattle.arbiter_server.specs.Hosts.{CommitsEach, Ending, Ends, IsEnding, ToldOf, all_lines, all_passing, dropped_replies}
 use Rattle.arbiter_server.specs.Room.{at_stamp}
 use Rattle.arbiter_server.specs.Rounds.{IsRound, Round, replies_of_rounds, round_came, round_passing, sent_of}
-use Rattle.arbiter_server.specs.Seats.{OpenSeats, AreLives, Evicts, IsSeated, Lives, in_hand}
+use Rattle.arbiter_server.specs.Seats.{OpenByStamp, AreLives, Evicts, IsOpenGame, Lives, in_hand}
 use Rattle.arbiter_server.specs.Servers.{ServerState, ServerFacts, ServerView}
 
 -- ---- what comes of acts
@@ -45,7 +45,7 @@ pub data Effect : Type 0 where
   Replied : DatagramReply → Effect
   Took : (stamp : List ℕ) → Effect
 
-abbrev pub effects_of : {K : Type 0} → Act K → List Effect
+abbrev pub effects_of : {K : Type 0} → Action K → List Effect
 effects_of (Unread datagram fault) = Replied (unread datagram fault) ∷ []
 effects_of (Strange stamp datagram tried why) = cond tried (Took stamp ∷ []) [] ++ Replied (unopened stamp datagram why) ∷ []
 effects_of (RefusesGame stamp datagram over fault) = Took stamp ∷ Replied (unopened stamp datagram (unopened_by fault)) ∷ []
@@ -53,7 +53,7 @@ effects_of (Opens stamp over arbiter) = Took stamp ∷ []
 effects_of (Answers stamp exchange) = Replied (exchange_reply stamp exchange) ∷ []
 effects_of (ClosesGame stamp left) = []
 
-abbrev pub all_effects : {K : Type 0} → List (Act K) → List Effect
+abbrev pub all_effects : {K : Type 0} → List (Action K) → List Effect
 all_effects acts = flat_map effects_of acts
 
 abbrev pub reply_in : Effect → List DatagramReply
@@ -85,14 +85,14 @@ MakesAnd folder made games history history' Does = TakesAnd (folder.taken (folde
 -- ---- acts in turn
 
 -- the acts of each game lead from its old life to its new one, whatever stands between them
-pub record EachGameGoes {K : Type 0} (s : Keepers K) (t : CommonView) (old new : Lives K) (acts : List (Act K)) : Type 0 where
+pub record EachGameGoes {K : Type 0} (s : Keepers K) (t : CommonView) (old new : Lives K) (acts : List (Action K)) : Type 0 where
   pub each : (stamp : List ℕ) → Goes s t stamp (old stamp) (acts_of stamp acts) (new stamp)
   pub sorted : AllByRecursion IsSorted acts
 
 -- where this was done last, some acts lead from these lives to where the games are now, and from so many
 -- that are open to so many, with these effects
-pub record Leads {K : Type 0} (s : Keepers K) (t : CommonView) (last : LastDone) (k : ℕ) (old : Lives K) (gives : GivesKeepers K) (at : OpenSeats K) (k' : ℕ) (effects : List Effect) : Type 0 where
-  pub acts : List (Act K)
+pub record Leads {K : Type 0} (s : Keepers K) (t : CommonView) (last : LastDone) (k : ℕ) (old : Lives K) (gives : GivesKeepers K) (at : OpenByStamp K) (k' : ℕ) (effects : List Effect) : Type 0 where
+  pub acts : List (Action K)
   pub new : Lives K
   pub turns : EachGameGoes s t old new acts
   pub opened : AreOpenings acts
@@ -101,62 +101,62 @@ pub record Leads {K : Type 0} (s : Keepers K) (t : CommonView) (last : LastDone)
   pub effects_are : all_effects acts ≡ effects
 
 -- so they do, and the first is the answer of this game's arbiter to this datagram
-pub record LeadsBy {K : Type 0} (s : Keepers K) (t : CommonView) (stamp datagram : List ℕ) (last : LastDone) (k : ℕ) (old : Lives K) (gives : GivesKeepers K) (at : OpenSeats K) (k' : ℕ) (effects : List Effect) : Type 0 where
+pub record LeadsBy {K : Type 0} (s : Keepers K) (t : CommonView) (stamp datagram : List ℕ) (last : LastDone) (k : ℕ) (old : Lives K) (gives : GivesKeepers K) (at : OpenByStamp K) (k' : ℕ) (effects : List Effect) : Type 0 where
   pub leads : Leads s t last k old gives at k' effects
   pub exchange : Exchange K
-  pub rest : List (Act K)
+  pub rest : List (Action K)
   pub acts_are : leads.acts ≡ Answers stamp exchange ∷ rest
   pub is : exchange.datagram ≡ datagram
 
 -- one act leads from these lives to where the games are now
-pub record LeadsOne {K : Type 0} (s : Keepers K) (t : CommonView) (act : Act K) (old : Lives K) (gives : GivesKeepers K) (at : OpenSeats K) : Type 0 where
+pub record LeadsOne {K : Type 0} (s : Keepers K) (t : CommonView) (act : Action K) (old : Lives K) (gives : GivesKeepers K) (at : OpenByStamp K) : Type 0 where
   pub new : Lives K
   pub turns : EachGameGoes s t old new (act ∷ [])
   pub stand : AreLives s t gives at new
 
 -- the opening of this game does
-pub record LeadsOpen {K : Type 0} (s : Keepers K) (t : CommonView) (stamp : List ℕ) (old : Lives K) (gives : GivesKeepers K) (at : OpenSeats K) : Type 0 where
+pub record LeadsOpen {K : Type 0} (s : Keepers K) (t : CommonView) (stamp : List ℕ) (old : Lives K) (gives : GivesKeepers K) (at : OpenByStamp K) : Type 0 where
   pub over : Opening K
   pub arbiter : View
   pub one : LeadsOne s t (Opens stamp over arbiter) old gives at
 
 -- closings do
-pub record Shuts {K : Type 0} (s : Keepers K) (t : CommonView) (old : Lives K) (gives : GivesKeepers K) (at : OpenSeats K) : Type 0 where
-  pub acts : List (Act K)
+pub record Shuts {K : Type 0} (s : Keepers K) (t : CommonView) (old : Lives K) (gives : GivesKeepers K) (at : OpenByStamp K) : Type 0 where
+  pub acts : List (Action K)
   pub new : Lives K
   pub turns : EachGameGoes s t old new acts
   pub closing : AllByRecursion IsClosing acts
   pub stand : AreLives s t gives at new
 
 -- so they do for all lives for which the games stood before
-abbrev pub LeadsFrom : {K : Type 0} → Keepers K → CommonView → LastDone → ℕ → GivesKeepers K → OpenSeats K → GivesKeepers K → OpenSeats K → ℕ → List Effect → Type 0
+abbrev pub LeadsFrom : {K : Type 0} → Keepers K → CommonView → LastDone → ℕ → GivesKeepers K → OpenByStamp K → GivesKeepers K → OpenByStamp K → ℕ → List Effect → Type 0
 LeadsFrom {K = K} s t last k gives at gives' at' k' effects = (lives : Lives K) → AreLives s t gives at lives → Leads s t last k lives gives' at' k' effects
 
-abbrev pub LeadsFromBy : {K : Type 0} → Keepers K → CommonView → List ℕ → List ℕ → LastDone → ℕ → GivesKeepers K → OpenSeats K → GivesKeepers K → OpenSeats K → ℕ → List Effect → Type 0
+abbrev pub LeadsFromBy : {K : Type 0} → Keepers K → CommonView → List ℕ → List ℕ → LastDone → ℕ → GivesKeepers K → OpenByStamp K → GivesKeepers K → OpenByStamp K → ℕ → List Effect → Type 0
 LeadsFromBy {K = K} s t stamp datagram last k gives at gives' at' k' effects = (lives : Lives K) → AreLives s t gives at lives → LeadsBy s t stamp datagram last k lives gives' at' k' effects
 
-abbrev pub LeadsOpenFrom : {K : Type 0} → Keepers K → CommonView → List ℕ → GivesKeepers K → OpenSeats K → GivesKeepers K → OpenSeats K → Type 0
+abbrev pub LeadsOpenFrom : {K : Type 0} → Keepers K → CommonView → List ℕ → GivesKeepers K → OpenByStamp K → GivesKeepers K → OpenByStamp K → Type 0
 LeadsOpenFrom {K = K} s t stamp gives at gives' at' = (lives : Lives K) → AreLives s t gives at lives → LeadsOpen s t stamp lives gives' at'
 
-abbrev pub ShutsFrom : {K : Type 0} → Keepers K → CommonView → GivesKeepers K → OpenSeats K → GivesKeepers K → OpenSeats K → Type 0
+abbrev pub ShutsFrom : {K : Type 0} → Keepers K → CommonView → GivesKeepers K → OpenByStamp K → GivesKeepers K → OpenByStamp K → Type 0
 ShutsFrom {K = K} s t gives at gives' at' = (lives : Lives K) → AreLives s t gives at lives → Shuts s t lives gives' at'
 
 -- from a folder to a later one, by the keepers of where it was first
-abbrev pub Turns : {G K : Type 0} → KeeperFacts K → FolderFacts G K → CommonView → G → OpenSeats K → ℕ → G → OpenSeats K → ℕ → List Effect → Type 0
+abbrev pub Turns : {G K : Type 0} → KeeperFacts K → FolderFacts G K → CommonView → G → OpenByStamp K → ℕ → G → OpenByStamp K → ℕ → List Effect → Type 0
 Turns facts folder t games at k games' at' k' effects = LeadsFrom (keepers facts folder games) t Otherwise k (folder.gives games) at (folder.gives games') at' k' effects
 
 -- closings do, whatever the games have in common
-abbrev pub ShutsAnyhow : {G K : Type 0} → KeeperFacts K → FolderFacts G K → G → OpenSeats K → G → OpenSeats K → Type 0
+abbrev pub ShutsAnyhow : {G K : Type 0} → KeeperFacts K → FolderFacts G K → G → OpenByStamp K → G → OpenByStamp K → Type 0
 ShutsAnyhow facts folder games at games' at' = (t : CommonView) → ShutsFrom (keepers facts folder games) t (folder.gives games) at (folder.gives games') at'
 
 -- where this game is in hand beside others, and has just answered, with no effect, whatever the games have in common but how many are
 -- open at once
-abbrev pub TurnsInHand : {G K : Type 0} → KeeperFacts K → FolderFacts G K → ℕ → G → List (List ℕ × Seat K) → List ℕ → Seat K → G → List (List ℕ × Seat K) → Type 0
+abbrev pub TurnsInHand : {G K : Type 0} → KeeperFacts K → FolderFacts G K → ℕ → G → List (List ℕ × OpenGame K) → List ℕ → OpenGame K → G → List (List ℕ × OpenGame K) → Type 0
 TurnsInHand facts folder most games seats stamp seat games' seats' =
     (t : CommonView) → t.at_once ≡ most → LeadsFrom (keepers facts folder games) t (HasAnswered stamp) (suc (length seats)) (folder.gives games) (in_hand stamp (Some seat) (at_stamp seats)) (folder.gives games') (at_stamp seats') (length seats') []
 
 -- from some games that are open to others, of which one may have been closed to make room
-abbrev pub MakesRoom : {G K : Type 0} → FolderFacts G K → ℕ → G → List (List ℕ × Seat K) → G → List (List ℕ × Seat K) → Type 0
+abbrev pub MakesRoom : {G K : Type 0} → FolderFacts G K → ℕ → G → List (List ℕ × OpenGame K) → G → List (List ℕ × OpenGame K) → Type 0
 MakesRoom folder most games seats games' seats' = Evicts folder.follows most (folder.gives games) (at_stamp seats) (length seats) (folder.gives games') (at_stamp seats') (length seats')
 
 -- what was lent comes back: the tables as they were, and the folder where it was, which gives of all games but this one no more than it did
@@ -166,9 +166,9 @@ pub record ComesBack {G K : Type 0} (folder : FolderFacts G K) (stamp : List ℕ
   pub others : GivesOthers stamp (folder.gives games) (folder.gives games')
 
 -- a game that isn't open is opened, and in hand
-pub record OpensSeat {G K : Type 0} (facts : KeeperFacts K) (folder : FolderFacts G K) (t : CommonView) (games games' : G) (stamp : List ℕ) (seat : Seat K) : Type 0 where
-  pub seated : IsSeated facts t.set seat
-  pub turns : (at : OpenSeats K) → at stamp ≡ None → LeadsOpenFrom (keepers facts folder games) t stamp (folder.gives games) at (folder.gives games') (in_hand stamp (Some seat) at)
+pub record OpensOneGame {G K : Type 0} (facts : KeeperFacts K) (folder : FolderFacts G K) (t : CommonView) (games games' : G) (stamp : List ℕ) (seat : OpenGame K) : Type 0 where
+  pub seated : IsOpenGame facts t.set seat
+  pub turns : (at : OpenByStamp K) → at stamp ≡ None → LeadsOpenFrom (keepers facts folder games) t stamp (folder.gives games) at (folder.gives games') (in_hand stamp (Some seat) at)
 
 -- it is the setup of the game with this stamp, as the folder tells it
 pub record IsFoundAs {G K : Type 0} (facts : KeeperFacts K) (folder : FolderFacts G K) (t : CommonView) (games : G) (stamp : List ℕ) (setup : SetupView) : Type 0 where
@@ -176,16 +176,16 @@ pub record IsFoundAs {G K : Type 0} (facts : KeeperFacts K) (folder : FolderFact
   pub told : IsToldAs (keepers facts folder games) stamp setup
 
 -- or it isn't, and its datagram is refused so, for which this is made
-abbrev pub RefusesSeat : {G K : Type 0} → KeeperFacts K → FolderFacts G K → CommonView → G → G → List ℕ → Unopened → List (List ℕ) → Type 0
-RefusesSeat {K = K} facts folder t games games' stamp why more =
-    (at : OpenSeats K) (k : ℕ) (datagram : List ℕ) → k ≤ t.at_once → at stamp ≡ None → stamp_for datagram ≡ Some stamp → opens_for datagram ≡ true → Turns facts folder t games at k games' at k (effects_with more (unopened stamp datagram why))
+abbrev pub RefusesOneGame : {G K : Type 0} → KeeperFacts K → FolderFacts G K → CommonView → G → G → List ℕ → OpenGameError → List (List ℕ) → Type 0
+RefusesOneGame {K = K} facts folder t games games' stamp why more =
+    (at : OpenByStamp K) (k : ℕ) (datagram : List ℕ) → k ≤ t.at_once → at stamp ≡ None → stamp_for datagram ≡ Some stamp → opens_for datagram ≡ true → Turns facts folder t games at k games' at k (effects_with more (unopened stamp datagram why))
 
 -- so it is of each setup that is found so
-abbrev pub OpensFound : {G K : Type 0} → KeeperFacts K → FolderFacts G K → G → G → List ℕ → SetupView → Seat K → Type 0
-OpensFound facts folder games games' stamp setup seat = (t : CommonView) → IsFoundAs facts folder t games stamp setup → OpensSeat facts folder t games games' stamp seat
+abbrev pub OpensFound : {G K : Type 0} → KeeperFacts K → FolderFacts G K → G → G → List ℕ → SetupView → OpenGame K → Type 0
+OpensFound facts folder games games' stamp setup seat = (t : CommonView) → IsFoundAs facts folder t games stamp setup → OpensOneGame facts folder t games games' stamp seat
 
-abbrev pub RefusesFound : {G K : Type 0} → KeeperFacts K → FolderFacts G K → G → G → List ℕ → SetupView → Unopened → List (List ℕ) → Type 0
-RefusesFound facts folder games games' stamp setup why more = (t : CommonView) → IsFoundAs facts folder t games stamp setup → RefusesSeat facts folder t games games' stamp why more
+abbrev pub RefusesFound : {G K : Type 0} → KeeperFacts K → FolderFacts G K → G → G → List ℕ → SetupView → OpenGameError → List (List ℕ) → Type 0
+RefusesFound facts folder games games' stamp setup why more = (t : CommonView) → IsFoundAs facts folder t games stamp setup → RefusesOneGame facts folder t games games' stamp why more
 
 -- a folder of games at one moment, and the host's history that is lent with it
 pub record Lent (G H : Type 0) : Type 0 where
@@ -196,11 +196,11 @@ abbrev pub lent : {G H : Type 0} → G → H → Lent G H
 lent games history = record { games = games; history = history }
 
 -- the opening of a game is refused, and of keepers the one is taken that may be
-abbrev pub TriesFound : {G H K : Type 0} → KeeperFacts K → FolderFacts G K → (H → Option (List Made)) → Lent G H → Lent G H → List ℕ → SetupView → Unopened → Type 0
+abbrev pub TriesFound : {G H K : Type 0} → KeeperFacts K → FolderFacts G K → (H → Option (List Made)) → Lent G H → Lent G H → List ℕ → SetupView → OpenGameError → Type 0
 TriesFound facts folder made old new stamp setup why = MakesAnd folder made old.games old.history new.history (RefusesFound facts folder old.games new.games stamp setup why)
 
-abbrev pub TriesSeat : {G H K : Type 0} → KeeperFacts K → FolderFacts G K → (H → Option (List Made)) → CommonView → Lent G H → Lent G H → List ℕ → Unopened → Type 0
-TriesSeat facts folder made t old new stamp why = MakesAnd folder made old.games old.history new.history (RefusesSeat facts folder t old.games new.games stamp why)
+abbrev pub TriesOneGame : {G H K : Type 0} → KeeperFacts K → FolderFacts G K → (H → Option (List Made)) → CommonView → Lent G H → Lent G H → List ℕ → OpenGameError → Type 0
+TriesOneGame facts folder made t old new stamp why = MakesAnd folder made old.games old.history new.history (RefusesOneGame facts folder t old.games new.games stamp why)
 
 -- the keeper of a game is given back: what the folder gives next of it is over what this one left, and of the others no more
 pub record GivesKeeperBack {G K : Type 0} (folder : FolderFacts G K) (games games' : G) (stamp : List ℕ) (left : K) : Type 0 where
@@ -218,31 +218,31 @@ abbrev pub RepliesSo : {G K : Type 0} → KeeperFacts K → FolderFacts G K → 
 RepliesSo facts folder old new r more = TurnsTo facts folder old new (effects_with more r)
 
 -- a game that isn't open is opened for a message, which opens games, and in hand
-pub record OpensFor {G K : Type 0} (facts : KeeperFacts K) (folder : FolderFacts G K) (t : CommonView) (games games' : G) (message : Message) (seat : Seat K) : Type 0 where
+pub record OpensFor {G K : Type 0} (facts : KeeperFacts K) (folder : FolderFacts G K) (t : CommonView) (games games' : G) (message : Message) (seat : OpenGame K) : Type 0 where
   pub opens : opens_game message ≡ true
-  pub opened : OpensSeat facts folder t games games' (stamp_in message) seat
+  pub opened : OpensOneGame facts folder t games games' (stamp_in message) seat
 
 -- or it isn't, and the message is refused so by whichever datagram it comes
-abbrev pub RefusesFor : {G K : Type 0} → KeeperFacts K → FolderFacts G K → CommonView → G → G → Message → Unopened → List (List ℕ) → Type 0
+abbrev pub RefusesFor : {G K : Type 0} → KeeperFacts K → FolderFacts G K → CommonView → G → G → Message → OpenGameError → List (List ℕ) → Type 0
 RefusesFor {K = K} facts folder t games games' message why more =
-    (at : OpenSeats K) (k : ℕ) (datagram : List ℕ) → k ≤ t.at_once → at (stamp_in message) ≡ None → heard_in datagram ≡ Ok message → Turns facts folder t games at k games' at k (effects_with more (unopened (stamp_in message) datagram why))
+    (at : OpenByStamp K) (k : ℕ) (datagram : List ℕ) → k ≤ t.at_once → at (stamp_in message) ≡ None → heard_in datagram ≡ Ok message → Turns facts folder t games at k games' at k (effects_with more (unopened (stamp_in message) datagram why))
 
-abbrev pub TriesFor : {G H K : Type 0} → KeeperFacts K → FolderFacts G K → (H → Option (List Made)) → CommonView → Lent G H → Lent G H → Message → Unopened → Type 0
+abbrev pub TriesFor : {G H K : Type 0} → KeeperFacts K → FolderFacts G K → (H → Option (List Made)) → CommonView → Lent G H → Lent G H → Message → OpenGameError → Type 0
 TriesFor facts folder made t old new message why = MakesAnd folder made old.games old.history new.history (RefusesFor facts folder t old.games new.games message why)
 
 -- how a game comes into hand, beside which so many are open: it was open; or it is opened for a message, where there is room
-pub data ComesInHand {K : Type 0} (s : Keepers K) (t : CommonView) (message : Message) (gives : GivesKeepers K) (at : OpenSeats K) (k : ℕ) (gives' : GivesKeepers K) (at' : OpenSeats K) (k' : ℕ) (more : List (List ℕ)) : Type 0 where
+pub data ComesInHand {K : Type 0} (s : Keepers K) (t : CommonView) (message : Message) (gives : GivesKeepers K) (at : OpenByStamp K) (k : ℕ) (gives' : GivesKeepers K) (at' : OpenByStamp K) (k' : ℕ) (more : List (List ℕ)) : Type 0 where
   WasOpen : suc k' ≤ t.at_once → LeadsFrom s t Otherwise k gives at gives' at' (suc k') [] → more ≡ [] → ComesInHand s t message gives at k gives' at' k' more
   IsOpened : opens_game message ≡ true → k ≤ t.at_once → LeadsOpenFrom s t (stamp_in message) gives at gives' at' → k' ≡ k → more ≡ stamp_in message ∷ [] → ComesInHand s t message gives at k gives' at' k' more
 
 -- the game of a message is in hand after it
-pub record TakesSeat {G K : Type 0} (facts : KeeperFacts K) (folder : FolderFacts G K) (old new : ServerView G K) (message : Message) (seat : Seat K) (more : List (List ℕ)) : Type 0 where
+pub record TakesOneGame {G K : Type 0} (facts : KeeperFacts K) (folder : FolderFacts G K) (old new : ServerView G K) (message : Message) (seat : OpenGame K) (more : List (List ℕ)) : Type 0 where
   pub absent : at_stamp new.seats (stamp_in message) ≡ None
-  pub seated : IsSeated facts old.common.set seat
+  pub seated : IsOpenGame facts old.common.set seat
   pub comes : ComesInHand (keepers facts folder old.games) old.common message (folder.gives old.games) (at_stamp old.seats) (length old.seats) (folder.gives new.games) (in_hand (stamp_in message) (Some seat) (at_stamp new.seats)) (length new.seats) more
 
 -- a message is refused so by whichever datagram it comes
-abbrev pub Refuses : {G K : Type 0} → KeeperFacts K → FolderFacts G K → ServerView G K → ServerView G K → Message → Unopened → List (List ℕ) → Type 0
+abbrev pub Refuses : {G K : Type 0} → KeeperFacts K → FolderFacts G K → ServerView G K → ServerView G K → Message → OpenGameError → List (List ℕ) → Type 0
 Refuses facts folder old new message why more = (datagram : List ℕ) → heard_in datagram ≡ Ok message → RepliesSo facts folder old new (unopened (stamp_in message) datagram why) more
 
 -- the reply to a datagram
@@ -254,7 +254,7 @@ abbrev pub AnswersMessage : {G K : Type 0} → KeeperFacts K → FolderFacts G K
 AnswersMessage facts folder old message new r more = (datagram : List ℕ) → heard_in datagram ≡ Ok message → RepliesSo facts folder old new (datagram_reply datagram r) more
 
 -- so it is by a game that is in hand
-abbrev pub AnswersInHand : {G K : Type 0} → KeeperFacts K → FolderFacts G K → ServerView G K → Seat K → Message → ServerView G K → Answered → Type 0
+abbrev pub AnswersInHand : {G K : Type 0} → KeeperFacts K → FolderFacts G K → ServerView G K → OpenGame K → Message → ServerView G K → Answered → Type 0
 AnswersInHand facts folder old seat message new r =
     (datagram : List ℕ) (last : LastDone) → heard_in datagram ≡ Ok message → MayAnswer old.common.at_once (suc (length old.seats)) last (stamp_in message) → LeadsFromBy (keepers facts folder old.games) old.common (stamp_in message) datagram last (suc (length old.seats)) (folder.gives old.games) (in_hand (stamp_in message) (Some seat) (at_stamp old.seats)) (folder.gives new.games) (at_stamp new.seats) (length new.seats) (effects_with [] (datagram_reply datagram r))
 
@@ -373,7 +373,7 @@ pub record TakesTurn {W : Type 0} (turns : Going) (file : List ℕ → List Made
   pub is : IfOk told (λ x. x ≡ goes_after outcome)
 
 -- a run for n datagrams, before the games that are open then, so many, are closed
-pub record HasServed {G K W : Type 0} (s : Keepers K) (t : CommonView) (finds : G → GivesKeepers K) (w : Writers W) (form : LogForm) (n : ℕ) (gives : GivesKeepers K) (at : OpenSeats K) (count : ℕ) (file : List ℕ → List Made) (had has : Option (List Made)) (port port' : PortFacts) (out out' : W) (ended : Result ℕ WriteFault) : Type 0 where
+pub record HasServed {G K W : Type 0} (s : Keepers K) (t : CommonView) (finds : G → GivesKeepers K) (w : Writers W) (form : LogForm) (n : ℕ) (gives : GivesKeepers K) (at : OpenByStamp K) (count : ℕ) (file : List ℕ → List Made) (had has : Option (List Made)) (port port' : PortFacts) (out out' : W) (ended : Result ℕ WriteFault) : Type 0 where
   pub effects : List Effect
   pub leads : Leads s t Otherwise 0 (λ stamp. Fresh) gives at count effects
   pub made : Passes had has (flat_map file (taken_by_effects effects))

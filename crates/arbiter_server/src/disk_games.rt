@@ -5,10 +5,10 @@ ghost use Rattle.arbiter_server.specs.DiskGames.{LacksGameFile, unopened_by_find
 ghost use Rattle.arbiter_server.specs.GameFiles.{game_as_told};
 ghost use Rattle.arbiter_server.specs.GameFolders.{HasGame};
 
-use crate::fault::{Uncommitted, Unopened};
+use crate::fault::{OpenGameError, Uncommitted};
 use crate::file_keeper::FileKeeper;
 use crate::folder::{FindFault, find_game, kept_path};
-use crate::games::{Found, Games};
+use crate::games::{GameConfig, Games};
 use move_msg::Stamp;
 use std::alloc::Global;
 use system_io::{Disk, Host, ReadFault};
@@ -26,13 +26,13 @@ pub struct DiskGames<'f, D, H> {
 }
 
 /// Why a game isn't open whose file can't be had.
-fn unopened_by(fault: FindFault) -> Unopened
+fn unopened_by(fault: FindFault) -> OpenGameError
     ensures { result ≡ unopened_by_find fault }
 {
     match fault {
-        FindFault::NoGame => Unopened::NoGame,
-        FindFault::BadFile(fault) => Unopened::BadGame(u32::from(fault.line())),
-        FindFault::OutOfMemory => Unopened::OutOfMemory,
+        FindFault::NoGame => OpenGameError::NoGame,
+        FindFault::BadFile(fault) => OpenGameError::BadGame(u32::from(fault.line())),
+        FindFault::OutOfMemory => OpenGameError::OutOfMemory,
     }
 }
 
@@ -42,12 +42,12 @@ pub(crate) fn found_in<D: Disk>(
     disk: &D,
     folder: &str,
     stamp: Stamp,
-) -> Result<Found, Unopened>
+) -> Result<GameConfig, OpenGameError>
     ensures told { IfOk result (λ game. HasGame (D.facts disk.now) folder.now stamp (game_as_told game.name.items game.start game.delay)) }
     ensures lacks { IfErr result (LacksGameFile (D.facts disk.now) folder.now stamp) }
 {
     match find_game(alloc, disk, folder, stamp) {
-        Ok(game) => Ok(Found {
+        Ok(game) => Ok(GameConfig {
             name: game.name,
             start: game.start,
             delay: game.delay,
@@ -68,7 +68,7 @@ impl<'f, D: Disk, H: Host> Games for DiskGames<'f, D, H> {
     ghost made = { H.made };
 
     /// What the file of the game with this stamp tells, or why it tells nothing.
-    fn find(&self, alloc: Global, stamp: Stamp) -> Result<Found, Unopened> {
+    fn find(&self, alloc: Global, stamp: Stamp) -> Result<GameConfig, OpenGameError> {
         found_in(alloc, self.disk, self.folder, stamp)
     }
 
@@ -78,17 +78,17 @@ impl<'f, D: Disk, H: Host> Games for DiskGames<'f, D, H> {
         alloc: Global,
         history: &mut H::History,
         stamp: Stamp,
-    ) -> Result<FileKeeper<H::File>, Unopened> {
+    ) -> Result<FileKeeper<H::File>, OpenGameError> {
         let Ok(path) = kept_path(alloc, self.folder, stamp) else {
-            return Err(Unopened::OutOfMemory);
+            return Err(OpenGameError::OutOfMemory);
         };
         let Ok(file) = self.host.file(alloc, history, path.as_str()) else {
-            return Err(Unopened::OutOfMemory);
+            return Err(OpenGameError::OutOfMemory);
         };
         match FileKeeper::new(alloc, file) {
             Ok(keeper) => Ok(keeper),
-            Err(ReadFault::Unreadable) => Err(Unopened::Keeper),
-            Err(ReadFault::OutOfMemory) => Err(Unopened::OutOfMemory),
+            Err(ReadFault::Unreadable) => Err(OpenGameError::Keeper),
+            Err(ReadFault::OutOfMemory) => Err(OpenGameError::OutOfMemory),
         }
     }
 

@@ -7,7 +7,7 @@ use arbiter_core::OpenFault;
 
 /// Why a game isn't open.
 #[derive(Clone, Copy)]
-pub enum Unopened {
+pub enum OpenGameError {
     /// The message is an acknowledgement or a verdict, which opens no game.
     NotOpen,
     /// The folder has no game with this stamp.
@@ -26,16 +26,16 @@ pub enum Unopened {
 #[derive(Clone, Copy, Debug, PartialEq, Eq)]
 pub struct Uncommitted;
 
-impl Unopened {
+impl OpenGameError {
     /// What is told of a game whose arbiter can't be opened.
-    pub(crate) fn by(fault: OpenFault) -> Unopened
+    pub(crate) fn by(fault: OpenFault) -> OpenGameError
         ensures { result ≡ unopened_by fault }
     {
         match fault {
-            OpenFault::OtherStamp => Unopened::OtherGame,
-            OpenFault::OutOfMemory => Unopened::OutOfMemory,
+            OpenFault::OtherStamp => OpenGameError::OtherGame,
+            OpenFault::OutOfMemory => OpenGameError::OutOfMemory,
             OpenFault::BadSetup | OpenFault::KeeperFailed | OpenFault::BadRecord => {
-                Unopened::Keeper
+                OpenGameError::Keeper
             }
         }
     }

@@ -6,7 +6,7 @@ ghost use Rattle.arbiter_server.specs.Folders.{FolderFacts, GivesLess, GivesOthe
 ghost use Rattle.system_io.specs.Histories.{Passes};
 ghost use Rattle.system_io.specs.Hosts.{Made};
 
-use crate::fault::{Uncommitted, Unopened};
+use crate::fault::{OpenGameError, Uncommitted};
 use arbiter_core::{Keeper, Name};
 use board_core::{Delay, Position};
 use move_msg::Stamp;
@@ -14,7 +14,7 @@ use std::alloc::Global;
 
 /// What a folder tells of a game.
 #[derive(Drop)]
-pub struct Found {
+pub struct GameConfig {
     /// Its name, which need not be one of a game.
     pub name: Name,
     /// The position before its first move.
@@ -39,7 +39,7 @@ pub trait Games {
     ghost made: { Self.History → Option (List Made) };
 
     /// What it tells of the game with this stamp.
-    fn find(&self, alloc: Global, stamp: Stamp) -> Result<Found, Unopened>
+    fn find(&self, alloc: Global, stamp: Stamp) -> Result<GameConfig, OpenGameError>
         ensures told { IfOk result (facts.tells (facts.place self.now) stamp) }
         ensures refused { IfErr result (facts.lacks (facts.place self.now) stamp) };
 
@@ -49,7 +49,7 @@ pub trait Games {
         alloc: Global,
         history: &mut Self::History,
         stamp: Stamp,
-    ) -> Result<Self::Keeper, Unopened>
+    ) -> Result<Self::Keeper, OpenGameError>
         ensures of { IfOk result (facts.is_of (facts.place self.old) stamp) }
         ensures given { IfOk result (facts.gives self.old stamp) }
         ensures refused { IfErr result (facts.withholds (facts.place self.old) stamp) }

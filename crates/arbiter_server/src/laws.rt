@@ -6,7 +6,7 @@ ghost use Rattle.arbiter_server.specs.Laws.{ChangesHideNothing, OpeningsAreFew, 
 
 use crate::games::Games;
 use arbiter_core::laws::puts_grow;
-use system_io::{FileCalls, KeptFile, Traced};
+use system_io::{CallLog, FileCalls, KeptFile};
 
 /// A move that was acknowledged is in the record at each later start, and so is a verdict that was sent. This holds
 /// over any file, after any runs, wherever each of them stopped.
@@ -18,7 +18,7 @@ pub fn keeps_what_it_told<F: KeptFile>(_file: &F)
 
 /// The law over a file of the system. Each start reads what may stand there, by the calls of the last run that had a
 /// keeper and their results.
-pub fn traced_file_keeps_what_it_told<C: FileCalls + Drop>(_file: &Traced<C>)
+pub fn traced_file_keeps_what_it_told<C: FileCalls + Drop>(_file: &CallLog<C>)
     ensures { KeepsAsTold C.facts }
 {
     puts_grow();

@@ -54,6 +54,7 @@
 #![tactic(auto)]
 
 mod config;
+mod datagram_report;
 mod disk_games;
 mod fault;
 mod file_keeper;
@@ -62,15 +63,14 @@ mod game_file;
 mod game_lines;
 mod games;
 mod gathering;
-mod heard;
 mod last_lines;
 pub mod laws;
 mod line;
 mod line_log;
+mod open_game;
 mod open_games;
 mod over_file;
 mod room;
-mod seat;
 mod server;
 mod serving;
 mod settling;
@@ -78,14 +78,14 @@ mod store_games;
 mod turn;
 
 pub use config::ServerConfig;
+pub use datagram_report::{DatagramReport, ReportText, verdict_or_none};
 pub use disk_games::DiskGames;
-pub use fault::{Uncommitted, Unopened};
+pub use fault::{OpenGameError, Uncommitted};
 pub use file_keeper::FileKeeper;
 pub use folder::{FindFault, find_game, game_path, kept_path};
 pub use game_file::{Game, MOST_GAME_BYTES, read_game, write_game};
 pub use game_lines::{GameFileFault, delay_of_digit};
-pub use games::{Found, Games};
-pub use heard::{Heard, HeardText, verdict_or_none};
+pub use games::{GameConfig, Games};
 pub use last_lines::LastLines;
 pub use line_log::{LineLog, LogForm};
 pub use over_file::open_and_serve;

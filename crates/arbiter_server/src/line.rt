@@ -7,8 +7,8 @@ ghost use Rattle.move_msg.specs.TextLines.{ended};
 ghost use Rattle.arbiter_server.specs.LineLogs.{common, line_kind, place_in};
 ghost use Rattle.arbiter_server.specs.Told.{line_words, stamped, unopened_words};
 
-use crate::fault::Unopened;
-use crate::heard::Heard;
+use crate::datagram_report::DatagramReport;
+use crate::fault::OpenGameError;
 use arbiter_core::DeliverFault;
 use arrayvec::ArrayVec;
 use itoa::Buffer;
@@ -18,9 +18,9 @@ use move_msg::{MessageFault, Stamp};
 #[derive(Clone, Copy)]
 pub(crate) enum Line {
     /// What the arbiter of the game with this stamp tells.
-    Answered(Stamp, Heard),
+    Answered(Stamp, DatagramReport),
     /// Why the game with this stamp isn't open.
-    Unopened(Stamp, Unopened),
+    Unopened(Stamp, OpenGameError),
     /// Why the bytes are no message.
     Unread(MessageFault),
     /// None can be received.
@@ -71,7 +71,7 @@ fn stamped(stamp: Stamp, words: &[u8]) -> LineText
 
 /// The words for a game file that can't be read, with their line feed.
 fn bad_game(number: u32) -> LineText
-    ensures is { result.items ≡ ended (unopened_words (Unopened.BadGame number)) }
+    ensures is { result.items ≡ ended (unopened_words (OpenGameError.BadGame number)) }
     ensures size { array_vec_len result ≤ 64 }
 {
     let mut digits = Buffer::new();
@@ -80,21 +80,21 @@ fn bad_game(number: u32) -> LineText
 }
 
 /// The line for a game that isn't open.
-fn unopened_line(stamp: Stamp, why: Unopened) -> LineText
+fn unopened_line(stamp: Stamp, why: OpenGameError) -> LineText
     ensures { result.items ≡ ended (stamped stamp (unopened_words why)) }
 {
     match why {
-        Unopened::NotOpen => stamped(stamp, b"refused NotOpen\n"),
-        Unopened::NoGame => stamped(stamp, b"refused NoGame\n"),
-        Unopened::OtherGame => stamped(stamp, b"refused OtherGame\n"),
-        Unopened::BadGame(number) => stamped(stamp, &bad_game(number)),
-        Unopened::Keeper => stamped(stamp, b"refused keeper\n"),
-        Unopened::OutOfMemory => stamped(stamp, b"refused memory\n"),
+        OpenGameError::NotOpen => stamped(stamp, b"refused NotOpen\n"),
+        OpenGameError::NoGame => stamped(stamp, b"refused NoGame\n"),
+        OpenGameError::OtherGame => stamped(stamp, b"refused OtherGame\n"),
+        OpenGameError::BadGame(number) => stamped(stamp, &bad_game(number)),
+        OpenGameError::Keeper => stamped(stamp, b"refused keeper\n"),
+        OpenGameError::OutOfMemory => stamped(stamp, b"refused memory\n"),
     }
 }
 
 /// The line for what an arbiter tells.
-fn heard_line(stamp: Stamp, heard: Heard) -> LineText
+fn heard_line(stamp: Stamp, heard: DatagramReport) -> LineText
     ensures { result.items ≡ ended (line_words (Line.Answered stamp heard)) }
 {
     stamped(stamp, heard.line().as_str().as_bytes())
@@ -104,7 +104,7 @@ fn heard_line(stamp: Stamp, heard: Heard) -> LineText
 fn unread_line(fault: MessageFault) -> LineText
     ensures { result.items ≡ ended (line_words (Line.Unread fault)) }
 {
-    let heard = Heard::Refused(DeliverFault::NotAMessage(fault));
+    let heard = DatagramReport::Refused(DeliverFault::NotAMessage(fault));
     joined(b"- ", heard.line().as_str().as_bytes())
 }
 
@@ -124,17 +124,17 @@ fn unread_kind(fault: MessageFault) -> usize
 }
 
 /// The number of the kind of a line for a game that isn't open, if it is of one.
-fn unopened_kind(stamp: Stamp, why: Unopened) -> Option<usize>
+fn unopened_kind(stamp: Stamp, why: OpenGameError) -> Option<usize>
     ensures long { length stamp ≡ 16 }
     ensures is { place_in 0 common (ended (unopened_words why)) ≡ result }
     ensures few { IfSome result (λ kind. kind < 8) }
 {
     let _bytes = stamp.0;
     match why {
-        Unopened::NoGame => Some(0),
-        Unopened::NotOpen => Some(1),
-        Unopened::OutOfMemory => Some(2),
-        Unopened::OtherGame | Unopened::BadGame(_) | Unopened::Keeper => None,
+        OpenGameError::NoGame => Some(0),
+        OpenGameError::NotOpen => Some(1),
+        OpenGameError::OutOfMemory => Some(2),
+        OpenGameError::OtherGame | OpenGameError::BadGame(_) | OpenGameError::Keeper => None,
     }
 }
 
@@ -169,7 +169,7 @@ impl Line {
             Line::Answered(stamp, heard) => heard_line(stamp, heard),
             Line::Unopened(stamp, why) => unopened_line(stamp, why),
             Line::Unread(fault) => unread_line(fault),
-            Line::PortLost => joined(Heard::PortLost.line().as_str().as_bytes(), b""),
+            Line::PortLost => joined(DatagramReport::PortLost.line().as_str().as_bytes(), b""),
             Line::StoreLost => joined(b"refused store\n", b""),
         }
     }

@@ -6,17 +6,17 @@ ghost use Rattle.system_io.specs.Histories.{Passes};
 ghost use Rattle.arbiter_core.specs.Setups.{terms_with};
 ghost use Rattle.arbiter_server.specs.Games.{common_with};
 ghost use Rattle.arbiter_server.specs.Room.{at_stamp};
-ghost use Rattle.arbiter_server.specs.Seats.{IsSeated};
+ghost use Rattle.arbiter_server.specs.Seats.{IsOpenGame};
 ghost use Rattle.arbiter_server.specs.Servers.{IsIdle, IsNewServer, Stays};
-ghost use Rattle.arbiter_server.specs.Turns.{ComesBack, OpensFor, OpensFound, OpensSeat, TriesFor, TriesFound, TriesSeat, lent};
-ghost use Rattle.arbiter_server.specs.Turns.{AnswersInHand, AnswersMessage, IsKept, MakesAnd, Refuses, RepliesSo, ShutsAnyhow, TakesSeat, TurnsTo, datagram_reply};
+ghost use Rattle.arbiter_server.specs.Turns.{ComesBack, OpensFor, OpensFound, OpensOneGame, TriesFor, TriesFound, TriesOneGame, lent};
+ghost use Rattle.arbiter_server.specs.Turns.{AnswersInHand, AnswersMessage, IsKept, MakesAnd, Refuses, RepliesSo, ShutsAnyhow, TakesOneGame, TurnsTo, datagram_reply};
 
 use crate::config::ServerConfig;
-use crate::fault::{Uncommitted, Unopened};
+use crate::fault::{OpenGameError, Uncommitted};
 use crate::games::Games;
 use crate::line::Line;
+use crate::open_game::OpenGame;
 use crate::room::take_out;
-use crate::seat::Seat;
 use crate::settling::{close_all, settle};
 use crate::turn::{Answered, found, opens_game, told_alone};
 use arbiter_core::{ArbiterState, Terms};
@@ -34,7 +34,7 @@ fn open_by<'a, G: Games>(
     history: &mut G::History,
     terms: Terms<'a>,
     stamp: Stamp,
-) -> Result<Seat<'a, G::Keeper>, Unopened>
+) -> Result<OpenGame<'a, G::Keeper>, OpenGameError>
     ensures lent { ComesBack G.facts stamp tables.old games.old tables.new games.new }
     ensures made { OnOk result (Passes (G.made history.old) (G.made history.new) (G.facts.taken (G.facts.place games.old) stamp)) }
     ensures opened { IfOk result (OpensFound G.Keeper.facts G.facts games.old games.new stamp (terms_with terms.entry tables.old)) }
@@ -47,11 +47,11 @@ fn open_by<'a, G: Games>(
     match ArbiterState::open(alloc, tables, &mut keeper, terms) {
         Ok(state) => {
             games.note(stamp, &keeper);
-            Ok(Seat { state, keeper })
+            Ok(OpenGame { state, keeper })
         }
         Err(refused) => {
             games.note(stamp, &keeper);
-            Err(Unopened::by(refused.fault))
+            Err(OpenGameError::by(refused.fault))
         }
     }
 }
@@ -64,11 +64,11 @@ fn open_told<'a, G: Games>(
     tables: &mut Set<'_>,
     history: &mut G::History,
     stamp: Stamp,
-) -> Result<Seat<'a, G::Keeper>, Unopened>
+) -> Result<OpenGame<'a, G::Keeper>, OpenGameError>
     ensures lent { ComesBack G.facts stamp tables.old games.old tables.new games.new }
     ensures made { OnOk result (Passes (G.made history.old) (G.made history.new) (G.facts.taken (G.facts.place games.old) stamp)) }
-    ensures opened { IfOk result (OpensSeat G.Keeper.facts G.facts (common_with config.now tables.old) games.old games.new stamp) }
-    ensures unopened { IfErr result (TriesSeat G.Keeper.facts G.facts G.made (common_with config.now tables.old) (lent games.old history.old) (lent games.new history.new) stamp) }
+    ensures opened { IfOk result (OpensOneGame G.Keeper.facts G.facts (common_with config.now tables.old) games.old games.new stamp) }
+    ensures unopened { IfErr result (TriesOneGame G.Keeper.facts G.facts G.made (common_with config.now tables.old) (lent games.old history.old) (lent games.new history.new) stamp) }
 {
     match found(alloc, config.manifest, games, stamp) {
         Ok(game) => open_by(alloc, games, tables, history, config.terms(game), stamp),
@@ -84,14 +84,14 @@ fn open_for<'a, G: Games>(
     tables: &mut Set<'_>,
     history: &mut G::History,
     message: &Message,
-) -> Result<Seat<'a, G::Keeper>, Unopened>
+) -> Result<OpenGame<'a, G::Keeper>, OpenGameError>
     ensures lent { ComesBack G.facts (stamp_in message.now) tables.old games.old tables.new games.new }
     ensures made { OnOk result (Passes (G.made history.old) (G.made history.new) (G.facts.taken (G.facts.place games.old) (stamp_in message.now))) }
     ensures opened { IfOk result (OpensFor G.Keeper.facts G.facts (common_with config.now tables.old) games.old games.new message.now) }
     ensures unopened { IfErr result (TriesFor G.Keeper.facts G.facts G.made (common_with config.now tables.old) (lent games.old history.old) (lent games.new history.new) message.now) }
 {
     if !opens_game(message) {
-        return Err(Unopened::NotOpen);
+        return Err(OpenGameError::NotOpen);
     }
     open_told(alloc, config, games, tables, history, message.stamp())
 }
@@ -103,7 +103,7 @@ pub(crate) struct OpenGames<'a, G: Games + Drop> {
     pub(crate) config: ServerConfig<'a>,
     tables: Set<'a>,
     pub(crate) games: G,
-    seats: LruCache<Stamp, Seat<'a, G::Keeper>>,
+    seats: LruCache<Stamp, OpenGame<'a, G::Keeper>>,
 }
 
 impl<'a, G: Games + Drop> Model for OpenGames<'a, G> {
@@ -148,9 +148,9 @@ impl<'a, G: Games + Drop> OpenGames<'a, G> {
         &mut self,
         history: &mut G::History,
         message: &Message,
-    ) -> Result<Seat<'a, G::Keeper>, Unopened>
+    ) -> Result<OpenGame<'a, G::Keeper>, OpenGameError>
         ensures stays { Stays G.facts self.old self.new }
-        ensures opened { IfOk result (λ seat. MakesAnd G.facts G.made self.old.games history.old history.new (TakesSeat G.Keeper.facts G.facts self.old self.new message.now seat)) }
+        ensures opened { IfOk result (λ seat. MakesAnd G.facts G.made self.old.games history.old history.new (TakesOneGame G.Keeper.facts G.facts self.old self.new message.now seat)) }
         ensures unopened { IfErr result (λ why. MakesAnd G.facts G.made self.old.games history.old history.new (Refuses G.Keeper.facts G.facts self.old self.new message.now why)) }
     {
         let stamp = message.stamp();
@@ -168,9 +168,9 @@ impl<'a, G: Games + Drop> OpenGames<'a, G> {
     }
 
     /// Lets the arbiter of a game that is in hand answer a message.
-    fn answer_at(&mut self, seat: Seat<'a, G::Keeper>, message: &Message) -> Answered
+    fn answer_at(&mut self, seat: OpenGame<'a, G::Keeper>, message: &Message) -> Answered
         requires absent { at_stamp self.old.seats (stamp_in message.now) ≡ None }
-        requires seated { IsSeated G.Keeper.facts self.old.common.set seat }
+        requires seated { IsOpenGame G.Keeper.facts self.old.common.set seat }
         ensures stays { Stays G.facts self.old self.new }
         ensures answers { AnswersInHand G.Keeper.facts G.facts self.old seat.entry message.now self.new result }
     {

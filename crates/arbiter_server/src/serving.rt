@@ -10,7 +10,7 @@ ghost use Rattle.arbiter_server.specs.ServedLines.{heard_line, refused_datagram,
 ghost use Rattle.arbiter_server.specs.Serving.{Session, ServesFrom, ServesSession, ServesSpan, asked_first, work, handed, is_loss};
 ghost use Rattle.arbiter_server.specs.Inside.Steps.{DeliversAndHands, IsOneStep, status_in, stops};
 
-use crate::heard::Heard;
+use crate::datagram_report::DatagramReport;
 use arbiter_core::{Arbiter, DeliverFault, Keeper};
 use move_msg::Message;
 use std::alloc::Global;
@@ -51,13 +51,16 @@ pub fn send_all<P: Port>(port: &mut P, messages: &[Message])
 }
 
 /// The line for a refusal, and whether the run goes on after it.
-fn refusal(fault: DeliverFault) -> (Heard, Next)
+fn refusal(fault: DeliverFault) -> (DatagramReport, Next)
     ensures words { heard_line result.0 ≡ cond (is_loss fault) refused_keeper (refused_datagram fault) }
     ensures stop { stops result.1 ≡ is_loss fault }
 {
     match fault {
-        DeliverFault::KeeperFailed | DeliverFault::Down => (Heard::KeeperLost, Next::Stops),
-        _ => (Heard::Refused(fault), Next::GoesOn),
+        DeliverFault::KeeperFailed | DeliverFault::Down => (
+            DatagramReport::KeeperLost,
+            Next::Stops,
+        ),
+        _ => (DatagramReport::Refused(fault), Next::GoesOn),
     }
 }
 
@@ -68,7 +71,7 @@ fn hear<K: Keeper, P: Port>(
     keeper: &mut K,
     port: &mut P,
     bytes: &[u8],
-) -> (Heard, Next)
+) -> (DatagramReport, Next)
     requires { IsKept (K.facts.kept keeper.old) arbiter.old }
     ensures hears { DeliversAndHands K.facts (moment arbiter.old keeper.old) (moment arbiter.new keeper.new) (P.facts port.old) (P.facts port.new) bytes.now result }
     ensures keeps { IsKept (K.facts.kept keeper.new) arbiter.new }
@@ -77,7 +80,7 @@ fn hear<K: Keeper, P: Port>(
         Ok(outputs) => {
             send_all(port, outputs.as_slice());
             (
-                Heard::Recorded(arbiter.count(), arbiter.verdict()),
+                DatagramReport::Recorded(arbiter.count(), arbiter.verdict()),
                 Next::GoesOn,
             )
         }
@@ -91,7 +94,7 @@ fn receive<K: Keeper, P: Port>(
     arbiter: &mut Arbiter<'_>,
     keeper: &mut K,
     port: &mut P,
-) -> (Heard, Next)
+) -> (DatagramReport, Next)
     requires { IsKept (K.facts.kept keeper.old) arbiter.old }
     ensures run { (run : Session K) × ServesSession K.facts (moment arbiter.old keeper.old) (moment arbiter.new keeper.new) (P.facts port.old) (P.facts port.new) [] run × IsOneStep run result }
     ensures keeps { IsKept (K.facts.kept keeper.new) arbiter.new }
@@ -99,7 +102,7 @@ fn receive<K: Keeper, P: Port>(
     let mut buffer = [0u8; 64];
     match port.receive(&mut buffer) {
         Ok(length) => hear(alloc, arbiter, keeper, port, &buffer[..length]),
-        Err(_) => (Heard::PortLost, Next::Stops),
+        Err(_) => (DatagramReport::PortLost, Next::Stops),
     }
 }
 
@@ -114,7 +117,7 @@ pub fn put_line<W: Output>(out: &mut W, text: &[u8]) -> Result<(), WriteFault>
 }
 
 /// Writes the line for a datagram, and lets it go out at once.
-fn put_now<W: Output>(out: &mut W, line: Heard) -> Result<(), WriteFault>
+fn put_now<W: Output>(out: &mut W, line: DatagramReport) -> Result<(), WriteFault>
     ensures { LinesEnd (writers W.Write.contents W.facts) out.old (heard_line line ∷ []) out.new result }
 {
     put_line(out, line.line().as_str().as_bytes())

@@ -6,22 +6,22 @@ ghost use Rattle.arbiter_server.specs.Room.{at_stamp};
 ghost use Rattle.arbiter_server.specs.Turns.{GivesKeeperBack, MakesRoom, ShutsAnyhow, TurnsInHand};
 
 use crate::games::Games;
+use crate::open_game::OpenGame;
 use crate::room::{least_used, put_in, take_last};
-use crate::seat::Seat;
 use lru::LruCache;
 use move_msg::Stamp;
 
 /// Closes a game: the folder notes what its keeper keeps.
-pub(crate) fn close<'a, G: Games>(games: &mut G, stamp: Stamp, seat: Seat<'a, G::Keeper>)
+pub(crate) fn close<'a, G: Games>(games: &mut G, stamp: Stamp, seat: OpenGame<'a, G::Keeper>)
     ensures closes { GivesKeeperBack G.facts games.old games.new stamp seat.entry.keeper }
     ensures place { G.facts.place games.new ≡ G.facts.place games.old }
 {
-    let Seat { state: _, keeper } = seat;
+    let OpenGame { state: _, keeper } = seat;
     games.note(stamp, &keeper);
 }
 
 /// Closes the game that was used least recently, where there is no room for one more.
-fn make_room<'a, G: Games>(games: &mut G, seats: &mut LruCache<Stamp, Seat<'a, G::Keeper>>)
+fn make_room<'a, G: Games>(games: &mut G, seats: &mut LruCache<Stamp, OpenGame<'a, G::Keeper>>)
     ensures closes { MakesRoom G.facts seats.old.cap games.old seats.old.entries games.new seats.new.entries }
     ensures room { length seats.new.entries < seats.new.cap }
     ensures cap { seats.new.cap ≡ seats.old.cap }
@@ -39,7 +39,7 @@ fn make_room<'a, G: Games>(games: &mut G, seats: &mut LruCache<Stamp, Seat<'a, G
 /// Closes all games that are open, the one that was used least recently first.
 pub(crate) fn close_all<'a, G: Games>(
     games: &mut G,
-    seats: &mut LruCache<Stamp, Seat<'a, G::Keeper>>,
+    seats: &mut LruCache<Stamp, OpenGame<'a, G::Keeper>>,
 )
     ensures closes { ShutsAnyhow G.Keeper.facts G.facts games.old (at_stamp seats.old.entries) games.new (at_stamp seats.new.entries) }
     ensures cap { seats.new.cap ≡ seats.old.cap }
@@ -56,9 +56,9 @@ pub(crate) fn close_all<'a, G: Games>(
 /// Keeps a game open that has answered; or closes it where its keeper failed, or memory for it is refused.
 pub(crate) fn settle<'a, G: Games>(
     games: &mut G,
-    seats: &mut LruCache<Stamp, Seat<'a, G::Keeper>>,
+    seats: &mut LruCache<Stamp, OpenGame<'a, G::Keeper>>,
     stamp: Stamp,
-    seat: Seat<'a, G::Keeper>,
+    seat: OpenGame<'a, G::Keeper>,
 )
     requires { at_stamp seats.old.entries stamp ≡ None }
     ensures runs { seat.entry.state.is_down ≡ false → TurnsInHand G.Keeper.facts G.facts seats.old.cap games.old seats.old.entries stamp seat.entry games.new seats.new.entries }

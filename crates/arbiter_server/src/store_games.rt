@@ -5,8 +5,8 @@ ghost use Rattle.system_io.specs.Records.{IsSettled};
 ghost use Rattle.arbiter_server.specs.StoreGames.{AddsRecord, bytes_at, noted_records};
 
 use crate::disk_games::found_in;
-use crate::fault::{Uncommitted, Unopened};
-use crate::games::{Found, Games};
+use crate::fault::{OpenGameError, Uncommitted};
+use crate::games::{GameConfig, Games};
 use arbiter_core::{Keeper, MemoryKeeper};
 use move_msg::{Record, Stamp};
 use std::alloc::Global;
@@ -125,7 +125,7 @@ impl<'f, D: Disk, H: Host> Games for StoreGames<'f, D, H> {
 
     ghost made = { H.made };
 
-    fn find(&self, alloc: Global, stamp: Stamp) -> Result<Found, Unopened> {
+    fn find(&self, alloc: Global, stamp: Stamp) -> Result<GameConfig, OpenGameError> {
         found_in(alloc, self.disk, self.folder, stamp)
     }
 
@@ -134,16 +134,16 @@ impl<'f, D: Disk, H: Host> Games for StoreGames<'f, D, H> {
         alloc: Global,
         _history: &mut H::History,
         stamp: Stamp,
-    ) -> Result<MemoryKeeper, Unopened> {
+    ) -> Result<MemoryKeeper, OpenGameError> {
         if self.is_lost {
-            return Err(Unopened::Keeper);
+            return Err(OpenGameError::Keeper);
         }
         let Ok(mut keeper) = MemoryKeeper::new(alloc) else {
-            return Err(Unopened::OutOfMemory);
+            return Err(OpenGameError::OutOfMemory);
         };
         if let Some(bytes) = self.latest(stamp) {
             if bytes.len() > MOST_KEPT_BYTES || keeper.put(bytes).is_err() {
-                return Err(Unopened::Keeper);
+                return Err(OpenGameError::Keeper);
             }
         }
         Ok(keeper)

@@ -5,8 +5,8 @@ ghost use Rattle.arbiter_server.specs.Folders.{keepers};
 ghost use Rattle.arbiter_server.specs.Acts.{opens_game};
 ghost use Rattle.arbiter_server.specs.Games.{IsGameOf, LacksKeeper};
 
-use crate::fault::Unopened;
-use crate::games::{Found, Games};
+use crate::fault::OpenGameError;
+use crate::games::{GameConfig, Games};
 use crate::line::Line;
 use arbiter_core::Outputs;
 use move_msg::{GameName, Message, Stamp};
@@ -37,7 +37,7 @@ pub(crate) fn found<G: Games>(
     manifest: &[u8],
     games: &G,
     stamp: Stamp,
-) -> Result<Found, Unopened>
+) -> Result<GameConfig, OpenGameError>
     ensures ok { IfOk result (λ game. IsGameOf manifest.now stamp game.name.items game.start game.delay) }
     ensures told { IfOk result ((keepers G.Keeper.facts G.facts games.now).tells stamp) }
     ensures err { IfErr result (LacksKeeper (keepers G.Keeper.facts G.facts games.now) manifest.now stamp) }
@@ -47,10 +47,10 @@ pub(crate) fn found<G: Games>(
         Err(why) => return Err(why),
     };
     let Some(name) = GameName::of(game.name.as_slice()) else {
-        return Err(Unopened::OtherGame);
+        return Err(OpenGameError::OtherGame);
     };
     if name.stamp(&game.start, manifest, game.delay) != stamp {
-        return Err(Unopened::OtherGame);
+        return Err(OpenGameError::OtherGame);
     }
     Ok(game)
 }

@@ -14,7 +14,7 @@ use arrayvec::ArrayString;
 use board_core::{Kind, Men, Parts, Piece, Position, Rights, Side, Square};
 
 /// The letter of a man.
-fn letter(man: Piece) -> &'static str
+fn fen_letter(man: Piece) -> &'static str
     ensures { result.now ≡ letter_of man ∷ [] }
 {
     match (man.side, man.kind) {
@@ -65,7 +65,7 @@ fn push_cell(cell: Option<Piece>, run: u8, out: &mut ArrayString<96>) -> u8
         None => run + 1,
         Some(man) => {
             out.push_str(digit(run));
-            out.push_str(letter(man));
+            out.push_str(fen_letter(man));
             0
         }
     }

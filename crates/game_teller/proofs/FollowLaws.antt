@@ -26,7 +26,7 @@ use Rattle.system_io.specs.declared.reading.ReadFault.{ReadFault}
 use Rattle.system_io.specs.declared.reading.ReadFault.TheVariants as read
 use Rattle.system_io.specs.LineReaders.{LineFacts, ReadsLine}
 use Rattle.system_io.specs.Outputs.{OutputFacts}
-use Rattle.game_teller.specs.declared.following.Course.{Course}
+use Rattle.game_teller.specs.declared.following.FollowState.{FollowState}
 use Rattle.game_teller.specs.declared.lines.Stop.{Stop}
 use Rattle.game_teller.specs.declared.lines.Stop.TheVariants as stop
 use Rattle.game_teller.specs.Plies.{ply_words, stop_words}
@@ -229,7 +229,7 @@ module _ (rules : Rules) where
   unwritten count left now old new s h = record { moves = h.moves; told = h.told; has = h.has; at = h.at; going = h.going; written = tt; count_is = h.count_is }
 
   -- at what came of a line
-  pub next_cut : (input : LineFacts) (Stops : ReadFault → Type 0) (course : Course) → rules.tables ≡ course.set.tables → rules.delay ≡ course.delay → ((fault : ReadFault) → stops_by input fault → Stops fault) → (count : ℕ) (left next old mid new : Option (List ℕ)) (t : Reached) → FollowedSoFar rules count left input.left old mid course.standing → StepCuts input next course count t mid new → CutsGame rules Stops left old new
+  pub next_cut : (input : LineFacts) (Stops : ReadFault → Type 0) (course : FollowState) → rules.tables ≡ course.set.tables → rules.delay ≡ course.delay → ((fault : ReadFault) → stops_by input fault → Stops fault) → (count : ℕ) (left next old mid new : Option (List ℕ)) (t : Reached) → FollowedSoFar rules count left input.left old mid course.standing → StepCuts input next course count t mid new → CutsGame rules Stops left old new
   unfolding told_more unwritten
   next_cut input Stops course by_tables by_delay back count left next old mid new t h (inl (line, read, inl (turned, (v, verdict, front)))) =
       let more = told_more rules course.set.tables course.delay by_tables by_delay count left input.left next None None None course.standing t v (unwritten count left input.left old mid course.standing h) (line, read, turned, (verdict, tt)) in

@@ -20,7 +20,7 @@ use system_io::{LineReader, Output, ReadFault, WriteFault};
 
 /// A game that is followed.
 #[derive(Drop)]
-pub(crate) struct Course<'a> {
+pub(crate) struct FollowState<'a> {
     /// The allocator.
     alloc: Global,
     /// The tables.
@@ -67,7 +67,7 @@ fn stop_by(fault: ReadFault) -> Stop
     }
 }
 
-impl<'a> Course<'a> {
+impl<'a> FollowState<'a> {
     /// Plays the move of a line, and judges the ply that it leads to.
     fn turn(&mut self, number: usize, line: &[u8]) -> Result<(), Stop>
         ensures turns { TurnsByLine self.old.set.tables number self.old.standing line.now self.new.standing result }
@@ -212,7 +212,7 @@ fn follow_moves<L: LineReader, W: Output>(
             };
         }
     };
-    let mut course = Course {
+    let mut course = FollowState {
         alloc,
         set,
         delay,

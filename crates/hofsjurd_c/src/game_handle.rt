@@ -3,9 +3,9 @@
 ghost use Rattle.std.specs.Prelude.{◌≡◌, ◌↔◌, None, Some, IsSome, IsTrue};
 ghost use Rattle.hofsjurd_c.specs.Owned.{boxed_game};
 
-use crate::game_seat::GameSeat;
 use crate::held::HeldGame;
-use crate::loose::Loose;
+use crate::owned_game::OwnedGame;
+use crate::raw_box::RawBox;
 use std::alloc::Global;
 
 /// A game in play, or none. All bytes zero is a closed handle.
@@ -15,7 +15,7 @@ pub struct GameHandle {
     /// Whether there is a game.
     pub is_open: bool,
     /// Where it is.
-    pub seat: GameSeat,
+    pub seat: OwnedGame,
     ghost agrees: { IsTrue is_open ↔ IsSome seat.value },
 }
 
@@ -26,7 +26,7 @@ impl GameHandle {
     {
         GameHandle {
             is_open: false,
-            seat: GameSeat::empty(alloc),
+            seat: OwnedGame::empty(alloc),
         }
     }
 
@@ -36,7 +36,7 @@ impl GameHandle {
     {
         GameHandle {
             is_open: true,
-            seat: GameSeat::of(Loose::of(held)),
+            seat: OwnedGame::of(RawBox::of(held)),
         }
     }
 
@@ -47,7 +47,7 @@ impl GameHandle {
     {
         let GameHandle { is_open, seat } = std::mem::replace(self, GameHandle::closed(alloc));
         if is_open {
-            return Some(seat.into_loose().into_box());
+            return Some(seat.into_raw_box().into_box());
         }
         None
     }

@@ -49,13 +49,13 @@ mod asking;
 mod call_tests;
 mod determined_calls;
 mod game_handle;
-mod game_seat;
 mod handle;
 mod held;
 mod holding_calls;
-mod loose;
 mod move_calls;
-mod seat;
+mod owned_game;
+mod owned_pointer;
+mod raw_box;
 mod sharing;
 
 use asking::{ask_board, ask_boards, ask_text};

@@ -10,7 +10,7 @@ use Rattle.board_core.specs.declared.parts.Parts.{Parts}
 use Rattle.board_core.specs.declared.moves.Move.{Move}
 use Rattle.board_core.specs.ComputedMoves.{legal_moves, position_after}
 use Rattle.judge_core.specs.declared.root_move.RootMove.{RootMove}
-use Rattle.judge_core.specs.Probed.{has_both}
+use Rattle.judge_core.specs.ProbeResult.{has_both}
 use Rattle.judge_core.specs.Distances.{Reach, dtz_of}
 use Rattle.judge_core.specs.Probing.{wdl_of}
 use Rattle.judge_core.specs.Root.{IsRootBy, root_move_at, root_move_by, root_moves_by}

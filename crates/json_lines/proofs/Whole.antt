@@ -7,7 +7,7 @@ use Rattle.std.proofs.KnownBytes.{Appends-trans}
 use Rattle.board_core.specs.declared.parts.Parts.{Parts}
 use Rattle.board_core.specs.declared.verdict.Verdict.{Verdict}
 use Rattle.judge_core.specs.declared.fault.ProbeFault.{ProbeFault}
-use Rattle.judge_core.specs.declared.probed.Probed.{Probed}
+use Rattle.judge_core.specs.declared.probe_result.ProbeResult.{ProbeResult}
 use Rattle.judge_core.specs.Words.{probe_fault_words}
 use Rattle.json.specs.Token.{begin_array, begin_object, end_array, end_object, key}
 use Rattle.json.specs.Json.{Json, array, object, string, Items, Members, no_members, member, document}
@@ -79,10 +79,10 @@ alone_written k i j a b c d same begins one ends =
     object_written false (member k j no_members) a c d tt (writes_both false (begin_object ∷ []) (open_tokens (member k j no_members)) a b c begins (one_open false k j b c it)) ends
 
 -- why a value is missing, where none is and where one is
-pub no_error : (probed : Probed) (o : Option ProbeFault) (a : Option (List ℕ)) → o ≡ first_probe_fault probed.wdl probed.dtz → o ≡ None → Writes true (open_tokens (error_members probed)) a a
+pub no_error : (probed : ProbeResult) (o : Option ProbeFault) (a : Option (List ℕ)) → o ≡ first_probe_fault probed.wdl probed.dtz → o ≡ None → Writes true (open_tokens (error_members probed)) a a
 no_error probed o a is none = subst (λ x. Writes true (open_tokens (fault_members x)) a a) (sym none ∙ is) (writes_nothing true a)
 
-pub one_error : (probed : Probed) (o : Option ProbeFault) (fault : ProbeFault) (a b : Option (List ℕ)) → o ≡ first_probe_fault probed.wdl probed.dtz → o ≡ Some fault → Writes true (key (codes "error") ∷ json_tokens (string (probe_fault_words fault))) a b
+pub one_error : (probed : ProbeResult) (o : Option ProbeFault) (fault : ProbeFault) (a b : Option (List ℕ)) → o ≡ first_probe_fault probed.wdl probed.dtz → o ≡ Some fault → Writes true (key (codes "error") ∷ json_tokens (string (probe_fault_words fault))) a b
     → Writes true (open_tokens (error_members probed)) a b
 one_error probed o fault a b is some h = subst (λ x. Writes true (open_tokens (fault_members x)) a b) (sym some ∙ is) (one_open true (codes "error") (string (probe_fault_words fault)) a b h)
 
@@ -136,7 +136,7 @@ flat_followed (member k j ms) others =
     let e = flat_followed ms others in
     omega (arith, e)
 
-flat_position : (p : Parts) (probed : Probed) (verdict : Option Verdict) → members_depth (position_members p probed verdict) ≡ 0
+flat_position : (p : Parts) (probed : ProbeResult) (verdict : Option Verdict) → members_depth (position_members p probed verdict) ≡ 0
 flat_position p probed verdict =
     let w = flat_number probed.wdl in
     let d = flat_number probed.dtz in

@@ -13,7 +13,7 @@ use Rattle.fen_text.specs.Coordinates.{move_text}
 use Rattle.fen_text.specs.Fen.{fen_fault_name}
 use Rattle.fen_text.specs.Written.{fen_of}
 use Rattle.judge_core.specs.declared.fault.ProbeFault.{ProbeFault}
-use Rattle.judge_core.specs.declared.probed.Probed.{Probed}
+use Rattle.judge_core.specs.declared.probe_result.ProbeResult.{ProbeResult}
 use Rattle.judge_core.specs.declared.root_move.BoardState.{BoardState}
 use Rattle.judge_core.specs.declared.root_move.BoardState.TheVariants.{Open, Check, Checkmate, Stalemate}
 use Rattle.judge_core.specs.Root.{is_checkmate, state_of, zeroes_clock}
@@ -81,13 +81,13 @@ abbrev pub fault_members : Option ProbeFault → Members
 fault_members None = no_members
 fault_members (Some fault) = member (codes "error") (string (probe_fault_words fault)) no_members
 
-abbrev pub error_members : Probed → Members
+abbrev pub error_members : ProbeResult → Members
 error_members probed = fault_members (first_probe_fault probed.wdl probed.dtz)
 
 -- ---- objects
 
 -- a position, and what both probes and the verdict tell of it
-abbrev pub position_members : Parts → Probed → Option Verdict → Members
+abbrev pub position_members : Parts → ProbeResult → Option Verdict → Members
 position_members p probed verdict =
     followed_by
     (member (codes "fen") (string (fen_of p))

@@ -6,9 +6,9 @@ use Rattle.board_core.specs.Position.{IsPosition}
 use Rattle.board_core.specs.ComputedMoves.{position_after}
 use Rattle.fen_text.specs.declared.fault.FenFault.{FenFault}
 use Rattle.fen_text.specs.Fen.{SpellsPosition, IsFirstFenFault}
-use Rattle.judge_core.specs.declared.probed.Probed.{Probed}
+use Rattle.judge_core.specs.declared.probe_result.ProbeResult.{ProbeResult}
 use Rattle.judge_core.specs.declared.root_move.RootMove.{RootMove}
-use Rattle.judge_core.specs.Probed.{has_both}
+use Rattle.judge_core.specs.ProbeResult.{has_both}
 use Rattle.judge_core.specs.Root.{is_checkmate}
 use Rattle.judge_core.specs.Ruling.{is_out_of_scope, ruling}
 use Rattle.judge_core.specs.Tables.{Tables}
@@ -30,11 +30,11 @@ abbrev pub AreRootMoves : Ask → Tables → Parts → List RootMove → Type 0
 AreRootMoves ask tables p moves = ((is_out_of_scope p ≡ true) × (moves ≡ [])) ⊎ ((is_out_of_scope p ≡ false) × IsRanked ask tables p moves)
 
 -- a side that is mated has lost, and needs no table
-abbrev pub mated : Probed
+abbrev pub mated : ProbeResult
 mated = record { wdl = Ok (negsuc 1); dtz = Ok (negsuc 0) }
 
 -- what both probes tell of the position after a move; a mated side has lost without a table
-abbrev pub IsProbedAfter : Ask → Tables → Bool → Parts → Probed → Type 0
+abbrev pub IsProbedAfter : Ask → Tables → Bool → Parts → ProbeResult → Type 0
 IsProbedAfter ask tables true q probed = probed ≡ mated
 IsProbedAfter ask tables false q probed = IsAnswered ask tables q probed
 

@@ -2,7 +2,7 @@
 
 ghost use Rattle.std.specs.Prelude.{◌≡◌, ◌++◌, ◌∷◌, [], false, IfOk, OnErr, OnOk};
 ghost use Rattle.std.specs.List.{All, list_all};
-ghost use Rattle.judge_core.specs.Probed.{has_both};
+ghost use Rattle.judge_core.specs.ProbeResult.{has_both};
 ghost use Rattle.judge_core.specs.Root.{is_checkmate};
 ghost use Rattle.judge_core.specs.Ruling.{is_out_of_scope};
 ghost use Rattle.json_lines.specs.declared.told.MoveTold.{MoveTold};
@@ -12,7 +12,7 @@ ghost use Rattle.json_lines.specs.Told.{AreMovesTold, IsLineFor, IsLineOf, IsMov
 
 use board_core::Position;
 use fen_text::{FenFault, read};
-use judge_core::{Ask, Columns, Probed, RootMove, Set};
+use judge_core::{Ask, Columns, ProbeResult, RootMove, Set};
 use std::alloc::{AllocError, Global};
 
 /// Both probes of a position and the verdict on it.
@@ -32,7 +32,7 @@ pub struct MoveTold {
     /// The position after it.
     pub after: Position,
     /// The values of that position, from the view of its side to move. A side that is mated has -2 and -1.
-    pub probed: Probed,
+    pub probed: ProbeResult,
 }
 
 /// What one line tells.
@@ -53,12 +53,12 @@ fn probed_after(
     set: &mut Set<'_>,
     m: &RootMove,
     after: &Position,
-) -> Result<Probed, AllocError>
+) -> Result<ProbeResult, AllocError>
     ensures told { IfOk result (IsProbedAfter ask set.old.tables (is_checkmate m.now.state) after.now) }
     ensures unchanged { set.new ≡ set.old }
 {
     if m.state.is_checkmate() {
-        return Ok(Probed {
+        return Ok(ProbeResult {
             wdl: Ok(-2),
             dtz: Ok(-1),
         });

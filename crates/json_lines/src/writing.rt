@@ -17,7 +17,7 @@ use crate::text::put;
 use crate::told::{JsonLine, MoveTold, PositionTold};
 use board_core::Verdict;
 use fen_text::{FenFault, write, write_move};
-use judge_core::{BoardState, ProbeFault, Probed};
+use judge_core::{BoardState, ProbeFault, ProbeResult};
 use place_index::Material;
 use std::io::Write;
 use system_io::WriteFault;
@@ -86,7 +86,7 @@ fn is_stalemate(state: BoardState) -> bool
 }
 
 /// Why a value is missing, the WDL value's fault first.
-fn first_fault(probed: &Probed) -> Option<ProbeFault>
+fn first_fault(probed: &ProbeResult) -> Option<ProbeFault>
     ensures { result ≡ first_probe_fault probed.now.wdl probed.now.dtz }
 {
     match (probed.wdl, probed.dtz) {
@@ -130,7 +130,7 @@ fn put_fault<W: Write>(out: &mut W, fault: ProbeFault) -> Result<(), WriteFault>
 }
 
 /// Writes why a value is missing, where one is.
-fn put_error<W: Write>(out: &mut W, probed: &Probed) -> Result<(), WriteFault>
+fn put_error<W: Write>(out: &mut W, probed: &ProbeResult) -> Result<(), WriteFault>
     ensures { OnOk result (Writes true (open_tokens (error_members probed.now)) (W.contents out.old) (W.contents out.new)) }
 {
     match first_fault(probed) {
@@ -161,7 +161,7 @@ fn put_told<W: Write>(
     out: &mut W,
     later: bool,
     members: &[Member<'_>],
-    probed: &Probed,
+    probed: &ProbeResult,
 ) -> Result<(), WriteFault>
     requires { 0 < length members.now }
     ensures { OnOk result (Writes later (open_tokens (followed_by (members_of members.now) (error_members probed.now))) (W.contents out.old) (W.contents out.new)) }
@@ -176,7 +176,7 @@ fn put_told<W: Write>(
 fn put_facts<W: Write>(
     out: &mut W,
     members: &[Member<'_>],
-    probed: &Probed,
+    probed: &ProbeResult,
 ) -> Result<(), WriteFault>
     requires { 0 < length members.now }
     ensures { OnOk result (Writes false (begin_object ∷ open_tokens (followed_by (members_of members.now) (error_members probed.now))) (W.contents out.old) (W.contents out.new)) }

@@ -9,7 +9,7 @@ use Rattle.table_file.specs.declared.outcome.Outcome.TheVariants.{BlessedLoss as
 use Rattle.judge_core.specs.declared.distance.Distance.{Distance}
 use Rattle.judge_core.specs.declared.distance.Distance.TheVariants.{Draw as NoDistance}
 use Rattle.judge_core.specs.declared.fault.ValueFault.{ValueFault}
-use Rattle.judge_core.specs.declared.found.Weighed.{Weighed}
+use Rattle.judge_core.specs.declared.found.CaptureSearch.{CaptureSearch}
 use Rattle.judge_core.specs.declared.wdl.Wdl.{Wdl}
 use Rattle.judge_core.specs.declared.wdl.Wdl.TheVariants.{Loss, BlessedLoss, Draw, CursedWin, Win}
 use Rattle.judge_core.specs.Values.{is_winning, outcome_of}
@@ -17,7 +17,7 @@ use Rattle.judge_core.specs.Tables.{Tables}
 use Rattle.judge_core.specs.Probing.{worth, worth_in}
 use Rattle.judge_core.specs.Distances.{is_by_capture, is_won, dtz_of}
 use Rattle.judge_core.specs.Determined.{AsksPawnMoves, ListsMovesDetermined}
-use Rattle.judge_core.specs.Inside.Determined.{extreme, extreme_value, extreme_weighed, AgreedAskPawns, LackAndAsk, ListsMovesInside}
+use Rattle.judge_core.specs.Inside.Determined.{extreme, extreme_value, extreme_searched, AgreedAskPawns, LackAndAsk, ListsMovesInside}
 use Rattle.judge_core.proofs.Rule.{where_meets_rule}
 use Rattle.judge_core.proofs.Completed.{extreme-completes, agreed-from, determined}
 use Rattle.judge_core.proofs.Zeroing.{IsMany, opened}
@@ -33,11 +33,11 @@ not_both : (a b : Bool) → a ≡ true → b ≡ true → (a && b) ≡ false →
 not_both a b ea eb e = (let f = rw (ea, eb) at e in false≢true (sym f))
 
 module _ (tables : Tables) (p : Parts) (position : IsPosition p) where
-  worth_there : IsMany p → (odd : Bool) (a : Weighed) → extreme_weighed tables odd p ≡ Ok a → extreme_value tables odd p ≡ Ok (worth a)
+  worth_there : IsMany p → (odd : Bool) (a : CaptureSearch) → extreme_searched tables odd p ≡ Ok a → extreme_value tables odd p ≡ Ok (worth a)
   worth_there many odd a e = where_meets_rule (extreme tables odd) p position ∙ rw many (ap worth_in e)
 
   pub asks : LackAndAsk tables p (dtz_of tables p) → AsksPawnMoves tables p
-  asks h = step (extreme_weighed tables true p) (extreme_weighed tables false p) refl refl h.ask
+  asks h = step (extreme_searched tables true p) (extreme_searched tables false p) refl refl h.ask
     where
       lacking : (d : Distance) → dtz_of tables p ≡ Ok d → ⊥
       lacking d e = (let l = rw e at h.lacking in false≢true l)
@@ -46,7 +46,7 @@ module _ (tables : Tables) (p : Parts) (position : IsPosition p) where
       many true e = absurd (lacking NoDistance (opened tables p ∙ rw e refl))
       many false e = e
 
-      step : (r s : Result Weighed ValueFault) → extreme_weighed tables true p ≡ r → extreme_weighed tables false p ≡ s → AgreedAskPawns r s → AsksPawnMoves tables p
+      step : (r s : Result CaptureSearch ValueFault) → extreme_searched tables true p ≡ r → extreme_searched tables false p ≡ s → AgreedAskPawns r s → AsksPawnMoves tables p
       step (Ok a) (Ok b) ea eb ask =
           let more = many (nat_le (count_of_men p) 2) refl in
           let va = worth_there more true a ea in

@@ -9,14 +9,14 @@ use Rattle.judge_core.specs.declared.fault.ValueFault.TheVariants.{NotCovered, D
 use Rattle.judge_core.specs.declared.fault.ProbeFault.{ProbeFault}
 use Rattle.judge_core.specs.declared.fault.ProbeFault.TheVariants.{OutOfScope, OutOfMemory}
 use Rattle.judge_core.specs.declared.distance.Distance.TheVariants.{Draw}
-use Rattle.judge_core.specs.declared.probed.Probed.{Probed}
+use Rattle.judge_core.specs.declared.probe_result.ProbeResult.{ProbeResult}
 use Rattle.judge_core.specs.Answers.{IsProbe, as_probe, signed_in}
 use Rattle.judge_core.specs.Distances.{Reach, dtz_by, dtz_to, dtz_of}
 use Rattle.judge_core.specs.Ends.{has_no_move}
 use Rattle.judge_core.specs.Probing.{wdl_of}
 use Rattle.judge_core.specs.Ruling.{end_of, is_out_of_scope, ruling, ruling_by}
 use Rattle.judge_core.specs.Tables.{Tables}
-use Rattle.judge_core.specs.Probed.{IsProbed, numbered, wdl_number}
+use Rattle.judge_core.specs.ProbeResult.{IsProbed, numbered, wdl_number}
 use Rattle.judge_core.specs.Values.{Reading}
 use Rattle.judge_core.proofs.Reaching.{few_men}
 
@@ -35,7 +35,7 @@ is_numbered (Ok v) = refl
 is_numbered (Err fault) = refl
 
 module _ (tables : Tables) (p : Parts) where
-  pub probed_by : (value : Reading) (reach : Reach) (probed : Probed) → is_out_of_scope p ≡ false → value ≡ wdl_of tables p → reach ≡ dtz_of tables p
+  pub probed_by : (value : Reading) (reach : Reach) (probed : ProbeResult) → is_out_of_scope p ≡ false → value ≡ wdl_of tables p → reach ≡ dtz_of tables p
       → probed.wdl ≡ as_probe wdl_number value → probed.dtz ≡ as_probe (λ n. n) (signed_in reach) → IsProbed tables p probed
   probed_by value reach probed scope ev er ew ed = record {
     wdl = as_probe (λ x. x) value;

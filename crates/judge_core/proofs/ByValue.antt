@@ -10,7 +10,7 @@ use Rattle.table_file.specs.declared.outcome.Outcome.{Outcome}
 use Rattle.judge_core.specs.declared.distance.Distance.{Distance}
 use Rattle.judge_core.specs.declared.distance.Distance.TheVariants.{Draw as NoDistance}
 use Rattle.judge_core.specs.declared.fault.ValueFault.{ValueFault}
-use Rattle.judge_core.specs.declared.found.Weighed.{Weighed}
+use Rattle.judge_core.specs.declared.found.CaptureSearch.{CaptureSearch}
 use Rattle.judge_core.specs.declared.wdl.Wdl.{Wdl}
 use Rattle.judge_core.specs.declared.wdl.Wdl.TheVariants.{Loss, BlessedLoss, Draw, CursedWin, Win as Best}
 use Rattle.judge_core.specs.Values.{Reading, opposite, opposite_reading, is_same, outcome_of}
@@ -19,13 +19,13 @@ use Rattle.judge_core.specs.Asked.{asked}
 use Rattle.judge_core.specs.Probing.{values_after, wdl_where, worth}
 use Rattle.judge_core.specs.Distances.{is_won, is_value, is_pawn_step, is_by_capture, pawns_reach_where, zeroing, towards}
 use Rattle.judge_core.specs.Determined.{IsDetermined, IsByCapture, IsByPawnMove}
-use Rattle.judge_core.specs.Inside.Determined.{extreme_value, extreme_weighed, in_both, value_in_both, pawns_reach_in_both, is_reached, zeroing_distance, agreed_distance}
+use Rattle.judge_core.specs.Inside.Determined.{extreme_value, extreme_searched, in_both, value_in_both, pawns_reach_in_both, is_reached, zeroing_distance, agreed_distance}
 use Rattle.judge_core.proofs.Rule.{where_meets_rule, still}
 use Rattle.judge_core.proofs.Completed.{is_same-true, determined}
 use Rattle.judge_core.proofs.Kept.{unless_ok}
 use Rattle.judge_core.specs.Determined.{IsDistanceByValue, OfDraw, OfCapture, OfPawnMove}
 use Rattle.judge_core.proofs.Completed.{agreed-from}
-use Rattle.judge_core.proofs.Zeroing.{all_reached, reached_of, is_reached-true, in_both-ok, opposite-twice, both_reach, weighed_between, IsMany}
+use Rattle.judge_core.proofs.Zeroing.{all_reached, reached_of, is_reached-true, in_both-ok, opposite-twice, both_reach, searched_between, IsMany}
 
 -- ---- the pawn move
 
@@ -102,15 +102,15 @@ draw_of CursedWin e = absurd (cc)
 draw_of Best e = absurd (cc)
 
 module _ (tables : Tables) (p : Parts) (position : IsPosition p) (many : IsMany p) where
-  module _ (a b : Weighed) (ea : extreme_weighed tables true p ≡ Ok a) (eb : extreme_weighed tables false p ≡ Ok b) (same : worth a ≡ worth b) (d : Distance) where
+  module _ (a b : CaptureSearch) (ea : extreme_searched tables true p ≡ Ok a) (eb : extreme_searched tables false p ≡ Ok b) (same : worth a ≡ worth b) (d : Distance) where
     worth_is : IsDetermined tables p (worth a)
     worth_is own completes =
-        let w = weighed_between tables p position a b ea eb same own completes in
+        let w = searched_between tables p position a b ea eb same own completes in
         where_meets_rule own p position ∙ rw (many, w.1) (ap (λ (x : Wdl). Ok x) w.2.worth_is)
 
     captures : is_by_capture a ≡ true → is_by_capture b ≡ true → IsByCapture tables p
     captures eca ecb own w completes e =
-        let it = weighed_between tables p position a b ea eb same own completes in
+        let it = searched_between tables p position a b ea eb same own completes in
         let one : Ok it.0 ≡ Ok w = sym it.1 ∙ e in
         let is : it.0 ≡ w = cc in
         ap is_by_capture (sym is) ∙ it.2.capture eca ecb
@@ -129,7 +129,7 @@ module _ (tables : Tables) (p : Parts) (position : IsPosition p) (many : IsMany 
         step false cb true false eca ecb ew er e = absurd (cc)
         step false cb false reached eca ecb ew er e = absurd (cc)
 
-  pub by_value : (a b : Result Weighed ValueFault) → extreme_weighed tables true p ≡ a → extreme_weighed tables false p ≡ b → (d : Distance) → agreed_distance tables p a b ≡ Some d → IsDistanceByValue tables p d
+  pub by_value : (a b : Result CaptureSearch ValueFault) → extreme_searched tables true p ≡ a → extreme_searched tables false p ≡ b → (d : Distance) → agreed_distance tables p a b ≡ Some d → IsDistanceByValue tables p d
   by_value (Ok a) (Ok b) ea eb d e = step (is_same (worth a) (worth b)) refl e
     where
       step : (t : Bool) → is_same (worth a) (worth b) ≡ t → cond t (zeroing_distance tables p a b (outcome_of (worth a))) None ≡ Some d → IsDistanceByValue tables p d

@@ -10,17 +10,17 @@ use Rattle.judge_core.specs.declared.ask.Ask.{Ask}
 use Rattle.judge_core.specs.declared.ask.Ask.TheVariants.{Determined}
 use Rattle.judge_core.specs.declared.fault.ValueFault.{ValueFault}
 use Rattle.judge_core.specs.declared.fault.ValueFault.TheVariants.{NotCovered, Damaged}
-use Rattle.judge_core.specs.declared.found.Weighed.{Weighed}
+use Rattle.judge_core.specs.declared.found.CaptureSearch.{CaptureSearch}
 use Rattle.judge_core.specs.declared.wdl.Wdl.{Wdl}
 use Rattle.judge_core.specs.declared.wdl.Wdl.TheVariants.{Loss, Win}
 use Rattle.judge_core.specs.Values.{Reading, points, is_same, opposite}
 use Rattle.judge_core.specs.Tables.{Tables, table_value}
-use Rattle.judge_core.specs.Probing.{weighed_where, wdl_by_weighed, wdl_where}
+use Rattle.judge_core.specs.Probing.{searched_where, wdl_from_search, wdl_where}
 use Rattle.judge_core.specs.Determined.{Completes, IsCompletion, IsDetermined, IsUndetermined}
-use Rattle.judge_core.specs.Inside.Determined.{is_won_here, fill, in_stead, extreme, extreme_value, extreme_weighed, agreed, in_both, value_in_both, step_value_as}
+use Rattle.judge_core.specs.Inside.Determined.{is_won_here, fill, in_stead, extreme, extreme_value, extreme_searched, agreed, in_both, value_in_both, step_value_as}
 use Rattle.judge_core.proofs.Captures.{falls}
 use Rattle.judge_core.proofs.Rule.{where_meets_rule, still}
-use Rattle.judge_core.proofs.Rising.{AtMost, AtMostWeighed, at_most-turned, points_most, same_points, value_rises, weighed_rises}
+use Rattle.judge_core.proofs.Rising.{AtMost, AtMostSearched, at_most-turned, points_most, same_points, value_rises, searched_rises}
 
 -- ---- the two completions
 
@@ -61,9 +61,9 @@ abbrev pub IsBound : Bool → Reading → Reading → Type 0
 IsBound true r bound = AtMost r bound
 IsBound false r bound = AtMost bound r
 
-abbrev pub IsWeighedBound : Bool → Result Weighed ValueFault → Result Weighed ValueFault → Type 0
-IsWeighedBound true w bound = AtMostWeighed w bound
-IsWeighedBound false w bound = AtMostWeighed bound w
+abbrev pub IsSearchBound : Bool → Result CaptureSearch ValueFault → Result CaptureSearch ValueFault → Type 0
+IsSearchBound true w bound = AtMostSearched w bound
+IsSearchBound false w bound = AtMostSearched bound w
 
 own_bound : (won : Bool) (r own : Reading) → Completes r own → IsBound won own (in_stead r (cond won Win Loss))
 own_bound true (Ok v) own c = rw c (omega arith)
@@ -85,31 +85,31 @@ module _ (tables : Tables) (own : Parts → Reading) (completes : IsCompletion t
 
   -- by the bounds of the positions after captures
   by_captures : (p : Parts) (b : Bool) → won p ≡ b → ((m : Move) (q : Parts) → is_capture p m ≡ true → position_after p m ≡ Some q → IsBound (not b) (wdl_where own q) (extreme_value tables odd q))
-      → IsWeighedBound b (weighed_where own (wdl_where own) p) (extreme_weighed tables odd p)
-  by_captures p true e h = weighed_rises (wdl_where own) (extreme_value tables odd) p (λ m q c a. at_most-turned _ _ (h m q c a)) own (extreme tables odd) (rw e at (own_is p))
-  by_captures p false e h = weighed_rises (extreme_value tables odd) (wdl_where own) p (λ m q c a. at_most-turned _ _ (h m q c a)) (extreme tables odd) own (rw e at (own_is p))
+      → IsSearchBound b (searched_where own (wdl_where own) p) (extreme_searched tables odd p)
+  by_captures p true e h = searched_rises (wdl_where own) (extreme_value tables odd) p (λ m q c a. at_most-turned _ _ (h m q c a)) own (extreme tables odd) (rw e at (own_is p))
+  by_captures p false e h = searched_rises (extreme_value tables odd) (wdl_where own) p (λ m q c a. at_most-turned _ _ (h m q c a)) (extreme tables odd) own (rw e at (own_is p))
 
-  by_weighed : (p : Parts) (b : Bool) (w bound : Result Weighed ValueFault) → IsWeighedBound b w bound → IsBound b (wdl_by_weighed p w) (wdl_by_weighed p bound)
-  by_weighed p true w bound h = value_rises p w bound h
-  by_weighed p false w bound h = value_rises p bound w h
+  dtz_from_search : (p : Parts) (b : Bool) (w bound : Result CaptureSearch ValueFault) → IsSearchBound b w bound → IsBound b (wdl_from_search p w) (wdl_from_search p bound)
+  dtz_from_search p true w bound h = value_rises p w bound h
+  dtz_from_search p false w bound h = value_rises p bound w h
 
-  bounded_to : (n : ℕ) (p : Parts) → IsPosition p → count_of_men p ≤ n → IsWeighedBound (won p) (weighed_where own (wdl_where own) p) (extreme_weighed tables odd p)
+  bounded_to : (n : ℕ) (p : Parts) → IsPosition p → count_of_men p ≤ n → IsSearchBound (won p) (searched_where own (wdl_where own) p) (extreme_searched tables odd p)
   bounded_to zero p position few = absurd (let two = men_of_position p position in omega arith)
   bounded_to (suc n) p position few =
       by_captures p (won p) refl (λ m q c a.
       (let less = falls p q m position c a in
       let after = still p q m position a in
       let rest = bounded_to n q after (omega arith) in
-      let bound = by_weighed q (won q) _ _ rest in
-      let rules : IsBound (won q) (wdl_where own q) (extreme_value tables odd q) = subst (λ r. IsBound (won q) r (extreme_value tables odd q)) (sym (where_meets_rule own q after)) (subst (λ r. IsBound (won q) (wdl_by_weighed q (weighed_where own (wdl_where own) q)) r) (sym (where_meets_rule (extreme tables odd) q after)) bound) in
+      let bound = dtz_from_search q (won q) _ _ rest in
+      let rules : IsBound (won q) (wdl_where own q) (extreme_value tables odd q) = subst (λ r. IsBound (won q) r (extreme_value tables odd q)) (sym (where_meets_rule own q after)) (subst (λ r. IsBound (won q) (wdl_from_search q (searched_where own (wdl_where own) q)) r) (sym (where_meets_rule (extreme tables odd) q after)) bound) in
       subst (λ b. IsBound b (wdl_where own q) (extreme_value tables odd q)) (turns odd (count_of_men q) (count_of_men p) less) rules))
 
-  pub weighed_bound : (p : Parts) → IsPosition p → IsWeighedBound (won p) (weighed_where own (wdl_where own) p) (extreme_weighed tables odd p)
-  weighed_bound p position = bounded_to (count_of_men p) p position (omega arith)
+  pub search_bound : (p : Parts) → IsPosition p → IsSearchBound (won p) (searched_where own (wdl_where own) p) (extreme_searched tables odd p)
+  search_bound p position = bounded_to (count_of_men p) p position (omega arith)
 
   pub value_bound : (p : Parts) → IsPosition p → IsBound (won p) (wdl_where own p) (extreme_value tables odd p)
   value_bound p position =
-      subst (λ r. IsBound (won p) r (extreme_value tables odd p)) (sym (where_meets_rule own p position)) (subst (λ r. IsBound (won p) (wdl_by_weighed p (weighed_where own (wdl_where own) p)) r) (sym (where_meets_rule (extreme tables odd) p position)) (by_weighed p (won p) _ _ (weighed_bound p position)))
+      subst (λ r. IsBound (won p) r (extreme_value tables odd p)) (sym (where_meets_rule own p position)) (subst (λ r. IsBound (won p) (wdl_from_search p (searched_where own (wdl_where own) p)) r) (sym (where_meets_rule (extreme tables odd) p position)) (dtz_from_search p (won p) _ _ (search_bound p position)))
 
 -- ---- what both say
 

@@ -9,7 +9,7 @@ use Rattle.judge_core.specs.declared.fault.ValueFault.{ValueFault}
 use Rattle.judge_core.specs.Tables.{Tables}
 use Rattle.judge_core.specs.Distances.{Reach, dtz_by, dtz_to, dtz_of}
 use Rattle.judge_core.specs.Determined.{IsDeterminedDistance, IsDeterminedReach, IsDistanceByValue, OfDraw, OfCapture, OfPawnMove, IsDistanceByQuietMoves}
-use Rattle.judge_core.specs.Inside.Determined.{distance_in_both, extreme_weighed, or_agreed_distance, told_reach, reach_after, or_reach, determined_reach}
+use Rattle.judge_core.specs.Inside.Determined.{distance_in_both, extreme_searched, or_agreed_distance, told_reach, reach_after, or_reach, determined_reach}
 use Rattle.judge_core.proofs.Kept.{strict_distance}
 use Rattle.judge_core.proofs.Zeroing.{IsMany, opened, told}
 use Rattle.judge_core.proofs.ByValue.{by_value}
@@ -38,7 +38,7 @@ module _ (tables : Tables) (p : Parts) (position : IsPosition p) where
       step (Err fault) er None eo e = absurd (cc)
       step (Err fault) er (Some x) eo e =
           let same : x ≡ d = cc in
-          inr (by_value tables p position (never_few fault er) (extreme_weighed tables true p) (extreme_weighed tables false p) refl refl d (eo ∙ ap (λ (y : Distance). Some y) same))
+          inr (by_value tables p position (never_few fault er) (extreme_searched tables true p) (extreme_searched tables false p) refl refl d (eo ∙ ap (λ (y : Distance). Some y) same))
 
   told_fault : (fault : ValueFault) → told_reach tables p ≡ Err fault → dtz_of tables p ≡ Err fault
   told_fault fault = step (dtz_of tables p) refl (distance_in_both tables p)

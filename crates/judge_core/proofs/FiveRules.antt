@@ -14,16 +14,16 @@ use Rattle.table_file.specs.Distances.{stores}
 use Rattle.judge_core.specs.declared.distance.Distance.TheVariants.{Draw, Loss}
 use Rattle.judge_core.specs.declared.fault.ValueFault.{ValueFault}
 use Rattle.judge_core.specs.declared.fault.ValueFault.TheVariants.{Damaged}
-use Rattle.judge_core.specs.declared.found.Weighed.{Weighed}
+use Rattle.judge_core.specs.declared.found.CaptureSearch.{CaptureSearch}
 use Rattle.judge_core.specs.Values.{outcome_of}
 use Rattle.judge_core.specs.LookUp.{material_of, placed_of}
 use Rattle.judge_core.specs.Tables.{Tables, table_at, part_asked}
 use Rattle.judge_core.specs.Asked.{fault_in, unless}
-use Rattle.judge_core.specs.Probing.{weighed_by, wdl_of, worth}
+use Rattle.judge_core.specs.Probing.{searched_by, wdl_of, worth}
 use Rattle.board_core.specs.Castling.{has_any_right}
 use Rattle.judge_core.specs.Ruling.{is_out_of_scope}
-use Rattle.judge_core.specs.Distances.{Reach, is_won, zeroing, towards, is_by_capture, pawns_reach, unless_reached, least, greatest_count, is_odd, won_in, by_counts, by_quiet_moves, distance_in, by_table, by_material, stored_distance, by_own_table, by_moves, by_outcome, by_weighed, dtz_by, dtz_of}
-use Rattle.judge_core.specs.FiveRules.{IsWeighed, IsDecided, IsLeftToTables, IsOwnTable, IsLeftToMoves, IsDistance, counts_after, DistanceByFiveRules}
+use Rattle.judge_core.specs.Distances.{Reach, is_won, zeroing, towards, is_by_capture, pawns_reach, unless_reached, least, greatest_count, is_odd, won_in, by_counts, by_quiet_moves, distance_in, by_table, by_material, stored_distance, by_own_table, by_moves, by_outcome, dtz_from_search, dtz_by, dtz_of}
+use Rattle.judge_core.specs.FiveRules.{IsSearched, IsDecided, IsLeftToTables, IsOwnTable, IsLeftToMoves, IsDistance, counts_after, DistanceByFiveRules}
 use Rattle.judge_core.specs.FiveRules.IsDistance.{unknown, bare, drawn, capture, pawn_unknown, pawn, no_table, no_number, stored as by_number, move_unknown, no_winner, won, no_loser, lost}
 use Rattle.judge_core.proofs.LookUp.{material_found}
 use Rattle.judge_core.proofs.TwoSteps.{in_scope}
@@ -52,7 +52,7 @@ module _ (tables : Tables) (reach : Parts → Reach) (p : Parts) where
   unfolding by_quiet_moves
   by_moves_left key outcome left = by_fault key outcome left (fault_in (counts_after reach p outcome)) refl
 
-  module _ (w : Weighed) (outcome : Outcome) (left : IsLeftToTables tables p w outcome) (key : ℕ) (m : material_of p ≡ Some key) where
+  module _ (w : CaptureSearch) (outcome : Outcome) (left : IsLeftToTables tables p w outcome) (key : ℕ) (m : material_of p ≡ Some key) where
     by_found : (t : Contents) → IsOwnTable tables p key t true → (n : Option ℕ) → distance_in t (placed_of key p) outcome ≡ n → IsDistance tables reach p (stored_distance key outcome n)
     by_found t own None e = no_number left own e
     by_found t own (Some n) e = by_number left own e
@@ -66,62 +66,62 @@ module _ (tables : Tables) (reach : Parts → Reach) (p : Parts) where
     by_there (Some t) e = by_side t e (stores (part_asked t (placed_of key p))) refl
 
   module _ (covered : 2 < count_of_men p → (key : ℕ) × (material_of p ≡ Some key)) where
-    by_own : (w : Weighed) (outcome : Outcome) → IsLeftToTables tables p w outcome → IsDistance tables reach p (by_own_table tables reach p outcome)
+    by_own : (w : CaptureSearch) (outcome : Outcome) → IsLeftToTables tables p w outcome → IsDistance tables reach p (by_own_table tables reach p outcome)
     unfolding by_own_table
     by_own w outcome left = by_key (material_of p) refl
       where
         by_key : (o : Option ℕ) → material_of p ≡ o → IsDistance tables reach p (by_material tables o reach p outcome)
-        by_key None e = let found = covered left.decided.weighed.men in let clash : None ≡ Some found.0 = sym e ∙ found.1 in absurd (cc)
+        by_key None e = let found = covered left.decided.searched.men in let clash : None ≡ Some found.0 = sym e ∙ found.1 in absurd (cc)
         by_key (Some key) e = by_there w outcome left key e (table_at tables Dtz key) refl
 
-    by_reached : (w : Weighed) (outcome : Outcome) → IsDecided tables p w outcome → IsFalse (is_by_capture w) → IsTrue (is_won outcome) → (r : Result Bool ValueFault) → pawns_reach tables p (worth w) ≡ r → IsDistance tables reach p (unless_reached r outcome (by_own_table tables reach p outcome))
+    by_reached : (w : CaptureSearch) (outcome : Outcome) → IsDecided tables p w outcome → IsFalse (is_by_capture w) → IsTrue (is_won outcome) → (r : Result Bool ValueFault) → pawns_reach tables p (worth w) ≡ r → IsDistance tables reach p (unless_reached r outcome (by_own_table tables reach p outcome))
     by_reached w outcome d c wins (Err fault) e = pawn_unknown d c wins e
     by_reached w outcome d c wins (Ok true) e = pawn d c wins e
     by_reached w outcome d c wins (Ok false) e = by_own w outcome (record { decided = d; no_capture = c; no_pawn = λ t. e })
 
-    by_kind : (w : Weighed) (outcome : Outcome) → IsDecided tables p w outcome → IsFalse (is_by_capture w) → (b : Bool) → is_won outcome ≡ b → IsDistance tables reach p (if b then unless_reached (pawns_reach tables p (worth w)) outcome (by_own_table tables reach p outcome) else by_own_table tables reach p outcome)
+    by_kind : (w : CaptureSearch) (outcome : Outcome) → IsDecided tables p w outcome → IsFalse (is_by_capture w) → (b : Bool) → is_won outcome ≡ b → IsDistance tables reach p (if b then unless_reached (pawns_reach tables p (worth w)) outcome (by_own_table tables reach p outcome) else by_own_table tables reach p outcome)
     by_kind w outcome d c true e = by_reached w outcome d c e (pawns_reach tables p (worth w)) refl
     by_kind w outcome d c false e = by_own w outcome (record { decided = d; no_capture = c; no_pawn = λ t. absurd (true≢false (sym t ∙ e)) })
 
-    by_pawns : (w : Weighed) (outcome : Outcome) → IsDecided tables p w outcome → IsFalse (is_by_capture w) → IsDistance tables reach p (by_moves tables reach p (worth w) outcome)
+    by_pawns : (w : CaptureSearch) (outcome : Outcome) → IsDecided tables p w outcome → IsFalse (is_by_capture w) → IsDistance tables reach p (by_moves tables reach p (worth w) outcome)
     unfolding by_moves
     by_pawns w outcome d c = by_kind w outcome d c (is_won outcome) refl
 
-    by_captures : (w : Weighed) (outcome : Outcome) → IsDecided tables p w outcome → (b : Bool) → is_by_capture w ≡ b → IsDistance tables reach p (if b then Ok (towards outcome (zeroing outcome)) else by_moves tables reach p (worth w) outcome)
+    by_captures : (w : CaptureSearch) (outcome : Outcome) → IsDecided tables p w outcome → (b : Bool) → is_by_capture w ≡ b → IsDistance tables reach p (if b then Ok (towards outcome (zeroing outcome)) else by_moves tables reach p (worth w) outcome)
     by_captures w outcome d true e = capture d e
     by_captures w outcome d false e = by_pawns w outcome d e
 
-    by_worth : (w : Weighed) → IsWeighed tables p (Ok w) → (o : Option Outcome) → outcome_of (worth w) ≡ o → IsDistance tables reach p (by_outcome tables reach p w o)
-    by_worth w weighed None e = drawn weighed e
-    by_worth w weighed (Some outcome) e = by_captures w outcome (record { weighed = weighed; decided = e }) (is_by_capture w) refl
+    by_worth : (w : CaptureSearch) → IsSearched tables p (Ok w) → (o : Option Outcome) → outcome_of (worth w) ≡ o → IsDistance tables reach p (by_outcome tables reach p w o)
+    by_worth w searched None e = drawn searched e
+    by_worth w searched (Some outcome) e = by_captures w outcome (record { searched = searched; decided = e }) (is_by_capture w) refl
 
-    by_value : (r : Result Weighed ValueFault) → IsWeighed tables p r → IsDistance tables reach p (by_weighed tables reach p r)
-    by_value (Err fault) weighed = unknown weighed
-    by_value (Ok w) weighed = by_worth w weighed (outcome_of (worth w)) refl
+    by_value : (r : Result CaptureSearch ValueFault) → IsSearched tables p r → IsDistance tables reach p (dtz_from_search tables reach p r)
+    by_value (Err fault) searched = unknown searched
+    by_value (Ok w) searched = by_worth w searched (outcome_of (worth w)) refl
 
-    by_men : (b : Bool) → nat_le (count_of_men p) 2 ≡ b → IsDistance tables reach p (if b then Ok Draw else by_weighed tables reach p (weighed_by tables (wdl_of tables) p))
+    by_men : (b : Bool) → nat_le (count_of_men p) 2 ≡ b → IsDistance tables reach p (if b then Ok Draw else dtz_from_search tables reach p (searched_by tables (wdl_of tables) p))
     by_men true e = bare (leb-true (count_of_men p) 2 e)
-    by_men false e = by_value (weighed_by tables (wdl_of tables) p) (record { men = leb-false (count_of_men p) 2 e; weighed = refl })
+    by_men false e = by_value (searched_by tables (wdl_of tables) p) (record { men = leb-false (count_of_men p) 2 e; searched = refl })
 
     is_given : IsDistance tables reach p (dtz_by tables reach p)
     is_given = by_men (nat_le (count_of_men p) 2) refl
 
   -- ---- what a rule gives is what the code's definition says
 
-  weighed_is : (r : Result Weighed ValueFault) → IsWeighed tables p r → dtz_by tables reach p ≡ by_weighed tables reach p r
-  weighed_is r w = rw (lt-leb (count_of_men p) 2 w.men, w.weighed) refl
+  searched_is : (r : Result CaptureSearch ValueFault) → IsSearched tables p r → dtz_by tables reach p ≡ dtz_from_search tables reach p r
+  searched_is r w = rw (lt-leb (count_of_men p) 2 w.men, w.searched) refl
 
-  decided_is : (w : Weighed) (outcome : Outcome) → IsDecided tables p w outcome → dtz_by tables reach p ≡ by_outcome tables reach p w (Some outcome)
-  decided_is w outcome d = weighed_is (Ok w) d.weighed ∙ rw d.decided refl
+  decided_is : (w : CaptureSearch) (outcome : Outcome) → IsDecided tables p w outcome → dtz_by tables reach p ≡ by_outcome tables reach p w (Some outcome)
+  decided_is w outcome d = searched_is (Ok w) d.searched ∙ rw d.decided refl
 
-  kept_is : (w : Weighed) (outcome : Outcome) → IsDecided tables p w outcome → IsFalse (is_by_capture w) → dtz_by tables reach p ≡ by_moves tables reach p (worth w) outcome
+  kept_is : (w : CaptureSearch) (outcome : Outcome) → IsDecided tables p w outcome → IsFalse (is_by_capture w) → dtz_by tables reach p ≡ by_moves tables reach p (worth w) outcome
   kept_is w outcome d c = decided_is w outcome d ∙ rw c refl
 
-  reached_is : (w : Weighed) (outcome : Outcome) (r : Result Bool ValueFault) → IsTrue (is_won outcome) → pawns_reach tables p (worth w) ≡ r → by_moves tables reach p (worth w) outcome ≡ unless_reached r outcome (by_own_table tables reach p outcome)
+  reached_is : (w : CaptureSearch) (outcome : Outcome) (r : Result Bool ValueFault) → IsTrue (is_won outcome) → pawns_reach tables p (worth w) ≡ r → by_moves tables reach p (worth w) outcome ≡ unless_reached r outcome (by_own_table tables reach p outcome)
   unfolding by_moves
   reached_is w outcome r wins e = rw (wins, e) refl
 
-  own_is : (w : Weighed) (outcome : Outcome) → IsLeftToTables tables p w outcome → dtz_by tables reach p ≡ by_own_table tables reach p outcome
+  own_is : (w : CaptureSearch) (outcome : Outcome) → IsLeftToTables tables p w outcome → dtz_by tables reach p ≡ by_own_table tables reach p outcome
   unfolding by_moves
   own_is w outcome left = kept_is w outcome left.decided left.no_capture ∙ by_outcome_kind (is_won outcome) refl
     where
@@ -133,7 +133,7 @@ module _ (tables : Tables) (reach : Parts → Reach) (p : Parts) where
   unfolding by_own_table
   table_is outcome key o m e = rw (m, e) refl
 
-  stored_is : (w : Weighed) (outcome : Outcome) (key : ℕ) (t : Contents) (n : Option ℕ) → IsLeftToTables tables p w outcome → IsOwnTable tables p key t true → distance_in t (placed_of key p) outcome ≡ n → dtz_by tables reach p ≡ stored_distance key outcome n
+  stored_is : (w : CaptureSearch) (outcome : Outcome) (key : ℕ) (t : Contents) (n : Option ℕ) → IsLeftToTables tables p w outcome → IsOwnTable tables p key t true → distance_in t (placed_of key p) outcome ≡ n → dtz_by tables reach p ≡ stored_distance key outcome n
   stored_is w outcome key t n left own e = own_is w outcome left ∙ table_is outcome key (Some t) own.material own.table ∙ rw (own.stored, e) refl
 
   pub moves_are : (outcome : Outcome) (key : ℕ) (f : Option ValueFault) → IsLeftToMoves tables p outcome key → fault_in (counts_after reach p outcome) ≡ f → dtz_by tables reach p ≡ unless f (by_counts key outcome (counts_after reach p outcome))
@@ -141,9 +141,9 @@ module _ (tables : Tables) (reach : Parts → Reach) (p : Parts) where
   moves_are outcome key f left e = own_is left.w outcome left.left ∙ table_is outcome key (Some left.t) left.own.material left.own.table ∙ rw (left.own.stored, e) refl
 
   is_told : (r : Reach) → IsDistance tables reach p r → dtz_by tables reach p ≡ r
-  is_told r (unknown {fault = fault} w) = weighed_is (Err fault) w
+  is_told r (unknown {fault = fault} w) = searched_is (Err fault) w
   is_told r (bare few) = rw (le-leb (count_of_men p) 2 few) refl
-  is_told r (drawn {w = w} weighed e) = weighed_is (Ok w) weighed ∙ rw e refl
+  is_told r (drawn {w = w} searched e) = searched_is (Ok w) searched ∙ rw e refl
   is_told r (capture {w = w} {outcome = outcome} d c) = decided_is w outcome d ∙ rw c refl
   is_told r (pawn_unknown {w = w} {outcome = outcome} {fault = fault} d c wins e) = kept_is w outcome d c ∙ reached_is w outcome (Err fault) wins e
   is_told r (pawn {w = w} {outcome = outcome} d c wins e) = kept_is w outcome d c ∙ reached_is w outcome (Ok true) wins e

@@ -13,15 +13,15 @@ use Rattle.table_file.specs.Distances.{stores}
 use Rattle.judge_core.specs.declared.distance.Distance.TheVariants.{Draw as NoDistance}
 use Rattle.judge_core.specs.declared.fault.ValueFault.{ValueFault}
 use Rattle.judge_core.specs.declared.fault.ValueFault.TheVariants.{NotCovered, Damaged}
-use Rattle.judge_core.specs.declared.found.Weighed.{Weighed}
+use Rattle.judge_core.specs.declared.found.CaptureSearch.{CaptureSearch}
 use Rattle.judge_core.specs.declared.wdl.Wdl.{Wdl}
 use Rattle.judge_core.specs.declared.wdl.Wdl.TheVariants.{Draw}
 use Rattle.judge_core.specs.Values.{Reading, opposite_reading, outcome_of}
 use Rattle.judge_core.specs.LookUp.{material_of, placed_of}
 use Rattle.judge_core.specs.Tables.{Tables, table_at, table_value, part_asked}
 use Rattle.judge_core.specs.Asked.{asked, first, not_covered, missing_or_damaged, fault_in, unless}
-use Rattle.judge_core.specs.Probing.{values_after, greatest_value, value_or_loss, is_forced, weighed_where, weighed_by, wdl_by_weighed, wdl_where, wdl_of, worth, worth_in}
-use Rattle.judge_core.specs.Distances.{Reach, is_won, is_value, is_quiet, is_pawn_step, is_by_capture, distance_before, move_counts, by_counts, by_quiet_moves, by_table, by_material, by_own_table, pawns_reach_where, unless_reached, by_moves, by_outcome, by_weighed, zeroing, towards, dtz_by, dtz_to, dtz_of}
+use Rattle.judge_core.specs.Probing.{values_after, greatest_value, value_or_loss, is_forced, searched_where, searched_by, wdl_from_search, wdl_where, wdl_of, worth, worth_in}
+use Rattle.judge_core.specs.Distances.{Reach, is_won, is_value, is_quiet, is_pawn_step, is_by_capture, distance_before, move_counts, by_counts, by_quiet_moves, by_table, by_material, by_own_table, pawns_reach_where, unless_reached, by_moves, by_outcome, dtz_from_search, zeroing, towards, dtz_by, dtz_to, dtz_of}
 use Rattle.judge_core.specs.Ends.{is_mate}
 use Rattle.judge_core.specs.Determined.{Completes, IsCompletion, IsCompletedBy}
 use Rattle.judge_core.proofs.Captures.{falls}
@@ -87,8 +87,8 @@ keeps-turned : (r s : Reading) → Keeps r s → Keeps (opposite_reading r) (opp
 keeps-turned (Ok u) s k x e = rw (k u refl) e
 keeps-turned (Err fault) s k x e = absurd (cc)
 
--- what is weighed, by the readings after captures and by the own table's
-abbrev made : Parts → List Reading → List Reading → List Reading → Reading → Result Weighed ValueFault
+-- what is searched, by the readings after captures and by the own table's
+abbrev made : Parts → List Reading → List Reading → List Reading → Reading → Result CaptureSearch ValueFault
 made p all others passants own = unless (fault_in (all ++ own ∷ [])) (Ok (record {
   capture = greatest_value others;
   passant = greatest_value passants;
@@ -99,9 +99,9 @@ made p all others passants own = unless (fault_in (all ++ own ∷ [])) (Ok (reco
 made_same : (p : Parts) (all all' others others' passants passants' : List Reading) (own own' : Reading) → all ≡ all' → others ≡ others' → passants ≡ passants' → own ≡ own' → made p all' others' passants' own' ≡ made p all others passants own
 made_same p all all' others others' passants passants' own own' a b c d = rw (a, b, c, d) refl
 
-pub weighed_kept : (f g own own' : Parts → Reading) (p : Parts) → ((m : Move) (q : Parts) → is_capture p m ≡ true → position_after p m ≡ Some q → Keeps (f q) (g q)) → Keeps (own p) (own' p) → Keeps (weighed_where own f p) (weighed_where own' g p)
-unfolding weighed_where
-weighed_kept f g own own' p h k w e =
+pub searched_kept : (f g own own' : Parts → Reading) (p : Parts) → ((m : Move) (q : Parts) → is_capture p m ≡ true → position_after p m ≡ Some q → Keeps (f q) (g q)) → Keeps (own p) (own' p) → Keeps (searched_where own f p) (searched_where own' g p)
+unfolding searched_where
+searched_kept f g own own' p h k w e =
     let say : Parts → Reading = λ q. opposite_reading (f q) in
     let say' : Parts → Reading = λ q. opposite_reading (g q) in
     let after_each = λ (m : Move) (q : Parts) (c : is_capture p m ≡ true) (a : position_after p m ≡ Some q). keeps-turned (f q) (g q) (h m q c a) in
@@ -112,10 +112,10 @@ weighed_kept f g own own' p h k w e =
     let same : own p ≡ own' p = there.1.1 ∙ sym (k there.1.0 there.1.1) in
     made_same p _ _ _ _ _ _ _ _ all other passant same ∙ e
 
-by_weighed_kept : (p : Parts) (w w' : Result Weighed ValueFault) → Keeps w w' → Keeps (wdl_by_weighed p w) (wdl_by_weighed p w')
-by_weighed_kept p w w' k = step (nat_le (count_of_men p) 2)
+dtz_from_search_kept : (p : Parts) (w w' : Result CaptureSearch ValueFault) → Keeps w w' → Keeps (wdl_from_search p w) (wdl_from_search p w')
+dtz_from_search_kept p w w' k = step (nat_le (count_of_men p) 2)
   where
-    worth_kept : (w : Result Weighed ValueFault) → Keeps w w' → Keeps (worth_in w) (worth_in w')
+    worth_kept : (w : Result CaptureSearch ValueFault) → Keeps w w' → Keeps (worth_in w) (worth_in w')
     worth_kept (Ok a) k x e = rw (k a refl) e
     worth_kept (Err fault) k x e = absurd (cc)
 
@@ -128,28 +128,28 @@ own_kept (Ok u) own c x e = c ∙ e
 own_kept (Err fault) own c x e = absurd (cc)
 
 module _ (tables : Tables) (own : Parts → Reading) (completes : IsCompletion tables own) where
-  kept_to : (n : ℕ) (p : Parts) → IsPosition p → count_of_men p ≤ n → Keeps (weighed_where (table_value tables) (wdl_where (table_value tables)) p) (weighed_where own (wdl_where own) p)
+  kept_to : (n : ℕ) (p : Parts) → IsPosition p → count_of_men p ≤ n → Keeps (searched_where (table_value tables) (wdl_where (table_value tables)) p) (searched_where own (wdl_where own) p)
   kept_to zero p position few = absurd (let two = men_of_position p position in omega arith)
   kept_to (suc n) p position few =
-      weighed_kept (wdl_where (table_value tables)) (wdl_where own) (table_value tables) own p
+      searched_kept (wdl_where (table_value tables)) (wdl_where own) (table_value tables) own p
       (λ m q c a. (let less = falls p q m position c a in let after = still p q m position a in values q after (kept_to n q after (omega arith))))
       (own_kept (table_value tables p) (own p) (completes p))
     where
-      values : (q : Parts) → IsPosition q → Keeps (weighed_where (table_value tables) (wdl_where (table_value tables)) q) (weighed_where own (wdl_where own) q) → Keeps (wdl_where (table_value tables) q) (wdl_where own q)
-      values q after k x e = where_meets_rule own q after ∙ by_weighed_kept q _ _ k x (sym (where_meets_rule (table_value tables) q after) ∙ e)
+      values : (q : Parts) → IsPosition q → Keeps (searched_where (table_value tables) (wdl_where (table_value tables)) q) (searched_where own (wdl_where own) q) → Keeps (wdl_where (table_value tables) q) (wdl_where own q)
+      values q after k x e = where_meets_rule own q after ∙ dtz_from_search_kept q _ _ k x (sym (where_meets_rule (table_value tables) q after) ∙ e)
 
-  pub strict_weighed : (p : Parts) → IsPosition p → Keeps (weighed_by tables (wdl_of tables) p) (weighed_where own (wdl_where own) p)
-  unfolding weighed_by wdl_of
-  strict_weighed p position = kept_to (count_of_men p) p position (omega arith)
+  pub strict_searched : (p : Parts) → IsPosition p → Keeps (searched_by tables (wdl_of tables) p) (searched_where own (wdl_where own) p)
+  unfolding searched_by wdl_of
+  strict_searched p position = kept_to (count_of_men p) p position (omega arith)
 
   pub strict_value : (p : Parts) → IsPosition p → Keeps (wdl_of tables p) (wdl_where own p)
   unfolding wdl_of
-  strict_value p position x e = where_meets_rule own p position ∙ by_weighed_kept p _ _ (kept_to (count_of_men p) p position (omega arith)) x (sym (where_meets_rule (table_value tables) p position) ∙ e)
+  strict_value p position x e = where_meets_rule own p position ∙ dtz_from_search_kept p _ _ (kept_to (count_of_men p) p position (omega arith)) x (sym (where_meets_rule (table_value tables) p position) ∙ e)
 
 -- by the tables of a set
-pub weighed_is : (more : Tables) (p : Parts) → weighed_by more (wdl_of more) p ≡ weighed_where (table_value more) (wdl_where (table_value more)) p
-unfolding weighed_by wdl_of
-weighed_is more p = refl
+pub searched_is : (more : Tables) (p : Parts) → searched_by more (wdl_of more) p ≡ searched_where (table_value more) (wdl_where (table_value more)) p
+unfolding searched_by wdl_of
+searched_is more p = refl
 
 pub value_is : (more : Tables) (p : Parts) → wdl_of more p ≡ wdl_where (table_value more) p
 unfolding wdl_of
@@ -214,7 +214,7 @@ module _ (f g : Parts → Reach) (p : Parts) (h : (m : Move) (q : Parts) → is_
         step true = by_pawns (pawns_reach_where (wdl_of tables) p v) (pawns_reach_where (wdl_of more) p v) (pawns_kept v)
         step false = own_table_kept outcome
 
-    outcome_kept : (w : Weighed) (o : Option Outcome) → Keeps (by_outcome tables f p w o) (by_outcome more g p w o)
+    outcome_kept : (w : CaptureSearch) (o : Option Outcome) → Keeps (by_outcome tables f p w o) (by_outcome more g p w o)
     outcome_kept w None d e = e
     outcome_kept w (Some outcome) d e = step (is_by_capture w) e
       where
@@ -222,17 +222,17 @@ module _ (f g : Parts → Reach) (p : Parts) (h : (m : Move) (q : Parts) → is_
         step true e = e
         step false e = moves_kept (worth w) outcome d e
 
-    reach_kept : (w w' : Result Weighed ValueFault) → Keeps w w' → Keeps (by_weighed tables f p w) (by_weighed more g p w')
+    reach_kept : (w w' : Result CaptureSearch ValueFault) → Keeps w w' → Keeps (dtz_from_search tables f p w) (dtz_from_search more g p w')
     reach_kept (Ok w) w' k d e = rw (k w refl) (outcome_kept w (outcome_of (worth w)) d e)
     reach_kept (Err fault) w' k d e = absurd (cc)
 
     pub rules_kept : Keeps (dtz_by tables f p) (dtz_by more g p)
     rules_kept = step (nat_le (count_of_men p) 2)
       where
-        all : Keeps (by_weighed tables f p (weighed_by tables (wdl_of tables) p)) (by_weighed more g p (weighed_by more (wdl_of more) p))
-        all = reach_kept _ _ (λ w e. weighed_is more p ∙ strict_weighed tables (table_value more) c.values p position w e)
+        all : Keeps (dtz_from_search tables f p (searched_by tables (wdl_of tables) p)) (dtz_from_search more g p (searched_by more (wdl_of more) p))
+        all = reach_kept _ _ (λ w e. searched_is more p ∙ strict_searched tables (table_value more) c.values p position w e)
 
-        step : (b : Bool) → Keeps (cond b (Ok NoDistance) (by_weighed tables f p (weighed_by tables (wdl_of tables) p))) (cond b (Ok NoDistance) (by_weighed more g p (weighed_by more (wdl_of more) p)))
+        step : (b : Bool) → Keeps (cond b (Ok NoDistance) (dtz_from_search tables f p (searched_by tables (wdl_of tables) p))) (cond b (Ok NoDistance) (dtz_from_search more g p (searched_by more (wdl_of more) p)))
         step true = λ d e. e
         step false = all
 

@@ -15,9 +15,9 @@ use Rattle.judge_core.specs.Values.{Reading}
 use Rattle.judge_core.specs.Ends.{has_no_move}
 use Rattle.board_core.specs.ComputedMoves.{count_of_men}
 use Rattle.judge_core.specs.declared.fault.ValueFault.{ValueFault}
-use Rattle.judge_core.specs.declared.found.Weighed.{Weighed}
-use Rattle.judge_core.specs.Probing.{weighed_by, wdl_of}
-use Rattle.judge_core.specs.Distances.{Reach, by_weighed, dtz_to, dtz_of}
+use Rattle.judge_core.specs.declared.found.CaptureSearch.{CaptureSearch}
+use Rattle.judge_core.specs.Probing.{searched_by, wdl_of}
+use Rattle.judge_core.specs.Distances.{Reach, dtz_from_search, dtz_to, dtz_of}
 use Rattle.judge_core.proofs.Reaching.{some_left}
 use Rattle.judge_core.specs.Ruling.{is_out_of_scope, ruling_at, ruling_by, ruling}
 use Rattle.judge_core.specs.Games.{position_after_all}
@@ -45,6 +45,6 @@ by_loss tables p reading winner reach r moves scope value lost side e er =
     ruled_by tables p reading r moves scope value (er ∙ rw (side, e, lost) refl)
 
 -- the distance of a position of more than bare kings, by what its captures and its own table say
-pub reached : (tables : Tables) (p : Parts) (w : Result Weighed ValueFault) → 2 < count_of_men p → w ≡ weighed_by tables (wdl_of tables) p → by_weighed tables (dtz_to tables 1) p w ≡ dtz_of tables p
+pub reached : (tables : Tables) (p : Parts) (w : Result CaptureSearch ValueFault) → 2 < count_of_men p → w ≡ searched_by tables (wdl_of tables) p → dtz_from_search tables (dtz_to tables 1) p w ≡ dtz_of tables p
 unfolding dtz_of
 reached tables p w many e = some_left tables 2 p w (λ z. absurd (omega (arith, z))) many e

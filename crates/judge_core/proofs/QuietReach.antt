@@ -11,14 +11,14 @@ use Rattle.table_file.specs.Distances.{stores}
 use Rattle.judge_core.specs.declared.distance.Distance.{Distance}
 use Rattle.judge_core.specs.declared.distance.Distance.TheVariants.{Draw as NoDistance}
 use Rattle.judge_core.specs.declared.fault.ValueFault.{ValueFault}
-use Rattle.judge_core.specs.declared.found.Weighed.{Weighed}
+use Rattle.judge_core.specs.declared.found.CaptureSearch.{CaptureSearch}
 use Rattle.judge_core.specs.Values.{outcome_of}
 use Rattle.judge_core.specs.LookUp.{material_of, placed_of}
 use Rattle.judge_core.specs.Tables.{Tables, table_at, part_asked}
-use Rattle.judge_core.specs.Probing.{weighed_by, wdl_of, worth}
-use Rattle.judge_core.specs.Distances.{Reach, is_won, is_by_capture, pawns_reach, unless_reached, by_quiet_moves, by_table, by_material, by_own_table, by_moves, by_outcome, by_weighed, zeroing, towards, dtz_by, dtz_to, dtz_of}
+use Rattle.judge_core.specs.Probing.{searched_by, wdl_of, worth}
+use Rattle.judge_core.specs.Distances.{Reach, is_won, is_by_capture, pawns_reach, unless_reached, by_quiet_moves, by_table, by_material, by_own_table, by_moves, by_outcome, dtz_from_search, zeroing, towards, dtz_by, dtz_to, dtz_of}
 use Rattle.judge_core.specs.Determined.{IsCompletedBy, IsDeterminedDistance, IsLeftToQuietMoves, IsToldAfter, IsDistanceByQuietMoves}
-use Rattle.judge_core.specs.Inside.Determined.{distance_in_both, extreme_weighed, or_agreed_distance, reach_after}
+use Rattle.judge_core.specs.Inside.Determined.{distance_in_both, extreme_searched, or_agreed_distance, reach_after}
 use Rattle.judge_core.proofs.Rule.{still}
 use Rattle.judge_core.proofs.Kept.{Keeps, rules_kept, quiet_kept, kept_in}
 use Rattle.judge_core.proofs.Zeroing.{IsMany, opened, told_by}
@@ -49,7 +49,7 @@ told_after tables q d position e = step (dtz_to tables 1 q) refl (distance_in_bo
     step (Err fault) er None eo e = absurd (cc)
     step (Err fault) er (Some c) eo e =
         let same : c ≡ d = cc in
-        inr (by_value tables q position (never_few tables q fault er) (extreme_weighed tables true q) (extreme_weighed tables false q) refl refl d (eo ∙ ap (λ (y : Distance). Some y) same))
+        inr (by_value tables q position (never_few tables q fault er) (extreme_searched tables true q) (extreme_searched tables false q) refl refl d (eo ∙ ap (λ (y : Distance). Some y) same))
 
 -- every set with more tables tells it too
 after_kept : (tables more : Tables) → IsCompletedBy tables more → (q : Parts) → IsPosition q → Keeps (reach_after tables q) (dtz_to more 1 q)
@@ -62,7 +62,7 @@ after_kept tables more c q position d e = step (dtz_to tables 1 q) refl (distanc
     step (Err fault) er (Some x) eo e =
         let same : x ≡ d = cc in
         visited more q
-        ∙ told_by tables q position (never_few tables q fault er) (extreme_weighed tables true q) (extreme_weighed tables false q) refl refl d (eo ∙ ap (λ (y : Distance). Some y) same) more c (dtz_to more 0)
+        ∙ told_by tables q position (never_few tables q fault er) (extreme_searched tables true q) (extreme_searched tables false q) refl refl d (eo ∙ ap (λ (y : Distance). Some y) same) more c (dtz_to more 0)
 
 pub by_told_moves : (tables : Tables) (p : Parts) (d : Distance) → IsPosition p → dtz_by tables (reach_after tables) p ≡ Ok d → IsDeterminedDistance tables p d
 by_told_moves tables p d position e more c =
@@ -80,7 +80,7 @@ not_told r d fault ok err = (let both : Ok d ≡ Err fault = sym ok ∙ err in c
 
 -- where one way to ask the positions after quiet moves meets a fault and another one does not
 module _ (tables : Tables) (f g : Parts → Reach) (p : Parts) (d : Distance) (fault : ValueFault) (many : 2 < count_of_men p) where
-  module _ (w : Weighed) (there : weighed_by tables (wdl_of tables) p ≡ Ok w) (outcome : Outcome) (decided : outcome_of (worth w) ≡ Some outcome) (no_capture : is_by_capture w ≡ false) (no_pawn_move : is_won outcome ≡ true → pawns_reach tables p (worth w) ≡ Ok false) where
+  module _ (w : CaptureSearch) (there : searched_by tables (wdl_of tables) p ≡ Ok w) (outcome : Outcome) (decided : outcome_of (worth w) ≡ Some outcome) (no_capture : is_by_capture w ≡ false) (no_pawn_move : is_won outcome ≡ true → pawns_reach tables p (worth w) ≡ Ok false) where
     by_side : (key : ℕ) (t : Contents) → material_of p ≡ Some key → table_at tables Dtz key ≡ Some t → (b : Bool) → stores (part_asked t (placed_of key p)) ≡ b → by_table (Some t) key f p outcome ≡ Err fault → by_table (Some t) key g p outcome ≡ Ok d → IsByThem tables g p d
     by_side key t em et true eb ef eg = absurd (not_told _ d fault (rw eb at eg) (rw eb at ef))
     by_side key t em et false eb ef eg = (
@@ -88,7 +88,7 @@ module _ (tables : Tables) (f g : Parts → Reach) (p : Parts) (d : Distance) (f
       outcome,
       record {
         many = many;
-        weighed = w;
+        searched = w;
         there = there;
         decided = decided;
         no_capture = no_capture;
@@ -113,7 +113,7 @@ module _ (tables : Tables) (f g : Parts → Reach) (p : Parts) (d : Distance) (f
         by_key None em ef eg = absurd (cc)
         by_key (Some key) em ef eg = by_contents key em (table_at tables Dtz key) refl ef eg
 
-  module _ (w : Weighed) (there : weighed_by tables (wdl_of tables) p ≡ Ok w) (outcome : Outcome) (decided : outcome_of (worth w) ≡ Some outcome) (no_capture : is_by_capture w ≡ false) where
+  module _ (w : CaptureSearch) (there : searched_by tables (wdl_of tables) p ≡ Ok w) (outcome : Outcome) (decided : outcome_of (worth w) ≡ Some outcome) (no_capture : is_by_capture w ≡ false) where
     by_pawns : (r : Result Bool ValueFault) → pawns_reach tables p (worth w) ≡ r → unless_reached r outcome (by_own_table tables f p outcome) ≡ Err fault → unless_reached r outcome (by_own_table tables g p outcome) ≡ Ok d → IsByThem tables g p d
     by_pawns (Err other) er ef eg = absurd (cc)
     by_pawns (Ok true) er ef eg = absurd (cc)
@@ -128,7 +128,7 @@ module _ (tables : Tables) (f g : Parts → Reach) (p : Parts) (d : Distance) (f
         step true eb ef eg = by_pawns (pawns_reach tables p (worth w)) refl ef eg
         step false eb ef eg = by_own w there outcome decided no_capture (λ won. absurd (false≢true (sym eb ∙ won))) ef eg
 
-  left_by : (r : Result Weighed ValueFault) → weighed_by tables (wdl_of tables) p ≡ r → by_weighed tables f p r ≡ Err fault → by_weighed tables g p r ≡ Ok d → IsByThem tables g p d
+  left_by : (r : Result CaptureSearch ValueFault) → searched_by tables (wdl_of tables) p ≡ r → dtz_from_search tables f p r ≡ Err fault → dtz_from_search tables g p r ≡ Ok d → IsByThem tables g p d
   left_by (Err other) er ef eg = absurd (cc)
   left_by (Ok w) er ef eg = by_kind (outcome_of (worth w)) refl ef eg
     where
@@ -144,12 +144,12 @@ module _ (tables : Tables) (f g : Parts → Reach) (p : Parts) (d : Distance) (f
 pub left_to_them : (tables : Tables) (p : Parts) (d : Distance) (fault : ValueFault) → IsPosition p → dtz_of tables p ≡ Err fault → dtz_by tables (reach_after tables) p ≡ Ok d → IsDistanceByQuietMoves tables p d
 left_to_them tables p d fault position ef eg = step (nat_le (count_of_men p) 2) refl (sym (opened tables p) ∙ ef) eg
   where
-    step : (t : Bool) → nat_le (count_of_men p) 2 ≡ t → cond t (Ok NoDistance) (by_weighed tables (dtz_to tables 1) p (weighed_by tables (wdl_of tables) p)) ≡ Err fault
-        → cond t (Ok NoDistance) (by_weighed tables (reach_after tables) p (weighed_by tables (wdl_of tables) p)) ≡ Ok d → IsDistanceByQuietMoves tables p d
+    step : (t : Bool) → nat_le (count_of_men p) 2 ≡ t → cond t (Ok NoDistance) (dtz_from_search tables (dtz_to tables 1) p (searched_by tables (wdl_of tables) p)) ≡ Err fault
+        → cond t (Ok NoDistance) (dtz_from_search tables (reach_after tables) p (searched_by tables (wdl_of tables) p)) ≡ Ok d → IsDistanceByQuietMoves tables p d
     step true et ef eg = absurd (cc)
     step false et ef eg =
         let above = leb-false (count_of_men p) 2 et in
-        let them = left_by tables (dtz_to tables 1) (reach_after tables) p d fault (omega (arith, above)) (weighed_by tables (wdl_of tables) p) refl ef eg in
+        let them = left_by tables (dtz_to tables 1) (reach_after tables) p d fault (omega (arith, above)) (searched_by tables (wdl_of tables) p) refl ef eg in
         record {
           key = them.0;
           outcome = them.1;
@@ -169,7 +169,7 @@ rules_ask tables reach p key outcome l = rw (lt-leb (count_of_men p) 2 l.many, l
     own : by_material tables (material_of p) reach p outcome ≡ by_quiet_moves key outcome reach p
     own = rw (l.material, l.has, l.other_side) refl
 
-    step : (b : Bool) → is_won outcome ≡ b → cond b (unless_reached (pawns_reach tables p (worth l.weighed)) outcome (by_material tables (material_of p) reach p outcome)) (by_material tables (material_of p) reach p outcome) ≡ by_quiet_moves key outcome reach p
+    step : (b : Bool) → is_won outcome ≡ b → cond b (unless_reached (pawns_reach tables p (worth l.searched)) outcome (by_material tables (material_of p) reach p outcome)) (by_material tables (material_of p) reach p outcome) ≡ by_quiet_moves key outcome reach p
     step true eb = rw (l.no_pawn_move eb) own
     step false eb = own
 

@@ -9,7 +9,7 @@ use Rattle.table_file.specs.declared.outcome.Outcome.{Outcome}
 use Rattle.table_file.specs.Tables.{Contents}
 use Rattle.table_file.specs.Distances.{stores}
 use Rattle.judge_core.specs.declared.wdl.Wdl.{Wdl}
-use Rattle.judge_core.specs.declared.found.Weighed.{Weighed}
+use Rattle.judge_core.specs.declared.found.CaptureSearch.{CaptureSearch}
 use Rattle.judge_core.specs.declared.fault.ValueFault.{ValueFault}
 use Rattle.judge_core.specs.declared.fault.ValueFault.TheVariants.{NotCovered}
 use Rattle.judge_core.specs.declared.distance.Distance.{Distance}
@@ -17,8 +17,8 @@ use Rattle.judge_core.specs.declared.distance.Distance.TheVariants.{Draw}
 use Rattle.judge_core.specs.LookUp.{material_of, placed_of}
 use Rattle.judge_core.specs.Tables.{Tables, table_at, part_asked}
 use Rattle.judge_core.specs.Ends.{is_mate}
-use Rattle.judge_core.specs.Probing.{weighed_by, wdl_of}
-use Rattle.judge_core.specs.Distances.{Reach, is_won, zeroing, towards, distance_before, move_counts, by_quiet_moves, distance_in, stored_distance, by_own_table, pawns_reach, unless_reached, by_moves, by_weighed, dtz_by, dtz_to}
+use Rattle.judge_core.specs.Probing.{searched_by, wdl_of}
+use Rattle.judge_core.specs.Distances.{Reach, is_won, zeroing, towards, distance_before, move_counts, by_quiet_moves, distance_in, stored_distance, by_own_table, pawns_reach, unless_reached, by_moves, dtz_from_search, dtz_by, dtz_to}
 use Rattle.judge_core.specs.Inside.Determined.{distance_in_both, or_agreed_distance, reach_after}
 
 -- what is equal to the one is equal to the other
@@ -78,7 +78,7 @@ reached_by outcome own b n d yes' en ed = rw yes' (ap (λ (x : Distance). Ok x) 
 pub bare_by : (tables : Tables) (reach : Parts → Reach) (p : Parts) → count_of_men p ≤ 2 → Ok Draw ≡ dtz_by tables reach p
 bare_by tables reach p few = rw (le-leb (count_of_men p) 2 few) refl
 
-pub many_by_rules : (tables : Tables) (reach : Parts → Reach) (p : Parts) (w : Result Weighed ValueFault) → 2 < count_of_men p → w ≡ weighed_by tables (wdl_of tables) p → by_weighed tables reach p w ≡ dtz_by tables reach p
+pub many_by_rules : (tables : Tables) (reach : Parts → Reach) (p : Parts) (w : Result CaptureSearch ValueFault) → 2 < count_of_men p → w ≡ searched_by tables (wdl_of tables) p → dtz_from_search tables reach p w ≡ dtz_by tables reach p
 many_by_rules tables reach p w many e = rw (lt-leb (count_of_men p) 2 many, ← e) refl
 
 -- what is asked of a position after a quiet move
@@ -101,7 +101,7 @@ unfolding dtz_to
 few_men tables zero p few = refl
 few_men tables (suc n) p few = rw (le-leb (count_of_men p) 2 few) refl
 
-pub some_left : (tables : Tables) (n : ℕ) (p : Parts) (w : Result Weighed ValueFault) → ¬ (n ≡ 0) → 2 < count_of_men p → w ≡ weighed_by tables (wdl_of tables) p → by_weighed tables (dtz_to tables (n - 1)) p w ≡ dtz_to tables n p
+pub some_left : (tables : Tables) (n : ℕ) (p : Parts) (w : Result CaptureSearch ValueFault) → ¬ (n ≡ 0) → 2 < count_of_men p → w ≡ searched_by tables (wdl_of tables) p → dtz_from_search tables (dtz_to tables (n - 1)) p w ≡ dtz_to tables n p
 unfolding dtz_to
 some_left tables zero p w left many e = absurd (left refl)
 some_left tables (suc n) p w left many e = let less : suc n - 1 ≡ n = omega arith in rw (less, lt-leb (count_of_men p) 2 many, ← e) refl

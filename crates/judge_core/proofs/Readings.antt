@@ -12,13 +12,13 @@ use Rattle.judge_core.specs.declared.wdl.Wdl.TheVariants.{Loss}
 use Rattle.judge_core.specs.declared.fault.ValueFault.{ValueFault}
 use Rattle.judge_core.specs.declared.fault.ValueFault.TheVariants.{NotCovered, Damaged}
 use Rattle.judge_core.specs.declared.found.Found.{Found}
-use Rattle.judge_core.specs.declared.found.Weighed.{Weighed}
+use Rattle.judge_core.specs.declared.found.CaptureSearch.{CaptureSearch}
 use Rattle.judge_core.specs.Values.{Reading, opposite_reading, greater}
 use Rattle.judge_core.specs.Tables.{Tables, table_value}
 use Rattle.judge_core.specs.Asked.{faults_in, first_fault, unless}
-use Rattle.judge_core.specs.Probing.{values_after, greatest_value, value_or_loss, is_forced, weighed_by, weighed_where}
+use Rattle.judge_core.specs.Probing.{values_after, greatest_value, value_or_loss, is_forced, searched_by, searched_where}
 use Rattle.judge_core.specs.declared.fault.Faults.{Faults}
-use Rattle.judge_core.proofs.Asking.{asked-append, faults-append, faults_more}
+use Rattle.judge_core.proofs.RequestFrequency.{asked-append, faults-append, faults_more}
 use Rattle.judge_core.specs.Inside.Found.{lands_empty, found_by_captures, nothing_found, found_with, closed}
 use Rattle.judge_core.proofs.Captures.{passants, others}
 
@@ -133,8 +133,8 @@ walk-ends value p found last w none = w.so_far ∙ ap (found_by_captures value p
 pub no_captures : (value : Parts → Reading) (p : Parts) (found : Found) → found ≡ nothing_found → captures_after p None ≡ [] → found ≡ found_by_captures value p (legal_captures p)
 no_captures value p found e none = walk-ends value p found None (walk-begins value p found e) none
 
-pub with_own_where : (said : Parts → Reading) (value : Parts → Reading) (p : Parts) (found : Found) (own : Reading) (b : Bool) (w : Result Weighed ValueFault) → found ≡ found_by_captures value p (legal_captures p) → own ≡ said p → b ≡ is_forced p → w ≡ closed found own b → w ≡ weighed_where said value p
-unfolding found_by_captures weighed_where
+pub with_own_where : (said : Parts → Reading) (value : Parts → Reading) (p : Parts) (found : Found) (own : Reading) (b : Bool) (w : Result CaptureSearch ValueFault) → found ≡ found_by_captures value p (legal_captures p) → own ≡ said p → b ≡ is_forced p → w ≡ closed found own b → w ≡ searched_where said value p
+unfolding found_by_captures searched_where
 with_own_where said value p found own b w f o i c =
     c ∙ rw (f, o, i, passants p, others p) (ap (λ (x : Faults). unless (first_fault x) (Ok (record {
       capture = greatest_value (values_after value p (filter (λ m. not (is_en_passant p m)) (legal_captures p)));
@@ -143,6 +143,6 @@ with_own_where said value p found own b w f o i c =
       forced = is_forced p;
     }))) (sym (faults-append (values_after value p (legal_captures p)) (said p ∷ []))))
 
-pub with_own : (tables : Tables) (value : Parts → Reading) (p : Parts) (found : Found) (own : Reading) (b : Bool) (w : Result Weighed ValueFault) → found ≡ found_by_captures value p (legal_captures p) → own ≡ table_value tables p → b ≡ is_forced p → w ≡ closed found own b → w ≡ weighed_by tables value p
-unfolding weighed_by
+pub with_own : (tables : Tables) (value : Parts → Reading) (p : Parts) (found : Found) (own : Reading) (b : Bool) (w : Result CaptureSearch ValueFault) → found ≡ found_by_captures value p (legal_captures p) → own ≡ table_value tables p → b ≡ is_forced p → w ≡ closed found own b → w ≡ searched_by tables value p
+unfolding searched_by
 with_own tables value p found own b w f o i c = with_own_where (table_value tables) value p found own b w f o i c

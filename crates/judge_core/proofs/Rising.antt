@@ -8,12 +8,12 @@ use Rattle.board_core.specs.ComputedMoves.{position_after, legal_moves, is_captu
 use Rattle.judge_core.specs.declared.fault.Faults.{Faults}
 use Rattle.judge_core.specs.declared.fault.ValueFault.{ValueFault}
 use Rattle.judge_core.specs.declared.fault.ValueFault.TheVariants.{NotCovered, Damaged}
-use Rattle.judge_core.specs.declared.found.Weighed.{Weighed}
+use Rattle.judge_core.specs.declared.found.CaptureSearch.{CaptureSearch}
 use Rattle.judge_core.specs.declared.wdl.Wdl.{Wdl}
 use Rattle.judge_core.specs.declared.wdl.Wdl.TheVariants.{Loss, BlessedLoss, Draw, CursedWin, Win}
 use Rattle.judge_core.specs.Values.{Reading, points, opposite, greater, opposite_reading}
 use Rattle.judge_core.specs.Asked.{faults_in, first_fault, unless}
-use Rattle.judge_core.specs.Probing.{values_after, value_or_loss, weighed_where, worth, worth_in, wdl_by_weighed}
+use Rattle.judge_core.specs.Probing.{values_after, value_or_loss, searched_where, worth, worth_in, wdl_from_search}
 
 -- ---- values
 
@@ -125,21 +125,21 @@ greatest_rises (Ok u ∷ rs) (Err fault ∷ ss) a b h le = absurd (h.0)
 greatest_rises (Err fault ∷ rs) (Ok v ∷ ss) a b h le = absurd (h.0)
 greatest_rises (Err fault ∷ rs) (Err other ∷ ss) a b h le = greatest_rises rs ss a b h.1 le
 
--- ---- what is weighed
+-- ---- what is searched
 
-pub record WeighsAtMost (a b : Weighed) : Type 0 where
+pub record SearchesAtMost (a b : CaptureSearch) : Type 0 where
   pub capture : points a.capture ≤ points b.capture
   pub passant : points a.passant ≤ points b.passant
   pub own : points a.own ≤ points b.own
   pub forced : a.forced ≡ b.forced
 
-abbrev pub AtMostWeighed : Result Weighed ValueFault → Result Weighed ValueFault → Type 0
-AtMostWeighed (Ok a) (Ok b) = WeighsAtMost a b
-AtMostWeighed (Ok a) (Err fault) = ⊥
-AtMostWeighed (Err fault) (Ok b) = ⊥
-AtMostWeighed (Err fault) (Err other) = fault ≡ other
+abbrev pub AtMostSearched : Result CaptureSearch ValueFault → Result CaptureSearch ValueFault → Type 0
+AtMostSearched (Ok a) (Ok b) = SearchesAtMost a b
+AtMostSearched (Ok a) (Err fault) = ⊥
+AtMostSearched (Err fault) (Ok b) = ⊥
+AtMostSearched (Err fault) (Err other) = fault ≡ other
 
-unless_rises : (f g : Option ValueFault) (a b : Weighed) → f ≡ g → WeighsAtMost a b → AtMostWeighed (unless f (Ok a)) (unless g (Ok b))
+unless_rises : (f g : Option ValueFault) (a b : CaptureSearch) → f ≡ g → SearchesAtMost a b → AtMostSearched (unless f (Ok a)) (unless g (Ok b))
 unless_rises None None a b e h = h
 unless_rises None (Some x) a b e h = cc
 unless_rises (Some x) None a b e h = cc
@@ -168,9 +168,9 @@ module _ (f g : Parts → Reading) (p : Parts) (h : (m : Move) (q : Parts) → i
       step rest true false e et = rw (e, et) rest
       step rest false t e et = rw e rest
 
-  pub weighed_rises : (own own' : Parts → Reading) → AtMost (own p) (own' p) → AtMostWeighed (weighed_where own f p) (weighed_where own' g p)
-  unfolding weighed_where
-  weighed_rises own own' le =
+  pub searched_rises : (own own' : Parts → Reading) → AtMost (own p) (own' p) → AtMostSearched (searched_where own f p) (searched_where own' g p)
+  unfolding searched_where
+  searched_rises own own' le =
       unless_rises _ _ _ _ (ap first_fault (same_faults _ _ (rises-append _ _ (own p) (own' p) (rises_all (legal_moves p)) le)))
       (record {
         capture = greatest_rises _ _ Loss Loss (rises_some (λ m. not (is_en_passant p m)) (legal_moves p)) (omega arith);
@@ -179,22 +179,22 @@ module _ (f g : Parts → Reading) (p : Parts) (h : (m : Move) (q : Parts) → i
         forced = refl;
       })
 
-pub worth_rises : (a b : Weighed) → WeighsAtMost a b → points (worth a) ≤ points (worth b)
+pub worth_rises : (a b : CaptureSearch) → SearchesAtMost a b → points (worth a) ≤ points (worth b)
 worth_rises a b h = step a.forced refl
   where
     step : (t : Bool) → a.forced ≡ t → points (worth a) ≤ points (worth b)
     step true e = rw (e, sym h.forced ∙ e) h.passant
     step false e = rw (e, sym h.forced ∙ e) (greater_rises _ _ _ _ (greater_rises _ _ _ _ h.capture h.passant) h.own)
 
-pub value_rises : (p : Parts) (a b : Result Weighed ValueFault) → AtMostWeighed a b → AtMost (wdl_by_weighed p a) (wdl_by_weighed p b)
+pub value_rises : (p : Parts) (a b : Result CaptureSearch ValueFault) → AtMostSearched a b → AtMost (wdl_from_search p a) (wdl_from_search p b)
 value_rises p a b h = step (nat_le (count_of_men p) 2)
   where
-    weighed : (a b : Result Weighed ValueFault) → AtMostWeighed a b → AtMost (worth_in a) (worth_in b)
-    weighed (Ok a) (Ok b) h = worth_rises a b h
-    weighed (Ok a) (Err fault) h = absurd h
-    weighed (Err fault) (Ok b) h = absurd h
-    weighed (Err fault) (Err other) h = h
+    searched : (a b : Result CaptureSearch ValueFault) → AtMostSearched a b → AtMost (worth_in a) (worth_in b)
+    searched (Ok a) (Ok b) h = worth_rises a b h
+    searched (Ok a) (Err fault) h = absurd h
+    searched (Err fault) (Ok b) h = absurd h
+    searched (Err fault) (Err other) h = h
 
     step : (t : Bool) → AtMost (cond t (Ok Draw) (worth_in a)) (cond t (Ok Draw) (worth_in b))
     step true = omega arith
-    step false = weighed a b h
+    step false = searched a b h

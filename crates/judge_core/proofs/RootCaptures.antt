@@ -10,14 +10,14 @@ use Rattle.board_core.specs.Position.{IsPosition}
 use Rattle.board_core.specs.ComputedMoves.{position_after, legal_moves, legal_captures, is_capture, is_en_passant, count_of_men}
 use Rattle.board_core.proofs.ComputedMen.{men_of_position}
 use Rattle.judge_core.specs.declared.fault.ValueFault.{ValueFault}
-use Rattle.judge_core.specs.declared.found.Weighed.{Weighed}
+use Rattle.judge_core.specs.declared.found.CaptureSearch.{CaptureSearch}
 use Rattle.judge_core.specs.declared.root_move.RootMove.{RootMove}
 use Rattle.judge_core.specs.declared.wdl.Wdl.{Wdl}
 use Rattle.judge_core.specs.declared.wdl.Wdl.TheVariants.{Loss, Draw}
 use Rattle.judge_core.specs.Values.{Reading, points, greater, opposite_reading}
 use Rattle.judge_core.specs.Tables.{Tables, table_value}
 use Rattle.judge_core.specs.Asked.{asked, fault_in, unless}
-use Rattle.judge_core.specs.Probing.{values_after, greatest_value, value_or_loss, is_forced, are_en_passant, weighed_by, weighed_where, worth, worth_in, wdl_of}
+use Rattle.judge_core.specs.Probing.{values_after, greatest_value, value_or_loss, is_forced, are_en_passant, searched_by, searched_where, worth, worth_in, wdl_of}
 use Rattle.judge_core.specs.Root.{effect_of, captures, is_checkmate, root_move_by, root_move_at, root_moves_by}
 use Rattle.judge_core.specs.RootLaws.{NoCaptureIsBetter}
 use Rattle.judge_core.proofs.Captures.{falls, passant_is_capture}
@@ -140,7 +140,7 @@ module _ (tables : Tables) (p : Parts) (m : Move) (q : Parts) (u : Wdl) (has : C
   other_most : is_en_passant p m ≡ false → points u ≤ points (greatest_value (values_after (wdl_of tables) p (filter (λ x. not (is_en_passant p x)) (legal_captures p))))
   other_most e = among value_after p Loss (filter (λ x. not (is_en_passant p x)) (legal_captures p)) m q u (passes_there (λ x. not (is_en_passant p x)) (legal_captures p) m (passes_there (is_capture p) (legal_moves p) m has takes) (ap not e)) eq eu
 
-  worth_most : (w : Weighed) → w.capture ≡ greatest_value (values_after (wdl_of tables) p (filter (λ x. not (is_en_passant p x)) (legal_captures p)))
+  worth_most : (w : CaptureSearch) → w.capture ≡ greatest_value (values_after (wdl_of tables) p (filter (λ x. not (is_en_passant p x)) (legal_captures p)))
       → w.passant ≡ greatest_value (values_after (wdl_of tables) p (filter (is_en_passant p) (legal_captures p))) → w.forced ≡ is_forced p → points u ≤ points (worth w)
   worth_most w ec ep ef = by_forced w.forced refl
     where
@@ -161,25 +161,25 @@ module _ (tables : Tables) (p : Parts) (m : Move) (q : Parts) (u : Wdl) (has : C
           by_passant true ee = (let most = subst (λ (x : Wdl). points u ≤ points x) (sym ep) (passant_most ee) in omega (arith, most, right, whole))
           by_passant false ee = (let most = subst (λ (x : Wdl). points u ≤ points x) (sym ec) (other_most ee) in omega (arith, most, left, whole))
 
-  weighed_most : (f : Option ValueFault) (w : Weighed) (v : Wdl) → points u ≤ points (worth w) → worth_in (unless f (Ok w)) ≡ Ok v → points u ≤ points v
-  weighed_most None w v most e = (let same : worth w ≡ v = cc in subst (λ (x : Wdl). points u ≤ points x) same most)
-  weighed_most (Some fault) w v most e = absurd cc
+  searched_most : (f : Option ValueFault) (w : CaptureSearch) (v : Wdl) → points u ≤ points (worth w) → worth_in (unless f (Ok w)) ≡ Ok v → points u ≤ points v
+  searched_most None w v most e = (let same : worth w ≡ v = cc in subst (λ (x : Wdl). points u ≤ points x) same most)
+  searched_most (Some fault) w v most e = absurd cc
 
 module _ (tables : Tables) (p : Parts) (position : IsPosition p) where
   whole_value : (m : Move) (q : Parts) (u v : Wdl) → Contains (legal_moves p) m → is_capture p m ≡ true → position_after p m ≡ Some q → opposite_reading (wdl_of tables q) ≡ Ok u → wdl_of tables p ≡ Ok v → points u ≤ points v
-  unfolding weighed_by weighed_where
+  unfolding searched_by searched_where
   whole_value m q u v has takes eq eu ev =
       let men = men_of_position q (still p q m position eq) in
       let less = falls p q m position takes eq in
       let many : 2 < count_of_men p = omega (arith, men, less) in
-      let rule = sym (ap (λ b. cond b (Ok Draw) (worth_in (weighed_by tables (wdl_of tables) p))) (lt-leb (count_of_men p) 2 many)) ∙ sym (meets_rule tables p position) ∙ ev in
-      let w : Weighed = record {
+      let rule = sym (ap (λ b. cond b (Ok Draw) (worth_in (searched_by tables (wdl_of tables) p))) (lt-leb (count_of_men p) 2 many)) ∙ sym (meets_rule tables p position) ∙ ev in
+      let w : CaptureSearch = record {
         capture = greatest_value (values_after (wdl_of tables) p (filter (λ x. not (is_en_passant p x)) (legal_captures p)));
         passant = greatest_value (values_after (wdl_of tables) p (filter (is_en_passant p) (legal_captures p)));
         own = value_or_loss (table_value tables p);
         forced = is_forced p;
       } in
-      weighed_most tables p m q u has takes eq eu (fault_in (values_after (wdl_of tables) p (legal_captures p) ++ table_value tables p ∷ [])) w v (worth_most tables p m q u has takes eq eu w refl refl refl) rule
+      searched_most tables p m q u has takes eq eu (fault_in (values_after (wdl_of tables) p (legal_captures p) ++ table_value tables p ∷ [])) w v (worth_most tables p m q u has takes eq eu w refl refl refl) rule
 
   of_move : (r : RootMove) (m : Move) (u v : Wdl) (o : Option Parts) → position_after p m ≡ o → Contains (legal_moves p) m → option_map (root_move_by (wdl_of tables) (dtz_of tables) p m) o ≡ Some r
       → captures r.effect ≡ true → is_checkmate r.state ≡ false → r.wdl ≡ Ok u → wdl_of tables p ≡ Ok v → points u ≤ points v

@@ -11,10 +11,10 @@ use Rattle.board_core.proofs.ComputedMen.{men_of_position}
 use Rattle.board_core.proofs.Preserved.{IsPosition-play}
 use Rattle.judge_core.specs.declared.wdl.Wdl.TheVariants.{Draw}
 use Rattle.judge_core.specs.declared.fault.ValueFault.{ValueFault}
-use Rattle.judge_core.specs.declared.found.Weighed.{Weighed}
+use Rattle.judge_core.specs.declared.found.CaptureSearch.{CaptureSearch}
 use Rattle.judge_core.specs.Values.{Reading, opposite_reading}
 use Rattle.judge_core.specs.Tables.{Tables, table_value}
-use Rattle.judge_core.specs.Probing.{values_after, weighed_where, weighed_by, wdl_by_weighed, wdl_by, wdl_to, wdl_where, wdl_of, worth_in}
+use Rattle.judge_core.specs.Probing.{values_after, searched_where, searched_by, wdl_from_search, wdl_by, wdl_to, wdl_where, wdl_of, worth_in}
 use Rattle.judge_core.proofs.Captures.{falls}
 
 -- two ways to tell a value agree after each capture
@@ -43,13 +43,13 @@ module _ (f g : Parts → Reading) (p : Parts) (agree : Agree f g p) where
       step rest true false e et = rw (e, et) rest
       step rest false t e et = rw e rest
 
-  pub same_weighed : (own : Parts → Reading) → weighed_where own f p ≡ weighed_where own g p
-  unfolding weighed_where
-  same_weighed own =
+  pub same_searched : (own : Parts → Reading) → searched_where own f p ≡ searched_where own g p
+  unfolding searched_where
+  same_searched own =
       rw (same_all (legal_moves p), same_some (λ m. not (is_en_passant p m)) (legal_moves p), same_some (is_en_passant p) (legal_moves p)) refl
 
-same_rule : (own f g : Parts → Reading) (p : Parts) → Agree f g p → wdl_by_weighed p (weighed_where own f p) ≡ wdl_by_weighed p (weighed_where own g p)
-same_rule own f g p agree = ap (wdl_by_weighed p) (same_weighed f g p agree own)
+same_rule : (own f g : Parts → Reading) (p : Parts) → Agree f g p → wdl_from_search p (searched_where own f p) ≡ wdl_from_search p (searched_where own g p)
+same_rule own f g p agree = ap (wdl_from_search p) (same_searched f g p agree own)
 
 pub still : (p q : Parts) (m : Move) → IsPosition p → position_after p m ≡ Some q → IsPosition q
 still p q m position e = IsPosition-play p m q position (position_legal p m q e)
@@ -62,7 +62,7 @@ enough own (suc n) zero p position a b = absurd (let two = men_of_position p pos
 enough own (suc n) (suc k) p position a b =
     same_rule own (wdl_to own n) (wdl_to own k) p (λ m q c e. (let less = falls p q m position c e in enough own n k q (still p q m position e) (omega arith) (omega arith)))
 
-step_in : (own : Parts → Reading) (n : ℕ) (p : Parts) → IsPosition p → n ≡ count_of_men p → wdl_to own n p ≡ wdl_by_weighed p (weighed_where own (wdl_where own) p)
+step_in : (own : Parts → Reading) (n : ℕ) (p : Parts) → IsPosition p → n ≡ count_of_men p → wdl_to own n p ≡ wdl_from_search p (searched_where own (wdl_where own) p)
 unfolding wdl_to wdl_where
 step_in own zero p position e = absurd (let two = men_of_position p position in omega arith)
 step_in own (suc n) p position e =
@@ -73,27 +73,27 @@ unfolding wdl_where
 opened own p = refl
 
 -- by whatever the own tables say
-pub where_meets_rule : (own : Parts → Reading) (p : Parts) → IsPosition p → wdl_where own p ≡ wdl_by_weighed p (weighed_where own (wdl_where own) p)
+pub where_meets_rule : (own : Parts → Reading) (p : Parts) → IsPosition p → wdl_where own p ≡ wdl_from_search p (searched_where own (wdl_where own) p)
 where_meets_rule own p position = opened own p ∙ step_in own (count_of_men p) p position refl
 
 pub meets_rule : (tables : Tables) (p : Parts) → IsPosition p → wdl_of tables p ≡ wdl_by tables (wdl_of tables) p
-unfolding wdl_of weighed_by
+unfolding wdl_of searched_by
 meets_rule tables p position = where_meets_rule (table_value tables) p position
 
 -- a position of two men, and one of more
 pub where_bare : (own : Parts → Reading) (p : Parts) → IsPosition p → count_of_men p ≤ 2 → Ok Draw ≡ wdl_where own p
-where_bare own p position few = sym (where_meets_rule own p position ∙ ap (λ b. cond b (Ok Draw) (worth_in (weighed_where own (wdl_where own) p))) (le-leb (count_of_men p) 2 few))
+where_bare own p position few = sym (where_meets_rule own p position ∙ ap (λ b. cond b (Ok Draw) (worth_in (searched_where own (wdl_where own) p))) (le-leb (count_of_men p) 2 few))
 
-pub where_weighed : (own : Parts → Reading) (p : Parts) (w : Result Weighed ValueFault) → IsPosition p → 2 < count_of_men p → w ≡ weighed_where own (wdl_where own) p → worth_in w ≡ wdl_where own p
-where_weighed own p w position many e = sym (where_meets_rule own p position ∙ ap (λ b. cond b (Ok Draw) (worth_in (weighed_where own (wdl_where own) p))) (lt-leb (count_of_men p) 2 many) ∙ ap worth_in (sym e))
+pub where_searched : (own : Parts → Reading) (p : Parts) (w : Result CaptureSearch ValueFault) → IsPosition p → 2 < count_of_men p → w ≡ searched_where own (wdl_where own) p → worth_in w ≡ wdl_where own p
+where_searched own p w position many e = sym (where_meets_rule own p position ∙ ap (λ b. cond b (Ok Draw) (worth_in (searched_where own (wdl_where own) p))) (lt-leb (count_of_men p) 2 many) ∙ ap worth_in (sym e))
 
 pub bare : (tables : Tables) (p : Parts) → IsPosition p → count_of_men p ≤ 2 → Ok Draw ≡ wdl_of tables p
 unfolding wdl_of
 bare tables p position few = where_bare (table_value tables) p position few
 
-pub weighed : (tables : Tables) (p : Parts) (w : Result Weighed ValueFault) → IsPosition p → 2 < count_of_men p → w ≡ weighed_by tables (wdl_of tables) p → worth_in w ≡ wdl_of tables p
-unfolding wdl_of weighed_by
-weighed tables p w position many e = where_weighed (table_value tables) p w position many e
+pub searched : (tables : Tables) (p : Parts) (w : Result CaptureSearch ValueFault) → IsPosition p → 2 < count_of_men p → w ≡ searched_by tables (wdl_of tables) p → worth_in w ≡ wdl_of tables p
+unfolding wdl_of searched_by
+searched tables p w position many e = where_searched (table_value tables) p w position many e
 
 -- what holds at all holds where there is an error
 pub always_err : {A E : Type 0} {X : Type 0} (r : Result A E) → X → OnErr r X

@@ -5,7 +5,7 @@ use Rattle.board_core.specs.Position.{IsPosition}
 use Rattle.judge_core.specs.declared.ask.Ask.TheVariants.{Determined}
 use Rattle.judge_core.specs.declared.fault.ProbeFault.{ProbeFault}
 use Rattle.judge_core.specs.declared.fault.ProbeFault.TheVariants.{OutOfScope, OutOfMemory}
-use Rattle.judge_core.specs.declared.probed.Probed.{Probed}
+use Rattle.judge_core.specs.declared.probe_result.ProbeResult.{ProbeResult}
 use Rattle.judge_core.specs.declared.root_move.RootMove.{RootMove}
 use Rattle.judge_core.specs.declared.wdl.Wdl.{Wdl}
 use Rattle.std.specs.Prelude.{ℤ}
@@ -14,7 +14,7 @@ use Rattle.judge_core.specs.Tables.{Tables}
 use Rattle.judge_core.specs.Probing.{wdl_of}
 use Rattle.judge_core.specs.Distances.{Reach, dtz_by, dtz_to, dtz_of}
 use Rattle.judge_core.specs.Answers.{as_probe, signed_in}
-use Rattle.judge_core.specs.Probed.{wdl_number}
+use Rattle.judge_core.specs.ProbeResult.{wdl_number}
 use Rattle.judge_core.specs.Root.{IsRootBy, IsInScope}
 use Rattle.judge_core.specs.Ruling.{is_out_of_scope}
 use Rattle.judge_core.specs.Determined.{IsDeterminedWdl, IsDeterminedDtz, AreDetermined, IsDeterminedRoot}
@@ -67,7 +67,7 @@ module _ (tables : Tables) (p : Parts) where
       told = rw ed (is_probe (signed_in r) (signed_in (determined_reach tables p)) (is_out_of_scope p) inside (ap signed_in er));
     }
 
-    pub both_outside : (probed : Probed) → is_out_of_scope p ≡ true → probed ≡ record { wdl = Err OutOfScope; dtz = Err OutOfScope } → AreDetermined tables p probed
+    pub both_outside : (probed : ProbeResult) → is_out_of_scope p ≡ true → probed ≡ record { wdl = Err OutOfScope; dtz = Err OutOfScope } → AreDetermined tables p probed
     both_outside probed outside e = record {
       wdl = Err OutOfScope;
       dtz = Err OutOfScope;
@@ -77,7 +77,7 @@ module _ (tables : Tables) (p : Parts) where
       told = e;
     }
 
-    pub both_inside : (value : Reading) (reach : Reach) (probed : Probed) → is_out_of_scope p ≡ false → value ≡ determined_value tables p → reach ≡ determined_reach tables p
+    pub both_inside : (value : Reading) (reach : Reach) (probed : ProbeResult) → is_out_of_scope p ≡ false → value ≡ determined_value tables p → reach ≡ determined_reach tables p
         → probed.wdl ≡ as_probe wdl_number value → probed.dtz ≡ as_probe (λ n. n) (signed_in reach) → AreDetermined tables p probed
     both_inside value reach probed inside ev er ew ed = record {
       wdl = as_probe (λ x. x) value;

@@ -18,16 +18,16 @@ use Rattle.table_file.specs.Files.{is_symmetric}
 use Rattle.table_file.specs.Tables.{Contents, part_for}
 use Rattle.table_file.specs.Distances.{stores, file_flags}
 use Rattle.judge_core.specs.declared.wdl.Wdl.{Wdl}
-use Rattle.judge_core.specs.declared.found.Weighed.{Weighed}
+use Rattle.judge_core.specs.declared.found.CaptureSearch.{CaptureSearch}
 use Rattle.judge_core.specs.declared.fault.ValueFault.{ValueFault}
 use Rattle.judge_core.specs.declared.distance.Distance.TheVariants.{Draw}
 use Rattle.judge_core.specs.LookUp.{is_material, material_of, placed_of}
 use Rattle.judge_core.specs.Tables.{Tables, AreFiled, table_at, part_asked}
 use Rattle.judge_core.specs.Asked.{asked, fault_in, unless}
-use Rattle.judge_core.specs.Probing.{weighed_by, wdl_of, worth}
+use Rattle.judge_core.specs.Probing.{searched_by, wdl_of, worth}
 use Rattle.board_core.specs.Castling.{has_any_right}
 use Rattle.judge_core.specs.Ruling.{is_out_of_scope}
-use Rattle.judge_core.specs.Distances.{Reach, zeroing, towards, is_by_capture, is_quiet, move_counts, by_counts, by_quiet_moves, by_table, by_material, by_own_table, by_moves, by_outcome, by_weighed, dtz_by, dtz_to, dtz_of}
+use Rattle.judge_core.specs.Distances.{Reach, zeroing, towards, is_by_capture, is_quiet, move_counts, by_counts, by_quiet_moves, by_table, by_material, by_own_table, by_moves, by_outcome, dtz_from_search, dtz_by, dtz_to, dtz_of}
 use Rattle.judge_core.proofs.SameTable.{quiet_after, material_kept, other_side_asked}
 
 -- ---- what doesn't ask the positions after quiet moves is the same whatever they are
@@ -84,16 +84,16 @@ same_moves : (tables : Tables) (f g : Parts → Reach) (p : Parts) (v : Wdl) (ou
 unfolding by_moves
 same_moves tables f g p v outcome e = rw e refl
 
-same_outcome : (tables : Tables) (f g : Parts → Reach) (p : Parts) (w : Weighed) → ((outcome : Outcome) → by_own_table tables f p outcome ≡ by_own_table tables g p outcome) → (o : Option Outcome) → by_outcome tables f p w o ≡ by_outcome tables g p w o
+same_outcome : (tables : Tables) (f g : Parts → Reach) (p : Parts) (w : CaptureSearch) → ((outcome : Outcome) → by_own_table tables f p outcome ≡ by_own_table tables g p outcome) → (o : Option Outcome) → by_outcome tables f p w o ≡ by_outcome tables g p w o
 same_outcome tables f g p w h None = refl
 same_outcome tables f g p w h (Some outcome) = ap (λ (r : Reach). if is_by_capture w then Ok (towards outcome (zeroing outcome)) else r) (same_moves tables f g p (worth w) outcome (h outcome))
 
-same_weighed : (tables : Tables) (f g : Parts → Reach) (p : Parts) → ((outcome : Outcome) → by_own_table tables f p outcome ≡ by_own_table tables g p outcome) → (w : Result Weighed ValueFault) → by_weighed tables f p w ≡ by_weighed tables g p w
-same_weighed tables f g p h (Err fault) = refl
-same_weighed tables f g p h (Ok w) = same_outcome tables f g p w h _
+same_searched : (tables : Tables) (f g : Parts → Reach) (p : Parts) → ((outcome : Outcome) → by_own_table tables f p outcome ≡ by_own_table tables g p outcome) → (w : Result CaptureSearch ValueFault) → dtz_from_search tables f p w ≡ dtz_from_search tables g p w
+same_searched tables f g p h (Err fault) = refl
+same_searched tables f g p h (Ok w) = same_outcome tables f g p w h _
 
 same_rules : (tables : Tables) (f g : Parts → Reach) (p : Parts) → IsEither tables f g p → dtz_by tables f p ≡ dtz_by tables g p
-same_rules tables f g p h = ap (λ (r : Reach). if nat_le (count_of_men p) 2 then Ok Draw else r) (same_weighed tables f g p (same_own tables f g p h) (weighed_by tables (wdl_of tables) p))
+same_rules tables f g p h = ap (λ (r : Reach). if nat_le (count_of_men p) 2 then Ok Draw else r) (same_searched tables f g p (same_own tables f g p h) (searched_by tables (wdl_of tables) p))
 
 -- ---- one of the sides is stored
 

@@ -10,21 +10,21 @@ use Rattle.table_file.specs.declared.outcome.Outcome.{Outcome}
 use Rattle.judge_core.specs.declared.distance.Distance.{Distance}
 use Rattle.judge_core.specs.declared.distance.Distance.TheVariants.{Draw as NoDistance}
 use Rattle.judge_core.specs.declared.fault.ValueFault.{ValueFault}
-use Rattle.judge_core.specs.declared.found.Weighed.{Weighed}
+use Rattle.judge_core.specs.declared.found.CaptureSearch.{CaptureSearch}
 use Rattle.judge_core.specs.declared.wdl.Wdl.{Wdl}
 use Rattle.judge_core.specs.declared.wdl.Wdl.TheVariants.{Loss, BlessedLoss, Draw, CursedWin, Win as Best}
 use Rattle.judge_core.specs.Values.{Reading, points, opposite, opposite_reading, greater, is_same, is_below, is_winning, outcome_of}
 use Rattle.judge_core.specs.Tables.{Tables, table_value}
 use Rattle.judge_core.specs.Asked.{asked, fault_in, unless}
-use Rattle.judge_core.specs.Probing.{values_after, weighed_where, weighed_by, wdl_where, wdl_of, worth}
-use Rattle.judge_core.specs.Distances.{Reach, is_won, is_value, is_pawn_step, is_by_capture, pawns_reach_where, unless_reached, by_own_table, by_moves, by_outcome, by_weighed, zeroing, towards, dtz_by, dtz_to, dtz_of}
+use Rattle.judge_core.specs.Probing.{values_after, searched_where, searched_by, wdl_where, wdl_of, worth}
+use Rattle.judge_core.specs.Distances.{Reach, is_won, is_value, is_pawn_step, is_by_capture, pawns_reach_where, unless_reached, by_own_table, by_moves, by_outcome, dtz_from_search, zeroing, towards, dtz_by, dtz_to, dtz_of}
 use Rattle.judge_core.specs.Determined.{IsCompletion, IsCompletedBy, IsDetermined, IsDeterminedDistance, IsDeterminedReading}
-use Rattle.judge_core.specs.Inside.Determined.{extreme_value, extreme_weighed, agreed, or_agreed, in_both, value_in_both, pawns_reach_in_both, is_reached, zeroing_distance, agreed_distance, distance_in_both, determined_value, is_won_here}
+use Rattle.judge_core.specs.Inside.Determined.{extreme_value, extreme_searched, agreed, or_agreed, in_both, value_in_both, pawns_reach_in_both, is_reached, zeroing_distance, agreed_distance, distance_in_both, determined_value, is_won_here}
 use Rattle.judge_core.proofs.Rule.{still}
-use Rattle.judge_core.proofs.Rising.{WeighsAtMost, same_points, points_most, greater_rises, worth_rises}
+use Rattle.judge_core.proofs.Rising.{SearchesAtMost, same_points, points_most, greater_rises, worth_rises}
 use Rattle.judge_core.proofs.RootCaptures.{greater_left, greater_right}
-use Rattle.judge_core.proofs.Completed.{IsWeighedBound, IsBound, weighed_bound, value_bound, is_same-true, is_same-refl, determined, undetermined}
-use Rattle.judge_core.proofs.Kept.{unless_ok, no_fault_more, strict_value, weighed_is, value_is}
+use Rattle.judge_core.proofs.Completed.{IsSearchBound, IsBound, search_bound, value_bound, is_same-true, is_same-refl, determined, undetermined}
+use Rattle.judge_core.proofs.Kept.{unless_ok, no_fault_more, strict_value, searched_is, value_is}
 
 -- ---- values
 
@@ -60,12 +60,12 @@ greater_least a b v left right = step (nat_lt (points a) (points b))
     step false = left
 
 -- the ways in which a value is that of a capture, where other moves are legal
-data ByCapture (w : Weighed) : Type 0 where
+data ByCapture (w : CaptureSearch) : Type 0 where
   Wins : points (greater w.capture w.passant) ≡ 4 → ByCapture w
   Passes : points (greater w.capture w.own) < points w.passant → ByCapture w
   Suffices : points w.own ≤ points (greater w.capture w.passant) → 2 < points (greater w.capture w.passant) → ByCapture w
 
-by_capture-from : (w : Weighed) → w.forced ≡ false → is_by_capture w ≡ true → ByCapture w
+by_capture-from : (w : CaptureSearch) → w.forced ≡ false → is_by_capture w ≡ true → ByCapture w
 by_capture-from w f e = step (is_same (greater w.capture w.passant) Best) (is_below (greater w.capture w.own) w.passant) (is_below (greater w.capture w.passant) w.own) (is_winning (greater w.capture w.passant)) refl refl refl refl (rw f at e)
   where
     step : (a b c d : Bool) → is_same (greater w.capture w.passant) Best ≡ a → is_below (greater w.capture w.own) w.passant ≡ b → is_below (greater w.capture w.passant) w.own ≡ c → is_winning (greater w.capture w.passant) ≡ d
@@ -91,14 +91,14 @@ or_third false true b c e = refl
 or_third false false true c e = refl
 or_third false false false c e = e
 
-by_capture-to : (w : Weighed) → ByCapture w → is_by_capture w ≡ true
+by_capture-to : (w : CaptureSearch) → ByCapture w → is_by_capture w ≡ true
 by_capture-to w (Wins e) = or_first w.forced _ _ _ (eq-eqb (points (greater w.capture w.passant)) 4 e)
 by_capture-to w (Passes e) = or_second w.forced (is_same (greater w.capture w.passant) Best) _ _ (lt-ltb (points (greater w.capture w.own)) (points w.passant) e)
 by_capture-to w (Suffices le lt) =
     or_third w.forced (is_same (greater w.capture w.passant) Best) (is_below (greater w.capture w.own) w.passant) (not (is_below (greater w.capture w.passant) w.own) && is_winning (greater w.capture w.passant))
     (rw (le-ltb (points (greater w.capture w.passant)) (points w.own) le, lt-ltb 2 (points (greater w.capture w.passant)) lt) refl)
 
-module _ (low mid high : Weighed) (below : WeighsAtMost low mid) (above : WeighsAtMost mid high) (same : worth low ≡ worth high) where
+module _ (low mid high : CaptureSearch) (below : SearchesAtMost low mid) (above : SearchesAtMost mid high) (same : worth low ≡ worth high) where
   free : low.forced ≡ false → mid.forced ≡ false
   free f = sym below.forced ∙ f
 
@@ -106,10 +106,10 @@ module _ (low mid high : Weighed) (below : WeighsAtMost low mid) (above : Weighs
   free_high f = sym above.forced ∙ free f
 
   -- the best of captures
-  best : Weighed → Wdl
+  best : CaptureSearch → Wdl
   best w = greater w.capture w.passant
 
-  best_of : (w : Weighed) → w.forced ≡ false → points (greater (greater w.capture w.passant) w.own) ≡ points (worth w)
+  best_of : (w : CaptureSearch) → w.forced ≡ false → points (greater (greater w.capture w.passant) w.own) ≡ points (worth w)
   best_of w f = rw f refl
 
   mid_capture : low.forced ≡ false → ByCapture low → ByCapture high → ByCapture mid
@@ -179,25 +179,25 @@ module _ (low mid high : Weighed) (below : WeighsAtMost low mid) (above : Weighs
       let es = ap points same in
       same_points (worth mid) (worth low) (omega (arith, up, down, es))
 
--- ---- what is weighed in a completion
+-- ---- what is searched in a completion
 
 -- it lies between these two
-pub record LiesBetween (a b w : Weighed) : Type 0 where
+pub record LiesBetween (a b w : CaptureSearch) : Type 0 where
   pub worth_is : worth w ≡ worth a
   pub capture : is_by_capture a ≡ true → is_by_capture b ≡ true → is_by_capture w ≡ true
 
-from_bounds : (won : Bool) (w : Result Weighed ValueFault) (a b : Weighed) → worth a ≡ worth b → IsWeighedBound won w (Ok a) → IsWeighedBound (not won) w (Ok b) → (x : Weighed) × (w ≡ Ok x) × LiesBetween a b x
+from_bounds : (won : Bool) (w : Result CaptureSearch ValueFault) (a b : CaptureSearch) → worth a ≡ worth b → IsSearchBound won w (Ok a) → IsSearchBound (not won) w (Ok b) → (x : CaptureSearch) × (w ≡ Ok x) × LiesBetween a b x
 from_bounds true (Ok w) a b same ha hb = (w, refl, record { worth_is = worth_between b w a hb ha (sym same) ∙ sym same; capture = λ ea eb. capture_between b w a hb ha (sym same) eb ea })
 from_bounds false (Ok w) a b same ha hb = (w, refl, record { worth_is = worth_between a w b ha hb same; capture = λ ea eb. capture_between a w b ha hb same ea eb })
 from_bounds true (Err fault) a b same ha hb = absurd ha
 from_bounds false (Err fault) a b same ha hb = absurd ha
 
-module _ (tables : Tables) (p : Parts) (position : IsPosition p) (a b : Weighed) (ea : extreme_weighed tables true p ≡ Ok a) (eb : extreme_weighed tables false p ≡ Ok b) (same : worth a ≡ worth b) where
-  pub weighed_between : (own : Parts → Reading) → IsCompletion tables own → (w : Weighed) × (weighed_where own (wdl_where own) p ≡ Ok w) × LiesBetween a b w
-  weighed_between own completes =
-      from_bounds (is_won_here true (count_of_men p)) (weighed_where own (wdl_where own) p) a b same
-      (subst (λ r. IsWeighedBound (is_won_here true (count_of_men p)) (weighed_where own (wdl_where own) p) r) ea (weighed_bound tables own completes true p position))
-      (subst (λ r. IsWeighedBound (is_won_here false (count_of_men p)) (weighed_where own (wdl_where own) p) r) eb (weighed_bound tables own completes false p position))
+module _ (tables : Tables) (p : Parts) (position : IsPosition p) (a b : CaptureSearch) (ea : extreme_searched tables true p ≡ Ok a) (eb : extreme_searched tables false p ≡ Ok b) (same : worth a ≡ worth b) where
+  pub searched_between : (own : Parts → Reading) → IsCompletion tables own → (w : CaptureSearch) × (searched_where own (wdl_where own) p ≡ Ok w) × LiesBetween a b w
+  searched_between own completes =
+      from_bounds (is_won_here true (count_of_men p)) (searched_where own (wdl_where own) p) a b same
+      (subst (λ r. IsSearchBound (is_won_here true (count_of_men p)) (searched_where own (wdl_where own) p) r) ea (search_bound tables own completes true p position))
+      (subst (λ r. IsSearchBound (is_won_here false (count_of_men p)) (searched_where own (wdl_where own) p) r) eb (search_bound tables own completes false p position))
 
 -- ---- pawn moves
 
@@ -310,12 +310,12 @@ pub opened : (tables : Tables) (p : Parts) → dtz_of tables p ≡ dtz_by tables
 unfolding dtz_of dtz_to
 opened tables p = refl
 
-pub many_by : (tables : Tables) (p : Parts) → IsMany p → dtz_of tables p ≡ by_weighed tables (dtz_to tables 1) p (weighed_by tables (wdl_of tables) p)
+pub many_by : (tables : Tables) (p : Parts) → IsMany p → dtz_of tables p ≡ dtz_from_search tables (dtz_to tables 1) p (searched_by tables (wdl_of tables) p)
 many_by tables p many = opened tables p ∙ rw many refl
 
 module _ (tables : Tables) (p : Parts) (position : IsPosition p) (many : IsMany p) where
-  module _ (a b : Weighed) (ea : extreme_weighed tables true p ≡ Ok a) (eb : extreme_weighed tables false p ≡ Ok b) (same : worth a ≡ worth b) (more : Tables) (c : IsCompletedBy tables more) (reach : Parts → Reach) where
-    by_pawns : (w : Weighed) (outcome : Outcome) → worth w ≡ worth a → is_won outcome ≡ true → pawns_reach_in_both tables p (worth a) ≡ Ok true → by_moves more reach p (worth w) outcome ≡ Ok (towards outcome (zeroing outcome))
+  module _ (a b : CaptureSearch) (ea : extreme_searched tables true p ≡ Ok a) (eb : extreme_searched tables false p ≡ Ok b) (same : worth a ≡ worth b) (more : Tables) (c : IsCompletedBy tables more) (reach : Parts → Reach) where
+    by_pawns : (w : CaptureSearch) (outcome : Outcome) → worth w ≡ worth a → is_won outcome ≡ true → pawns_reach_in_both tables p (worth a) ≡ Ok true → by_moves more reach p (worth w) outcome ≡ Ok (towards outcome (zeroing outcome))
     unfolding by_moves
     by_pawns w outcome ew won reached =
         let own = by_own_table more reach p outcome in
@@ -323,14 +323,14 @@ module _ (tables : Tables) (p : Parts) (position : IsPosition p) (many : IsMany 
         ∙ ap (λ (t : Bool). if t then unless_reached (pawns_reach_where (wdl_of more) p (worth a)) outcome own else own) won
         ∙ ap (λ (r : Result Bool ValueFault). unless_reached r outcome own) (pawns_between tables more c (worth a) p position reached)
 
-    by_weighed_there : (o : Option Outcome) → outcome_of (worth a) ≡ o → (d : Distance) → zeroing_distance tables p a b o ≡ Some d → dtz_by more reach p ≡ Ok d
-    by_weighed_there o eo d e =
-        let w = weighed_between tables p position a b ea eb same (table_value more) c.values in
-        let is = weighed_is more p ∙ w.1 in
+    dtz_from_search_there : (o : Option Outcome) → outcome_of (worth a) ≡ o → (d : Distance) → zeroing_distance tables p a b o ≡ Some d → dtz_by more reach p ≡ Ok d
+    dtz_from_search_there o eo d e =
+        let w = searched_between tables p position a b ea eb same (table_value more) c.values in
+        let is = searched_is more p ∙ w.1 in
         let eo' = ap outcome_of w.2.worth_is ∙ eo in
-        rw many refl ∙ ap (by_weighed more reach p) is ∙ ap (by_outcome more reach p w.0) eo' ∙ by_kind w.0 w.2 o eo e
+        rw many refl ∙ ap (dtz_from_search more reach p) is ∙ ap (by_outcome more reach p w.0) eo' ∙ by_kind w.0 w.2 o eo e
       where
-        by_pawn : (w : Weighed) → LiesBetween a b w → (outcome : Outcome) → is_won outcome ≡ true → is_reached (pawns_reach_in_both tables p (worth a)) ≡ true → Some (towards outcome (zeroing outcome)) ≡ Some d → by_outcome more reach p w (Some outcome) ≡ Ok d
+        by_pawn : (w : CaptureSearch) → LiesBetween a b w → (outcome : Outcome) → is_won outcome ≡ true → is_reached (pawns_reach_in_both tables p (worth a)) ≡ true → Some (towards outcome (zeroing outcome)) ≡ Some d → by_outcome more reach p w (Some outcome) ≡ Ok d
         by_pawn w lies outcome ew er e =
             let is : towards outcome (zeroing outcome) ≡ d = cc in
             step (is_by_capture w) (by_pawns w outcome lies.worth_is ew (is_reached-true _ er)) ∙ ap (λ (x : Distance). Ok x) is
@@ -339,7 +339,7 @@ module _ (tables : Tables) (p : Parts) (position : IsPosition p) (many : IsMany 
             step true h = refl
             step false h = h
 
-        by_zeroing : (w : Weighed) → LiesBetween a b w → (outcome : Outcome) (ca cb won reached : Bool) → is_by_capture a ≡ ca → is_by_capture b ≡ cb → is_won outcome ≡ won → is_reached (pawns_reach_in_both tables p (worth a)) ≡ reached
+        by_zeroing : (w : CaptureSearch) → LiesBetween a b w → (outcome : Outcome) (ca cb won reached : Bool) → is_by_capture a ≡ ca → is_by_capture b ≡ cb → is_won outcome ≡ won → is_reached (pawns_reach_in_both tables p (worth a)) ≡ reached
             → cond ((ca && cb) || (won && reached)) (Some (towards outcome (zeroing outcome))) None ≡ Some d → by_outcome more reach p w (Some outcome) ≡ Ok d
         by_zeroing w lies outcome true true won reached eca ecb ew er e = (let is : towards outcome (zeroing outcome) ≡ d = cc in rw (lies.capture eca ecb) (ap (λ (x : Distance). Ok x) is))
         by_zeroing w lies outcome true false true true eca ecb ew er e = by_pawn w lies outcome ew er e
@@ -349,19 +349,19 @@ module _ (tables : Tables) (p : Parts) (position : IsPosition p) (many : IsMany 
         by_zeroing w lies outcome false cb true false eca ecb ew er e = absurd (cc)
         by_zeroing w lies outcome false cb false reached eca ecb ew er e = absurd (cc)
 
-        by_kind : (w : Weighed) → LiesBetween a b w → (o : Option Outcome) → outcome_of (worth a) ≡ o → zeroing_distance tables p a b o ≡ Some d → by_outcome more reach p w o ≡ Ok d
+        by_kind : (w : CaptureSearch) → LiesBetween a b w → (o : Option Outcome) → outcome_of (worth a) ≡ o → zeroing_distance tables p a b o ≡ Some d → by_outcome more reach p w o ≡ Ok d
         by_kind w lies None eo e = (let is : NoDistance ≡ d = cc in ap (λ (x : Distance). Ok x) is)
         by_kind w lies (Some outcome) eo e = by_zeroing w lies outcome (is_by_capture a) (is_by_capture b) (is_won outcome) (is_reached (pawns_reach_in_both tables p (worth a))) refl refl refl refl e
 
   -- whatever distances the positions after quiet moves have there
-  pub told_by : (a b : Result Weighed ValueFault) → extreme_weighed tables true p ≡ a → extreme_weighed tables false p ≡ b → (d : Distance) → agreed_distance tables p a b ≡ Some d → (more : Tables) → IsCompletedBy tables more → (reach : Parts → Reach) → dtz_by more reach p ≡ Ok d
+  pub told_by : (a b : Result CaptureSearch ValueFault) → extreme_searched tables true p ≡ a → extreme_searched tables false p ≡ b → (d : Distance) → agreed_distance tables p a b ≡ Some d → (more : Tables) → IsCompletedBy tables more → (reach : Parts → Reach) → dtz_by more reach p ≡ Ok d
   told_by (Ok a) (Ok b) ea eb d e = λ more c reach. step more c reach (is_same (worth a) (worth b)) refl e
     where
       step : (more : Tables) → IsCompletedBy tables more → (reach : Parts → Reach) → (t : Bool) → is_same (worth a) (worth b) ≡ t → cond t (zeroing_distance tables p a b (outcome_of (worth a))) None ≡ Some d → dtz_by more reach p ≡ Ok d
-      step more c reach true is e = by_weighed_there a b ea eb (is_same-true (worth a) (worth b) is) more c reach (outcome_of (worth a)) refl d e
+      step more c reach true is e = dtz_from_search_there a b ea eb (is_same-true (worth a) (worth b) is) more c reach (outcome_of (worth a)) refl d e
       step more c reach false is e = absurd (cc)
   told_by (Ok a) (Err fault) ea eb d e = absurd (cc)
   told_by (Err fault) b ea eb d e = absurd (cc)
 
   pub told : (d : Distance) → distance_in_both tables p ≡ Some d → IsDeterminedDistance tables p d
-  told d e more c = opened more p ∙ told_by (extreme_weighed tables true p) (extreme_weighed tables false p) refl refl d e more c (dtz_to more 1)
+  told d e more c = opened more p ∙ told_by (extreme_searched tables true p) (extreme_searched tables false p) refl refl d e more c (dtz_to more 1)

@@ -3,7 +3,7 @@ use Rattle.std.specs.Prelude.{◌≡◌, ◌≢◌, ◌⊎◌, ◌<◌, ℕ, ℤ
 use Rattle.board_core.specs.declared.parts.Parts.{Parts}
 use Rattle.board_core.specs.ComputedMoves.{legal_moves, count_of_men}
 use Rattle.judge_core.specs.declared.fault.ValueFault.{ValueFault}
-use Rattle.judge_core.specs.declared.found.Weighed.{Weighed}
+use Rattle.judge_core.specs.declared.found.CaptureSearch.{CaptureSearch}
 use Rattle.judge_core.specs.declared.fault.ValueFault.TheVariants as value
 use Rattle.judge_core.specs.declared.fault.ProbeFault.{ProbeFault}
 use Rattle.judge_core.specs.declared.fault.ProbeFault.TheVariants.{OutOfScope, NotCovered, Damaged, OutOfMemory}
@@ -11,7 +11,7 @@ use Rattle.judge_core.specs.declared.wdl.Wdl.{Wdl}
 use Rattle.judge_core.specs.declared.wdl.Wdl.TheVariants.{Loss, Draw, Win}
 use Rattle.judge_core.specs.Values.{Reading}
 use Rattle.judge_core.specs.Tables.{Tables}
-use Rattle.judge_core.specs.Probing.{wdl_of, weighed_by, worth}
+use Rattle.judge_core.specs.Probing.{wdl_of, searched_by, worth}
 use Rattle.judge_core.specs.Distances.{Reach, is_by_capture, signed}
 use Rattle.judge_core.specs.Ends.{has_no_move}
 use Rattle.judge_core.specs.Ruling.{is_out_of_scope}
@@ -42,14 +42,14 @@ wdl_answer tables p = if is_out_of_scope p then Err OutOfScope else as_probe (λ
 abbrev pub IsWdlProbe : Tables → Parts → Result Wdl ProbeFault → Type 0
 IsWdlProbe tables p wdl = (wdl ≢ Err OutOfMemory) × IsProbe wdl (is_out_of_scope p) (wdl_of tables p)
 
--- what is weighed is there, no draw, and not by a capture
-abbrev pub IsLeftOpen : Result Weighed ValueFault → Type 0
+-- what is searched is there, no draw, and not by a capture
+abbrev pub IsLeftOpen : Result CaptureSearch ValueFault → Type 0
 IsLeftOpen (Ok w) = (worth w ≢ Draw) × (is_by_capture w ≡ false)
 IsLeftOpen (Err fault) = ⊥
 
 -- more than two men whose value is there, no draw, and not by a capture: only then moves are listed
 abbrev pub ListsMoves : Tables → Parts → Type 0
-ListsMoves tables p = (2 < count_of_men p) × IsLeftOpen (weighed_by tables (wdl_of tables) p)
+ListsMoves tables p = (2 < count_of_men p) × IsLeftOpen (searched_by tables (wdl_of tables) p)
 
 -- the value is there and a win or a loss: only then a verdict needs a distance
 abbrev pub IsDecisive : Reading → Type 0

@@ -1,11 +1,11 @@
 -- How tables are asked for values (this project's own).
 use Rattle.std.specs.Prelude.{◌≡◌, Bool, true, false, List}
 use Rattle.board_core.specs.declared.parts.Parts.{Parts}
-use Rattle.judge_core.specs.declared.probed.Probed.{Probed}
+use Rattle.judge_core.specs.declared.probe_result.ProbeResult.{ProbeResult}
 use Rattle.judge_core.specs.declared.root_move.RootMove.{RootMove}
 use Rattle.judge_core.specs.Answers.{ListsMoves}
 use Rattle.judge_core.specs.Determined.{AreDetermined, IsDeterminedRoot, ListsMovesDetermined}
-use Rattle.judge_core.specs.Probed.{IsProbed}
+use Rattle.judge_core.specs.ProbeResult.{IsProbed}
 use Rattle.judge_core.specs.Root.{IsRoot}
 use Rattle.judge_core.specs.Ruling.{is_out_of_scope}
 use Rattle.judge_core.specs.Tables.{Tables}
@@ -13,7 +13,7 @@ use Rattle.judge_core.specs.declared.ask.Ask.{Ask}
 use Rattle.judge_core.specs.declared.ask.Ask.TheVariants.{Strict, Determined}
 
 -- both values of a position
-abbrev pub IsAnswered : Ask → Tables → Parts → Probed → Type 0
+abbrev pub IsAnswered : Ask → Tables → Parts → ProbeResult → Type 0
 IsAnswered Strict = IsProbed
 IsAnswered Determined = AreDetermined
 

@@ -14,21 +14,21 @@ use Rattle.judge_core.specs.declared.wdl.Wdl.{Wdl}
 use Rattle.judge_core.specs.declared.wdl.Wdl.TheVariants.{Draw}
 use Rattle.judge_core.specs.declared.distance.Distance.{Distance}
 use Rattle.judge_core.specs.declared.distance.Distance.TheVariants.{Draw as NoDistance}
-use Rattle.judge_core.specs.declared.found.Weighed.{Weighed}
+use Rattle.judge_core.specs.declared.found.CaptureSearch.{CaptureSearch}
 use Rattle.judge_core.specs.declared.fault.ValueFault.{ValueFault}
 use Rattle.judge_core.specs.declared.fault.ValueFault.TheVariants.{NotCovered, Damaged}
 use Rattle.judge_core.specs.declared.fault.ProbeFault.{ProbeFault}
 use Rattle.judge_core.specs.declared.fault.ProbeFault.TheVariants.{OutOfMemory}
-use Rattle.judge_core.specs.declared.probed.Probed.{Probed}
+use Rattle.judge_core.specs.declared.probe_result.ProbeResult.{ProbeResult}
 use Rattle.judge_core.specs.declared.root_move.RootMove.{RootMove}
 use Rattle.judge_core.specs.Values.{Reading, is_winning, opposite, outcome_of}
 use Rattle.judge_core.specs.LookUp.{material_of, placed_of}
 use Rattle.judge_core.specs.Tables.{Tables, table_at, table_value, part_asked}
 use Rattle.judge_core.specs.Asked.{fault_in}
-use Rattle.judge_core.specs.Probing.{values_after, weighed_where, weighed_by, wdl_where, wdl_of, worth}
+use Rattle.judge_core.specs.Probing.{values_after, searched_where, searched_by, wdl_where, wdl_of, worth}
 use Rattle.judge_core.specs.Distances.{Reach, is_by_capture, is_pawn_step, is_quiet, is_won, pawns_reach, by_quiet_moves, towards, zeroing, dtz_to, dtz_of}
 use Rattle.judge_core.specs.Answers.{IsProbe, ListsMoves, signed_in}
-use Rattle.judge_core.specs.Probed.{numbered}
+use Rattle.judge_core.specs.ProbeResult.{numbered}
 use Rattle.judge_core.specs.Root.{IsRootBy}
 use Rattle.judge_core.specs.Ruling.{is_out_of_scope}
 
@@ -65,7 +65,7 @@ IsDeterminedDistance tables p d = (more : Tables) → IsCompletedBy tables more 
 -- the value is by a capture in every completion
 abbrev pub IsByCapture : Tables → Parts → Type 0
 IsByCapture tables p =
-    (own : Parts → Reading) (w : Weighed) → IsCompletion tables own → weighed_where own (wdl_where own) p ≡ Ok w → is_by_capture w ≡ true
+    (own : Parts → Reading) (w : CaptureSearch) → IsCompletion tables own → searched_where own (wdl_where own) p ≡ Ok w → is_by_capture w ≡ true
 
 -- A pawn move that takes nothing brings this value about in every completion, and the values after all such moves are there.
 pub record IsByPawnMove (tables : Tables) (p : Parts) (v : Wdl) : Type 0 where
@@ -87,16 +87,16 @@ pub data IsDistanceByValue (tables : Tables) (p : Parts) (d : Distance) : Type 0
 
 -- ---- distances by quiet moves
 
--- The quiet moves alone are left to tell the distance: what is weighed at the position is there in the set itself, no draw and
+-- The quiet moves alone are left to tell the distance: what is searched at the position is there in the set itself, no draw and
 -- not by a capture. Where it wins, no pawn move that takes nothing does, and the values after all of these are there. The own
 -- DTZ table is there, and stores the other side alone.
 pub record IsLeftToQuietMoves (tables : Tables) (p : Parts) (key : ℕ) (outcome : Outcome) : Type 0 where
   pub many : 2 < count_of_men p
-  pub weighed : Weighed
-  pub there : weighed_by tables (wdl_of tables) p ≡ Ok weighed
-  pub decided : outcome_of (worth weighed) ≡ Some outcome
-  pub no_capture : is_by_capture weighed ≡ false
-  pub no_pawn_move : is_won outcome ≡ true → pawns_reach tables p (worth weighed) ≡ Ok false
+  pub searched : CaptureSearch
+  pub there : searched_by tables (wdl_of tables) p ≡ Ok searched
+  pub decided : outcome_of (worth searched) ≡ Some outcome
+  pub no_capture : is_by_capture searched ≡ false
+  pub no_pawn_move : is_won outcome ≡ true → pawns_reach tables p (worth searched) ≡ Ok false
   pub material : material_of p ≡ Some key
   pub table : Contents
   pub has : table_at tables Dtz key ≡ Some table
@@ -175,7 +175,7 @@ pub record IsDeterminedDtz (tables : Tables) (p : Parts) (dtz : Result ℤ Probe
   pub told : IsProbe dtz (is_out_of_scope p) (signed_in reach)
 
 -- both, as numbers, and neither want of memory
-pub record AreDetermined (tables : Tables) (p : Parts) (probed : Probed) : Type 0 where
+pub record AreDetermined (tables : Tables) (p : Parts) (probed : ProbeResult) : Type 0 where
   pub wdl : Result Wdl ProbeFault
   pub dtz : Result ℤ ProbeFault
   pub wdl_is : IsDeterminedWdl tables p wdl

@@ -20,13 +20,13 @@ use Rattle.judge_core.specs.declared.wdl.Wdl.{Wdl}
 use Rattle.judge_core.specs.declared.wdl.Wdl.TheVariants.{Win as Best}
 use Rattle.judge_core.specs.declared.fault.ValueFault.{ValueFault}
 use Rattle.judge_core.specs.declared.fault.ValueFault.TheVariants.{NotCovered, Damaged}
-use Rattle.judge_core.specs.declared.found.Weighed.{Weighed}
+use Rattle.judge_core.specs.declared.found.CaptureSearch.{CaptureSearch}
 use Rattle.judge_core.specs.Values.{Reading, is_winning, is_below, is_same, outcome_of, greater}
 use Rattle.judge_core.specs.LookUp.{material_of, placed_of}
 use Rattle.judge_core.specs.Tables.{Tables, table_at, part_asked}
 use Rattle.judge_core.specs.Asked.{asked, fault_in, unless}
 use Rattle.table_file.specs.Distances.{stores, distance}
-use Rattle.judge_core.specs.Probing.{values_after, weighed_by, wdl_of, worth}
+use Rattle.judge_core.specs.Probing.{values_after, searched_by, wdl_of, worth}
 use Rattle.judge_core.specs.Ends.{is_mate}
 
 -- a distance, or which table is missing or damaged
@@ -66,7 +66,7 @@ towards outcome n = if is_won outcome then Win n else Loss n
 
 -- The value is that of a capture: en passant alone is legal, a capture wins, or en passant beats all else. Or the best
 -- capture is better than a draw and as good as the own table.
-abbrev pub is_by_capture : Weighed → Bool
+abbrev pub is_by_capture : CaptureSearch → Bool
 is_by_capture w =
     w.forced
     || is_same (greater w.capture w.passant) Best
@@ -204,20 +204,20 @@ by_moves tables reach p v outcome =
     then unless_reached (pawns_reach tables p v) outcome (by_own_table tables reach p outcome)
     else by_own_table tables reach p outcome
 
-abbrev pub by_outcome : Tables → (Parts → Reach) → Parts → Weighed → Option Outcome → Reach
+abbrev pub by_outcome : Tables → (Parts → Reach) → Parts → CaptureSearch → Option Outcome → Reach
 by_outcome tables reach p w None = Ok Draw
 by_outcome tables reach p w (Some outcome) =
     if is_by_capture w then Ok (towards outcome (zeroing outcome)) else by_moves tables reach p (worth w) outcome
 
-abbrev pub by_weighed : Tables → (Parts → Reach) → Parts → Result Weighed ValueFault → Reach
-by_weighed tables reach p (Err fault) = Err fault
-by_weighed tables reach p (Ok w) = by_outcome tables reach p w (outcome_of (worth w))
+abbrev pub dtz_from_search : Tables → (Parts → Reach) → Parts → Result CaptureSearch ValueFault → Reach
+dtz_from_search tables reach p (Err fault) = Err fault
+dtz_from_search tables reach p (Ok w) = by_outcome tables reach p w (outcome_of (worth w))
 
 -- The distance of a position, where `reach` gives those of the positions after its moves. A draw has none. Next come a
 -- capture whose value is the position's, and a pawn move that wins. Last comes the own table, or the quiet moves where that
 -- stores the other side alone. A fault of a value that is needed is the answer.
 abbrev pub dtz_by : Tables → (Parts → Reach) → Parts → Reach
-dtz_by tables reach p = if nat_le (count_of_men p) 2 then Ok Draw else by_weighed tables reach p (weighed_by tables (wdl_of tables) p)
+dtz_by tables reach p = if nat_le (count_of_men p) 2 then Ok Draw else dtz_from_search tables reach p (searched_by tables (wdl_of tables) p)
 
 -- the distance of a position, where at most so many positions in a row are visited
 unfoldable pub dtz_to : Tables → ℕ → Parts → Reach

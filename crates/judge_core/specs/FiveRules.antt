@@ -12,27 +12,27 @@ use Rattle.table_file.specs.Distances.{stores}
 use Rattle.judge_core.specs.declared.distance.Distance.TheVariants.{Draw, Win, Loss}
 use Rattle.judge_core.specs.declared.fault.ValueFault.{ValueFault}
 use Rattle.judge_core.specs.declared.fault.ValueFault.TheVariants.{NotCovered, Damaged}
-use Rattle.judge_core.specs.declared.found.Weighed.{Weighed}
+use Rattle.judge_core.specs.declared.found.CaptureSearch.{CaptureSearch}
 use Rattle.judge_core.specs.Values.{outcome_of}
 use Rattle.judge_core.specs.LookUp.{material_of, placed_of}
 use Rattle.judge_core.specs.Tables.{Tables, AreFiled, table_at, part_asked}
 use Rattle.judge_core.specs.Asked.{asked, fault_in}
-use Rattle.judge_core.specs.Probing.{weighed_by, wdl_of, worth}
+use Rattle.judge_core.specs.Probing.{searched_by, wdl_of, worth}
 use Rattle.judge_core.specs.Ruling.{is_out_of_scope}
 use Rattle.judge_core.specs.Distances.{Reach, is_won, zeroing, towards, is_by_capture, pawns_reach, is_quiet, move_counts, least, greatest_count, is_odd, distance_in, dtz_of}
 
 -- more than two men, and what captures and the own table say of them
-pub record IsWeighed (tables : Tables) (p : Parts) (w : Result Weighed ValueFault) : Type 0 where
+pub record IsSearched (tables : Tables) (p : Parts) (w : Result CaptureSearch ValueFault) : Type 0 where
   pub men : 2 < count_of_men p
-  pub weighed : weighed_by tables (wdl_of tables) p ≡ w
+  pub searched : searched_by tables (wdl_of tables) p ≡ w
 
 -- a win or a loss, of this kind
-pub record IsDecided (tables : Tables) (p : Parts) (w : Weighed) (outcome : Outcome) : Type 0 where
-  pub weighed : IsWeighed tables p (Ok w)
+pub record IsDecided (tables : Tables) (p : Parts) (w : CaptureSearch) (outcome : Outcome) : Type 0 where
+  pub searched : IsSearched tables p (Ok w)
   pub decided : outcome_of (worth w) ≡ Some outcome
 
 -- neither a capture nor, for a win, a pawn move gives the distance
-pub record IsLeftToTables (tables : Tables) (p : Parts) (w : Weighed) (outcome : Outcome) : Type 0 where
+pub record IsLeftToTables (tables : Tables) (p : Parts) (w : CaptureSearch) (outcome : Outcome) : Type 0 where
   pub decided : IsDecided tables p w outcome
   pub no_capture : IsFalse (is_by_capture w)
   pub no_pawn : IsTrue (is_won outcome) → pawns_reach tables p (worth w) ≡ Ok false
@@ -49,25 +49,25 @@ counts_after reach p outcome = asked (move_counts outcome reach) p (filter (is_q
 
 -- no capture, pawn move or number of the own table gives the distance, and the table has the other side
 pub record IsLeftToMoves (tables : Tables) (p : Parts) (outcome : Outcome) (key : ℕ) : Type 0 where
-  pub w : Weighed
+  pub w : CaptureSearch
   pub left : IsLeftToTables tables p w outcome
   pub t : Contents
   pub own : IsOwnTable tables p key t false
 
 pub data IsDistance (tables : Tables) (reach : Parts → Reach) (p : Parts) : Reach → Type 0 where
   -- 1. The fault of the value; no distance for a draw, as of bare kings.
-  unknown : {fault : ValueFault} → IsWeighed tables p (Err fault) → IsDistance tables reach p (Err fault)
+  unknown : {fault : ValueFault} → IsSearched tables p (Err fault) → IsDistance tables reach p (Err fault)
   bare : count_of_men p ≤ 2 → IsDistance tables reach p (Ok Draw)
-  drawn : {w : Weighed} → IsWeighed tables p (Ok w) → outcome_of (worth w) ≡ None → IsDistance tables reach p (Ok Draw)
+  drawn : {w : CaptureSearch} → IsSearched tables p (Ok w) → outcome_of (worth w) ≡ None → IsDistance tables reach p (Ok Draw)
   -- 2. The distance of a capture, where the position is worth what a capture is.
-  capture : {w : Weighed} {outcome : Outcome} → IsDecided tables p w outcome → IsTrue (is_by_capture w) → IsDistance tables reach p (Ok (towards outcome (zeroing outcome)))
+  capture : {w : CaptureSearch} {outcome : Outcome} → IsDecided tables p w outcome → IsTrue (is_by_capture w) → IsDistance tables reach p (Ok (towards outcome (zeroing outcome)))
   -- 3. That of a pawn move, where one that takes nothing keeps a win; the values after all of them are needed.
-  pawn_unknown : {w : Weighed} {outcome : Outcome} {fault : ValueFault} → IsDecided tables p w outcome → IsFalse (is_by_capture w) → IsTrue (is_won outcome) → pawns_reach tables p (worth w) ≡ Err fault → IsDistance tables reach p (Err fault)
-  pawn : {w : Weighed} {outcome : Outcome} → IsDecided tables p w outcome → IsFalse (is_by_capture w) → IsTrue (is_won outcome) → pawns_reach tables p (worth w) ≡ Ok true → IsDistance tables reach p (Ok (towards outcome (zeroing outcome)))
+  pawn_unknown : {w : CaptureSearch} {outcome : Outcome} {fault : ValueFault} → IsDecided tables p w outcome → IsFalse (is_by_capture w) → IsTrue (is_won outcome) → pawns_reach tables p (worth w) ≡ Err fault → IsDistance tables reach p (Err fault)
+  pawn : {w : CaptureSearch} {outcome : Outcome} → IsDecided tables p w outcome → IsFalse (is_by_capture w) → IsTrue (is_won outcome) → pawns_reach tables p (worth w) ≡ Ok true → IsDistance tables reach p (Ok (towards outcome (zeroing outcome)))
   -- 4. The number of the own table, where it stores the side to move, counted from a capture or a pawn move.
-  no_table : {w : Weighed} {outcome : Outcome} {key : ℕ} → IsLeftToTables tables p w outcome → material_of p ≡ Some key → table_at tables Dtz key ≡ None → IsDistance tables reach p (Err (NotCovered key))
-  no_number : {w : Weighed} {outcome : Outcome} {key : ℕ} {t : Contents} → IsLeftToTables tables p w outcome → IsOwnTable tables p key t true → distance_in t (placed_of key p) outcome ≡ None → IsDistance tables reach p (Err (Damaged key))
-  stored : {w : Weighed} {outcome : Outcome} {key n : ℕ} {t : Contents} → IsLeftToTables tables p w outcome → IsOwnTable tables p key t true → distance_in t (placed_of key p) outcome ≡ Some n → IsDistance tables reach p (Ok (towards outcome (zeroing outcome + n)))
+  no_table : {w : CaptureSearch} {outcome : Outcome} {key : ℕ} → IsLeftToTables tables p w outcome → material_of p ≡ Some key → table_at tables Dtz key ≡ None → IsDistance tables reach p (Err (NotCovered key))
+  no_number : {w : CaptureSearch} {outcome : Outcome} {key : ℕ} {t : Contents} → IsLeftToTables tables p w outcome → IsOwnTable tables p key t true → distance_in t (placed_of key p) outcome ≡ None → IsDistance tables reach p (Err (Damaged key))
+  stored : {w : CaptureSearch} {outcome : Outcome} {key n : ℕ} {t : Contents} → IsLeftToTables tables p w outcome → IsOwnTable tables p key t true → distance_in t (placed_of key p) outcome ≡ Some n → IsDistance tables reach p (Ok (towards outcome (zeroing outcome + n)))
   -- 5. The moves that neither take a man nor move a pawn. For a win it is the least of their numbers, and there must be
   --    one. For a loss it is the greatest, at least that of a capture, and each move must lose.
   move_unknown : {outcome : Outcome} {key : ℕ} {fault : ValueFault} → IsLeftToMoves tables p outcome key → fault_in (counts_after reach p outcome) ≡ Some fault → IsDistance tables reach p (Err fault)

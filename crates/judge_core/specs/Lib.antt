@@ -10,7 +10,7 @@ pub mod Ruling
 pub mod Games
 pub mod Standings
 pub mod Answers
-pub mod Probed
+pub mod ProbeResult
 pub mod Root
 pub mod Determined
 pub mod Ask

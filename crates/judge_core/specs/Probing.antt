@@ -9,7 +9,7 @@ use Rattle.board_core.specs.ComputedMoves.{legal_moves, legal_captures, is_en_pa
 use Rattle.judge_core.specs.declared.wdl.Wdl.{Wdl}
 use Rattle.judge_core.specs.declared.wdl.Wdl.TheVariants.{Loss, Draw}
 use Rattle.judge_core.specs.declared.fault.ValueFault.{ValueFault}
-use Rattle.judge_core.specs.declared.found.Weighed.{Weighed}
+use Rattle.judge_core.specs.declared.found.CaptureSearch.{CaptureSearch}
 use Rattle.judge_core.specs.Values.{Reading, opposite_reading, greater}
 use Rattle.judge_core.specs.Tables.{Tables, table_value}
 use Rattle.judge_core.specs.Asked.{asked, fault_in, unless}
@@ -41,8 +41,8 @@ value_or_loss (Err fault) = Loss
 
 -- The best capture other than en passant, the best en passant, and the own table's value, or the first fault among them.
 -- Captures come in the order of moves, the own table last. `own` gives what the own tables of positions say.
-unfoldable pub weighed_where : (Parts → Reading) → (Parts → Reading) → Parts → Result Weighed ValueFault
-weighed_where own value p =
+unfoldable pub searched_where : (Parts → Reading) → (Parts → Reading) → Parts → Result CaptureSearch ValueFault
+searched_where own value p =
     unless (fault_in (values_after value p (legal_captures p) ++ own p ∷ [])) (Ok (record {
       capture = greatest_value (values_after value p (filter (λ m. not (is_en_passant p m)) (legal_captures p)));
       passant = greatest_value (values_after value p (filter (is_en_passant p) (legal_captures p)));
@@ -51,31 +51,31 @@ weighed_where own value p =
     }))
 
 -- ... by the tables of a set
-unfoldable pub weighed_by : Tables → (Parts → Reading) → Parts → Result Weighed ValueFault
-weighed_by tables value p = weighed_where (table_value tables) value p
+unfoldable pub searched_by : Tables → (Parts → Reading) → Parts → Result CaptureSearch ValueFault
+searched_by tables value p = searched_where (table_value tables) value p
 
 -- en passant where there is no other move, else the best of all
-abbrev pub worth : Weighed → Wdl
+abbrev pub worth : CaptureSearch → Wdl
 worth w = if w.forced then w.passant else greater (greater w.capture w.passant) w.own
 
-abbrev pub worth_in : Result Weighed ValueFault → Reading
+abbrev pub worth_in : Result CaptureSearch ValueFault → Reading
 worth_in (Ok w) = Ok (worth w)
 worth_in (Err fault) = Err fault
 
--- the value of a position: a draw for bare kings, else by what is weighed
-abbrev pub wdl_by_weighed : Parts → Result Weighed ValueFault → Reading
-wdl_by_weighed p w = if nat_le (count_of_men p) 2 then Ok Draw else worth_in w
+-- the value of a position: a draw for bare kings, else by what is searched
+abbrev pub wdl_from_search : Parts → Result CaptureSearch ValueFault → Reading
+wdl_from_search p w = if nat_le (count_of_men p) 2 then Ok Draw else worth_in w
 
 -- the value of a position, where `value` gives those of the positions after its captures
 abbrev pub wdl_by : Tables → (Parts → Reading) → Parts → Reading
-wdl_by tables value p = wdl_by_weighed p (weighed_by tables value p)
+wdl_by tables value p = wdl_from_search p (searched_by tables value p)
 
 -- ---- captures in a row
 
 -- the value by what the own tables say, where at most so many captures in a row are visited
 unfoldable pub wdl_to : (Parts → Reading) → ℕ → Parts → Reading
 wdl_to own zero p = Ok Draw
-wdl_to own (suc n) p = wdl_by_weighed p (weighed_where own (wdl_to own n) p)
+wdl_to own (suc n) p = wdl_from_search p (searched_where own (wdl_to own n) p)
 
 -- The value by what the own tables say. Each capture takes a man, so that there are no more captures in a row than men.
 unfoldable pub wdl_where : (Parts → Reading) → Parts → Reading

@@ -6,7 +6,7 @@ ghost use Rattle.judge_core.specs.Answers.{ListsMoves, as_probe, signed_in};
 ghost use Rattle.judge_core.specs.declared.fault.ProbeFault.TheVariants.{OutOfScope};
 ghost use Rattle.judge_core.specs.Distances.{plies, dtz_of};
 ghost use Rattle.judge_core.specs.Ends.{has_no_move};
-ghost use Rattle.judge_core.specs.Probed.{IsProbed, wdl_number};
+ghost use Rattle.judge_core.specs.ProbeResult.{IsProbed, wdl_number};
 ghost use Rattle.judge_core.specs.Probing.{wdl_of};
 ghost use Rattle.judge_core.specs.Ruling.{end_of, is_out_of_scope, ruling, ruling_by};
 ghost use Rattle.judge_core.specs.Tables.{AreFiled};
@@ -16,9 +16,9 @@ use crate::distance::Distance;
 use crate::dtz::{Beyond, signed_in};
 use crate::fault::{ProbeFault, ValueFault};
 use crate::found::worth_in;
+use crate::located_position::{LocatedPosition, is_bare};
 use crate::mobility::has_no_move;
-use crate::probe::{Probe, is_bare};
-use crate::probed::Probed;
+use crate::probe_result::ProbeResult;
 use crate::set::Set;
 use crate::verdict::{by_distance, by_value, end_of, is_out_of_scope};
 use crate::wdl::Wdl;
@@ -61,7 +61,7 @@ pub(crate) fn columns_outside(position: &Position) -> Columns
     ensures verdict { result.verdict ≡ if has_no_move (legal_moves position.now) then Some (end_of position.now) else None }
 {
     Columns {
-        probed: Probed {
+        probed: ProbeResult {
             wdl: Err(ProbeFault::OutOfScope),
             dtz: Err(ProbeFault::OutOfScope),
         },
@@ -83,12 +83,12 @@ impl Readings {
     }
 
     /// Both as numbers, or why there is none.
-    fn probed(&self) -> Probed
+    fn probed(&self) -> ProbeResult
         requires { IfOk self.now.dtz (λ d. plies d ≤ 1000000) }
         ensures wdl { result.wdl ≡ as_probe wdl_number self.now.wdl }
         ensures dtz { result.dtz ≡ as_probe (λ n. n) (signed_in self.now.dtz) }
     {
-        Probed {
+        ProbeResult {
             wdl: number_in(&self.wdl),
             dtz: signed_in(&self.dtz),
         }
@@ -138,11 +138,11 @@ impl<'a> Set<'a> {
                 dtz: Ok(Distance::Draw),
             });
         }
-        let probe = Probe::of(position);
-        let weighed = self.weigh(alloc, &probe);
-        let dtz = self.by_weighed(alloc, &probe, &weighed, Beyond::Visited)?;
+        let probe = LocatedPosition::of(position);
+        let searched = self.capture_search(alloc, &probe);
+        let dtz = self.dtz_from_search(alloc, &probe, &searched, Beyond::Visited)?;
         Ok(Readings {
-            wdl: worth_in(weighed),
+            wdl: worth_in(searched),
             dtz,
         })
     }

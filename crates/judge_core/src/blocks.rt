@@ -37,7 +37,7 @@ impl BlockKey {
 
 /// How often a block was requested.
 #[derive(Clone, Copy, PartialEq, Eq)]
-pub(crate) enum Asking {
+pub(crate) enum RequestFrequency {
     /// For the first time, or another block of its place was requested since.
     First,
     /// Again.
@@ -88,8 +88,8 @@ impl Blocks {
     }
 
     /// Whether a block requested so often may be kept.
-    pub(crate) fn may_keep(&self, asking: Asking) -> bool {
-        asking != Asking::First && !self.kept.is_empty()
+    pub(crate) fn may_keep(&self, asking: RequestFrequency) -> bool {
+        asking != RequestFrequency::First && !self.kept.is_empty()
     }
 
     /// The number of blocks kept.
@@ -116,15 +116,15 @@ impl Blocks {
     }
 
     /// How one more request counts for a block that was requested so often, and how often it was requested then.
-    fn counted(times: u8) -> (Asking, u8) {
+    fn counted(times: u8) -> (RequestFrequency, u8) {
         if times >= OFTEN {
-            return (Asking::Often, 0);
+            return (RequestFrequency::Often, 0);
         }
-        (Asking::Again, times.saturating_add(1))
+        (RequestFrequency::Again, times.saturating_add(1))
     }
 
     /// Records a request for a block, and returns how often it was requested.
-    pub(crate) fn ask(&mut self, key: BlockKey) -> Asking
+    pub(crate) fn ask(&mut self, key: BlockKey) -> RequestFrequency
         requires { 1 ≤ length self.old.asked.items }
         ensures kept { self.new.kept ≡ self.old.kept }
         ensures places { length self.new.asked.items ≡ length self.old.asked.items }
@@ -133,7 +133,7 @@ impl Blocks {
         let last = self.asked[place];
         if last.key != key {
             self.asked[place] = Asked { key, times: 0 };
-            return Asking::First;
+            return RequestFrequency::First;
         }
         let (asking, times) = Blocks::counted(last.times);
         self.asked[place] = Asked { key, times };

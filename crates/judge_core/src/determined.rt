@@ -8,14 +8,14 @@
 ghost use Rattle.std.specs.Prelude.{◌≡◌, ◌≢◌, true, false};
 ghost use Rattle.board_core.specs.ComputedMoves.{legal_captures};
 ghost use Rattle.judge_core.specs.Determined.{IsDeterminedWdl};
-ghost use Rattle.judge_core.specs.Inside.Determined.{is_won_here, fill, in_stead, extreme, extreme_value, extreme_weighed, agreed, value_of_both, or_agreed, in_both, value_in_both, determined_value, value_as, step_value_as};
+ghost use Rattle.judge_core.specs.Inside.Determined.{is_won_here, fill, in_stead, extreme, extreme_value, extreme_searched, agreed, value_of_both, or_agreed, in_both, value_in_both, determined_value, value_as, step_value_as};
 ghost use Rattle.judge_core.specs.Inside.Found.{found_by_captures};
 
 use crate::ask::Ask;
 use crate::fault::{ProbeFault, ValueFault};
-use crate::found::{Found, Weighed, worth_in};
+use crate::found::{CaptureSearch, Found, worth_in};
+use crate::located_position::{LocatedPosition, is_bare};
 use crate::moving::lands_empty;
-use crate::probe::{Probe, is_bare};
 use crate::probing::{is_forced, told};
 use crate::set::Set;
 use crate::verdict::is_out_of_scope;
@@ -87,7 +87,7 @@ impl<'a> Set<'a> {
     fn extreme(
         &mut self,
         alloc: Global,
-        probe: &Probe<'_>,
+        probe: &LocatedPosition<'_>,
         odd_wins: bool,
     ) -> Result<Wdl, ValueFault>
         ensures is { result ≡ extreme self.old.tables odd_wins probe.now }
@@ -100,7 +100,12 @@ impl<'a> Set<'a> {
     /// The values there after the captures of the position. It is the search of `wdl` once more, which has no room for a
     /// choice of tables.
     #[cycle(extreme)]
-    fn search_extreme(&mut self, alloc: Global, probe: &Probe<'_>, odd_wins: bool) -> Found
+    fn search_extreme(
+        &mut self,
+        alloc: Global,
+        probe: &LocatedPosition<'_>,
+        odd_wins: bool,
+    ) -> Found
         ensures is { result ≡ found_by_captures (extreme_value self.old.tables odd_wins) probe.now (legal_captures probe.now) }
         ensures unchanged { self.new ≡ self.old }
     {
@@ -119,13 +124,13 @@ impl<'a> Set<'a> {
 
     /// What the captures and the own table say there about the position.
     #[cycle(extreme)]
-    pub(crate) fn weigh_extreme(
+    pub(crate) fn extreme_search(
         &mut self,
         alloc: Global,
-        probe: &Probe<'_>,
+        probe: &LocatedPosition<'_>,
         odd_wins: bool,
-    ) -> Result<Weighed, ValueFault>
-        ensures is { result ≡ extreme_weighed self.old.tables odd_wins probe.now }
+    ) -> Result<CaptureSearch, ValueFault>
+        ensures is { result ≡ extreme_searched self.old.tables odd_wins probe.now }
         ensures unchanged { self.new ≡ self.old }
     {
         let own = self.extreme(alloc, probe, odd_wins);
@@ -147,8 +152,8 @@ impl<'a> Set<'a> {
         if is_bare(position) {
             return Ok(Wdl::Draw);
         }
-        let weighed = self.weigh_extreme(alloc, &Probe::of(position), odd_wins);
-        worth_in(weighed)
+        let searched = self.extreme_search(alloc, &LocatedPosition::of(position), odd_wins);
+        worth_in(searched)
     }
 
     /// This value, or else what the position is worth in both sets, where that is the same.

@@ -18,8 +18,8 @@ use crate::display::Columns;
 use crate::distance::{Distance, is_won, towards, zeroing};
 use crate::dtz::{Beyond, signed_in};
 use crate::fault::{ProbeFault, ValueFault};
-use crate::found::Weighed;
-use crate::probe::Probe;
+use crate::found::CaptureSearch;
+use crate::located_position::LocatedPosition;
 use crate::set::Set;
 use crate::verdict::is_out_of_scope;
 use board_core::Position;
@@ -32,8 +32,8 @@ impl<'a> Set<'a> {
         &mut self,
         alloc: Global,
         position: &Position,
-        odd: &Weighed,
-        even: &Weighed,
+        odd: &CaptureSearch,
+        even: &CaptureSearch,
         outcome: Outcome,
     ) -> Result<bool, AllocError>
         ensures is { IfOk result (λ b. b ≡ is_zeroing self.old.tables position.now odd.now even.now outcome) }
@@ -53,13 +53,13 @@ impl<'a> Set<'a> {
         }
     }
 
-    /// The distance of a position that is worth the same in both sets, if what is weighed there tells it.
+    /// The distance of a position that is worth the same in both sets, if what is searched there tells it.
     fn zeroing_distance(
         &mut self,
         alloc: Global,
         position: &Position,
-        odd: &Weighed,
-        even: &Weighed,
+        odd: &CaptureSearch,
+        even: &CaptureSearch,
     ) -> Result<Option<Distance>, AllocError>
         ensures is { IfOk result (λ d. d ≡ zeroing_distance self.old.tables position.now odd.now even.now (outcome_of (worth odd.now))) }
         ensures memory { OnErr result (AskPawns odd.now even.now) }
@@ -76,7 +76,7 @@ impl<'a> Set<'a> {
         }
     }
 
-    /// The distance that the position has in both sets, if what is weighed there tells it.
+    /// The distance that the position has in both sets, if what is searched there tells it.
     fn agreed_distance(
         &mut self,
         alloc: Global,
@@ -87,9 +87,9 @@ impl<'a> Set<'a> {
         ensures within { IfOk result (λ o. IfSome o (λ d. plies d ≤ 101)) }
         ensures unchanged { self.new ≡ self.old }
     {
-        let probe = Probe::of(position);
-        let odd = self.weigh_extreme(alloc, &probe, true);
-        let even = self.weigh_extreme(alloc, &probe, false);
+        let probe = LocatedPosition::of(position);
+        let odd = self.extreme_search(alloc, &probe, true);
+        let even = self.extreme_search(alloc, &probe, false);
         let Ok(odd) = odd else {
             return Ok(None);
         };

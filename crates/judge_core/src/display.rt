@@ -8,7 +8,7 @@ ghost use Rattle.judge_core.specs.Words.{column_words, verdict_words};
 
 use crate::fault::ProbeFault;
 use crate::game::GameOutcome;
-use crate::probed::Probed;
+use crate::probe_result::ProbeResult;
 use board_core::Verdict;
 use place_index::Material;
 use std::fmt;
@@ -23,7 +23,7 @@ pub struct Column(pub Result<i32, ProbeFault>);
 #[derive(Clone, Copy)]
 pub struct Columns {
     /// Both probes.
-    pub probed: Probed,
+    pub probed: ProbeResult,
     /// The verdict; none where the game goes on.
     pub verdict: Option<Verdict>,
 }

@@ -86,7 +86,7 @@ pub(crate) fn towards(outcome: Outcome, number: u32) -> Distance
 }
 
 /// The distance before a move, from the distance after it.
-pub(crate) fn counted(
+pub(crate) fn distance_before(
     won: bool,
     reach: &Result<Distance, ValueFault>,
 ) -> Result<Option<u32>, ValueFault>

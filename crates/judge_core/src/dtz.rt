@@ -2,7 +2,7 @@
 
 ghost use Rattle.std.specs.Prelude.{◌≡◌, ◌≤◌, ◌+◌, IfOk, IfSome, OnErr, Some, Err};
 ghost use Rattle.judge_core.specs.Tables.{AreFiled};
-ghost use Rattle.judge_core.specs.Distances.{plies, pawns_reach_where, move_counts, by_quiet_moves, stored_distance, by_own_table, by_moves, by_weighed, dtz_by, dtz_of};
+ghost use Rattle.judge_core.specs.Distances.{plies, pawns_reach_where, move_counts, by_quiet_moves, stored_distance, by_own_table, by_moves, dtz_from_search, dtz_by, dtz_of};
 ghost use Rattle.judge_core.specs.Ruling.{is_out_of_scope};
 ghost use Rattle.judge_core.specs.Answers.{IsLeftOpen, IsProbe, ListsMoves, as_probe, signed_in};
 ghost use Rattle.judge_core.specs.declared.fault.ProbeFault.TheVariants.{OutOfMemory};
@@ -10,12 +10,12 @@ ghost use Rattle.judge_core.specs.Inside.Determined.{reach_after, reach_beyond, 
 
 use crate::ask::Ask;
 use crate::counts::{Counts, Steps};
-use crate::distance::{Distance, counted, is_won, towards, zeroing};
+use crate::distance::{Distance, distance_before, is_won, towards, zeroing};
 use crate::fault::{ProbeFault, ValueFault};
-use crate::found::Weighed;
+use crate::found::CaptureSearch;
+use crate::located_position::{LocatedPosition, is_bare};
 use crate::mobility::is_mate;
 use crate::moving::{after_pawn_step, after_quiet_move, has_pawn};
-use crate::probe::{Probe, is_bare};
 use crate::set::Set;
 use crate::verdict::is_out_of_scope;
 use crate::wdl::{Wdl, turned};
@@ -105,7 +105,7 @@ impl<'a> Set<'a> {
             return Ok(Ok(Some(1)));
         }
         let reach = self.dtz_after(alloc, after, beyond)?;
-        Ok(counted(won, &reach))
+        Ok(distance_before(won, &reach))
     }
 
     /// The distance by the positions after the moves that neither take a man nor move a pawn. It isn't inlined,
@@ -140,7 +140,7 @@ impl<'a> Set<'a> {
     fn by_own_table(
         &mut self,
         alloc: Global,
-        probe: &Probe<'_>,
+        probe: &LocatedPosition<'_>,
         outcome: Outcome,
         beyond: Beyond,
     ) -> Result<Result<Distance, ValueFault>, AllocError>
@@ -152,12 +152,14 @@ impl<'a> Set<'a> {
             return Ok(Ok(Distance::Draw));
         };
         let material = placed.material();
-        let Some(part) = self.shelf.part(TableKind::Dtz, placed) else {
+        let Some(part) = self.table_slots.part(TableKind::Dtz, placed) else {
             return Ok(Err(ValueFault::NotCovered(material)));
         };
         if part.stores() {
             let blocks = &mut self.blocks;
-            let number = self.shelf.distance(blocks, alloc, &part, placed, outcome);
+            let number = self
+                .table_slots
+                .distance(blocks, alloc, &part, placed, outcome);
             return Ok(stored(material, outcome, number));
         }
         self.by_quiet_moves(alloc, probe.position(), material, outcome, beyond)
@@ -168,7 +170,7 @@ impl<'a> Set<'a> {
     fn by_moves(
         &mut self,
         alloc: Global,
-        probe: &Probe<'_>,
+        probe: &LocatedPosition<'_>,
         value: Wdl,
         outcome: Outcome,
         beyond: Beyond,
@@ -192,27 +194,27 @@ impl<'a> Set<'a> {
 
     /// The distance, given what captures and the own WDL table say.
     #[cycle(dtz)]
-    pub(crate) fn by_weighed(
+    pub(crate) fn dtz_from_search(
         &mut self,
         alloc: Global,
-        probe: &Probe<'_>,
-        weighed: &Result<Weighed, ValueFault>,
+        probe: &LocatedPosition<'_>,
+        searched: &Result<CaptureSearch, ValueFault>,
         beyond: Beyond,
     ) -> Result<Result<Distance, ValueFault>, AllocError>
-        ensures is { IfOk result (λ reach. reach ≡ by_weighed self.old.tables (reach_beyond beyond self.old.tables) probe.now weighed.now) }
-        ensures memory { OnErr result (IsLeftOpen weighed.now) }
+        ensures is { IfOk result (λ reach. reach ≡ dtz_from_search self.old.tables (reach_beyond beyond self.old.tables) probe.now searched.now) }
+        ensures memory { OnErr result (IsLeftOpen searched.now) }
         ensures within { IfOk result (λ reach. IfOk reach (λ d. plies d ≤ 131172 + visits beyond)) }
         ensures unchanged { self.new ≡ self.old }
     {
-        let weighed = match weighed {
-            Ok(weighed) => weighed,
+        let searched = match searched {
+            Ok(searched) => searched,
             Err(fault) => return Ok(Err(*fault)),
         };
-        let value = weighed.worth();
+        let value = searched.worth();
         let Some(outcome) = value.outcome() else {
             return Ok(Ok(Distance::Draw));
         };
-        if weighed.is_by_capture() {
+        if searched.is_by_capture() {
             return Ok(Ok(towards(outcome, zeroing(outcome))));
         }
         self.by_moves(alloc, probe, value, outcome, beyond)
@@ -234,9 +236,9 @@ impl<'a> Set<'a> {
         if is_bare(position) {
             return Ok(Ok(Distance::Draw));
         }
-        let probe = Probe::of(position);
-        let weighed = self.weigh(alloc, &probe);
-        self.by_weighed(alloc, &probe, &weighed, beyond)
+        let probe = LocatedPosition::of(position);
+        let searched = self.capture_search(alloc, &probe);
+        self.dtz_from_search(alloc, &probe, &searched, beyond)
     }
 
     /// The distance after a quiet move by the tables of the set, or else the one that its value tells in both sets. It

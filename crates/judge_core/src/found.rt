@@ -10,7 +10,7 @@ use crate::wdl::Wdl;
 
 /// What captures and the own table say of a position.
 #[derive(Clone, Copy)]
-pub(crate) struct Weighed {
+pub(crate) struct CaptureSearch {
     /// The best capture other than en passant, a loss without one.
     pub capture: Wdl,
     /// The best capture en passant, a loss without one.
@@ -21,7 +21,7 @@ pub(crate) struct Weighed {
     pub forced: bool,
 }
 
-impl Weighed {
+impl CaptureSearch {
     /// Whether the value is that of a capture. It is where en passant alone is legal, where a capture wins, and where
     /// en passant beats all else. It also is where the best capture is better than a draw and as good as the own table.
     pub fn is_by_capture(&self) -> bool
@@ -47,11 +47,11 @@ impl Weighed {
 }
 
 /// What the position is worth, or the fault.
-pub(crate) fn worth_in(weighed: Result<Weighed, ValueFault>) -> Result<Wdl, ValueFault>
-    ensures { result ≡ worth_in weighed }
+pub(crate) fn worth_in(searched: Result<CaptureSearch, ValueFault>) -> Result<Wdl, ValueFault>
+    ensures { result ≡ worth_in searched }
 {
-    match weighed {
-        Ok(weighed) => Ok(weighed.worth()),
+    match searched {
+        Ok(searched) => Ok(searched.worth()),
         Err(fault) => Err(fault),
     }
 }
@@ -98,7 +98,11 @@ impl Found {
     }
 
     /// After the last capture, with the own table's value, or its fault.
-    pub fn close(&self, own: &Result<Wdl, ValueFault>, forced: bool) -> Result<Weighed, ValueFault>
+    pub fn close(
+        &self,
+        own: &Result<Wdl, ValueFault>,
+        forced: bool,
+    ) -> Result<CaptureSearch, ValueFault>
         ensures { result ≡ closed self.now own.now forced }
     {
         let all = self.with(own, false);
@@ -106,7 +110,7 @@ impl Found {
             return Err(fault);
         }
         match own {
-            Ok(own) => Ok(Weighed {
+            Ok(own) => Ok(CaptureSearch {
                 capture: self.capture,
                 passant: self.passant,
                 own: *own,

@@ -7,8 +7,8 @@ ghost use Rattle.judge_core.specs.Tables.{AreFiled};
 
 use crate::dtz::Beyond;
 use crate::found::worth_in;
+use crate::located_position::{LocatedPosition, is_bare};
 use crate::mobility::has_no_move;
-use crate::probe::{Probe, is_bare};
 use crate::set::Set;
 use crate::verdict;
 use crate::wdl::Wdl;
@@ -46,15 +46,15 @@ impl<'a> Set<'a> {
         if is_bare(position) {
             return Ok(Some(Verdict::TableDraw));
         }
-        let probe = Probe::of(position);
-        let weighed = self.weigh(alloc, &probe);
-        let reading = worth_in(weighed);
+        let probe = LocatedPosition::of(position);
+        let searched = self.capture_search(alloc, &probe);
+        let reading = worth_in(searched);
         let winner = match &reading {
             Ok(Wdl::Win) => position.side(),
             Ok(Wdl::Loss) => position.side().other(),
             _ => return Ok(verdict::by_value(&reading)),
         };
-        let reach = self.by_weighed(alloc, &probe, &weighed, Beyond::Visited)?;
+        let reach = self.dtz_from_search(alloc, &probe, &searched, Beyond::Visited)?;
         Ok(verdict::by_distance(position, winner, &reach))
     }
 }

@@ -5,14 +5,14 @@
 //! clock to 0; a DTZ table may store one side alone, and the other's follows from the positions after its moves. `Standing` keeps
 //! where a game stands: each position is judged once, and only this crate knows the rule of delay.
 //!
-//! Inside: `shelf` (tables in their slots), `blocks` (decoded blocks), `reading` (of both), `probe` (a position as its table sees
+//! Inside: `table_slots` (tables in their slots), `blocks` (decoded blocks), `reading` (of both), `probe` (a position as its table sees
 //! it); `probing`, `found`, `many` for WDL; `determined`, `determined_dtz` where tables are missing; `dtz`, `counts`, `distance`,
 //! `moving`, `mobility`; `judging`, `answering` (all three at once), `root`, `root_move`, `standing`, `game`, `display`, `ask` (strict or determined). Words of
 //! Stockfish: `Set::wdl` is `search`, `Set::dtz` `probe_dtz`, a distance before a move that zeroes the clock `dtz_before_zeroing`,
 //! `Set::root` `root_probe`.
 //!
 //! Definitions, in reading order: `LookUp`, `Tables`, `Values`, `Asked`, `Probing` (`wdl_of`), `FiveRules`, `Distances`
-//! (`dtz_of`), `Ends`, `Ruling`, `Games`, `Standings`, `Answers`, `Probed`, `Root`, `Determined`.
+//! (`dtz_of`), `Ends`, `Ruling`, `Games`, `Standings`, `Answers`, `ProbeResult`, `Root`, `Determined`.
 //!
 //! - CLAIM: `Set::new`; `Set::add`, clauses `added`, `refused`, `duplicate`, `no_memory`; `Set::cache`, clause `is`;
 //!   `Set::kept_blocks`; `Set::has`; `Set::largest`, clauses `is`, `few`: a set holds a table for each kind and material. A second one is `Duplicate`
@@ -76,19 +76,19 @@ mod found;
 mod game;
 mod judging;
 pub mod laws;
+mod located_position;
 mod many;
 mod mobility;
 mod moving;
-mod probe;
-mod probed;
+mod probe_result;
 mod probing;
 mod reading;
 mod root;
 mod root_move;
 mod set;
-mod shelf;
 mod standing;
 mod table_slot;
+mod table_slots;
 mod verdict;
 mod wdl;
 
@@ -97,7 +97,7 @@ pub use board_core::Verdict;
 pub use display::{Column, Columns, Outcome, verdict_or_open};
 pub use fault::{ProbeFault, SetFault, ValueFault};
 pub use game::{Followed, GameOutcome};
-pub use probed::Probed;
+pub use probe_result::ProbeResult;
 pub use root_move::{BoardState, Effect, RootMove};
 pub use set::Set;
 pub use standing::Standing;

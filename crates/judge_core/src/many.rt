@@ -10,11 +10,11 @@ ghost use Rattle.judge_core.specs.Tables.{table_value};
 use crate::blocks::Blocks;
 use crate::fault::{ProbeFault, ValueFault};
 use crate::found::worth_in;
-use crate::probe::{Probe, is_bare};
+use crate::located_position::{LocatedPosition, is_bare};
 use crate::probing::told;
 use crate::reading::OwnPlace;
 use crate::set::Set;
-use crate::shelf::Shelf;
+use crate::table_slots::TableSlots;
 use crate::verdict::is_out_of_scope;
 use crate::wdl::Wdl;
 use board_core::Position;
@@ -23,17 +23,20 @@ use std::alloc::{AllocError, Global};
 /// A position and the place of its value in its own table.
 #[derive(Drop)]
 struct Located<'q, 'p, 't, 'a> {
-    probe: &'q Probe<'p>,
+    probe: &'q LocatedPosition<'p>,
     own: Option<OwnPlace<'t, 'a>>,
 }
 
 /// The positions with their men.
-fn probes_of<'p>(alloc: Global, positions: &'p [Position]) -> Result<Vec<Probe<'p>>, AllocError>
+fn probes_of<'p>(
+    alloc: Global,
+    positions: &'p [Position],
+) -> Result<Vec<LocatedPosition<'p>>, AllocError>
     ensures { IfOk result (λ probes. probes.items ≡ positions.now) }
 {
     let mut probes = Vec::with_capacity(alloc, positions.len())?;
     for position in positions {
-        probes.push(Probe::of(position))?;
+        probes.push(LocatedPosition::of(position))?;
     }
     Ok(probes)
 }
@@ -50,12 +53,12 @@ fn look_ahead(located: &[Located<'_, '_, '_, '_>]) -> u32 {
     sum
 }
 
-impl<'a> Shelf<'a> {
+impl<'a> TableSlots<'a> {
     /// Where the own tables of the positions have their values.
     fn locate_each<'q, 'p, 't>(
         &'t self,
         alloc: Global,
-        probes: &'q [Probe<'p>],
+        probes: &'q [LocatedPosition<'p>],
     ) -> Result<Vec<Located<'q, 'p, 't, 'a>>, AllocError>
         ensures probes { IfOk result (λ all. map (λ it. it.probe.now) all.items ≡ probes.now) }
         ensures places { IfOk result (λ all. All (λ it. IsOwnPlace self.now.tables it.probe.now it.own) all.items) }
@@ -93,21 +96,22 @@ impl<'a> Set<'a> {
     fn table_values(
         &mut self,
         alloc: Global,
-        probes: &[Probe<'_>],
+        probes: &[LocatedPosition<'_>],
     ) -> Result<Vec<Result<Wdl, ValueFault>>, AllocError>
         ensures is { IfOk result (λ values. values.items ≡ map (table_value self.old.tables) probes.now) }
         ensures unchanged { self.new ≡ self.old }
     {
-        let located = self.shelf.locate_each(alloc, probes)?;
+        let located = self.table_slots.locate_each(alloc, probes)?;
         self.blocks.note(look_ahead(&located));
-        self.shelf.read_each(&mut self.blocks, alloc, &located)
+        self.table_slots
+            .read_each(&mut self.blocks, alloc, &located)
     }
 
     /// What the position is worth, as `wdl` gives it, where its own table says this.
     fn wdl_with(
         &mut self,
         alloc: Global,
-        probe: &Probe<'_>,
+        probe: &LocatedPosition<'_>,
         own: &Result<Wdl, ValueFault>,
     ) -> Result<Wdl, ProbeFault>
         requires own { own.now ≡ table_value self.old.tables probe.now }
@@ -121,8 +125,8 @@ impl<'a> Set<'a> {
         if is_bare(position) {
             return Ok(Wdl::Draw);
         }
-        let weighed = self.weigh_with(alloc, probe, own);
-        told(&worth_in(weighed))
+        let searched = self.capture_search_by(alloc, probe, own);
+        told(&worth_in(searched))
     }
 
     /// The WDL values of the positions, each as `wdl` gives it, in their order. The tables of all are looked up before the

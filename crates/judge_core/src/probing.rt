@@ -2,7 +2,7 @@
 
 ghost use Rattle.std.specs.Prelude.{◌≡◌, ◌≢◌, Err};
 ghost use Rattle.board_core.specs.ComputedMoves.{legal_captures};
-ghost use Rattle.judge_core.specs.Probing.{is_forced, weighed_by, wdl_of};
+ghost use Rattle.judge_core.specs.Probing.{is_forced, searched_by, wdl_of};
 ghost use Rattle.judge_core.specs.Ruling.{is_out_of_scope};
 ghost use Rattle.judge_core.specs.Answers.{IsProbe, as_probe};
 ghost use Rattle.judge_core.specs.declared.fault.ProbeFault.TheVariants.{OutOfMemory};
@@ -10,9 +10,9 @@ ghost use Rattle.judge_core.specs.Inside.Found.{found_by_captures};
 ghost use Rattle.judge_core.specs.Tables.{table_value};
 
 use crate::fault::{ProbeFault, ValueFault};
-use crate::found::{Found, Weighed, worth_in};
+use crate::found::{CaptureSearch, Found, worth_in};
+use crate::located_position::{LocatedPosition, is_bare};
 use crate::moving::lands_empty;
-use crate::probe::{Probe, is_bare};
 use crate::reading::value_of;
 use crate::set::Set;
 use crate::verdict::is_out_of_scope;
@@ -47,7 +47,7 @@ impl<'a> Set<'a> {
     pub(crate) fn table_value(
         &mut self,
         alloc: Global,
-        probe: &Probe<'_>,
+        probe: &LocatedPosition<'_>,
     ) -> Result<Wdl, ValueFault>
         ensures is { result ≡ table_value self.old.tables probe.now }
         ensures unchanged { self.new ≡ self.old }
@@ -56,12 +56,12 @@ impl<'a> Set<'a> {
             return Ok(Wdl::Draw);
         };
         let material = placed.material();
-        let Some(part) = self.shelf.part(TableKind::Wdl, placed) else {
+        let Some(part) = self.table_slots.part(TableKind::Wdl, placed) else {
             return Err(ValueFault::NotCovered(material));
         };
         let blocks = &mut self.blocks;
         let points = self
-            .shelf
+            .table_slots
             .read(blocks, alloc, TableKind::Wdl, &part, placed);
         value_of(material, points)
     }
@@ -70,7 +70,7 @@ impl<'a> Set<'a> {
     /// after a move costs time at each entry, even where nothing can be taken.
     #[inline(never)]
     #[cycle(wdl)]
-    fn search_captures(&mut self, alloc: Global, probe: &Probe<'_>) -> Found
+    fn search_captures(&mut self, alloc: Global, probe: &LocatedPosition<'_>) -> Found
         ensures is { result ≡ found_by_captures (wdl_of self.old.tables) probe.now (legal_captures probe.now) }
         ensures unchanged { self.new ≡ self.old }
     {
@@ -89,7 +89,7 @@ impl<'a> Set<'a> {
 
     /// The values after the captures of the position.
     #[cycle(wdl)]
-    fn found_in_captures(&mut self, alloc: Global, probe: &Probe<'_>) -> Found
+    fn found_in_captures(&mut self, alloc: Global, probe: &LocatedPosition<'_>) -> Found
         ensures is { result ≡ found_by_captures (wdl_of self.old.tables) probe.now (legal_captures probe.now) }
         ensures unchanged { self.new ≡ self.old }
     {
@@ -103,14 +103,14 @@ impl<'a> Set<'a> {
     /// What the captures say about the position, and its own table, which says this.
     #[cycle(wdl)]
     #[inline]
-    pub(crate) fn weigh_with(
+    pub(crate) fn capture_search_by(
         &mut self,
         alloc: Global,
-        probe: &Probe<'_>,
+        probe: &LocatedPosition<'_>,
         own: &Result<Wdl, ValueFault>,
-    ) -> Result<Weighed, ValueFault>
+    ) -> Result<CaptureSearch, ValueFault>
         requires own { own.now ≡ table_value self.old.tables probe.now }
-        ensures is { result ≡ weighed_by self.old.tables (wdl_of self.old.tables) probe.now }
+        ensures is { result ≡ searched_by self.old.tables (wdl_of self.old.tables) probe.now }
         ensures unchanged { self.new ≡ self.old }
     {
         let found = self.found_in_captures(alloc, probe);
@@ -119,12 +119,16 @@ impl<'a> Set<'a> {
 
     /// What the captures and the own table say about the position.
     #[cycle(wdl)]
-    pub(crate) fn weigh(&mut self, alloc: Global, probe: &Probe<'_>) -> Result<Weighed, ValueFault>
-        ensures is { result ≡ weighed_by self.old.tables (wdl_of self.old.tables) probe.now }
+    pub(crate) fn capture_search(
+        &mut self,
+        alloc: Global,
+        probe: &LocatedPosition<'_>,
+    ) -> Result<CaptureSearch, ValueFault>
+        ensures is { result ≡ searched_by self.old.tables (wdl_of self.old.tables) probe.now }
         ensures unchanged { self.new ≡ self.old }
     {
         let own = self.table_value(alloc, probe);
-        self.weigh_with(alloc, probe, &own)
+        self.capture_search_by(alloc, probe, &own)
     }
 
     /// What the position is worth to the side to move, wherever its tables are there and whole.
@@ -136,8 +140,8 @@ impl<'a> Set<'a> {
         if is_bare(position) {
             return Ok(Wdl::Draw);
         }
-        let weighed = self.weigh(alloc, &Probe::of(position));
-        worth_in(weighed)
+        let searched = self.capture_search(alloc, &LocatedPosition::of(position));
+        worth_in(searched)
     }
 
     /// What the position is worth to the side to move by the WDL tables, captures and en passant included.

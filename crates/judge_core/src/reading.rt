@@ -10,10 +10,10 @@ ghost use Rattle.judge_core.specs.Inside.Placing.{IsPartFor, IsPlaceIn, IsOwnPla
 ghost use Rattle.judge_core.specs.Tables.{entry_in, slot, table_value, value_or_damaged};
 ghost use Rattle.judge_core.specs.Values.{of_points};
 
-use crate::blocks::{Asking, BlockKey, Blocks};
+use crate::blocks::{BlockKey, Blocks, RequestFrequency};
 use crate::fault::ValueFault;
-use crate::probe::Probe;
-use crate::shelf::{Shelf, slot};
+use crate::located_position::LocatedPosition;
+use crate::table_slots::{TableSlots, slot};
 use crate::wdl::Wdl;
 use board_core::Side;
 use place_index::{Material, Placed, index};
@@ -109,7 +109,7 @@ fn key_of(kind: TableKind, placed: &Placed, block: u32) -> BlockKey
     }
 }
 
-impl<'a> Shelf<'a> {
+impl<'a> TableSlots<'a> {
     /// The value of a block at an offset, where the block is kept. The inner option is none where the value is damaged.
     fn kept_value(
         &self,
@@ -160,7 +160,7 @@ impl<'a> Shelf<'a> {
                 return value;
             }
         }
-        if asking == Asking::Often {
+        if asking == RequestFrequency::Often {
             if let Ok(values) = part.unpack(alloc, key.block) {
                 let value = part.value_among(key.block, offset, &values);
                 self.keep(blocks, key, values);
@@ -242,7 +242,7 @@ impl<'a> Shelf<'a> {
     }
 
     /// Where the own WDL table of a position has its value; none where there is no such table.
-    pub(crate) fn own_place(&self, probe: &Probe<'_>) -> Option<OwnPlace<'_, 'a>>
+    pub(crate) fn own_place(&self, probe: &LocatedPosition<'_>) -> Option<OwnPlace<'_, 'a>>
         ensures { IsOwnPlace self.now.tables probe.now result }
     {
         let Some(placed) = probe.placed() else {
@@ -260,7 +260,7 @@ impl<'a> Shelf<'a> {
         &self,
         blocks: &mut Blocks,
         alloc: Global,
-        probe: &Probe<'_>,
+        probe: &LocatedPosition<'_>,
         own: &Option<OwnPlace<'_, 'a>>,
     ) -> Result<Wdl, ValueFault>
         requires right { AreRight self.now blocks.old }

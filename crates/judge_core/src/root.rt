@@ -70,7 +70,7 @@ fn add<T: Copy>(list: &mut Vec<T>, item: T) -> Result<(), AllocError>
 }
 
 impl<'a> Set<'a> {
-    /// What a move is worth to the side that makes it, from the position after it. That is weighed once for both.
+    /// What a move is worth to the side that makes it, from the position after it. That is searched once for both.
     fn readings_before(
         &mut self,
         alloc: Global,
@@ -187,7 +187,7 @@ impl<'a> Set<'a> {
     }
 
     /// All legal moves of the position with what each is worth, the best first; none where the position is out of scope
-    /// as for `wdl`. Each move is played once, and the position after it is weighed once.
+    /// as for `wdl`. Each move is played once, and the position after it is searched once.
     ///
     /// A better value comes first. Of one value the nearer win and the farther loss comes first. So a win within the
     /// rule of fifty moves comes before any other. A move without a distance comes after the others of its value, and

@@ -4,14 +4,14 @@ ghost use Rattle.std.specs.Prelude.{◌≡◌, Some};
 ghost use Rattle.board_core.specs.declared.parts.Parts.{Parts};
 ghost use Rattle.board_core.specs.ComputedMoves.{position_after};
 ghost use Rattle.judge_core.specs.Answers.{as_probe};
-ghost use Rattle.judge_core.specs.Probed.{wdl_number};
+ghost use Rattle.judge_core.specs.ProbeResult.{wdl_number};
 ghost use Rattle.judge_core.specs.Root.{effect_of, state_by, state_of, zeroes_clock, captures, is_checkmate, below_win, distance_or_most, move_rank};
 
 use crate::answering::number_in;
 use crate::fault::ValueFault;
 use crate::mobility::has_no_move;
 use crate::moving::{lands_empty, moves_pawn, stays_on_file};
-use crate::probed::Probed;
+use crate::probe_result::ProbeResult;
 use crate::wdl::Wdl;
 use board_core::{Move, Position};
 
@@ -162,11 +162,11 @@ impl RootMove {
     }
 
     /// Its value and its distance as numbers, as probes give them.
-    pub fn probed(&self) -> Probed
+    pub fn probed(&self) -> ProbeResult
         ensures wdl { result.wdl ≡ as_probe wdl_number self.now.wdl }
         ensures dtz { result.dtz ≡ as_probe (λ n. n) self.now.dtz }
     {
-        Probed {
+        ProbeResult {
             wdl: number_in(&self.wdl),
             dtz: match &self.dtz {
                 Ok(distance) => Ok(*distance),

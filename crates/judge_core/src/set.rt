@@ -6,7 +6,7 @@ ghost use Rattle.judge_core.specs.Tables.{AreFiled, largest_of, slot, table_at};
 
 use crate::blocks::Blocks;
 use crate::fault::SetFault;
-use crate::shelf::Shelf;
+use crate::table_slots::TableSlots;
 use place_index::Material;
 use std::alloc::{AllocError, Global};
 use std::marker::Model;
@@ -20,7 +20,7 @@ use table_file::{Table, TableKind};
 /// decoded after repeated requests, and kept until it is the least recently used one when another needs its place.
 #[derive(Drop)]
 pub struct Set<'a> {
-    pub(crate) shelf: Shelf<'a>,
+    pub(crate) table_slots: TableSlots<'a>,
     pub(crate) blocks: Blocks,
 }
 
@@ -30,9 +30,9 @@ impl<'a> Model for Set<'a> {
 
     ghost Value = { Holding };
 
-    ghost view = { λ s. s.shelf };
+    ghost view = { λ s. s.table_slots };
 
-    ghost invariant = { λ s. AreRight s.shelf s.blocks };
+    ghost invariant = { λ s. AreRight s.table_slots s.blocks };
 }
 
 impl<'a> Set<'a> {
@@ -43,9 +43,12 @@ impl<'a> Set<'a> {
         requires most { cache ≤ 4096 }
         ensures { IfOk result (λ set. set ≡ record { tables = replicate 290 None; cache = cache }) }
     {
-        let shelf = Shelf::new(alloc, cache)?;
+        let table_slots = TableSlots::new(alloc, cache)?;
         let blocks = Blocks::new(alloc, cache)?;
-        Ok(Set { shelf, blocks })
+        Ok(Set {
+            table_slots,
+            blocks,
+        })
     }
 
     /// How many decoded blocks the set may keep, 1 to 4096. Its contract also says that each table is in the slot of its kind
@@ -56,7 +59,7 @@ impl<'a> Set<'a> {
         ensures most { result ≤ 4096 }
         ensures filed { AreFiled self.now.tables }
     {
-        self.shelf.cache()
+        self.table_slots.cache()
     }
 
     /// The number of decoded blocks that the set keeps now, never more than it was made for.
@@ -70,7 +73,7 @@ impl<'a> Set<'a> {
     pub fn has(&self, kind: TableKind, material: Material) -> bool
         ensures { result ≡ is_some (table_at self.now.tables kind material) }
     {
-        self.shelf.has(kind, material)
+        self.table_slots.has(kind, material)
     }
 
     /// The largest number of men of a table in the set, kings included, 0 without a table.
@@ -78,7 +81,7 @@ impl<'a> Set<'a> {
         ensures is { result ≡ largest_of self.now.tables }
         ensures few { result ≤ 5 }
     {
-        self.shelf.largest()
+        self.table_slots.largest()
     }
 
     /// Adds a table. One that is refused is dropped, and the set stays as it was.
@@ -91,7 +94,7 @@ impl<'a> Set<'a> {
         ensures duplicate { (result ≡ Err Duplicate) ↔ IsSome (table_at self.old.tables table.entry.kind table.entry.material) }
         ensures no_memory { result ≢ Err OutOfMemory }
     {
-        self.shelf.add(table)
+        self.table_slots.add(table)
     }
     /// A second set with the tables that this one has now, and a cache of its own for this many decoded blocks, 1 to 4096.
     ///
@@ -104,7 +107,10 @@ impl<'a> Set<'a> {
         ensures unchanged { self.new ≡ self.old }
     {
         let blocks = Blocks::new(alloc, cache)?;
-        let shelf = self.shelf.share(alloc, cache)?;
-        Ok(Set { shelf, blocks })
+        let table_slots = self.table_slots.share(alloc, cache)?;
+        Ok(Set {
+            table_slots,
+            blocks,
+        })
     }
 }

@@ -1,6 +1,6 @@
 //! The answers to the lines of an input, a line each, as they come.
 //!
-//! `tell_lines` gives each line of a `LineReader` to a `Teller`, which writes the answer; what was written goes out before the
+//! `tell_lines` gives each line of a `LineReader` to a `LineHandler`, which writes the answer; what was written goes out before the
 //! next line is awaited. Where the next line has come already, nothing is flushed for it. With progress a line on the second
 //! writer says how many are done after every 10,000: file `told_lines`. `line_words` has the lines of the crates above, which are laid
 //! out without memory and written at once.
@@ -26,4 +26,4 @@ mod line_words;
 mod told_lines;
 
 pub use line_words::LineWords;
-pub use told_lines::{TellFault, Teller, tell_cut, tell_lines};
+pub use told_lines::{LineHandler, TellFault, tell_cut, tell_lines};

@@ -24,7 +24,7 @@ pub enum TellFault {
 }
 
 /// A teller answers each line of an input.
-pub trait Teller {
+pub trait LineHandler {
     /// This is the answer to the line.
     ghost tells: { Self → List ℕ → LineTold → Type 0 };
 
@@ -111,7 +111,7 @@ fn put_cut<W: Output>(out: &mut W, fault: ReadFault) -> Result<Step, WriteFault>
 }
 
 /// Answers a line.
-fn tell_line<T: Teller, W: Output>(
+fn tell_line<T: LineHandler, W: Output>(
     teller: &mut T,
     line: &[u8],
     out: &mut W,
@@ -129,7 +129,7 @@ fn tell_line<T: Teller, W: Output>(
 }
 
 /// Reads the next line of an input, and answers it.
-fn tell_next<T: Teller, L: LineReader, W: Output>(
+fn tell_next<T: LineHandler, L: LineReader, W: Output>(
     teller: &mut T,
     reader: &mut L,
     line: &mut Vec<u8>,
@@ -173,7 +173,7 @@ fn flush_before_wait<L: LineReader, W: Output>(reader: &L, out: &mut W) -> Resul
 /// With `progress` a line such as `20000 done` goes to `errors` after every 10,000 lines. Without it nothing is written
 /// there. A failure there changes nothing. The error comes only where the writer of the lines failed. The lines before are whole then,
 /// and of the last a front is written.
-pub fn tell_lines<T: Teller, L: LineReader, W: Output, E: Write>(
+pub fn tell_lines<T: LineHandler, L: LineReader, W: Output, E: Write>(
     alloc: Global,
     teller: &mut T,
     reader: &mut L,

@@ -13,9 +13,9 @@ use Rattle.board_core.specs.declared.verdict.Verdict.{Verdict as Verdicts}
 use Rattle.board_core.specs.declared.verdict.Verdict.TheVariants as verdict
 use Rattle.board_core.specs.Verdicts.{verdict_code}
 use Rattle.move_msg.specs.declared.stamp.Stamp.{Stamp}
-use Rattle.move_msg.specs.declared.who.Who.{Who}
-use Rattle.move_msg.specs.declared.who.Who.TheVariants as who
-use Rattle.move_msg.specs.declared.who.Sender.TheVariants.{Source, Arbiter}
+use Rattle.move_msg.specs.declared.arbiter_id.ArbiterId.{ArbiterId}
+use Rattle.move_msg.specs.declared.arbiter_id.ArbiterId.TheVariants as who
+use Rattle.move_msg.specs.declared.arbiter_id.Sender.TheVariants.{Source, Arbiter}
 use Rattle.move_msg.specs.declared.message.Message.{Message}
 use Rattle.move_msg.specs.declared.message.Message.TheVariants.{Move, Ack, Verdict, Fetch}
 use Rattle.move_msg.specs.declared.message.MessageFault.{MessageFault}
@@ -40,7 +40,7 @@ found_has : {A : Type 0} (number : A → ℕ) (all : List A) (n : ℕ) (y : A) �
 found_has number [] n y e = absurd cc
 found_has number (x ∷ all) n y e = numbered_at number x all n y (found_has number all n y) (number x == n) refl e
 
-who_has : (n : ℕ) (a : Who) → who_with n ≡ Some a → who_number a ≡ n
+who_has : (n : ℕ) (a : ArbiterId) → who_with n ≡ Some a → who_number a ≡ n
 who_has n a e = found_has who_number arbiters n a e
 
 verdict_coded : (n : ℕ) (v : Verdicts) → verdict_with n ≡ Some v → verdict_code v ≡ n
@@ -49,7 +49,7 @@ verdict_coded n v e = found_has verdict_code verdicts n v e
 promotion_has : (n : ℕ) (p : Option Promotion) → promotion_with n ≡ Some p → promotion_number p ≡ n
 promotion_has n p e = found_has promotion_number promotions n p e
 
-who_back : (a : Who) → who_with (who_number a) ≡ Some a
+who_back : (a : ArbiterId) → who_with (who_number a) ≡ Some a
 who_back who.A = refl
 who_back who.B = refl
 
@@ -169,7 +169,7 @@ heard_back : (m : Message) → IsInRange m → heard_by (reader_of (version_of m
 unfolding reader_of
 heard_back (Move s Source n m) h = ap (λ (o : Option Moves). ok_or (option_map (Move s Source n) o) BadField) (word_back m h.1.from_board h.1.to_board)
 heard_back (Move s (Arbiter a) n m) h =
-    ap (λ (o : Option Who). ok_or (option_and_then (λ who. option_map (Move s (Arbiter who) n) (move_with (word_of m))) o) BadField) (who_back a)
+    ap (λ (o : Option ArbiterId). ok_or (option_and_then (λ who. option_map (Move s (Arbiter who) n) (move_with (word_of m))) o) BadField) (who_back a)
     ∙ ap (λ (o : Option Moves). ok_or (option_map (Move s (Arbiter a) n) o) BadField) (word_back m h.1.from_board h.1.to_board)
 heard_back (Ack s a n) h =
     ap (λ (o : Option Message). ok_or o BadField) (let_through _ _ _ (and_true _ _ (few n most_moves h) refl) (ap (option_map (λ who. Ack s who n)) (who_back a)))

@@ -7,9 +7,9 @@ use Rattle.std.proofs.lemmas.Nat.{be_bytes_2, be_bytes_4, from_be_bytes-to_be_by
 use Rattle.move_msg.specs.declared.stamp.Stamp.{Stamp}
 use Rattle.board_core.specs.declared.verdict.Verdict.{Verdict as Verdicts}
 use Rattle.board_core.specs.declared.verdict.Verdict.TheVariants as verdict
-use Rattle.move_msg.specs.declared.who.Who.{Who}
-use Rattle.move_msg.specs.declared.who.Sender.{Sender}
-use Rattle.move_msg.specs.declared.who.Sender.TheVariants.{Source, Arbiter}
+use Rattle.move_msg.specs.declared.arbiter_id.ArbiterId.{ArbiterId}
+use Rattle.move_msg.specs.declared.arbiter_id.Sender.{Sender}
+use Rattle.move_msg.specs.declared.arbiter_id.Sender.TheVariants.{Source, Arbiter}
 use Rattle.move_msg.specs.declared.message.Message.{Message}
 use Rattle.move_msg.specs.declared.message.Message.TheVariants.{Move, Ack, Verdict, Fetch}
 use Rattle.move_msg.specs.declared.message.MessageFault.{MessageFault}
@@ -263,7 +263,7 @@ move_spelled t s a k sender n w m fits version is from word text =
       text = text ∙ frame_is _ _ _ _ _ _ _ _ _ _ _ _ version is refl from refl word.value;
     }
 
-pub ack_spelled : (t : List ℕ) (s : Stamp) (a : Who) (sender count number : ℕ) → length s ≡ 16 → sender ≡ who_number a → number ≡ count → number ≤ most_moves → t ≡ frame 1 2 s sender number 0 → SpellsMessage t (Ack s a count)
+pub ack_spelled : (t : List ℕ) (s : Stamp) (a : ArbiterId) (sender count number : ℕ) → length s ≡ 16 → sender ≡ who_number a → number ≡ count → number ≤ most_moves → t ≡ frame 1 2 s sender number 0 → SpellsMessage t (Ack s a count)
 ack_spelled t s a sender count number len is same few text =
     record {
       in_range = subst (λ (x : ℕ). x ≤ most_moves) same few;
@@ -271,7 +271,7 @@ ack_spelled t s a sender count number len is same few text =
       text = text ∙ frame_is _ _ _ _ _ _ _ _ _ _ _ _ refl refl refl is same refl;
     }
 
-pub verdict_spelled : (t : List ℕ) (s : Stamp) (a : Who) (v : Verdicts) (sender ply number code : ℕ) → length s ≡ 16 → sender ≡ who_number a → number ≡ ply → number ≤ most_moves → code ≡ verdict_code v → t ≡ frame 1 3 s sender number code → SpellsMessage t (Verdict s a ply v)
+pub verdict_spelled : (t : List ℕ) (s : Stamp) (a : ArbiterId) (v : Verdicts) (sender ply number code : ℕ) → length s ≡ 16 → sender ≡ who_number a → number ≡ ply → number ≤ most_moves → code ≡ verdict_code v → t ≡ frame 1 3 s sender number code → SpellsMessage t (Verdict s a ply v)
 verdict_spelled t s a v sender ply number code len is same few coded text =
     record {
       in_range = subst (λ (x : ℕ). x ≤ most_moves) same few;
@@ -279,7 +279,7 @@ verdict_spelled t s a v sender ply number code len is same few coded text =
       text = text ∙ frame_is _ _ _ _ _ _ _ _ _ _ _ _ refl refl refl is same coded;
     }
 
-pub fetch_spelled : (t : List ℕ) (s : Stamp) (a : Who) (sender first number wanted many : ℕ) → length s ≡ 16 → sender ≡ who_number a → number ≡ first → number ≤ most_moves → many ≡ wanted → 1 ≤ many → many ≤ most_wanted → t ≡ frame 2 4 s sender number many → SpellsMessage t (Fetch s a first wanted)
+pub fetch_spelled : (t : List ℕ) (s : Stamp) (a : ArbiterId) (sender first number wanted many : ℕ) → length s ≡ 16 → sender ≡ who_number a → number ≡ first → number ≤ most_moves → many ≡ wanted → 1 ≤ many → many ≤ most_wanted → t ≡ frame 2 4 s sender number many → SpellsMessage t (Fetch s a first wanted)
 fetch_spelled t s a sender first number wanted many len is same few many_is some most text =
     record {
       in_range = (subst (λ (x : ℕ). x ≤ most_moves) same few, subst (λ (x : ℕ). 1 ≤ x) many_is some, subst (λ (x : ℕ). x ≤ most_wanted) many_is most);

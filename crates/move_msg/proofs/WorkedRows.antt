@@ -6,10 +6,10 @@ use Rattle.board_core.specs.declared.piece.Promotion.TheVariants.{Queen}
 use Rattle.board_core.specs.declared.moves.Move.{Move as Moves}
 use Rattle.move_msg.specs.declared.stamp.Stamp.{Stamp}
 use Rattle.board_core.specs.declared.verdict.Verdict.TheVariants as verdict
-use Rattle.move_msg.specs.declared.who.Who.TheVariants as who
+use Rattle.move_msg.specs.declared.arbiter_id.ArbiterId.TheVariants as who
 use Rattle.move_msg.specs.declared.message.Message.TheVariants.{Move, Ack, Verdict, Fetch}
 use Rattle.move_msg.specs.declared.message.MessageFault.TheVariants.{BadLength, BadKind, BadField}
-use Rattle.move_msg.specs.declared.who.Sender.TheVariants.{Source, Arbiter}
+use Rattle.move_msg.specs.declared.arbiter_id.Sender.TheVariants.{Source, Arbiter}
 use Rattle.move_msg.specs.Words.{word_of}
 use Rattle.move_msg.specs.Heard.{heard_in, move_with, reader_of}
 use Rattle.move_msg.specs.Messages.{frame, message_text}

@@ -10,9 +10,9 @@ use Rattle.board_core.specs.declared.verdict.Verdict.{Verdict as Verdicts}
 use Rattle.board_core.specs.declared.verdict.Verdict.TheVariants as verdict
 use Rattle.board_core.specs.Verdicts.{verdict_code}
 use Rattle.move_msg.specs.declared.stamp.Stamp.{Stamp}
-use Rattle.move_msg.specs.declared.who.Who.{Who}
-use Rattle.move_msg.specs.declared.who.Who.TheVariants as who
-use Rattle.move_msg.specs.declared.who.Sender.TheVariants.{Source, Arbiter}
+use Rattle.move_msg.specs.declared.arbiter_id.ArbiterId.{ArbiterId}
+use Rattle.move_msg.specs.declared.arbiter_id.ArbiterId.TheVariants as who
+use Rattle.move_msg.specs.declared.arbiter_id.Sender.TheVariants.{Source, Arbiter}
 use Rattle.move_msg.specs.declared.message.Message.{Message}
 use Rattle.move_msg.specs.declared.message.Message.TheVariants.{Move, Ack, Verdict, Fetch}
 use Rattle.move_msg.specs.declared.message.MessageFault.{MessageFault}
@@ -26,7 +26,7 @@ use Rattle.move_msg.specs.Words.{promotion_number}
 abbrev pub first_numbered : {A : Type 0} → (A → ℕ) → List A → ℕ → Option A
 first_numbered number all n = find (λ x. number x == n) all
 
-abbrev pub arbiters : List Who
+abbrev pub arbiters : List ArbiterId
 arbiters = who.A ∷ who.B ∷ []
 
 abbrev pub verdicts : List Verdicts
@@ -36,7 +36,7 @@ verdicts =
 abbrev pub promotions : List (Option Promotion)
 promotions = None ∷ Some Queen ∷ Some Rook ∷ Some Bishop ∷ Some Knight ∷ []
 
-abbrev pub who_with : ℕ → Option Who
+abbrev pub who_with : ℕ → Option ArbiterId
 who_with number = first_numbered who_number arbiters number
 
 abbrev pub verdict_with : ℕ → Option Verdicts

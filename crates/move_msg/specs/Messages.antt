@@ -2,9 +2,9 @@
 use Rattle.std.specs.Prelude.{◌≡◌, ◌≢◌, ◌≤◌, ◌<◌, ◌^◌, ◌++◌, ◌⊎◌, ℕ, List, ◌∷◌, length, slice_index, replicate, codes}
 use Rattle.std.specs.Int.{w16, w32, to_be_bytes}
 use Rattle.move_msg.specs.declared.stamp.Stamp.{Stamp}
-use Rattle.move_msg.specs.declared.who.Who.TheVariants.{A}
-use Rattle.move_msg.specs.declared.who.Sender.{Sender}
-use Rattle.move_msg.specs.declared.who.Sender.TheVariants.{Source, Arbiter}
+use Rattle.move_msg.specs.declared.arbiter_id.ArbiterId.TheVariants.{A}
+use Rattle.move_msg.specs.declared.arbiter_id.Sender.{Sender}
+use Rattle.move_msg.specs.declared.arbiter_id.Sender.TheVariants.{Source, Arbiter}
 use Rattle.move_msg.specs.declared.message.Message.{Message}
 use Rattle.move_msg.specs.declared.message.Message.TheVariants.{Move, Ack, Verdict, Fetch}
 use Rattle.move_msg.specs.declared.message.MessageFault.{MessageFault}

@@ -1,11 +1,11 @@
 -- Senders of messages by number (message format).
 use Rattle.std.specs.Prelude.{ℕ}
-use Rattle.move_msg.specs.declared.who.Who.{Who}
-use Rattle.move_msg.specs.declared.who.Who.TheVariants as who
-use Rattle.move_msg.specs.declared.who.Sender.{Sender}
-use Rattle.move_msg.specs.declared.who.Sender.TheVariants.{Source, Arbiter}
+use Rattle.move_msg.specs.declared.arbiter_id.ArbiterId.{ArbiterId}
+use Rattle.move_msg.specs.declared.arbiter_id.ArbiterId.TheVariants as who
+use Rattle.move_msg.specs.declared.arbiter_id.Sender.{Sender}
+use Rattle.move_msg.specs.declared.arbiter_id.Sender.TheVariants.{Source, Arbiter}
 
-abbrev pub who_number : Who → ℕ
+abbrev pub who_number : ArbiterId → ℕ
 who_number who.A = 1
 who_number who.B = 2
 

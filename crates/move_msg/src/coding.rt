@@ -7,10 +7,10 @@ ghost use Rattle.move_msg.specs.Inside.Layouts.{HasFields, fields_at, kind_numbe
 ghost use Rattle.move_msg.specs.declared.message.Message.{Message};
 ghost use Rattle.move_msg.specs.declared.message.MessageFault.{MessageFault};
 
-use crate::count::{Count, Wanted};
+use crate::arbiter_id::{ArbiterId, Sender};
+use crate::count::{Count, FetchCount};
 use crate::message::{Message, MessageFault};
 use crate::stamp::Stamp;
-use crate::who::{Sender, Who};
 use crate::words::{of_word, word};
 use arrayvec::ArrayVec;
 use board_core::Verdict;
@@ -77,7 +77,7 @@ fn ack_of(fields: &Fields) -> Option<Message>
     ensures some { IfSome result (λ m. HasFields MessageKind.Ack fields.now m) }
     ensures only { (m : Message) → HasFields MessageKind.Ack fields.now m → result ≡ Some m }
 {
-    let Some(who) = Who::of_number(fields.sender) else {
+    let Some(who) = ArbiterId::of_number(fields.sender) else {
         return None;
     };
     let Some(count) = Count::new(fields.number) else {
@@ -98,7 +98,7 @@ fn verdict_of(fields: &Fields) -> Option<Message>
     ensures some { IfSome result (λ m. HasFields MessageKind.Verdict fields.now m) }
     ensures only { (m : Message) → HasFields MessageKind.Verdict fields.now m → result ≡ Some m }
 {
-    let Some(who) = Who::of_number(fields.sender) else {
+    let Some(who) = ArbiterId::of_number(fields.sender) else {
         return None;
     };
     let Some(ply) = Count::new(fields.number) else {
@@ -124,7 +124,7 @@ fn relayed_of(fields: &Fields) -> Option<Message>
     ensures some { IfSome result (λ m. HasFields MessageKind.Relayed fields.now m) }
     ensures only { (m : Message) → HasFields MessageKind.Relayed fields.now m → result ≡ Some m }
 {
-    let Some(who) = Who::of_number(fields.sender) else {
+    let Some(who) = ArbiterId::of_number(fields.sender) else {
         return None;
     };
     match of_word(fields.word) {
@@ -143,7 +143,7 @@ fn fetch_of(fields: &Fields) -> Option<Message>
     ensures some { IfSome result (λ m. HasFields MessageKind.Fetch fields.now m) }
     ensures only { (m : Message) → HasFields MessageKind.Fetch fields.now m → result ≡ Some m }
 {
-    let Some(who) = Who::of_number(fields.sender) else {
+    let Some(who) = ArbiterId::of_number(fields.sender) else {
         return None;
     };
     let Some(number) = Count::new(fields.number) else {
@@ -152,7 +152,7 @@ fn fetch_of(fields: &Fields) -> Option<Message>
     if fields.word > 255 {
         return None;
     }
-    let Some(wanted) = Wanted::new(fields.word as u8) else {
+    let Some(wanted) = FetchCount::new(fields.word as u8) else {
         return None;
     };
     Some(Message::Fetch {

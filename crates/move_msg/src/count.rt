@@ -59,11 +59,11 @@ impl Count {
 
 /// How many moves an arbiter requests at once, 1 to 8; contracts see the number.
 #[derive(Clone, Copy, PartialEq, Eq, Debug)]
-pub struct Wanted {
+pub struct FetchCount {
     wanted: u8,
 }
 
-impl Model for Wanted {
+impl Model for FetchCount {
     ghost use Rattle.std.specs.Prelude.{ℕ, ◌≤◌};
     ghost use Rattle.move_msg.specs.Numbers.{most_wanted};
 
@@ -76,24 +76,24 @@ impl Model for Wanted {
     ghost inverse = { λ n. record { wanted = n } };
 }
 
-impl Wanted {
+impl FetchCount {
     /// This many moves; none for 0 and above 8.
-    pub fn new(moves: u8) -> Option<Wanted>
+    pub fn new(moves: u8) -> Option<FetchCount>
         ensures in_range { IsSome result ↔ ((1 ≤ moves) × (moves ≤ most_wanted)) }
         ensures number { IfSome result (λ wanted. wanted ≡ moves) }
     {
         if 1 <= moves && moves <= 8 {
-            Some(Wanted { wanted: moves })
+            Some(FetchCount { wanted: moves })
         } else {
             None
         }
     }
 
     /// The most that may be requested, 8.
-    pub fn most() -> Wanted
+    pub fn most() -> FetchCount
         ensures { result ≡ most_wanted }
     {
-        Wanted { wanted: 8 }
+        FetchCount { wanted: 8 }
     }
 
     /// The number, 1 to 8.

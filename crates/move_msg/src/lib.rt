@@ -40,6 +40,7 @@
 //!   feeder holds.
 #![tactic(auto)]
 
+mod arbiter_id;
 mod coding;
 mod count;
 mod feeder;
@@ -55,12 +56,12 @@ mod record_bytes;
 mod stamp;
 mod table_name;
 mod told;
-mod who;
 mod words;
 mod written_record;
 
+pub use arbiter_id::{ArbiterId, Sender};
 pub use board_core::Verdict;
-pub use count::{Count, MOST_MOVES, Wanted};
+pub use count::{Count, FetchCount, MOST_MOVES};
 pub use feeder::Feeder;
 pub use files::{NamedFile, file_digest};
 pub use game_name::{GameName, is_game_name};
@@ -72,6 +73,5 @@ pub use record_bytes::{Record, RecordFault};
 pub use stamp::Stamp;
 pub use table_name::is_file_name;
 pub use told::Manifest;
-pub use who::{Sender, Who};
 pub use words::{of_word, word};
 pub use written_record::WrittenRecord;

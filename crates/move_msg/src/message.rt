@@ -3,9 +3,9 @@
 ghost use Rattle.std.specs.Prelude.{◌≡◌};
 ghost use Rattle.move_msg.specs.Messages.{message_fault_name, sender_of, stamp_in};
 
-use crate::count::{Count, Wanted};
+use crate::arbiter_id::{ArbiterId, Sender};
+use crate::count::{Count, FetchCount};
 use crate::stamp::Stamp;
-use crate::who::{Sender, Who};
 use board_core::{Move, Verdict};
 
 /// A message between the source of a game and its arbiters, or between the arbiters.
@@ -27,7 +27,7 @@ pub enum Message {
         /// The game.
         stamp: Stamp,
         /// The arbiter.
-        who: Who,
+        who: ArbiterId,
         /// How many moves it keeps.
         count: Count,
     },
@@ -36,7 +36,7 @@ pub enum Message {
         /// The game.
         stamp: Stamp,
         /// The arbiter.
-        who: Who,
+        who: ArbiterId,
         /// The ply after which the game ended.
         ply: Count,
         /// How it ended.
@@ -47,11 +47,11 @@ pub enum Message {
         /// The game.
         stamp: Stamp,
         /// The arbiter.
-        who: Who,
+        who: ArbiterId,
         /// The number of the first move requested.
         number: Count,
         /// How many are requested.
-        wanted: Wanted,
+        wanted: FetchCount,
     },
 }
 
@@ -68,7 +68,7 @@ impl Message {
         }
     }
 
-    /// Who sends the message.
+    /// ArbiterId sends the message.
     pub fn sender(&self) -> Sender
         ensures { result ≡ sender_of self.now }
     {
@@ -92,7 +92,7 @@ impl Default for Message {
     fn default() -> Message {
         Message::Ack {
             stamp: Stamp([0; 16]),
-            who: Who::A,
+            who: ArbiterId::A,
             count: Count::none(),
         }
     }

@@ -5,9 +5,9 @@ ghost use Rattle.std.specs.Fmt.{DisplaysOnOk};
 ghost use Rattle.move_msg.specs.MessageWords.{ack_words, fetch_words, move_words, verdict_message_words};
 ghost use Rattle.move_msg.specs.Senders.{sender_number, who_number};
 
-use crate::count::{Count, Wanted};
+use crate::arbiter_id::{ArbiterId, Sender};
+use crate::count::{Count, FetchCount};
 use crate::message::Message;
-use crate::who::{Sender, Who};
 use board_core::{Move, Verdict};
 use fen_text::write_move;
 use std::fmt;
@@ -28,7 +28,7 @@ fn fmt_move<W: fmt::Write>(
 }
 
 /// Writes how many moves an arbiter keeps.
-fn fmt_ack<W: fmt::Write>(f: &mut fmt::Formatter<W>, who: Who, count: Count) -> fmt::Result
+fn fmt_ack<W: fmt::Write>(f: &mut fmt::Formatter<W>, who: ArbiterId, count: Count) -> fmt::Result
     ensures { DisplaysOnOk W.Write.write_str_gives f.old result (Some (ack_words (who_number who) count)) f.new }
 {
     let sender = who.number();
@@ -39,7 +39,7 @@ fn fmt_ack<W: fmt::Write>(f: &mut fmt::Formatter<W>, who: Who, count: Count) -> 
 /// Writes an arbiter's verdict and its ply.
 fn fmt_verdict<W: fmt::Write>(
     f: &mut fmt::Formatter<W>,
-    who: Who,
+    who: ArbiterId,
     ply: Count,
     verdict: Verdict,
 ) -> fmt::Result
@@ -54,9 +54,9 @@ fn fmt_verdict<W: fmt::Write>(
 /// Writes which moves an arbiter requests.
 fn fmt_fetch<W: fmt::Write>(
     f: &mut fmt::Formatter<W>,
-    who: Who,
+    who: ArbiterId,
     number: Count,
-    wanted: Wanted,
+    wanted: FetchCount,
 ) -> fmt::Result
     ensures { DisplaysOnOk W.Write.write_str_gives f.old result (Some (fetch_words (who_number who) number wanted)) f.new }
 {

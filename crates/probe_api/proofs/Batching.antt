@@ -5,7 +5,7 @@ use Rattle.std.proofs.lemmas.List.{get_or-map, get_or_default, get_or-drop, get_
 use Rattle.judge_core.specs.declared.wdl.Wdl.{Wdl}
 use Rattle.judge_core.specs.declared.fault.ProbeFault.{ProbeFault}
 use Rattle.judge_core.specs.Answers.{IsWdlProbe, wdl_answer}
-use Rattle.judge_core.specs.Probed.{numbered}
+use Rattle.judge_core.specs.ProbeResult.{numbered}
 use Rattle.judge_core.specs.Tables.{Holding, Tables}
 use Rattle.probe_api.specs.declared.asking.Question.{Question}
 use Rattle.probe_api.specs.declared.asking.Question.TheVariants.{Wdl as AsksWdl}

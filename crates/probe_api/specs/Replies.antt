@@ -23,7 +23,7 @@ use Rattle.judge_core.specs.Distances.{dtz_of}
 use Rattle.judge_core.specs.Probing.{wdl_of}
 use Rattle.judge_core.specs.Ruling.{is_out_of_scope, ruling}
 use Rattle.judge_core.specs.Tables.{Tables}
-use Rattle.judge_core.specs.Probed.{numbered}
+use Rattle.judge_core.specs.ProbeResult.{numbered}
 use Rattle.probe_api.specs.Boards.{shown}
 use Rattle.probe_api.specs.declared.board.Board.{Board}
 use Rattle.probe_api.specs.declared.asking.Question.{Question}

@@ -13,7 +13,7 @@ use Rattle.judge_core.specs.declared.root_move.RootMove.{RootMove}
 use Rattle.judge_core.specs.declared.ask.Ask.{Ask}
 use Rattle.judge_core.specs.Answers.{as_probe}
 use Rattle.judge_core.specs.Ask.{IsRanked}
-use Rattle.judge_core.specs.Probed.{wdl_number}
+use Rattle.judge_core.specs.ProbeResult.{wdl_number}
 use Rattle.judge_core.specs.Root.{state_of}
 use Rattle.judge_core.specs.Ruling.{is_out_of_scope}
 use Rattle.judge_core.specs.Tables.{Tables}

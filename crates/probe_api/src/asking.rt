@@ -1,7 +1,7 @@
 //! Probes of a position, and of a position's text.
 
 ghost use Rattle.std.specs.Prelude.{◌≡◌};
-ghost use Rattle.judge_core.specs.Probed.{numbered};
+ghost use Rattle.judge_core.specs.ProbeResult.{numbered};
 ghost use Rattle.probe_api.specs.Replies.{probe_reply, Tells, TellsBoard, TellsText, TellsWdl, TellsDtz, TellsVerdict, TellsDeterminedWdl, TellsDeterminedDtz};
 
 use crate::board::{Board, position_on};
@@ -67,7 +67,7 @@ fn verdict(alloc: Global, set: &mut Set<'_>, position: &Position) -> Reply
     ensures kept { set.new ≡ set.old }
 {
     match set.judge(alloc, position) {
-        Ok(verdict) => Reply::told(verdict_number(verdict)),
+        Ok(verdict) => Reply::ok(verdict_number(verdict)),
         Err(_) => Reply::refused(5),
     }
 }

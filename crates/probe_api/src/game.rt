@@ -61,7 +61,7 @@ impl Game {
     pub fn verdict(&self) -> Reply
         ensures { result ≡ told (pos (verdict_number self.now.verdict)) }
     {
-        Reply::told(verdict_number(self.verdict))
+        Reply::ok(verdict_number(self.verdict))
     }
 }
 

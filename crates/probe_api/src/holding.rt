@@ -35,7 +35,7 @@ pub fn has(set: &Set<'_>, kind: u8, name: &[u8]) -> Reply
 {
     tables_are_numbered();
     match Material::from_name(name) {
-        Some(material) => Reply::told(has_number(set, kind_of(kind), material)),
+        Some(material) => Reply::ok(has_number(set, kind_of(kind), material)),
         None => Reply::refused(64),
     }
 }
@@ -44,5 +44,5 @@ pub fn has(set: &Set<'_>, kind: u8, name: &[u8]) -> Reply
 pub fn largest(set: &Set<'_>) -> Reply
     ensures { result ≡ told (pos (largest_of set.now.tables)) }
 {
-    Reply::told(set.largest() as i32)
+    Reply::ok(set.largest() as i32)
 }

@@ -42,10 +42,10 @@ fn put_moves(alloc: Global, position: &Position, room: &mut [PlainMove]) -> Repl
         return Reply::refused(5);
     }
     if room.len() < count {
-        return Reply::short(count as i32);
+        return Reply::no_room(count as i32);
     }
     put_each(&moves, room);
-    Reply::told(count as i32)
+    Reply::ok(count as i32)
 }
 
 /// Puts the legal moves of the position that a text spells at the front of the room, in order of from, to and promotion, and tells

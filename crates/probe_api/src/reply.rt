@@ -20,7 +20,7 @@ pub struct Reply {
 
 impl Reply {
     /// An answer.
-    pub(crate) fn told(value: i32) -> Reply
+    pub(crate) fn ok(value: i32) -> Reply
         ensures { result ≡ told value }
     {
         Reply { status: 0, value }
@@ -34,7 +34,7 @@ impl Reply {
     }
 
     /// There is no room for so many.
-    pub(crate) fn short(count: i32) -> Reply
+    pub(crate) fn no_room(count: i32) -> Reply
         ensures { result ≡ short count }
     {
         Reply {
@@ -59,7 +59,7 @@ pub(crate) fn probed(answer: Result<i32, ProbeFault>) -> Reply
     ensures { result ≡ probe_reply answer }
 {
     match answer {
-        Ok(number) => Reply::told(number),
+        Ok(number) => Reply::ok(number),
         Err(ProbeFault::OutOfScope) => Reply::refused(2),
         Err(ProbeFault::NotCovered(_)) => Reply::refused(3),
         Err(ProbeFault::Damaged(_)) => Reply::refused(4),

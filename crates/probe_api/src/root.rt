@@ -93,10 +93,10 @@ fn put_first(moves: &[RootMove], room: &mut [PlainRootMove]) -> Reply
 {
     let count = moves.len();
     if room.len() < count {
-        return Reply::short(count as i32);
+        return Reply::no_room(count as i32);
     }
     put_each(moves, room);
-    Reply::told(count as i32)
+    Reply::ok(count as i32)
 }
 
 /// Puts the root moves at the front of the room.
@@ -169,7 +169,7 @@ pub fn state_of_board(board: &Board) -> Reply
     ensures { TellsState board.now result }
 {
     match position_on(board) {
-        Ok(position) => Reply::told(i32::from(state_number(BoardState::of(&position)))),
+        Ok(position) => Reply::ok(i32::from(state_number(BoardState::of(&position)))),
         Err(fault) => Reply::refused(position_status(fault)),
     }
 }

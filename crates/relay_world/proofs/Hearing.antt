@@ -18,7 +18,7 @@ use Rattle.arbiter_core.specs.declared.fault.DeliverFault.{DeliverFault}
 use Rattle.arbiter_core.specs.declared.fault.DeliverFault.TheVariants.{IllegalMove, KeeperFailed, OutOfMemory, Stranger, TooFarAhead, TooLong, Down as IsDown}
 use Rattle.arbiter_core.specs.declared.keeper.Keep.{Keep}
 use Rattle.arbiter_core.specs.declared.keeper.Keep.TheVariants.{Good, FailsOld, FailsNew}
-use Rattle.arbiter_core.specs.Recording.{Recorded, Window, advance, move_count}
+use Rattle.arbiter_core.specs.Recording.{Recorded, ReorderBuffer, advance, move_count}
 use Rattle.arbiter_core.specs.Answering.{Identity, Answer, Refuses, Sends, Puts, answer_heard, answer_to, answer_to_move, puts, told_now, waits_too}
 use Rattle.arbiter_core.specs.Memory.{Memory, memory_facts}
 use Rattle.arbiter_core.specs.Setups.{SetupView, rules_at}
@@ -126,8 +126,8 @@ delivered_steps me setup v new old k kn side keep heard told h ke e answers n = 
         rw (run.0, run.1) (running me setup v new k kn keep (answer_heard (rules_at setup) me v.kept v.window heard) told d s m e kept (subst (RefusesOrSends v k kn new told) is answers.answered) (subst (PutsIfAny memory_facts v k kn new told) is answers.put) n)
 
 -- a seat with an open arbiter
-pub delivered_seat : (datagram : List ℕ) (v new : View) (k kn : Memory) (told : Told) → ReturnsAnswer memory_facts (moment v k) (answer_at v datagram) told (moment new kn) → told ≢ Err OutOfMemory → IsDelivered k.keep datagram (seat (Open v) k) (seat (Open new) kn) (sent_in told)
-delivered_seat datagram v new k kn told answers n me setup side stands =
+pub delivered_replica : (datagram : List ℕ) (v new : View) (k kn : Memory) (told : Told) → ReturnsAnswer memory_facts (moment v k) (answer_at v datagram) told (moment new kn) → told ≢ Err OutOfMemory → IsDelivered k.keep datagram (seat (Open v) k) (seat (Open new) kn) (sent_in told)
+delivered_replica datagram v new k kn told answers n me setup side stands =
     let same : heard v.me.stamp datagram ≡ heard me.stamp datagram = ap (λ (i : Identity). heard i.stamp datagram) stands.place_is.1 in
     delivered_steps me setup v new k k kn side k.keep (heard me.stamp datagram) told stands refl refl (subst (λ (s : Result Message DeliverFault). ReturnsAnswer memory_facts (moment v k) (answer_of v s) told (moment new kn)) same answers) n
 
@@ -138,7 +138,7 @@ set_first keep datagram place old k late outputs kept is h me setup side stands 
     (h me setup side (record { place_is = stands.place_is; kept = subst (λ (x : Option (List ℕ)). KeptIs me.stamp setup.delay x side.kept) (sym kept) stands.kept }))
 
 -- a closed seat hears nothing
-pub shut_steps : (me : Identity) (setup : SetupView) (place : PlaceView) (old k : Memory) (side : Side) (keep : Keep) (respond : Recorded → Window → Answer) → StandsForSide me setup place old side → k.kept ≡ old.kept → side.life ≡ Closed → Steps me setup place k [] (hears keep side respond)
+pub shut_steps : (me : Identity) (setup : SetupView) (place : PlaceView) (old k : Memory) (side : Side) (keep : Keep) (respond : Recorded → ReorderBuffer → Answer) → StandsForSide me setup place old side → k.kept ≡ old.kept → side.life ≡ Closed → Steps me setup place k [] (hears keep side respond)
 shut_steps me setup place old k side keep respond h ke life =
     subst (Steps me setup place k []) (sym (still_shut side.kept side.life life)) (record {
       stands = record {
@@ -162,7 +162,7 @@ IsNoWant (Refuses fault) = fault ≢ OutOfMemory
 IsNoWant (Sends outputs window) = Unit {0}
 IsNoWant (Puts next outputs window) = Unit {0}
 
-move_no_want : (r : Rules) (me : Identity) (old : Recorded) (window : Window) (number : ℕ) (m : Moves) → IsNoWant (answer_to_move r me old window number m)
+move_no_want : (r : Rules) (me : Identity) (old : Recorded) (window : ReorderBuffer) (number : ℕ) (m : Moves) → IsNoWant (answer_to_move r me old window number m)
 move_no_want r me old window number m =
     let k : ℕ = move_count old in
     let a5 : Answer = puts me old window (advance r old.moves m window) in
@@ -176,14 +176,14 @@ move_no_want r me old window number m =
     cond_both (nat_lt k number) (Sends (Ack me.stamp me.who k ∷ []) (waits_too window (number - (k + 1)) m)) a4 IsNoWant (λ _. tt) (λ _.
     cond_both (is_none (position_after_all r.start (old.moves ++ m ∷ []))) (Refuses IllegalMove) a5 IsNoWant (λ _ e. cc) (λ _. tt)))))
 
-message_no_want : (r : Rules) (me : Identity) (old : Recorded) (window : Window) (message : Message) → IsNoWant (answer_to r me old window message)
+message_no_want : (r : Rules) (me : Identity) (old : Recorded) (window : ReorderBuffer) (message : Message) → IsNoWant (answer_to r me old window message)
 unfolding answer_to
 message_no_want r me old window (Move stamp sender number m) = move_no_want r me old window number m
 message_no_want r me old window (Ack stamp who count) = tt
 message_no_want r me old window (Verdict stamp who ply v) = tt
 message_no_want r me old window (Fetch stamp who number wanted) = tt
 
-heard_no_want : (r : Rules) (me : Identity) (old : Recorded) (window : Window) (stamp : Stamp) (read : Result Message MessageFault) → IsNoWant (answer_heard r me old window (in_game stamp read))
+heard_no_want : (r : Rules) (me : Identity) (old : Recorded) (window : ReorderBuffer) (stamp : Stamp) (read : Result Message MessageFault) → IsNoWant (answer_heard r me old window (in_game stamp read))
 heard_no_want r me old window stamp (Ok message) =
     cond_both (bytes_eq (stamp_in message) stamp) (Ok message) (Err Stranger) (λ said. IsNoWant (answer_heard r me old window said))
     (λ _. message_no_want r me old window message) (λ _ e. cc)
@@ -211,10 +211,10 @@ want_at v new k kn (Puts next outputs window) told w e r (inr q) = absurd (lande
     landed FailsOld l = failed l.0
     landed FailsNew l = failed l.0
 
-pub starved_seat : (datagram : List ℕ) (v new : View) (k kn : Memory) (told : Told) → ReturnsAnswer memory_facts (moment v k) (answer_at v datagram) told (moment new kn) → told ≡ Err OutOfMemory → IsStarved datagram (seat (Open v) k) (seat (Open new) kn)
-starved_seat datagram v new k kn told answers e me setup side stands = by_cases v.is_down refl
+pub starved_replica : (datagram : List ℕ) (v new : View) (k kn : Memory) (told : Told) → ReturnsAnswer memory_facts (moment v k) (answer_at v datagram) told (moment new kn) → told ≡ Err OutOfMemory → IsStarved datagram (seat (Open v) k) (seat (Open new) kn)
+starved_replica datagram v new k kn told answers e me setup side stands = by_cases v.is_down refl
   where
-    respond : Recorded → Window → Answer
+    respond : Recorded → ReorderBuffer → Answer
     respond = answer_to_datagram (rules_at setup) me datagram
 
     same : new ≡ v → kn ≡ k → SeatIs me setup (seat (Open new) kn) side

@@ -29,7 +29,7 @@ use Rattle.judge_core.specs.Tables.{Tables, slot, table_at, table_value, value_i
 use Rattle.judge_core.specs.Values.{Reading}
 use Rattle.judge_core.proofs.LookUp.{material_found}
 use Rattle.judge_core.proofs.Rule.{bare, still, weighed}
-use Rattle.move_msg.specs.declared.who.Who.{Who}
+use Rattle.move_msg.specs.declared.arbiter_id.ArbiterId.{ArbiterId}
 use Rattle.arbiter_core.specs.Recording.{Recorded, move_count}
 use Rattle.arbiter_core.proofs.Reach.{reach_within}
 use Rattle.relay_world.specs.declared.fault.WorldFault.{WorldFault}
@@ -239,7 +239,7 @@ module _ (few : FewMenHaveTables) (r : Rules) (none : HasNoTable r.tables) (posi
   from_end k v (stalemate {p = p} s t e) = record { ruling = rules_at k p v s (stuck t e); holds = inl (subst (λ x. is_end x ≡ true) (sym e) refl) }
   from_end k v (bare_kings long held e) = rw e (record { ruling = bare_rules k (held k (omega arith) (omega arith)); holds = inr (long, λ j a b. bare_rules j (held j a b)) })
 
-pub first_end : FirstVerdictInWords → FewMenHaveTables → (game : Judged) (events : List Event) (who : Who) (kept : Recorded) (v : Ruling) → IsPosition game.rules.start → HasNoTable game.rules.tables → KeepsAfter game events who kept → (kept.verdict ≡ Some v → IsFirstEnd game.rules game.moves (move_count kept) v) × (IsFirstEnd game.rules game.moves (move_count kept) v → kept.verdict ≡ Some v)
+pub first_end : FirstVerdictInWords → FewMenHaveTables → (game : Judged) (events : List Event) (who : ArbiterId) (kept : Recorded) (v : Ruling) → IsPosition game.rules.start → HasNoTable game.rules.tables → KeepsAfter game events who kept → (kept.verdict ≡ Some v → IsFirstEnd game.rules game.moves (move_count kept) v) × (IsFirstEnd game.rules game.moves (move_count kept) v → kept.verdict ≡ Some v)
 first_end words few game events who kept v position none e =
     let r : Rules = game.rules in
     let h = kept_is game events who kept e in

@@ -10,8 +10,8 @@ use Rattle.fen_text.specs.Coordinates.{AreMoves}
 use Rattle.fen_text.specs.Cuts.{cut_at}
 use Rattle.fen_text.specs.Fen.{SpellsPosition}
 use Rattle.fen_text.specs.Laws.{HasOneMove, HasOnePosition}
-use Rattle.move_msg.specs.declared.who.Who.{Who}
-use Rattle.move_msg.specs.declared.who.Who.TheVariants.{A, B}
+use Rattle.move_msg.specs.declared.arbiter_id.ArbiterId.{ArbiterId}
+use Rattle.move_msg.specs.declared.arbiter_id.ArbiterId.TheVariants.{A, B}
 use Rattle.arbiter_core.specs.Delivers.{heard}
 use Rattle.arbiter_core.specs.declared.keeper.Keep.{Keep}
 use Rattle.arbiter_core.specs.declared.keeper.Keep.TheVariants.{Good, FailsOld, FailsNew}
@@ -24,7 +24,7 @@ use Rattle.relay_world.proofs.Reading.{first_byte, first_word, later_words}
 
 -- ---- words
 
-one_who : (a b : Who) → who_word a ≡ who_word b → a ≡ b
+one_who : (a b : ArbiterId) → who_word a ≡ who_word b → a ≡ b
 one_who A A e = refl
 one_who A B e = absurd (omega (arith, ap (λ (w : List ℕ). first_byte (w ∷ [])) e))
 one_who B A e = absurd (omega (arith, ap (λ (w : List ℕ). first_byte (w ∷ [])) e))
@@ -101,7 +101,7 @@ one_event words (Deliver who place keep) (Deliver other index how) h g =
     let w = one_who who other (ap second e) in
     let p = one_place g.0 place index (subst (λ (x : List ℕ). SpellsPlace x place) (ap third e) h.2) g.2 in
     let k = one_keep keep how (ap fourth e) in
-    ap (λ (x : Who). Deliver x place keep) w ∙ ap (λ (x : ℕ). Deliver other x keep) p ∙ ap (λ (x : Keep). Deliver other index x) k
+    ap (λ (x : ArbiterId). Deliver x place keep) w ∙ ap (λ (x : ℕ). Deliver other x keep) p ∙ ap (λ (x : Keep). Deliver other index x) k
 one_event words (Deliver who place keep) (Noise other more how) h g = absurd (omega (arith, ap first_byte (sym h.1 ∙ g.1)))
 one_event words (Deliver who place keep) (Restart other how) h g = absurd (omega (arith, ap first_byte (sym h.1 ∙ g)))
 one_event words (Deliver who place keep) (Ask other) h g = absurd (omega (arith, ap first_byte (sym h.1 ∙ g)))
@@ -118,7 +118,7 @@ one_event words (Restart who keep) (Deliver other index how) h g = absurd (omega
 one_event words (Restart who keep) (Noise other more how) h g = absurd (omega (arith, ap first_byte (sym h ∙ g.1)))
 one_event words (Restart who keep) (Restart other how) h g =
     let e = sym h ∙ g in
-    ap (λ (x : Who). Restart x keep) (one_who who other (ap second e)) ∙ ap (λ (x : Keep). Restart other x) (one_keep keep how (ap third e))
+    ap (λ (x : ArbiterId). Restart x keep) (one_who who other (ap second e)) ∙ ap (λ (x : Keep). Restart other x) (one_keep keep how (ap third e))
 one_event words (Restart who keep) (Ask other) h g = absurd (omega (arith, ap first_byte (sym h ∙ g)))
 one_event words (Ask who) (Deliver other index how) h g = absurd (omega (arith, ap first_byte (sym h ∙ g.1)))
 one_event words (Ask who) (Noise other more how) h g = absurd (omega (arith, ap first_byte (sym h ∙ g.1)))
@@ -152,7 +152,7 @@ one_step : (game : Judged) (world : World) (e f : Event) → IsSameEvent e f →
 unfolding happens
 one_step game world (Deliver who place keep) f h = ap (happens game world) h
 one_step game world (Noise who bytes keep) (Noise other more how) h =
-    ap (λ (x : Who). noised game world x keep (heard game.stamp bytes.items)) h.0
+    ap (λ (x : ArbiterId). noised game world x keep (heard game.stamp bytes.items)) h.0
     ∙ ap (λ (xs : List ℕ). noised game world other keep (heard game.stamp xs)) h.1
     ∙ ap (λ (x : Keep). noised game world other x (heard game.stamp more.items)) h.2
 one_step game world (Noise who bytes keep) (Deliver other index how) h = ap (happens game world) h

@@ -3,7 +3,7 @@ use Rattle.std.proofs.Common.{◌≡◌, ℕ, List, ◌++◌, Option, Some, None
 use Rattle.std.specs.Prelude.{IfSome, true}
 use Rattle.move_msg.specs.declared.stamp.Stamp.{Stamp}
 use Rattle.move_msg.specs.declared.message.Message.{Message}
-use Rattle.move_msg.specs.declared.who.Who.TheVariants.{A, B}
+use Rattle.move_msg.specs.declared.arbiter_id.ArbiterId.TheVariants.{A, B}
 use Rattle.board_core.specs.declared.moves.Move.{Move as Moves}
 use Rattle.judge_core.specs.Games.{Rules}
 use Rattle.arbiter_core.specs.Recording.{Recorded}

@@ -4,14 +4,14 @@ use Rattle.std.specs.Prelude.{slice_get, option_map}
 use Rattle.std.specs.List.{range_with_len}
 use Rattle.std.proofs.lemmas.Bool.{eq-eqb, and_from}
 use Rattle.board_core.specs.declared.moves.Move.{Move as Moves}
-use Rattle.move_msg.specs.declared.who.Who.{Who}
-use Rattle.move_msg.specs.declared.who.Who.TheVariants.{A, B}
-use Rattle.move_msg.specs.declared.who.Sender.TheVariants.{Source}
+use Rattle.move_msg.specs.declared.arbiter_id.ArbiterId.{ArbiterId}
+use Rattle.move_msg.specs.declared.arbiter_id.ArbiterId.TheVariants.{A, B}
+use Rattle.move_msg.specs.declared.arbiter_id.Sender.TheVariants.{Source}
 use Rattle.move_msg.specs.declared.message.Message.{Message}
 use Rattle.move_msg.specs.declared.message.Message.TheVariants.{Move}
 use Rattle.judge_core.specs.Games.{Rules}
 use Rattle.arbiter_core.specs.declared.keeper.Keep.TheVariants.{Good}
-use Rattle.arbiter_core.specs.Recording.{Recorded, Window, last_ply, move_count, record_at}
+use Rattle.arbiter_core.specs.Recording.{Recorded, ReorderBuffer, last_ply, move_count, record_at}
 use Rattle.arbiter_core.specs.Answering.{Answer, Refuses, Sends, Puts, answer_to}
 use Rattle.relay_world.specs.declared.event.Event.{Event}
 use Rattle.relay_world.specs.declared.event.Event.TheVariants.{Deliver}
@@ -40,47 +40,47 @@ there_later game early late g h i m e = g.log i (Move game.stamp Source i m) (h 
 
 -- ---- a put that succeeds leaves an arbiter running
 
-runs_answered : (old : Recorded) (window : Window) (a : Answer) → is_running (answered Good old window a).0.life ≡ true
+runs_answered : (old : Recorded) (window : ReorderBuffer) (a : Answer) → is_running (answered Good old window a).0.life ≡ true
 runs_answered old window (Refuses fault) = refl
 runs_answered old window (Sends outputs later) = refl
 runs_answered old window (Puts next outputs later) = refl
 
-runs_heard : (kept : Option Recorded) (life : SideLife) (respond : Recorded → Window → Answer) → is_running life ≡ true → is_running (hears_at Good kept life respond).0.life ≡ true
+runs_heard : (kept : Option Recorded) (life : SideLife) (respond : Recorded → ReorderBuffer → Answer) → is_running life ≡ true → is_running (hears_at Good kept life respond).0.life ≡ true
 runs_heard None life respond h = h
 runs_heard (Some old) Closed respond h = cc
 runs_heard (Some old) Down respond h = cc
 runs_heard (Some old) (Running window) respond h = runs_answered old window (respond old window)
 
-runs_on : (game : Judged) (world : World) (who : Who) (o : Option Message) → is_running (side_in world who).life ≡ true → is_running (side_in (delivered game world who Good o) who).life ≡ true
+runs_on : (game : Judged) (world : World) (who : ArbiterId) (o : Option Message) → is_running (side_in world who).life ≡ true → is_running (side_in (delivered game world who Good o) who).life ≡ true
 runs_on game world who None h = h
 runs_on game world who (Some m) h =
-    let respond = λ (old : Recorded) (window : Window). answer_to game.rules (identity game who) old window m in
+    let respond = λ (old : Recorded) (window : ReorderBuffer). answer_to game.rules (identity game who) old window m in
     subst (λ (s : Side). is_running s.life ≡ true) (sym (turned_side world who (hears Good (side_in world who) respond)))
     (runs_heard (side_in world who).kept (side_in world who).life respond h)
 
-pub runs_still : (game : Judged) (world : World) (who : Who) (i : ℕ) → is_running (side_in world who).life ≡ true → is_running (side_in (happens game world (Deliver who i Good)) who).life ≡ true
+pub runs_still : (game : Judged) (world : World) (who : ArbiterId) (i : ℕ) → is_running (side_in world who).life ≡ true → is_running (side_in (happens game world (Deliver who i Good)) who).life ≡ true
 unfolding happens
 runs_still game world who i h = runs_on game world who (slice_get world.log i) h
 
 -- ---- one move after the other
 
-same_who : (who : Who) → is_same_arbiter who who ≡ true
+same_who : (who : ArbiterId) → is_same_arbiter who who ≡ true
 same_who A = refl
 same_who B = refl
 
-brought_by : (game : Judged) (world : World) (who : Who) (i : ℕ) (m : Moves) → slice_get world.log i ≡ Some (Move game.stamp Source i m) → brings world who i (Deliver who i Good) ≡ true
+brought_by : (game : Judged) (world : World) (who : ArbiterId) (i : ℕ) (m : Moves) → slice_get world.log i ≡ Some (Move game.stamp Source i m) → brings world who i (Deliver who i Good) ≡ true
 brought_by game world who i m e = and_from _ _ (same_who who) (rw e (eq-eqb i i refl))
 
-abbrev from_to : Who → ℕ → ℕ → List Event
+abbrev from_to : ArbiterId → ℕ → ℕ → List Event
 from_to who k n = map (λ i. Deliver who i Good) (range_with_len k n)
 
-record Handed (game : Judged) (world : World) (who : Who) (n : ℕ) : Type 0 where
+record Handed (game : Judged) (world : World) (who : ArbiterId) (n : ℕ) : Type 0 where
   holds : Holds game world
   there : AreThere game world
   runs : is_running (side_in world who).life ≡ true
   low : min n (last_ply game.rules game.moves) ≤ kept_count (side_in world who).kept
 
-hands_one : (game : Judged) (world : World) (who : Who) (k : ℕ) → length game.moves ≤ 4096 → k < length game.moves → Handed game world who k → Handed game (happens game world (Deliver who k Good)) who (k + 1)
+hands_one : (game : Judged) (world : World) (who : ArbiterId) (k : ℕ) → length game.moves ≤ 4096 → k < length game.moves → Handed game world who k → Handed game (happens game world (Deliver who k Good)) who (k + 1)
 hands_one game world who k short within h =
     let event : Event = Deliver who k Good in
     let m = move_at game.moves k within in
@@ -98,7 +98,7 @@ hands_one game world who k short within h =
     move_at (m ∷ moves) zero l = (m, refl)
     move_at (m ∷ moves) (suc k) l = move_at moves k (omega arith)
 
-hands : (game : Judged) (world : World) (who : Who) (k n : ℕ) → length game.moves ≤ 4096 → k + n ≤ length game.moves → Handed game world who k → Handed game (world_after_all game world (from_to who k n)) who (k + n)
+hands : (game : Judged) (world : World) (who : ArbiterId) (k n : ℕ) → length game.moves ≤ 4096 → k + n ≤ length game.moves → Handed game world who k → Handed game (world_after_all game world (from_to who k n)) who (k + n)
 hands game world who k zero short within h = subst (Handed game world who) (omega arith) h
 hands game world who k (suc n) short within h =
     let one = hands_one game world who k short (omega arith) h in
@@ -106,7 +106,7 @@ hands game world who k (suc n) short within h =
     (hands game (happens game world (Deliver who k Good)) who (k + 1) n short (omega arith) one)
 
 -- after all of them
-all_handed : (game : Judged) (early : List Event) (who : Who) → length game.moves ≤ 4096 → is_running (side_in (world_after game early) who).life ≡ true → Handed game (world_after game (early ++ all_in_order who game)) who (length game.moves)
+all_handed : (game : Judged) (early : List Event) (who : ArbiterId) → length game.moves ≤ 4096 → is_running (side_in (world_after game early) who).life ≡ true → Handed game (world_after game (early ++ all_in_order who game)) who (length game.moves)
 all_handed game early who short runs =
     let world : World = world_after game early in
     let g = run_goes game (first_world game) early (first_holds game) in
@@ -129,7 +129,7 @@ runs_over r game None Closed h e = cc
 runs_over r game None Down h e = cc
 runs_over r game None (Running window) h e = absurd h.waits
 
-pub keeps_all : (game : Judged) (early : List Event) (who : Who) → length game.moves ≤ 4096 → is_running (side_in (world_after game early) who).life ≡ true → KeepsAfter game (early ++ all_in_order who game) who (record_at game.rules game.moves (last_ply game.rules game.moves))
+pub keeps_all : (game : Judged) (early : List Event) (who : ArbiterId) → length game.moves ≤ 4096 → is_running (side_in (world_after game early) who).life ≡ true → KeepsAfter game (early ++ all_in_order who game) who (record_at game.rules game.moves (last_ply game.rules game.moves))
 keeps_all game early who short runs =
     let late : List Event = early ++ all_in_order who game in
     let h = all_handed game early who short runs in
@@ -144,22 +144,22 @@ keeps_all game early who short runs =
 
 -- ---- the other one is left alone
 
-delivered_other : (game : Judged) (world : World) (to who : Who) (o : Option Message) → is_same_arbiter to who ≡ false → side_in (delivered game world to Good o) who ≡ side_in world who
+delivered_other : (game : Judged) (world : World) (to who : ArbiterId) (o : Option Message) → is_same_arbiter to who ≡ false → side_in (delivered game world to Good o) who ≡ side_in world who
 delivered_other game world to who None n = refl
 delivered_other game world A A (Some m) n = cc
 delivered_other game world B B (Some m) n = cc
 delivered_other game world A B (Some m) n = refl
 delivered_other game world B A (Some m) n = refl
 
-handed_other : (game : Judged) (world : World) (to who : Who) (i : ℕ) → is_same_arbiter to who ≡ false → side_in (happens game world (Deliver to i Good)) who ≡ side_in world who
+handed_other : (game : Judged) (world : World) (to who : ArbiterId) (i : ℕ) → is_same_arbiter to who ≡ false → side_in (happens game world (Deliver to i Good)) who ≡ side_in world who
 unfolding happens
 handed_other game world to who i n = delivered_other game world to who (slice_get world.log i) n
 
-all_other : (game : Judged) (world : World) (to who : Who) (k n : ℕ) → is_same_arbiter to who ≡ false → side_in (world_after_all game world (from_to to k n)) who ≡ side_in world who
+all_other : (game : Judged) (world : World) (to who : ArbiterId) (k n : ℕ) → is_same_arbiter to who ≡ false → side_in (world_after_all game world (from_to to k n)) who ≡ side_in world who
 all_other game world to who k zero d = refl
 all_other game world to who k (suc n) d = all_other game (happens game world (Deliver to k Good)) to who (k + 1) n d ∙ handed_other game world to who k d
 
-order_other : (game : Judged) (early : List Event) (to who : Who) → is_same_arbiter to who ≡ false → side_in (world_after game (early ++ all_in_order to game)) who ≡ side_in (world_after game early) who
+order_other : (game : Judged) (early : List Event) (to who : ArbiterId) → is_same_arbiter to who ≡ false → side_in (world_after game (early ++ all_in_order to game)) who ≡ side_in (world_after game early) who
 order_other game early to who d =
     ap (λ (w : World). side_in w who) (after_append game (first_world game) early (all_in_order to game))
     ∙ all_other game (world_after game early) to who 0 (length game.moves) d

@@ -7,7 +7,7 @@ use Rattle.board_core.specs.declared.moves.Move.{Move as Moves}
 use Rattle.fen_text.specs.Coordinates.{AreMoves, SpellsMove}
 use Rattle.fen_text.specs.Cuts.{cut_at}
 use Rattle.fen_text.proofs.CutLaws.{is_cut}
-use Rattle.move_msg.specs.declared.who.Who.{Who}
+use Rattle.move_msg.specs.declared.arbiter_id.ArbiterId.{ArbiterId}
 use Rattle.move_msg.specs.Numbers.{most_moves}
 use Rattle.arbiter_core.specs.declared.keeper.Keep.{Keep}
 use Rattle.relay_world.specs.declared.event.Event.{Event}
@@ -37,25 +37,25 @@ first_byte [] = 0
 first_byte ([] ∷ words) = 0
 first_byte ((b ∷ bs) ∷ words) = b
 
-pub ask_words : (ws : List (List ℕ)) (e : Event) → IsEvent (codes "ask" ∷ ws) e → (who : Who) × (ws ≡ who_word who ∷ [])
+pub ask_words : (ws : List (List ℕ)) (e : Event) → IsEvent (codes "ask" ∷ ws) e → (who : ArbiterId) × (ws ≡ who_word who ∷ [])
 ask_words ws (Ask who) h = (who, later_words _ _ _ _ h)
 ask_words ws (Restart who keep) h = absurd (omega (arith, ap first_byte h))
 ask_words ws (Deliver who place keep) h = absurd (omega (arith, ap first_byte h.1))
 ask_words ws (Noise who bytes keep) h = absurd (omega (arith, ap first_byte h.1))
 
-pub restart_words : (ws : List (List ℕ)) (e : Event) → IsEvent (codes "restart" ∷ ws) e → (who : Who) × ((keep : Keep) × (ws ≡ who_word who ∷ keep_word keep ∷ []))
+pub restart_words : (ws : List (List ℕ)) (e : Event) → IsEvent (codes "restart" ∷ ws) e → (who : ArbiterId) × ((keep : Keep) × (ws ≡ who_word who ∷ keep_word keep ∷ []))
 restart_words ws (Restart who keep) h = (who, (keep, later_words _ _ _ _ h))
 restart_words ws (Ask who) h = absurd (omega (arith, ap first_byte h))
 restart_words ws (Deliver who place keep) h = absurd (omega (arith, ap first_byte h.1))
 restart_words ws (Noise who bytes keep) h = absurd (omega (arith, ap first_byte h.1))
 
-pub deliver_words : (ws : List (List ℕ)) (e : Event) → IsEvent (codes "deliver" ∷ ws) e → (who : Who) × ((keep : Keep) × ((word : List ℕ) × ((place : ℕ) × ((ws ≡ who_word who ∷ word ∷ keep_word keep ∷ []) × SpellsPlace word place))))
+pub deliver_words : (ws : List (List ℕ)) (e : Event) → IsEvent (codes "deliver" ∷ ws) e → (who : ArbiterId) × ((keep : Keep) × ((word : List ℕ) × ((place : ℕ) × ((ws ≡ who_word who ∷ word ∷ keep_word keep ∷ []) × SpellsPlace word place))))
 deliver_words ws (Deliver who place keep) h = (who, (keep, (h.0, (place, (later_words _ _ _ _ h.1, h.2)))))
 deliver_words ws (Ask who) h = absurd (omega (arith, ap first_byte h))
 deliver_words ws (Restart who keep) h = absurd (omega (arith, ap first_byte h))
 deliver_words ws (Noise who bytes keep) h = absurd (omega (arith, ap first_byte h.1))
 
-pub noise_words : (ws : List (List ℕ)) (e : Event) → IsEvent (codes "noise" ∷ ws) e → (who : Who) × ((keep : Keep) × ((word : List ℕ) × ((bytes : List ℕ) × ((ws ≡ who_word who ∷ word ∷ keep_word keep ∷ []) × SpellsBytes word bytes))))
+pub noise_words : (ws : List (List ℕ)) (e : Event) → IsEvent (codes "noise" ∷ ws) e → (who : ArbiterId) × ((keep : Keep) × ((word : List ℕ) × ((bytes : List ℕ) × ((ws ≡ who_word who ∷ word ∷ keep_word keep ∷ []) × SpellsBytes word bytes))))
 noise_words ws (Noise who bytes keep) h = (who, (keep, (h.0, (bytes.items, (later_words _ _ _ _ h.1, h.2)))))
 noise_words ws (Ask who) h = absurd (omega (arith, ap first_byte h))
 noise_words ws (Restart who keep) h = absurd (omega (arith, ap first_byte h))

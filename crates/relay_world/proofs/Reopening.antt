@@ -4,8 +4,8 @@ use Rattle.std.specs.Prelude.{IfSome, ◌⊎◌}
 use Rattle.board_core.specs.declared.moves.Move.{Move}
 use Rattle.board_core.specs.declared.verdict.Verdict.{Verdict}
 use Rattle.move_msg.specs.declared.stamp.Stamp.{Stamp}
-use Rattle.move_msg.specs.declared.who.Who.{Who}
-use Rattle.move_msg.specs.declared.who.Who.TheVariants.{A, B}
+use Rattle.move_msg.specs.declared.arbiter_id.ArbiterId.{ArbiterId}
+use Rattle.move_msg.specs.declared.arbiter_id.ArbiterId.TheVariants.{A, B}
 use Rattle.move_msg.specs.declared.record_bytes.Record.{Record}
 use Rattle.move_msg.specs.Senders.{who_number}
 use Rattle.move_msg.specs.Records.{WritesRecord}
@@ -22,14 +22,14 @@ use Rattle.arbiter_core.specs.Views.{View, spelled_as}
 use Rattle.arbiter_core.specs.Delivers.{IsSpelled, IsWritten}
 use Rattle.arbiter_core.specs.Opens.{OpenResult, Opens, OpensOver, FirstLands, Resumes, IsResumed, IsWhole, running, first_record}
 use Rattle.arbiter_core.proofs.Opened.{from_whole}
-use Rattle.relay_world.specs.declared.seat.Place.{Place}
-use Rattle.relay_world.specs.declared.seat.Place.TheVariants as place
+use Rattle.relay_world.specs.declared.replica.Place.{Place}
+use Rattle.relay_world.specs.declared.replica.Place.TheVariants as place
 use Rattle.relay_world.specs.Worlds.{Side, opened_side, restarted}
 use Rattle.relay_world.specs.Inside.Seats.{PlaceIs, PlaceView, Shut, Open, IsOpen, StandsForSide}
 use Rattle.relay_world.specs.Inside.Fields.{place_view, setup_in}
 use Rattle.relay_world.specs.Runs.{KeptIs}
 
-same_who : (a b : Who) → who_number a ≡ who_number b → a ≡ b
+same_who : (a b : ArbiterId) → who_number a ≡ who_number b → a ≡ b
 same_who A A e = refl
 same_who B B e = refl
 same_who A B e = cc
@@ -40,7 +40,7 @@ one_identity : (setup : SetupView) (i me : Identity) → IsIdentity setup i → 
 one_identity setup i me f g =
     made i.stamp me.stamp i.who me.who (f.stamp ∙ sym g.stamp) (same_who i.who me.who (f.who ∙ sym g.who))
   where
-    made : (s t : Stamp) (a b : Who) → s ≡ t → a ≡ b → ◌≡◌ {A = Identity} (record { stamp = s; who = a }) (record { stamp = t; who = b })
+    made : (s t : Stamp) (a b : ArbiterId) → s ≡ t → a ≡ b → ◌≡◌ {A = Identity} (record { stamp = s; who = a }) (record { stamp = t; who = b })
     made s t a b e d = cc
 
 -- bytes spell one whole record

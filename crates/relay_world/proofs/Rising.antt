@@ -8,9 +8,9 @@ use Rattle.board_core.specs.declared.moves.Move.{Move as Moves}
 use Rattle.board_core.specs.declared.verdict.Verdict.{Verdict as Ruling}
 use Rattle.judge_core.specs.Games.{position_after_all}
 use Rattle.move_msg.specs.declared.stamp.Stamp.{Stamp}
-use Rattle.move_msg.specs.declared.who.Who.{Who}
-use Rattle.move_msg.specs.declared.who.Who.TheVariants.{A, B}
-use Rattle.move_msg.specs.declared.who.Sender.{Sender}
+use Rattle.move_msg.specs.declared.arbiter_id.ArbiterId.{ArbiterId}
+use Rattle.move_msg.specs.declared.arbiter_id.ArbiterId.TheVariants.{A, B}
+use Rattle.move_msg.specs.declared.arbiter_id.Sender.{Sender}
 use Rattle.move_msg.specs.declared.message.Message.{Message}
 use Rattle.move_msg.specs.declared.message.Message.TheVariants.{Move, Ack, Verdict, Fetch}
 use Rattle.move_msg.specs.Numbers.{most_moves}
@@ -18,7 +18,7 @@ use Rattle.judge_core.specs.Games.{Rules, verdict_after}
 use Rattle.arbiter_core.specs.declared.fault.DeliverFault.TheVariants.{IllegalMove, TooFarAhead, TooLong}
 use Rattle.arbiter_core.specs.declared.keeper.Keep.{Keep}
 use Rattle.arbiter_core.specs.declared.keeper.Keep.TheVariants.{Good, FailsOld, FailsNew}
-use Rattle.arbiter_core.specs.Recording.{Recorded, Window, move_count, reaches, last_ply, advance}
+use Rattle.arbiter_core.specs.Recording.{Recorded, ReorderBuffer, move_count, reaches, last_ply, advance}
 use Rattle.arbiter_core.specs.Answering.{Identity, waits_too, told_now, Answer, Refuses, Sends, puts, answer_to_move, answer_to}
 use Rattle.arbiter_core.proofs.Reach.{step_of, reach_below, last_reached}
 use Rattle.relay_world.specs.declared.event.Event.{Event}
@@ -37,7 +37,7 @@ not_none (Some x) e = refl
 not_none None e = cc
 
 -- the move whose turn it is, where the game goes on
-turn_of : (r : Rules) (game : List Moves) (me : Identity) (old : Recorded) (window : Window) (word : Moves) → IsRecordOf r game old → reaches r game (suc (move_count old)) ≡ true → length game ≤ 4096 → slice_get game (move_count old) ≡ Some word → answer_to_move r me old window (move_count old) word ≡ puts me old window (advance r old.moves word window)
+turn_of : (r : Rules) (game : List Moves) (me : Identity) (old : Recorded) (window : ReorderBuffer) (word : Moves) → IsRecordOf r game old → reaches r game (suc (move_count old)) ≡ true → length game ≤ 4096 → slice_get game (move_count old) ≡ Some word → answer_to_move r me old window (move_count old) word ≡ puts me old window (advance r old.moves word window)
 turn_of r game me old window word h go short e =
     let k : ℕ = move_count old in
     let c = count_at r game old h in
@@ -62,7 +62,7 @@ turn_of r game me old window word h go short e =
     ∙ cond-false (is_none (position_after_all r.start (old.moves ++ word ∷ []))) (Refuses IllegalMove) a5 legal
 
 -- a put that leaves the arbiter running has landed
-put_landed : (keep : Keep) (me : Identity) (old : Recorded) (window : Window) (next : Recorded) → is_running (answered keep old window (puts me old window next)).0.life ≡ true → (answered keep old window (puts me old window next)).0.kept ≡ Some next
+put_landed : (keep : Keep) (me : Identity) (old : Recorded) (window : ReorderBuffer) (next : Recorded) → is_running (answered keep old window (puts me old window next)).0.life ≡ true → (answered keep old window (puts me old window next)).0.kept ≡ Some next
 put_landed Good me old window next e = refl
 put_landed FailsOld me old window next e = cc
 put_landed FailsNew me old window next e = cc
@@ -102,11 +102,11 @@ one_more r game me keep (Some old) (Running window) stamp sender n word h e shor
     (cases_lt n k)
 
 -- the side that a turn is of
-pub turned_side : (world : World) (who : Who) (late : Side × List Message) → side_in (with_side world who late) who ≡ late.0
+pub turned_side : (world : World) (who : ArbiterId) (late : Side × List Message) → side_in (with_side world who late) who ≡ late.0
 turned_side world A late = refl
 turned_side world B late = refl
 
-same_is : (who to : Who) → is_same_arbiter who to ≡ true → to ≡ who
+same_is : (who to : ArbiterId) → is_same_arbiter who to ≡ true → to ≡ who
 same_is A A e = refl
 same_is B B e = refl
 same_is A B e = cc
@@ -119,7 +119,7 @@ move_is n (Some (Verdict stamp who ply v)) e = cc
 move_is n (Some (Fetch stamp who number wanted)) e = cc
 move_is n None e = cc
 
-pub rises : (game : Judged) (world : World) (who : Who) (event : Event) (n : ℕ) → Holds game world → length game.moves ≤ 4096 → brings world who n event ≡ true
+pub rises : (game : Judged) (world : World) (who : ArbiterId) (event : Event) (n : ℕ) → Holds game world → length game.moves ≤ 4096 → brings world who n event ≡ true
     → is_running (side_in world who).life ≡ true → is_running (side_in (happens game world event) who).life ≡ true
     → min n (last_ply game.rules game.moves) ≤ kept_count (side_in world who).kept → min (n + 1) (last_ply game.rules game.moves) ≤ kept_count (side_in (happens game world event) who).kept
 unfolding happens
@@ -133,7 +133,7 @@ rises game world who (Deliver to index keep) n h short br a b low =
     let late : Side × List Message = hears_at keep (side_in world who).kept (side_in world who).life (λ old window. answer_to game.rules (identity game who) old window (Move m.0 m.1.0 n m.1.1.0)) in
     let is : side_in (happens game world (Deliver to index keep)) who ≡ late.0 =
     ap (λ o. side_in (delivered game world to keep o) who) m.1.1.1
-    ∙ ap (λ (w : Who). side_in (delivered game world w keep (Some (Move m.0 m.1.0 n m.1.1.0))) who) t
+    ∙ ap (λ (w : ArbiterId). side_in (delivered game world w keep (Some (Move m.0 m.1.0 n m.1.1.0))) who) t
     ∙ turned_side world who late in
     let runs : is_running late.0.life ≡ true = subst (λ (s : Side). is_running s.life ≡ true) is b in
     let grown : kept_count (side_in world who).kept ≤ kept_count late.0.kept = subst (λ (s : Side). kept_count (side_in world who).kept ≤ kept_count s.kept) is g.count in
@@ -143,11 +143,11 @@ rises game world who (Noise to bytes keep) n h short br a b low = cc
 rises game world who (Restart to keep) n h short br a b low = cc
 rises game world who (Ask to) n h short br a b low = cc
 
-starts : (game : Judged) (world : World) (who : Who) (events : List Event) → RunsThrough game world who events → is_running (side_in world who).life ≡ true
+starts : (game : Judged) (world : World) (who : ArbiterId) (events : List Event) → RunsThrough game world who events → is_running (side_in world who).life ≡ true
 starts game world who [] h = h
 starts game world who (e ∷ events) h = h.0
 
-pub rising : (game : Judged) (world : World) (who : Who) (events : List Event) (n : ℕ) → Holds game world → length game.moves ≤ 4096 → RunsThrough game world who events → min n (last_ply game.rules game.moves) ≤ kept_count (side_in world who).kept → min (brought game world who events n) (last_ply game.rules game.moves) ≤ kept_count (side_in (world_after_all game world events) who).kept
+pub rising : (game : Judged) (world : World) (who : ArbiterId) (events : List Event) (n : ℕ) → Holds game world → length game.moves ≤ 4096 → RunsThrough game world who events → min n (last_ply game.rules game.moves) ≤ kept_count (side_in world who).kept → min (brought game world who events n) (last_ply game.rules game.moves) ≤ kept_count (side_in (world_after_all game world events) who).kept
 rising game world who [] n h short runs low = low
 rising game world who (event ∷ events) n h short runs low =
     let step = happens_goes game world event h in
@@ -160,5 +160,5 @@ rising game world who (event ∷ events) n h short runs low =
     rw no (rising game (happens game world event) who events n step.holds short runs.1 (omega arith)))
     (cases_Bool (brings world who n event))
 
-pub rising_from : (game : Judged) (early late : List Event) (who : Who) → length game.moves ≤ 4096 → RunsThrough game (world_after_all game (first_world game) early) who late → min (brought game (world_after_all game (first_world game) early) who late 0) (last_ply game.rules game.moves) ≤ kept_count (side_in (world_after_all game (world_after_all game (first_world game) early) late) who).kept
+pub rising_from : (game : Judged) (early late : List Event) (who : ArbiterId) → length game.moves ≤ 4096 → RunsThrough game (world_after_all game (first_world game) early) who late → min (brought game (world_after_all game (first_world game) early) who late 0) (last_ply game.rules game.moves) ≤ kept_count (side_in (world_after_all game (world_after_all game (first_world game) early) late) who).kept
 rising_from game early late who short runs = rising game _ who late 0 (holds_after game early) short runs (omega arith)

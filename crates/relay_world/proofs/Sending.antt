@@ -3,7 +3,7 @@ use Rattle.std.proofs.Common.{◌≡◌, ℕ, ◌+◌, List, [], ◌∷◌, Some
 use Rattle.std.specs.Prelude.{slice_get, option_map}
 use Rattle.board_core.specs.declared.moves.Move.{Move as Moves}
 use Rattle.move_msg.specs.declared.stamp.Stamp.{Stamp}
-use Rattle.move_msg.specs.declared.who.Sender.TheVariants.{Source}
+use Rattle.move_msg.specs.declared.arbiter_id.Sender.TheVariants.{Source}
 use Rattle.move_msg.specs.declared.message.Message.{Message}
 use Rattle.move_msg.specs.declared.message.Message.TheVariants.{Move}
 use Rattle.arbiter_core.specs.Answering.{sent_by}

@@ -7,10 +7,10 @@ use Rattle.board_core.specs.declared.moves.Move.{Move as Moves}
 use Rattle.board_core.specs.declared.verdict.Verdict.{Verdict as Ruling}
 use Rattle.judge_core.specs.Games.{position_after_all}
 use Rattle.move_msg.specs.declared.stamp.Stamp.{Stamp}
-use Rattle.move_msg.specs.declared.who.Who.{Who}
-use Rattle.move_msg.specs.declared.who.Who.TheVariants.{A, B}
-use Rattle.move_msg.specs.declared.who.Sender.{Sender}
-use Rattle.move_msg.specs.declared.who.Sender.TheVariants.{Source, Arbiter}
+use Rattle.move_msg.specs.declared.arbiter_id.ArbiterId.{ArbiterId}
+use Rattle.move_msg.specs.declared.arbiter_id.ArbiterId.TheVariants.{A, B}
+use Rattle.move_msg.specs.declared.arbiter_id.Sender.{Sender}
+use Rattle.move_msg.specs.declared.arbiter_id.Sender.TheVariants.{Source, Arbiter}
 use Rattle.move_msg.specs.declared.message.Message.{Message}
 use Rattle.move_msg.specs.declared.message.Message.TheVariants.{Move, Ack, Verdict, Fetch}
 use Rattle.move_msg.specs.Messages.{stamp_in}
@@ -20,7 +20,7 @@ use Rattle.arbiter_core.specs.declared.fault.DeliverFault.{DeliverFault}
 use Rattle.arbiter_core.specs.declared.fault.DeliverFault.TheVariants.{IllegalMove, TooFarAhead, TooLong}
 use Rattle.arbiter_core.specs.declared.keeper.Keep.{Keep}
 use Rattle.arbiter_core.specs.declared.keeper.Keep.TheVariants.{Good, FailsOld, FailsNew}
-use Rattle.arbiter_core.specs.Recording.{Recorded, Window, move_count, advance}
+use Rattle.arbiter_core.specs.Recording.{Recorded, ReorderBuffer, move_count, advance}
 use Rattle.arbiter_core.specs.Answering.{Identity, waits_too, told_of, told_now, Answer, Refuses, Sends, Puts, puts, sent_by, answer_to_move, answer_to, answer_heard}
 use Rattle.relay_world.specs.declared.event.Event.{Event}
 use Rattle.relay_world.specs.declared.event.Event.TheVariants.{Deliver, Noise, Restart, Ask}
@@ -45,7 +45,7 @@ SaysOf stamp (Refuses fault) = Unit {0}
 SaysOf stamp (Sends outputs window) = AreOf stamp outputs
 SaysOf stamp (Puts next outputs window) = AreOf stamp outputs
 
-move_says : (r : Rules) (me : Identity) (old : Recorded) (window : Window) (number : ℕ) (word : Moves) → SaysOf me.stamp (answer_to_move r me old window number word)
+move_says : (r : Rules) (me : Identity) (old : Recorded) (window : ReorderBuffer) (number : ℕ) (word : Moves) → SaysOf me.stamp (answer_to_move r me old window number word)
 move_says r me old window number word =
     let Q : Answer → Type 0 = SaysOf me.stamp in
     let k : ℕ = move_count old in
@@ -60,31 +60,31 @@ move_says r me old window number word =
     cond_both (nat_lt k number) (Sends (Ack me.stamp me.who k ∷ []) (waits_too window (number - (k + 1)) word)) a4 Q (λ _. (refl, tt)) (λ _.
     cond_both (is_none (position_after_all r.start (old.moves ++ word ∷ []))) (Refuses IllegalMove) a5 Q (λ _. tt) (λ _. told_are me _ _)))))
 
-answer_says : (r : Rules) (me : Identity) (old : Recorded) (window : Window) (message : Message) → SaysOf me.stamp (answer_to r me old window message)
+answer_says : (r : Rules) (me : Identity) (old : Recorded) (window : ReorderBuffer) (message : Message) → SaysOf me.stamp (answer_to r me old window message)
 unfolding answer_to
 answer_says r me old window (Move stamp sender number m) = move_says r me old window number m
 answer_says r me old window (Ack stamp who n) = tt
 answer_says r me old window (Verdict stamp who ply v) = tt
 answer_says r me old window (Fetch stamp who number wanted) = sent_are me.stamp (Arbiter me.who) number (take wanted (drop number old.moves))
 
-heard_says : (r : Rules) (me : Identity) (old : Recorded) (window : Window) (said : Result Message DeliverFault) → SaysOf me.stamp (answer_heard r me old window said)
+heard_says : (r : Rules) (me : Identity) (old : Recorded) (window : ReorderBuffer) (said : Result Message DeliverFault) → SaysOf me.stamp (answer_heard r me old window said)
 heard_says r me old window (Ok message) = answer_says r me old window message
 heard_says r me old window (Err fault) = tt
 
-answered_are : (stamp : Stamp) (keep : Keep) (old : Recorded) (window : Window) (a : Answer) → SaysOf stamp a → AreOf stamp (answered keep old window a).1
+answered_are : (stamp : Stamp) (keep : Keep) (old : Recorded) (window : ReorderBuffer) (a : Answer) → SaysOf stamp a → AreOf stamp (answered keep old window a).1
 answered_are stamp keep old window (Refuses fault) q = tt
 answered_are stamp keep old window (Sends outputs later) q = q
 answered_are stamp Good old window (Puts next outputs later) q = q
 answered_are stamp FailsOld old window (Puts next outputs later) q = tt
 answered_are stamp FailsNew old window (Puts next outputs later) q = tt
 
-heard_are : (stamp : Stamp) (keep : Keep) (kept : Option Recorded) (life : SideLife) (respond : Recorded → Window → Answer) → ((old : Recorded) (window : Window) → SaysOf stamp (respond old window)) → AreOf stamp (hears_at keep kept life respond).1
+heard_are : (stamp : Stamp) (keep : Keep) (kept : Option Recorded) (life : SideLife) (respond : Recorded → ReorderBuffer → Answer) → ((old : Recorded) (window : ReorderBuffer) → SaysOf stamp (respond old window)) → AreOf stamp (hears_at keep kept life respond).1
 heard_are stamp keep (Some old) (Running window) respond q = answered_are stamp keep old window (respond old window) (q old window)
 heard_are stamp keep (Some old) Closed respond q = tt
 heard_are stamp keep (Some old) Down respond q = tt
 heard_are stamp keep None life respond q = tt
 
-turned_are : (game : Judged) (world : World) (who : Who) (late : Side × List Message) → AreStamped game world → AreOf game.stamp late.1 → AreStamped game (with_side world who late)
+turned_are : (game : Judged) (world : World) (who : ArbiterId) (late : Side × List Message) → AreStamped game world → AreOf game.stamp late.1 → AreStamped game (with_side world who late)
 turned_are game world A late h q = all_append _ world.log late.1 h q
 turned_are game world B late h q = all_append _ world.log late.1 h q
 
@@ -94,7 +94,7 @@ wants_are me (Some old) Closed = tt
 wants_are me (Some old) Down = tt
 wants_are me None life = tt
 
-delivered_are : (game : Judged) (world : World) (who : Who) (keep : Keep) (o : Option Message) → AreStamped game world → AreStamped game (delivered game world who keep o)
+delivered_are : (game : Judged) (world : World) (who : ArbiterId) (keep : Keep) (o : Option Message) → AreStamped game world → AreStamped game (delivered game world who keep o)
 delivered_are game world who keep None h = h
 delivered_are game world who keep (Some m) h = turned_are game world who _ h (heard_are game.stamp keep _ _ _ (λ old window. answer_says game.rules (identity game who) old window m))
 

@@ -9,10 +9,10 @@ use Rattle.board_core.specs.declared.moves.Move.{Move as Moves}
 use Rattle.board_core.specs.declared.verdict.Verdict.{Verdict as Ruling}
 use Rattle.judge_core.specs.Games.{position_after_all}
 use Rattle.move_msg.specs.declared.stamp.Stamp.{Stamp}
-use Rattle.move_msg.specs.declared.who.Who.{Who}
-use Rattle.move_msg.specs.declared.who.Who.TheVariants.{A, B}
-use Rattle.move_msg.specs.declared.who.Sender.{Sender}
-use Rattle.move_msg.specs.declared.who.Sender.TheVariants.{Source, Arbiter}
+use Rattle.move_msg.specs.declared.arbiter_id.ArbiterId.{ArbiterId}
+use Rattle.move_msg.specs.declared.arbiter_id.ArbiterId.TheVariants.{A, B}
+use Rattle.move_msg.specs.declared.arbiter_id.Sender.{Sender}
+use Rattle.move_msg.specs.declared.arbiter_id.Sender.TheVariants.{Source, Arbiter}
 use Rattle.move_msg.specs.declared.message.Message.{Message}
 use Rattle.move_msg.specs.declared.message.Message.TheVariants.{Move, Ack, Verdict, Fetch}
 use Rattle.move_msg.specs.Numbers.{most_moves, most_wanted}
@@ -21,7 +21,7 @@ use Rattle.arbiter_core.specs.declared.fault.DeliverFault.{DeliverFault}
 use Rattle.arbiter_core.specs.declared.fault.DeliverFault.TheVariants.{IllegalMove, TooFarAhead, TooLong}
 use Rattle.arbiter_core.specs.declared.keeper.Keep.{Keep}
 use Rattle.arbiter_core.specs.declared.keeper.Keep.TheVariants.{Good, FailsOld, FailsNew}
-use Rattle.arbiter_core.specs.Recording.{Recorded, Window, move_count, reaches, record_at, last_ply, advance}
+use Rattle.arbiter_core.specs.Recording.{Recorded, ReorderBuffer, move_count, reaches, record_at, last_ply, advance}
 use Rattle.arbiter_core.specs.Answering.{Identity, waits_too, still_waits, nothing_waits, told_of, told_now, Answer, Refuses, Sends, Puts, puts, fetched, sent_by, answer_to_move, answer_to, answer_heard}
 use Rattle.arbiter_core.proofs.Reach.{step_of, reach_within, unruled_below, reach_front, reach_more, same_record, last_reached, last_bound}
 use Rattle.arbiter_core.proofs.Waiting.{Fits, drop_at, gapless, fits_too, fits_still, fits_nothing}
@@ -52,7 +52,7 @@ Says r game me count (Verdict stamp who ply v) = IsFirst r game ply v
 Says r game me count (Fetch stamp who number wanted) = Unit {0}
 
 -- what holds of a message in the log, where a and b are the kept counts
-abbrev pub count_by : Who → ℕ → ℕ → ℕ
+abbrev pub count_by : ArbiterId → ℕ → ℕ → ℕ
 count_by A a b = a
 count_by B a b = b
 
@@ -162,13 +162,13 @@ fetched_says r game me count n wanted old h =
     take_none (suc k) = refl
 
 -- the record after a move of the game and what waits behind it is the game's again
-pub record Moved (r : Rules) (game : List Moves) (old : Recorded) (window : Window) (next : Recorded) : Type 0 where
+pub record Moved (r : Rules) (game : List Moves) (old : Recorded) (window : ReorderBuffer) (next : Recorded) : Type 0 where
   pub next_is : IsRecordOf r game next
   pub more : move_count old ≤ move_count next
   pub further : reaches r game (suc (move_count old)) ≡ true → move_count old < move_count next
   pub waits : Fits (cond (is_some next.verdict) nothing_waits (still_waits window (move_count next - move_count old))) game (move_count next + 1)
 
-pub moved : (r : Rules) (game : List Moves) (old : Recorded) (window : Window) (word : Moves) → IsRecordOf r game old → slice_get game (move_count old) ≡ Some word → Fits window game (move_count old + 1) → Moved r game old window (advance r old.moves word window)
+pub moved : (r : Rules) (game : List Moves) (old : Recorded) (window : ReorderBuffer) (word : Moves) → IsRecordOf r game old → slice_get game (move_count old) ≡ Some word → Fits window game (move_count old + 1) → Moved r game old window (advance r old.moves word window)
 moved r game old window word h e f =
     let c = count_at r game old h in
     let all : List Moves = old.moves ++ word ∷ some_prefix window in
@@ -206,7 +206,7 @@ moved r game old window word h e f =
           (λ _. subst (λ k. Fits (still_waits window (move_count next - move_count old)) game k) at (fits_still window game (move_count old + 1) (move_count next - move_count old) f));
     }
 
-pub record PutHolds (r : Rules) (game : List Moves) (me : Identity) (old next : Recorded) (outputs : List Message) (window : Window) : Type 0 where
+pub record PutHolds (r : Rules) (game : List Moves) (me : Identity) (old next : Recorded) (outputs : List Message) (window : ReorderBuffer) : Type 0 where
   pub next_is : IsRecordOf r game next
   pub more : move_count old ≤ move_count next
   pub unruled : old.verdict ≡ None
@@ -219,7 +219,7 @@ AnswerHolds r game me old (Refuses fault) = Unit {0}
 AnswerHolds r game me old (Sends outputs window) = AllByRecursion (Says r game me (move_count old)) outputs × Fits window game (move_count old + 1)
 AnswerHolds r game me old (Puts next outputs window) = PutHolds r game me old next outputs window
 
-move_holds : (r : Rules) (game : List Moves) (me : Identity) (old : Recorded) (window : Window) (number : ℕ) (word : Moves) → IsRecordOf r game old → Fits window game (move_count old + 1) → slice_get game number ≡ Some word → AnswerHolds r game me old (answer_to_move r me old window number word)
+move_holds : (r : Rules) (game : List Moves) (me : Identity) (old : Recorded) (window : ReorderBuffer) (number : ℕ) (word : Moves) → IsRecordOf r game old → Fits window game (move_count old + 1) → slice_get game number ≡ Some word → AnswerHolds r game me old (answer_to_move r me old window number word)
 move_holds r game me old window number word h f e =
     let Q : Answer → Type 0 = AnswerHolds r game me old in
     let k : ℕ = move_count old in
@@ -247,14 +247,14 @@ move_holds r game me old window number word h f e =
     none_of None q = refl
     none_of (Some v) q = cc
 
-pub answer_holds : (r : Rules) (game : List Moves) (me : Identity) (a b : ℕ) (old : Recorded) (window : Window) (message : Message) → IsRecordOf r game old → Fits window game (move_count old + 1) → IsSound r game a b message → AnswerHolds r game me old (answer_to r me old window message)
+pub answer_holds : (r : Rules) (game : List Moves) (me : Identity) (a b : ℕ) (old : Recorded) (window : ReorderBuffer) (message : Message) → IsRecordOf r game old → Fits window game (move_count old + 1) → IsSound r game a b message → AnswerHolds r game me old (answer_to r me old window message)
 unfolding answer_to
 answer_holds r game me a b old window (Move stamp sender number m) h f e = move_holds r game me old window number m h f e
 answer_holds r game me a b old window (Ack stamp who n) h f e = (tt, f)
 answer_holds r game me a b old window (Verdict stamp who ply v) h f e = (tt, f)
 answer_holds r game me a b old window (Fetch stamp who number wanted) h f e = (fetched_says r game me (move_count old) number wanted old h, f)
 
-answered_turn : (r : Rules) (game : List Moves) (me : Identity) (keep : Keep) (old : Recorded) (window : Window) (a : Answer) → IsRecordOf r game old → Fits window game (move_count old + 1) → AnswerHolds r game me old a → Turn r game me (Some old) (answered keep old window a)
+answered_turn : (r : Rules) (game : List Moves) (me : Identity) (keep : Keep) (old : Recorded) (window : ReorderBuffer) (a : Answer) → IsRecordOf r game old → Fits window game (move_count old + 1) → AnswerHolds r game me old a → Turn r game me (Some old) (answered keep old window a)
 answered_turn r game me keep old window (Refuses fault) h f q = record { side = record { kept = h; waits = f }; grows = grows_not (Some old); says = tt }
 answered_turn r game me keep old window (Sends outputs later) h f q = record { side = record { kept = h; waits = q.1 }; grows = grows_not (Some old); says = q.0 }
 answered_turn r game me Good old window (Puts next outputs later) h f q = record { side = record { kept = q.next_is; waits = q.waits }; grows = record { count = q.more; verdict = λ k v e s. let n = q.unruled in cc }; says = q.says }
@@ -264,7 +264,7 @@ answered_turn r game me FailsNew old window (Puts next outputs later) h f q = re
 stays : (r : Rules) (game : List Moves) (me : Identity) (side : Side) → SideHolds r game side → Turn r game me side.kept (side, [])
 stays r game me side h = record { side = h; grows = grows_not side.kept; says = tt }
 
-pub hears_turn : (r : Rules) (game : List Moves) (me : Identity) (keep : Keep) (kept : Option Recorded) (life : SideLife) (respond : Recorded → Window → Answer) → SideHolds r game (record { kept = kept; life = life }) → ((old : Recorded) (window : Window) → IsRecordOf r game old → Fits window game (move_count old + 1) → AnswerHolds r game me old (respond old window)) → Turn r game me kept (hears_at keep kept life respond)
+pub hears_turn : (r : Rules) (game : List Moves) (me : Identity) (keep : Keep) (kept : Option Recorded) (life : SideLife) (respond : Recorded → ReorderBuffer → Answer) → SideHolds r game (record { kept = kept; life = life }) → ((old : Recorded) (window : ReorderBuffer) → IsRecordOf r game old → Fits window game (move_count old + 1) → AnswerHolds r game me old (respond old window)) → Turn r game me kept (hears_at keep kept life respond)
 hears_turn r game me keep (Some old) (Running window) respond h q = answered_turn r game me keep old window (respond old window) h.kept h.waits (q old window h.kept h.waits)
 hears_turn r game me keep (Some old) Closed respond h q = stays r game me _ h
 hears_turn r game me keep (Some old) Down respond h q = stays r game me _ h
@@ -309,17 +309,17 @@ sound_later r game a b c d g h (Fetch stamp who number wanted) e = tt
 
 sound_a : (r : Rules) (game : List Moves) (s : Stamp) (a b : ℕ) (m : Message) → Says r game (record { stamp = s; who = A }) a m → IsSound r game a b m
 sound_a r game s a b (Move stamp sender number m) e = e
-sound_a r game s a b (Ack stamp who n) e = subst (λ (w : Who). n ≤ count_by w a b) (sym e.0) e.1
+sound_a r game s a b (Ack stamp who n) e = subst (λ (w : ArbiterId). n ≤ count_by w a b) (sym e.0) e.1
 sound_a r game s a b (Verdict stamp who ply v) e = e
 sound_a r game s a b (Fetch stamp who number wanted) e = tt
 
 sound_b : (r : Rules) (game : List Moves) (s : Stamp) (a b : ℕ) (m : Message) → Says r game (record { stamp = s; who = B }) b m → IsSound r game a b m
 sound_b r game s a b (Move stamp sender number m) e = e
-sound_b r game s a b (Ack stamp who n) e = subst (λ (w : Who). n ≤ count_by w a b) (sym e.0) e.1
+sound_b r game s a b (Ack stamp who n) e = subst (λ (w : ArbiterId). n ≤ count_by w a b) (sym e.0) e.1
 sound_b r game s a b (Verdict stamp who ply v) e = e
 sound_b r game s a b (Fetch stamp who number wanted) e = tt
 
-pub turned_goes : (game : Judged) (world : World) (who : Who) (late : Side × List Message) → Holds game world → Turn game.rules game.moves (identity game who) (side_in world who).kept late → Goes game world (with_side world who late)
+pub turned_goes : (game : Judged) (world : World) (who : ArbiterId) (late : Side × List Message) → Holds game world → Turn game.rules game.moves (identity game who) (side_in world who).kept late → Goes game world (with_side world who late)
 turned_goes game world A late h t =
     record {
       holds = record {
@@ -347,18 +347,18 @@ turned_goes game world B late h t =
       log = slice_get_more world.log late.1;
     }
 
-pub side_at : (game : Judged) (world : World) (who : Who) → Holds game world → SideHolds game.rules game.moves (side_in world who)
+pub side_at : (game : Judged) (world : World) (who : ArbiterId) → Holds game world → SideHolds game.rules game.moves (side_in world who)
 side_at game world A h = h.a
 side_at game world B h = h.b
 
-delivered_goes : (game : Judged) (world : World) (who : Who) (keep : Keep) (o : Option Message) → Holds game world → ((m : Message) → o ≡ Some m → IsSound game.rules game.moves (kept_count world.a.kept) (kept_count world.b.kept) m) → Goes game world (delivered game world who keep o)
+delivered_goes : (game : Judged) (world : World) (who : ArbiterId) (keep : Keep) (o : Option Message) → Holds game world → ((m : Message) → o ≡ Some m → IsSound game.rules game.moves (kept_count world.a.kept) (kept_count world.b.kept) m) → Goes game world (delivered game world who keep o)
 delivered_goes game world who keep None h q = record { holds = h; a = grows_not world.a.kept; b = grows_not world.b.kept; log = λ i m e. e }
 delivered_goes game world who keep (Some m) h q =
     turned_goes game world who _ h (hears_turn game.rules game.moves (identity game who) keep _ _ _ (side_at game world who h)
     (λ old window i f. answer_holds game.rules game.moves (identity game who) (kept_count world.a.kept) (kept_count world.b.kept) old window m i f (q m refl)))
 
 -- noise says nothing that an arbiter takes for a message of this game
-refused_holds : (game : Judged) (me : Identity) (old : Recorded) (window : Window) (bytes : List ℕ) → is_ok (heard game.stamp bytes) ≡ false → AnswerHolds game.rules game.moves me old (answer_heard game.rules me old window (heard game.stamp bytes))
+refused_holds : (game : Judged) (me : Identity) (old : Recorded) (window : ReorderBuffer) (bytes : List ℕ) → is_ok (heard game.stamp bytes) ≡ false → AnswerHolds game.rules game.moves me old (answer_heard game.rules me old window (heard game.stamp bytes))
 refused_holds game me old window bytes h = by_cases (heard game.stamp bytes) h
   where
     by_cases : (o : Result Message DeliverFault) → is_ok o ≡ false → AnswerHolds game.rules game.moves me old (answer_heard game.rules me old window o)

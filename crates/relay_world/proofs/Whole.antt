@@ -9,8 +9,8 @@ use Rattle.judge_core.specs.declared.game.GameOutcome.{GameOutcome}
 use Rattle.judge_core.specs.declared.game.GameOutcome.TheVariants.{Ruled, Illegal, Going}
 use Rattle.judge_core.specs.Games.{Rules, IsOutcome, plies_to, verdict_after, position_after_all}
 use Rattle.judge_core.specs.Laws.{NoDelayIsTheRuling}
-use Rattle.move_msg.specs.declared.who.Who.{Who}
-use Rattle.move_msg.specs.declared.who.Who.TheVariants.{A, B}
+use Rattle.move_msg.specs.declared.arbiter_id.ArbiterId.{ArbiterId}
+use Rattle.move_msg.specs.declared.arbiter_id.ArbiterId.TheVariants.{A, B}
 use Rattle.arbiter_core.specs.Recording.{Recorded, move_count, record_at, last_ply}
 use Rattle.arbiter_core.proofs.Reach.{step_of, reach_below, reach_within, unruled_below, last_reached, last_bound}
 use Rattle.relay_world.specs.declared.event.Event.{Event}
@@ -22,7 +22,7 @@ use Rattle.relay_world.proofs.Schedules.{holds_after}
 use Rattle.relay_world.proofs.Faithful.{reached_from}
 
 -- what is kept in a world is the record of a ply that the game reaches
-pub kept_is : (game : Judged) (events : List Event) (who : Who) (kept : Recorded) → KeepsAfter game events who kept → IsRecordOf game.rules game.moves kept
+pub kept_is : (game : Judged) (events : List Event) (who : ArbiterId) (kept : Recorded) → KeepsAfter game events who kept → IsRecordOf game.rules game.moves kept
 kept_is game events A kept e = subst (λ (o : Option Recorded). IfSome o (IsRecordOf game.rules game.moves)) e (holds_after game events).a.kept
 kept_is game events B kept e = subst (λ (o : Option Recorded). IfSome o (IsRecordOf game.rules game.moves)) e (holds_after game events).b.kept
 
@@ -54,7 +54,7 @@ is_all_last game kept h (inl whole) =
     omega (arith, long, c)
 is_all_last game kept h (inr some) = let v = some_is kept.verdict some in at_verdict game.rules game.moves kept v.0 h v.1
 
-pub whole_is_one : (game : Judged) (events others : List Event) (who other : Who) (one two : Recorded) → KeepsAfter game events who one → KeepsAfter game others other two → IsAll game one → IsAll game two → one ≡ two
+pub whole_is_one : (game : Judged) (events others : List Event) (who other : ArbiterId) (one two : Recorded) → KeepsAfter game events who one → KeepsAfter game others other two → IsAll game one → IsAll game two → one ≡ two
 whole_is_one game events others who other one two e f a b =
     let g = kept_is game events who one e in
     let h = kept_is game others other two f in
@@ -62,7 +62,7 @@ whole_is_one game events others who other one two e f a b =
 
 -- ---- no delay
 
-pub least_ruling : NoDelayIsTheRuling → (game : Judged) (events : List Event) (who : Who) (kept : Recorded) (v : Ruling) → game.rules.delay ≡ 0 → KeepsAfter game events who kept → (kept.verdict ≡ Some v → IsLeastRuling game.rules game.moves (move_count kept) v) × (IsLeastRuling game.rules game.moves (move_count kept) v → kept.verdict ≡ Some v)
+pub least_ruling : NoDelayIsTheRuling → (game : Judged) (events : List Event) (who : ArbiterId) (kept : Recorded) (v : Ruling) → game.rules.delay ≡ 0 → KeepsAfter game events who kept → (kept.verdict ≡ Some v → IsLeastRuling game.rules game.moves (move_count kept) v) × (IsLeastRuling game.rules game.moves (move_count kept) v → kept.verdict ≡ Some v)
 least_ruling law game events who kept v none e =
     let r : Rules = game.rules in
     let h = kept_is game events who kept e in

@@ -5,11 +5,11 @@ use Rattle.board_core.specs.declared.verdict.Verdict.{Verdict as Ruling}
 use Rattle.move_msg.specs.Numbers.{most_moves}
 use Rattle.move_msg.specs.declared.message.Message.TheVariants.{Ack, Verdict, Move}
 use Rattle.move_msg.specs.declared.stamp.Stamp.{Stamp}
-use Rattle.move_msg.specs.declared.who.Sender.{Sender}
-use Rattle.move_msg.specs.declared.who.Who.{Who}
+use Rattle.move_msg.specs.declared.arbiter_id.Sender.{Sender}
+use Rattle.move_msg.specs.declared.arbiter_id.ArbiterId.{ArbiterId}
 use Rattle.move_msg.specs.declared.message.Message.{Message}
-use Rattle.move_msg.specs.declared.who.Sender.TheVariants.{Source}
-use Rattle.move_msg.specs.declared.who.Who.TheVariants.{A, B}
+use Rattle.move_msg.specs.declared.arbiter_id.Sender.TheVariants.{Source}
+use Rattle.move_msg.specs.declared.arbiter_id.ArbiterId.TheVariants.{A, B}
 use Rattle.board_core.specs.Position.{IsPosition}
 use Rattle.judge_core.specs.Tables.{Tables}
 use Rattle.judge_core.specs.declared.game.GameOutcome.{GameOutcome}
@@ -30,7 +30,7 @@ abbrev pub world_after : Judged → List Event → World
 world_after game events = world_after_all game (first_world game) events
 
 -- how many moves one of the two keeps in a world
-abbrev pub count_in : World → Who → ℕ
+abbrev pub count_in : World → ArbiterId → ℕ
 count_in world who = kept_count (side_in world who).kept
 
 -- A game reaches a ply exactly where its moves up to it are there and legal in turn, and no earlier ply has a verdict.
@@ -40,31 +40,31 @@ ReachedPlies =
 
 -- A kept count never falls.
 abbrev pub CountsGrow : Type 0
-CountsGrow = (game : Judged) (early late : List Event) (who : Who) → count_in (world_after game early) who ≤ count_in (world_after game (early ++ late)) who
+CountsGrow = (game : Judged) (early late : List Event) (who : ArbiterId) → count_in (world_after game early) who ≤ count_in (world_after game (early ++ late)) who
 
 -- No Ack tells more than its sender keeps, then and later.
 abbrev pub AcksAreKept : Type 0
 AcksAreKept =
-    (game : Judged) (early late : List Event) (i : ℕ) (stamp : Stamp) (who : Who) (n : ℕ) → slice_get (world_after game early).log i ≡ Some (Ack stamp who n)
+    (game : Judged) (early late : List Event) (i : ℕ) (stamp : Stamp) (who : ArbiterId) (n : ℕ) → slice_get (world_after game early).log i ≡ Some (Ack stamp who n)
     → n ≤ count_in (world_after game (early ++ late)) who
 
 -- Each verdict that is sent is the first of the game, with its ply.
 abbrev pub VerdictsAreFirst : Type 0
 VerdictsAreFirst =
-    (game : Judged) (events : List Event) (i : ℕ) (stamp : Stamp) (who : Who) (ply : ℕ) (v : Ruling) → slice_get (world_after game events).log i ≡ Some (Verdict stamp who ply v)
+    (game : Judged) (events : List Event) (i : ℕ) (stamp : Stamp) (who : ArbiterId) (ply : ℕ) (v : Ruling) → slice_get (world_after game events).log i ≡ Some (Verdict stamp who ply v)
     → IsFirst game.rules game.moves ply v
 
 -- A kept verdict stays, and the record with it.
 abbrev pub VerdictsStay : Type 0
 VerdictsStay =
-    (game : Judged) (early late : List Event) (who : Who) (kept : Recorded) (v : Ruling) → (side_in (world_after game early) who).kept ≡ Some kept → kept.verdict ≡ Some v
+    (game : Judged) (early late : List Event) (who : ArbiterId) (kept : Recorded) (v : Ruling) → (side_in (world_after game early) who).kept ≡ Some kept → kept.verdict ≡ Some v
     → (side_in (world_after game (early ++ late)) who).kept ≡ Some kept
 
 -- An arbiter that runs through a stretch, in which the moves up to number n came in rising order, keeps n moves, or as many as
 -- the game reaches.
 abbrev pub RisingOrder : Type 0
 RisingOrder =
-    (game : Judged) (early late : List Event) (who : Who) → length game.moves ≤ most_moves → RunsThrough game (world_after game early) who late
+    (game : Judged) (early late : List Event) (who : ArbiterId) → length game.moves ≤ most_moves → RunsThrough game (world_after game early) who late
     → min (brought game (world_after game early) who late 0) (last_ply game.rules game.moves) ≤ count_in (world_after_all game (world_after game early) late) who
 
 -- Each move in the log is the game's at its number, whoever sent it.
@@ -74,7 +74,7 @@ MovesAreTheGames =
     → slice_get game.moves n ≡ Some m
 
 -- what one of the two keeps after these events
-abbrev pub KeepsAfter : Judged → List Event → Who → Recorded → Type 0
+abbrev pub KeepsAfter : Judged → List Event → ArbiterId → Recorded → Type 0
 KeepsAfter game events who kept = (side_in (world_after game events) who).kept ≡ Some kept
 
 -- the record has all moves of the game, or its verdict
@@ -84,7 +84,7 @@ IsAll game kept = (kept.moves ≡ game.moves) ⊎ IsSome kept.verdict
 -- Two records of a game that have all of its moves or its verdict are equal, whichever arbiter keeps them and whatever happened.
 abbrev pub WholeRecordsAreOne : Type 0
 WholeRecordsAreOne =
-    (game : Judged) (events others : List Event) (who other : Who) (one two : Recorded) → KeepsAfter game events who one → KeepsAfter game others other two
+    (game : Judged) (events others : List Event) (who other : ArbiterId) (one two : Recorded) → KeepsAfter game events who one → KeepsAfter game others other two
     → IsAll game one → IsAll game two → one ≡ two
 
 -- the position at this ply has this ruling, and no position before it has one
@@ -96,14 +96,14 @@ pub record IsLeastRuling (rules : Rules) (moves : List Moves) (ply : ℕ) (v : R
 -- verdict is that ruling.
 abbrev pub NoDelayIsLeastRuling : Type 0
 NoDelayIsLeastRuling =
-    (game : Judged) (events : List Event) (who : Who) (kept : Recorded) (v : Ruling) → game.rules.delay ≡ 0 → KeepsAfter game events who kept
+    (game : Judged) (events : List Event) (who : ArbiterId) (kept : Recorded) (v : Ruling) → game.rules.delay ≡ 0 → KeepsAfter game events who kept
     → (kept.verdict ≡ Some v) ↔ IsLeastRuling game.rules game.moves (move_count kept) v
 
 -- Without tables a record has a verdict exactly where its ply is the first at which the game ends on the board: by checkmate, by
 -- stalemate, or by bare kings.
 abbrev pub NoTablesIsTheBoard : Type 0
 NoTablesIsTheBoard =
-    (game : Judged) (events : List Event) (who : Who) (kept : Recorded) (v : Ruling) → IsPosition game.rules.start → HasNoTable game.rules.tables
+    (game : Judged) (events : List Event) (who : ArbiterId) (kept : Recorded) (v : Ruling) → IsPosition game.rules.start → HasNoTable game.rules.tables
     → KeepsAfter game events who kept → (kept.verdict ≡ Some v) ↔ IsFirstEnd game.rules game.moves (move_count kept) v
 
 -- No files give no table.
@@ -118,7 +118,7 @@ LastPlyIsOutcome = (rules : Rules) (game : List Moves) (outcome : GameOutcome) �
 -- the record of the last ply that the game reaches. In another order it need not: a move 32 ahead of the count is refused.
 abbrev pub InOrderKeepsAll : Type 0
 InOrderKeepsAll =
-    (game : Judged) (early : List Event) (who : Who) → length game.moves ≤ most_moves → IsTrue (is_running (side_in (world_after game early) who).life)
+    (game : Judged) (early : List Event) (who : ArbiterId) → length game.moves ≤ most_moves → IsTrue (is_running (side_in (world_after game early) who).life)
     → KeepsAfter game (early ++ all_in_order who game) who (record_at game.rules game.moves (last_ply game.rules game.moves))
 
 -- So two that run and are each handed them keep one record.

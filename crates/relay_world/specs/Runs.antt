@@ -7,8 +7,8 @@ use Rattle.board_core.specs.Delays.{most_delay}
 use Rattle.judge_core.specs.Tables.{Tables}
 use Rattle.move_msg.specs.declared.stamp.Stamp.{Stamp}
 use Rattle.move_msg.specs.declared.message.Message.{Message}
-use Rattle.move_msg.specs.declared.who.Who.{Who}
-use Rattle.move_msg.specs.declared.who.Who.TheVariants.{A, B}
+use Rattle.move_msg.specs.declared.arbiter_id.ArbiterId.{ArbiterId}
+use Rattle.move_msg.specs.declared.arbiter_id.ArbiterId.TheVariants.{A, B}
 use Rattle.move_msg.specs.Numbers.{most_moves}
 use Rattle.move_msg.specs.Records.{SpellsRecord, code_or_none}
 use Rattle.move_msg.specs.declared.record_bytes.Record.{Record}
@@ -63,7 +63,7 @@ pub record WorldView : Type 0 where
   pub b : SideView
   pub log : List Message
 
-abbrev pub told_side : WorldView → Who → SideView
+abbrev pub told_side : WorldView → ArbiterId → SideView
 told_side told A = told.a
 told_side told B = told.b
 

@@ -9,8 +9,8 @@ use Rattle.fen_text.specs.Coordinates.{AreMoves, SpellsMove}
 use Rattle.fen_text.specs.Cuts.{cut_at}
 use Rattle.fen_text.specs.Fen.{SpellsPosition}
 use Rattle.fen_text.specs.Numbers.{SpellsNumber}
-use Rattle.move_msg.specs.declared.who.Who.{Who}
-use Rattle.move_msg.specs.declared.who.Who.TheVariants.{A, B}
+use Rattle.move_msg.specs.declared.arbiter_id.ArbiterId.{ArbiterId}
+use Rattle.move_msg.specs.declared.arbiter_id.ArbiterId.TheVariants.{A, B}
 use Rattle.move_msg.specs.Numbers.{most_moves}
 use Rattle.move_msg.specs.Stamps.{IsGameName}
 use Rattle.arbiter_core.specs.declared.keeper.Keep.{Keep}
@@ -21,7 +21,7 @@ use Rattle.relay_world.specs.declared.schedule.Schedule.{Schedule}
 
 -- ---- words
 
-abbrev pub who_word : Who → List ℕ
+abbrev pub who_word : ArbiterId → List ℕ
 who_word A = codes "A"
 who_word B = codes "B"
 
@@ -95,7 +95,7 @@ HasAnyMove line = (words : List (List ℕ)) × (cut_at 32 line ≡ codes "moves"
 
 -- the words of noise whose bytes are told by more than a hyphen
 abbrev pub TellsBytes : List (List ℕ) → Type 0
-TellsBytes words = (who : Who) × (word : List ℕ) × (keep : Keep) × (words ≡ codes "noise" ∷ who_word who ∷ word ∷ keep_word keep ∷ []) × (word ≢ codes "-")
+TellsBytes words = (who : ArbiterId) × (word : List ℕ) × (keep : Keep) × (words ≡ codes "noise" ∷ who_word who ∷ word ∷ keep_word keep ∷ []) × (word ≢ codes "-")
 
 -- an event takes memory, and so do the bytes of noise
 abbrev pub TakesForLine : List ℕ → Type 0

@@ -4,15 +4,15 @@ use Rattle.std.specs.List.{AllByRecursion}
 use Rattle.board_core.specs.declared.moves.Move.{Move as Moves}
 use Rattle.judge_core.specs.Games.{Rules}
 use Rattle.move_msg.specs.declared.stamp.Stamp.{Stamp}
-use Rattle.move_msg.specs.declared.who.Who.{Who}
-use Rattle.move_msg.specs.declared.who.Who.TheVariants.{A, B}
-use Rattle.move_msg.specs.declared.who.Sender.TheVariants.{Source}
+use Rattle.move_msg.specs.declared.arbiter_id.ArbiterId.{ArbiterId}
+use Rattle.move_msg.specs.declared.arbiter_id.ArbiterId.TheVariants.{A, B}
+use Rattle.move_msg.specs.declared.arbiter_id.Sender.TheVariants.{Source}
 use Rattle.move_msg.specs.declared.message.Message.{Message}
 use Rattle.move_msg.specs.Messages.{stamp_in}
 use Rattle.arbiter_core.specs.declared.fault.DeliverFault.{DeliverFault}
 use Rattle.arbiter_core.specs.declared.keeper.Keep.{Keep}
 use Rattle.arbiter_core.specs.declared.keeper.Keep.TheVariants.{Good, FailsOld, FailsNew}
-use Rattle.arbiter_core.specs.Recording.{Recorded, Window, record_at}
+use Rattle.arbiter_core.specs.Recording.{Recorded, ReorderBuffer, record_at}
 use Rattle.arbiter_core.specs.Answering.{Identity, nothing_waits, request_of, sent_by, Answer, Refuses, Sends, Puts, answer_to, answer_heard}
 use Rattle.arbiter_core.specs.Delivers.{heard}
 use Rattle.relay_world.specs.declared.event.Event.{Event}
@@ -23,7 +23,7 @@ pub data SideLife : Type 0 where
   Closed : SideLife
   Down : SideLife
   -- with the moves that wait; its record is the one that is kept
-  Running : (window : Window) → SideLife
+  Running : (window : ReorderBuffer) → SideLife
 
 -- one arbiter and what its keeper keeps
 pub record Side : Type 0 where
@@ -42,40 +42,40 @@ pub record Judged : Type 0 where
   pub stamp : Stamp
   pub moves : List Moves
 
-abbrev pub identity : Judged → Who → Identity
+abbrev pub identity : Judged → ArbiterId → Identity
 identity game who = record { stamp = game.stamp; who = who }
 
-abbrev pub side_in : World → Who → Side
+abbrev pub side_in : World → ArbiterId → Side
 side_in world A = world.a
 side_in world B = world.b
 
 -- one side changes, and it sends these messages
-abbrev pub with_side : World → Who → Side × List Message → World
+abbrev pub with_side : World → ArbiterId → Side × List Message → World
 with_side world A (side, outputs) = record { a = side; b = world.b; log = world.log ++ outputs }
 with_side world B (side, outputs) = record { a = world.a; b = side; log = world.log ++ outputs }
 
 -- a put of the next record: it lands, or it fails and the old or the new record is kept
-abbrev pub put : Keep → Option Recorded → Recorded → List Message → Window → Side × List Message
+abbrev pub put : Keep → Option Recorded → Recorded → List Message → ReorderBuffer → Side × List Message
 put Good old next outputs window = (record { kept = Some next; life = Running window }, outputs)
 put FailsOld old next outputs window = (record { kept = old; life = Down }, [])
 put FailsNew old next outputs window = (record { kept = Some next; life = Down }, [])
 
 -- what an answer does to a running arbiter
-abbrev pub answered : Keep → Recorded → Window → Answer → Side × List Message
+abbrev pub answered : Keep → Recorded → ReorderBuffer → Answer → Side × List Message
 answered keep old window (Refuses fault) = (record { kept = Some old; life = Running window }, [])
 answered keep old window (Sends outputs later) = (record { kept = Some old; life = Running later }, outputs)
 answered keep old window (Puts next outputs later) = put keep (Some old) next outputs later
 
 -- A side hears something that has this answer where it runs. A closed one and one that is down hear nothing.
-abbrev pub hears_at : Keep → Option Recorded → SideLife → (Recorded → Window → Answer) → Side × List Message
+abbrev pub hears_at : Keep → Option Recorded → SideLife → (Recorded → ReorderBuffer → Answer) → Side × List Message
 hears_at keep (Some old) (Running window) respond = answered keep old window (respond old window)
 hears_at keep kept life respond = (record { kept = kept; life = life }, [])
 
-abbrev pub hears : Keep → Side → (Recorded → Window → Answer) → Side × List Message
+abbrev pub hears : Keep → Side → (Recorded → ReorderBuffer → Answer) → Side × List Message
 hears keep side respond = hears_at keep side.kept side.life respond
 
 -- what a running arbiter answers to a datagram
-abbrev pub answer_to_datagram : Rules → Identity → List ℕ → Recorded → Window → Answer
+abbrev pub answer_to_datagram : Rules → Identity → List ℕ → Recorded → ReorderBuffer → Answer
 answer_to_datagram rules me datagram old window = answer_heard rules me old window (heard me.stamp datagram)
 
 -- an open over nothing kept whose put fails leaves the arbiter closed
@@ -89,7 +89,7 @@ abbrev pub restarted : Rules → Keep → Option Recorded → Side
 restarted rules keep (Some old) = record { kept = Some old; life = Running nothing_waits }
 restarted rules keep None = opened_side keep (record_at rules [] 0)
 
-abbrev pub delivered : Judged → World → Who → Keep → Option Message → World
+abbrev pub delivered : Judged → World → ArbiterId → Keep → Option Message → World
 delivered game world who keep None = world
 delivered game world who keep (Some message) =
     with_side world who (hears keep (side_in world who) (λ old window. answer_to game.rules (identity game who) old window message))
@@ -106,7 +106,7 @@ wants me (Some old) Down = []
 wants me None life = []
 
 -- noise that is a message of the game does nothing
-abbrev pub noised : Judged → World → Who → Keep → Result Message DeliverFault → World
+abbrev pub noised : Judged → World → ArbiterId → Keep → Result Message DeliverFault → World
 noised game world who keep said =
     cond (is_ok said) world
     (with_side world who (hears keep (side_in world who) (λ old window. answer_heard game.rules (identity game who) old window said)))

@@ -1,14 +1,14 @@
 //! The fields of a line of a schedule.
 
 ghost use Rattle.std.specs.Prelude.{◌≡◌, ◌≢◌, ◌↔◌, ◌==◌, ◌<◌, ℕ, List, codes, IsTrue, IfOk, IfSome, IfNone, OnErr};
-ghost use Rattle.move_msg.specs.declared.who.Who.{Who};
+ghost use Rattle.move_msg.specs.declared.arbiter_id.ArbiterId.{ArbiterId};
 ghost use Rattle.arbiter_core.specs.declared.keeper.Keep.{Keep};
 ghost use Rattle.relay_world.specs.Texts.{SpellsBytes, SpellsPlace, who_word, keep_word};
 
 use arbiter_core::Keep;
 use fen_text::read_number;
 use hex::FromHexError;
-use move_msg::Who;
+use move_msg::ArbiterId;
 use std::alloc::{AllocError, Global};
 use std::vec::Vec;
 
@@ -20,14 +20,14 @@ pub(crate) fn is_word(word: &[u8], other: &[u8]) -> bool
 }
 
 /// The arbiter that a word names.
-pub(crate) fn read_who(word: &[u8]) -> Option<Who>
+pub(crate) fn read_who(word: &[u8]) -> Option<ArbiterId>
     ensures some { IfSome result (λ who. word.now ≡ who_word who) }
-    ensures none { IfNone result ((who : Who) → word.now ≡ who_word who → ⊥) }
+    ensures none { IfNone result ((who : ArbiterId) → word.now ≡ who_word who → ⊥) }
 {
     if is_word(word, b"A") {
-        Some(Who::A)
+        Some(ArbiterId::A)
     } else if is_word(word, b"B") {
-        Some(Who::B)
+        Some(ArbiterId::B)
     } else {
         None
     }

@@ -12,7 +12,7 @@ use crate::fault::GameFault;
 use arbiter_core::{Setup, name_of};
 use board_core::{Delay, Move, Position};
 use judge_core::Set;
-use move_msg::{MoveList, Stamp, Who, is_game_name};
+use move_msg::{ArbiterId, MoveList, Stamp, is_game_name};
 use std::alloc::Global;
 use std::marker::Model;
 use std::vec::Vec;
@@ -94,7 +94,7 @@ impl Game {
     }
 
     /// The setup of one of the two arbiters.
-    pub(crate) fn setup<'a>(&'a self, manifest: &'a [u8], me: Who, set: Set<'a>) -> Setup<'a>
+    pub(crate) fn setup<'a>(&'a self, manifest: &'a [u8], me: ArbiterId, set: Set<'a>) -> Setup<'a>
         ensures is { setup_view result ≡ record { name = self.now.name; start = self.now.start; manifest = manifest.now; me = who_number me; delay = self.now.delay; set = set.entry } }
         ensures good { IsGood (setup_view result) }
     {

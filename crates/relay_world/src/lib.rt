@@ -47,9 +47,9 @@ pub mod laws;
 mod lines;
 mod listing;
 mod pair;
+mod replica;
 mod running;
 pub mod schedule;
-mod seat;
 mod world;
 
 pub use event::Event;

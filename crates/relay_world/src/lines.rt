@@ -5,7 +5,7 @@ ghost use Rattle.board_core.specs.declared.moves.Move.{Move as Moves};
 ghost use Rattle.board_core.specs.declared.parts.Parts.{Parts};
 ghost use Rattle.fen_text.specs.Coordinates.{AreMoves};
 ghost use Rattle.fen_text.specs.Cuts.{cut_at};
-ghost use Rattle.move_msg.specs.declared.who.Who.{Who};
+ghost use Rattle.move_msg.specs.declared.arbiter_id.ArbiterId.{ArbiterId};
 ghost use Rattle.move_msg.specs.Numbers.{most_moves};
 ghost use Rattle.arbiter_core.specs.declared.keeper.Keep.{Keep};
 ghost use Rattle.relay_world.specs.declared.event.Event.{Event};
@@ -16,7 +16,7 @@ use crate::fields::{is_word, read_bytes, read_keep, read_place, read_who};
 use arbiter_core::Keep;
 use board_core::{Move, Position};
 use fen_text::{cut_first, read, read_move};
-use move_msg::{Who, is_game_name};
+use move_msg::{ArbiterId, is_game_name};
 use std::alloc::{AllocError, Global};
 use std::vec::Vec;
 
@@ -94,9 +94,9 @@ pub(crate) fn read_moves(alloc: Global, line: &[u8]) -> Result<Option<Vec<Move>>
 }
 
 /// The arbiter that a line names in its second word, and the words after it.
-fn split_who(text: &[u8]) -> Option<(Who, &[u8])>
+fn split_who(text: &[u8]) -> Option<(ArbiterId, &[u8])>
     ensures some { IfSome result (λ x. cut_at 32 text.now ≡ who_word x.0 ∷ cut_at 32 x.1.now) }
-    ensures none { IfNone result ((who : Who) (word : List ℕ) (words : List (List ℕ)) → cut_at 32 text.now ≡ who_word who ∷ word ∷ words → ⊥) }
+    ensures none { IfNone result ((who : ArbiterId) (word : List ℕ) (words : List (List ℕ)) → cut_at 32 text.now ≡ who_word who ∷ word ∷ words → ⊥) }
 {
     let Some((who, rest)) = cut_first(text, b' ') else {
         return None;

@@ -1,15 +1,15 @@
 //! Two seats and what was sent.
 
 ghost use Rattle.std.specs.Prelude.{◌≡◌, ◌++◌, slice_get, IfOk, OnOk, IsOk, is_ok};
-ghost use Rattle.move_msg.specs.declared.who.Who.TheVariants.{A, B};
+ghost use Rattle.move_msg.specs.declared.arbiter_id.ArbiterId.TheVariants.{A, B};
 ghost use Rattle.arbiter_core.specs.Delivers.{heard};
 ghost use Rattle.relay_world.specs.Inside.Pairs.{IsAfterAll, IsAsked, IsPairAfter, asks, hears_datagram, restarts};
 ghost use Rattle.relay_world.specs.Worlds.{delivered, happens, listed, noised};
 
 use crate::event::Event;
-use crate::seat::Seat;
+use crate::replica::Replica;
 use arbiter_core::{Keep, Outputs};
-use move_msg::{Message, Stamp, Who};
+use move_msg::{ArbiterId, Message, Stamp};
 use std::alloc::{AllocError, Global};
 use std::vec::Vec;
 
@@ -19,9 +19,9 @@ pub(crate) struct Pair<'a> {
     /// The game.
     pub stamp: Stamp,
     /// A and its keeper.
-    pub first: Seat<'a>,
+    pub first: Replica<'a>,
     /// B and its keeper.
-    pub second: Seat<'a>,
+    pub second: Replica<'a>,
     /// Every message that was ever sent, in order.
     pub log: Vec<Message>,
 }
@@ -80,15 +80,15 @@ fn deliver_second(
 fn deliver_to(
     alloc: Global,
     pair: &mut Pair<'_>,
-    who: Who,
+    who: ArbiterId,
     keep: Keep,
     bytes: &[u8],
 ) -> Result<(), AllocError>
     ensures { OnOk result (IsPairAfter pair.old (hears_datagram who keep bytes.now) pair.new) }
 {
     match who {
-        Who::A => deliver_first(alloc, pair, keep, bytes),
-        Who::B => deliver_second(alloc, pair, keep, bytes),
+        ArbiterId::A => deliver_first(alloc, pair, keep, bytes),
+        ArbiterId::B => deliver_second(alloc, pair, keep, bytes),
     }
 }
 
@@ -134,29 +134,29 @@ fn restart_second<'a>(alloc: Global, pair: Pair<'a>, keep: Keep) -> Result<Pair<
 fn restart_at<'a>(
     alloc: Global,
     pair: Pair<'a>,
-    who: Who,
+    who: ArbiterId,
     keep: Keep,
 ) -> Result<Pair<'a>, AllocError>
     ensures { IfOk result (IsPairAfter pair.entry (restarts who keep)) }
 {
     match who {
-        Who::A => restart_first(alloc, pair, keep),
-        Who::B => restart_second(alloc, pair, keep),
+        ArbiterId::A => restart_first(alloc, pair, keep),
+        ArbiterId::B => restart_second(alloc, pair, keep),
     }
 }
 
 /// The request of one of the two.
-fn asked_by(pair: &Pair<'_>, who: Who) -> Option<Message>
+fn asked_by(pair: &Pair<'_>, who: ArbiterId) -> Option<Message>
     ensures { IsAsked pair.now who (listed result) }
 {
     match who {
-        Who::A => pair.first.ask(),
-        Who::B => pair.second.ask(),
+        ArbiterId::A => pair.first.ask(),
+        ArbiterId::B => pair.second.ask(),
     }
 }
 
 /// One of the two requests moves.
-fn ask_at(pair: &mut Pair<'_>, who: Who) -> Result<(), AllocError>
+fn ask_at(pair: &mut Pair<'_>, who: ArbiterId) -> Result<(), AllocError>
     ensures { OnOk result (IsPairAfter pair.old (asks who) pair.new) }
 {
     let asked = asked_by(pair, who);
@@ -177,7 +177,7 @@ fn is_ours(stamp: Stamp, bytes: &[u8]) -> bool
 fn deliver_sent(
     alloc: Global,
     pair: &mut Pair<'_>,
-    who: Who,
+    who: ArbiterId,
     index: usize,
     keep: Keep,
 ) -> Result<(), AllocError>
@@ -194,7 +194,7 @@ fn deliver_sent(
 fn deliver_noise(
     alloc: Global,
     pair: &mut Pair<'_>,
-    who: Who,
+    who: ArbiterId,
     bytes: &[u8],
     keep: Keep,
 ) -> Result<(), AllocError>

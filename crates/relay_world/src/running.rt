@@ -2,7 +2,7 @@
 
 ghost use Rattle.std.specs.Prelude.{◌≡◌, ◌≤◌, ◌⊎◌, map, length, IfOk, IfErr, Err};
 ghost use Rattle.board_core.specs.declared.moves.Move.{Move};
-ghost use Rattle.move_msg.specs.declared.who.Sender.TheVariants.{Source};
+ghost use Rattle.move_msg.specs.declared.arbiter_id.Sender.TheVariants.{Source};
 ghost use Rattle.move_msg.specs.Numbers.{most_moves};
 ghost use Rattle.arbiter_core.specs.Answering.{sent_by};
 ghost use Rattle.arbiter_core.specs.Setups.{SetupView};
@@ -19,12 +19,12 @@ use crate::game::Game;
 use crate::gathering::gather;
 use crate::listing::manifest_of;
 use crate::pair::{Pair, run_from};
-use crate::seat::Seat;
+use crate::replica::Replica;
 use crate::world::World;
 use arbiter_core::MemoryKeeper;
 use board_core::Move;
 use judge_core::Set;
-use move_msg::{Message, Sender, Stamp, Who};
+use move_msg::{ArbiterId, Message, Sender, Stamp};
 use place_index::tables_are_numbered;
 use std::alloc::{AllocError, Global};
 use std::vec::Vec;
@@ -64,12 +64,12 @@ fn begin<'a>(
     let first_keeper = MemoryKeeper::new(alloc)?;
     let second_keeper = MemoryKeeper::new(alloc)?;
     let log = sent(alloc, stamp, game.moves())?;
-    let a = game.setup(manifest, Who::A, first);
-    let b = game.setup(manifest, Who::B, second);
+    let a = game.setup(manifest, ArbiterId::A, first);
+    let b = game.setup(manifest, ArbiterId::B, second);
     Ok(Pair {
         stamp,
-        first: Seat::closed(a, first_keeper),
-        second: Seat::closed(b, second_keeper),
+        first: Replica::closed(a, first_keeper),
+        second: Replica::closed(b, second_keeper),
         log,
     })
 }

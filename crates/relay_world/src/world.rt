@@ -8,7 +8,7 @@ ghost use Rattle.move_msg.specs.Records.{SpellsRecord, code_or_none};
 ghost use Rattle.relay_world.specs.Runs.{KeptIs, SpellsCounted, count_and_code, told_side};
 
 use arbiter_core::MemoryKeeper;
-use move_msg::{Message, Record, Who};
+use move_msg::{ArbiterId, Message, Record};
 use std::marker::Model;
 use std::vec::Vec;
 
@@ -44,28 +44,28 @@ impl Model for World {
 
 impl World {
     /// The state of an arbiter.
-    pub fn state(&self, who: Who) -> State
+    pub fn state(&self, who: ArbiterId) -> State
         ensures { result ≡ (told_side self.now who).state }
     {
         match who {
-            Who::A => self.first,
-            Who::B => self.second,
+            ArbiterId::A => self.first,
+            ArbiterId::B => self.second,
         }
     }
 
     /// The bytes of the record that an arbiter's keeper keeps; none where nothing is kept.
-    pub fn bytes(&self, who: Who) -> Option<&[u8]>
+    pub fn bytes(&self, who: ArbiterId) -> Option<&[u8]>
         ensures { option_map (λ b. b.now) result ≡ (told_side self.now who).bytes }
     {
         match who {
-            Who::A => self.first_keeper.kept(),
-            Who::B => self.second_keeper.kept(),
+            ArbiterId::A => self.first_keeper.kept(),
+            ArbiterId::B => self.second_keeper.kept(),
         }
     }
 
     /// How many moves an arbiter's keeper keeps, and the code of the kept verdict, 0 for none. None where nothing is
     /// kept, or where what is kept is no record.
-    pub fn kept(&self, who: Who) -> Option<(u32, u8)>
+    pub fn kept(&self, who: ArbiterId) -> Option<(u32, u8)>
         ensures nothing { (told_side self.now who).bytes ≡ None → result ≡ None }
         ensures record { (bytes : List _) (r : Record) → (told_side self.now who).bytes ≡ Some bytes → SpellsRecord bytes r → result ≡ Some (length r.moves, code_or_none r.verdict) }
         ensures some { IfSome result (SpellsCounted (told_side self.now who)) }

@@ -6,7 +6,7 @@ ghost use Rattle.line_teller.specs.ToldLines.{HasFailed};
 ghost use Rattle.move_msg.specs.TextLines.{ended};
 ghost use Rattle.system_io.specs.Outputs.{WritesFront};
 
-use line_teller::{LineWords, TellFault, Teller};
+use line_teller::{LineHandler, LineWords, TellFault};
 use system_io::{Output, WriteFault};
 
 /// Answers the number of bytes of a line; an answer of one byte isn't complete. For an empty line memory is refused.
@@ -30,7 +30,7 @@ fn put_count<W: Output>(out: &mut W, count: usize) -> Result<(), WriteFault>
     count_line(count).put(out)
 }
 
-impl Teller for Counting {
+impl LineHandler for Counting {
     ghost tells = { λ _ _ _. Unit {0} };
 
     ghost takes_memory = { λ _. Unit {0} };

@@ -36,11 +36,7 @@ impl MemoryStore {
 }
 
 /// What is found of a game after some entries, where this was found before.
-fn found_in<'a>(
-    before: Option<&'a [u8]>,
-    entries: &'a [Entry],
-    stamp: &Key,
-) -> Option<&'a [u8]>
+fn found_in<'a>(before: Option<&'a [u8]>, entries: &'a [Entry], stamp: &Key) -> Option<&'a [u8]>
     ensures { (records : Records) → option_map (λ b. b.now) before.entry ≡ bytes_at records stamp.now → option_map (λ b. b.now) result ≡ bytes_at (with_all records entries.now) stamp.now }
 {
     let mut found = before;

@@ -65,7 +65,7 @@ fn ended(
     errors: &mut Paper,
 ) -> (Result<u8, WriteFault>, usize) {
     match case.call {
-        Call::Teller => (told(alloc, case, output, errors), 0),
+        Call::LineHandler => (told(alloc, case, output, errors), 0),
         _ => ended_over(alloc, case, disk, output, errors),
     }
 }
@@ -189,6 +189,6 @@ pub(crate) fn check_case(
         Call::Task(task) => check_task(alloc, report, &case.words, task),
         Call::System => check_system(rt, report, case),
         Call::Library(name) => check_call(alloc, report, case, disk, name),
-        Call::Shelf | Call::Teller => check_runs(alloc, report, case, disk),
+        Call::Shelf | Call::LineHandler => check_runs(alloc, report, case, disk),
     }
 }

@@ -2,7 +2,7 @@
 use Rattle.std.proofs.Common.{◌≡◌, ◌⊎◌, ℕ, List, Some, IfSome, subst, inl, inr}
 use Rattle.board_core.specs.declared.parts.Parts.{Parts}
 use Rattle.move_msg.specs.declared.stamp.Stamp.{Stamp}
-use Rattle.move_msg.specs.declared.who.Who.TheVariants.{A, B}
+use Rattle.move_msg.specs.declared.arbiter_id.ArbiterId.TheVariants.{A, B}
 use Rattle.system_io.specs.Ports.{Passing}
 use Rattle.source_core.specs.declared.report.Ruling.{Ruling}
 use Rattle.source_core.specs.declared.known.Known.{Known}

@@ -5,8 +5,8 @@ use Rattle.std.specs.List.{AllByRecursion}
 use Rattle.std.proofs.lemmas.List.Elements.{Contains-append_left, Contains-push, Contains-push_cases}
 use Rattle.std.proofs.lemmas.Option.{same_Some}
 use Rattle.move_msg.specs.declared.stamp.Stamp.{Stamp}
-use Rattle.move_msg.specs.declared.who.Who.{Who}
-use Rattle.move_msg.specs.declared.who.Who.TheVariants.{A, B}
+use Rattle.move_msg.specs.declared.arbiter_id.ArbiterId.{ArbiterId}
+use Rattle.move_msg.specs.declared.arbiter_id.ArbiterId.TheVariants.{A, B}
 use Rattle.move_msg.specs.declared.message.Message.{Message}
 use Rattle.move_msg.specs.Messages.{SpellsMessage}
 use Rattle.source_core.specs.declared.report.Ruling.{Ruling}
@@ -32,7 +32,7 @@ come_before stamp all p s none (bytes, in', spells) = elim (Contains-push_cases 
   | inr is ↦ absurd (none bytes s is spells)
 ]
 
-reported_still : (stamp : Stamp) (who : Who) (all : List Passing) (p : Passing) (told : Reported) → ReportsNothing stamp p → IsReportedBy stamp who all told → IsReportedBy stamp who (all ++ p ∷ []) told
+reported_still : (stamp : Stamp) (who : ArbiterId) (all : List Passing) (p : Passing) (told : Reported) → ReportsNothing stamp p → IsReportedBy stamp who all told → IsReportedBy stamp who (all ++ p ∷ []) told
 reported_still stamp who all p told none h = record {
   counted = λ some. let c = h.counted some in (c.0, come_still all (p ∷ []) (message_of stamp (Acknowledges who c.0)) c.1, c.2);
   most = λ n c. h.most n (c.0, come_before stamp all p (Acknowledges who c.0) none c.1, c.2);
@@ -67,12 +67,12 @@ came_or_said stamp all bytes said s says (its, in', spells) = elim (Contains-pus
 said_now : (stamp : Stamp) (all : List Passing) (bytes : List ℕ) (said : Report) → IsReport stamp bytes said → HasCome (all ++ Came bytes ∷ []) (message_of stamp said)
 said_now stamp all bytes said says = (bytes, Contains-push all (Came bytes), says.spells)
 
-ruled_still : (stamp : Stamp) (who : Who) (all more : List Passing) (o : Option Ruling) → IfSome o (λ r. HasRuled stamp who r all) → IfSome o (λ r. HasRuled stamp who r (all ++ more))
+ruled_still : (stamp : Stamp) (who : ArbiterId) (all more : List Passing) (o : Option Ruling) → IfSome o (λ r. HasRuled stamp who r all) → IfSome o (λ r. HasRuled stamp who r (all ++ more))
 ruled_still stamp who all more None k = tt
 ruled_still stamp who all more (Some r) k = come_still all more (message_of stamp (Rules who r)) k
 
 -- of another arbiter
-untouched : (stamp : Stamp) (who : Who) (all : List Passing) (bytes : List ℕ) (said : Report) (told : Reported) → IsReport stamp bytes said → ((n : ℕ) → said ≡ Acknowledges who n → ⊥) → ((r : Ruling) → said ≡ Rules who r → ⊥) → IsReportedBy stamp who all told → IsReportedBy stamp who (all ++ Came bytes ∷ []) told
+untouched : (stamp : Stamp) (who : ArbiterId) (all : List Passing) (bytes : List ℕ) (said : Report) (told : Reported) → IsReport stamp bytes said → ((n : ℕ) → said ≡ Acknowledges who n → ⊥) → ((r : Ruling) → said ≡ Rules who r → ⊥) → IsReportedBy stamp who all told → IsReportedBy stamp who (all ++ Came bytes ∷ []) told
 untouched stamp who all bytes said told says not_counts not_rules h = record {
   counted = λ some. let c = h.counted some in (c.0, come_still all (Came bytes ∷ []) (message_of stamp (Acknowledges who c.0)) c.1, c.2);
   most = λ n c. elim (came_or_said stamp all bytes said (Acknowledges who c.0) says c.1) [ inl before ↦ h.most n (c.0, before, c.2) | inr is ↦ absurd (not_counts c.0 is) ];
@@ -80,7 +80,7 @@ untouched stamp who all bytes said told says not_counts not_rules h = record {
   only = λ r c. elim (came_or_said stamp all bytes said (Rules who r) says c) [ inl before ↦ h.only r before | inr is ↦ absurd (not_rules r is) ];
 }
 
-counts_now : (stamp : Stamp) (who : Who) (all : List Passing) (bytes : List ℕ) (count : ℕ) (told : Reported) → IsReport stamp bytes (Acknowledges who count) → IsReportedBy stamp who all told → IsReportedBy stamp who (all ++ Came bytes ∷ []) (record { count = max told.count count; ruling = told.ruling })
+counts_now : (stamp : Stamp) (who : ArbiterId) (all : List Passing) (bytes : List ℕ) (count : ℕ) (told : Reported) → IsReport stamp bytes (Acknowledges who count) → IsReportedBy stamp who all told → IsReportedBy stamp who (all ++ Came bytes ∷ []) (record { count = max told.count count; ruling = told.ruling })
 counts_now stamp who all bytes count told says h = record {
   counted = λ some. elim (greatest told.count count) [
     | inl first ↦ let more : 0 < told.count = subst (λ n. 0 < n) first some in let c = h.counted more in (c.0, come_still all (Came bytes ∷ []) (message_of stamp (Acknowledges who c.0)) c.1, subst (λ n. n ≤ c.0) (sym first) c.2)
@@ -97,7 +97,7 @@ counts_now stamp who all bytes count told says h = record {
     greatest : (m n : ℕ) → (max m n ≡ m) ⊎ (max m n ≡ n)
     greatest m n = grind arith
 
-rules_now : (stamp : Stamp) (who : Who) (all : List Passing) (bytes : List ℕ) (r : Ruling) (told : Reported) → IsReport stamp bytes (Rules who r) → FitsRuling told.ruling r → IsReportedBy stamp who all told → IsReportedBy stamp who (all ++ Came bytes ∷ []) (record { count = told.count; ruling = Some r })
+rules_now : (stamp : Stamp) (who : ArbiterId) (all : List Passing) (bytes : List ℕ) (r : Ruling) (told : Reported) → IsReport stamp bytes (Rules who r) → FitsRuling told.ruling r → IsReportedBy stamp who all told → IsReportedBy stamp who (all ++ Came bytes ∷ []) (record { count = told.count; ruling = Some r })
 rules_now stamp who all bytes r told says fits h = record {
   counted = λ some. let c = h.counted some in (c.0, come_still all (Came bytes ∷ []) (message_of stamp (Acknowledges who c.0)) c.1, c.2);
   most = λ n c. elim (came_or_said stamp all bytes (Rules who r) (Acknowledges who c.0) says c.1) [ inl before ↦ h.most n (c.0, before, c.2) | inr is ↦ absurd cc ];
@@ -138,7 +138,7 @@ knows_now stamp all bytes (Rules B r) old new says (is, fits_a, fits_b) h = subs
   agreed = λ x s e f. fits_some old.a.ruling r x fits_a e ∙ same_Some r s f;
 })
 
-pub ruled_by : (stamp : Stamp) (who : Who) (all : List Passing) (o : Option Ruling) (r : Ruling) → IfSome o (λ s. HasRuled stamp who s all) → o ≡ Some r → HasRuled stamp who r all
+pub ruled_by : (stamp : Stamp) (who : ArbiterId) (all : List Passing) (o : Option Ruling) (r : Ruling) → IfSome o (λ s. HasRuled stamp who s all) → o ≡ Some r → HasRuled stamp who r all
 ruled_by stamp who all None r k e = absurd cc
 ruled_by stamp who all (Some s) r k e = subst (λ t. HasRuled stamp who t all) (same_Some s r e) k
 
@@ -154,10 +154,10 @@ clash_now stamp all bytes (Rules who r) old c says (second, differ, first) h =
 
 -- ---- how a move stands
 
-none_ruled : (stamp : Stamp) (who : Who) (all : List Passing) (told : Reported) (r : Ruling) → IsReportedBy stamp who all told → told.ruling ≡ None → HasRuled stamp who r all → ⊥
+none_ruled : (stamp : Stamp) (who : ArbiterId) (all : List Passing) (told : Reported) (r : Ruling) → IsReportedBy stamp who all told → told.ruling ≡ None → HasRuled stamp who r all → ⊥
 none_ruled stamp who all told r h none ruled = let some = h.only r ruled in cc
 
-more_counted : (stamp : Stamp) (who : Who) (all : List Passing) (told : Reported) (number : ℕ) → IsReportedBy stamp who all told → number < told.count → HasAcknowledged stamp who (number + 1) all
+more_counted : (stamp : Stamp) (who : ArbiterId) (all : List Passing) (told : Reported) (number : ℕ) → IsReportedBy stamp who all told → number < told.count → HasAcknowledged stamp who (number + 1) all
 more_counted stamp who all told number h lt = let c = h.counted (omega arith) in let low = c.2 in (c.0, c.1, omega arith)
 
 pub is_acked : (stamp : Stamp) (number : ℕ) (all : List Passing) (known : Known) → Knows stamp all known → StandsSo known number standing.Acked → IsAcked stamp number all
@@ -167,7 +167,7 @@ is_acked stamp number all known h (lt_a, lt_b, none_a, none_b) = record {
   open_yet = unruled;
 }
   where
-    unruled : (w : Who) (r : Ruling) → HasRuled stamp w r all → ⊥
+    unruled : (w : ArbiterId) (r : Ruling) → HasRuled stamp w r all → ⊥
     unruled A r = none_ruled stamp A all known.a r h.a none_a
     unruled B r = none_ruled stamp B all known.b r h.b none_b
 
@@ -178,7 +178,7 @@ is_ruled_so stamp number all known r h (is_a, other) = record {
   only = only;
 }
   where
-    only : (w : Who) (t : Ruling) → HasRuled stamp w t all → t ≡ r
+    only : (w : ArbiterId) (t : Ruling) → HasRuled stamp w t all → t ≡ r
     only A t ruled = same_Some t r (sym (h.a.only t ruled) ∙ is_a)
     only B t ruled = same_Some t other.0 (sym (h.b.only t ruled) ∙ other.1) ∙ sym (h.agreed r other.0 is_a other.1)
 
@@ -188,7 +188,7 @@ all_agreed stamp all known h A B r s p q = h.agreed r s (h.a.only r p) (h.b.only
 all_agreed stamp all known h B A r s p q = sym (h.agreed s r (h.a.only s q) (h.b.only r p))
 all_agreed stamp all known h B B r s p q = same_Some r s (sym (h.b.only r p) ∙ h.b.only s q)
 
-unruled_none : (stamp : Stamp) (who : Who) (all : List Passing) (o : Option Ruling) → IfSome o (λ r. HasRuled stamp who r all) → ((r : Ruling) → HasRuled stamp who r all → ⊥) → o ≡ None
+unruled_none : (stamp : Stamp) (who : ArbiterId) (all : List Passing) (o : Option Ruling) → IfSome o (λ r. HasRuled stamp who r all) → ((r : Ruling) → HasRuled stamp who r all → ⊥) → o ≡ None
 unruled_none stamp who all None k none = refl
 unruled_none stamp who all (Some r) k none = absurd (none r k)
 
@@ -203,7 +203,7 @@ is_unsettled stamp number all known h (not_acked, not_ruled) = record {
 pub knows_nothing : (stamp : Stamp) → Knows stamp [] (record { a = record { count = 0; ruling = None }; b = record { count = 0; ruling = None } })
 knows_nothing stamp = record { a = none A; b = none B; agreed = λ r s e f. absurd cc }
   where
-    none : (who : Who) → IsReportedBy stamp who [] (record { count = 0; ruling = None })
+    none : (who : ArbiterId) → IsReportedBy stamp who [] (record { count = 0; ruling = None })
     none who = record {
       counted = λ some. absurd (omega arith);
       most = λ n c. let lt = c.1.1.1 in absurd (omega arith);

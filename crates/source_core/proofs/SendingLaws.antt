@@ -18,15 +18,15 @@ use Rattle.move_msg.specs.TextLines.{ended, text_of}
 use Rattle.move_msg.proofs.LineLaws.{more_lines}
 use Rattle.source_core.specs.declared.known.Known.{Known}
 use Rattle.source_core.specs.declared.lines.End.{End}
-use Rattle.source_core.specs.declared.sending.Course.{Course}
+use Rattle.source_core.specs.declared.sending.SendState.{SendState}
 use Rattle.source_core.specs.declared.known.Clash.{Clash}
 use Rattle.source_core.specs.declared.known.Standing.TheVariants as standing
 use Rattle.source_core.specs.declared.report.Ruling.{Ruling}
-use Rattle.move_msg.specs.declared.who.Who.TheVariants.{A}
+use Rattle.move_msg.specs.declared.arbiter_id.ArbiterId.TheVariants.{A}
 use Rattle.source_core.specs.declared.lines.End.TheVariants as at_end
 use Rattle.source_core.specs.declared.turn.Next.{Next}
 use Rattle.source_core.specs.declared.turn.Next.TheVariants as next
-use Rattle.source_core.specs.declared.turn.Terms.{Terms}
+use Rattle.source_core.specs.declared.turn.SendConfig.{SendConfig}
 use Rattle.source_core.specs.declared.turn.Turn.{Turn}
 use Rattle.source_core.specs.declared.turn.Turn.TheVariants as at_turn
 use Rattle.system_io.specs.Outputs.{WritesFront}
@@ -52,11 +52,11 @@ last_move : (g : SendingGame) (at : SendingState) (input : Option (List ℕ)) (l
 last_move g at input line after m known known' port port' turn tries k read r t e = record { line = line; move = m; tries = tries; after = after; read = read; spelled = r.spelled; legal = r.legal; room = r.room; spelling = t.spelling; are = record { few = t.few; received = t.received; again = t.again; waited = subst (λ n. EachWaitsSoLong g.terms (length at.moves) n (text_in g at.moves m) at.passed tries) e (t.waited at.passed k) }; only = refl; passed = refl }
 
 -- the course after the move was played
-abbrev pub course_at : Parts → Known → Moves → Course
+abbrev pub course_at : Parts → Known → Moves → SendState
 course_at after known m = record { position = after; known = known; last = Some m }
 
 -- a turn ends the run, or the run goes on
-turned : (cause : ReadFault → Type 0) (terms : Terms) (input input' : Option (List ℕ)) (line : List ℕ) (position after : Parts) (m : Moves) (known known' : Known) (port port' : PortFacts) (turn : Turn) (tries : List (List Passing)) (before : List Passing) (moves : List Moves)
+turned : (cause : ReadFault → Type 0) (terms : SendConfig) (input input' : Option (List ℕ)) (line : List ℕ) (position after : Parts) (m : Moves) (known known' : Known) (port port' : PortFacts) (turn : Turn) (tries : List (List Passing)) (before : List Passing) (moves : List Moves)
     → ReadsLine input input' line → IsPlayedLine position (length moves) line m after → IsTurn terms (length moves) m (length moves + 1) after port port' known known' turn tries → Knows terms.stamp before known
     → StepsSo cause (game_at_port terms port) (record { input = input; position = position; moves = moves; passed = before }) input' (course_at after known' m) port port' (end_by turn)
 unfolding StepsSo last_move
@@ -82,7 +82,7 @@ turned cause terms input input' line position after m known known' port port' at
 turned cause terms input input' line position after m known known' port port' at_turn.PortLost tries before moves read r t k =
     (m ∷ [], _, Sent (last_move _ _ input' line after m known known' port port' at_turn.PortLost tries k read r t refl) (t.ends before k) (λ e. absurd (let x : at_end.PortLost ≡ at_end.Lost = e in cc)), t.passed, λ e. absurd (let x : at_end.PortLost ≡ at_end.Lost = e in cc))
 
-pub steps_on : (terms : Terms) (number : ℕ) (line : List ℕ) (course course' : Course) (after : Parts) (m : Moves) (known' : Known) (port port' : PortFacts) (turn : Turn) (o : Option End)
+pub steps_on : (terms : SendConfig) (number : ℕ) (line : List ℕ) (course course' : SendState) (after : Parts) (m : Moves) (known' : Known) (port port' : PortFacts) (turn : Turn) (o : Option End)
     → course' ≡ course_at after known' m → IsPlayedLine course.position number line m after → (tries : List (List Passing)) × IsTurn terms number m (number + 1) after port port' course.known known' turn tries → o ≡ end_by turn
     → StepsOn terms number line course course' port port' o
 steps_on terms number line course course' after m known' port port' turn o at_new r (tries, t) is input input' read before moves k e last =
@@ -99,23 +99,23 @@ not_refused position number line end h is = subst (IsRefusedLine position number
 not_unread : (cause : ReadFault → Type 0) (end : End) → IsUnread cause end → end ≡ at_end.Lost → ⊥
 not_unread cause end h is = subst (IsUnread cause) is h
 
-pub steps_refused : (terms : Terms) (number : ℕ) (line : List ℕ) (course : Course) (port : PortFacts) (end : End) → IsRefusedLine course.position number line end → StepsOn terms number line course course port port (Some end)
+pub steps_refused : (terms : SendConfig) (number : ℕ) (line : List ℕ) (course : SendState) (port : PortFacts) (end : End) → IsRefusedLine course.position number line end → StepsOn terms number line course course port port (Some end)
 unfolding StepsSo
 steps_refused terms number line course port end h input input' read before moves k e last =
     ([], [], Refused line refl refl read (subst (λ n. IsRefusedLine course.position n line end) e h), Passed-nil port, λ is. absurd (not_refused course.position number line end h is))
 
-pub steps_unread : (cause : ReadFault → Type 0) (terms : Terms) (number : ℕ) (input input' : Option (List ℕ)) (course : Course) (port : PortFacts) (end : End) → IsUnread cause end → SendingSteps cause terms number input input' course course port port (Some end)
+pub steps_unread : (cause : ReadFault → Type 0) (terms : SendConfig) (number : ℕ) (input input' : Option (List ℕ)) (course : SendState) (port : PortFacts) (end : End) → IsUnread cause end → SendingSteps cause terms number input input' course course port port (Some end)
 unfolding StepsSo
 steps_unread cause terms number input input' course port end h before moves k e last = ([], [], Unread refl refl h, Passed-nil port, λ is. absurd (not_unread cause end h is))
 
-closed_at : (terms : Terms) (number : ℕ) (position : Parts) (moves : List Moves) (last : Option Moves) (known : Known) (port port' : PortFacts) (end : End) → number ≡ length moves → last ≡ last_of moves → Closes terms number position last known port port' end → Closes terms (length moves) position (last_of moves) known port port' end
+closed_at : (terms : SendConfig) (number : ℕ) (position : Parts) (moves : List Moves) (last : Option Moves) (known : Known) (port port' : PortFacts) (end : End) → number ≡ length moves → last ≡ last_of moves → Closes terms number position last known port port' end → Closes terms (length moves) position (last_of moves) known port port' end
 closed_at terms number position moves last known port port' end e f h = subst (λ l. Closes terms (length moves) position l known port port' end) f (subst (λ n. Closes terms n position last known port port' end) e h)
 
 -- after the input's end no arbiter counts as silent
 not_closed : (stamp : Stamp) (number : ℕ) (position : Parts) (all : List Passing) (end : End) → ClosesSo stamp number position all end → end ≡ at_end.Lost → ⊥
 not_closed stamp number position all end h is = subst (ClosesSo stamp number position all) is h
 
-closed_with : (cause : ReadFault → Type 0) (g : SendingGame) (input input' : Option (List ℕ)) (course : Course) (known' : Known) (port port' : PortFacts) (before : List Passing) (moves : List Moves) (end : End) → IsAtEnd input → Knows g.terms.stamp before course.known → Closes g.terms (length moves) course.position (last_of moves) course.known port port' end → port.addresses ≡ g.addresses
+closed_with : (cause : ReadFault → Type 0) (g : SendingGame) (input input' : Option (List ℕ)) (course : SendState) (known' : Known) (port port' : PortFacts) (before : List Passing) (moves : List Moves) (end : End) → IsAtEnd input → Knows g.terms.stamp before course.known → Closes g.terms (length moves) course.position (last_of moves) course.known port port' end → port.addresses ≡ g.addresses
     → (sent : List Moves) × (more : List Passing) × SendingEndsWith cause g (record { input = input; position = course.position; moves = moves; passed = before }) input' sent more end × Passed port port' more × (end ≡ at_end.Lost → Knows g.terms.stamp (before ++ more) known')
 closed_with cause g input input' course known' port port' before moves end done k h e =
     let handed : ℕ → List Passing = λ n. again g.terms.stamp n (length moves - 1) (last_of moves) in
@@ -127,7 +127,7 @@ closed_with cause g input input' course known' port port' before moves end done 
       λ is. absurd (not_closed g.terms.stamp (length moves) course.position _ end stands is),
     )
 
-pub steps_closed : (cause : ReadFault → Type 0) (terms : Terms) (number : ℕ) (input input' : Option (List ℕ)) (course course' : Course) (port port' : PortFacts) (end : End) → IsAtEnd input → Closes terms number course.position course.last course.known port port' end → SendingSteps cause terms number input input' course course' port port' (Some end)
+pub steps_closed : (cause : ReadFault → Type 0) (terms : SendConfig) (number : ℕ) (input input' : Option (List ℕ)) (course course' : SendState) (port port' : PortFacts) (end : End) → IsAtEnd input → Closes terms number course.position course.last course.known port port' end → SendingSteps cause terms number input input' course course' port port' (Some end)
 unfolding StepsSo
 steps_closed cause terms number input input' course course' port port' end done closes before moves k e last =
     let g : SendingGame = game_at_port terms port in
@@ -158,12 +158,12 @@ still_ends U V g at input sent more end f (Refused line none nothing read why) =
 still_ends U V g at input sent more end f (Closed none done closed) = Closed none done closed
 still_ends U V g at input sent more end f (Sent one is all) = Sent one is all
 
-still_steps : (U V : ReadFault → Type 0) (g : SendingGame) (at : SendingState) (input : Option (List ℕ)) (course : Course) (port port' : PortFacts) (o : Option End) → ((fault : ReadFault) → U fault → V fault) → StepsSo U g at input course port port' o → StepsSo V g at input course port port' o
+still_steps : (U V : ReadFault → Type 0) (g : SendingGame) (at : SendingState) (input : Option (List ℕ)) (course : SendState) (port port' : PortFacts) (o : Option End) → ((fault : ReadFault) → U fault → V fault) → StepsSo U g at input course port port' o → StepsSo V g at input course port port' o
 unfolding StepsSo
 still_steps U V g at input course port port' None f h = h
 still_steps U V g at input course port port' (Some end) f (sent, more, ends, passed, knows) = (sent, more, still_ends U V g at input sent more end f ends, passed, knows)
 
-pub steps_read : (cause : ReadFault → Type 0) (terms : Terms) (number : ℕ) (line : List ℕ) (input input' : Option (List ℕ)) (course course' : Course) (port port' : PortFacts) (o : Option End) → ReadsLine input input' line → StepsOn terms number line course course' port port' o → SendingSteps cause terms number input input' course course' port port' o
+pub steps_read : (cause : ReadFault → Type 0) (terms : SendConfig) (number : ℕ) (line : List ℕ) (input input' : Option (List ℕ)) (course course' : SendState) (port port' : PortFacts) (o : Option End) → ReadsLine input input' line → StepsOn terms number line course course' port port' o → SendingSteps cause terms number input input' course course' port port' o
 steps_read cause terms number line input input' course course' port port' o read h before moves k e last =
     still_steps no_cause cause _ _ _ _ _ _ o (λ fault none. absurd none) (h input input' read before moves k e last)
 
@@ -177,7 +177,7 @@ record HasAgain (stamp : Stamp) (number : ℕ) (last : Option Moves) (port port'
 has_again : (stamp : Stamp) (n number : ℕ) (last : Option Moves) (port port' : PortFacts) → n ≡ number → IfSome last (HasSpelling stamp n) → Passed port port' (again stamp port.addresses n last) → HasAgain stamp number last port port'
 has_again stamp n number last port port' e spelling passed = subst (λ k. HasAgain stamp k last port port') e (record { spelling = spelling; passed = passed })
 
-closes_so : (terms : Terms) (number : ℕ) (position : Parts) (last : Option Moves) (old new : Known) (port mid port' : PortFacts) (end : Next) (h : IsEndOfTry terms 0 number old new mid port' end)
+closes_so : (terms : SendConfig) (number : ℕ) (position : Parts) (last : Option Moves) (old new : Known) (port mid port' : PortFacts) (end : Next) (h : IsEndOfTry terms 0 number old new mid port' end)
     → HasAgain terms.stamp (number - 1) last port mid
     → (so_ends : End) → ((count : ℕ) → so_ends ≡ at_end.Open count → HasWaited h.came) → ((all : List Passing) → ComesTo terms.stamp all new end → ClosesSo terms.stamp number position all so_ends) → Closes terms number position last old port port' so_ends
 closes_so terms number position last old new port mid port' end h sent so_ends waits so =
@@ -196,19 +196,19 @@ has_waited : (came : List Passing) (known : Known) → is_ruled known ≡ false 
 has_waited came known open_yet (inl w) = w
 has_waited came known open_yet (inr ruled) = absurd cc
 
-ended_waiting : (terms : Terms) (index number : ℕ) (old new : Known) (port port' : PortFacts) (end : Next) → (end ≡ next.GoesOn) ⊎ (end ≡ next.Waited) → IsEndOfTry terms index number old new port port' end → IsEndOfTry terms index number old new port port' next.Waited
+ended_waiting : (terms : SendConfig) (index number : ℕ) (old new : Known) (port port' : PortFacts) (end : Next) → (end ≡ next.GoesOn) ⊎ (end ≡ next.Waited) → IsEndOfTry terms index number old new port port' end → IsEndOfTry terms index number old new port port' next.Waited
 ended_waiting terms index number old new port port' end (inl e) h = let never = subst (IsEndOfTry terms index number old new port port') e h in absurd never.waits
 ended_waiting terms index number old new port port' end (inr e) h = subst (IsEndOfTry terms index number old new port port') e h
 
-pub closes_waited : (terms : Terms) (n number : ℕ) (position : Parts) (last : Option Moves) (old new : Known) (port mid port' : PortFacts) (next' : Next) (end : End) → n ≡ number - 1 → IfSome last (HasSpelling terms.stamp n) → Passed port mid (again terms.stamp port.addresses n last) → (next' ≡ next.GoesOn) ⊎ (next' ≡ next.Waited) → IsEndOfTry terms 0 number old new mid port' next' → StandsAtInputEnd number position new end → Closes terms number position last old port port' end
+pub closes_waited : (terms : SendConfig) (n number : ℕ) (position : Parts) (last : Option Moves) (old new : Known) (port mid port' : PortFacts) (next' : Next) (end : End) → n ≡ number - 1 → IfSome last (HasSpelling terms.stamp n) → Passed port mid (again terms.stamp port.addresses n last) → (next' ≡ next.GoesOn) ⊎ (next' ≡ next.Waited) → IsEndOfTry terms 0 number old new mid port' next' → StandsAtInputEnd number position new end → Closes terms number position last old port port' end
 closes_waited terms n number position last old new port mid port' next' end e spelling sent is ended ends =
     let h = ended_waiting terms 0 number old new mid port' next' is ended in
     closes_so terms number position last old new port mid port' next.Waited h (has_again terms.stamp n (number - 1) last port mid e spelling sent) end (λ count is_open. has_waited h.came new (ends.0 count is_open) h.waits) (λ all k. ends.1 terms.stamp all k)
 
-pub closes_clashed : (terms : Terms) (n number : ℕ) (position : Parts) (last : Option Moves) (old new : Known) (port mid port' : PortFacts) (c : Clash) → n ≡ number - 1 → IfSome last (HasSpelling terms.stamp n) → Passed port mid (again terms.stamp port.addresses n last) → IsEndOfTry terms 0 number old new mid port' (next.Clashed c) → Closes terms number position last old port port' (at_end.Clashed c)
+pub closes_clashed : (terms : SendConfig) (n number : ℕ) (position : Parts) (last : Option Moves) (old new : Known) (port mid port' : PortFacts) (c : Clash) → n ≡ number - 1 → IfSome last (HasSpelling terms.stamp n) → Passed port mid (again terms.stamp port.addresses n last) → IsEndOfTry terms 0 number old new mid port' (next.Clashed c) → Closes terms number position last old port port' (at_end.Clashed c)
 closes_clashed terms n number position last old new port mid port' c e spelling sent h = closes_so terms number position last old new port mid port' (next.Clashed c) h (has_again terms.stamp n (number - 1) last port mid e spelling sent) (at_end.Clashed c) (λ count is. cc) (λ all k. k)
 
-pub closes_missed : (terms : Terms) (n number : ℕ) (position : Parts) (last : Option Moves) (old new : Known) (port mid port' : PortFacts) → n ≡ number - 1 → IfSome last (HasSpelling terms.stamp n) → Passed port mid (again terms.stamp port.addresses n last) → IsEndOfTry terms 0 number old new mid port' next.PortLost → Closes terms number position last old port port' at_end.PortLost
+pub closes_missed : (terms : SendConfig) (n number : ℕ) (position : Parts) (last : Option Moves) (old new : Known) (port mid port' : PortFacts) → n ≡ number - 1 → IfSome last (HasSpelling terms.stamp n) → Passed port mid (again terms.stamp port.addresses n last) → IsEndOfTry terms 0 number old new mid port' next.PortLost → Closes terms number position last old port port' at_end.PortLost
 closes_missed terms n number position last old new port mid port' e spelling sent h = closes_so terms number position last old new port mid port' next.PortLost h (has_again terms.stamp n (number - 1) last port mid e spelling sent) at_end.PortLost (λ count is. cc) (λ all k. k)
 
 -- ---- how a game stands at the input's end
@@ -284,7 +284,7 @@ in_turn_more g a b [] t h k = (subst (λ at. IsAckedTurn g at t) h k, refl)
 in_turn_more g a b (s ∷ ts) t h k = (h.0, in_turn_more g s.after b ts t h.1 k)
 
 -- so many moves are acknowledged, and the run goes on
-pub record HasSent (g : SendingGame) (start : Parts) (input0 input : Option (List ℕ)) (course : Course) (port0 port : PortFacts) (k : ℕ) : Type 0 where
+pub record HasSent (g : SendingGame) (start : Parts) (input0 input : Option (List ℕ)) (course : SendState) (port0 port : PortFacts) (k : ℕ) : Type 0 where
   pub turns : List AckedMove
   pub moves : List Moves
   pub passed : List Passing
@@ -314,10 +314,10 @@ sent_nothing g start input out port = (
   Appends-nil out,
 )
 
-sent_none : (g : SendingGame) (start : Parts) (input out : Option (List ℕ)) (course : Course) (port : PortFacts) → course ≡ begun_at start → (h : HasSent g start input input course port port 0) × Appends out out (text_of (map acked_line h.turns))
+sent_none : (g : SendingGame) (start : Parts) (input out : Option (List ℕ)) (course : SendState) (port : PortFacts) → course ≡ begun_at start → (h : HasSent g start input input course port port 0) × Appends out out (text_of (map acked_line h.turns))
 sent_none g start input out course port is = subst (λ c. (h : HasSent g start input input c port port 0) × Appends out out (text_of (map acked_line h.turns))) (sym is) (sent_nothing g start input out port)
 
-same_game : (cause : ReadFault → Type 0) (g : SendingGame) (n : ℕ) (at : SendingState) (input : Option (List ℕ)) (course : Course) (port port' : PortFacts) (o : Option End) → n ≡ g.addresses → StepsSo cause (record { terms = g.terms; addresses = n }) at input course port port' o → StepsSo cause g at input course port port' o
+same_game : (cause : ReadFault → Type 0) (g : SendingGame) (n : ℕ) (at : SendingState) (input : Option (List ℕ)) (course : SendState) (port port' : PortFacts) (o : Option End) → n ≡ g.addresses → StepsSo cause (record { terms = g.terms; addresses = n }) at input course port port' o → StepsSo cause g at input course port port' o
 same_game cause g n at input course port port' o e h = subst (λ k. StepsSo cause (record { terms = g.terms; addresses = k }) at input course port port' o) e h
 
 last_now : (moves : List Moves) (m : Moves) → Some m ≡ last_of (moves ++ m ∷ [])
@@ -326,7 +326,7 @@ last_now moves m =
     sym (ap (slice_get (moves ++ m ∷ [])) counted ∙ get_last moves m)
 
 -- one more
-sent_more : (cause : ReadFault → Type 0) (g : SendingGame) (start : Parts) (input0 input1 input2 : Option (List ℕ)) (c1 c2 : Course) (port0 port1 port2 : PortFacts) (k : ℕ) (h : HasSent g start input0 input1 c1 port0 port1 k) → StepsSo cause g (record { input = input1; position = c1.position; moves = h.moves; passed = h.passed }) input2 c2 port1 port2 None → (n : HasSent g start input0 input2 c2 port0 port2 (k + 1)) × (map acked_line n.turns ≡ map acked_line h.turns ++ acked_words (k + 1) ∷ [])
+sent_more : (cause : ReadFault → Type 0) (g : SendingGame) (start : Parts) (input0 input1 input2 : Option (List ℕ)) (c1 c2 : SendState) (port0 port1 port2 : PortFacts) (k : ℕ) (h : HasSent g start input0 input1 c1 port0 port1 k) → StepsSo cause g (record { input = input1; position = c1.position; moves = h.moves; passed = h.passed }) input2 c2 port1 port2 None → (n : HasSent g start input0 input2 c2 port0 port2 (k + 1)) × (map acked_line n.turns ≡ map acked_line h.turns ++ acked_words (k + 1) ∷ [])
 unfolding StepsSo
 sent_more cause g start input0 input1 input2 c1 c2 port0 port1 port2 k h (t, acked, is_input, is_position, is_last, passed, knows) =
     let at : SendingState = record { input = input1; position = c1.position; moves = h.moves; passed = h.passed } in
@@ -352,7 +352,7 @@ sent_more cause g start input0 input1 input2 c1 c2 port0 port1 port2 k h (t, ack
     )
 
 -- the writer failed
-run_cut : (cause : ReadFault → Type 0) (g : SendingGame) (start : Parts) (input0 input : Option (List ℕ)) (course : Course) (port0 port : PortFacts) (k : ℕ) (h : HasSent g start input0 input course port0 port k) → (s : Sending) × IsSending cause g start input0 input port0 port s × (s.turns ≡ h.turns) × (s.end ≡ None)
+run_cut : (cause : ReadFault → Type 0) (g : SendingGame) (start : Parts) (input0 input : Option (List ℕ)) (course : SendState) (port0 port : PortFacts) (k : ℕ) (h : HasSent g start input0 input course port0 port k) → (s : Sending) × IsSending cause g start input0 input port0 port s × (s.turns ≡ h.turns) × (s.end ≡ None)
 run_cut cause g start input0 input course port0 port k h = (
   record { turns = h.turns; at = record { input = input; position = course.position; moves = h.moves; passed = h.passed }; sent = []; more = []; end = None; known = course.known },
   record {
@@ -401,7 +401,7 @@ ended_hands cause g at input sent more end (Closed no_moves done closed) h = clo
 ended_hands cause g at input sent more end (Sent t is all) h =
     subst (λ l. OnlyHands g.terms.stamp (at.moves ++ l) (at.passed ++ more)) (sym t.only) (subst (λ l. OnlyHands g.terms.stamp (at.moves ++ t.move ∷ []) (at.passed ++ l)) (sym t.passed) (hands_more g.terms.stamp g.addresses at.moves t.move at.passed t.tries h t.spelling t.are.received))
 
-run_ended : (cause : ReadFault → Type 0) (g : SendingGame) (start : Parts) (input0 input1 input2 : Option (List ℕ)) (c1 c2 : Course) (port0 port1 port2 : PortFacts) (k : ℕ) (end : End) (h : HasSent g start input0 input1 c1 port0 port1 k) → StepsSo cause g (record { input = input1; position = c1.position; moves = h.moves; passed = h.passed }) input2 c2 port1 port2 (Some end) → (s : Sending) × IsSending cause g start input0 input2 port0 port2 s × (s.turns ≡ h.turns) × (s.end ≡ Some end) × (s.known ≡ c2.known)
+run_ended : (cause : ReadFault → Type 0) (g : SendingGame) (start : Parts) (input0 input1 input2 : Option (List ℕ)) (c1 c2 : SendState) (port0 port1 port2 : PortFacts) (k : ℕ) (end : End) (h : HasSent g start input0 input1 c1 port0 port1 k) → StepsSo cause g (record { input = input1; position = c1.position; moves = h.moves; passed = h.passed }) input2 c2 port1 port2 (Some end) → (s : Sending) × IsSending cause g start input0 input2 port0 port2 s × (s.turns ≡ h.turns) × (s.end ≡ Some end) × (s.known ≡ c2.known)
 unfolding StepsSo
 run_ended cause g start input0 input1 input2 c1 c2 port0 port1 port2 k end h (sent, more, ends, passed, knows) =
     let at : SendingState = record { input = input1; position = c1.position; moves = h.moves; passed = h.passed } in (
@@ -450,17 +450,17 @@ wrote_last s turns end known old mid new (Err fault) same is at p ok q = cut_at 
 -- ---- the loop of a run
 
 -- so many moves are acknowledged and their lines are written; what the reader tells of its faults now, it told at the beginning
-pub record Runs (F0 F M0 M : Type 0) (g : SendingGame) (start : Parts) (input0 input : Option (List ℕ)) (course : Course) (port0 port : PortFacts) (out0 out : Option (List ℕ)) (k : ℕ) : Type 0 where
+pub record Runs (F0 F M0 M : Type 0) (g : SendingGame) (start : Parts) (input0 input : Option (List ℕ)) (course : SendState) (port0 port : PortFacts) (out0 out : Option (List ℕ)) (k : ℕ) : Type 0 where
   pub sent : HasSent g start input0 input course port0 port k
   pub fails : F → F0
   pub memory : M → M0
   pub written : Appends out0 out (text_of (map acked_line sent.turns))
 
-pub runs_none : (F M : Type 0) (g : SendingGame) (start : Parts) (input out : Option (List ℕ)) (course : Course) (port : PortFacts) → course ≡ begun_at start → Runs F F M M g start input input course port port out out 0
+pub runs_none : (F M : Type 0) (g : SendingGame) (start : Parts) (input out : Option (List ℕ)) (course : SendState) (port : PortFacts) → course ≡ begun_at start → Runs F F M M g start input input course port port out out 0
 runs_none F M g start input out course port is = let n = sent_none g start input out course port is in record { sent = n.0; fails = λ f. f; memory = λ m. m; written = n.1 }
 
 -- how a step goes on from there
-stepped : (F0 F M0 M : Type 0) (terms : Terms) (start : Parts) (input0 input1 input2 : Option (List ℕ)) (c1 c2 : Course) (port0 port1 port2 : PortFacts) (out0 out : Option (List ℕ)) (k : ℕ) (o : Option End)
+stepped : (F0 F M0 M : Type 0) (terms : SendConfig) (start : Parts) (input0 input1 input2 : Option (List ℕ)) (c1 c2 : SendState) (port0 port1 port2 : PortFacts) (out0 out : Option (List ℕ)) (k : ℕ) (o : Option End)
     → (h : Runs F0 F M0 M (game_at_port terms port0) start input0 input1 c1 port0 port1 out0 out k) → SendingSteps (causes F M) terms k input1 input2 c1 c2 port1 port2 o
     → StepsSo (causes F0 M0) (game_at_port terms port0) (record { input = input1; position = c1.position; moves = h.sent.moves; passed = h.sent.passed }) input2 c2 port1 port2 o
 stepped F0 F M0 M terms start input0 input1 input2 c1 c2 port0 port1 port2 out0 out k o h steps =
@@ -469,7 +469,7 @@ stepped F0 F M0 M terms start input0 input1 input2 c1 c2 port0 port1 port2 out0 
     still_steps (causes F M) (causes F0 M0) g at input2 c2 port1 port2 o (still_causes F F0 M M0 h.fails h.memory)
     (same_game (causes F M) g port1.addresses at input2 c2 port1 port2 o h.sent.at_port.addresses (steps h.sent.passed h.sent.moves h.sent.knows h.sent.count h.sent.last))
 
-pub runs_more : (F0 F1 F2 M0 M1 M2 : Type 0) (terms : Terms) (start : Parts) (input0 input1 input2 : Option (List ℕ)) (c1 c2 : Course) (port0 port1 port2 : PortFacts) (out0 out1 out2 : Option (List ℕ)) (k : ℕ)
+pub runs_more : (F0 F1 F2 M0 M1 M2 : Type 0) (terms : SendConfig) (start : Parts) (input0 input1 input2 : Option (List ℕ)) (c1 c2 : SendState) (port0 port1 port2 : PortFacts) (out0 out1 out2 : Option (List ℕ)) (k : ℕ)
     → Runs F0 F1 M0 M1 (game_at_port terms port0) start input0 input1 c1 port0 port1 out0 out1 k → SendingSteps (causes F1 M1) terms k input1 input2 c1 c2 port1 port2 None → (F2 → F1) → (M2 → M1) → Appends out1 out2 (ended (acked_words (k + 1)))
     → Runs F0 F2 M0 M2 (game_at_port terms port0) start input0 input2 c2 port0 port2 out0 out2 (k + 1)
 runs_more F0 F1 F2 M0 M1 M2 terms start input0 input1 input2 c1 c2 port0 port1 port2 out0 out1 out2 k h steps same room put =
@@ -477,7 +477,7 @@ runs_more F0 F1 F2 M0 M1 M2 terms start input0 input1 input2 c1 c2 port0 port1 p
     record { sent = n.0; fails = λ f. h.fails (same f); memory = λ m. h.memory (room m); written = written_more out0 out1 out2 (map acked_line h.sent.turns) (map acked_line n.0.turns) (acked_words (k + 1)) n.1 h.written put }
 
 -- the line of a move couldn't be written
-pub runs_cut : (F0 F M0 M : Type 0) (terms : Terms) (start : Parts) (input0 input1 input2 : Option (List ℕ)) (c1 c2 : Course) (port0 port1 port2 : PortFacts) (out0 out1 out2 : Option (List ℕ)) (k : ℕ) (fault : WriteFault)
+pub runs_cut : (F0 F M0 M : Type 0) (terms : SendConfig) (start : Parts) (input0 input1 input2 : Option (List ℕ)) (c1 c2 : SendState) (port0 port1 port2 : PortFacts) (out0 out1 out2 : Option (List ℕ)) (k : ℕ) (fault : WriteFault)
     → Runs F0 F M0 M (game_at_port terms port0) start input0 input1 c1 port0 port1 out0 out1 k → SendingSteps (causes F M) terms k input1 input2 c1 c2 port1 port2 None → WritesFront {T = Unit {0}} out1 out2 (ended (acked_words (k + 1))) (Err fault)
     → (s : Sending) × IsSending (causes F0 M0) (game_at_port terms port0) start input0 input2 port0 port2 s × WritesLines s out0 out2 (Err fault)
 runs_cut F0 F M0 M terms start input0 input1 input2 c1 c2 port0 port1 port2 out0 out1 out2 k fault h steps put =
@@ -486,7 +486,7 @@ runs_cut F0 F M0 M terms start input0 input1 input2 c1 c2 port0 port1 port2 out0
     (s.0, s.1, cut_at out0 out1 out2 (map acked_line h.sent.turns) (sending_lines s.0) (acked_words (k + 1)) fault (no_last s.0 n.0.turns (map acked_line h.sent.turns ++ acked_words (k + 1) ∷ []) s.2 s.3 n.1) h.written put)
 
 -- the run ended, and its line was written or not
-pub runs_ended : (F0 F M0 M : Type 0) (terms : Terms) (start : Parts) (input0 input1 input2 : Option (List ℕ)) (c1 c2 : Course) (port0 port1 port2 : PortFacts) (out0 out1 out2 : Option (List ℕ)) (k : ℕ) (end : End) (r : Result Ended WriteFault)
+pub runs_ended : (F0 F M0 M : Type 0) (terms : SendConfig) (start : Parts) (input0 input1 input2 : Option (List ℕ)) (c1 c2 : SendState) (port0 port1 port2 : PortFacts) (out0 out1 out2 : Option (List ℕ)) (k : ℕ) (end : End) (r : Result Ended WriteFault)
     → Runs F0 F M0 M (game_at_port terms port0) start input0 input1 c1 port0 port1 out0 out1 k → SendingSteps (causes F M) terms k input1 input2 c1 c2 port1 port2 (Some end) → IfOk r (λ e. e ≡ ended_by end c2.known) → WritesFront out1 out2 (ended (end_words end)) r
     → (s : Sending) × IsSending (causes F0 M0) (game_at_port terms port0) start input0 input2 port0 port2 s × WritesLines s out0 out2 r
 runs_ended F0 F M0 M terms start input0 input1 input2 c1 c2 port0 port1 port2 out0 out1 out2 k end r h steps ok put =

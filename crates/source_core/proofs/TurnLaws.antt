@@ -11,7 +11,7 @@ use Rattle.source_core.specs.declared.known.Standing.{Standing}
 use Rattle.source_core.specs.declared.known.Standing.TheVariants as standing
 use Rattle.source_core.specs.declared.turn.Next.{Next}
 use Rattle.source_core.specs.declared.turn.Next.TheVariants as next
-use Rattle.source_core.specs.declared.turn.Terms.{Terms}
+use Rattle.source_core.specs.declared.turn.SendConfig.{SendConfig}
 use Rattle.source_core.specs.declared.turn.Turn.{Turn}
 use Rattle.source_core.specs.declared.turn.Turn.TheVariants as at_turn
 use Rattle.system_io.specs.Ports.{Passing, Came, Quiet, Handed, PortFacts, Passed, to_each}
@@ -48,7 +48,7 @@ cut_at {A} (z ∷ zs) y (w ∷ first) rest x is =
 -- ---- how long is waited
 
 -- by what is known, and by what has passed
-wait_so : (terms : Terms) (index number : ℕ) (all : List Passing) (known : Known) (nanos : ℕ) (s : Standing) → Knows terms.stamp all known → StandsSo known number s → nanos ≡ wait_by terms.wait index s → IsWait terms index number all nanos
+wait_so : (terms : SendConfig) (index number : ℕ) (all : List Passing) (known : Known) (nanos : ℕ) (s : Standing) → Knows terms.stamp all known → StandsSo known number s → nanos ≡ wait_by terms.wait index s → IsWait terms index number all nanos
 wait_so terms index number all known nanos standing.Acked h stands is = ForVerdicts (is_acked terms.stamp number all known h stands) is
 wait_so terms index number all known nanos (standing.Ruled r) h stands is = let ruled = is_ruled_so terms.stamp number all known r h stands in ForAnswers (λ acked. acked.open_yet _ r ruled.a) is
 wait_so terms index number all known nanos standing.Open h stands is = let unsettled = is_unsettled terms.stamp number all known h stands in ForAnswers unsettled.not_acked is
@@ -75,7 +75,7 @@ last_quiet nanos n p next.Waited is e = cc
 last_quiet nanos n p (next.Clashed c) (bytes, is) e = absurd cc
 last_quiet nanos n p next.PortLost is e = absurd cc
 
-waits_last : (terms : Terms) (index number : ℕ) (before came : List Passing) (p : Passing) (known : Known) (nanos : ℕ) (end : Next) → IsQuietless came → IsLast nanos p end → Knows terms.stamp (before ++ came) known → IsWaitBy terms.wait index number known nanos → WaitsSoLong terms index number before (came ++ p ∷ [])
+waits_last : (terms : SendConfig) (index number : ℕ) (before came : List Passing) (p : Passing) (known : Known) (nanos : ℕ) (end : Next) → IsQuietless came → IsLast nanos p end → Knows terms.stamp (before ++ came) known → IsWaitBy terms.wait index number known nanos → WaitsSoLong terms index number before (came ++ p ∷ [])
 unfolding IsQuietless
 waits_last terms index number before came p known nanos end h last k (s, stands, by) first rest n is = elim (cut_at came p first rest (Quiet n) is) [
   | inl (same, one) ↦
@@ -84,7 +84,7 @@ waits_last terms index number before came p known nanos end h last k (s, stands,
   | inr (others, earlier) ↦ absurd (h first others n earlier)
 ]
 
-waits_never : (terms : Terms) (index number : ℕ) (before came : List Passing) → IsQuietless came → WaitsSoLong terms index number before came
+waits_never : (terms : SendConfig) (index number : ℕ) (before came : List Passing) → IsQuietless came → WaitsSoLong terms index number before came
 unfolding IsQuietless
 waits_never terms index number before came h first rest n is = absurd (h first rest n is)
 
@@ -112,7 +112,7 @@ received_more stamp old mid new port port1 port2 k p h received passed one learn
   learned = λ before known. subst (λ l. Knows stamp l new) (append_assoc before h.came (p ∷ [])) (learns (before ++ h.came) (h.learned before known));
 }
 
-pub ended : (terms : Terms) (index number : ℕ) (old mid new : Known) (port port1 port2 : PortFacts) (k : ℕ) (nanos : ℕ) (p : Passing) (end : Next) → HasReceived terms.stamp old mid port port1 k → IsWaitBy terms.wait index number mid nanos → IsReceived p → Passed port1 port2 (p ∷ []) → IsLast nanos p end → Learns terms.stamp mid new (p ∷ []) end → (end ≡ next.GoesOn → ⊥) → IsEndOfTry terms index number old new port port2 end
+pub ended : (terms : SendConfig) (index number : ℕ) (old mid new : Known) (port port1 port2 : PortFacts) (k : ℕ) (nanos : ℕ) (p : Passing) (end : Next) → HasReceived terms.stamp old mid port port1 k → IsWaitBy terms.wait index number mid nanos → IsReceived p → Passed port1 port2 (p ∷ []) → IsLast nanos p end → Learns terms.stamp mid new (p ∷ []) end → (end ≡ next.GoesOn → ⊥) → IsEndOfTry terms index number old new port port2 end
 ended terms index number old mid new port port1 port2 k nanos p end h by received passed is learns not = record {
   came = h.came ++ p ∷ [];
   received = all_more IsReceived h.came p h.received received;
@@ -128,10 +128,10 @@ ended terms index number old mid new port port1 port2 k nanos p end h by receive
     waits (next.Clashed c) i n = tt
     waits next.PortLost i n = tt
 
-pub ended_ruled : (terms : Terms) (index number : ℕ) (old new : Known) (port port' : PortFacts) (k : ℕ) → HasReceived terms.stamp old new port port' k → is_ruled new ≡ true → IsEndOfTry terms index number old new port port' next.Waited
+pub ended_ruled : (terms : SendConfig) (index number : ℕ) (old new : Known) (port port' : PortFacts) (k : ℕ) → HasReceived terms.stamp old new port port' k → is_ruled new ≡ true → IsEndOfTry terms index number old new port port' next.Waited
 ended_ruled terms index number old new port port' k h ruled = record { came = h.came; received = h.received; passed = h.passed; waits = inr ruled; waited = λ before known. waits_never terms index number before h.came h.quietless; learns = h.learned }
 
-pub ended_full : (terms : Terms) (index number : ℕ) (old new : Known) (port port' : PortFacts) (k : ℕ) → HasReceived terms.stamp old new port port' k → k ≡ most_answers → IsEndOfTry terms index number old new port port' next.Waited
+pub ended_full : (terms : SendConfig) (index number : ℕ) (old new : Known) (port port' : PortFacts) (k : ℕ) → HasReceived terms.stamp old new port port' k → k ≡ most_answers → IsEndOfTry terms index number old new port port' next.Waited
 ended_full terms index number old new port port' k h full = record { came = h.came; received = h.received; passed = h.passed; waits = inl (inr (h.count ∙ full)); waited = λ before known. waits_never terms index number before h.came h.quietless; learns = h.learned }
 
 -- what is handed over reports nothing
@@ -145,7 +145,7 @@ again_reports_nothing stamp addresses number None = tt
 again_reports_nothing stamp addresses number (Some m) = handed_reports_nothing stamp addresses (message_text (move_message stamp number m))
 
 -- a try: the datagram is handed over for each address, and then this comes
-pub tried_once : (terms : Terms) (index number addresses : ℕ) (bytes : List ℕ) (old new : Known) (port mid port' : PortFacts) (end : Next) → Passed port mid (to_each addresses bytes) → IsEndOfTry terms index number old new mid port' end → HasTriedOnce terms index number addresses bytes old new port port' (loss_by end)
+pub tried_once : (terms : SendConfig) (index number addresses : ℕ) (bytes : List ℕ) (old new : Known) (port mid port' : PortFacts) (end : Next) → Passed port mid (to_each addresses bytes) → IsEndOfTry terms index number old new mid port' end → HasTriedOnce terms index number addresses bytes old new port port' (loss_by end)
 tried_once terms index number addresses bytes old new port mid port' end sent h = record {
   came = h.came;
   received = h.received;
@@ -172,7 +172,7 @@ tried_once terms index number addresses bytes old new port mid port' end sent h 
 
 -- ---- tries one after the other
 
-pub record HasTried (terms : Terms) (number addresses : ℕ) (bytes : List ℕ) (old new : Known) (port port' : PortFacts) (k : ℕ) : Type 0 where
+pub record HasTried (terms : SendConfig) (number addresses : ℕ) (bytes : List ℕ) (old new : Known) (port port' : PortFacts) (k : ℕ) : Type 0 where
   pub tries : List (List Passing)
   pub count : length tries ≡ k
   pub received : AllByRecursion (AllByRecursion IsReceived) tries
@@ -182,7 +182,7 @@ pub record HasTried (terms : Terms) (number addresses : ℕ) (bytes : List ℕ) 
   pub long : (before : List Passing) → Knows terms.stamp before old → EachWaitsSoLong terms number addresses bytes before tries
   pub learned : (before : List Passing) → Knows terms.stamp before old → Knows terms.stamp (before ++ tries_of addresses bytes tries) new
 
-pub tried_none : (terms : Terms) (number addresses : ℕ) (bytes : List ℕ) (known : Known) (port : PortFacts) → HasTried terms number addresses bytes known known port port 0
+pub tried_none : (terms : SendConfig) (number addresses : ℕ) (bytes : List ℕ) (known : Known) (port : PortFacts) → HasTried terms number addresses bytes known known port port 0
 tried_none terms number addresses bytes known port = record {
   tries = [];
   count = refl;
@@ -222,15 +222,15 @@ all_but_last tries last all earlier later came next is = elim (cut_at tries last
 ]
 
 -- the tries so far, and one more
-more_passed : (terms : Terms) (number addresses : ℕ) (bytes : List ℕ) (old mid new : Known) (port port1 port2 : PortFacts) (k : ℕ) (end : Option Turn) (h : HasTried terms number addresses bytes old mid port port1 k) (t : HasTriedOnce terms k number addresses bytes mid new port1 port2 end) → Passed port port2 (tries_of addresses bytes (h.tries ++ t.came ∷ []))
+more_passed : (terms : SendConfig) (number addresses : ℕ) (bytes : List ℕ) (old mid new : Known) (port port1 port2 : PortFacts) (k : ℕ) (end : Option Turn) (h : HasTried terms number addresses bytes old mid port port1 k) (t : HasTriedOnce terms k number addresses bytes mid new port1 port2 end) → Passed port port2 (tries_of addresses bytes (h.tries ++ t.came ∷ []))
 more_passed terms number addresses bytes old mid new port port1 port2 k end h t = subst (Passed port port2) (sym (all_tries addresses bytes h.tries t.came)) (Passed-trans port port1 port2 _ _ h.passed t.passed)
 
-more_learned : (terms : Terms) (number addresses : ℕ) (bytes : List ℕ) (old mid new : Known) (port port1 port2 : PortFacts) (k : ℕ) (end : Option Turn) (h : HasTried terms number addresses bytes old mid port port1 k) (t : HasTriedOnce terms k number addresses bytes mid new port1 port2 end) (before : List Passing) → Knows terms.stamp before old → TryLearns terms.stamp (before ++ tries_of addresses bytes (h.tries ++ t.came ∷ [])) new end
+more_learned : (terms : SendConfig) (number addresses : ℕ) (bytes : List ℕ) (old mid new : Known) (port port1 port2 : PortFacts) (k : ℕ) (end : Option Turn) (h : HasTried terms number addresses bytes old mid port port1 k) (t : HasTriedOnce terms k number addresses bytes mid new port1 port2 end) (before : List Passing) → Knows terms.stamp before old → TryLearns terms.stamp (before ++ tries_of addresses bytes (h.tries ++ t.came ∷ [])) new end
 more_learned terms number addresses bytes old mid new port port1 port2 k end h t before known =
     subst (λ l. TryLearns terms.stamp l new end) (append_assoc before _ _ ∙ ap (λ l. before ++ l) (sym (all_tries addresses bytes h.tries t.came))) (t.learns _ (h.learned before known))
 
 -- the one more waits so long too
-more_long : (terms : Terms) (number addresses : ℕ) (bytes : List ℕ) (old mid new : Known) (port port1 port2 : PortFacts) (k : ℕ) (end : Option Turn) (h : HasTried terms number addresses bytes old mid port port1 k) (t : HasTriedOnce terms k number addresses bytes mid new port1 port2 end) (before : List Passing) → Knows terms.stamp before old → EachWaitsSoLong terms number addresses bytes before (h.tries ++ t.came ∷ [])
+more_long : (terms : SendConfig) (number addresses : ℕ) (bytes : List ℕ) (old mid new : Known) (port port1 port2 : PortFacts) (k : ℕ) (end : Option Turn) (h : HasTried terms number addresses bytes old mid port port1 k) (t : HasTriedOnce terms k number addresses bytes mid new port1 port2 end) (before : List Passing) → Knows terms.stamp before old → EachWaitsSoLong terms number addresses bytes before (h.tries ++ t.came ∷ [])
 more_long terms number addresses bytes old mid new port port1 port2 k end h t before known earlier later came is = elim (cut_at h.tries t.came earlier later came is) [
   | inl (same, last) ↦
       let passed : List Passing = before ++ tries_of addresses bytes h.tries in
@@ -244,7 +244,7 @@ more_long terms number addresses bytes old mid new port port1 port2 k end h t be
 more_count : (tries : List (List Passing)) (came : List Passing) (k : ℕ) → length tries ≡ k → length (tries ++ came ∷ []) ≡ k + 1
 more_count tries came k e = omega (arith, length-append tries (came ∷ []))
 
-pub tried_more : (terms : Terms) (number addresses : ℕ) (bytes : List ℕ) (old mid new : Known) (port port1 port2 : PortFacts) (k : ℕ) → HasTried terms number addresses bytes old mid port port1 k → is_ruled mid ≡ false → HasTriedOnce terms k number addresses bytes mid new port1 port2 None → HasTried terms number addresses bytes old new port port2 (k + 1)
+pub tried_more : (terms : SendConfig) (number addresses : ℕ) (bytes : List ℕ) (old mid new : Known) (port port1 port2 : PortFacts) (k : ℕ) → HasTried terms number addresses bytes old mid port port1 k → is_ruled mid ≡ false → HasTriedOnce terms k number addresses bytes mid new port1 port2 None → HasTried terms number addresses bytes old new port port2 (k + 1)
 tried_more terms number addresses bytes old mid new port port1 port2 k h open_yet t = record {
   tries = h.tries ++ t.came ∷ [];
   count = more_count h.tries t.came k h.count;
@@ -262,7 +262,7 @@ tried_more terms number addresses bytes old mid new port port1 port2 k h open_ye
 abbrev pub spelled_move : Stamp → ℕ → Moves → List ℕ
 spelled_move stamp number m = message_text (move_message stamp number m)
 
-pub turn_ended : (terms : Terms) (number : ℕ) (m : Moves) (plies : ℕ) (position : Parts) (old new : Known) (port port' : PortFacts) (k : ℕ) (end : Turn) → HasSpelling terms.stamp number m → HasTried terms number port.addresses (spelled_move terms.stamp number m) old new port port' k → k ≤ terms.tries → EndsIf number plies position new (Some end) → (tries : List (List Passing)) × IsTurn terms number m plies position port port' old new end tries
+pub turn_ended : (terms : SendConfig) (number : ℕ) (m : Moves) (plies : ℕ) (position : Parts) (old new : Known) (port port' : PortFacts) (k : ℕ) (end : Turn) → HasSpelling terms.stamp number m → HasTried terms number port.addresses (spelled_move terms.stamp number m) old new port port' k → k ≤ terms.tries → EndsIf number plies position new (Some end) → (tries : List (List Passing)) × IsTurn terms number m plies position port port' old new end tries
 turn_ended terms number m plies position old new port port' k end say h le ends =
     let counted = h.count in (
       h.tries,
@@ -278,7 +278,7 @@ turn_ended terms number m plies position old new port port' k end say h le ends 
       },
     )
 
-pub turn_cut : (terms : Terms) (number : ℕ) (m : Moves) (plies : ℕ) (position : Parts) (old mid new : Known) (port port1 port2 : PortFacts) (k : ℕ) (end : Turn) → HasSpelling terms.stamp number m → HasTried terms number port.addresses (spelled_move terms.stamp number m) old mid port port1 k → k + 1 ≤ terms.tries → is_ruled mid ≡ false → HasTriedOnce terms k number port.addresses (spelled_move terms.stamp number m) mid new port1 port2 (Some end) → (tries : List (List Passing)) × IsTurn terms number m plies position port port2 old new end tries
+pub turn_cut : (terms : SendConfig) (number : ℕ) (m : Moves) (plies : ℕ) (position : Parts) (old mid new : Known) (port port1 port2 : PortFacts) (k : ℕ) (end : Turn) → HasSpelling terms.stamp number m → HasTried terms number port.addresses (spelled_move terms.stamp number m) old mid port port1 k → k + 1 ≤ terms.tries → is_ruled mid ≡ false → HasTriedOnce terms k number port.addresses (spelled_move terms.stamp number m) mid new port1 port2 (Some end) → (tries : List (List Passing)) × IsTurn terms number m plies position port port2 old new end tries
 turn_cut terms number m plies position old mid new port port1 port2 k end say h le open_yet t =
     let counted = more_count h.tries t.came k h.count in (
       h.tries ++ t.came ∷ [],
@@ -294,7 +294,7 @@ turn_cut terms number m plies position old mid new port port1 port2 k end say h 
       },
     )
 
-pub turn_lost : (terms : Terms) (number : ℕ) (m : Moves) (plies : ℕ) (position : Parts) (old new : Known) (port port' : PortFacts) (k : ℕ) → HasSpelling terms.stamp number m → HasTried terms number port.addresses (spelled_move terms.stamp number m) old new port port' k → k ≡ terms.tries → EndsIf number plies position new None → (tries : List (List Passing)) × IsTurn terms number m plies position port port' old new at_turn.Lost tries
+pub turn_lost : (terms : SendConfig) (number : ℕ) (m : Moves) (plies : ℕ) (position : Parts) (old new : Known) (port port' : PortFacts) (k : ℕ) → HasSpelling terms.stamp number m → HasTried terms number port.addresses (spelled_move terms.stamp number m) old new port port' k → k ≡ terms.tries → EndsIf number plies position new None → (tries : List (List Passing)) × IsTurn terms number m plies position port port' old new at_turn.Lost tries
 turn_lost terms number m plies position old new port port' k say h all ends =
     let counted = h.count in (
       h.tries,
@@ -310,7 +310,7 @@ turn_lost terms number m plies position old new port port' k say h all ends =
       },
     )
 
-pub same_try : (terms : Terms) (index number a a' : ℕ) (bytes bytes' : List ℕ) (old new : Known) (port port' : PortFacts) (end : Option Turn) → a ≡ a' → bytes ≡ bytes' → HasTriedOnce terms index number a bytes old new port port' end → HasTriedOnce terms index number a' bytes' old new port port' end
+pub same_try : (terms : SendConfig) (index number a a' : ℕ) (bytes bytes' : List ℕ) (old new : Known) (port port' : PortFacts) (end : Option Turn) → a ≡ a' → bytes ≡ bytes' → HasTriedOnce terms index number a bytes old new port port' end → HasTriedOnce terms index number a' bytes' old new port port' end
 same_try terms index number a a' bytes bytes' old new port port' end e f h = subst (λ n. HasTriedOnce terms index number n bytes' old new port port' end) e (subst (λ b. HasTriedOnce terms index number a b old new port port' end) f h)
 
 -- what was spelled has that spelling

@@ -8,7 +8,7 @@ use Rattle.board_core.specs.declared.verdict.Verdict.TheVariants.{WhiteMates, Bl
 use Rattle.board_core.specs.Attack.{IsInCheck}
 use Rattle.board_core.specs.Moves.{IsLegal}
 use Rattle.move_msg.specs.declared.stamp.Stamp.{Stamp}
-use Rattle.move_msg.specs.declared.who.Who.{Who}
+use Rattle.move_msg.specs.declared.arbiter_id.ArbiterId.{ArbiterId}
 use Rattle.system_io.specs.Ports.{Passing}
 use Rattle.source_core.specs.declared.report.Ruling.{Ruling}
 use Rattle.source_core.specs.declared.known.Known.{Known}
@@ -66,6 +66,6 @@ IsBelievedRuling stamp plies position r all = IsRuled stamp r all × IsBelieved 
 
 -- an arbiter has reported a verdict that isn't
 pub record IsBelied (stamp : Stamp) (plies : ℕ) (position : Parts) (r : Ruling) (all : List Passing) : Type 0 where
-  pub who : Who
+  pub who : ArbiterId
   pub reported : HasRuled stamp who r all
   pub belied : IsBelieved plies position r → ⊥

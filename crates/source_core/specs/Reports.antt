@@ -2,8 +2,8 @@
 use Rattle.std.specs.Prelude.{◌≡◌, ◌≢◌, ◌≤◌, ◌<◌, ◌+◌, ◌⊎◌, ℕ, max, List, Option, Some, None, IfSome}
 use Rattle.std.specs.List.{Contains}
 use Rattle.move_msg.specs.declared.stamp.Stamp.{Stamp}
-use Rattle.move_msg.specs.declared.who.Who.{Who}
-use Rattle.move_msg.specs.declared.who.Who.TheVariants.{A, B}
+use Rattle.move_msg.specs.declared.arbiter_id.ArbiterId.{ArbiterId}
+use Rattle.move_msg.specs.declared.arbiter_id.ArbiterId.TheVariants.{A, B}
 use Rattle.move_msg.specs.declared.message.Message.{Message}
 use Rattle.move_msg.specs.declared.message.Message.TheVariants.{Ack, Verdict}
 use Rattle.move_msg.specs.Messages.{SpellsMessage}
@@ -29,33 +29,33 @@ abbrev pub HasCome : List Passing → Message → Type 0
 HasCome all m = (bytes : List ℕ) × Contains all (Came bytes) × SpellsMessage bytes m
 
 -- the arbiter of the game has acknowledged so many moves at least
-abbrev pub HasAcknowledged : Stamp → Who → ℕ → List Passing → Type 0
+abbrev pub HasAcknowledged : Stamp → ArbiterId → ℕ → List Passing → Type 0
 HasAcknowledged stamp who n all = (count : ℕ) × HasCome all (message_of stamp (Acknowledges who count)) × (n ≤ count)
 
 -- it has reported this verdict
-abbrev pub HasRuled : Stamp → Who → Ruling → List Passing → Type 0
+abbrev pub HasRuled : Stamp → ArbiterId → Ruling → List Passing → Type 0
 HasRuled stamp who r all = HasCome all (message_of stamp (Rules who r))
 
 -- no two verdicts that were reported differ
 abbrev pub IsAgreed : Stamp → List Passing → Type 0
-IsAgreed stamp all = (w v : Who) (r s : Ruling) → HasRuled stamp w r all → HasRuled stamp v s all → r ≡ s
+IsAgreed stamp all = (w v : ArbiterId) (r s : Ruling) → HasRuled stamp w r all → HasRuled stamp v s all → r ≡ s
 
 -- both have acknowledged the move with this number, and neither has reported a verdict
 pub record IsAcked (stamp : Stamp) (number : ℕ) (all : List Passing) : Type 0 where
   pub a : HasAcknowledged stamp A (number + 1) all
   pub b : HasAcknowledged stamp B (number + 1) all
-  pub open_yet : (w : Who) (r : Ruling) → HasRuled stamp w r all → ⊥
+  pub open_yet : (w : ArbiterId) (r : Ruling) → HasRuled stamp w r all → ⊥
 
 -- both have reported this verdict, and no other was reported
 pub record IsRuled (stamp : Stamp) (r : Ruling) (all : List Passing) : Type 0 where
   pub a : HasRuled stamp A r all
   pub b : HasRuled stamp B r all
-  pub only : (w : Who) (s : Ruling) → HasRuled stamp w s all → s ≡ r
+  pub only : (w : ArbiterId) (s : Ruling) → HasRuled stamp w s all → s ≡ r
 
 -- two different verdicts were reported
 pub record IsClash (stamp : Stamp) (c : Clash) (all : List Passing) : Type 0 where
-  pub w : Who
-  pub v : Who
+  pub w : ArbiterId
+  pub v : ArbiterId
   pub first : HasRuled stamp w c.first all
   pub second : HasRuled stamp v c.second all
   pub differ : c.first ≢ c.second
@@ -69,7 +69,7 @@ pub record IsUnsettled (stamp : Stamp) (number : ℕ) (all : List Passing) : Typ
 -- ---- what a source knows of it
 
 -- the greatest count that an arbiter has acknowledged, 0 where none, and its verdict if it has reported one
-pub record IsReportedBy (stamp : Stamp) (who : Who) (all : List Passing) (reported : Reported) : Type 0 where
+pub record IsReportedBy (stamp : Stamp) (who : ArbiterId) (all : List Passing) (reported : Reported) : Type 0 where
   pub counted : 0 < reported.count → HasAcknowledged stamp who reported.count all
   pub most : (n : ℕ) → HasAcknowledged stamp who n all → n ≤ reported.count
   pub ruled : IfSome reported.ruling (λ r. HasRuled stamp who r all)
@@ -80,11 +80,11 @@ pub record Knows (stamp : Stamp) (all : List Passing) (known : Known) : Type 0 w
   pub b : IsReportedBy stamp B all known.b
   pub agreed : (r s : Ruling) → known.a.ruling ≡ Some r → known.b.ruling ≡ Some s → r ≡ s
 
-abbrev pub reported_by : Known → Who → Reported
+abbrev pub reported_by : Known → ArbiterId → Reported
 reported_by known A = known.a
 reported_by known B = known.b
 
-abbrev pub with_reported : Known → Who → Reported → Known
+abbrev pub with_reported : Known → ArbiterId → Reported → Known
 with_reported known A reported = record known { a = reported }
 with_reported known B reported = record known { b = reported }
 

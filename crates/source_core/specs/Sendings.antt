@@ -24,16 +24,16 @@ use Rattle.source_core.specs.Boards.{IsBelied, IsBelievedRuling}
 use Rattle.source_core.specs.Turns.{AllButLastWaited, EachWaitsSoLong, HasSpelling, HasWaited, IsReceived, WaitsSoLong, move_message, tries_of}
 use Rattle.source_core.specs.Lines.{IsCut, acked_words, end_words, ended_by}
 use Rattle.source_core.specs.declared.known.Known.{Known}
-use Rattle.source_core.specs.declared.turn.Terms.{Terms}
+use Rattle.source_core.specs.declared.turn.SendConfig.{SendConfig}
 use Rattle.source_core.specs.declared.lines.Ended.{Ended}
 
 -- on which terms the moves of a game are sent, and to how many addresses
 pub record SendingGame : Type 0 where
-  pub terms : Terms
+  pub terms : SendConfig
   pub addresses : ℕ
 
 -- at a port
-abbrev pub game_at_port : Terms → PortFacts → SendingGame
+abbrev pub game_at_port : SendConfig → PortFacts → SendingGame
 game_at_port terms port = record { terms = terms; addresses = port.addresses }
 
 -- where a run stands: what is left of the input, the position, the moves that are acknowledged, and all that has passed
@@ -250,7 +250,7 @@ WritesLines s old new (Ok ended) = (end : End) × (s.end ≡ Some end) × (ended
 WritesLines s old new (Err fault) = IsCut (sending_lines s) old new
 
 -- there is such a run at a reader and at a port, and its lines are written
-abbrev pub SendsLines : Terms → Parts → LineFacts → LineFacts → PortFacts → PortFacts → Option (List ℕ) → Option (List ℕ) → Result Ended WriteFault → Type 0
+abbrev pub SendsLines : SendConfig → Parts → LineFacts → LineFacts → PortFacts → PortFacts → Option (List ℕ) → Option (List ℕ) → Result Ended WriteFault → Type 0
 SendsLines terms start reader reader' port port' old new r =
     (s : Sending) × IsSending (causes reader.fails reader.takes_memory) (game_at_port terms port) start reader.left reader'.left port port' s × WritesLines s old new r
 

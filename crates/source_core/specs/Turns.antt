@@ -6,14 +6,14 @@ use Rattle.std.specs.declared.time.Duration.{Duration}
 use Rattle.board_core.specs.declared.moves.Move.{Move as Moves}
 use Rattle.board_core.specs.declared.parts.Parts.{Parts}
 use Rattle.move_msg.specs.declared.stamp.Stamp.{Stamp}
-use Rattle.move_msg.specs.declared.who.Sender.TheVariants.{Source}
+use Rattle.move_msg.specs.declared.arbiter_id.Sender.TheVariants.{Source}
 use Rattle.move_msg.specs.declared.message.Message.{Message}
 use Rattle.move_msg.specs.declared.message.Message.TheVariants.{Move}
 use Rattle.move_msg.specs.Messages.{SpellsMessage, message_text}
 use Rattle.source_core.specs.declared.known.Known.{Known}
 use Rattle.source_core.specs.declared.turn.Next.{Next}
 use Rattle.source_core.specs.declared.turn.Next.TheVariants as next
-use Rattle.source_core.specs.declared.turn.Terms.{Terms}
+use Rattle.source_core.specs.declared.turn.SendConfig.{SendConfig}
 use Rattle.source_core.specs.declared.turn.Turn.{Turn}
 use Rattle.source_core.specs.declared.turn.Turn.TheVariants as at_turn
 use Rattle.system_io.specs.Ports.{Passing, Came, Quiet, Missed, Handed, PortFacts, Passed, to_each}
@@ -56,14 +56,14 @@ abbrev pub try_nanos : Duration → ℕ → ℕ
 try_nanos wait index = min (as_nanos wait * times_at index) max_nanos
 
 -- how many nanoseconds the next datagram is awaited in a try, by all that has passed
-pub data IsWait (terms : Terms) (index number : ℕ) (all : List Passing) (nanos : ℕ) : Type 0 where
+pub data IsWait (terms : SendConfig) (index number : ℕ) (all : List Passing) (nanos : ℕ) : Type 0 where
   -- as long as the try waits
   ForAnswers : (IsAcked terms.stamp number all → ⊥) → nanos ≡ try_nanos terms.wait index → IsWait terms index number all nanos
   -- two milliseconds for the verdicts that may follow: both have acknowledged the move, and neither has reported a verdict
   ForVerdicts : IsAcked terms.stamp number all → nanos ≡ 2_000_000 → IsWait terms index number all nanos
 
 -- Of one try, before which so much has passed: whenever nothing came in time, a datagram was awaited so long.
-abbrev pub WaitsSoLong : Terms → ℕ → ℕ → List Passing → List Passing → Type 0
+abbrev pub WaitsSoLong : SendConfig → ℕ → ℕ → List Passing → List Passing → Type 0
 WaitsSoLong terms index number before came = (first rest : List Passing) (nanos : ℕ) → came ≡ first ++ Quiet nanos ∷ rest → IsWait terms index number (before ++ first) nanos
 
 -- one try: the move is handed over for each address, and then this came
@@ -74,7 +74,7 @@ abbrev pub tries_of : ℕ → List ℕ → List (List Passing) → List Passing
 tries_of addresses bytes tries = flat_map (one_try addresses bytes) tries
 
 -- so in each of the tries of a move
-abbrev pub EachWaitsSoLong : Terms → ℕ → ℕ → List ℕ → List Passing → List (List Passing) → Type 0
+abbrev pub EachWaitsSoLong : SendConfig → ℕ → ℕ → List ℕ → List Passing → List (List Passing) → Type 0
 EachWaitsSoLong terms number addresses bytes before tries =
     (earlier later : List (List Passing)) (came : List Passing) → tries ≡ earlier ++ came ∷ later → WaitsSoLong terms (length earlier) number ((before ++ tries_of addresses bytes earlier) ++ to_each addresses bytes) came
 
@@ -99,7 +99,7 @@ TurnEndsSo stamp number plies position all known at_turn.Lost = IsUnsettled stam
 TurnEndsSo stamp number plies position all known at_turn.PortLost = Contains all Missed
 
 -- a turn: tries of the one move, at most so many, each of which waited so long
-pub record IsTurn (terms : Terms) (number : ℕ) (m : Moves) (plies : ℕ) (position : Parts) (old new : PortFacts) (known known' : Known) (end : Turn) (tries : List (List Passing)) : Type 0 where
+pub record IsTurn (terms : SendConfig) (number : ℕ) (m : Moves) (plies : ℕ) (position : Parts) (old new : PortFacts) (known known' : Known) (end : Turn) (tries : List (List Passing)) : Type 0 where
   pub spelling : HasSpelling terms.stamp number m
   pub few : length tries ≤ terms.tries
   pub received : AllByRecursion (AllByRecursion IsReceived) tries

@@ -4,7 +4,7 @@ ghost use Rattle.std.specs.Prelude.{◌≡◌, ◌≢◌, ◌⊎◌, None, Some,
 ghost use Rattle.source_core.specs.Reports.{AddsReport, Clashes, FitsRuling, StandsSo, reported_by, with_reported};
 
 use crate::report::{Report, Ruling};
-use move_msg::Who;
+use move_msg::ArbiterId;
 
 /// What one arbiter has reported.
 #[derive(Clone, Copy)]
@@ -71,25 +71,25 @@ impl Known {
     }
 
     /// What an arbiter has reported.
-    fn reported_by(&self, who: Who) -> Reported
+    fn reported_by(&self, who: ArbiterId) -> Reported
         ensures { result ≡ reported_by self.now who }
     {
         match who {
-            Who::A => self.a,
-            Who::B => self.b,
+            ArbiterId::A => self.a,
+            ArbiterId::B => self.b,
         }
     }
 
     /// What is known, with this report of an arbiter in place of its earlier one.
-    fn with_reported(&self, who: Who, reported: Reported) -> Known
+    fn with_reported(&self, who: ArbiterId, reported: Reported) -> Known
         ensures { result ≡ with_reported self.now who reported }
     {
         match who {
-            Who::A => Known {
+            ArbiterId::A => Known {
                 a: reported,
                 b: self.b,
             },
-            Who::B => Known {
+            ArbiterId::B => Known {
                 a: self.a,
                 b: reported,
             },

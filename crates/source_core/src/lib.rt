@@ -44,4 +44,4 @@ pub use known::{Clash, Known, Reported, Standing};
 pub use lines::{End, Ended, Line};
 pub use report::{Report, Ruling, report_of};
 pub use sending::send_game;
-pub use turn::{Terms, Turn, take_turn};
+pub use turn::{SendConfig, Turn, take_turn};

@@ -7,7 +7,7 @@ ghost use Rattle.move_msg.specs.declared.stamp.Stamp.{Stamp};
 ghost use Rattle.source_core.specs.declared.report.Report.{Report};
 
 use board_core::Verdict;
-use move_msg::{Message, Stamp, Who};
+use move_msg::{ArbiterId, Message, Stamp};
 
 /// A verdict and its ply.
 #[derive(Clone, Copy, PartialEq, Eq, Debug)]
@@ -24,14 +24,14 @@ pub enum Report {
     /// How many moves it has recorded.
     Acknowledges {
         /// The arbiter.
-        who: Who,
+        who: ArbiterId,
         /// How many, 0 to 4096.
         count: u32,
     },
     /// Its verdict.
     Rules {
         /// The arbiter.
-        who: Who,
+        who: ArbiterId,
         /// The verdict.
         ruling: Ruling,
     },

@@ -11,7 +11,7 @@ ghost use Rattle.move_msg.specs.TextLines.{ended};
 use crate::board::Board;
 use crate::known::{Known, Standing};
 use crate::lines::{End, Ended, Line, put_now};
-use crate::turn::{Next, Terms, Turn, receive_all, send_again, take_turn};
+use crate::turn::{Next, SendConfig, Turn, receive_all, send_again, take_turn};
 use board_core::{Move, Position};
 use fen_text::read_move;
 use move_msg::{Count, MOST_MOVES};
@@ -20,7 +20,7 @@ use system_io::{LineReader, Output, Port, ReadFault, WriteFault};
 
 /// The progress of a game.
 #[derive(Drop)]
-struct Course {
+struct SendState {
     /// The position after the acknowledged moves.
     position: Position,
     /// What the arbiters have reported.
@@ -30,10 +30,10 @@ struct Course {
 }
 
 /// A game with nothing sent yet.
-fn begun_at(start: Position) -> Course
+fn begun_at(start: Position) -> SendState
     ensures { result ≡ begun_at start }
 {
-    Course {
+    SendState {
         position: start,
         known: Known::nothing(),
         last: None,
@@ -75,10 +75,10 @@ fn end_of(turn: Turn) -> Option<End>
 
 /// Sends the move of a line that was read. Returns the end of the run, if it ends.
 fn send_line<P: Port>(
-    terms: &Terms,
+    terms: &SendConfig,
     number: Count,
     line: &[u8],
-    course: &mut Course,
+    course: &mut SendState,
     port: &mut P,
 ) -> Option<End>
     ensures { StepsOn terms.now number line.now course.old course.new (P.facts port.old) (P.facts port.new) result }
@@ -118,7 +118,7 @@ fn end_at(known: &Known, number: u32, position: &Position) -> End
 
 /// Sends the last acknowledged move once more, which an arbiter answers with its count and its verdict. Receives what
 /// still comes in time, and returns the end of the run.
-fn close<P: Port>(terms: &Terms, number: u32, course: &mut Course, port: &mut P) -> End
+fn close<P: Port>(terms: &SendConfig, number: u32, course: &mut SendState, port: &mut P) -> End
     ensures { Closes terms.now number course.old.position course.old.last course.old.known (P.facts port.old) (P.facts port.new) result }
 {
     send_again(terms.stamp, number.saturating_sub(1), &course.last, port);
@@ -131,11 +131,11 @@ fn close<P: Port>(terms: &Terms, number: u32, course: &mut Course, port: &mut P)
 
 /// Reads the next line and sends its move. Returns the end of the run, if it ends.
 fn step<L: LineReader, P: Port>(
-    terms: &Terms,
+    terms: &SendConfig,
     number: Count,
     reader: &mut L,
     line: &mut Vec<u8>,
-    course: &mut Course,
+    course: &mut SendState,
     port: &mut P,
 ) -> Option<End>
     ensures steps { StepsAt terms.now number (L.facts reader.old) (L.facts reader.new) course.old course.new (P.facts port.old) (P.facts port.new) result }
@@ -183,7 +183,7 @@ fn finish<W: Output>(out: &mut W, end: End, known: &Known) -> Result<Ended, Writ
 /// show at that ply. The error comes only where the writer failed.
 pub fn send_game<L: LineReader, P: Port, W: Output>(
     alloc: Global,
-    terms: Terms,
+    terms: SendConfig,
     start: Position,
     reader: &mut L,
     port: &mut P,

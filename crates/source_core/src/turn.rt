@@ -23,7 +23,7 @@ const MOST_ANSWERS: u64 = u64::MAX;
 
 /// The terms on which the moves of a game are sent.
 #[derive(Clone, Copy)]
-pub struct Terms {
+pub struct SendConfig {
     /// The stamp of the game, which each of its messages carries.
     pub stamp: Stamp,
     /// How often a turn sends its move at most, each time to all addresses: 1 to 2^32 - 1 times. The last acknowledged move is sent
@@ -120,7 +120,7 @@ fn times_at(index: u32) -> u32
 
 /// How long the next datagram is awaited in a try: where both have acknowledged the move, two milliseconds for the verdicts that may
 /// follow.
-fn wait_at(terms: &Terms, index: u32, number: u32, known: &Known) -> Duration
+fn wait_at(terms: &SendConfig, index: u32, number: u32, known: &Known) -> Duration
     ensures { IsWaitBy terms.now.wait index number known.now (as_nanos result) }
 {
     match known.standing(number) {
@@ -131,7 +131,7 @@ fn wait_at(terms: &Terms, index: u32, number: u32, known: &Known) -> Duration
 
 /// Receives datagrams and adds their reports, until none comes in time, both have reported a verdict, or 2^64 - 1 datagrams came.
 pub(crate) fn receive_all<P: Port>(
-    terms: &Terms,
+    terms: &SendConfig,
     index: u32,
     number: u32,
     known: &mut Known,
@@ -179,7 +179,7 @@ fn loss_of(next: Next) -> Option<Turn>
 
 /// Sends a datagram to each address, and receives what comes then. Returns the end of the turn, if it ends.
 fn try_once<P: Port>(
-    terms: &Terms,
+    terms: &SendConfig,
     index: u32,
     number: u32,
     known: &mut Known,
@@ -221,7 +221,7 @@ pub(crate) fn send_again<P: Port>(stamp: Stamp, number: u32, last: &Option<Move>
 /// A move that is acknowledged already isn't sent. Nothing else is sent. A reported verdict that the board belies ends the turn after
 /// its try.
 pub fn take_turn<P: Port>(
-    terms: &Terms,
+    terms: &SendConfig,
     number: u32,
     m: Move,
     board: Board<'_>,

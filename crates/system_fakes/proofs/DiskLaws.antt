@@ -4,8 +4,8 @@ use Rattle.std.specs.Prelude.{OnOk, Result, Ok, Err}
 use Rattle.std.proofs.lemmas.Bool.{cases_lt}
 use Rattle.std.proofs.lemmas.List.{get_or_past, get_or_append_left}
 use Rattle.std.proofs.Math.Seq.{get_or-append_seam}
-use Rattle.system_fakes.specs.declared.disk_file.Choice.{Choice}
-use Rattle.system_fakes.specs.declared.disk_file.Choice.TheVariants.{StaysUp, PowerLost}
+use Rattle.system_fakes.specs.declared.disk_file.Crash.{Crash}
+use Rattle.system_fakes.specs.declared.disk_file.Crash.TheVariants.{StaysUp, PowerLost}
 use Rattle.system_fakes.specs.declared.disk_file.Content.{Content}
 use Rattle.system_fakes.specs.declared.disk_file.DiskFile.{DiskFile}
 use Rattle.system_io.specs.KeptFiles.{IsOneOfFound, Renamed}
@@ -136,7 +136,7 @@ renamed_so (Err fault) beside mid e same named name = tt
 renamed_so (Ok x) beside mid e same named name = λ bytes s. (named bytes (subst (λ (h : Held). HoldsSynced h bytes) (sym same) s), name)
 
 -- what is read after a loss of power is what it left
-pub read_so : (d e : DiskFile) (choice : Choice) (got : Option (List ℕ)) → IsOneOfFound (disk_facts e) got → RestsAfter choice e → IsLeftBy d choice (seen e) → IsReadAfter d choice got
+pub read_so : (d e : DiskFile) (choice : Crash) (got : Option (List ℕ)) → IsOneOfFound (disk_facts e) got → RestsAfter choice e → IsLeftBy d choice (seen e) → IsReadAfter d choice got
 read_so d e StaysUp got one rest left = tt
 read_so d e (PowerLost which bytes beside) got one rest left = left_so e got one rest ∙ left
 

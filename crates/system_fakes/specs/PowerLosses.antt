@@ -1,7 +1,7 @@
 -- A disk that loses power, and what a start then finds under a name (this project's own).
 use Rattle.std.specs.Prelude.{◌≡◌, ◌⊎◌, ◌-◌, ℕ, Bool, true, false, cond, List, [], length, Option, Some, None, slice_index_or}
-use Rattle.system_fakes.specs.declared.disk_file.Choice.{Choice}
-use Rattle.system_fakes.specs.declared.disk_file.Choice.TheVariants.{StaysUp, PowerLost}
+use Rattle.system_fakes.specs.declared.disk_file.Crash.{Crash}
+use Rattle.system_fakes.specs.declared.disk_file.Crash.TheVariants.{StaysUp, PowerLost}
 use Rattle.system_fakes.specs.declared.disk_file.Content.{Content}
 use Rattle.system_fakes.specs.declared.disk_file.DiskFile.{DiskFile}
 use Rattle.system_fakes.specs.declared.disk_file.Outcome.{Outcome}
@@ -108,16 +108,16 @@ disk_facts d = record { reached = HasReached d; finds = LeavesOneOf d; settled =
 -- ---- how a run ends
 
 -- this stands under the name after a stop
-abbrev pub IsLeftBy : DiskFile → Choice → Option (List ℕ) → Type 0
+abbrev pub IsLeftBy : DiskFile → Crash → Option (List ℕ) → Type 0
 IsLeftBy d StaysUp left = left ≡ seen d
 IsLeftBy d (PowerLost which bytes beside) left = left ≡ after_stop d which bytes.items
 
 -- after a loss of power the folder and what stands under the name are on the platter
-abbrev pub RestsAfter : Choice → DiskFile → Type 0
+abbrev pub RestsAfter : Crash → DiskFile → Type 0
 RestsAfter StaysUp d = Unit {0}
 RestsAfter (PowerLost which bytes beside) d = IsAtRest d
 
 -- after a loss of power what it left is read
-abbrev pub IsReadAfter : DiskFile → Choice → Option (List ℕ) → Type 0
+abbrev pub IsReadAfter : DiskFile → Crash → Option (List ℕ) → Type 0
 IsReadAfter d StaysUp got = Unit {0}
 IsReadAfter d (PowerLost which bytes beside) got = got ≡ after_stop d which bytes.items

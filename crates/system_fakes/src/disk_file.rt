@@ -35,7 +35,7 @@ pub enum Outcome {
 
 /// How a run ends, and what that does to the disk.
 #[derive(Drop)]
-pub enum Choice {
+pub enum Crash {
     /// The process stops, and the system goes on.
     StaysUp,
     /// The power is lost. The fields say which of the candidate files has the name, what is left of one that isn't
@@ -358,14 +358,14 @@ impl DiskFile {
     }
 
     /// The disk as the next run finds it.
-    pub fn stop(self, choice: Choice) -> DiskFile
+    pub fn stop(self, choice: Crash) -> DiskFile
         ensures left { IsLeftBy self choice (seen result) }
         ensures rest { RestsAfter choice result }
         ensures same { (a b : Option (List ℕ)) → (disk_facts self).finds a b → (disk_facts result).finds a b }
     {
         match choice {
-            Choice::StaysUp => self,
-            Choice::PowerLost {
+            Crash::StaysUp => self,
+            Crash::PowerLost {
                 which,
                 bytes,
                 beside,
@@ -379,7 +379,7 @@ impl DiskFile {
 pub fn read_after(
     alloc: Global,
     disk: DiskFile,
-    choice: Choice,
+    choice: Crash,
 ) -> Result<Option<Vec<u8>>, ReadFault>
     ensures left { IfOk result (λ got. IsReadAfter disk choice (bytes_of got)) }
     ensures one { IfOk result (λ got. IsOneOfFound (disk_facts disk) (bytes_of got)) }

@@ -10,8 +10,8 @@
 //! - `MemoryPort`: datagrams that come turn by turn (`Turn`), so that they are lost, repeated and reordered; it records all traffic
 //!   (`Passage`)
 //! - `MemorySocket`: a socket for `UdpPort`, at which datagrams come (`Arrival`); it records its calls (`MadeSocketCall`)
-//! - `MemoryCalls`: the calls for a `Traced` file; it records them (`MadeCall`)
-//! - `DiskFile`: a file on a disk that loses power (`Choice`). A call of it may fail before, halfway or after (`Outcome`). `read_after`
+//! - `MemoryCalls`: the calls for a `CallLog` file; it records them (`MadeCall`)
+//! - `DiskFile`: a file on a disk that loses power (`Crash`). A call of it may fail before, halfway or after (`Outcome`). `read_after`
 //!   is what a start reads then
 //!
 //! Definitions, in reading order: `MemoryDisks`, `MemoryInputs`, `MemoryPorts`, `MemorySockets`, `MemoryCalls`, `PowerLosses`. Its tests
@@ -31,7 +31,7 @@ mod memory_port;
 mod memory_socket;
 mod texts;
 
-pub use disk_file::{Choice, DiskFile, Outcome, read_after};
+pub use disk_file::{Crash, DiskFile, Outcome, read_after};
 pub use memory_calls::{MadeCall, MemoryCalls};
 pub use memory_disk::{AtPath, MemoryDisk};
 pub use memory_input::{MemoryInput, MemoryLines};

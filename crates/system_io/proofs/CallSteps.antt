@@ -9,7 +9,7 @@ use Rattle.system_io.specs.FileCalls.{Call, CallFacts, FindsBy, AtStart, Kept, N
 use Rattle.system_io.specs.Histories.{EndsWith, Passes}
 use Rattle.system_io.specs.KeptFiles.{bytes_of}
 use Rattle.system_io.specs.Traces.{AreOneOf, Bytes, HasTheseBytes, IsOneOf, SaysOneOf}
-use Rattle.system_io.specs.declared.traced_file.Traced.{Traced}
+use Rattle.system_io.specs.declared.call_log.CallLog.{CallLog}
 
 abbrev pub Told : Type 0
 Told = Option (List Call)
@@ -83,7 +83,7 @@ pub names_so : (a b : Found) (stands stands' : Option Bytes) (earlier earlier' :
 names_so a b stands stands' earlier earlier' p q h = record { now = subst (λ (o : Option Bytes). IsOneOf a b o) (sym p) h.now; before = subst (λ (os : List (Option Bytes)). AllByRecursion (IsOneOf a b) os) (sym q) h.before }
 
 -- what may stand under the name stays
-pub still_says : {C : Type 0} (facts : C → CallFacts) (t u : Traced C) (after : C) (a b : Found) → u.is_known ≡ t.is_known → u.stands ≡ t.stands → u.earlier ≡ t.earlier → u.calls ≡ after → (IfSome (facts t.calls).made (FindsBy a b) → IfSome (facts after).made (FindsBy a b)) → SaysOneOf facts t a b → SaysOneOf facts u a b
+pub still_says : {C : Type 0} (facts : C → CallFacts) (t u : CallLog C) (after : C) (a b : Found) → u.is_known ≡ t.is_known → u.stands ≡ t.stands → u.earlier ≡ t.earlier → u.calls ≡ after → (IfSome (facts t.calls).made (FindsBy a b) → IfSome (facts after).made (FindsBy a b)) → SaysOneOf facts t a b → SaysOneOf facts u a b
 still_says {C} facts t u after a b known stands earlier calls step h = record {
   known = known ∙ h.known;
   names = names_so a b t.stands u.stands t.earlier.items u.earlier.items stands (λ i. (earlier i).items) h.names;
@@ -91,7 +91,7 @@ still_says {C} facts t u after a b known stands earlier calls step h = record {
 }
 
 -- a file with these bytes may have the name from now on
-pub named_says : {C : Type 0} (facts : C → CallFacts) (t u : Traced C) (before after : C) (old : Found) (bytes : List ℕ) → u.is_known ≡ t.is_known → AreOneOf old (Some bytes) u.stands u.earlier.items → before ≡ t.calls → u.calls ≡ after → (IfSome (facts before).made (FindsBy old old) → IfSome (facts after).made (FindsBy old (Some bytes))) → SaysOneOf facts t old old → SaysOneOf facts u old (Some bytes)
+pub named_says : {C : Type 0} (facts : C → CallFacts) (t u : CallLog C) (before after : C) (old : Found) (bytes : List ℕ) → u.is_known ≡ t.is_known → AreOneOf old (Some bytes) u.stands u.earlier.items → before ≡ t.calls → u.calls ≡ after → (IfSome (facts before).made (FindsBy old old) → IfSome (facts after).made (FindsBy old (Some bytes))) → SaysOneOf facts t old old → SaysOneOf facts u old (Some bytes)
 named_says {C} facts t u before after old bytes known names was calls step h = record {
   known = known ∙ h.known;
   names = names;

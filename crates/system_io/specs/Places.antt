@@ -6,7 +6,7 @@ use Rattle.std.specs.declared.net.socket_addr.SocketAddr.{SocketAddr}
 use Rattle.system_io.specs.Recipients.{IsAddressed, addressed_word}
 use Rattle.system_io.specs.declared.lock_file.LockFile.{LockFile}
 use Rattle.system_io.specs.declared.system_file.SystemCalls.{SystemCalls}
-use Rattle.system_io.specs.declared.traced_file.Traced.{Traced}
+use Rattle.system_io.specs.declared.call_log.CallLog.{CallLog}
 use Rattle.system_io.specs.declared.udp_port.UdpPort.{UdpPort}
 
 -- the port was bound to this address, and sends to those whom these words name
@@ -24,7 +24,7 @@ abbrev pub AreFor : {X Y Z : Type 0} → List ℕ → SystemCalls X Y Z → Type
 AreFor path calls = string_bytes calls.path ≡ path
 
 -- the file is the one at this path
-abbrev pub IsAtPath : {X Y Z : Type 0} → List ℕ → Traced (SystemCalls X Y Z) → Type 0
+abbrev pub IsAtPath : {X Y Z : Type 0} → List ℕ → CallLog (SystemCalls X Y Z) → Type 0
 IsAtPath path file = AreFor path file.calls
 
 -- the file that is locked is the one at this path

@@ -9,7 +9,7 @@ use Rattle.system_io.specs.Outputs.{OutputFacts}
 use Rattle.system_io.specs.Ports.{PortFacts}
 use Rattle.system_io.specs.declared.host.LockFault.{LockFault}
 use Rattle.system_io.specs.declared.system_file.SystemCalls.{SystemCalls}
-use Rattle.system_io.specs.declared.traced_file.Traced.{Traced}
+use Rattle.system_io.specs.declared.call_log.CallLog.{CallLog}
 use Rattle.system_io.specs.declared.udp_port.UdpPort.{UdpPort}
 use Rattle.system_io.specs.Traces.{IsAmong}
 use Rattle.system_io.specs.Hosts.{HostFacts}
@@ -57,7 +57,7 @@ system_calls = record { made = None; fails = λ _. Unit {0} }
 -- KEPT FILE: a start reads one of the contents that may stand under the name, by the calls of the last run that had a
 -- keeper and their results. These are what was read when that run began, and each record that was to take the name since
 -- the folder was last synced. A start that failed since then changed nothing there.
-pub record IsAsTold {C : Type 0} (left : Traced C) (read : Option (List ℕ)) : Type 0 where
+pub record IsAsTold {C : Type 0} (left : CallLog C) (read : Option (List ℕ)) : Type 0 where
   pub among : left.is_known ≡ true → IsAmong read (left.stands ∷ left.earlier.items)
 
 -- LOCK: the lock of a file that the system gives to a process it gives to no other one until the process lets it go or ends; where it
@@ -71,5 +71,5 @@ system_bars path fault = Unit {0}
 -- HOST: a socket that was made for an address is bound to it, and listens at the address that it tells as its own; the calls for a
 -- path are made at that path; an address that the system refuses can't be bound, and where it tells that memory was refused, memory
 -- was refused
-abbrev pub system_host : {C S W X Y Z : Type 0} → HostFacts (UdpPort C S W) (Traced (SystemCalls X Y Z))
+abbrev pub system_host : {C S W X Y Z : Type 0} → HostFacts (UdpPort C S W) (CallLog (SystemCalls X Y Z))
 system_host = record { is_told = true; binds = IsBound; listens = ListensAt; refuses = λ _ _. Unit {0}; is_at = IsAtPath; takes_memory = λ _. Unit {0}; gives_lock = system_gives; bars = system_bars }

@@ -4,7 +4,7 @@
 //! Each is a trait (`Disk`, `Input` with `LineReader`, `Output`, `Port`, `KeptFile`, `RecordStore`, `Stores`, `Host`). Its `facts`, a record with named
 //! fields, are all that a proof sees of it. Beside it stands the system's own instance (`SystemDisk`, `SystemInput`,
 //! `BufferedOutput`, `UdpPort`, `SystemFile`, `SystemHost`); those in memory, for tests and laws, are in `system_fakes`.
-//! `specs/Premises.antt` says what is trusted of the system. `SystemFile` is `Traced` over the system's calls (`FileCalls`): what a
+//! `specs/Premises.antt` says what is trusted of the system. `SystemFile` is `CallLog` over the system's calls (`FileCalls`): what a
 //! start finds follows from the calls that it made and their results.
 //! Of the system's files what is no regular one is refused before it is opened (`opening`), and what is opened to be written is
 //! made where nothing stands (`beside_file`). A `Port` sends each datagram to each of its addresses in turn, and a send that fails
@@ -25,7 +25,7 @@
 //!   calls, so ordered that a start finds the old bytes or the new, wherever the calls stop.
 //! - CLAIM: `begin`, clauses `one`, `lasts`: where the file says of two contents that each start finds one or the other, what is
 //!   read is one of the two, and every later start finds it.
-//! - CLAIM: `Traced`, clauses `facts`, `one`; `read_as_told`: the system's file does what `KeptFile` says by its calls. Under
+//! - CLAIM: `CallLog`, clauses `facts`, `one`; `read_as_told`: the system's file does what `KeptFile` says by its calls. Under
 //!   `IsAsTold` a start reads one of any two contents of which the file said that each start finds one or the other.
 //! - CLAIM: `Disk`, clause `one`; `Disk::read`, clause `bytes`: what is no regular file gives no bytes (`HoldsOne`, field `file`).
 //! - CLAIM: `open_above_standard`: it returns a file whose descriptor is above 2, so that 0 to 2 are open.
@@ -44,6 +44,7 @@
 
 mod beside_file;
 mod bounded_lines;
+mod call_log;
 mod descriptors;
 mod disk;
 mod host;
@@ -65,10 +66,10 @@ mod system_disk;
 mod system_file;
 mod system_host;
 mod system_input;
-mod traced_file;
 mod udp_port;
 
 pub use bounded_lines::BoundedLines;
+pub use call_log::{CallLog, FileCalls, read_as_told};
 pub use descriptors::open_above_standard;
 pub use disk::{Disk, FileWithMode};
 pub use host::{BindFault, Host, LockFault};
@@ -86,5 +87,4 @@ pub use system_disk::SystemDisk;
 pub use system_file::{SystemCalls, SystemFile};
 pub use system_host::{SystemHost, Unrecorded};
 pub use system_input::SystemInput;
-pub use traced_file::{FileCalls, Traced, read_as_told};
 pub use udp_port::UdpPort;

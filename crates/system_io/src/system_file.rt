@@ -6,11 +6,11 @@ ghost use Rattle.system_io.specs.Places.{AreFor, IsAtPath};
 ghost use Rattle.system_io.specs.Reading.{IsAbsentOr};
 
 use crate::beside_file::{BesideFile, clear};
+use crate::call_log::{CallLog, FileCalls};
 use crate::kept_file::MOST_KEPT_BYTES;
 use crate::notes::tell_refused;
 use crate::opening::{open_regular, unopened};
 use crate::reading::{ReadFault, read_at_most, unread};
-use crate::traced_file::{FileCalls, Traced};
 use std::alloc::{AllocError, Global};
 use std::fs::File;
 use std::io::Write;
@@ -214,9 +214,9 @@ where
 }
 
 /// A file of the system.
-pub type SystemFile<'a, R, W> = Traced<SystemCalls<'a, R, W>>;
+pub type SystemFile<'a, R, W> = CallLog<SystemCalls<'a, R, W>>;
 
-impl<'a, R, W> Traced<SystemCalls<'a, R, W>>
+impl<'a, R, W> CallLog<SystemCalls<'a, R, W>>
 where
     R: Files<File = File> + AllocGlobal,
     W: Write + Copy + Drop,
@@ -230,6 +230,6 @@ where
     ) -> Result<SystemFile<'a, R, W>, AllocError>
         ensures { IfOk result (IsAtPath path.now) }
     {
-        Ok(Traced::new(alloc, SystemCalls::at(rt, alloc, notes, path)?))
+        Ok(CallLog::new(alloc, SystemCalls::at(rt, alloc, notes, path)?))
     }
 }

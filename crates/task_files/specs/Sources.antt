@@ -1,6 +1,6 @@
 -- What is read for a task (this project's own).
 use Rattle.std.specs.Prelude.{◌≡◌, ◌≤◌, ◌⊎◌, ◌||◌, ℕ, Bool, true, false, List, [], length, Option, Some, None, is_some, option_map}
-use Rattle.task_files.specs.declared.sources.Places.{Places}
+use Rattle.task_files.specs.declared.sources.InputPaths.{InputPaths}
 use Rattle.move_msg.specs.ToldManifests.{ToldManifest}
 use Rattle.task_files.specs.Given.{Given}
 use Rattle.system_io.specs.Disks.{DiskFacts, AtFile, HasMore, most_bytes}

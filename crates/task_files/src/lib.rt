@@ -13,7 +13,7 @@
 //! - CLAIM: `files_in`, clauses `ok`, `files`, `cause`: the files of a folder are exactly its wanted names, each once and in
 //!   order, with the bytes at their paths. They are refused only where the folder or one of them can't be read, or it lists one
 //!   of them twice.
-//! - CLAIM: `Sources::read`, clauses `given`, `cause`, `memory`, `some`: what is read for a task is what its places name. The
+//! - CLAIM: `Inputs::read`, clauses `given`, `cause`, `memory`, `some`: what is read for a task is what its places name. The
 //!   error comes only where one of these fails, a kept file has more than 8217 bytes, a wanted file is listed twice, or memory is
 //!   refused to a reading of a folder or a file or to an input that takes memory; there is none where nothing is named.
 #![tactic(auto)]
@@ -23,5 +23,5 @@ mod reading;
 mod sources;
 
 pub use file_name::FileName;
-pub use reading::{Look, files_in, looks_in};
-pub use sources::{Places, Sources, read_manifest};
+pub use reading::{TableRequest, files_in, looks_in};
+pub use sources::{InputPaths, Inputs, read_manifest};

@@ -111,7 +111,7 @@ fn wanted_names(
 }
 
 /// What is kept of a table's file that is read.
-pub trait Look: Drop {
+pub trait TableRequest: Drop {
     /// It is made of the file.
     ghost made_of: { Self → File → Type 0 };
 
@@ -120,7 +120,7 @@ pub trait Look: Drop {
         ensures { IfOk result (λ look. made_of look (table_file_of file)) };
 }
 
-impl Look for NamedFile {
+impl TableRequest for NamedFile {
     ghost use Rattle.std.specs.Prelude.{◌≡◌};
     ghost use Rattle.move_msg.specs.Files.{table_file_of};
 
@@ -131,7 +131,7 @@ impl Look for NamedFile {
     }
 }
 
-impl Look for Line {
+impl TableRequest for Line {
     ghost use Rattle.std.specs.Prelude.{◌≡◌};
     ghost use Rattle.move_msg.specs.Files.{entry_for};
     ghost use Rattle.move_msg.specs.Manifests.{IsEntry, entry_of};
@@ -196,7 +196,7 @@ fn tell_read<E: Write>(errors: &mut E, progress: bool, before: u64, now: u64)
 }
 
 /// Reads the files of these names in a folder one by one, and keeps a look made from each.
-fn look_at_files<D: Disk, L: Look, E: Write>(
+fn look_at_files<D: Disk, L: TableRequest, E: Write>(
     alloc: Global,
     disk: &D,
     folder: &str,
@@ -234,7 +234,7 @@ fn look_at_files<D: Disk, L: Look, E: Write>(
 /// `Unreadable` where the folder or one of these files can't be read or has more than 2^30 bytes, or the folder lists
 /// one of them twice. With `progress` a line such as `300 MB done` goes to `errors` after each hundred million bytes.
 /// Without it nothing is written there. A failure there changes nothing.
-pub fn looks_in<D: Disk, L: Look, E: Write>(
+pub fn looks_in<D: Disk, L: TableRequest, E: Write>(
     alloc: Global,
     disk: &D,
     folder: &str,

@@ -15,7 +15,7 @@ use system_io::{Disk, Input, MOST_KEPT_BYTES, ReadFault};
 
 /// What is read for a task: the folder of its tables, the file of its manifest, whether the input is, and kept files.
 #[derive(Clone, Copy)]
-pub struct Places<'a> {
+pub struct InputPaths<'a> {
     /// The path of the folder, if one is read.
     pub folder: Option<&'a str>,
     /// The path of the manifest, if one is read.
@@ -28,12 +28,12 @@ pub struct Places<'a> {
     pub other_kept: Option<&'a str>,
 }
 
-impl<'a> Places<'a> {
+impl<'a> InputPaths<'a> {
     /// Nothing is read.
-    pub fn none() -> Places<'a>
+    pub fn none() -> InputPaths<'a>
         ensures { named_by result ≡ nothing }
     {
-        Places {
+        InputPaths {
             folder: None,
             manifest: None,
             reads_input: false,
@@ -46,7 +46,7 @@ impl<'a> Places<'a> {
 /// What was read for a task. Contracts see the files, the contents of the manifest, the input, and the bytes of the
 /// kept files.
 #[derive(Drop)]
-pub struct Sources {
+pub struct Inputs {
     files: Vec<NamedFile>,
     manifest: Manifest,
     input: Vec<u8>,
@@ -54,7 +54,7 @@ pub struct Sources {
     other_kept: Vec<u8>,
 }
 
-impl Model for Sources {
+impl Model for Inputs {
     ghost use Rattle.std.specs.Prelude.{map};
     ghost use Rattle.move_msg.specs.Files.{AreFiles, table_file_of};
     ghost use Rattle.task_files.specs.Given.{Given};
@@ -147,7 +147,7 @@ fn read_texts<D: Disk, I: Input>(
     alloc: Global,
     disk: &D,
     input: &I,
-    places: &Places,
+    places: &InputPaths,
 ) -> Result<Texts, ReadFault>
     ensures ok { IfOk result (λ texts. AreTexts (D.facts disk.now) (I.facts input.now) (named_by places.now) texts.input.items texts.kept.items texts.other_kept.items) }
     ensures cause { IsErrOf result ReadFault.Unreadable → CannotRead (D.facts disk.now) (I.facts input.now) (named_by places.now) }
@@ -172,7 +172,7 @@ fn read_texts<D: Disk, I: Input>(
     }
 }
 
-impl Sources {
+impl Inputs {
     /// Reads what these places name: the manifest, the wanted files of the folder, the input where it is wanted, and kept files.
     ///
     /// Files whose names are not those of tables are ignored, and with a manifest those that it doesn't name.
@@ -183,8 +183,8 @@ impl Sources {
         alloc: Global,
         disk: &D,
         input: &I,
-        places: &Places,
-    ) -> Result<Sources, ReadFault>
+        places: &InputPaths,
+    ) -> Result<Inputs, ReadFault>
         ensures given { IfOk result (IsGiven (D.facts disk.now) (I.facts input.now) (named_by places.now)) }
         ensures cause { IsErrOf result ReadFault.Unreadable → CannotRead (D.facts disk.now) (I.facts input.now) (named_by places.now) }
         ensures some { OnErr result (reads_some (named_by places.now) ≡ true) }
@@ -199,7 +199,7 @@ impl Sources {
             Err(fault) => return Err(fault),
         };
         match read_texts(alloc, disk, input, places) {
-            Ok(texts) => Ok(Sources {
+            Ok(texts) => Ok(Inputs {
                 files,
                 manifest,
                 input: texts.input,

@@ -1,8 +1,8 @@
 -- What starts find in the files of two hosts is what the theorem of two hosts asks of the outside.
 use Rattle.std.proofs.Common.{◌≡◌, ◌∙◌, ◌<◌, ◌≤◌, ℕ, length, arith, Bool, true, false, cond, List, [], ◌∷◌, ◌++◌, Option, Some, None, refl, sym, ap, subst, inl, inr, ◌⊎◌, ⊎_elim}
 use Rattle.std.specs.Prelude.{IfSome, Ok, Err}
-use Rattle.move_msg.specs.declared.who.Who.{Who}
-use Rattle.move_msg.specs.declared.who.Who.TheVariants.{A, B}
+use Rattle.move_msg.specs.declared.arbiter_id.ArbiterId.{ArbiterId}
+use Rattle.move_msg.specs.declared.arbiter_id.ArbiterId.TheVariants.{A, B}
 use Rattle.move_msg.specs.declared.message.Message.{Message}
 use Rattle.move_msg.specs.Records.{WritesRecord}
 use Rattle.move_msg.specs.Stamps.{IsGameName, is_printable}
@@ -22,18 +22,18 @@ use Rattle.arbiter_core.specs.Keeping.{HasBytes}
 use Rattle.arbiter_core.specs.Laws.{PutsGrow}
 use Rattle.arbiter_core.specs.Opens as opening
 use Rattle.arbiter_core.specs.Opens.{FirstLands, IsOpening, Opens as OpensSo, OpensOver as OpensKept, PutsFirst, first_record}
-use Rattle.arbiter_core.specs.Recording.{Recorded, Window}
+use Rattle.arbiter_core.specs.Recording.{Recorded, ReorderBuffer}
 use Rattle.arbiter_core.specs.Setups.{IsGood, SetupView, rules_at}
 use Rattle.arbiter_core.specs.Views.{View, spelled_as}
 use Rattle.arbiter_server.specs.declared.file_keeper.FileKeeper.{FileKeeper}
-use Rattle.arbiter_server.specs.Acts.{Act, Unread, Strange, Refuses, Opens, Answers, Closes, Opening, game_of, is_stamp}
+use Rattle.arbiter_server.specs.Acts.{Action, Unread, Strange, Refuses, Opens, Answers, Closes, Opening, game_of, is_stamp}
 use Rattle.arbiter_server.specs.DiskGames.{disk_keepers}
 use Rattle.arbiter_server.specs.StoredBytes.{Failed, IsInFile, Landed, PutsInto, keeper_file, keeper_over, stored}
 use Rattle.arbiter_server.proofs.FoundLaws.{IsSafe, safe_up}
 use Rattle.arbiter_server.proofs.OpenedLaws.{opened_safe}
 use Rattle.relay_world.specs.Worlds.{Judged, identity}
-use Rattle.theorems.specs.Nets.{FoundAnswered, FoundOpened, IsNoForgery, IsSetupOf, IsToBePut, Net, Site, changed, first_net, sent_with, site_of}
-use Rattle.theorems.specs.Weaves.{AnswersDatagram, AtA, AtB, Deed, Does, Ends, Finds, GivesFor, GivesIf, GivesOwn, IsCutAtFirst, IsSiteCutAtPut, Step, Stops, Weaves, closed_with, open_with}
+use Rattle.theorems.specs.Nets.{FoundAnswered, FoundOpened, IsNoForgery, IsSetupOf, IsToBePut, SystemState, Site, changed, first_net, sent_with, site_of}
+use Rattle.theorems.specs.Interleavings.{AnswersDatagram, AtA, AtB, HostEvent, Does, Ends, Finds, GivesFor, GivesIf, GivesOwn, IsCutAtFirst, IsSiteCutAtPut, Step, Stops, Interleaving, closed_with, open_with}
 use Rattle.theorems.specs.FileWeaves.{ActsAt, ActsIf, AnswersOver, AtFirst, AtPut, AtStart, Between, Both, DoesAt, EndsLeaving, FilesAreWoven, GoBoth, Held, IsFoundIn, OpensOverFile, Plays, Rests, first_both, sent_by_act, sent_for}
 use Rattle.theorems.proofs.Weaving.{is_one, still}
 
@@ -87,7 +87,7 @@ good_or_not setup = long (cases_lt (length setup.name) 1)
 
 -- ---- an opening that is refused
 
-module _ {F : Type 0} (facts : F → KeptFacts) (game : Judged) (who : Who) (setup : SetupView) (is_setup : IsSetupOf game who setup) (before now : FileKeeper F) (fault : OpenFault) (in_file : IsInFile facts before) (found : Option (List ℕ)) (one : IsOneOfFound (facts (keeper_file now)) found) where
+module _ {F : Type 0} (facts : F → KeptFacts) (game : Judged) (who : ArbiterId) (setup : SetupView) (is_setup : IsSetupOf game who setup) (before now : FileKeeper F) (fault : OpenFault) (in_file : IsInFile facts before) (found : Option (List ℕ)) (one : IsOneOfFound (facts (keeper_file now)) found) where
   abbrev FoundSo : Type 0
   FoundSo = FoundOpened (keeper_over facts) game setup (stored before) now (Err fault) found
 
@@ -150,7 +150,7 @@ module _ {F : Type 0} (facts : F → KeptFacts) (at : Moment (FileKeeper F)) (e 
   not_moved : (a : Answer) → e.after.keeper ≡ at.keeper → AnsweredSo a
   not_moved a same = inl (one_found facts (keeper_file e.after.keeper) found (stored e.after.keeper) one (subst (IsInFile facts) (sym same) in_file))
 
-  put_so : (next : Recorded) (outputs : List Message) (window : Window) → e.after.arbiter.is_down ≡ true → at.arbiter.is_down ≡ false → PutsIfAny (keeper_over facts) at.arbiter at.keeper e.after.keeper e.after.arbiter e.told (Puts next outputs window) → AnsweredSo (Puts next outputs window)
+  put_so : (next : Recorded) (outputs : List Message) (window : ReorderBuffer) → e.after.arbiter.is_down ≡ true → at.arbiter.is_down ≡ false → PutsIfAny (keeper_over facts) at.arbiter at.keeper e.after.keeper e.after.arbiter e.told (Puts next outputs window) → AnsweredSo (Puts next outputs window)
   put_so next outputs window down up (inl u) = not_moved (Puts next outputs window) u.keeper
   put_so next outputs window down up (inr q) = by q.once (failed_at q.keep q.lands)
     where
@@ -187,25 +187,25 @@ site_at (Rests file) found = closed_with found
 site_at (Plays at) found = open_with found (Some at.arbiter)
 
 -- by what is found after a deed it is known what was found before it, and the deed leads from there
-record Back {F : Type 0} (facts : F → KeptFacts) (game : Judged) (who : Who) (log : List Message) (old : Held F) (deed : Deed (FileKeeper F)) (new : Held F) (later : Option (List ℕ)) : Type 0 where
+record Back {F : Type 0} (facts : F → KeptFacts) (game : Judged) (who : ArbiterId) (log : List Message) (old : Held F) (deed : HostEvent (FileKeeper F)) (new : Held F) (later : Option (List ℕ)) : Type 0 where
   found : Option (List ℕ)
   is_found : IsFoundIn facts old found
-  gives : (net : Net) → site_of net who ≡ site_at old found → net.log ≡ log → GivesFor (keeper_over facts) game net who deed (changed net who (site_at new later) (sent_for game deed))
+  gives : (net : SystemState) → site_of net who ≡ site_at old found → net.log ≡ log → GivesFor (keeper_over facts) game net who deed (changed net who (site_at new later) (sent_for game deed))
 
-module _ (grow : PutsGrow) {F : Type 0} (facts : F → KeptFacts) (game : Judged) (who : Who) (log : List Message) where
+module _ (grow : PutsGrow) {F : Type 0} (facts : F → KeptFacts) (game : Judged) (who : ArbiterId) (log : List Message) where
   -- nothing changes
-  same_back : (old new : Held F) (later : Option (List ℕ)) (net : Net) → new ≡ old → site_of net who ≡ site_at old later → changed net who (site_at new later) [] ≡ net
+  same_back : (old new : Held F) (later : Option (List ℕ)) (net : SystemState) → new ≡ old → site_of net who ≡ site_at old later → changed net who (site_at new later) [] ≡ net
   same_back old new later net same at = ap (λ (s : Site). changed net who s []) (ap (λ (h : Held F). site_at h later) same ∙ sym at) ∙ sym (still net who)
 
   found_before : (old new : Held F) (later : Option (List ℕ)) → new ≡ old → IsFoundIn facts new later → IsFoundIn facts old later
   found_before old new later same h = subst (λ (x : Held F). IsFoundIn facts x later) same h
 
-  kept_at : (net : Net) (s : Site) (found : Option (List ℕ)) → site_of net who ≡ s → s.kept ≡ found → (site_of net who).kept ≡ found
+  kept_at : (net : SystemState) (s : Site) (found : Option (List ℕ)) → site_of net who ≡ s → s.kept ≡ found → (site_of net who).kept ≡ found
   kept_at net s found at e = ap (λ (x : Site). x.kept) at ∙ e
 
   -- ---- openings
 
-  refused_back : (file : F) (o : Opening (FileKeeper F)) (fault : OpenFault) (new : Held F) (later : Option (List ℕ)) → OpensOverFile facts game who file o (Err fault) new → IsFoundIn facts new later → (net : Net) → site_of net who ≡ closed_with (stored o.before) → Finds (keeper_over facts) game net who o (Err fault) (changed net who (site_at new later) [])
+  refused_back : (file : F) (o : Opening (FileKeeper F)) (fault : OpenFault) (new : Held F) (later : Option (List ℕ)) → OpensOverFile facts game who file o (Err fault) new → IsFoundIn facts new later → (net : SystemState) → site_of net who ≡ closed_with (stored o.before) → Finds (keeper_over facts) game net who o (Err fault) (changed net who (site_at new later) [])
   refused_back file o fault new later h found net at = record {
     start = ap (λ r. r.start) h.is_setup.rules;
     delay = ap (λ r. r.delay) h.is_setup.rules;
@@ -217,7 +217,7 @@ module _ (grow : PutsGrow) {F : Type 0} (facts : F → KeptFacts) (game : Judged
     net = ap (λ (x : Held F). changed net who (site_at x later) []) h.to;
   }
 
-  opened_back : (file : F) (o : Opening (FileKeeper F)) (v : View) (new : Held F) (later : Option (List ℕ)) → OpensOverFile facts game who file o (Ok v) new → IsFoundIn facts new later → (net : Net) → site_of net who ≡ closed_with (stored o.before) → Finds (keeper_over facts) game net who o (Ok v) (changed net who (site_at new later) [])
+  opened_back : (file : F) (o : Opening (FileKeeper F)) (v : View) (new : Held F) (later : Option (List ℕ)) → OpensOverFile facts game who file o (Ok v) new → IsFoundIn facts new later → (net : SystemState) → site_of net who ≡ closed_with (stored o.before) → Finds (keeper_over facts) game net who o (Ok v) (changed net who (site_at new later) [])
   opened_back file o v new later h found net at = record {
     start = ap (λ r. r.start) h.is_setup.rules;
     delay = ap (λ r. r.delay) h.is_setup.rules;
@@ -229,7 +229,7 @@ module _ (grow : PutsGrow) {F : Type 0} (facts : F → KeptFacts) (game : Judged
 
   -- ---- answers
 
-  answer_back : (at : Moment (FileKeeper F)) (e : Exchange (FileKeeper F)) (new : Held F) (later : Option (List ℕ)) → IsSafe facts at → AnswersOver facts game log at e new → IsFoundIn facts new later → (net : Net) → site_of net who ≡ open_with (stored at.keeper) (Some at.arbiter) → net.log ≡ log → AnswersDatagram (keeper_over facts) game net who e (changed net who (site_at new later) (sent_with e.told))
+  answer_back : (at : Moment (FileKeeper F)) (e : Exchange (FileKeeper F)) (new : Held F) (later : Option (List ℕ)) → IsSafe facts at → AnswersOver facts game log at e new → IsFoundIn facts new later → (net : SystemState) → site_of net who ≡ open_with (stored at.keeper) (Some at.arbiter) → net.log ≡ log → AnswersDatagram (keeper_over facts) game net who e (changed net who (site_at new later) (sent_with e.told))
   answer_back at e new later safe h found net here same = by e.after.arbiter.is_down refl
     where
       came : IsNoForgery game net.log e.datagram
@@ -261,8 +261,8 @@ module _ (grow : PutsGrow) {F : Type 0} (facts : F → KeptFacts) (game : Judged
 
   -- ---- acts
 
-  act_back : (old : Held F) (act : Act (FileKeeper F)) (new : Held F) (later : Option (List ℕ)) → Holds facts old → is_stamp game.stamp (game_of act) ≡ true → ActsAt facts game who log old act new → IsFoundIn facts new later
-      → (found : Option (List ℕ)) × IsFoundIn facts old found × ((net : Net) → site_of net who ≡ site_at old found → net.log ≡ log → GivesOwn (keeper_over facts) game net who act (changed net who (site_at new later) (sent_by_act act)))
+  act_back : (old : Held F) (act : Action (FileKeeper F)) (new : Held F) (later : Option (List ℕ)) → Holds facts old → is_stamp game.stamp (game_of act) ≡ true → ActsAt facts game who log old act new → IsFoundIn facts new later
+      → (found : Option (List ℕ)) × IsFoundIn facts old found × ((net : SystemState) → site_of net who ≡ site_at old found → net.log ≡ log → GivesOwn (keeper_over facts) game net who act (changed net who (site_at new later) (sent_by_act act)))
   act_back old (Unread datagram fault) new later safe own h found = (later, found_before old new later h found, λ net at same. same_back old new later net h at)
   act_back old (Strange stamp datagram tried why) new later safe own h found = (later, found_before old new later h found, λ net at same. same_back old new later net h at)
   act_back (Rests file) (Refuses stamp datagram o fault) new later safe own h found = (stored o.before, h.starts.one, λ net at same. refused_back file o fault new later h found net at)
@@ -279,7 +279,7 @@ module _ (grow : PutsGrow) {F : Type 0} (facts : F → KeptFacts) (game : Judged
           one_found facts (keeper_file left) later (stored now.keeper) (subst (λ (x : Held F). IsFoundIn facts x later) h.1 found)
           (subst (λ (k : FileKeeper F). (facts (keeper_file k)).finds (stored now.keeper) (stored now.keeper)) (sym h.0) (safe_in_file facts now safe))
 
-      by : (net : Net) → site_of net who ≡ open_with (stored now.keeper) (Some now.arbiter) → changed net who (site_at new later) [] ≡ changed net who (closed_with (site_of net who).kept) []
+      by : (net : SystemState) → site_of net who ≡ open_with (stored now.keeper) (Some now.arbiter) → changed net who (site_at new later) [] ≡ changed net who (closed_with (site_of net who).kept) []
       by net at =
           ap (λ (x : Held F). changed net who (site_at x later) []) h.1
           ∙ ap (λ (x : Option (List ℕ)). changed net who (closed_with x) []) (there ∙ sym (kept_at net (open_with (stored now.keeper) (Some now.arbiter)) (stored now.keeper) at refl))
@@ -287,7 +287,7 @@ module _ (grow : PutsGrow) {F : Type 0} (facts : F → KeptFacts) (game : Judged
   -- ---- the end of a run
 
   abbrev EndsSo : Held F → Option (List ℕ) → Type 0
-  EndsSo old later = (found : Option (List ℕ)) × IsFoundIn facts old found × ((net : Net) → site_of net who ≡ site_at old found → net.log ≡ log → Stops game net who (changed net who (closed_with later) []))
+  EndsSo old later = (found : Option (List ℕ)) × IsFoundIn facts old found × ((net : SystemState) → site_of net who ≡ site_at old found → net.log ≡ log → Stops game net who (changed net who (closed_with later) []))
 
   at_rest : (old : Held F) (found later : Option (List ℕ)) → IsFoundIn facts old found → later ≡ found → ((site_at old found).kept ≡ found) → EndsSo old later
   at_rest old found later is same kept = (found, is, λ net at l. record { found = later; is_found = inl (same ∙ sym (kept_at net (site_at old found) found at kept)); net = refl })
@@ -311,7 +311,7 @@ module _ (grow : PutsGrow) {F : Type 0} (facts : F → KeptFacts) (game : Judged
       put : later ≡ Some cut.sent → IsToBePut now.arbiter (answer_at now.arbiter cut.datagram) later
       put e = subst (λ (a : Answer). IsToBePut now.arbiter a later) cut.wanted (subst (IsWritten now.arbiter.me.stamp now.arbiter.setup.delay cut.next) (sym e) cut.spells)
 
-      stops : (net : Net) → site_of net who ≡ open_with (stored now.keeper) (Some now.arbiter) → net.log ≡ log → Stops game net who (changed net who (closed_with later) [])
+      stops : (net : SystemState) → site_of net who ≡ open_with (stored now.keeper) (Some now.arbiter) → net.log ≡ log → Stops game net who (changed net who (closed_with later) [])
       stops net at l = record { found = later; is_found = by (cut_found facts (keeper_file now.keeper) left later (stored now.keeper) cut.sent (safe_in_file facts now (subst (Holds facts) same safe)) cut.cut one); net = refl }
         where
           by : (later ≡ stored now.keeper) ⊎ (later ≡ Some cut.sent) → (later ≡ (site_of net who).kept) ⊎ (IsSiteCutAtPut game net.log (site_of net who) later ⊎ IsCutAtFirst game who (site_of net who) later)
@@ -320,7 +320,7 @@ module _ (grow : PutsGrow) {F : Type 0} (facts : F → KeptFacts) (game : Judged
   ends_back old left later safe (AtFirst file same start over none setup is_setup sent writes cut) one =
       (stored start, subst (λ (x : Held F). IsFoundIn facts x (stored start)) (sym same) over.one, λ net at l. stops net (at ∙ ap (λ (x : Held F). site_at x (stored start)) same))
     where
-      stops : (net : Net) → site_of net who ≡ closed_with (stored start) → Stops game net who (changed net who (closed_with later) [])
+      stops : (net : SystemState) → site_of net who ≡ closed_with (stored start) → Stops game net who (changed net who (closed_with later) [])
       stops net at = record { found = later; is_found = by (cut_found facts (keeper_file start) left later (stored start) sent over.in_file cut one); net = refl }
         where
           by : (later ≡ stored start) ⊎ (later ≡ Some sent) → (later ≡ (site_of net who).kept) ⊎ (IsSiteCutAtPut game net.log (site_of net who) later ⊎ IsCutAtFirst game who (site_of net who) later)
@@ -329,13 +329,13 @@ module _ (grow : PutsGrow) {F : Type 0} (facts : F → KeptFacts) (game : Judged
 
   -- ---- a deed
 
-  deed_back : (old : Held F) (deed : Deed (FileKeeper F)) (new : Held F) (later : Option (List ℕ)) → Holds facts old → DoesAt facts game who log old deed new → IsFoundIn facts new later → Back facts game who log old deed new later
+  deed_back : (old : Held F) (deed : HostEvent (FileKeeper F)) (new : Held F) (later : Option (List ℕ)) → Holds facts old → DoesAt facts game who log old deed new → IsFoundIn facts new later → Back facts game who log old deed new later
   deed_back old (Does act) new later safe h found = by (is_stamp game.stamp (game_of act)) refl h
     where
-      own : (b : Bool) → is_stamp game.stamp (game_of act) ≡ b → (net : Net) (next : Net) → GivesIf b (keeper_over facts) game net who act next → GivesFor (keeper_over facts) game net who (Does act) next
+      own : (b : Bool) → is_stamp game.stamp (game_of act) ≡ b → (net : SystemState) (next : SystemState) → GivesIf b (keeper_over facts) game net who act next → GivesFor (keeper_over facts) game net who (Does act) next
       own b is net next g = subst (λ (x : Bool). GivesIf x (keeper_over facts) game net who act next) (sym is) g
 
-      to : (b : Bool) → is_stamp game.stamp (game_of act) ≡ b → (net : Net) → GivesIf b (keeper_over facts) game net who act (changed net who (site_at new later) (cond b (sent_by_act act) [])) → GivesFor (keeper_over facts) game net who (Does act) (changed net who (site_at new later) (sent_for game (Does act)))
+      to : (b : Bool) → is_stamp game.stamp (game_of act) ≡ b → (net : SystemState) → GivesIf b (keeper_over facts) game net who act (changed net who (site_at new later) (cond b (sent_by_act act) [])) → GivesFor (keeper_over facts) game net who (Does act) (changed net who (site_at new later) (sent_for game (Does act)))
       to b is net g =
           own b is net (changed net who (site_at new later) (sent_for game (Does act)))
           (subst (λ (x : Bool). GivesIf b (keeper_over facts) game net who act (changed net who (site_at new later) (cond x (sent_by_act act) []))) (sym is) g)
@@ -361,7 +361,7 @@ module _ (grow : PutsGrow) {F : Type 0} (facts : F → KeptFacts) (game : Judged
       by true down = tt
       by false up = safe_up grow facts at safe e h.delivers up
 
-  act_holds : (old : Held F) (act : Act (FileKeeper F)) (new : Held F) → Holds facts old → ActsAt facts game who log old act new → Holds facts new
+  act_holds : (old : Held F) (act : Action (FileKeeper F)) (new : Held F) → Holds facts old → ActsAt facts game who log old act new → Holds facts new
   act_holds old (Unread datagram fault) new safe h = subst (Holds facts) (sym h) safe
   act_holds old (Strange stamp datagram tried why) new safe h = subst (Holds facts) (sym h) safe
   act_holds (Rests file) (Refuses stamp datagram o fault) new safe h = subst (Holds facts) (sym h.to) tt
@@ -373,7 +373,7 @@ module _ (grow : PutsGrow) {F : Type 0} (facts : F → KeptFacts) (game : Judged
   act_holds (Rests file) (Closes stamp left) new safe h = absurd h
   act_holds (Plays now) (Closes stamp left) new safe h = subst (Holds facts) (sym h.1) tt
 
-  deed_holds : (old : Held F) (deed : Deed (FileKeeper F)) (new : Held F) → Holds facts old → DoesAt facts game who log old deed new → Holds facts new
+  deed_holds : (old : Held F) (deed : HostEvent (FileKeeper F)) (new : Held F) → Holds facts old → DoesAt facts game who log old deed new → Holds facts new
   deed_holds old (Does act) new safe h = by (is_stamp game.stamp (game_of act)) h
     where
       by : (b : Bool) → ActsIf b facts game who log old act new → Holds facts new
@@ -385,7 +385,7 @@ module _ (grow : PutsGrow) {F : Type 0} (facts : F → KeptFacts) (game : Judged
 
 module _ (grow : PutsGrow) {F E : Type 0} (facts : F → KeptFacts) (others : E → KeptFacts) (game : Judged) where
   -- a net in which this is kept at both
-  record NetAt (both : Both F E) (found its_found : Option (List ℕ)) (net : Net) : Type 0 where
+  record NetAt (both : Both F E) (found its_found : Option (List ℕ)) (net : SystemState) : Type 0 where
     at_a : net.a ≡ site_at both.a found
     at_b : net.b ≡ site_at both.b its_found
     log : net.log ≡ both.log
@@ -396,7 +396,7 @@ module _ (grow : PutsGrow) {F E : Type 0} (facts : F → KeptFacts) (others : E 
     is_found : IsFoundIn facts old.a found
     its_found : Option (List ℕ)
     is_its_found : IsFoundIn others old.b its_found
-    weaves : (net : Net) → NetAt old found its_found net → (last : Net) × Weaves (keeper_over facts) (keeper_over others) game net steps last × NetAt end later its_later last
+    weaves : (net : SystemState) → NetAt old found its_found net → (last : SystemState) × Interleaving (keeper_over facts) (keeper_over others) game net steps last × NetAt end later its_later last
 
   weave : (old : Both F E) (steps : List (Step (FileKeeper F) (FileKeeper E))) (end : Both F E) (later its_later : Option (List ℕ)) → Holds facts old.a → Holds others old.b → GoBoth facts others game old steps end → IsFoundIn facts end.a later → IsFoundIn others end.b its_later → Woven old steps end later its_later
   weave old [] end later its_later safe its_safe h found its = record {
@@ -451,5 +451,5 @@ hosts_over_files {F = F} {E = E} grow disk host facts folder its_disk its_host o
     w : Woven grow facts others game (first_both game first its_first) steps end found its_found
     w = weave grow facts others game (first_both game first its_first) steps end found its_found tt tt go is_found is_its
 
-    last : (last : Net) × Weaves (keeper_over facts) (keeper_over others) game (first_net game) steps last × NetAt grow facts others game end found its_found last
+    last : (last : SystemState) × Interleaving (keeper_over facts) (keeper_over others) game (first_net game) steps last × NetAt grow facts others game end found its_found last
     last = w.weaves (first_net game) (record { at_a = ap closed_with (sym (one_found facts first w.found None w.is_found none)); at_b = ap closed_with (sym (one_found others its_first w.its_found None w.is_its_found its_none)); log = refl })

@@ -9,9 +9,9 @@ use Rattle.arbiter_core.specs.Delivers.{Delivers, Exchange, Moment, moment}
 use Rattle.arbiter_core.specs.Opens.{IsOpening}
 use Rattle.arbiter_core.specs.Setups.{SetupView}
 use Rattle.arbiter_server.specs.declared.file_keeper.FileKeeper.{FileKeeper}
-use Rattle.arbiter_server.specs.Acts.{Act, Unread, Strange, Refuses, Opens, Answers, Closes}
+use Rattle.arbiter_server.specs.Acts.{Action, Unread, Strange, Refuses, Opens, Answers, Closes}
 use Rattle.arbiter_server.specs.DiskGames.{disk_keepers}
-use Rattle.arbiter_server.specs.Games.{AnswersTo, ClosesTo, CommonView, Fresh, Goes, IsNotOpen, IsOver, Life, Open, Shut}
+use Rattle.arbiter_server.specs.Games.{AnswersTo, ClosesTo, CommonView, Fresh, Goes, IsNotOpen, IsOver, GameStatus, Open, Shut}
 use Rattle.arbiter_server.specs.Lives as lives
 use Rattle.arbiter_server.specs.Lives.{Answered, Early, IsCutAtPut, IsStillThere, KeepsWhatItTold, PastRun, Refused, RunsOver}
 use Rattle.arbiter_server.specs.Serving.{InTurn}
@@ -30,28 +30,28 @@ all_parts P (x ∷ xs) ys h = let r = all_parts P xs ys h.1 in ((h.0, r.0), r.1)
 
 -- ---- where a game is
 
-shut_not_open : {K : Type 0} (life : Life K) (left : K) → life ≡ Shut left → IsNotOpen life
+shut_not_open : {K : Type 0} (life : GameStatus K) (left : K) → life ≡ Shut left → IsNotOpen life
 shut_not_open life left is = subst IsNotOpen (sym is) tt
 
-open_not_closed : {K : Type 0} (life : Life K) (at : Moment K) → life ≡ Open at → IsNotOpen life → ⊥
+open_not_closed : {K : Type 0} (life : GameStatus K) (at : Moment K) → life ≡ Open at → IsNotOpen life → ⊥
 open_not_closed life at is closed = subst IsNotOpen is closed
 
-one_open : {K : Type 0} (a b : Moment K) → ◌≡◌ {A = Life K} (Open a) (Open b) → a ≡ b
+one_open : {K : Type 0} (a b : Moment K) → ◌≡◌ {A = GameStatus K} (Open a) (Open b) → a ≡ b
 one_open a b e = cc
 
 module _ {P F : Type 0} (disk : DiskFacts) (host : HostFacts P F) (facts : F → KeptFacts) (folder stamp : List ℕ) (t : CommonView) where
-  closed_answers : (life mid : Life (FileKeeper F)) (e : Exchange (FileKeeper F)) → IsNotOpen life → AnswersTo (disk_keepers disk host facts folder) life e mid → ⊥
+  closed_answers : (life mid : GameStatus (FileKeeper F)) (e : Exchange (FileKeeper F)) → IsNotOpen life → AnswersTo (disk_keepers disk host facts folder) life e mid → ⊥
   closed_answers Fresh mid e closed h = h
   closed_answers (Shut left) mid e closed h = h
   closed_answers (Open at) mid e closed h = closed
 
-  closed_closes : (life mid : Life (FileKeeper F)) (left : FileKeeper F) → IsNotOpen life → ClosesTo life left mid → ⊥
+  closed_closes : (life mid : GameStatus (FileKeeper F)) (left : FileKeeper F) → IsNotOpen life → ClosesTo life left mid → ⊥
   closed_closes Fresh mid left closed h = h
   closed_closes (Shut before) mid left closed h = h
   closed_closes (Open at) mid left closed h = closed
 
-  open_opens : (life : Life (FileKeeper F)) (at : Moment (FileKeeper F)) (keeper : FileKeeper F) → life ≡ Open at → IsOver (disk_keepers disk host facts folder) stamp life keeper → ⊥
-  open_opens life at keeper is h = subst (λ (l : Life (FileKeeper F)). IsOver (disk_keepers disk host facts folder) stamp l keeper) is h
+  open_opens : (life : GameStatus (FileKeeper F)) (at : Moment (FileKeeper F)) (keeper : FileKeeper F) → life ≡ Open at → IsOver (disk_keepers disk host facts folder) stamp life keeper → ⊥
+  open_opens life at keeper is h = subst (λ (l : GameStatus (FileKeeper F)). IsOver (disk_keepers disk host facts folder) stamp l keeper) is h
 
 -- ---- runs of an arbiter
 
@@ -83,12 +83,12 @@ module _ {F : Type 0} (facts : F → KeptFacts) (Starts : F → FileKeeper F →
     answered : Answered facts setup start es at
 
   -- where the game is: no arbiter is open, and this is its file; or one is, whose keeper has it
-  data Standing (first file : F) (life : Life (FileKeeper F)) (es : List (Exchange (FileKeeper F))) : Type 0 where
+  data Standing (first file : F) (life : GameStatus (FileKeeper F)) (es : List (Exchange (FileKeeper F))) : Type 0 where
     Idle : IsNotOpen life → file ≡ first → es ≡ [] → Standing first file life es
     Busy : (at : Moment (FileKeeper F)) → life ≡ Open at → file ≡ keeper_file at.keeper → Running first es at → Standing first file life es
 
   -- runs over the file, which hold what was answered before and by these acts
-  record Past (first left : F) (es : List (Exchange (FileKeeper F))) (acts : List (Act (FileKeeper F))) : Type 0 where
+  record Past (first left : F) (es : List (Exchange (FileKeeper F))) (acts : List (Action (FileKeeper F))) : Type 0 where
     runs : List (PastRun F)
     in_turn : PastInTurn first runs left
     covers : AllPast runs → AllByRecursion Q es × AllByRecursion (IfAnswers Q) acts
@@ -99,26 +99,26 @@ module _ {F : Type 0} (facts : F → KeptFacts) (Starts : F → FileKeeper F →
   one_run : (first left : F) (start : FileKeeper F) (es : List (Exchange (FileKeeper F))) → Starts first start → RunsOver facts setup start es left → Past first left es []
   one_run first left start es over ran = record { runs = record { start = start; exchanges = es; left = left } ∷ []; in_turn = (over, ran, refl); covers = λ h. (h.0, tt) }
 
-  over_none : (first left : F) (es : List (Exchange (FileKeeper F))) (acts : List (Act (FileKeeper F))) → es ≡ [] → Past first left [] acts → Past first left es acts
+  over_none : (first left : F) (es : List (Exchange (FileKeeper F))) (acts : List (Action (FileKeeper F))) → es ≡ [] → Past first left [] acts → Past first left es acts
   over_none first left es acts is p = record { runs = p.runs; in_turn = p.in_turn; covers = λ h. (none_before es is, (p.covers h).1) }
 
-  one_more : (first left : F) (es : List (Exchange (FileKeeper F))) (act : Act (FileKeeper F)) (acts : List (Act (FileKeeper F))) → IfAnswers Q act → Past first left es acts → Past first left es (act ∷ acts)
+  one_more : (first left : F) (es : List (Exchange (FileKeeper F))) (act : Action (FileKeeper F)) (acts : List (Action (FileKeeper F))) → IfAnswers Q act → Past first left es acts → Past first left es (act ∷ acts)
   one_more first left es act acts x p = record { runs = p.runs; in_turn = p.in_turn; covers = λ h. ((p.covers h).0, (x, (p.covers h).1)) }
 
-  one_answer : (first left : F) (es : List (Exchange (FileKeeper F))) (stamp : List ℕ) (e : Exchange (FileKeeper F)) (acts : List (Act (FileKeeper F))) → Past first left (es ++ e ∷ []) acts → Past first left es (Answers stamp e ∷ acts)
+  one_answer : (first left : F) (es : List (Exchange (FileKeeper F))) (stamp : List ℕ) (e : Exchange (FileKeeper F)) (acts : List (Action (FileKeeper F))) → Past first left (es ++ e ∷ []) acts → Past first left es (Answers stamp e ∷ acts)
   one_answer first left es stamp e acts p = record { runs = p.runs; in_turn = p.in_turn; covers = λ h. by (p.covers h) }
     where
       by : AllByRecursion Q (es ++ e ∷ []) × AllByRecursion (IfAnswers Q) acts → AllByRecursion Q es × AllByRecursion (IfAnswers Q) (Answers stamp e ∷ acts)
       by c = let x = all_snoc Q es e c.0 in (x.0, (x.1, c.1))
 
   -- a run and those after it
-  first_run : (first mid left : F) (start : FileKeeper F) (es : List (Exchange (FileKeeper F))) (acts : List (Act (FileKeeper F))) → Starts first start → RunsOver facts setup start es mid → Past mid left [] acts → Past first left es acts
+  first_run : (first mid left : F) (start : FileKeeper F) (es : List (Exchange (FileKeeper F))) (acts : List (Action (FileKeeper F))) → Starts first start → RunsOver facts setup start es mid → Past mid left [] acts → Past first left es acts
   first_run first mid left start es acts over ran p =
       record { runs = record { start = start; exchanges = es; left = mid } ∷ p.runs; in_turn = (over, ran, p.in_turn); covers = λ h. (h.0, (p.covers h.1).1) }
 
   -- ---- the end
 
-  ends : (first file left : F) (life : Life (FileKeeper F)) (es : List (Exchange (FileKeeper F))) → Standing first file life es → StopsOver facts Starts life file left → Past first left es []
+  ends : (first file left : F) (life : GameStatus (FileKeeper F)) (es : List (Exchange (FileKeeper F))) → Standing first file life es → StopsOver facts Starts life file left → Past first left es []
   ends first file left life es (Idle closed is none) (Between same) = record { runs = []; in_turn = same ∙ is; covers = λ h. (none_before es none, tt) }
   ends first file left life es (Idle closed is none) (AtPut at opened cut) = absurd (open_not_closed life at opened closed)
   ends first file left life es (Idle closed is none) (AtStart closed' start over same) =
@@ -138,14 +138,14 @@ module _ {P F : Type 0} (disk : DiskFacts) (host : HostFacts P F) (facts : F →
   answered_more : (start : FileKeeper F) (es : List (Exchange (FileKeeper F))) (at : Moment (FileKeeper F)) (e : Exchange (FileKeeper F)) → Answered facts setup start es at → Delivers (keeper_over facts) at e → Answered facts setup start (es ++ e ∷ []) e.after
   answered_more start es at e a d = record { opened = a.opened; is_opened = a.is_opened; in_turn = turn_snoc facts Starts setup Q a.opened at es e a.in_turn d }
 
-  walk : (t : CommonView) (acts : List (Act (FileKeeper F))) (first file mid left : F) (life life' : Life (FileKeeper F)) (es : List (Exchange (FileKeeper F))) → Standing facts Starts setup Q first file life es → Goes (disk_keepers disk host facts folder) t stamp life acts life' → AllByRecursion (IsOfSetup setup) acts → Leaves Starts file acts mid → StopsOver facts Starts life' mid left → Past facts Starts setup Q first left es acts
+  walk : (t : CommonView) (acts : List (Action (FileKeeper F))) (first file mid left : F) (life life' : GameStatus (FileKeeper F)) (es : List (Exchange (FileKeeper F))) → Standing facts Starts setup Q first file life es → Goes (disk_keepers disk host facts folder) t stamp life acts life' → AllByRecursion (IsOfSetup setup) acts → Leaves Starts file acts mid → StopsOver facts Starts life' mid left → Past facts Starts setup Q first left es acts
   walk t [] first file mid left life life' es st goes one leaves stops =
       ends facts Starts setup Q first file left life es st
-      (subst (λ (f : F). StopsOver facts Starts life f left) leaves (subst (λ (l : Life (FileKeeper F)). StopsOver facts Starts l mid left) goes stops))
+      (subst (λ (f : F). StopsOver facts Starts life f left) leaves (subst (λ (l : GameStatus (FileKeeper F)). StopsOver facts Starts l mid left) goes stops))
   walk t (Unread datagram fault ∷ acts) first file mid left life life' es st goes one leaves stops = absurd goes.1
   walk t (Strange of datagram tried why ∷ acts) first file mid left life life' es st goes one leaves stops =
       one_more facts Starts setup Q first left es (Strange of datagram tried why) acts tt
-      (walk t acts first file mid left goes.0 life' es (subst (λ (l : Life (FileKeeper F)). Standing facts Starts setup Q first file l es) (sym goes.1.2) st) goes.2 one.1 leaves stops)
+      (walk t acts first file mid left goes.0 life' es (subst (λ (l : GameStatus (FileKeeper F)). Standing facts Starts setup Q first file l es) (sym goes.1.2) st) goes.2 one.1 leaves stops)
   walk t (Refuses of datagram o fault ∷ acts) first file mid left life life' es (Busy at opened has run) goes one leaves stops =
       absurd (open_opens disk host facts folder stamp t life at o.before opened goes.1.over)
   walk t (Refuses of datagram o fault ∷ acts) first file mid left life life' es (Idle closed is none) goes one leaves stops =
@@ -182,13 +182,13 @@ module _ {P F : Type 0} (disk : DiskFacts) (host : HostFacts P F) (facts : F →
       (λ is more. walk t acts first (keeper_file e.after.keeper) mid left goes.0 life' (es ++ e ∷ []) (Busy e.after is refl more) goes.2 one.1 leaves stops))
     where
       d : AnswersTo (disk_keepers disk host facts folder) (Open at) e goes.0
-      d = subst (λ (l : Life (FileKeeper F)). AnswersTo (disk_keepers disk host facts folder) l e goes.0) opened goes.1
+      d = subst (λ (l : GameStatus (FileKeeper F)). AnswersTo (disk_keepers disk host facts folder) l e goes.0) opened goes.1
 
       more : Answered facts setup run.start (es ++ e ∷ []) e.after
       more = answered_more run.start es at e run.answered d.0
 
       there : (b : Bool) → e.after.arbiter.is_down ≡ b → goes.0 ≡ cond b (Shut e.after.keeper) (Open e.after)
-      there b is = d.1 ∙ ap (λ (x : Bool). cond {A = Life (FileKeeper F)} x (Shut e.after.keeper) (Open e.after)) is
+      there b is = d.1 ∙ ap (λ (x : Bool). cond {A = GameStatus (FileKeeper F)} x (Shut e.after.keeper) (Open e.after)) is
 
       by : (b : Bool) → e.after.arbiter.is_down ≡ b → (goes.0 ≡ Shut e.after.keeper → Past facts Starts setup Q (keeper_file e.after.keeper) left [] acts) → (goes.0 ≡ Open e.after → Running facts Starts setup Q first (es ++ e ∷ []) e.after → Past facts Starts setup Q first left (es ++ e ∷ []) acts) → Past facts Starts setup Q first left (es ++ e ∷ []) acts
       by true is shut up = first_run facts Starts setup Q first (keeper_file e.after.keeper) left run.start (es ++ e ∷ []) acts run.over (lives.Between e.after more refl) (shut (there true is))
@@ -201,7 +201,7 @@ module _ {P F : Type 0} (disk : DiskFacts) (host : HostFacts P F) (facts : F →
       (walk t acts (keeper_file left') (keeper_file left') mid left goes.0 life' [] (Idle (shut_not_open goes.0 left' c.1) refl refl) goes.2 one.1 leaves stops))
     where
       c : ClosesTo (Open at) left' goes.0
-      c = subst (λ (l : Life (FileKeeper F)). ClosesTo l left' goes.0) opened goes.1
+      c = subst (λ (l : GameStatus (FileKeeper F)). ClosesTo l left' goes.0) opened goes.1
 
   -- ---- run by run
 

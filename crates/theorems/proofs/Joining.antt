@@ -2,40 +2,40 @@
 use Rattle.std.proofs.Common.{◌≡◌, ◌∙◌, ℕ, List, [], ◌∷◌, ◌++◌, refl, sym, subst}
 use Rattle.std.specs.List.{AllByRecursion}
 use Rattle.std.proofs.lemmas.List.Elements.{filter-append}
-use Rattle.move_msg.specs.declared.who.Who.{Who}
-use Rattle.move_msg.specs.declared.who.Who.TheVariants.{A, B}
+use Rattle.move_msg.specs.declared.arbiter_id.ArbiterId.{ArbiterId}
+use Rattle.move_msg.specs.declared.arbiter_id.ArbiterId.TheVariants.{A, B}
 use Rattle.arbiter_server.specs.Folders.{Keepers}
 use Rattle.arbiter_core.specs.Delivers.{Exchange}
 use Rattle.arbiter_server.specs.Acts as act
-use Rattle.arbiter_server.specs.Acts.{Act, acts_of, game_of, is_stamp}
-use Rattle.arbiter_server.specs.Games.{AnswersTo, ClosesTo, CommonView, Fresh, Goes, GoesByAct, Life, Open, Shut}
+use Rattle.arbiter_server.specs.Acts.{Action, acts_of, game_of, is_stamp}
+use Rattle.arbiter_server.specs.Games.{AnswersTo, ClosesTo, CommonView, Fresh, Goes, GoesByAct, GameStatus, Open, Shut}
 use Rattle.relay_world.specs.Worlds.{Judged}
 use Rattle.theorems.specs.Nets as nets
-use Rattle.theorems.specs.Nets.{Net, Site, first_net, site_of}
+use Rattle.theorems.specs.Nets.{SystemState, Site, first_net, site_of}
 use Rattle.theorems.proofs.Netting.{arbiters_are_worlds, arbiters_tell_the_truth}
-use Rattle.theorems.specs.Weaves.{AreWoven, AtA, AtB, Deed, Does, Ends, FrontsAreRuns, GivesFor, GivesIf, HostsAreWorlds, HostsTellTheTruth, IsHostOf, IsRunOfHost, IsSiteOfLife, StandsAt, Step, TellsTheTruth, Weaves, deeds_a, deeds_b, first_run, last_among, last_run, later_runs}
+use Rattle.theorems.specs.Interleavings.{AreWoven, AtA, AtB, HostEvent, Does, Ends, FrontsAreRuns, GivesFor, GivesIf, HostsAreWorlds, HostsTellTheTruth, IsHostOf, IsRunOfHost, IsSiteOfLife, StandsAt, Step, TellsTheTruth, Interleaving, deeds_a, deeds_b, first_run, last_among, last_run, later_runs}
 use Rattle.theorems.proofs.Seeing.{Seen, seen_facts}
 use Rattle.theorems.proofs.Weaving.{Moves, NetGoes, act_goes}
 use Rattle.theorems.proofs.Stopping.{stop_goes}
 
-goes_join : (game : Judged) (old mid new : Net) (early late : List (nets.NetStep Seen)) → NetGoes game old early mid → NetGoes game mid late new → NetGoes game old (early ++ late) new
-goes_join game old mid new [] late g h = subst (λ (n : Net). NetGoes game n late new) g h
+goes_join : (game : Judged) (old mid new : SystemState) (early late : List (nets.NetStep Seen)) → NetGoes game old early mid → NetGoes game mid late new → NetGoes game old (early ++ late) new
+goes_join game old mid new [] late g h = subst (λ (n : SystemState). NetGoes game n late new) g h
 goes_join game old mid new (one ∷ early) late g h = (g.0, g.1, goes_join game g.0 mid new early late g.2 h)
 
 -- ---- acts lead to one life
 
 module _ {K : Type 0} (s : Keepers K) (stamp : List ℕ) where
-  one_answered : (old x y : Life K) (e : Exchange K) → AnswersTo s old e x → AnswersTo s old e y → x ≡ y
+  one_answered : (old x y : GameStatus K) (e : Exchange K) → AnswersTo s old e x → AnswersTo s old e y → x ≡ y
   one_answered Fresh x y e h k = absurd h
   one_answered (Shut left) x y e h k = absurd h
   one_answered (Open at) x y e h k = h.1 ∙ sym k.1
 
-  one_closed : (old x y : Life K) (left : K) → ClosesTo old left x → ClosesTo old left y → x ≡ y
+  one_closed : (old x y : GameStatus K) (left : K) → ClosesTo old left x → ClosesTo old left y → x ≡ y
   one_closed Fresh x y left h k = absurd h
   one_closed (Shut before) x y left h k = absurd h
   one_closed (Open at) x y left h k = h.1 ∙ sym k.1
 
-  one_life : (t u : CommonView) (old x y : Life K) (a : Act K) → GoesByAct s t stamp old a x → GoesByAct s u stamp old a y → x ≡ y
+  one_life : (t u : CommonView) (old x y : GameStatus K) (a : Action K) → GoesByAct s t stamp old a x → GoesByAct s u stamp old a y → x ≡ y
   one_life t u old x y (act.Unread datagram fault) h k = absurd h
   one_life t u old x y (act.Strange of_game datagram tried why) h k = h.2 ∙ sym k.2
   one_life t u old x y (act.Refuses of_game datagram o fault) h k = h.new_is ∙ sym k.new_is
@@ -43,122 +43,122 @@ module _ {K : Type 0} (s : Keepers K) (stamp : List ℕ) where
   one_life t u old x y (act.Answers of_game e) h k = one_answered old x y e h k
   one_life t u old x y (act.Closes of_game left) h k = one_closed old x y left h k
 
-  one_end : (old : Life K) (acts : List (Act K)) (x y : Life K) (t u : CommonView) → Goes s t stamp old acts x → Goes s u stamp old acts y → x ≡ y
+  one_end : (old : GameStatus K) (acts : List (Action K)) (x y : GameStatus K) (t u : CommonView) → Goes s t stamp old acts x → Goes s u stamp old acts y → x ≡ y
   one_end old [] x y t u h k = h ∙ sym k
   one_end old (a ∷ acts) x y t u h k =
       one_end k.0 acts x y t u (subst (λ l. Goes s t stamp l acts x) (one_life t u old h.0 k.0 a h.1 k.1) h.2) k.2
 
-goes_front : {K : Type 0} (s : Keepers K) (t : CommonView) (stamp : List ℕ) (early late : List (Act K)) (old new : Life K) → Goes s t stamp old (early ++ late) new → (mid : Life K) × Goes s t stamp old early mid
+goes_front : {K : Type 0} (s : Keepers K) (t : CommonView) (stamp : List ℕ) (early late : List (Action K)) (old new : GameStatus K) → Goes s t stamp old (early ++ late) new → (mid : GameStatus K) × Goes s t stamp old early mid
 goes_front s t stamp [] late old new g = (old, refl)
 goes_front s t stamp (a ∷ early) late old new g = let front = goes_front s t stamp early late g.0 new g.2 in (front.0, (g.0, g.1, front.1))
 
 pub fronts_are_runs : {K : Type 0} (s : Keepers K) → FrontsAreRuns s
 fronts_are_runs {K = K} s game who common acts rest of hosted =
-    let split : acts_of game.stamp (acts ++ rest) ≡ acts_of game.stamp acts ++ acts_of game.stamp rest = filter-append (λ (a : Act K). is_stamp game.stamp (game_of a)) acts rest in
+    let split : acts_of game.stamp (acts ++ rest) ≡ acts_of game.stamp acts ++ acts_of game.stamp rest = filter-append (λ (a : Action K). is_stamp game.stamp (game_of a)) acts rest in
     let all : Goes s common game.stamp Fresh (acts_of game.stamp acts ++ acts_of game.stamp rest) (hosted.games game.stamp) =
-    subst (λ (run : List (Act K)). Goes s common game.stamp Fresh run (hosted.games game.stamp)) split (hosted.each game.stamp) in
+    subst (λ (run : List (Action K)). Goes s common game.stamp Fresh run (hosted.games game.stamp)) split (hosted.each game.stamp) in
     let front = goes_front s common game.stamp (acts_of game.stamp acts) (acts_of game.stamp rest) Fresh (hosted.games game.stamp) all in
     record { common = common; of = of; life = front.0; goes = front.1 }
 
 -- ---- the runs of one host
 
-module _ {K : Type 0} (s : Keepers K) (game : Judged) (who : Who) where
+module _ {K : Type 0} (s : Keepers K) (game : Judged) (who : ArbiterId) where
   -- by a run's acts the game goes from one life to another
-  record RunGoes (old : Life K) (run : List (Act K)) (new : Life K) : Type 0 where
+  record RunGoes (old : GameStatus K) (run : List (Action K)) (new : GameStatus K) : Type 0 where
     common : CommonView
     of : IsHostOf game who common
     goes : Goes s common game.stamp old (acts_of game.stamp run) new
 
   -- each later run begins with no game open
-  abbrev RunsGo : Life K → List (Act K) → List (List (Act K)) → Life K → Type 0
+  abbrev RunsGo : GameStatus K → List (Action K) → List (List (Action K)) → GameStatus K → Type 0
   RunsGo old run [] new = RunGoes old run new
-  RunsGo old run (next ∷ later) new = ((end : Life K) × RunGoes old run end) × RunsGo Fresh next later new
+  RunsGo old run (next ∷ later) new = ((end : GameStatus K) × RunGoes old run end) × RunsGo Fresh next later new
 
-  abbrev DeedsGo : Life K → List (Deed K) → Life K → Type 0
+  abbrev DeedsGo : GameStatus K → List (HostEvent K) → GameStatus K → Type 0
   DeedsGo old deeds new = RunsGo old (first_run deeds) (later_runs deeds) new
 
-  a_run : (run : List (Act K)) → IsRunOfHost s game who run → (end : Life K) × RunGoes Fresh run end
+  a_run : (run : List (Action K)) → IsRunOfHost s game who run → (end : GameStatus K) × RunGoes Fresh run end
   a_run run r = (r.life, record { common = r.common; of = r.of; goes = r.goes })
 
   -- all of them lead to where the last one leads
-  abbrev AllGo : List (Act K) → List (List (Act K)) → Type 0
-  AllGo run later = (end : Life K) × RunsGo Fresh run later end × RunGoes Fresh (last_among run later) end
+  abbrev AllGo : List (Action K) → List (List (Action K)) → Type 0
+  AllGo run later = (end : GameStatus K) × RunsGo Fresh run later end × RunGoes Fresh (last_among run later) end
 
-  all_go : (run : List (Act K)) (later : List (List (Act K))) → AllByRecursion (IsRunOfHost s game who) (run ∷ later) → AllGo run later
+  all_go : (run : List (Action K)) (later : List (List (Action K))) → AllByRecursion (IsRunOfHost s game who) (run ∷ later) → AllGo run later
   all_go run [] r = let x = a_run run r.0 in (x.0, x.1, x.1)
   all_go run (next ∷ later) r =
       let rest = all_go next later r.1 in
       (rest.0, (a_run run r.0, rest.1), rest.2)
 
-  module _ (old new : Net) where
-    abbrev GoesTo : Life K → Type 0
+  module _ (old new : SystemState) where
+    abbrev GoesTo : GameStatus K → Type 0
     GoesTo life = Moves s.facts game old who life new
 
-    first_act : (life end : Life K) (a : Act K) (run : List (Act K)) → IsSiteOfLife s.facts life (site_of old who) → GivesIf (is_stamp game.stamp (game_of a)) s.facts game old who a new → RunGoes life (a ∷ run) end
-        → (mid : Life K) × GoesTo mid × RunGoes mid run end
+    first_act : (life end : GameStatus K) (a : Action K) (run : List (Action K)) → IsSiteOfLife s.facts life (site_of old who) → GivesIf (is_stamp game.stamp (game_of a)) s.facts game old who a new → RunGoes life (a ∷ run) end
+        → (mid : GameStatus K) × GoesTo mid × RunGoes mid run end
     first_act life end a run here g r =
         let x = act_goes s r.common game who r.of old new (is_stamp game.stamp (game_of a)) life end a (acts_of game.stamp run) here g r.goes in
         (x.0, x.1, record { common = r.common; of = r.of; goes = x.2 })
 
-    does : (life end : Life K) (a : Act K) (run : List (Act K)) (later : List (List (Act K))) → IsSiteOfLife s.facts life (site_of old who) → GivesIf (is_stamp game.stamp (game_of a)) s.facts game old who a new → RunsGo life (a ∷ run) later end
-        → (mid : Life K) × GoesTo mid × RunsGo mid run later end
+    does : (life end : GameStatus K) (a : Action K) (run : List (Action K)) (later : List (List (Action K))) → IsSiteOfLife s.facts life (site_of old who) → GivesIf (is_stamp game.stamp (game_of a)) s.facts game old who a new → RunsGo life (a ∷ run) later end
+        → (mid : GameStatus K) × GoesTo mid × RunsGo mid run later end
     does life end a run [] here g r = first_act life end a run here g r
     does life end a run (next ∷ later) here g r =
         let x = first_act life r.0.0 a run here g r.0.1 in
         (x.0, x.1, ((r.0.0, x.2), r.1))
 
-    deed_goes : (life end : Life K) (deed : Deed K) (deeds : List (Deed K)) → IsSiteOfLife s.facts life (site_of old who) → GivesFor s.facts game old who deed new → DeedsGo life (deed ∷ deeds) end
-        → (mid : Life K) × GoesTo mid × DeedsGo mid deeds end
+    deed_goes : (life end : GameStatus K) (deed : HostEvent K) (deeds : List (HostEvent K)) → IsSiteOfLife s.facts life (site_of old who) → GivesFor s.facts game old who deed new → DeedsGo life (deed ∷ deeds) end
+        → (mid : GameStatus K) × GoesTo mid × DeedsGo mid deeds end
     deed_goes life end (Does a) deeds here g r = does life end a (first_run deeds) (later_runs deeds) here g r
     deed_goes life end Ends deeds here g r = (Fresh, stop_goes s.facts game who old new life here g, r.1)
 
-  none_left : (life end : Life K) → RunGoes life [] end → end ≡ life
+  none_left : (life end : GameStatus K) → RunGoes life [] end → end ≡ life
   none_left life end r = r.goes
 
 -- ---- both hosts
 
-module _ {K L : Type 0} (a : Keepers K) (b : Keepers L) (game : Judged) (end_a : Life K) (end_b : Life L) where
+module _ {K L : Type 0} (a : Keepers K) (b : Keepers L) (game : Judged) (end_a : GameStatus K) (end_b : GameStatus L) where
   -- steps of the net lead from here, and both sites are where the runs have led
-  record Comes (old new : Net) : Type 0 where
+  record Comes (old new : SystemState) : Type 0 where
     acts : List (nets.NetStep Seen)
     goes : NetGoes game old acts new
     at_a : IsSiteOfLife a.facts end_a new.a
     at_b : IsSiteOfLife b.facts end_b new.b
 
-  first_then : (old mid new : Net) (acts : List (nets.NetStep Seen)) → NetGoes game old acts mid → Comes mid new → Comes old new
+  first_then : (old mid new : SystemState) (acts : List (nets.NetStep Seen)) → NetGoes game old acts mid → Comes mid new → Comes old new
   first_then old mid new acts g c = record { acts = acts ++ c.acts; goes = goes_join game old mid new acts c.acts g c.goes; at_a = c.at_a; at_b = c.at_b }
 
-  comes : (steps : List (Step K L)) (life_a : Life K) (life_b : Life L) (old new : Net) → IsSiteOfLife a.facts life_a old.a → IsSiteOfLife b.facts life_b old.b
-      → DeedsGo a game A life_a (deeds_a steps) end_a → DeedsGo b game B life_b (deeds_b steps) end_b → Weaves a.facts b.facts game old steps new → Comes old new
+  comes : (steps : List (Step K L)) (life_a : GameStatus K) (life_b : GameStatus L) (old new : SystemState) → IsSiteOfLife a.facts life_a old.a → IsSiteOfLife b.facts life_b old.b
+      → DeedsGo a game A life_a (deeds_a steps) end_a → DeedsGo b game B life_b (deeds_b steps) end_b → Interleaving a.facts b.facts game old steps new → Comes old new
   comes [] life_a life_b old new at_a at_b run_a run_b w = record {
     acts = [];
     goes = w;
-    at_a = subst (λ (n : Net). IsSiteOfLife a.facts end_a n.a) (sym w) (subst (λ (l : Life K). IsSiteOfLife a.facts l old.a) (sym (none_left a game A life_a end_a run_a)) at_a);
-    at_b = subst (λ (n : Net). IsSiteOfLife b.facts end_b n.b) (sym w) (subst (λ (l : Life L). IsSiteOfLife b.facts l old.b) (sym (none_left b game B life_b end_b run_b)) at_b);
+    at_a = subst (λ (n : SystemState). IsSiteOfLife a.facts end_a n.a) (sym w) (subst (λ (l : GameStatus K). IsSiteOfLife a.facts l old.a) (sym (none_left a game A life_a end_a run_a)) at_a);
+    at_b = subst (λ (n : SystemState). IsSiteOfLife b.facts end_b n.b) (sym w) (subst (λ (l : GameStatus L). IsSiteOfLife b.facts l old.b) (sym (none_left b game B life_b end_b run_b)) at_b);
   }
   comes (AtA deed ∷ steps) life_a life_b old new at_a at_b run_a run_b w =
       let d = deed_goes a game A old w.0 life_a end_a deed (deeds_a steps) at_a w.1 run_a in
       let m = d.1 in
       first_then old w.0 new m.acts m.goes
-      (comes steps d.0 life_b w.0 new (subst (λ (n : Net). IsSiteOfLife a.facts d.0 n.a) (sym m.is) m.at) (subst (λ (n : Net). IsSiteOfLife b.facts life_b n.b) (sym m.is) at_b) d.2 run_b w.2)
+      (comes steps d.0 life_b w.0 new (subst (λ (n : SystemState). IsSiteOfLife a.facts d.0 n.a) (sym m.is) m.at) (subst (λ (n : SystemState). IsSiteOfLife b.facts life_b n.b) (sym m.is) at_b) d.2 run_b w.2)
   comes (AtB deed ∷ steps) life_a life_b old new at_a at_b run_a run_b w =
       let d = deed_goes b game B old w.0 life_b end_b deed (deeds_b steps) at_b w.1 run_b in
       let m = d.1 in
       first_then old w.0 new m.acts m.goes
-      (comes steps life_a d.0 w.0 new (subst (λ (n : Net). IsSiteOfLife a.facts life_a n.a) (sym m.is) at_a) (subst (λ (n : Net). IsSiteOfLife b.facts d.0 n.b) (sym m.is) m.at) run_a d.2 w.2)
+      (comes steps life_a d.0 w.0 new (subst (λ (n : SystemState). IsSiteOfLife a.facts life_a n.a) (sym m.is) at_a) (subst (λ (n : SystemState). IsSiteOfLife b.facts d.0 n.b) (sym m.is) m.at) run_a d.2 w.2)
 
 -- the last run has led to one life
-stands : {K : Type 0} (s : Keepers K) (game : Judged) (who : Who) (deeds : List (Deed K)) (site : Site) (end : Life K) → RunGoes s game who Fresh (last_run deeds) end → IsSiteOfLife s.facts end site → StandsAt s game deeds site
+stands : {K : Type 0} (s : Keepers K) (game : Judged) (who : ArbiterId) (deeds : List (HostEvent K)) (site : Site) (end : GameStatus K) → RunGoes s game who Fresh (last_run deeds) end → IsSiteOfLife s.facts end site → StandsAt s game deeds site
 stands s game who deeds site end r at common life led = subst (λ l. IsSiteOfLife s.facts l site) (one_end s game.stamp Fresh (acts_of game.stamp (last_run deeds)) end life r.common common r.goes led) at
 
 -- steps of the net lead there, and each site is where its host has led
-record HaveCome {K L : Type 0} (a : Keepers K) (b : Keepers L) (game : Judged) (steps : List (Step K L)) (net : Net) : Type 0 where
+record HaveCome {K L : Type 0} (a : Keepers K) (b : Keepers L) (game : Judged) (steps : List (Step K L)) (net : SystemState) : Type 0 where
   acts : List (nets.NetStep Seen)
   goes : NetGoes game (first_net game) acts net
   at_a : StandsAt a game (deeds_a steps) net.a
   at_b : StandsAt b game (deeds_b steps) net.b
 
-have_come : {K L : Type 0} (a : Keepers K) (b : Keepers L) (game : Judged) (steps : List (Step K L)) (net : Net) → AreWoven a b game steps net → HaveCome a b game steps net
+have_come : {K L : Type 0} (a : Keepers K) (b : Keepers L) (game : Judged) (steps : List (Step K L)) (net : SystemState) → AreWoven a b game steps net → HaveCome a b game steps net
 have_come a b game steps net w =
     let x = all_go a game A (first_run (deeds_a steps)) (later_runs (deeds_a steps)) w.runs_a in
     let y = all_go b game B (first_run (deeds_b steps)) (later_runs (deeds_b steps)) w.runs_b in
@@ -176,7 +176,7 @@ hosts_are_worlds a b game steps net w =
     record { world = arbiters_are_worlds seen_facts game c.acts net c.goes; at_a = c.at_a; at_b = c.at_b }
 
 -- an arbiter that is open at a host has a record of the game
-tells_true : {K : Type 0} (s : Keepers K) (game : Judged) (acts : List (nets.NetStep Seen)) (net : Net) (who : Who) (deeds : List (Deed K)) → NetGoes game (first_net game) acts net → StandsAt s game deeds (site_of net who) → TellsTheTruth s game deeds
+tells_true : {K : Type 0} (s : Keepers K) (game : Judged) (acts : List (nets.NetStep Seen)) (net : SystemState) (who : ArbiterId) (deeds : List (HostEvent K)) → NetGoes game (first_net game) acts net → StandsAt s game deeds (site_of net who) → TellsTheTruth s game deeds
 tells_true s game acts net who deeds goes stands common at led =
     let here = stands common (Open at) led in
     arbiters_tell_the_truth seen_facts game acts net goes who at.arbiter here.0 here.1

@@ -21,7 +21,7 @@ use Rattle.arbiter_core.specs.Answering.{Answer, Identity, Puts, Refuses, Sends}
 use Rattle.arbiter_core.specs.Delivers.{Delivers, Exchange, Lands, Moment, PutsIfAny, RefusesOrSends, Told, Unchanged, answer_at, in_game, moment}
 use Rattle.arbiter_core.specs.Opens as opening
 use Rattle.arbiter_core.specs.Opens.{FirstLands, IsOpening, Opens as OpensSo, OpensOver, first_record, running}
-use Rattle.arbiter_core.specs.Recording.{Recorded, Window}
+use Rattle.arbiter_core.specs.Recording.{Recorded, ReorderBuffer}
 use Rattle.arbiter_core.specs.Setups.{IsGood, SetupView, rules_at}
 use Rattle.fen_text.specs.Written.{fen_of}
 use Rattle.move_msg.specs.Stamps.{IsGameName, stamp_of}
@@ -29,12 +29,12 @@ use Rattle.arbiter_server.proofs.OpenedLaws.{good_unless}
 use Rattle.arbiter_core.specs.Views.{View}
 use Rattle.system_io.specs.KeptFiles.{KeptFacts}
 use Rattle.system_io.specs.Ports.{Came, Passing}
-use Rattle.arbiter_server.specs.declared.fault.Unopened.TheVariants as unopened
-use Rattle.arbiter_server.specs.declared.games.Found.{Found}
+use Rattle.arbiter_server.specs.declared.fault.OpenGameError.TheVariants as unopened
+use Rattle.arbiter_server.specs.declared.games.GameConfig.{GameConfig}
 use Rattle.arbiter_server.specs.declared.file_keeper.FileKeeper.{FileKeeper}
-use Rattle.arbiter_server.specs.Acts.{Act, IsSorted, Strange, Answers, Closes, acts_of, all_replies, game_of, is_stamp, opens_for, passing_at, replies_of, stamp_by}
+use Rattle.arbiter_server.specs.Acts.{Action, IsSorted, Strange, Answers, Closes, acts_of, all_replies, game_of, is_stamp, opens_for, passing_at, replies_of, stamp_by}
 use Rattle.arbiter_server.specs.Folders.{Keepers}
-use Rattle.arbiter_server.specs.Games.{CommonView, Fresh, Goes, IsNotOpen, IsStrange, Life, Open, OpensTo, Shut, IsRefused, life_at}
+use Rattle.arbiter_server.specs.Games.{CommonView, Fresh, Goes, IsNotOpen, IsStrange, GameStatus, Open, OpensTo, Shut, IsRefused, life_at}
 use Rattle.arbiter_server.specs.Serving.{InTurn, KeeperLost, Loss, NoLoss, PortLost, exchanges_of, handed, loses_keeper, outputs_of, passing_of, with_last}
 use Rattle.arbiter_server.specs.StoredBytes.{keeper_over}
 use Rattle.theorems.specs.Listens.{IsGameOfSetup, ListensAreHosted, act_by, act_of, acts_for, closing, common_of, one_game, why_none}
@@ -69,7 +69,7 @@ module _ {K : Type 0} (facts : KeeperFacts K) (at : Moment K) (e : Exchange K) (
   up_after : loses_keeper e.told ≡ false → e.after.arbiter.is_down ≡ false
   up_after keeps = by (answer_at at.arbiter e.datagram) d.answered d.put
     where
-      landed : (keep : Keep) (next : Recorded) (outputs : List Message) (window : Window) → Lands keep at.arbiter next outputs window (facts.kept at.keeper) (facts.kept e.after.keeper) e.after.arbiter e.told → e.after.arbiter.is_down ≡ false
+      landed : (keep : Keep) (next : Recorded) (outputs : List Message) (window : ReorderBuffer) → Lands keep at.arbiter next outputs window (facts.kept at.keeper) (facts.kept e.after.keeper) e.after.arbiter e.told → e.after.arbiter.is_down ≡ false
       landed Good next outputs window l = ap (λ (v : View). v.is_down) l.1 ∙ up
       landed FailsOld next outputs window l = absurd (not_both_ways (loses_keeper e.told) (loses_of e.told l.0) keeps)
       landed FailsNew next outputs window l = absurd (not_both_ways (loses_keeper e.told) (loses_of e.told l.0) keeps)
@@ -85,7 +85,7 @@ module _ {K : Type 0} (facts : KeeperFacts K) (at : Moment K) (e : Exchange K) (
   same_me : e.after.arbiter.me ≡ at.arbiter.me
   same_me = by (answer_at at.arbiter e.datagram) d.answered d.put
     where
-      landed : (keep : Keep) (next : Recorded) (outputs : List Message) (window : Window) → Lands keep at.arbiter next outputs window (facts.kept at.keeper) (facts.kept e.after.keeper) e.after.arbiter e.told → e.after.arbiter.me ≡ at.arbiter.me
+      landed : (keep : Keep) (next : Recorded) (outputs : List Message) (window : ReorderBuffer) → Lands keep at.arbiter next outputs window (facts.kept at.keeper) (facts.kept e.after.keeper) e.after.arbiter e.told → e.after.arbiter.me ≡ at.arbiter.me
       landed Good next outputs window l = ap (λ (v : View). v.me) l.1
       landed FailsOld next outputs window l = ap (λ (v : View). v.me) l.1
       landed FailsNew next outputs window l = ap (λ (v : View). v.me) l.1
@@ -111,9 +111,9 @@ module _ {K : Type 0} (facts : KeeperFacts K) (at : Moment K) (e : Exchange K) (
 
 -- an arbiter that runs is open
 open_up : {K : Type 0} (at : Moment K) → at.arbiter.is_down ≡ false → life_at at ≡ Open at
-open_up {K = K} at up = ap (λ (b : Bool). cond {A = Life K} b (Shut at.keeper) (Open at)) up
+open_up {K = K} at up = ap (λ (b : Bool). cond {A = GameStatus K} b (Shut at.keeper) (Open at)) up
 
-goes_join : {K : Type 0} (s : Keepers K) (t : CommonView) (stamp : List ℕ) (xs ys : List (Act K)) (a b c : Life K) → Goes s t stamp a xs b → Goes s t stamp b ys c → Goes s t stamp a (xs ++ ys) c
+goes_join : {K : Type 0} (s : Keepers K) (t : CommonView) (stamp : List ℕ) (xs ys : List (Action K)) (a b c : GameStatus K) → Goes s t stamp a xs b → Goes s t stamp b ys c → Goes s t stamp a (xs ++ ys) c
 goes_join s t stamp [] ys a b c g h = subst (λ l. Goes s t stamp l ys c) g h
 goes_join s t stamp (x ∷ xs) ys a b c g h = (g.0, g.1, goes_join s t stamp xs ys g.0 b c g.2 h)
 
@@ -121,7 +121,7 @@ module _ {F : Type 0} (facts : F → KeptFacts) (setup : SetupView) (stamp : Lis
   abbrev s : Keepers (FileKeeper F)
   s = one_game facts setup stamp
 
-  abbrev GoesOwn : Life (FileKeeper F) → List (Act (FileKeeper F)) → Life (FileKeeper F) → Type 0
+  abbrev GoesOwn : GameStatus (FileKeeper F) → List (Action (FileKeeper F)) → GameStatus (FileKeeper F) → Type 0
   GoesOwn old acts new = Goes (one_game facts setup stamp) (common_of setup) stamp old (acts_of stamp acts) new
 
   module _ (at : Moment (FileKeeper F)) (e : Exchange (FileKeeper F)) (d : Delivers (keeper_over facts) at e) (up : at.arbiter.is_down ≡ false) (mine : at.arbiter.me.stamp ≡ stamp) where
@@ -152,7 +152,7 @@ module _ {F : Type 0} (facts : F → KeptFacts) (setup : SetupView) (stamp : Lis
   -- ---- the other games
 
   module _ (of : List ℕ) (apart : bytes_eq stamp of ≡ false) where
-    abbrev GoesOther : Life (FileKeeper F) → List (Act (FileKeeper F)) → Life (FileKeeper F) → Type 0
+    abbrev GoesOther : GameStatus (FileKeeper F) → List (Action (FileKeeper F)) → GameStatus (FileKeeper F) → Type 0
     GoesOther old acts new = Goes (one_game facts setup stamp) (common_of setup) of old (acts_of of acts) new
 
     not_own : of ≡ stamp → ⊥
@@ -180,8 +180,8 @@ module _ {F : Type 0} (facts : F → KeptFacts) (setup : SetupView) (stamp : Lis
     other_all : (es : List (Exchange (FileKeeper F))) → GoesOther Fresh (map (act_of stamp) es) Fresh
     other_all [] = refl
     other_all (e ∷ es) =
-        subst (λ (acts : List (Act (FileKeeper F))). Goes (one_game facts setup stamp) (common_of setup) of Fresh acts Fresh)
-        (sym (filter-append (λ (a : Act (FileKeeper F)). is_stamp of (game_of a)) (act_of stamp e ∷ []) (map (act_of stamp) es)))
+        subst (λ (acts : List (Action (FileKeeper F))). Goes (one_game facts setup stamp) (common_of setup) of Fresh acts Fresh)
+        (sym (filter-append (λ (a : Action (FileKeeper F)). is_stamp of (game_of a)) (act_of stamp e ∷ []) (map (act_of stamp) es)))
         (goes_join (one_game facts setup stamp) (common_of setup) of (acts_of of (act_of stamp e ∷ [])) (acts_of of (map (act_of stamp) es)) Fresh Fresh Fresh (other_step e) (other_all es))
 
     other_end : (now : Moment (FileKeeper F)) → GoesOther Fresh (closing stamp now) Fresh
@@ -194,8 +194,8 @@ module _ {F : Type 0} (facts : F → KeptFacts) (setup : SetupView) (stamp : Lis
     other_goes : (start : FileKeeper F) (opened now : Moment (FileKeeper F)) (es : List (Exchange (FileKeeper F))) → GoesOther Fresh (acts_for setup stamp start opened es now) Fresh
     other_goes start opened now es =
         rw apart
-        (subst (λ (acts : List (Act (FileKeeper F))). Goes (one_game facts setup stamp) (common_of setup) of Fresh acts Fresh)
-        (sym (filter-append (λ (a : Act (FileKeeper F)). is_stamp of (game_of a)) (map (act_of stamp) es) (closing stamp now)))
+        (subst (λ (acts : List (Action (FileKeeper F))). Goes (one_game facts setup stamp) (common_of setup) of Fresh acts Fresh)
+        (sym (filter-append (λ (a : Action (FileKeeper F)). is_stamp of (game_of a)) (map (act_of stamp) es) (closing stamp now)))
         (goes_join (one_game facts setup stamp) (common_of setup) of (acts_of of (map (act_of stamp) es)) (acts_of of (closing stamp now)) Fresh Fresh Fresh (other_all es) (other_end now)))
 
 -- ---- whose each datagram is, and what passes
@@ -262,7 +262,7 @@ module _ {K : Type 0} (facts : KeeperFacts K) (stamp : List ℕ) where
       ∙ ap (λ (x : List Passing). x ++ flat_map (passing_at addresses) (all_replies (map (act_of stamp) es))) (passed_step stamp e facts at h.2 h.0 h.1 addresses)
       ∙ ap (λ (x : List Passing). passing_of addresses e ++ x) (passed_all addresses e.after es h.3)
 
-sorted_all : {K : Type 0} (stamp : List ℕ) (es : List (Exchange K)) (more : List (Act K)) → AllByRecursion IsSorted more → AllByRecursion IsSorted (map (act_of stamp) es ++ more)
+sorted_all : {K : Type 0} (stamp : List ℕ) (es : List (Exchange K)) (more : List (Action K)) → AllByRecursion IsSorted more → AllByRecursion IsSorted (map (act_of stamp) es ++ more)
 sorted_all stamp [] more h = h
 sorted_all stamp (e ∷ es) more h = (sorted_step stamp e, sorted_all stamp es more h)
 
@@ -280,7 +280,7 @@ none_at_end {K = K} stamp now = by now.arbiter.is_down
     by true = refl
     by false = refl
 
-replies_join : {K : Type 0} (xs ys : List (Act K)) → all_replies (xs ++ ys) ≡ all_replies xs ++ all_replies ys
+replies_join : {K : Type 0} (xs ys : List (Action K)) → all_replies (xs ++ ys) ≡ all_replies xs ++ all_replies ys
 replies_join xs ys = flat_map-append replies_of xs ys
 
 -- ---- the opening
@@ -332,10 +332,10 @@ module _ {F : Type 0} (facts : F → KeptFacts) (setup : SetupView) (stamp : Lis
   unfolding InTurn
   own_all at now [] h turn = ap (λ (m : Moment (FileKeeper F)). life_at m) turn
   own_all at now (e ∷ es) h turn =
-      subst (λ (acts : List (Act (FileKeeper F))). Goes (one_game facts setup stamp) (common_of setup) stamp (life_at at) acts (life_at now))
-      (sym (filter-append (λ (a : Act (FileKeeper F)). is_stamp stamp (game_of a)) (act_of stamp e ∷ []) (map (act_of stamp) es)))
+      subst (λ (acts : List (Action (FileKeeper F))). Goes (one_game facts setup stamp) (common_of setup) stamp (life_at at) acts (life_at now))
+      (sym (filter-append (λ (a : Action (FileKeeper F)). is_stamp stamp (game_of a)) (act_of stamp e ∷ []) (map (act_of stamp) es)))
       (goes_join (one_game facts setup stamp) (common_of setup) stamp (acts_of stamp (act_of stamp e ∷ [])) (acts_of stamp (map (act_of stamp) es)) (life_at at) (life_at e.after) (life_at now)
-      (subst (λ (l : Life (FileKeeper F)). GoesOwn facts setup stamp l (act_of stamp e ∷ []) (life_at e.after)) (sym (open_up at h.0)) (own_step facts setup stamp at e h.2 h.0 h.1))
+      (subst (λ (l : GameStatus (FileKeeper F)). GoesOwn facts setup stamp l (act_of stamp e ∷ []) (life_at e.after)) (sym (open_up at h.0)) (own_step facts setup stamp at e h.2 h.0 h.1))
       (own_all e.after now es h.3 turn.1))
 
   own_end : (now : Moment (FileKeeper F)) → GoesOwn facts setup stamp (life_at now) (closing stamp now) (Shut now.keeper)
@@ -345,7 +345,7 @@ module _ {F : Type 0} (facts : F → KeptFacts) (setup : SetupView) (stamp : Lis
       by true is = refl
       by false is = rw (own_bytes stamp) (Shut now.keeper, (refl, refl), refl)
 
-  own_goes : (game : Found) (start : FileKeeper F) (opened now : Moment (FileKeeper F)) (es : List (Exchange (FileKeeper F))) → IsGameOfSetup setup game → IsOpening (keeper_over facts) setup start opened.keeper (Ok opened.arbiter) → Opened (keeper_over facts) setup start opened.keeper opened.arbiter → opened.arbiter.me.stamp ≡ stamp → Runs (keeper_over facts) stamp opened es → InTurn (keeper_over facts) opened es now
+  own_goes : (game : GameConfig) (start : FileKeeper F) (opened now : Moment (FileKeeper F)) (es : List (Exchange (FileKeeper F))) → IsGameOfSetup setup game → IsOpening (keeper_over facts) setup start opened.keeper (Ok opened.arbiter) → Opened (keeper_over facts) setup start opened.keeper opened.arbiter → opened.arbiter.me.stamp ≡ stamp → Runs (keeper_over facts) stamp opened es → InTurn (keeper_over facts) opened es now
       → GoesOwn facts setup stamp Fresh (acts_for setup stamp start opened es now) (Shut now.keeper)
   own_goes game start opened now es named o opened_is mine runs turn =
       rw (own_bytes stamp) (life_at opened, opens, rest)
@@ -361,8 +361,8 @@ module _ {F : Type 0} (facts : F → KeptFacts) (setup : SetupView) (stamp : Lis
 
       rest : Goes (one_game facts setup stamp) (common_of setup) stamp (life_at opened) (acts_of stamp (map (act_of stamp) es ++ closing stamp now)) (Shut now.keeper)
       rest =
-          subst (λ (acts : List (Act (FileKeeper F))). Goes (one_game facts setup stamp) (common_of setup) stamp (life_at opened) acts (Shut now.keeper))
-          (sym (filter-append (λ (a : Act (FileKeeper F)). is_stamp stamp (game_of a)) (map (act_of stamp) es) (closing stamp now)))
+          subst (λ (acts : List (Action (FileKeeper F))). Goes (one_game facts setup stamp) (common_of setup) stamp (life_at opened) acts (Shut now.keeper))
+          (sym (filter-append (λ (a : Action (FileKeeper F)). is_stamp stamp (game_of a)) (map (act_of stamp) es) (closing stamp now)))
           (goes_join (one_game facts setup stamp) (common_of setup) stamp (acts_of stamp (map (act_of stamp) es)) (acts_of stamp (closing stamp now)) (life_at opened) (life_at now) (Shut now.keeper) (own_all opened now es runs turn) (own_end now))
 
 pub listens_are_hosted : {F : Type 0} (facts : F → KeptFacts) → ListensAreHosted facts

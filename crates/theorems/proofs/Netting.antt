@@ -5,8 +5,8 @@ use Rattle.std.proofs.lemmas.Bool.{cond-false}
 use Rattle.std.proofs.lemmas.List.{append-nil}
 use Rattle.judge_core.specs.Games.{Rules}
 use Rattle.move_msg.specs.declared.stamp.Stamp.{Stamp}
-use Rattle.move_msg.specs.declared.who.Who.{Who}
-use Rattle.move_msg.specs.declared.who.Who.TheVariants.{A, B}
+use Rattle.move_msg.specs.declared.arbiter_id.ArbiterId.{ArbiterId}
+use Rattle.move_msg.specs.declared.arbiter_id.ArbiterId.TheVariants.{A, B}
 use Rattle.move_msg.specs.declared.message.Message.{Message}
 use Rattle.move_msg.specs.declared.message.Message.TheVariants.{Move, Ack, Verdict, Fetch}
 use Rattle.move_msg.proofs.RecordLaws.{is_spelled}
@@ -19,7 +19,7 @@ use Rattle.arbiter_core.specs.declared.keeper.Keep.TheVariants.{Good, FailsOld, 
 use Rattle.arbiter_core.specs.Keeping.{KeeperFacts}
 use Rattle.arbiter_core.specs.Setups.{SetupView, rules_at}
 use Rattle.arbiter_core.specs.Views.{View, spelled_as}
-use Rattle.arbiter_core.specs.Recording.{Recorded, Window}
+use Rattle.arbiter_core.specs.Recording.{Recorded, ReorderBuffer}
 use Rattle.arbiter_core.specs.Answering.{Answer, Identity, Refuses, Sends, Puts, answer_heard, answer_to, request_of}
 use Rattle.arbiter_core.specs.Delivers.{Exchange, IsSpelled, IsWritten, Lands, PutsIfAny, RefusesOrSends, Told as Answered, Unchanged, answer_at, downed, heard}
 use Rattle.arbiter_core.specs.Opens.{FirstLands, IsResumed, IsWhole, OpenResult as Opened, Opens, OpensOver, PutsFirst, Resumes, first_record, running}
@@ -28,7 +28,7 @@ use Rattle.relay_world.specs.declared.event.Event.TheVariants.{Deliver, Restart,
 use Rattle.relay_world.specs.Worlds.{Down, Judged, Running, Side, SideLife, World, answered, delivered, first_world, happens, hears, hears_at, identity, listed, restarted, side_in, wants, with_side, world_after_all}
 use Rattle.relay_world.specs.Headline.{IsFaithful, IsFrontOf}
 use Rattle.relay_world.specs.Runs.{KeptIs}
-use Rattle.theorems.specs.Nets.{NetStep, AnswersOne, Answering, AsksOne, Asking, ClosesOne, FoundAnswered, FoundOpened, GoesBySteps, GoesByStep, IsHeeded, IsOfWorld, IsSetupOf, IsToBePut, Net, OpensOne, OpeningInNet, Site, arbiter_in, changed, first_net, sent_with, site_of}
+use Rattle.theorems.specs.Nets.{NetStep, AnswersOne, Answering, AsksOne, Asking, ClosesOne, FoundAnswered, FoundOpened, GoesBySteps, GoesByStep, IsHeeded, IsOfWorld, IsSetupOf, IsToBePut, SystemState, OpensOne, OpeningInNet, Site, arbiter_in, changed, first_net, sent_with, site_of}
 use Rattle.relay_world.proofs.Hearing.{written_too}
 use Rattle.relay_world.proofs.Reopening.{one_whole}
 use Rattle.relay_world.proofs.Pairing.{whole_of}
@@ -38,32 +38,32 @@ use Rattle.relay_world.proofs.Faithful.{faithful_of}
 
 -- ---- a site stands for a side of a world
 
-pub record RunsAt (game : Judged) (who : Who) (v : View) (side : Side) : Type 0 where
+pub record RunsAt (game : Judged) (who : ArbiterId) (v : View) (side : Side) : Type 0 where
   pub rules : rules_at v.setup ≡ game.rules
   pub me : v.me ≡ identity game who
   pub is : v.is_down ≡ false → (side.life ≡ Running v.window) × (side.kept ≡ Some v.kept)
 
 -- of an arbiter that is closed nothing is said, and of one that is down nothing but whose it is
-abbrev pub RunsSo : Judged → Who → Option View → Side → Type 0
+abbrev pub RunsSo : Judged → ArbiterId → Option View → Side → Type 0
 RunsSo game who None side = Unit {0}
 RunsSo game who (Some v) side = RunsAt game who v side
 
-pub record Shows (game : Judged) (who : Who) (found : Option (List ℕ)) (arbiter : Option View) (side : Side) : Type 0 where
+pub record Shows (game : Judged) (who : ArbiterId) (found : Option (List ℕ)) (arbiter : Option View) (side : Side) : Type 0 where
   pub kept : KeptIs game.stamp game.rules.delay found side.kept
   pub runs : RunsSo game who arbiter side
 
-pub record ShowsNet (game : Judged) (net : Net) (world : World) : Type 0 where
+pub record ShowsNet (game : Judged) (net : SystemState) (world : World) : Type 0 where
   pub a : Shows game A net.a.kept net.a.arbiter world.a
   pub b : Shows game B net.b.kept net.b.arbiter world.b
   pub log : net.log ≡ world.log
 
-abbrev pub Stands : Judged → Net → Type 0
+abbrev pub Stands : Judged → SystemState → Type 0
 Stands game net = (events : List Event) × ShowsNet game net (world_after_all game (first_world game) events)
 
 -- ---- an answer
 
 -- what an answer leaves: all as it was, or what a put with some outcome leaves
-abbrev Comes : Judged → Who → Option (List ℕ) → View → List Message → Recorded → Window → Answer → Type 0
+abbrev Comes : Judged → ArbiterId → Option (List ℕ) → View → List Message → Recorded → ReorderBuffer → Answer → Type 0
 Comes game who found new outputs old window a =
     (Shows game who found (Some new) (record { kept = Some old; life = Running window }) × (outputs ≡ []))
     ⊎ ((keep : Keep) × Shows game who found (Some new) (answered keep old window a).0 × (outputs ≡ (answered keep old window a).1))
@@ -74,7 +74,7 @@ no_two told f g e h = cc
 not_both : (told : Answered) (outputs : List Message) (f : DeliverFault) → told ≡ Ok outputs → told ≡ Err f → ⊥
 not_both told outputs f e h = cc
 
-module _ {K : Type 0} (facts : KeeperFacts K) (game : Judged) (who : Who) (v : View) (rules : rules_at v.setup ≡ game.rules) (me : v.me ≡ identity game who) (up : v.is_down ≡ false) where
+module _ {K : Type 0} (facts : KeeperFacts K) (game : Judged) (who : ArbiterId) (v : View) (rules : rules_at v.setup ≡ game.rules) (me : v.me ≡ identity game who) (up : v.is_down ≡ false) where
   abbrev Found : View → K → K → Answered → Answer → Option (List ℕ) → Type 0
   Found new before now told a found = (found ≡ facts.kept now) ⊎ ((told ≡ Err deliver.KeeperFailed) × IsToBePut v a found)
 
@@ -147,11 +147,11 @@ no_open : (told : Opened) (v : View) (f : OpenFault) → told ≡ Ok v → told 
 no_open told v f e h = cc
 
 -- what an opening leaves: no step of the world, or a restart
-abbrev Reopens : Judged → Who → Option (List ℕ) → Opened → Side → Type 0
+abbrev Reopens : Judged → ArbiterId → Option (List ℕ) → Opened → Side → Type 0
 Reopens game who found told side =
     Shows game who found (arbiter_in told) side ⊎ ((keep : Keep) × Shows game who found (arbiter_in told) (restarted game.rules keep side.kept))
 
-module _ {K : Type 0} (facts : KeeperFacts K) (game : Judged) (who : Who) (setup : SetupView) (is_setup : IsSetupOf game who setup) where
+module _ {K : Type 0} (facts : KeeperFacts K) (game : Judged) (who : ArbiterId) (setup : SetupView) (is_setup : IsSetupOf game who setup) where
   abbrev First : Recorded
   First = first_record (rules_at setup)
 
@@ -229,60 +229,60 @@ module _ {K : Type 0} (facts : KeeperFacts K) (game : Judged) (who : Who) (setup
 
 -- ---- the steps of the net
 
-pub shows_at : (game : Judged) (net : Net) (world : World) (who : Who) → ShowsNet game net world → Shows game who (site_of net who).kept (site_of net who).arbiter (side_in world who)
+pub shows_at : (game : Judged) (net : SystemState) (world : World) (who : ArbiterId) → ShowsNet game net world → Shows game who (site_of net who).kept (site_of net who).arbiter (side_in world who)
 shows_at game net world A h = h.a
 shows_at game net world B h = h.b
 
 -- one site changes as its side does
-turned_shows : (game : Judged) (net : Net) (world : World) (who : Who) (site : Site) (outputs : List Message) (late : Side × List Message) → ShowsNet game net world → Shows game who site.kept site.arbiter late.0 → outputs ≡ late.1 → ShowsNet game (changed net who site outputs) (with_side world who late)
+turned_shows : (game : Judged) (net : SystemState) (world : World) (who : ArbiterId) (site : Site) (outputs : List Message) (late : Side × List Message) → ShowsNet game net world → Shows game who site.kept site.arbiter late.0 → outputs ≡ late.1 → ShowsNet game (changed net who site outputs) (with_side world who late)
 turned_shows game net world A site outputs late h s e = record { a = s; b = h.b; log = ap (λ (xs : List Message). net.log ++ xs) e ∙ ap (λ (xs : List Message). xs ++ late.1) h.log }
 turned_shows game net world B site outputs late h s e = record { a = h.a; b = s; log = ap (λ (xs : List Message). net.log ++ xs) e ∙ ap (λ (xs : List Message). xs ++ late.1) h.log }
 
 -- one site changes, and no side does
-still_shows : (game : Judged) (net : Net) (world : World) (who : Who) (site : Site) (outputs : List Message) → ShowsNet game net world → Shows game who site.kept site.arbiter (side_in world who) → outputs ≡ [] → ShowsNet game (changed net who site outputs) world
+still_shows : (game : Judged) (net : SystemState) (world : World) (who : ArbiterId) (site : Site) (outputs : List Message) → ShowsNet game net world → Shows game who site.kept site.arbiter (side_in world who) → outputs ≡ [] → ShowsNet game (changed net who site outputs) world
 still_shows game net world A site outputs h s e = record { a = s; b = h.b; log = ap (λ (xs : List Message). net.log ++ xs) e ∙ append-nil net.log ∙ h.log }
 still_shows game net world B site outputs h s e = record { a = h.a; b = s; log = ap (λ (xs : List Message). net.log ++ xs) e ∙ append-nil net.log ∙ h.log }
 
 -- a net that a further event leads to
-by_event : (game : Judged) (net : Net) (events : List Event) (event : Event) (world : World) → happens game (world_after_all game (first_world game) events) event ≡ world → ShowsNet game net world → Stands game net
+by_event : (game : Judged) (net : SystemState) (events : List Event) (event : Event) (world : World) → happens game (world_after_all game (first_world game) events) event ≡ world → ShowsNet game net world → Stands game net
 by_event game net events event world is h =
     (events ++ event ∷ [], subst (ShowsNet game net) (sym is ∙ sym (after_append game (first_world game) events (event ∷ []))) h)
 
-deliver_is : (game : Judged) (world : World) (who : Who) (i : ℕ) (keep : Keep) (m : Message) → slice_get world.log i ≡ Some m → happens game world (Deliver who i keep) ≡ with_side world who (hears keep (side_in world who) (λ old window. answer_to game.rules (identity game who) old window m))
+deliver_is : (game : Judged) (world : World) (who : ArbiterId) (i : ℕ) (keep : Keep) (m : Message) → slice_get world.log i ≡ Some m → happens game world (Deliver who i keep) ≡ with_side world who (hears keep (side_in world who) (λ old window. answer_to game.rules (identity game who) old window m))
 unfolding happens
 deliver_is game world who i keep m e = ap (delivered game world who keep) e
 
-restart_is : (game : Judged) (world : World) (who : Who) (keep : Keep) → happens game world (Restart who keep) ≡ with_side world who (restarted game.rules keep (side_in world who).kept, [])
+restart_is : (game : Judged) (world : World) (who : ArbiterId) (keep : Keep) → happens game world (Restart who keep) ≡ with_side world who (restarted game.rules keep (side_in world who).kept, [])
 unfolding happens
 restart_is game world who keep = refl
 
-ask_is : (game : Judged) (world : World) (who : Who) → happens game world (Ask who) ≡ with_side world who (side_in world who, wants (identity game who) (side_in world who).kept (side_in world who).life)
+ask_is : (game : Judged) (world : World) (who : ArbiterId) → happens game world (Ask who) ≡ with_side world who (side_in world who, wants (identity game who) (side_in world who).kept (side_in world who).life)
 unfolding happens
 ask_is game world who = refl
 
-running_hears : (keep : Keep) (kept : Option Recorded) (life : SideLife) (old : Recorded) (window : Window) (respond : Recorded → Window → Answer) → kept ≡ Some old → life ≡ Running window → hears_at keep kept life respond ≡ answered keep old window (respond old window)
+running_hears : (keep : Keep) (kept : Option Recorded) (life : SideLife) (old : Recorded) (window : ReorderBuffer) (respond : Recorded → ReorderBuffer → Answer) → kept ≡ Some old → life ≡ Running window → hears_at keep kept life respond ≡ answered keep old window (respond old window)
 running_hears keep kept life old window respond e f = rw (e, f) refl
 
-same_side : (side : Side) (old : Recorded) (window : Window) → side.life ≡ Running window → side.kept ≡ Some old → side ≡ record { kept = Some old; life = Running window }
+same_side : (side : Side) (old : Recorded) (window : ReorderBuffer) → side.life ≡ Running window → side.kept ≡ Some old → side ≡ record { kept = Some old; life = Running window }
 same_side side old window e f = made side.kept side.life f e
   where
     made : (kept : Option Recorded) (life : SideLife) → kept ≡ Some old → life ≡ Running window → ◌≡◌ {A = Side} (record { kept = kept; life = life }) (record { kept = Some old; life = Running window })
     made kept life e f = cc
 
 -- a message is heeded, or nothing comes of it
-heeded : (rules : Rules) (me : Identity) (old : Recorded) (window : Window) (m : Message) → IsHeeded m ⊎ (answer_to rules me old window m ≡ Sends [] window)
+heeded : (rules : Rules) (me : Identity) (old : Recorded) (window : ReorderBuffer) (m : Message) → IsHeeded m ⊎ (answer_to rules me old window m ≡ Sends [] window)
 unfolding answer_to
 heeded rules me old window (Move stamp sender number m) = inl tt
 heeded rules me old window (Ack stamp who count) = inr refl
 heeded rules me old window (Verdict stamp who ply verdict) = inr refl
 heeded rules me old window (Fetch stamp who number wanted) = inl tt
 
-front_of : (game : Judged) (world : World) (who : Who) → IsFaithful game world → IfSome (side_in world who).kept (IsFrontOf game.rules game.moves)
+front_of : (game : Judged) (world : World) (who : ArbiterId) → IsFaithful game world → IfSome (side_in world who).kept (IsFrontOf game.rules game.moves)
 front_of game world A f = f.a
 front_of game world B f = f.b
 
 module _ {K : Type 0} (facts : KeeperFacts K) (game : Judged) where
-  opening_goes : (old new : Net) (who : Who) (before now : K) (told : Opened) → Stands game old → OpeningInNet facts game old who before now told new → Stands game new
+  opening_goes : (old new : SystemState) (who : ArbiterId) (before now : K) (told : Opened) → Stands game old → OpeningInNet facts game old who before now told new → Stands game new
   opening_goes old new who before now told s o =
       let events : List Event = s.0 in
       let world : World = world_after_all game (first_world game) events in
@@ -299,7 +299,7 @@ module _ {K : Type 0} (facts : KeeperFacts K) (game : Judged) where
           (subst (λ (w : World). happens game w (Restart who r.0) ≡ with_side world who late) e (restart_is game world who r.0))
           (turned_shows game old world who o.site [] late h (subst (λ (x : Option View). Shows game who o.site.kept x (restarted game.rules r.0 (side_in world who).kept)) (sym o.is.arbiter) r.1) refl)
 
-  answering_goes : (old new : Net) (who : Who) (v : View) (before : K) (e : Exchange K) → Stands game old → Answering facts game old who v before e new → Stands game new
+  answering_goes : (old new : SystemState) (who : ArbiterId) (v : View) (before : K) (e : Exchange K) → Stands game old → Answering facts game old who v before e new → Stands game new
   answering_goes old new who v before e s o =
       let events : List Event = s.0 in
       let world : World = world_after_all game (first_world game) events in
@@ -364,7 +364,7 @@ module _ {K : Type 0} (facts : KeeperFacts K) (game : Judged) where
           by_said (Err fault) is same (inr c) = unchanged c.1 c.2
           by_said (Ok m) is same c = by_message m is c (heeded game.rules (identity game who) v.kept v.window m)
 
-  asking_goes : (old new : Net) (who : Who) (v : View) → Stands game old → Asking old who v new → Stands game new
+  asking_goes : (old new : SystemState) (who : ArbiterId) (v : View) → Stands game old → Asking old who v new → Stands game new
   asking_goes old new who v s o =
       let events : List Event = s.0 in
       let world : World = world_after_all game (first_world game) events in
@@ -380,30 +380,30 @@ module _ {K : Type 0} (facts : KeeperFacts K) (game : Judged) where
       asks : (kept : Option Recorded) (life : SideLife) → kept ≡ Some v.kept → life ≡ Running v.window → wants (identity game who) kept life ≡ listed (request_of (identity game who) v.kept)
       asks kept life e f = rw (e, f) refl
 
-  closing_goes : (old new : Net) (who : Who) → Stands game old → new ≡ changed old who (record { kept = (site_of old who).kept; arbiter = None }) [] → Stands game new
+  closing_goes : (old new : SystemState) (who : ArbiterId) → Stands game old → new ≡ changed old who (record { kept = (site_of old who).kept; arbiter = None }) [] → Stands game new
   closing_goes old new who s e =
       let world : World = world_after_all game (first_world game) s.0 in
       let shows = shows_at game old world who s.1 in
       subst (Stands game) (sym e) (s.0, still_shows game old world who (record { kept = (site_of old who).kept; arbiter = None }) [] s.1 (record { kept = shows.kept; runs = tt }) refl)
 
-  goes_on : (old new : Net) (act : NetStep K) → Stands game old → GoesByStep facts game old act new → Stands game new
+  goes_on : (old new : SystemState) (act : NetStep K) → Stands game old → GoesByStep facts game old act new → Stands game new
   goes_on old new (OpensOne who before now told) s o = opening_goes old new who before now told s o
   goes_on old new (AnswersOne who v before e) s o = answering_goes old new who v before e s o
   goes_on old new (AsksOne who v) s o = asking_goes old new who v s o
   goes_on old new (ClosesOne who) s o = closing_goes old new who s o
 
-  goes : (old new : Net) (acts : List (NetStep K)) → Stands game old → GoesBySteps facts game old acts new → Stands game new
+  goes : (old new : SystemState) (acts : List (NetStep K)) → Stands game old → GoesBySteps facts game old acts new → Stands game new
   goes old new [] s e = subst (Stands game) (sym e) s
   goes old new (act ∷ acts) s g = goes g.0 new acts (goes_on old g.0 act s g.1) g.2
 
   first_stands : Stands game (first_net game)
   first_stands = ([], record { a = record { kept = refl; runs = tt }; b = record { kept = refl; runs = tt }; log = refl })
 
-  pub stands_there : (acts : List (NetStep K)) (net : Net) → GoesBySteps facts game (first_net game) acts net → Stands game net
+  pub stands_there : (acts : List (NetStep K)) (net : SystemState) → GoesBySteps facts game (first_net game) acts net → Stands game net
   stands_there acts net g = goes (first_net game) net acts first_stands g
 
   -- an arbiter that runs has the record of its side of the world
-  pub runs_true : (net : Net) → Stands game net → (who : Who) (v : View) → (site_of net who).arbiter ≡ Some v → v.is_down ≡ false → IsFrontOf game.rules game.moves v.kept
+  pub runs_true : (net : SystemState) → Stands game net → (who : ArbiterId) (v : View) → (site_of net who).arbiter ≡ Some v → v.is_down ≡ false → IsFrontOf game.rules game.moves v.kept
   runs_true net s who v e up =
       let world : World = world_after_all game (first_world game) s.0 in
       let shows = shows_at game net world who s.1 in
@@ -411,10 +411,10 @@ module _ {K : Type 0} (facts : KeeperFacts K) (game : Judged) where
       subst (λ (x : Option Recorded). IfSome x (IsFrontOf game.rules game.moves)) (runs.is up).1
       (front_of game world who (faithful_of game world (right_of game world (holds_after game s.0))))
 
-  pub arbiters_tell_the_truth : (acts : List (NetStep K)) (net : Net) → GoesBySteps facts game (first_net game) acts net → (who : Who) (v : View) → (site_of net who).arbiter ≡ Some v → v.is_down ≡ false → IsFrontOf game.rules game.moves v.kept
+  pub arbiters_tell_the_truth : (acts : List (NetStep K)) (net : SystemState) → GoesBySteps facts game (first_net game) acts net → (who : ArbiterId) (v : View) → (site_of net who).arbiter ≡ Some v → v.is_down ≡ false → IsFrontOf game.rules game.moves v.kept
   arbiters_tell_the_truth acts net g = runs_true net (stands_there acts net g)
 
-  pub arbiters_are_worlds : (acts : List (NetStep K)) (net : Net) → GoesBySteps facts game (first_net game) acts net → IsOfWorld game net
+  pub arbiters_are_worlds : (acts : List (NetStep K)) (net : SystemState) → GoesBySteps facts game (first_net game) acts net → IsOfWorld game net
   arbiters_are_worlds acts net g =
       let s = stands_there acts net g in
       record {

@@ -2,7 +2,7 @@
 use Rattle.std.proofs.Common.{◌≡◌, ◌∙◌, ℕ, false, List, [], ◌∷◌, Option, Some, None, inl, inr, refl, sym, ap, subst, arith}
 use Rattle.std.specs.Prelude.{◌⊎◌, Err}
 use Rattle.move_msg.specs.declared.stamp.Stamp.{Stamp}
-use Rattle.move_msg.specs.declared.who.Who.{Who}
+use Rattle.move_msg.specs.declared.arbiter_id.ArbiterId.{ArbiterId}
 use Rattle.move_msg.proofs.RecordLaws.{is_spelled}
 use Rattle.arbiter_core.specs.declared.fault.DeliverFault.TheVariants as deliver
 use Rattle.arbiter_core.specs.declared.fault.OpenFault.TheVariants as open_fault
@@ -14,11 +14,11 @@ use Rattle.arbiter_core.specs.Recording.{Recorded}
 use Rattle.arbiter_core.specs.Answering.{Answer, Identity, Puts, Refuses, Sends}
 use Rattle.arbiter_core.specs.Delivers.{Delivers, Exchange, IsSpelled, IsWritten, PutsIfAny, RefusesOrSends, answer_at, downed, exchange, moment}
 use Rattle.arbiter_core.specs.Opens.{PutsFirst, first_record}
-use Rattle.arbiter_server.specs.Games.{Fresh, Life, Open, Shut}
+use Rattle.arbiter_server.specs.Games.{Fresh, GameStatus, Open, Shut}
 use Rattle.relay_world.specs.Worlds.{Judged, identity}
 use Rattle.theorems.specs.Nets as nets
-use Rattle.theorems.specs.Nets.{AnswersOne, ClosesOne, IsToBePut, Net, OpensOne, changed, site_of}
-use Rattle.theorems.specs.Weaves.{IsCutAtFirst, IsSiteCutAtPut, IsSiteOfLife, Stops, closed_with, open_with}
+use Rattle.theorems.specs.Nets.{AnswersOne, ClosesOne, IsToBePut, SystemState, OpensOne, changed, site_of}
+use Rattle.theorems.specs.Interleavings.{IsCutAtFirst, IsSiteCutAtPut, IsSiteOfLife, Stops, closed_with, open_with}
 use Rattle.theorems.proofs.Seeing.{Seen, seen_facts}
 use Rattle.theorems.proofs.Weaving.{Moves, close_after, closed}
 
@@ -70,7 +70,7 @@ none_some : (arbiter : Option View) (v : View) → arbiter ≡ None → arbiter 
 none_some arbiter v e f = cc
 
 -- an arbiter that is open at a site runs
-is_up : {K : Type 0} (facts : KeeperFacts K) (life : Life K) (kept : Option (List ℕ)) (arbiter : Option View) (v : View) → IsSiteOfLife facts life (open_with kept arbiter) → arbiter ≡ Some v → v.is_down ≡ false
+is_up : {K : Type 0} (facts : KeeperFacts K) (life : GameStatus K) (kept : Option (List ℕ)) (arbiter : Option View) (v : View) → IsSiteOfLife facts life (open_with kept arbiter) → arbiter ≡ Some v → v.is_down ≡ false
 is_up facts Fresh kept arbiter v here e = absurd (none_some arbiter v here e)
 is_up facts (Shut left) kept arbiter v here e = absurd (none_some arbiter v here e)
 is_up facts (Open at) kept arbiter v here e =
@@ -80,11 +80,11 @@ is_up facts (Open at) kept arbiter v here e =
     one : (x y : View) → ◌≡◌ {A = Option View} (Some x) (Some y) → x ≡ y
     one x y e = cc
 
-module _ {K : Type 0} (facts : KeeperFacts K) (game : Judged) (who : Who) (old new : Net) where
+module _ {K : Type 0} (facts : KeeperFacts K) (game : Judged) (who : ArbiterId) (old new : SystemState) where
   abbrev Ended : Type 0
   Ended = Moves facts game old who Fresh new
 
-  abbrev DownAt : Option (List ℕ) → View → Net
+  abbrev DownAt : Option (List ℕ) → View → SystemState
   DownAt found v = changed old who (open_with found (Some (downed v))) []
 
   -- nothing was put
@@ -128,7 +128,7 @@ module _ {K : Type 0} (facts : KeeperFacts K) (game : Judged) (who : Who) (old n
     at = refl;
   }
 
-  pub stop_goes : (life : Life K) → IsSiteOfLife facts life (site_of old who) → Stops game old who new → Ended
+  pub stop_goes : (life : GameStatus K) → IsSiteOfLife facts life (site_of old who) → Stops game old who new → Ended
   stop_goes life here st = by_cut st.is_found
     where
       by_cut : (st.found ≡ (site_of old who).kept) ⊎ (IsSiteCutAtPut game old.log (site_of old who) st.found ⊎ IsCutAtFirst game who (site_of old who) st.found) → Ended

@@ -12,8 +12,8 @@ use Rattle.arbiter_core.specs.Recording.{Recorded}
 use Rattle.arbiter_core.specs.Setups.{SetupView, rules_at}
 use Rattle.system_io.specs.Disks.{DiskFacts}
 use Rattle.system_io.specs.Records.{StoreFacts}
-use Rattle.arbiter_server.specs.Acts.{Act, Unread, Strange, Refuses, Opens, Answers, Closes, acts_of, all_replies, game_of, is_stamp, replies_of}
-use Rattle.arbiter_server.specs.Games.{CommonView, Fresh, Life, Open, Shut}
+use Rattle.arbiter_server.specs.Acts.{Action, Unread, Strange, Refuses, Opens, Answers, Closes, acts_of, all_replies, game_of, is_stamp, replies_of}
+use Rattle.arbiter_server.specs.Games.{CommonView, Fresh, GameStatus, Open, Shut}
 use Rattle.arbiter_server.specs.Hosts.{FindsWhatIsKept, IsCommitted}
 use Rattle.arbiter_server.specs.Rounds.{Round, replies_of_rounds}
 use Rattle.arbiter_server.specs.Serving.{outputs_of}
@@ -25,7 +25,7 @@ use Rattle.theorems.proofs.Storing.{Has, Held, Holds, all_held, begun_has, found
 
 -- ---- acts
 
-act_so : {K : Type 0} (P Q : Exchange K → Type 0) → ((e : Exchange K) → P e → Q e) → (a : Act K) → IfAnswers P a → IfAnswers Q a
+act_so : {K : Type 0} (P Q : Exchange K → Type 0) → ((e : Exchange K) → P e → Q e) → (a : Action K) → IfAnswers P a → IfAnswers Q a
 act_so P Q f (Unread datagram fault) h = tt
 act_so P Q f (Strange stamp datagram tried why) h = tt
 act_so P Q f (Refuses stamp datagram o fault) h = tt
@@ -33,14 +33,14 @@ act_so P Q f (Opens stamp o arbiter) h = tt
 act_so P Q f (Answers stamp e) h = f e h
 act_so P Q f (Closes stamp left) h = tt
 
-acts_so : {K : Type 0} (P Q : Exchange K → Type 0) → ((e : Exchange K) → P e → Q e) → (acts : List (Act K)) → AllByRecursion (IfAnswers P) acts → AllByRecursion (IfAnswers Q) acts
+acts_so : {K : Type 0} (P Q : Exchange K → Type 0) → ((e : Exchange K) → P e → Q e) → (acts : List (Action K)) → AllByRecursion (IfAnswers P) acts → AllByRecursion (IfAnswers Q) acts
 acts_so P Q f [] h = tt
 acts_so P Q f (a ∷ acts) h = (act_so P Q f a h.0, acts_so P Q f acts h.1)
 
-shut_fresh : {K : Type 0} (left : K) → ◌≡◌ {A = Life K} (Shut left) Fresh → ⊥
+shut_fresh : {K : Type 0} (left : K) → ◌≡◌ {A = GameStatus K} (Shut left) Fresh → ⊥
 shut_fresh left e = cc
 
-open_fresh : {K : Type 0} (at : Moment K) → ◌≡◌ {A = Life K} (Open at) Fresh → ⊥
+open_fresh : {K : Type 0} (at : Moment K) → ◌≡◌ {A = GameStatus K} (Open at) Fresh → ⊥
 open_fresh at e = cc
 
 -- ---- one run
@@ -59,7 +59,7 @@ module _ (grow : PutsGrow) (disk : DiskFacts) (folder : List ℕ) where
   same_kept : (left next : Memory) → next.kept ≡ left.kept → next.kept ≡ left.kept
   same_kept left next e = e
 
-  found_still : (t : CommonView) (of : List ℕ) (setup : SetupView) (finds : Memory → Type 0) (life : Life Memory) → FindsWhatIsKept (store_keepers disk folder) finds life → (next : Memory) → finds next → (e : Exchange Memory) → Held memory_facts setup life e → IsStillKept next e
+  found_still : (t : CommonView) (of : List ℕ) (setup : SetupView) (finds : Memory → Type 0) (life : GameStatus Memory) → FindsWhatIsKept (store_keepers disk folder) finds life → (next : Memory) → finds next → (e : Exchange Memory) → Held memory_facts setup life e → IsStillKept next e
   found_still t of setup finds life h next x e held =
       still setup next e held.of_setup
       (found_holds grow (store_keepers disk folder) same_kept t of setup e.after.arbiter.me.stamp e.after.arbiter.kept finds life h held.has next x) held.tells
@@ -114,7 +114,7 @@ all_filter : {A : Type 0} (P : A → Type 0) (test : A → Bool) (xs : List A) �
 all_filter P test [] h = tt
 all_filter P test (x ∷ xs) h = keep_if P (test x) x (filter test xs) h.0 (all_filter P test xs h.1)
 
-pub begins_front : {K : Type 0} (P : K → Type 0) (xs ys : List (Act K)) → BeginsOver P (xs ++ ys) → BeginsOver P xs
+pub begins_front : {K : Type 0} (P : K → Type 0) (xs ys : List (Action K)) → BeginsOver P (xs ++ ys) → BeginsOver P xs
 begins_front P [] ys h = tt
 begins_front P (Unread datagram fault ∷ xs) ys h = begins_front P xs ys h
 begins_front P (Strange stamp datagram tried why ∷ xs) ys h = begins_front P xs ys h
@@ -126,7 +126,7 @@ begins_front P (Closes stamp left ∷ xs) ys h = begins_front P xs ys h
 -- ---- answers
 
 -- acts without a reply are no answers
-none_answer : {K : Type 0} (P : Exchange K → Type 0) (acts : List (Act K)) → length (all_replies acts) ≡ 0 → AllByRecursion (IfAnswers P) acts
+none_answer : {K : Type 0} (P : Exchange K → Type 0) (acts : List (Action K)) → length (all_replies acts) ≡ 0 → AllByRecursion (IfAnswers P) acts
 none_answer P [] e = tt
 none_answer P (Unread datagram fault ∷ acts) e = absurd (omega arith)
 none_answer P (Strange stamp datagram tried why ∷ acts) e = absurd (omega arith)
@@ -135,23 +135,23 @@ none_answer P (Opens stamp o arbiter ∷ acts) e = (tt, none_answer P acts e)
 none_answer P (Answers stamp x ∷ acts) e = absurd (omega arith)
 none_answer P (Closes stamp left ∷ acts) e = (tt, none_answer P acts e)
 
-pub own_parts : {K : Type 0} (stamp : List ℕ) (xs ys : List (Act K)) → acts_of stamp (xs ++ ys) ≡ acts_of stamp xs ++ acts_of stamp ys
+pub own_parts : {K : Type 0} (stamp : List ℕ) (xs ys : List (Action K)) → acts_of stamp (xs ++ ys) ≡ acts_of stamp xs ++ acts_of stamp ys
 own_parts stamp xs ys = filter-append (λ act. is_stamp stamp (game_of act)) xs ys
 
 -- of two fronts of the same acts one with no more replies has no other answers
-front_answers : {K : Type 0} (P : Exchange K → Type 0) (stamp : List ℕ) (acts rest first more : List (Act K)) → acts ++ rest ≡ first ++ more → length (all_replies acts) ≤ length (all_replies first) → AllByRecursion (IfAnswers P) (acts_of stamp first) → AllByRecursion (IfAnswers P) (acts_of stamp acts)
+front_answers : {K : Type 0} (P : Exchange K → Type 0) (stamp : List ℕ) (acts rest first more : List (Action K)) → acts ++ rest ≡ first ++ more → length (all_replies acts) ≤ length (all_replies first) → AllByRecursion (IfAnswers P) (acts_of stamp first) → AllByRecursion (IfAnswers P) (acts_of stamp acts)
 front_answers {K = K} P stamp acts rest first more are few h = by (two_fronts acts rest first more are)
   where
-    by : ((x : List (Act K)) × (first ≡ acts ++ x)) ⊎ ((x : List (Act K)) × (acts ≡ first ++ x)) → AllByRecursion (IfAnswers P) (acts_of stamp acts)
+    by : ((x : List (Action K)) × (first ≡ acts ++ x)) ⊎ ((x : List (Action K)) × (acts ≡ first ++ x)) → AllByRecursion (IfAnswers P) (acts_of stamp acts)
     by (inl p) = all_front (IfAnswers P) (acts_of stamp acts) (acts_of stamp p.0) (subst (AllByRecursion (IfAnswers P)) (ap (acts_of stamp) p.1 ∙ own_parts stamp acts p.0) h)
     by (inr p) =
         let both : length (all_replies acts) ≡ length (all_replies first) + length (all_replies p.0) =
-        ap (λ (acts : List (Act K)). length (all_replies acts)) p.1 ∙ ap length (flat_map-append replies_of first p.0) ∙ length-append (all_replies first) (all_replies p.0) in
+        ap (λ (acts : List (Action K)). length (all_replies acts)) p.1 ∙ ap length (flat_map-append replies_of first p.0) ∙ length-append (all_replies first) (all_replies p.0) in
         let none : length (all_replies p.0) ≡ 0 = omega arith in
         subst (AllByRecursion (IfAnswers P)) (sym (ap (acts_of stamp) p.1 ∙ own_parts stamp first p.0))
         (all_both (IfAnswers P) (acts_of stamp first) (acts_of stamp p.0) h (all_filter (IfAnswers P) (λ act. is_stamp stamp (game_of act)) p.0 (none_answer P p.0 none)))
 
-act_with : {K : Type 0} (P Q : Exchange K → Type 0) (a : Act K) → IfAnswers P a → IfAnswers Q a → IfAnswers (λ e. P e × Q e) a
+act_with : {K : Type 0} (P Q : Exchange K → Type 0) (a : Action K) → IfAnswers P a → IfAnswers Q a → IfAnswers (λ e. P e × Q e) a
 act_with P Q (Unread datagram fault) h g = tt
 act_with P Q (Strange stamp datagram tried why) h g = tt
 act_with P Q (Refuses stamp datagram o fault) h g = tt
@@ -159,11 +159,11 @@ act_with P Q (Opens stamp o arbiter) h g = tt
 act_with P Q (Answers stamp e) h g = (h, g)
 act_with P Q (Closes stamp left) h g = tt
 
-acts_with : {K : Type 0} (P Q : Exchange K → Type 0) (acts : List (Act K)) → AllByRecursion (IfAnswers P) acts → AllByRecursion (IfAnswers Q) acts → AllByRecursion (IfAnswers (λ e. P e × Q e)) acts
+acts_with : {K : Type 0} (P Q : Exchange K → Type 0) (acts : List (Action K)) → AllByRecursion (IfAnswers P) acts → AllByRecursion (IfAnswers Q) acts → AllByRecursion (IfAnswers (λ e. P e × Q e)) acts
 acts_with P Q [] h g = tt
 acts_with P Q (a ∷ acts) h g = (act_with P Q a h.0 g.0, acts_with P Q acts h.1 g.1)
 
-act_each : {K N : Type 0} (F : N → Type 0) (P : N → Exchange K → Type 0) (a : Act K) → ((n : N) → F n → IfAnswers (P n) a) → IfAnswers (λ e. (n : N) → F n → P n e) a
+act_each : {K N : Type 0} (F : N → Type 0) (P : N → Exchange K → Type 0) (a : Action K) → ((n : N) → F n → IfAnswers (P n) a) → IfAnswers (λ e. (n : N) → F n → P n e) a
 act_each F P (Unread datagram fault) h = tt
 act_each F P (Strange stamp datagram tried why) h = tt
 act_each F P (Refuses stamp datagram o fault) h = tt
@@ -171,7 +171,7 @@ act_each F P (Opens stamp o arbiter) h = tt
 act_each F P (Answers stamp e) h = h
 act_each F P (Closes stamp left) h = tt
 
-acts_each : {K N : Type 0} (F : N → Type 0) (P : N → Exchange K → Type 0) (acts : List (Act K)) → ((n : N) → F n → AllByRecursion (IfAnswers (P n)) acts) → AllByRecursion (IfAnswers (λ e. (n : N) → F n → P n e)) acts
+acts_each : {K N : Type 0} (F : N → Type 0) (P : N → Exchange K → Type 0) (acts : List (Action K)) → ((n : N) → F n → AllByRecursion (IfAnswers (P n)) acts) → AllByRecursion (IfAnswers (λ e. (n : N) → F n → P n e)) acts
 acts_each F P [] h = tt
 acts_each F P (a ∷ acts) h = (act_each F P a (λ n f. (h n f).0), acts_each F P acts (λ n f. (h n f).1))
 
@@ -211,18 +211,18 @@ module _ (grow : PutsGrow) (disk : DiskFacts) (folder stamp : List ℕ) (setup :
       has : (of : Stamp) (kept : Recorded) → HeldIn before of kept → (c.games stamp ≡ Fresh) ⊎ Has memory_facts setup of kept (c.games stamp)
       has of kept h = begun_has grow (store_keepers disk folder) (same_kept grow disk folder) ran.common stamp setup of kept (store_finds facts before stamp) h (c.games stamp) (acts_of stamp c.first) (c.each stamp) of_one begins
 
-      found_in : (of : Stamp) (kept : Recorded) (life : Life Memory) → FindsWhatIsKept (store_keepers disk folder) (store_finds facts c.folder stamp) life → Has memory_facts setup of kept life → (next : Memory) → store_finds facts c.folder stamp next → Holds setup of kept next.kept
+      found_in : (of : Stamp) (kept : Recorded) (life : GameStatus Memory) → FindsWhatIsKept (store_keepers disk folder) (store_finds facts c.folder stamp) life → Has memory_facts setup of kept life → (next : Memory) → store_finds facts c.folder stamp next → Holds setup of kept next.kept
       found_in of kept = found_holds grow (store_keepers disk folder) (same_kept grow disk folder) ran.common stamp setup of kept (store_finds facts c.folder stamp)
 
       -- so a start finds it
-      stays_by : (of : Stamp) (kept : Recorded) → HeldIn before of kept → (life : Life Memory) → FindsWhatIsKept (store_keepers disk folder) (store_finds facts c.folder stamp) life → (life ≡ Fresh) ⊎ Has memory_facts setup of kept life → (next : Memory) → FoundAt facts stamp before life c.folder next → Holds setup of kept next.kept
+      stays_by : (of : Stamp) (kept : Recorded) → HeldIn before of kept → (life : GameStatus Memory) → FindsWhatIsKept (store_keepers disk folder) (store_finds facts c.folder stamp) life → (life ≡ Fresh) ⊎ Has memory_facts setup of kept life → (next : Memory) → FoundAt facts stamp before life c.folder next → Holds setup of kept next.kept
       stays_by of kept h Fresh finds x next found = h next found
       stays_by of kept h (Shut left) finds (inl e) next found = absurd (shut_fresh left e)
       stays_by of kept h (Shut left) finds (inr x) next found = found_in of kept (Shut left) finds x next found
       stays_by of kept h (Open at) finds (inl e) next found = absurd (open_fresh at e)
       stays_by of kept h (Open at) finds (inr x) next found = found_in of kept (Open at) finds x next found
 
-      answer_by : (life : Life Memory) → FindsWhatIsKept (store_keepers disk folder) (store_finds facts c.folder stamp) life → (next : Memory) → FoundAt facts stamp before life c.folder next → (e : Exchange Memory) → Held memory_facts setup life e → InNext next e
+      answer_by : (life : GameStatus Memory) → FindsWhatIsKept (store_keepers disk folder) (store_finds facts c.folder stamp) life → (next : Memory) → FoundAt facts stamp before life c.folder next → (e : Exchange Memory) → Held memory_facts setup life e → InNext next e
       answer_by Fresh finds next found e x = absurd x.has
       answer_by (Shut left) finds next found e x = found_in e.after.arbiter.me.stamp e.after.arbiter.kept (Shut left) finds x.has next found
       answer_by (Open at) finds next found e x = found_in e.after.arbiter.me.stamp e.after.arbiter.kept (Open at) finds x.has next found

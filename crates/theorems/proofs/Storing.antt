@@ -23,12 +23,12 @@ use Rattle.arbiter_core.specs.Keeping.{KeeperFacts}
 use Rattle.arbiter_core.specs.Laws.{Grows, IsOwn, PutsGrow}
 use Rattle.arbiter_core.specs.Opens as opening
 use Rattle.arbiter_core.specs.Opens.{FirstLands, IsOpening, IsResumed, IsWhole, first_record, running}
-use Rattle.arbiter_core.specs.Recording.{Recorded, Window, move_count, reaches}
+use Rattle.arbiter_core.specs.Recording.{Recorded, ReorderBuffer, move_count, reaches}
 use Rattle.arbiter_core.specs.Setups.{SetupView, rules_at}
 use Rattle.arbiter_core.specs.Views.{View, spelled_as}
-use Rattle.arbiter_server.specs.Acts.{Act, Opening, Unread, Strange, Refuses, Opens, Answers, Closes}
+use Rattle.arbiter_server.specs.Acts.{Action, Opening, Unread, Strange, Refuses, Opens, Answers, Closes}
 use Rattle.arbiter_server.specs.Folders.{Keepers}
-use Rattle.arbiter_server.specs.Games.{AnswersTo, ClosesTo, CommonView, Fresh, Goes, GoesByAct, Life, Open, OpensTo, Shut, life_after}
+use Rattle.arbiter_server.specs.Games.{AnswersTo, ClosesTo, CommonView, Fresh, Goes, GoesByAct, GameStatus, Open, OpensTo, Shut, life_after}
 use Rattle.arbiter_server.specs.Hosts.{FindsWhatIsKept}
 use Rattle.arbiter_server.specs.Lives.{StillHolds}
 use Rattle.arbiter_server.specs.OverFiles.{GoesOn}
@@ -121,7 +121,7 @@ module _ {K : Type 0} (facts : KeeperFacts K) (setup : SetupView) where
     stays : (fault : DeliverFault) → Delivered old old (Err fault)
     stays fault = record { goes = goes_nowhere old.arbiter; tells = tt; held = holds_now old s; up = λ _. s }
 
-    sends : (outputs : List Message) (window : Window) → AllTell old.arbiter.kept outputs → Delivered old (moment (with_window old.arbiter window) old.keeper) (Ok outputs)
+    sends : (outputs : List Message) (window : ReorderBuffer) → AllTell old.arbiter.kept outputs → Delivered old (moment (with_window old.arbiter window) old.keeper) (Ok outputs)
     sends outputs window tells = record {
       goes = record { setup = refl; me = refl; goes_on = still_on old.arbiter.kept };
       tells = tells;
@@ -129,7 +129,7 @@ module _ {K : Type 0} (facts : KeeperFacts K) (setup : SetupView) where
       up = λ _. record { of_setup = s.of_setup; bytes = s.bytes; there = s.there; spelled = s.spelled; own = s.own };
     }
 
-    module _ (now : K) (next : Recorded) (outputs : List Message) (window : Window) (grows : Grows (rules_at old.arbiter.setup) old.arbiter.kept next) (on : GoesOn old.arbiter.kept next) where
+    module _ (now : K) (next : Recorded) (outputs : List Message) (window : ReorderBuffer) (grows : Grows (rules_at old.arbiter.setup) old.arbiter.kept next) (on : GoesOn old.arbiter.kept next) where
       new_held : IsSpelled old.arbiter.me.stamp old.arbiter.setup.delay next (facts.kept now) → Holds setup old.arbiter.me.stamp old.arbiter.kept (facts.kept now)
       new_held spelled =
           let b = spelled_bytes old.arbiter.me.stamp old.arbiter.setup.delay next (facts.kept now) spelled in
@@ -273,7 +273,7 @@ module _ {K : Type 0} (facts : KeeperFacts K) (setup : SetupView) where
   -- ---- a game at a host
 
   -- while it is open, its keeper keeps its record
-  abbrev pub Stands : Life K → Type 0
+  abbrev pub Stands : GameStatus K → Type 0
   Stands Fresh = Unit {0}
   Stands (Shut left) = Unit {0}
   Stands (Open at) = Sound at
@@ -285,7 +285,7 @@ module _ {K : Type 0} (facts : KeeperFacts K) (setup : SetupView) where
     pub goes_on : GoesOn r at.arbiter.kept
 
   -- a game of which a record is kept that goes on from this one
-  abbrev pub Has : Stamp → Recorded → Life K → Type 0
+  abbrev pub Has : Stamp → Recorded → GameStatus K → Type 0
   Has stamp r Fresh = ⊥
   Has stamp r (Shut left) = Holds setup stamp r (facts.kept left)
   Has stamp r (Open at) = GoesOnAt stamp r at
@@ -305,7 +305,7 @@ module _ {K : Type 0} (facts : KeeperFacts K) (setup : SetupView) where
   has_at stamp r at same on held up false is = record { sound = up is; stamp_is = same; goes_on = on }
 
   -- what was told is kept
-  pub record Held (life : Life K) (e : Exchange K) : Type 0 where
+  pub record Held (life : GameStatus K) (e : Exchange K) : Type 0 where
     pub of_setup : e.after.arbiter.setup ≡ setup
     pub has : Has e.after.arbiter.me.stamp e.after.arbiter.kept life
     pub tells : AllTell e.after.arbiter.kept (outputs_of e.told)
@@ -313,28 +313,28 @@ module _ {K : Type 0} (facts : KeeperFacts K) (setup : SetupView) where
 -- ---- act by act
 
 module _ (grow : PutsGrow) {K : Type 0} (s : Keepers K) (follows : (left next : K) → s.follows left next → s.facts.kept next ≡ s.facts.kept left) (t : CommonView) (of : List ℕ) (setup : SetupView) where
-  abbrev StandsAt : Life K → Type 0
+  abbrev StandsAt : GameStatus K → Type 0
   StandsAt = Stands s.facts setup
 
-  abbrev HasAt : Stamp → Recorded → Life K → Type 0
+  abbrev HasAt : Stamp → Recorded → GameStatus K → Type 0
   HasAt = Has s.facts setup
 
   opening_of : (o : SetupView) (before now : K) (told : opening.OpenResult) → o ≡ setup → IsOpening s.facts o before now told → IsOpening s.facts setup before now told
   opening_of o before now told is h = subst (λ (z : SetupView). IsOpening s.facts z before now told) is h
 
-  answered_stands : (old new : Life K) (e : Exchange K) → AnswersTo s old e new → StandsAt old → StandsAt new
+  answered_stands : (old new : GameStatus K) (e : Exchange K) → AnswersTo s old e new → StandsAt old → StandsAt new
   answered_stands Fresh new e h st = absurd h
   answered_stands (Shut left) new e h st = absurd h
   answered_stands (Open at) new e h st =
       let d = delivered s.facts setup at st grow e h.0 in
       subst StandsAt (sym h.1) (stands_at s.facts setup e.after d.up e.after.arbiter.is_down refl)
 
-  closed_stands : (old new : Life K) (left : K) → ClosesTo old left new → StandsAt new
+  closed_stands : (old new : GameStatus K) (left : K) → ClosesTo old left new → StandsAt new
   closed_stands Fresh new left h = absurd h
   closed_stands (Shut before) new left h = absurd h
   closed_stands (Open at) new left h = subst StandsAt (sym h.1) tt
 
-  act_stands : (old new : Life K) (a : Act K) → GoesByAct s t of old a new → IsOfSetup setup a → StandsAt old → StandsAt new
+  act_stands : (old new : GameStatus K) (a : Action K) → GoesByAct s t of old a new → IsOfSetup setup a → StandsAt old → StandsAt new
   act_stands old new (Unread datagram fault) h one st = absurd h
   act_stands old new (Strange stamp datagram tried why) h one st = subst StandsAt (sym h.2) st
   act_stands old new (Refuses stamp datagram o fault) h one st = subst StandsAt (sym h.new_is) tt
@@ -350,16 +350,16 @@ module _ (grow : PutsGrow) {K : Type 0} (s : Keepers K) (follows : (left next : 
         record { sound = opened_sound s.facts setup before now arbiter o; stamp_is = x.stamp_is; goes_on = x.goes_on }
     opened_has before now (Err fault) held o = holds_at setup stamp r (s.facts.kept before) (s.facts.kept now) (refused s.facts setup before now stamp r held fault o) held
 
-    over_has : (old new : Life K) (o : SetupView) (before now : K) (told : opening.OpenResult) → o ≡ setup → IsOpening s.facts o before now told → new ≡ life_after now told → Holds setup stamp r (s.facts.kept before) → HasAt stamp r new
+    over_has : (old new : GameStatus K) (o : SetupView) (before now : K) (told : opening.OpenResult) → o ≡ setup → IsOpening s.facts o before now told → new ≡ life_after now told → Holds setup stamp r (s.facts.kept before) → HasAt stamp r new
     over_has old new o before now told one h is held = subst (HasAt stamp r) (sym is) (opened_has before now told held (opening_of o before now told one h))
 
-    opens_has : (old new : Life K) (o : Opening K) (told : opening.OpenResult) → OpensTo s t of old o told new → o.setup ≡ setup → HasAt stamp r old → HasAt stamp r new
+    opens_has : (old new : GameStatus K) (o : Opening K) (told : opening.OpenResult) → OpensTo s t of old o told new → o.setup ≡ setup → HasAt stamp r old → HasAt stamp r new
     opens_has Fresh new o told h one has = absurd has
     opens_has (Shut left) new o told h one has =
         over_has (Shut left) new o.setup o.before o.now told one h.opening h.new_is (holds_at setup stamp r (s.facts.kept left) (s.facts.kept o.before) (follows left o.before h.over.1) has)
     opens_has (Open at) new o told h one has = absurd h.over
 
-    answered_has : (old new : Life K) (e : Exchange K) → AnswersTo s old e new → HasAt stamp r old → HasAt stamp r new
+    answered_has : (old new : GameStatus K) (e : Exchange K) → AnswersTo s old e new → HasAt stamp r old → HasAt stamp r new
     answered_has Fresh new e h has = absurd h
     answered_has (Shut left) new e h has = absurd h
     answered_has (Open at) new e h has =
@@ -367,13 +367,13 @@ module _ (grow : PutsGrow) {K : Type 0} (s : Keepers K) (follows : (left next : 
         subst (HasAt stamp r) (sym h.1)
         (has_at s.facts setup stamp r e.after (ap (λ (i : Identity). i.stamp) d.goes.me ∙ has.stamp_is) (on_and_on r at.arbiter.kept e.after.arbiter.kept has.goes_on d.goes.goes_on) d.held d.up e.after.arbiter.is_down refl)
 
-    closed_has : (old new : Life K) (left : K) → ClosesTo old left new → HasAt stamp r old → HasAt stamp r new
+    closed_has : (old new : GameStatus K) (left : K) → ClosesTo old left new → HasAt stamp r old → HasAt stamp r new
     closed_has Fresh new left h has = absurd h
     closed_has (Shut before) new left h has = absurd h
     closed_has (Open at) new left h has =
         subst (HasAt stamp r) (sym h.1) (holds_at setup stamp r (s.facts.kept at.keeper) (s.facts.kept left) (ap s.facts.kept h.0) (holds_so s.facts setup stamp r at has))
 
-    act_has : (old new : Life K) (a : Act K) → GoesByAct s t of old a new → IsOfSetup setup a → HasAt stamp r old → HasAt stamp r new
+    act_has : (old new : GameStatus K) (a : Action K) → GoesByAct s t of old a new → IsOfSetup setup a → HasAt stamp r old → HasAt stamp r new
     act_has old new (Unread datagram fault) h one has = absurd h
     act_has old new (Strange name datagram tried why) h one has = subst (HasAt stamp r) (sym h.2) has
     act_has old new (Refuses name datagram o fault) h one has = opens_has old new o (Err fault) h one has
@@ -381,15 +381,15 @@ module _ (grow : PutsGrow) {K : Type 0} (s : Keepers K) (follows : (left next : 
     act_has old new (Answers name e) h one has = answered_has old new e h has
     act_has old new (Closes name left) h one has = closed_has old new left h has
 
-    pub goes_has : (old new : Life K) (acts : List (Act K)) → Goes s t of old acts new → AllByRecursion (IsOfSetup setup) acts → HasAt stamp r old → HasAt stamp r new
+    pub goes_has : (old new : GameStatus K) (acts : List (Action K)) → Goes s t of old acts new → AllByRecursion (IsOfSetup setup) acts → HasAt stamp r old → HasAt stamp r new
     goes_has old new [] h one has = subst (HasAt stamp r) (sym h) has
     goes_has old new (a ∷ acts) h one has = goes_has h.0 new acts h.2 one.1 (act_has old h.0 a h.1 one.0 has)
 
     -- an opening over a keeper that keeps such a record comes first
-    pub begun_has : (P : K → Type 0) → ((k : K) → P k → Holds setup stamp r (s.facts.kept k)) → (new : Life K) (acts : List (Act K)) → Goes s t of Fresh acts new → AllByRecursion (IsOfSetup setup) acts → BeginsOver P acts → (new ≡ Fresh) ⊎ HasAt stamp r new
+    pub begun_has : (P : K → Type 0) → ((k : K) → P k → Holds setup stamp r (s.facts.kept k)) → (new : GameStatus K) (acts : List (Action K)) → Goes s t of Fresh acts new → AllByRecursion (IsOfSetup setup) acts → BeginsOver P acts → (new ≡ Fresh) ⊎ HasAt stamp r new
     begun_has P keeps new [] h one begins = inl h
     begun_has P keeps new (Unread datagram fault ∷ acts) h one begins = absurd h.1
-    begun_has P keeps new (Strange name datagram tried why ∷ acts) h one begins = begun_has P keeps new acts (subst (λ (l : Life K). Goes s t of l acts new) h.1.2 h.2) one.1 begins
+    begun_has P keeps new (Strange name datagram tried why ∷ acts) h one begins = begun_has P keeps new acts (subst (λ (l : GameStatus K). Goes s t of l acts new) h.1.2 h.2) one.1 begins
     begun_has P keeps new (Refuses name datagram o fault ∷ acts) h one begins =
         inr (goes_has h.0 new acts h.2 one.1 (over_has Fresh h.0 o.setup o.before o.now (Err fault) one.0 h.1.opening h.1.new_is (keeps o.before begins)))
     begun_has P keeps new (Opens name o arbiter ∷ acts) h one begins =
@@ -398,7 +398,7 @@ module _ (grow : PutsGrow) {K : Type 0} (s : Keepers K) (follows : (left next : 
     begun_has P keeps new (Closes name left ∷ acts) h one begins = absurd h.1
 
     -- what a start finds keeps it too
-    pub found_holds : (finds : K → Type 0) (life : Life K) → FindsWhatIsKept s finds life → HasAt stamp r life → (next : K) → finds next → Holds setup stamp r (s.facts.kept next)
+    pub found_holds : (finds : K → Type 0) (life : GameStatus K) → FindsWhatIsKept s finds life → HasAt stamp r life → (next : K) → finds next → Holds setup stamp r (s.facts.kept next)
     found_holds finds Fresh h has next x = absurd has
     found_holds finds (Shut left) h has next x = holds_at setup stamp r (s.facts.kept left) (s.facts.kept next) (follows left next (h next x)) has
     found_holds finds (Open at) h has next x =
@@ -406,10 +406,10 @@ module _ (grow : PutsGrow) {K : Type 0} (s : Keepers K) (follows : (left next : 
 
   -- ---- what was told
 
-  abbrev pub HeldAt : Life K → Exchange K → Type 0
+  abbrev pub HeldAt : GameStatus K → Exchange K → Type 0
   HeldAt = Held s.facts setup
 
-  answer_held : (old new : Life K) (e : Exchange K) → AnswersTo s old e new → StandsAt old → HeldAt new e
+  answer_held : (old new : GameStatus K) (e : Exchange K) → AnswersTo s old e new → StandsAt old → HeldAt new e
   answer_held Fresh new e h st = absurd h
   answer_held (Shut left) new e h st = absurd h
   answer_held (Open at) new e h st =
@@ -422,10 +422,10 @@ module _ (grow : PutsGrow) {K : Type 0} (s : Keepers K) (follows : (left next : 
         tells = d.tells;
       }
 
-  later_held : (mid new : Life K) (acts : List (Act K)) (e : Exchange K) → Goes s t of mid acts new → AllByRecursion (IsOfSetup setup) acts → HeldAt mid e → HeldAt new e
+  later_held : (mid new : GameStatus K) (acts : List (Action K)) (e : Exchange K) → Goes s t of mid acts new → AllByRecursion (IsOfSetup setup) acts → HeldAt mid e → HeldAt new e
   later_held mid new acts e h one held = record { of_setup = held.of_setup; has = goes_has e.after.arbiter.me.stamp e.after.arbiter.kept mid new acts h one held.has; tells = held.tells }
 
-  first_held : (old mid new : Life K) (a : Act K) (acts : List (Act K)) → GoesByAct s t of old a mid → Goes s t of mid acts new → AllByRecursion (IsOfSetup setup) acts → StandsAt old → IfAnswers (HeldAt new) a
+  first_held : (old mid new : GameStatus K) (a : Action K) (acts : List (Action K)) → GoesByAct s t of old a mid → Goes s t of mid acts new → AllByRecursion (IsOfSetup setup) acts → StandsAt old → IfAnswers (HeldAt new) a
   first_held old mid new (Unread datagram fault) acts h g one st = tt
   first_held old mid new (Strange stamp datagram tried why) acts h g one st = tt
   first_held old mid new (Refuses stamp datagram o fault) acts h g one st = tt
@@ -433,6 +433,6 @@ module _ (grow : PutsGrow) {K : Type 0} (s : Keepers K) (follows : (left next : 
   first_held old mid new (Answers stamp e) acts h g one st = later_held mid new acts e g one (answer_held old mid e h st)
   first_held old mid new (Closes stamp left) acts h g one st = tt
 
-  pub all_held : (old new : Life K) (acts : List (Act K)) → Goes s t of old acts new → AllByRecursion (IsOfSetup setup) acts → StandsAt old → AllByRecursion (IfAnswers (HeldAt new)) acts
+  pub all_held : (old new : GameStatus K) (acts : List (Action K)) → Goes s t of old acts new → AllByRecursion (IsOfSetup setup) acts → StandsAt old → AllByRecursion (IfAnswers (HeldAt new)) acts
   all_held old new [] h one st = tt
   all_held old new (a ∷ acts) h one st = (first_held old h.0 new a acts h.1 h.2 one.1 st, all_held h.0 new acts h.2 one.1 (act_stands old h.0 a h.1 one.0 st))

@@ -10,8 +10,8 @@ use Rattle.judge_core.specs.Games.{Rules}
 use Rattle.judge_core.specs.Tables.{Tables}
 use Rattle.move_msg.specs.declared.message.Message.{Message}
 use Rattle.move_msg.specs.declared.stamp.Stamp.{Stamp}
-use Rattle.move_msg.specs.declared.who.Who.{Who}
-use Rattle.move_msg.specs.declared.who.Who.TheVariants.{A, B}
+use Rattle.move_msg.specs.declared.arbiter_id.ArbiterId.{ArbiterId}
+use Rattle.move_msg.specs.declared.arbiter_id.ArbiterId.TheVariants.{A, B}
 use Rattle.move_msg.specs.Senders.{who_number}
 use Rattle.move_msg.specs.Stamps.{stamp_of}
 use Rattle.arbiter_core.specs.declared.fault.DeliverFault.{DeliverFault}
@@ -29,38 +29,38 @@ use Rattle.arbiter_core.specs.Opens as opening
 use Rattle.arbiter_core.specs.Opens.{FirstLands, Opens, OpensIfGood, OpensOver, first_record, running}
 use Rattle.arbiter_server.specs.Folders.{Keepers}
 use Rattle.arbiter_server.specs.Acts as act
-use Rattle.arbiter_server.specs.Acts.{Act, Opening, acts_of, game_of, is_stamp}
+use Rattle.arbiter_server.specs.Acts.{Action, Opening, acts_of, game_of, is_stamp}
 use Rattle.arbiter_server.specs.Games as host
-use Rattle.arbiter_server.specs.Games.{CommonView, Fresh, Goes, GoesByAct, Life, Open, OpensTo, Shut, life_after, life_at}
+use Rattle.arbiter_server.specs.Games.{CommonView, Fresh, Goes, GoesByAct, GameStatus, Open, OpensTo, Shut, life_after, life_at}
 use Rattle.relay_world.specs.Worlds.{Judged, identity}
 use Rattle.theorems.specs.Nets as nets
-use Rattle.theorems.specs.Nets.{AnswersOne, ClosesOne, FoundAnswered, FoundOpened, IsToBePut, Net, OpensOne, Site, arbiter_in, changed, first_net, sent_with, site_of}
-use Rattle.theorems.specs.Weaves.{AnswersDatagram, Finds, GivesIf, GivesOwn, IsHostOf, IsSiteOfLife, closed_with, open_with}
+use Rattle.theorems.specs.Nets.{AnswersOne, ClosesOne, FoundAnswered, FoundOpened, IsToBePut, SystemState, OpensOne, Site, arbiter_in, changed, first_net, sent_with, site_of}
+use Rattle.theorems.specs.Interleavings.{AnswersDatagram, Finds, GivesIf, GivesOwn, IsHostOf, IsSiteOfLife, closed_with, open_with}
 use Rattle.theorems.proofs.Seeing.{Seen, seen, seen_delivers, seen_exchange, seen_facts, seen_opens}
 
 -- ---- nets
 
-abbrev pub NetGoes : Judged → Net → List (nets.NetStep Seen) → Net → Type 0
+abbrev pub NetGoes : Judged → SystemState → List (nets.NetStep Seen) → SystemState → Type 0
 NetGoes game old acts new = nets.GoesBySteps seen_facts game old acts new
 
-abbrev net_with : Net → List Message → Net
+abbrev net_with : SystemState → List Message → SystemState
 net_with net log = record { a = net.a; b = net.b; log = log }
 
-abbrev pub closed : Net → Who → Net
+abbrev pub closed : SystemState → ArbiterId → SystemState
 closed net who = changed net who (closed_with (site_of net who).kept) []
 
 -- a site that stays
-pub still : (net : Net) (who : Who) → net ≡ changed net who (site_of net who) []
+pub still : (net : SystemState) (who : ArbiterId) → net ≡ changed net who (site_of net who) []
 still net A = ap (net_with net) (sym (append-nil net.log))
 still net B = ap (net_with net) (sym (append-nil net.log))
 
 -- a site that is closed after a change
-pub close_after : (net : Net) (who : Who) (kept : Option (List ℕ)) (arbiter : Option View) (outputs : List Message) → changed net who (closed_with kept) outputs ≡ closed (changed net who (open_with kept arbiter) outputs) who
+pub close_after : (net : SystemState) (who : ArbiterId) (kept : Option (List ℕ)) (arbiter : Option View) (outputs : List Message) → changed net who (closed_with kept) outputs ≡ closed (changed net who (open_with kept arbiter) outputs) who
 close_after net A kept arbiter outputs = ap (λ (l : List Message). net_with (changed net A (closed_with kept) outputs) l) (sym (append-nil (net.log ++ outputs)))
 close_after net B kept arbiter outputs = ap (λ (l : List Message). net_with (changed net B (closed_with kept) outputs) l) (sym (append-nil (net.log ++ outputs)))
 
 -- steps of the net lead there, and one site alone changes, to where a life is
-pub record Moves {K : Type 0} (facts : KeeperFacts K) (game : Judged) (old : Net) (who : Who) (life : Life K) (new : Net) : Type 0 where
+pub record Moves {K : Type 0} (facts : KeeperFacts K) (game : Judged) (old : SystemState) (who : ArbiterId) (life : GameStatus K) (new : SystemState) : Type 0 where
   pub acts : List (nets.NetStep Seen)
   pub goes : NetGoes game old acts new
   pub there : Site
@@ -70,26 +70,26 @@ pub record Moves {K : Type 0} (facts : KeeperFacts K) (game : Judged) (old : Net
 
 -- ---- a setup of a host
 
-same_who : (a b : Who) → who_number a ≡ who_number b → a ≡ b
+same_who : (a b : ArbiterId) → who_number a ≡ who_number b → a ≡ b
 same_who A A e = refl
 same_who B B e = refl
 same_who A B e = cc
 same_who B A e = cc
 
-pub is_one : (game : Judged) (who : Who) (setup : SetupView) (me : Identity) → IsIdentity setup me → IsIdentity setup (identity game who) → me ≡ identity game who
+pub is_one : (game : Judged) (who : ArbiterId) (setup : SetupView) (me : Identity) → IsIdentity setup me → IsIdentity setup (identity game who) → me ≡ identity game who
 is_one game who setup me f g = made me.stamp game.stamp me.who who (f.stamp ∙ sym g.stamp) (same_who me.who who (f.who ∙ sym g.who))
   where
-    made : (s t : Stamp) (a b : Who) → s ≡ t → a ≡ b → ◌≡◌ {A = Identity} (record { stamp = s; who = a }) (record { stamp = t; who = b })
+    made : (s t : Stamp) (a b : ArbiterId) → s ≡ t → a ≡ b → ◌≡◌ {A = Identity} (record { stamp = s; who = a }) (record { stamp = t; who = b })
     made s t a b e d = cc
 
 made_rules : (p q : Parts) (t u : Tables) (d e : ℕ) → p ≡ q → t ≡ u → d ≡ e → ◌≡◌ {A = Rules} (record { start = p; tables = t; delay = d }) (record { start = q; tables = u; delay = e })
 made_rules p q t u d e f g h = cc
 
-one_or_two : (who : Who) (n : ℕ) → who_number who ≡ n → (n ≡ 1) ⊎ (n ≡ 2)
+one_or_two : (who : ArbiterId) (n : ℕ) → who_number who ≡ n → (n ≡ 1) ⊎ (n ≡ 2)
 one_or_two A n e = inl (sym e)
 one_or_two B n e = inr (sym e)
 
-module _ (game : Judged) (who : Who) (t : CommonView) (of : IsHostOf game who t) (setup : SetupView) (is : host.IsSetupOfStamp t game.stamp setup) where
+module _ (game : Judged) (who : ArbiterId) (t : CommonView) (of : IsHostOf game who t) (setup : SetupView) (is : host.IsSetupOfStamp t game.stamp setup) where
   number : who_number who ≡ setup.me
   number = sym (ap (λ (x : SetupView). x.me) is.common ∙ of.number)
 
@@ -161,20 +161,20 @@ fails_down facts v new before now told found (Puts next outputs window) (inr p) 
 
 -- ---- one host
 
-module _ {K : Type 0} (s : Keepers K) (t : CommonView) (game : Judged) (who : Who) (of : IsHostOf game who t) (old new : Net) where
-  abbrev GoesTo : Life K → Type 0
+module _ {K : Type 0} (s : Keepers K) (t : CommonView) (game : Judged) (who : ArbiterId) (of : IsHostOf game who t) (old new : SystemState) where
+  abbrev GoesTo : GameStatus K → Type 0
   GoesTo life = Moves s.facts game old who life new
 
-  abbrev IsHere : Life K → Type 0
+  abbrev IsHere : GameStatus K → Type 0
   IsHere life = IsSiteOfLife s.facts life (site_of old who)
 
-  moved : (life later : Life K) → later ≡ life → GoesTo life → GoesTo later
+  moved : (life later : GameStatus K) → later ≡ life → GoesTo life → GoesTo later
   moved life later e m = subst GoesTo (sym e) m
 
-  stays : (life : Life K) → IsHere life → new ≡ old → GoesTo life
+  stays : (life : GameStatus K) → IsHere life → new ≡ old → GoesTo life
   stays life here e = record { acts = []; goes = e; there = site_of old who; outputs = []; is = e ∙ still old who; at = here }
 
-  closes : (life : Life K) → IsSiteOfLife s.facts life (closed_with (site_of old who).kept) → new ≡ closed old who → GoesTo life
+  closes : (life : GameStatus K) → IsSiteOfLife s.facts life (closed_with (site_of old who).kept) → new ≡ closed old who → GoesTo life
   closes life at e = record { acts = ClosesOne who ∷ []; goes = (new, e, refl); there = closed_with (site_of old who).kept; outputs = []; is = e; at = at }
 
   -- ---- an opening
@@ -210,7 +210,7 @@ module _ {K : Type 0} (s : Keepers K) (t : CommonView) (game : Judged) (who : Wh
       at = opened_at told (λ v e. is_up s.facts o.setup (identity game who) o.before o.now v (subst (Opens s.facts o.setup (identity game who) o.before o.now) e is)) f.is_found;
     }
 
-    opening_goes : (life later : Life K) → OpensTo s t game.stamp life o told later → GoesTo later
+    opening_goes : (life later : GameStatus K) → OpensTo s t game.stamp life o told later → GoesTo later
     opening_goes life later h = moved (life_after o.now told) later h.new_is (by_delay (cases_lt most_delay o.setup.delay))
       where
         setup : nets.IsSetupOf game who o.setup
@@ -230,7 +230,7 @@ module _ {K : Type 0} (s : Keepers K) (t : CommonView) (game : Judged) (who : Wh
     found_so : FoundAnswered s.facts at.arbiter e h.found
     found_so = subst (λ (x : Option View). IfSome x (λ v. FoundAnswered s.facts v e h.found)) here.0 h.is_found
 
-    abbrev AfterIt : Net
+    abbrev AfterIt : SystemState
     AfterIt = changed old who (open_with h.found (Some e.after.arbiter)) (sent_with e.told)
 
     answers : nets.GoesByStep seen_facts game old (AnswersOne who at.arbiter (seen s.facts at.keeper) (seen_exchange s.facts e)) AfterIt
@@ -271,22 +271,22 @@ module _ {K : Type 0} (s : Keepers K) (t : CommonView) (game : Judged) (who : Wh
           at = refl;
         }
       where
-        after_it : (who : Who) → changed old who (closed_with h.found) (sent_with e.told) ≡ closed (changed old who (open_with h.found (Some e.after.arbiter)) (sent_with e.told)) who
+        after_it : (who : ArbiterId) → changed old who (closed_with h.found) (sent_with e.told) ≡ closed (changed old who (open_with h.found (Some e.after.arbiter)) (sent_with e.told)) who
         after_it who = close_after old who h.found (Some e.after.arbiter) (sent_with e.told)
 
-  answering_goes : (life later : Life K) (e : Exchange K) → IsHere life → host.AnswersTo s life e later → AnswersDatagram s.facts game old who e new → GoesTo later
+  answering_goes : (life later : GameStatus K) (e : Exchange K) → IsHere life → host.AnswersTo s life e later → AnswersDatagram s.facts game old who e new → GoesTo later
   answering_goes Fresh later e here to h = absurd to
   answering_goes (Shut left) later e here to h = absurd to
   answering_goes (Open at) later e here to h = moved (life_at e.after) later to.1 (answer_goes at here e h to.0 e.after.arbiter.is_down refl)
 
-  closing_goes : (life later : Life K) (left : K) → host.ClosesTo life left later → new ≡ closed old who → GoesTo later
+  closing_goes : (life later : GameStatus K) (left : K) → host.ClosesTo life left later → new ≡ closed old who → GoesTo later
   closing_goes Fresh later left to e = absurd to
   closing_goes (Shut before) later left to e = absurd to
   closing_goes (Open at) later left to e = moved (Shut left) later to.1 (closes (Shut left) refl e)
 
   -- ---- an act
 
-  own_goes : (life later : Life K) (a : Act K) → IsHere life → GoesByAct s t game.stamp life a later → GivesOwn s.facts game old who a new → GoesTo later
+  own_goes : (life later : GameStatus K) (a : Action K) → IsHere life → GoesByAct s t game.stamp life a later → GivesOwn s.facts game old who a new → GoesTo later
   own_goes life later (act.Unread datagram fault) here to g = absurd to
   own_goes life later (act.Strange stamp datagram tried why) here to g = moved life later to.2 (stays life here g)
   own_goes life later (act.Refuses stamp datagram o fault) here to g = opening_goes o (Err fault) g life later to
@@ -295,7 +295,7 @@ module _ {K : Type 0} (s : Keepers K) (t : CommonView) (game : Judged) (who : Wh
   own_goes life later (act.Closes stamp left) here to g = closing_goes life later left to g
 
   -- one of the game or of another one, before the other acts of the game
-  pub act_goes : (b : Bool) (life end : Life K) (a : Act K) (own : List (Act K)) → IsHere life → GivesIf b s.facts game old who a new → Goes s t game.stamp life (cond b (a ∷ own) own) end
-      → (mid : Life K) × GoesTo mid × Goes s t game.stamp mid own end
+  pub act_goes : (b : Bool) (life end : GameStatus K) (a : Action K) (own : List (Action K)) → IsHere life → GivesIf b s.facts game old who a new → Goes s t game.stamp life (cond b (a ∷ own) own) end
+      → (mid : GameStatus K) × GoesTo mid × Goes s t game.stamp mid own end
   act_goes true life end a own here g r = (r.0, own_goes life r.0 a here r.1 g, r.2)
   act_goes false life end a own here g r = (life, stays life here g, r)

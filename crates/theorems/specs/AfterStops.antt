@@ -1,6 +1,6 @@
 -- A run over a disk that was stopped (this project's own).
 use Rattle.std.specs.Prelude.{◌≡◌, ℕ, Result}
-use Rattle.system_fakes.specs.declared.disk_file.Choice.{Choice}
+use Rattle.system_fakes.specs.declared.disk_file.Crash.{Crash}
 use Rattle.system_fakes.specs.declared.disk_file.DiskFile.{DiskFile}
 use Rattle.system_io.specs.declared.output.WriteFault.{WriteFault}
 use Rattle.system_io.specs.declared.reading.ReadFault.{ReadFault}
@@ -17,7 +17,7 @@ use Rattle.arbiter_server.specs.StoredBytes.{CannotKeep, keeper_file, stored}
 
 -- a keeper has stored what a stop left on a disk, over it an arbiter is opened and answers so many datagrams, or none is opened,
 -- and this is the disk then
-pub record RunsAfter {W : Type 0} (w : Writers W) (disk : DiskFile) (choice : Choice) (setup : SetupView) (span : Span) (port port' : PortFacts) (out out' : W) (left : DiskFile) : Type 0 where
+pub record RunsAfter {W : Type 0} (w : Writers W) (disk : DiskFile) (choice : Crash) (setup : SetupView) (span : Span) (port port' : PortFacts) (out out' : W) (left : DiskFile) : Type 0 where
   pub start : FileKeeper DiskFile
   pub found : IsReadAfter disk choice (stored start)
   pub ended : FileKeeper DiskFile
@@ -26,7 +26,7 @@ pub record RunsAfter {W : Type 0} (w : Writers W) (disk : DiskFile) (choice : Ch
   pub is_left : left ≡ keeper_file ended
 
 -- there is no keeper over what a stop left on a disk, for this reason
-pub record IsUnkeptAfter (disk : DiskFile) (choice : Choice) (fault : ReadFault) : Type 0 where
+pub record IsUnkeptAfter (disk : DiskFile) (choice : Crash) (fault : ReadFault) : Type 0 where
   pub stopped : DiskFile
   pub left : IsLeftBy disk choice (seen stopped)
   pub cause : CannotKeep (disk_facts stopped) fault

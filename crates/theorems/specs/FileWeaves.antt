@@ -1,12 +1,12 @@
--- Two hosts of one game, each over a file of its own (this project's own): what `Weaves` asks of the outside, by what starts find in the
+-- Two hosts of one game, each over a file of its own (this project's own): what `Interleaving` asks of the outside, by what starts find in the
 -- two files. Of a file each start over it finds what it finds, and each opening starts over the file that the game's last act left; no
 -- other game's act touches it. That no move of the game is made up, and that the game found under the stamp is this one, stay premises.
 --
 -- What a host does here is as its contract has it (`IsOpening`, `Delivers`), beside `AreRunsOf`.
 use Rattle.std.specs.Prelude.{◌≡◌, ◌++◌, ℕ, Bool, true, false, cond, List, [], ◌∷◌, Option, None, Ok, Err}
-use Rattle.move_msg.specs.declared.who.Who.{Who}
-use Rattle.move_msg.specs.declared.who.Who.TheVariants.{A, B}
-use Rattle.move_msg.specs.declared.who.Sender.TheVariants.{Source}
+use Rattle.move_msg.specs.declared.arbiter_id.ArbiterId.{ArbiterId}
+use Rattle.move_msg.specs.declared.arbiter_id.ArbiterId.TheVariants.{A, B}
+use Rattle.move_msg.specs.declared.arbiter_id.Sender.TheVariants.{Source}
 use Rattle.move_msg.specs.declared.message.Message.{Message}
 use Rattle.move_msg.specs.Records.{WritesRecord}
 use Rattle.system_io.specs.Disks.{DiskFacts}
@@ -18,14 +18,14 @@ use Rattle.arbiter_core.specs.Opens.{IsOpening, OpenResult, first_record}
 use Rattle.arbiter_core.specs.Setups.{SetupView, rules_at}
 use Rattle.arbiter_core.specs.Views.{spelled_as}
 use Rattle.arbiter_server.specs.declared.file_keeper.FileKeeper.{FileKeeper}
-use Rattle.arbiter_server.specs.Acts.{Act, Unread, Strange, Refuses, Opens, Answers, Closes, Opening, game_of, is_stamp}
+use Rattle.arbiter_server.specs.Acts.{Action, Unread, Strange, Refuses, Opens, Answers, Closes, Opening, game_of, is_stamp}
 use Rattle.arbiter_server.specs.DiskGames.{disk_keepers}
 use Rattle.arbiter_server.specs.Folders.{Keepers}
 use Rattle.arbiter_server.specs.Lives.{IsCutAtPut}
 use Rattle.arbiter_server.specs.StoredBytes.{StartsOver, keeper_file, keeper_over, stored}
 use Rattle.relay_world.specs.Worlds.{Judged}
-use Rattle.theorems.specs.Nets.{IsNoForgery, IsSetupOf, Net, sent_with}
-use Rattle.theorems.specs.Weaves.{AreRunsOf, AreWoven, AtA, AtB, Deed, Does, Ends, Step, deeds_a, deeds_b}
+use Rattle.theorems.specs.Nets.{IsNoForgery, IsSetupOf, SystemState, sent_with}
+use Rattle.theorems.specs.Interleavings.{AreRunsOf, AreWoven, AtA, AtB, HostEvent, Does, Ends, Step, deeds_a, deeds_b}
 
 -- ---- where a game is at a host
 
@@ -53,13 +53,13 @@ IsFoundIn facts (Plays at) found = found ≡ stored at.keeper
 
 -- ---- what a host does, and what its file gives
 
-pub record OpensOverFile {F : Type 0} (facts : F → KeptFacts) (game : Judged) (who : Who) (file : F) (o : Opening (FileKeeper F)) (told : OpenResult) (new : Held F) : Type 0 where
+pub record OpensOverFile {F : Type 0} (facts : F → KeptFacts) (game : Judged) (who : ArbiterId) (file : F) (o : Opening (FileKeeper F)) (told : OpenResult) (new : Held F) : Type 0 where
   pub starts : StartsOver facts file o.before
   pub is_setup : IsSetupOf game who o.setup
   pub opening : IsOpening (keeper_over facts) o.setup o.before o.now told
   pub to : new ≡ opened_to o.now told
 
-abbrev pub OpensAt : {F : Type 0} → (F → KeptFacts) → Judged → Who → Held F → Opening (FileKeeper F) → OpenResult → Held F → Type 0
+abbrev pub OpensAt : {F : Type 0} → (F → KeptFacts) → Judged → ArbiterId → Held F → Opening (FileKeeper F) → OpenResult → Held F → Type 0
 OpensAt facts game who (Rests file) o told new = OpensOverFile facts game who file o told new
 OpensAt facts game who (Plays at) o told new = ⊥
 
@@ -77,7 +77,7 @@ abbrev pub ClosesAt : {F : Type 0} → Held F → FileKeeper F → Held F → Ty
 ClosesAt (Rests file) left new = ⊥
 ClosesAt (Plays at) left new = (left ≡ at.keeper) × (new ≡ Rests (keeper_file left))
 
-abbrev pub ActsAt : {F : Type 0} → (F → KeptFacts) → Judged → Who → List Message → Held F → Act (FileKeeper F) → Held F → Type 0
+abbrev pub ActsAt : {F : Type 0} → (F → KeptFacts) → Judged → ArbiterId → List Message → Held F → Action (FileKeeper F) → Held F → Type 0
 ActsAt facts game who log old (Unread datagram fault) new = new ≡ old
 ActsAt facts game who log old (Strange stamp datagram tried why) new = new ≡ old
 ActsAt facts game who log old (Refuses stamp datagram o fault) new = OpensAt facts game who old o (Err fault) new
@@ -87,24 +87,24 @@ ActsAt facts game who log old (Closes stamp left) new = ClosesAt old left new
 
 -- the run ends, and this file is left: by itself or between two calls; within a put of the game's arbiter; after a start over the file;
 -- or within the put of the first record
-pub data EndsLeaving {F : Type 0} (facts : F → KeptFacts) (game : Judged) (who : Who) (log : List Message) (old : Held F) (left : F) : Type 0 where
+pub data EndsLeaving {F : Type 0} (facts : F → KeptFacts) (game : Judged) (who : ArbiterId) (log : List Message) (old : Held F) (left : F) : Type 0 where
   Between : left ≡ file_in old → EndsLeaving facts game who log old left
   AtPut : (at : Moment (FileKeeper F)) → old ≡ Plays at → (cut : IsCutAtPut facts at left) → IsNoForgery game log cut.datagram → EndsLeaving facts game who log old left
   AtStart : (file : F) → old ≡ Rests file → (start : FileKeeper F) → StartsOver facts file start → left ≡ keeper_file start → EndsLeaving facts game who log old left
   AtFirst : (file : F) → old ≡ Rests file → (start : FileKeeper F) → StartsOver facts file start → stored start ≡ None → (setup : SetupView) → IsSetupOf game who setup → (sent : List ℕ) → WritesRecord sent (spelled_as game.stamp setup.delay (first_record (rules_at setup))) → IsCutOff (facts (keeper_file start)) sent (facts left) → EndsLeaving facts game who log old left
 
-abbrev pub ActsIf : {F : Type 0} → Bool → (F → KeptFacts) → Judged → Who → List Message → Held F → Act (FileKeeper F) → Held F → Type 0
+abbrev pub ActsIf : {F : Type 0} → Bool → (F → KeptFacts) → Judged → ArbiterId → List Message → Held F → Action (FileKeeper F) → Held F → Type 0
 ActsIf true facts game who log old act new = ActsAt facts game who log old act new
 ActsIf false facts game who log old act new = new ≡ old
 
-abbrev pub DoesAt : {F : Type 0} → (F → KeptFacts) → Judged → Who → List Message → Held F → Deed (FileKeeper F) → Held F → Type 0
+abbrev pub DoesAt : {F : Type 0} → (F → KeptFacts) → Judged → ArbiterId → List Message → Held F → HostEvent (FileKeeper F) → Held F → Type 0
 DoesAt facts game who log old (Does act) new = ActsIf (is_stamp game.stamp (game_of act)) facts game who log old act new
 DoesAt {F} facts game who log old Ends new = (left : F) × EndsLeaving facts game who log old left × (new ≡ Rests left)
 
 -- ---- both hosts
 
 -- the messages that are sent for the game
-abbrev pub sent_by_act : {K : Type 0} → Act K → List Message
+abbrev pub sent_by_act : {K : Type 0} → Action K → List Message
 sent_by_act (Unread datagram fault) = []
 sent_by_act (Strange stamp datagram tried why) = []
 sent_by_act (Refuses stamp datagram o fault) = []
@@ -112,7 +112,7 @@ sent_by_act (Opens stamp o arbiter) = []
 sent_by_act (Answers stamp e) = sent_with e.told
 sent_by_act (Closes stamp left) = []
 
-abbrev pub sent_for : {K : Type 0} → Judged → Deed K → List Message
+abbrev pub sent_for : {K : Type 0} → Judged → HostEvent K → List Message
 sent_for game (Does act) = cond (is_stamp game.stamp (game_of act)) (sent_by_act act) []
 sent_for game Ends = []
 
@@ -143,7 +143,7 @@ FilesAreWoven {F} {E} facts others a b =
     → AreRunsOf a game A (deeds_a steps) → AreRunsOf b game B (deeds_b steps)
     → GoBoth facts others game (first_both game first its_first) steps end
     → IsFoundIn facts end.a found → IsFoundIn others end.b its_found
-    → (net : Net) × AreWoven a b game steps net × (net.a.kept ≡ found) × (net.b.kept ≡ its_found) × (net.log ≡ end.log)
+    → (net : SystemState) × AreWoven a b game steps net × (net.a.kept ≡ found) × (net.b.kept ≡ its_found) × (net.log ≡ end.log)
 
 -- so it is over two hosts of a type each, with the files of theirs, whatever their disks hold and whichever folders of games they have
 abbrev pub HostFilesAreWoven : {D H P F E I Q G : Type 0} → (D → DiskFacts) → (H → HostFacts P F) → (F → KeptFacts) → (E → DiskFacts) → (I → HostFacts Q G) → (G → KeptFacts) → Type 0

@@ -10,20 +10,20 @@ use Rattle.arbiter_core.specs.Setups.{SetupView}
 use Rattle.system_io.specs.KeptFiles.{KeptFacts, IsCutOff}
 use Rattle.arbiter_server.specs.declared.file_keeper.FileKeeper.{FileKeeper}
 use Rattle.arbiter_server.specs.Folders.{Keepers}
-use Rattle.arbiter_server.specs.Acts.{Act, Unread, Strange, Refuses, Opens, Answers, Closes}
-use Rattle.arbiter_server.specs.Games.{CommonView, Fresh, Goes, IsNotOpen, Life, Open}
+use Rattle.arbiter_server.specs.Acts.{Action, Unread, Strange, Refuses, Opens, Answers, Closes}
+use Rattle.arbiter_server.specs.Games.{CommonView, Fresh, Goes, IsNotOpen, GameStatus, Open}
 use Rattle.arbiter_server.specs.Lives.{IsCutAtPut, IsStillThere}
 use Rattle.arbiter_server.specs.StoredBytes.{StartsOver, keeper_file, stored}
 
 -- a run of a host as far as it is of one game: its acts of the game, and the file that the run left
 pub record HostRun (F : Type 0) : Type 0 where
-  pub acts : List (Act (FileKeeper F))
+  pub acts : List (Action (FileKeeper F))
   pub left : F
 
 -- ---- the file
 
 -- Acts of a game begin over the first file and leave the last one. An opening starts over the file that is there.
-abbrev pub Leaves : {F : Type 0} → (F → FileKeeper F → Type 0) → F → List (Act (FileKeeper F)) → F → Type 0
+abbrev pub Leaves : {F : Type 0} → (F → FileKeeper F → Type 0) → F → List (Action (FileKeeper F)) → F → Type 0
 Leaves Starts file [] last = last ≡ file
 Leaves Starts file (Unread datagram fault ∷ acts) last = Leaves Starts file acts last
 Leaves Starts file (Strange stamp datagram tried why ∷ acts) last = Leaves Starts file acts last
@@ -34,7 +34,7 @@ Leaves Starts file (Closes stamp left ∷ acts) last = Leaves Starts (keeper_fil
 
 -- where a run stopped, and the file that it left: between two calls; while the game's arbiter put the record that it was to answer
 -- with; when a keeper had started over the file; or while the first record of the game was put over nothing
-pub data StopsOver {F : Type 0} (facts : F → KeptFacts) (Starts : F → FileKeeper F → Type 0) (life : Life (FileKeeper F)) (file left : F) : Type 0 where
+pub data StopsOver {F : Type 0} (facts : F → KeptFacts) (Starts : F → FileKeeper F → Type 0) (life : GameStatus (FileKeeper F)) (file left : F) : Type 0 where
   Between : left ≡ file → StopsOver facts Starts life file left
   AtPut : (at : Moment (FileKeeper F)) → life ≡ Open at → IsCutAtPut facts at left → StopsOver facts Starts life file left
   AtStart : IsNotOpen life → (start : FileKeeper F) → Starts file start → left ≡ keeper_file start → StopsOver facts Starts life file left
@@ -43,7 +43,7 @@ pub data StopsOver {F : Type 0} (facts : F → KeptFacts) (Starts : F → FileKe
 -- ---- the runs
 
 -- an opening is of this setup
-abbrev pub IsOfSetup : {K : Type 0} → SetupView → Act K → Type 0
+abbrev pub IsOfSetup : {K : Type 0} → SetupView → Action K → Type 0
 IsOfSetup setup (Unread datagram fault) = Unit {0}
 IsOfSetup setup (Strange stamp datagram tried why) = Unit {0}
 IsOfSetup setup (Refuses stamp datagram o fault) = o.setup ≡ setup
@@ -54,7 +54,7 @@ IsOfSetup setup (Closes stamp left) = Unit {0}
 -- a run over this file: its acts are those of a host, or the first ones of a run that was stopped
 pub record HostRanOver {F : Type 0} (facts : F → KeptFacts) (Starts : F → FileKeeper F → Type 0) (s : Keepers (FileKeeper F)) (stamp : List ℕ) (setup : SetupView) (before : F) (r : HostRun F) : Type 0 where
   pub common : CommonView
-  pub life : Life (FileKeeper F)
+  pub life : GameStatus (FileKeeper F)
   pub goes : Goes s common stamp Fresh r.acts life
   pub one : AllByRecursion (IsOfSetup setup) r.acts
   pub file : F
@@ -69,7 +69,7 @@ HostRunsInTurn facts Starts s stamp setup first (r ∷ rs) last = HostRanOver fa
 -- ---- what is still there
 
 -- what is said of an answer holds of an act, if it is one
-abbrev pub IfAnswers : {K : Type 0} → (Exchange K → Type 0) → Act K → Type 0
+abbrev pub IfAnswers : {K : Type 0} → (Exchange K → Type 0) → Action K → Type 0
 IfAnswers P (Unread datagram fault) = Unit {0}
 IfAnswers P (Strange stamp datagram tried why) = Unit {0}
 IfAnswers P (Refuses stamp datagram o fault) = Unit {0}

@@ -1,5 +1,5 @@
 pub mod Nets
-pub mod Weaves
+pub mod Interleaving
 pub mod Sources
 pub mod Seals
 pub mod HostFiles

@@ -1,9 +1,9 @@
 -- Two arbiters over keepers, and every message that was ever sent: their own steps, as the contracts of `open` and `deliver`
 -- have them (this project's own, docs/RULES.md).
 use Rattle.std.specs.Prelude.{◌≡◌, ◌⊎◌, ℕ, false, List, [], ◌∷◌, ◌++◌, slice_get, Option, Some, None, Ok, Err}
-use Rattle.move_msg.specs.declared.who.Who.{Who}
-use Rattle.move_msg.specs.declared.who.Who.TheVariants.{A, B}
-use Rattle.move_msg.specs.declared.who.Sender.TheVariants.{Source}
+use Rattle.move_msg.specs.declared.arbiter_id.ArbiterId.{ArbiterId}
+use Rattle.move_msg.specs.declared.arbiter_id.ArbiterId.TheVariants.{A, B}
+use Rattle.move_msg.specs.declared.arbiter_id.Sender.TheVariants.{Source}
 use Rattle.move_msg.specs.declared.message.Message.{Message}
 use Rattle.move_msg.specs.declared.message.Message.TheVariants.{Move, Ack, Verdict, Fetch}
 use Rattle.arbiter_core.specs.declared.fault.DeliverFault.TheVariants as deliver
@@ -24,39 +24,39 @@ pub record Site : Type 0 where
   pub kept : Option (List ℕ)
   pub arbiter : Option View
 
-pub record Net : Type 0 where
+pub record SystemState : Type 0 where
   pub a : Site
   pub b : Site
   -- every message that was ever sent, in order
   pub log : List Message
 
-abbrev pub site_of : Net → Who → Site
+abbrev pub site_of : SystemState → ArbiterId → Site
 site_of net A = net.a
 site_of net B = net.b
 
 -- one site changes, and it sends these messages
-abbrev pub changed : Net → Who → Site → List Message → Net
+abbrev pub changed : SystemState → ArbiterId → Site → List Message → SystemState
 changed net A site outputs = record { a = site; b = net.b; log = net.log ++ outputs }
 changed net B site outputs = record { a = net.a; b = site; log = net.log ++ outputs }
 
 -- nothing is kept, both are closed, and the source has sent the moves of the game
-abbrev pub first_net : Judged → Net
+abbrev pub first_net : Judged → SystemState
 first_net game = record { a = record { kept = None; arbiter = None }; b = record { kept = None; arbiter = None }; log = sent_by game.stamp Source 0 game.moves }
 
 -- ---- the steps
 
 pub data NetStep (K : Type 0) : Type 0 where
   -- an arbiter is opened, or refused: the keeper before and after it, and what was told
-  OpensOne : (who : Who) (before now : K) (told : Opened) → NetStep K
+  OpensOne : (who : ArbiterId) (before now : K) (told : Opened) → NetStep K
   -- an arbiter that runs answers a datagram
-  AnswersOne : (who : Who) (arbiter : View) (before : K) (exchange : Exchange K) → NetStep K
+  AnswersOne : (who : ArbiterId) (arbiter : View) (before : K) (exchange : Exchange K) → NetStep K
   -- an arbiter that runs asks for moves
-  AsksOne : (who : Who) (arbiter : View) → NetStep K
+  AsksOne : (who : ArbiterId) (arbiter : View) → NetStep K
   -- an arbiter is closed, or its process ends
-  ClosesOne : (who : Who) → NetStep K
+  ClosesOne : (who : ArbiterId) → NetStep K
 
 -- a setup of one of the two arbiters of the game
-pub record IsSetupOf (game : Judged) (who : Who) (setup : SetupView) : Type 0 where
+pub record IsSetupOf (game : Judged) (who : ArbiterId) (setup : SetupView) : Type 0 where
   pub rules : rules_at setup ≡ game.rules
   pub identity : IsIdentity setup (identity game who)
 
@@ -71,7 +71,7 @@ FoundOpened facts game setup old now told found =
     ⊎ ((told ≡ Err opening.KeeperFailed) × (old ≡ None) × IsWritten game.stamp game.rules.delay (first_record (rules_at setup)) found)
 
 -- the keeper keeps what is found there, and what is told is what opening an arbiter of the game leaves
-pub record IsOpeningAtSite {K : Type 0} (facts : KeeperFacts K) (game : Judged) (who : Who) (old : Site) (before now : K) (told : Opened) (new : Site) : Type 0 where
+pub record IsOpeningAtSite {K : Type 0} (facts : KeeperFacts K) (game : Judged) (who : ArbiterId) (old : Site) (before now : K) (told : Opened) (new : Site) : Type 0 where
   pub setup : SetupView
   pub is_setup : IsSetupOf game who setup
   pub kept : facts.kept before ≡ old.kept
@@ -115,38 +115,38 @@ pub record IsAnswerAtSite {K : Type 0} (facts : KeeperFacts K) (game : Judged) (
   pub arbiter : new.arbiter ≡ Some e.after.arbiter
   pub found : FoundAnswered facts v e new.kept
 
-pub record OpeningInNet {K : Type 0} (facts : KeeperFacts K) (game : Judged) (old : Net) (who : Who) (before now : K) (told : Opened) (new : Net) : Type 0 where
+pub record OpeningInNet {K : Type 0} (facts : KeeperFacts K) (game : Judged) (old : SystemState) (who : ArbiterId) (before now : K) (told : Opened) (new : SystemState) : Type 0 where
   pub site : Site
   pub is : IsOpeningAtSite facts game who (site_of old who) before now told site
   pub net : new ≡ changed old who site []
 
-pub record Answering {K : Type 0} (facts : KeeperFacts K) (game : Judged) (old : Net) (who : Who) (v : View) (before : K) (e : Exchange K) (new : Net) : Type 0 where
+pub record Answering {K : Type 0} (facts : KeeperFacts K) (game : Judged) (old : SystemState) (who : ArbiterId) (v : View) (before : K) (e : Exchange K) (new : SystemState) : Type 0 where
   pub site : Site
   pub is : IsAnswerAtSite facts game old.log (site_of old who) v before e site
   pub net : new ≡ changed old who site (sent_with e.told)
 
-pub record Asking (old : Net) (who : Who) (v : View) (new : Net) : Type 0 where
+pub record Asking (old : SystemState) (who : ArbiterId) (v : View) (new : SystemState) : Type 0 where
   pub stands : (site_of old who).arbiter ≡ Some v
   pub runs : v.is_down ≡ false
   pub net : new ≡ changed old who (site_of old who) (listed (request_of v.me v.kept))
 
 -- one step
-abbrev pub GoesByStep : {K : Type 0} → KeeperFacts K → Judged → Net → NetStep K → Net → Type 0
+abbrev pub GoesByStep : {K : Type 0} → KeeperFacts K → Judged → SystemState → NetStep K → SystemState → Type 0
 GoesByStep facts game old (OpensOne who before now told) new = OpeningInNet facts game old who before now told new
 GoesByStep facts game old (AnswersOne who v before e) new = Answering facts game old who v before e new
 GoesByStep facts game old (AsksOne who v) new = Asking old who v new
 GoesByStep facts game old (ClosesOne who) new = new ≡ changed old who (record { kept = (site_of old who).kept; arbiter = None }) []
 
 -- steps in turn
-abbrev pub GoesBySteps : {K : Type 0} → KeeperFacts K → Judged → Net → List (NetStep K) → Net → Type 0
+abbrev pub GoesBySteps : {K : Type 0} → KeeperFacts K → Judged → SystemState → List (NetStep K) → SystemState → Type 0
 GoesBySteps facts game old [] new = new ≡ old
-GoesBySteps facts game old (act ∷ acts) new = (mid : Net) × GoesByStep facts game old act mid × GoesBySteps facts game mid acts new
+GoesBySteps facts game old (act ∷ acts) new = (mid : SystemState) × GoesByStep facts game old act mid × GoesBySteps facts game mid acts new
 
 -- ---- what holds
 
 -- There is a schedule after which the world keeps what is found at both, and has sent what was sent; and that world is true to
 -- the game.
-pub record IsOfWorld (game : Judged) (net : Net) : Type 0 where
+pub record IsOfWorld (game : Judged) (net : SystemState) : Type 0 where
   pub events : List Event
   pub a : KeptIs game.stamp game.rules.delay net.a.kept (world_after_all game (first_world game) events).a.kept
   pub b : KeptIs game.stamp game.rules.delay net.b.kept (world_after_all game (first_world game) events).b.kept
@@ -156,11 +156,11 @@ pub record IsOfWorld (game : Judged) (net : Net) : Type 0 where
 -- Wherever two arbiters of one game come by their own steps over keepers of a type, a schedule leads to what is found there.
 abbrev pub ArbitersAreWorlds : {K : Type 0} → KeeperFacts K → Type 0
 ArbitersAreWorlds {K = K} facts =
-    (game : Judged) (acts : List (NetStep K)) (net : Net) → GoesBySteps facts game (first_net game) acts net → IsOfWorld game net
+    (game : Judged) (acts : List (NetStep K)) (net : SystemState) → GoesBySteps facts game (first_net game) acts net → IsOfWorld game net
 
 -- What one of them tells while it runs is so: its record, of which each of its lines and messages tells, is the first moves of the game,
 -- with the first verdict exactly at its ply.
 abbrev pub ArbitersTellTheTruth : {K : Type 0} → KeeperFacts K → Type 0
 ArbitersTellTheTruth {K = K} facts =
-    (game : Judged) (acts : List (NetStep K)) (net : Net) → GoesBySteps facts game (first_net game) acts net
-    → (who : Who) (v : View) → (site_of net who).arbiter ≡ Some v → v.is_down ≡ false → IsFrontOf game.rules game.moves v.kept
+    (game : Judged) (acts : List (NetStep K)) (net : SystemState) → GoesBySteps facts game (first_net game) acts net
+    → (who : ArbiterId) (v : View) → (site_of net who).arbiter ≡ Some v → v.is_down ≡ false → IsFrontOf game.rules game.moves v.kept

@@ -8,7 +8,7 @@ use Rattle.relay_world.specs.declared.event.Event.{Event}
 use Rattle.relay_world.specs.Laws.{count_in, world_after}
 use Rattle.judge_core.specs.Games.{IsFirst}
 use Rattle.move_msg.specs.Messages.{stamp_in}
-use Rattle.move_msg.specs.declared.who.Who.TheVariants.{A, B}
+use Rattle.move_msg.specs.declared.arbiter_id.ArbiterId.TheVariants.{A, B}
 use Rattle.source_core.specs.declared.report.Ruling.{Ruling}
 use Rattle.source_core.specs.declared.known.Clash.{Clash}
 use Rattle.source_core.specs.Reports.{HasCome, IsAcked, IsClash, IsRuled}

@@ -11,9 +11,9 @@ use Rattle.arbiter_core.specs.Recording.{Recorded}
 use Rattle.arbiter_core.specs.Setups.{SetupView}
 use Rattle.system_io.specs.Disks.{DiskFacts}
 use Rattle.system_io.specs.Records.{StoreFacts}
-use Rattle.arbiter_server.specs.Acts.{Act, Unread, Strange, Refuses, Opens, Answers, Closes, acts_of, all_replies}
+use Rattle.arbiter_server.specs.Acts.{Action, Unread, Strange, Refuses, Opens, Answers, Closes, acts_of, all_replies}
 use Rattle.arbiter_server.specs.Folders.{Keepers}
-use Rattle.arbiter_server.specs.Games.{CommonView, Fresh, Life, Open, Shut}
+use Rattle.arbiter_server.specs.Games.{CommonView, Fresh, GameStatus, Open, Shut}
 use Rattle.arbiter_server.specs.Hosts.{CommitsEach}
 use Rattle.arbiter_server.specs.Lives.{StillHolds}
 use Rattle.arbiter_server.specs.OverFiles.{GoesOn, IsItsRecord}
@@ -41,9 +41,9 @@ pub record IsStillKept (next : Memory) (e : Exchange Memory) : Type 0 where
 --
 -- Premise (who writes the folder of games): the game found under the stamp was one, by `IsOfSetup`. That no other has this stamp rests on
 -- SHA-256.
-pub record AreStored {S : Type 0} (facts : S → StoreFacts) (acts : List (Act Memory)) (rounds : List Round) : Type 0 where
-  pub first : List (Act Memory)
-  pub rest : List (Act Memory)
+pub record AreStored {S : Type 0} (facts : S → StoreFacts) (acts : List (Action Memory)) (rounds : List Round) : Type 0 where
+  pub first : List (Action Memory)
+  pub rest : List (Action Memory)
   pub are : acts ≡ first ++ rest
   pub answered : all_replies first ≡ replies_of_rounds rounds
   pub store : S
@@ -55,7 +55,7 @@ pub record AreStored {S : Type 0} (facts : S → StoreFacts) (acts : List (Act M
 -- Over a store: before the answers of each round go out, a start finds what they tell, and what those before them told.
 abbrev pub AnswersAreFound : {S : Type 0} → DiskFacts → (S → StoreFacts) → List ℕ → Type 0
 AnswersAreFound disk facts folder =
-    (t : CommonView) (acts : List (Act Memory)) (rounds first later : List Round)
+    (t : CommonView) (acts : List (Action Memory)) (rounds first later : List Round)
     → CommitsEach (store_keepers disk folder) t (store_finds facts) acts rounds
     → rounds ≡ first ++ later
     → 0 < length first
@@ -67,14 +67,14 @@ AnswersAreFound disk facts folder =
 -- that returns; the rounds whose answers went out, those of the last one all or some of them, and the rounds that were to follow; and the
 -- store that the run left.
 pub record StoreRun (S : Type 0) : Type 0 where
-  pub acts : List (Act Memory)
-  pub rest : List (Act Memory)
+  pub acts : List (Action Memory)
+  pub rest : List (Action Memory)
   pub sent : List Round
   pub later : List Round
   pub left : S
 
 -- the first opening of the game is over such a keeper (each later one is over what was left, by `IsOver` of arbiter_server)
-abbrev pub BeginsOver : {K : Type 0} → (K → Type 0) → List (Act K) → Type 0
+abbrev pub BeginsOver : {K : Type 0} → (K → Type 0) → List (Action K) → Type 0
 BeginsOver P [] = Unit {0}
 BeginsOver P (Unread datagram fault ∷ acts) = BeginsOver P acts
 BeginsOver P (Strange stamp datagram tried why ∷ acts) = BeginsOver P acts
@@ -85,7 +85,7 @@ BeginsOver P (Closes stamp left ∷ acts) = BeginsOver P acts
 
 -- What a start finds of the game once this store was committed in a run that began over that one: what the store has of it; or, as long as
 -- the game wasn't opened in the run, what one found before.
-abbrev pub FoundAt : {S : Type 0} → (S → StoreFacts) → List ℕ → S → Life Memory → S → Memory → Type 0
+abbrev pub FoundAt : {S : Type 0} → (S → StoreFacts) → List ℕ → S → GameStatus Memory → S → Memory → Type 0
 FoundAt facts stamp before Fresh committed next = store_finds facts before stamp next
 FoundAt facts stamp before (Shut left) committed next = store_finds facts committed stamp next
 FoundAt facts stamp before (Open at) committed next = store_finds facts committed stamp next

@@ -12,7 +12,7 @@ use arbiter_core::laws::puts_grow;
 use arbiter_server::laws::keeps_what_it_told;
 use arbiter_server::{FileKeeper, Span, open_and_serve};
 use std::alloc::Global;
-use system_fakes::{Choice, DiskFile};
+use system_fakes::{Crash, DiskFile};
 use system_io::{Output, Port, ReadFault};
 
 /// A disk at which a run stops.
@@ -21,7 +21,7 @@ pub struct Stop {
     /// The disk.
     pub disk: DiskFile,
     /// What the stop leaves of it.
-    pub choice: Choice,
+    pub choice: Crash,
 }
 
 /// One more run over a disk after a stop, with a loss of power or without. An arbiter is opened from what is left and

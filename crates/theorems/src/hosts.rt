@@ -1,14 +1,14 @@
 //! A game at two hosts.
 
 ghost use Rattle.arbiter_server.specs.Folders.{keepers};
-ghost use Rattle.theorems.specs.Weaves.{AcksAreFound, FrontsAreRuns, HostsAreWorlds, HostsTellTheTruth};
+ghost use Rattle.theorems.specs.Interleavings.{AcksAreFound, FrontsAreRuns, HostsAreWorlds, HostsTellTheTruth};
 
 use arbiter_server::Games;
 
 /// Two hosts that have one game, each over a folder of its own, come to what a schedule comes to, in whichever order their acts come
 /// and however often each of them is stopped and run again. So each law of `relay_world` is about what they keep and send.
 ///
-/// The premises stand in `specs/Weaves.antt`: which hosts these are, what is outside, and that the acts of a run which was stopped go
+/// The premises stand in `specs/Interleavings.antt`: which hosts these are, what is outside, and that the acts of a run which was stopped go
 /// on from one another as those of one that returns.
 pub fn hosts_are_worlds<G: Games, H: Games>(_first: &G, _second: &H)
     ensures { (first : G) (second : H) → HostsAreWorlds (keepers G.Keeper.facts G.facts first) (keepers H.Keeper.facts H.facts second) }

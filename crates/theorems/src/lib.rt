@@ -6,7 +6,7 @@
 //! and has sent, so that each law of `relay_world` holds of them. Each function carries one law and does nothing, but for `run_after`,
 //! a run of an arbiter over a disk in memory that loses power.
 //!
-//! What the outside gives is a premise, act by act, in `specs/Nets.antt` and `specs/Weaves.antt`; nothing that a contract gives
+//! What the outside gives is a premise, act by act, in `specs/Nets.antt` and `specs/Interleavings.antt`; nothing that a contract gives
 //! is stated there again. Of two hosts these are: which hosts they are and what their tables mean (`IsHostOf`); that the game
 //! found under the stamp is this one, that no message of it is made up, and that keepers keep (`Finds`, `AnswersDatagram`, `Stops`); that the
 //! acts of a stopped run go on as those of one that returns (`goes` of `IsRunOfHost`); that a closing, an act of another game and a datagram
@@ -18,7 +18,7 @@
 //!
 //! `Recording` is a host that records what is made at it: so the clauses of `Host` on histories are those of one.
 //!
-//! Definitions, in reading order: `Nets`, `Weaves`, `Listens`, `HostFiles`, `AfterStops`, `FileWeaves`, `StoreHosts`, `StoreWeaves`,
+//! Definitions, in reading order: `Nets`, `Interleavings`, `Listens`, `HostFiles`, `AfterStops`, `FileWeaves`, `StoreHosts`, `StoreWeaves`,
 //! `Sources`, `Seals`, `Recording`.
 //!
 //! - CLAIM: `arbiters_are_worlds`: two arbiters of one game over keepers of any one type, by steps as the contracts of `open` and

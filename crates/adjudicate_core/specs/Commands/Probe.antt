@@ -1,8 +1,8 @@
 -- `probe --tables DIR [--manifest FILE] FEN`: what tables tell of a position (this project's own).
 use Rattle.std.specs.Prelude.{◌≡◌, false, List, [], ◌∷◌, Option, Some, None, codes, option_map}
 use Rattle.board_core.specs.declared.parts.Parts.{Parts}
-use Rattle.judge_core.specs.declared.probed.Probed.{Probed}
-use Rattle.judge_core.specs.Probed.{IsProbed, has_both}
+use Rattle.judge_core.specs.declared.probe_result.ProbeResult.{ProbeResult}
+use Rattle.judge_core.specs.ProbeResult.{IsProbed, has_both}
 use Rattle.judge_core.specs.Tables.{Tables}
 use Rattle.move_msg.specs.TextLines.{text_of}
 use Rattle.clap.specs.Words.{Rule, Text}
@@ -35,7 +35,7 @@ abbrev pub named : Probe → Named
 named t = record { folder = Some t.tables.now; manifest = option_map (λ s. s.now) t.manifest; input = false; kept = None; other_kept = None }
 
 -- a line a question, the value and then the distance
-abbrev pub probed_reply : Probed → Reply
+abbrev pub probed_reply : ProbeResult → Reply
 probed_reply probed = record {
   text = text_of (told_words (codes "wdl") probed.wdl ∷ told_words (codes "dtz") probed.dtz ∷ []);
   status = status_if (has_both probed);
@@ -43,7 +43,7 @@ probed_reply probed = record {
 
 -- what both probes answer, told
 abbrev pub IsProbeReply : Tables → Parts → Reply → Type 0
-IsProbeReply tables p r = (probed : Probed) × IsProbed tables p probed × (r ≡ probed_reply probed)
+IsProbeReply tables p r = (probed : ProbeResult) × IsProbed tables p probed × (r ≡ probed_reply probed)
 
 abbrev pub IsReply : Probe → Given → Reply → Type 0
 IsReply t given r = IsForText t.fen.now (ByTables (gathered given) IsProbeReply) r

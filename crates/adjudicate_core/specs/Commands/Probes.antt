@@ -4,9 +4,9 @@ use Rattle.board_core.specs.declared.parts.Parts.{Parts}
 use Rattle.board_core.specs.Position.{IsPosition}
 use Rattle.fen_text.specs.declared.fault.FenFault.{FenFault}
 use Rattle.fen_text.specs.Fen.{SpellsPosition, IsFirstFenFault}
-use Rattle.judge_core.specs.declared.probed.Probed.{Probed}
+use Rattle.judge_core.specs.declared.probe_result.ProbeResult.{ProbeResult}
 use Rattle.judge_core.specs.Ruling.{ruling}
-use Rattle.judge_core.specs.Probed.{has_both}
+use Rattle.judge_core.specs.ProbeResult.{has_both}
 use Rattle.judge_core.specs.Words.{columns_words}
 use Rattle.judge_core.specs.Tables.{Tables}
 use Rattle.clap.specs.Words.{Rule, Text}
@@ -46,7 +46,7 @@ named t = record { folder = Some t.tables.now; manifest = option_map (λ s. s.no
 
 -- a line: what `probe` and `judge` tell of its position, in columns, or the refusal of the text
 pub data TellsLine (ask : Ask) (tables : Tables) (text : List ℕ) (told : LineTold) : Type 0 where
-  OfPosition : (p : Parts) → SpellsPosition text p → IsPosition p → (probed : Probed) → IsAnswered ask tables p probed → told ≡ record { words = columns_words probed.wdl probed.dtz (ruling tables p); done = has_both probed } → TellsLine ask tables text told
+  OfPosition : (p : Parts) → SpellsPosition text p → IsPosition p → (probed : ProbeResult) → IsAnswered ask tables p probed → told ≡ record { words = columns_words probed.wdl probed.dtz (ruling tables p); done = has_both probed } → TellsLine ask tables text told
   OfNone : (fault : FenFault) → IsFirstFenFault text fault → told ≡ record { words = refused_fen fault; done = false } → TellsLine ask tables text told
 
 -- so it is told, or as JSON

@@ -6,9 +6,9 @@ use Rattle.std.specs.List.{list_all}
 use Rattle.system_io.specs.Inputs.{InputFacts}
 use Rattle.system_io.specs.declared.output.WriteFault.{WriteFault}
 use Rattle.board_core.specs.declared.parts.Parts.{Parts}
-use Rattle.judge_core.specs.declared.probed.Probed.{Probed}
+use Rattle.judge_core.specs.declared.probe_result.ProbeResult.{ProbeResult}
 use Rattle.judge_core.specs.declared.root_move.RootMove.{RootMove}
-use Rattle.judge_core.specs.Probed.{has_both}
+use Rattle.judge_core.specs.ProbeResult.{has_both}
 use Rattle.judge_core.specs.Ruling.{ruling}
 use Rattle.judge_core.specs.Tables.{Tables}
 use Rattle.judge_core.specs.Words.{columns_words}
@@ -55,7 +55,7 @@ abbrev pub named : Root → Named
 named t = record { folder = Some t.tables.now; manifest = option_map (λ s. s.now) t.manifest; input = false; kept = None; other_kept = None }
 
 -- A line for each legal move, the best first, and then what `probes` tells of the position. It is complete where nothing is refused.
-abbrev pub root_reply : List RootMove → Probed → List ℕ → Reply
+abbrev pub root_reply : List RootMove → ProbeResult → List ℕ → Reply
 root_reply moves probed columns = record {
   text = text_of (map root_words moves ++ columns ∷ []);
   status = status_if (has_both probed && list_all (λ m. has_both (probed_of m)) moves);
@@ -63,7 +63,7 @@ root_reply moves probed columns = record {
 
 abbrev pub IsRootReply : Ask → Tables → Parts → Reply → Type 0
 IsRootReply ask tables p r =
-    (moves : List RootMove) × AreRootMoves ask tables p moves × (probed : Probed) × IsAnswered ask tables p probed
+    (moves : List RootMove) × AreRootMoves ask tables p moves × (probed : ProbeResult) × IsAnswered ask tables p probed
     × (r ≡ root_reply moves probed (columns_words probed.wdl probed.dtz (ruling tables p)))
 
 -- a line of the input: what is told of its position, or the refusal of the text, and then an empty line

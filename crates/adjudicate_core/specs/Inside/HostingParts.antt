@@ -1,7 +1,7 @@
 -- The words of `host`, part by part; cited by private functions alone.
 use Rattle.std.specs.Prelude.{◌≡◌, ◌⊎◌, ℕ, List, Option, Some, Result, codes}
 use Rattle.clap.specs.Words.{Text}
-use Rattle.move_msg.specs.declared.who.Who.{Who}
+use Rattle.move_msg.specs.declared.arbiter_id.ArbiterId.{ArbiterId}
 use Rattle.arbiter_server.specs.declared.line_log.LogForm.{LogForm}
 use Rattle.adjudicate_core.specs.declared.numbers.StoreForm.{StoreForm}
 use Rattle.system_io.specs.Disks.{AtFolder, DiskFacts}
@@ -19,7 +19,7 @@ use Rattle.system_io.specs.declared.output.WriteFault.{WriteFault}
 use Rattle.adjudicate_core.specs.declared.refusals.Refusal.{Refusal}
 use Rattle.adjudicate_core.specs.declared.refusals.Refusal.TheVariants.{Files, Memory, Store}
 use Rattle.adjudicate_core.specs.Addresses.{AreRecipients, IsAddressIfAny}
-use Rattle.adjudicate_core.specs.Hostings.{BindsAndHosts, StoreClashes, HostsAt, HostsNow, Keeping, Seen, seen_by}
+use Rattle.adjudicate_core.specs.Hostings.{BindsAndHosts, StoreClashes, HostsAt, HostsNow, Keeping, HostedRuns, seen_by}
 use Rattle.adjudicate_core.specs.Listens.{Hosted}
 use Rattle.adjudicate_core.specs.declared.commands.host.HostGames.{HostGames}
 use Rattle.adjudicate_core.specs.Numbers.{IsAtOnce, IsCache, IsDatagrams, IsLog, IsMe, IsStore}
@@ -28,7 +28,7 @@ abbrev pub AreHostEnds : (Text → Option Text) → List ℕ → List ℕ → Li
 AreHostEnds value games tables bind to =
     (Some games ≡ value (codes "games")) × (Some tables ≡ value (codes "tables")) × (Some bind ≡ value (codes "bind")) × (Some to ≡ value (codes "to")) × AreRecipients to
 
-abbrev pub AreHostTerms : (Text → Option Text) → Who → ℕ → ℕ → ℕ → LogForm → StoreForm → Type 0
+abbrev pub AreHostTerms : (Text → Option Text) → ArbiterId → ℕ → ℕ → ℕ → LogForm → StoreForm → Type 0
 AreHostTerms value me at_once cache datagrams log store =
     IsMe (value (codes "me")) me × IsAtOnce (value (codes "at-once")) at_once × IsCache (value (codes "cache")) cache × IsDatagrams (value (codes "datagrams")) datagrams × IsLog (value (codes "log")) log × IsStore (value (codes "store")) store × IsAddressIfAny (value (codes "bind"))
 
@@ -59,7 +59,7 @@ keeping_of f games = record {
   made = f.folder.taken (f.folder.place games);
 }
 
-abbrev pub seen_games : {G K W : Type 0} → GamesFacts G K W → G → Seen W
+abbrev pub seen_games : {G K W : Type 0} → GamesFacts G K W → G → HostedRuns W
 seen_games f games = seen_by (keeping_of f games) f.writer
 
 -- from one history to a later one

@@ -5,7 +5,7 @@ use Rattle.std.specs.Str.{bytes_eq}
 use Rattle.move_msg.specs.Files.{File, entry_for}
 use Rattle.move_msg.specs.Manifests.{Entry, entry_of}
 use Rattle.move_msg.specs.TextLines.{text_of}
-use Rattle.adjudicate_core.specs.declared.commands.check.Seen.{Seen}
+use Rattle.adjudicate_core.specs.declared.commands.check.FileCheck.{FileCheck}
 use Rattle.adjudicate_core.specs.declared.tables.FileFault.{FileFault}
 use Rattle.adjudicate_core.specs.declared.tables.FileFault.TheVariants.{Changed, Missing}
 use Rattle.adjudicate_core.specs.Lines.{look_words}
@@ -17,13 +17,13 @@ pub record Sight : Type 0 where
   pub entry : Entry
   pub fault : Option FileFault
 
-abbrev pub sight_of : Seen → Sight
+abbrev pub sight_of : FileCheck → Sight
 sight_of seen = record { entry = entry_of seen.entry; fault = seen.fault }
 
 abbrev pub sight_at : File → Sight
 sight_at f = record { entry = entry_for f; fault = found_fault (file_found f) }
 
-abbrev pub IsSeenOf : Seen → File → Type 0
+abbrev pub IsSeenOf : FileCheck → File → Type 0
 IsSeenOf seen f = sight_of seen ≡ sight_at f
 
 -- by what was seen under the name of a manifest's line

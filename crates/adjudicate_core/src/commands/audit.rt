@@ -26,7 +26,7 @@ use judge_core::Set;
 use move_msg::{GameName, manifest_of};
 use record_audit::{Audited, Auditor, are_whole_and_agree, audit, compare_files};
 use std::alloc::{AllocError, Global};
-use task_files::{Places, Sources};
+use task_files::{InputPaths, Inputs};
 
 /// Whether kept files are records of a game as an arbiter of it keeps them.
 #[derive(Drop)]
@@ -152,10 +152,10 @@ impl<'a> Audit<'a> {
     }
 
     /// What is read for it.
-    pub(crate) fn places(&self) -> Places<'a>
+    pub(crate) fn places(&self) -> InputPaths<'a>
         ensures { named_by result ≡ named self.now }
     {
-        Places {
+        InputPaths {
             folder: Some(self.tables),
             manifest: self.manifest,
             reads_input: false,
@@ -165,7 +165,7 @@ impl<'a> Audit<'a> {
     }
 
     /// The bytes of the second kept file, if it is named.
-    fn other_in<'s>(&self, sources: &'s Sources) -> Option<&'s [u8]>
+    fn other_in<'s>(&self, sources: &'s Inputs) -> Option<&'s [u8]>
         ensures { option_map (λ s. s.now) result ≡ other_in self.now sources.now }
     {
         match self.other {
@@ -178,7 +178,7 @@ impl<'a> Audit<'a> {
     fn answer_by(
         &self,
         alloc: Global,
-        sources: &Sources,
+        sources: &Inputs,
         start: &Position,
         set: Set<'_>,
     ) -> Result<Answer, AllocError>
@@ -199,7 +199,7 @@ impl<'a> Audit<'a> {
     fn answer_from(
         &self,
         alloc: Global,
-        sources: &Sources,
+        sources: &Inputs,
         start: &Position,
     ) -> Result<Answer, AllocError>
         ensures { IfOk result (λ a. IsAuditResult self.now sources.now start.now (reply_of a)) }
@@ -213,7 +213,7 @@ impl<'a> Audit<'a> {
     /// The findings on the kept files: each is judged as an arbiter of the game judges it at its opening, and is only
     /// read. Of two records the answer has the ply at which they part. A text that is no position is refused first,
     /// then the tables.
-    pub(crate) fn answer(&self, alloc: Global, sources: &Sources) -> Result<Answer, AllocError>
+    pub(crate) fn answer(&self, alloc: Global, sources: &Inputs) -> Result<Answer, AllocError>
         ensures ok { IfOk result (λ a. IsReply self.now sources.now (reply_of a)) }
         ensures memory { OnErr result (IsText self.now.start.now) }
     {

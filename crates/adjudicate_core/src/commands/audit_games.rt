@@ -20,7 +20,7 @@ use clap::ArgMatches;
 use game_status::{AuditTables, tell_audit};
 use std::alloc::Global;
 use system_io::{Disk, Host, Output, WriteFault};
-use task_files::{Places, Sources};
+use task_files::{InputPaths, Inputs};
 
 /// The audit of the games of a folder.
 #[derive(Clone, Copy)]
@@ -64,10 +64,10 @@ impl<'a> AuditGames<'a> {
     }
 
     /// What is read for it before it answers: not its folders of games, which it reads itself.
-    pub(crate) fn places(&self) -> Places<'a>
+    pub(crate) fn places(&self) -> InputPaths<'a>
         ensures { named_by result ≡ named self.now }
     {
-        Places {
+        InputPaths {
             folder: Some(self.tables),
             manifest: self.manifest,
             reads_input: false,
@@ -120,7 +120,7 @@ impl<'a> AuditGames<'a> {
     pub(crate) fn answer<D: Disk, H: Host, W: Output>(
         &self,
         alloc: Global,
-        sources: &Sources,
+        sources: &Inputs,
         disk: &D,
         host: &H,
         out: &mut W,

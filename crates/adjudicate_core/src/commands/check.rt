@@ -25,7 +25,7 @@ use move_msg::{Line as Entry, Manifest, NamedFile};
 use std::alloc::{AllocError, Global};
 use std::io::Write;
 use system_io::{Disk, ReadFault};
-use task_files::{Look, Places, looks_in, read_manifest};
+use task_files::{InputPaths, TableRequest, looks_in, read_manifest};
 
 /// Whether the tables in a folder are those of a manifest.
 #[derive(Clone, Copy)]
@@ -56,21 +56,21 @@ pub(crate) const VALUES: [Value; 3] = [
 
 /// The look at a file: its line in a manifest, and why it is no table, if it isn't one.
 #[derive(Clone, Copy)]
-pub(crate) struct Seen {
+pub(crate) struct FileCheck {
     /// Its line.
     pub(crate) entry: Entry,
     /// Why it is no table.
     pub(crate) fault: Option<FileFault>,
 }
 
-impl Look for Seen {
+impl TableRequest for FileCheck {
     ghost use Rattle.adjudicate_core.specs.Inside.Looking.{IsSeenOf};
 
     ghost made_of = { IsSeenOf };
 
-    fn of(alloc: Global, file: NamedFile) -> Result<Seen, AllocError> {
+    fn of(alloc: Global, file: NamedFile) -> Result<FileCheck, AllocError> {
         let found = open_file(alloc, &file)?;
-        Ok(Seen {
+        Ok(FileCheck {
             entry: Entry::of(file.name, &file.bytes),
             fault: found.err(),
         })
@@ -78,7 +78,7 @@ impl Look for Seen {
 }
 
 /// Why the looks don't meet a line of a manifest; none where they do.
-fn fault_in(seen: &[Seen], line: &Entry) -> Option<FileFault>
+fn fault_in(seen: &[FileCheck], line: &Entry) -> Option<FileFault>
     ensures { result ≡ fault_seen (map sight_of seen.now) (entry_of line.now) }
 {
     for file in seen {
@@ -94,7 +94,7 @@ fn fault_in(seen: &[Seen], line: &Entry) -> Option<FileFault>
 }
 
 /// The findings for the lines of a manifest, a line each, and whether all are `ok`.
-fn check_lines(alloc: Global, seen: &[Seen], entries: &[Entry]) -> Result<Answer, AllocError>
+fn check_lines(alloc: Global, seen: &[FileCheck], entries: &[Entry]) -> Result<Answer, AllocError>
     ensures { IfOk result (λ a. reply_of a ≡ reply_seen (map sight_of seen.now) (map entry_of entries.now)) }
 {
     let mut lines = Vec::new(alloc);
@@ -108,7 +108,11 @@ fn check_lines(alloc: Global, seen: &[Seen], entries: &[Entry]) -> Result<Answer
 }
 
 /// The findings for a manifest, or its refusal.
-fn check_manifest(alloc: Global, seen: &[Seen], manifest: &Manifest) -> Result<Answer, AllocError>
+fn check_manifest(
+    alloc: Global,
+    seen: &[FileCheck],
+    manifest: &Manifest,
+) -> Result<Answer, AllocError>
     ensures { IfOk result (λ a. (files : List File) → AreMadeOf IsSeenOf seen.now files → reply_of a ≡ checked_by files (told_by manifest.now)) }
 {
     match manifest {
@@ -132,10 +136,10 @@ impl<'a> Check<'a> {
     }
 
     /// What is read for it before it answers: nothing, since it reads its folder itself.
-    pub(crate) fn places(&self) -> Places<'a>
+    pub(crate) fn places(&self) -> InputPaths<'a>
         ensures { named_by result ≡ named }
     {
-        Places::none()
+        InputPaths::none()
     }
 
     /// Files held to a manifest: a line for each of its lines, or its refusal. One file at a time is held. Progress is

@@ -11,7 +11,7 @@ use crate::values::{delay_in, game_words_in, option_in, without};
 use board_core::Delay;
 use clap::ArgMatches;
 use move_msg::GameName;
-use task_files::Places;
+use task_files::InputPaths;
 
 /// Games that are entered in a folder.
 #[derive(Drop)]
@@ -142,9 +142,9 @@ impl<'a> Enter<'a> {
     }
 
     /// What is read for it before it answers: nothing, since it reads its list and its tables or its manifest itself.
-    pub(crate) fn places(&self) -> Places<'a>
+    pub(crate) fn places(&self) -> InputPaths<'a>
         ensures { named_by result ≡ named }
     {
-        Places::none()
+        InputPaths::none()
     }
 }

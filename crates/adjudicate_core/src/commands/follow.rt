@@ -24,7 +24,7 @@ use game_teller::follow_game;
 use judge_core::Set;
 use std::alloc::Global;
 use system_io::{Input, Output, WriteFault};
-use task_files::{Places, Sources};
+use task_files::{InputPaths, Inputs};
 
 /// The game of the input, ply by ply.
 #[derive(Clone, Copy)]
@@ -92,10 +92,10 @@ impl<'a> Follow<'a> {
     }
 
     /// What is read for it before it answers: not the input, whose lines are read as they come.
-    pub(crate) fn places(&self) -> Places<'a>
+    pub(crate) fn places(&self) -> InputPaths<'a>
         ensures { named_by result ≡ named self.now }
     {
-        Places {
+        InputPaths {
             folder: self.tables,
             manifest: self.manifest,
             reads_input: false,
@@ -108,7 +108,7 @@ impl<'a> Follow<'a> {
     fn answer_from<I: Input, W: Output>(
         &self,
         alloc: Global,
-        sources: &Sources,
+        sources: &Inputs,
         start: &Position,
         input: &I,
         out: &mut W,
@@ -131,7 +131,7 @@ impl<'a> Follow<'a> {
     pub(crate) fn answer<I: Input, W: Output>(
         &self,
         alloc: Global,
-        sources: &Sources,
+        sources: &Inputs,
         input: &I,
         out: &mut W,
     ) -> Result<u8, WriteFault>

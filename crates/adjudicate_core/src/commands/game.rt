@@ -24,7 +24,7 @@ use fen_text::read;
 use judge_core::{GameOutcome, Outcome};
 use move_msg::read_moves;
 use std::alloc::{AllocError, Global};
-use task_files::{Places, Sources};
+use task_files::{InputPaths, Inputs};
 
 /// The outcome of the game of the input.
 #[derive(Clone, Copy)]
@@ -62,7 +62,7 @@ pub(crate) const VALUES: [Value; 4] = [
 /// The outcome of a game by the tables of files, or the refusal of these.
 fn answer_moves(
     alloc: Global,
-    sources: &Sources,
+    sources: &Inputs,
     delay: Delay,
     start: &Position,
     moves: &[Move],
@@ -96,7 +96,7 @@ fn is_legal(outcome: GameOutcome) -> bool
 /// manifest, then the first file at fault.
 fn answer_from(
     alloc: Global,
-    sources: &Sources,
+    sources: &Inputs,
     delay: Delay,
     start: &Position,
 ) -> Result<Answer, AllocError>
@@ -123,10 +123,10 @@ impl<'a> FollowGame<'a> {
     }
 
     /// What is read for it.
-    pub(crate) fn places(&self) -> Places<'a>
+    pub(crate) fn places(&self) -> InputPaths<'a>
         ensures { named_by result ≡ named self.now }
     {
-        Places {
+        InputPaths {
             folder: self.tables,
             manifest: self.manifest,
             reads_input: true,
@@ -136,7 +136,7 @@ impl<'a> FollowGame<'a> {
     }
 
     /// The outcome of the game of the input from the position of the text. A text that is no position is refused first.
-    pub(crate) fn answer(&self, alloc: Global, sources: &Sources) -> Result<Answer, AllocError>
+    pub(crate) fn answer(&self, alloc: Global, sources: &Inputs) -> Result<Answer, AllocError>
         ensures ok { IfOk result (λ a. IsReply self.now sources.now (reply_of a)) }
         ensures memory { OnErr result (IsText self.now.fen.now) }
     {

@@ -17,7 +17,7 @@ use crate::values::word_in;
 use clap::ArgMatches;
 use std::alloc::Global;
 use system_io::{Disk, Host, Output, ReadFault, WriteFault};
-use task_files::Places;
+use task_files::InputPaths;
 
 /// The record of a game in a folder.
 #[derive(Clone, Copy)]
@@ -46,10 +46,10 @@ impl<'a> GameRecord<'a> {
     }
 
     /// What is read for it before it answers: not its folder, which it reads itself.
-    pub(crate) fn places(&self) -> Places<'a>
+    pub(crate) fn places(&self) -> InputPaths<'a>
         ensures { named_by result ≡ named }
     {
-        Places {
+        InputPaths {
             folder: None,
             manifest: None,
             reads_input: false,

@@ -15,9 +15,9 @@ use crate::values::{
 };
 use arbiter_server::LogForm;
 use clap::ArgMatches;
-use move_msg::Who;
+use move_msg::ArbiterId;
 use std::num::NonZeroUsize;
-use task_files::Places;
+use task_files::InputPaths;
 
 /// What arbiters of games are opened from.
 #[derive(Drop)]
@@ -33,7 +33,7 @@ pub struct HostGames<'a> {
     /// To whom answers are sent: addresses and `sender`, which commas part.
     pub to: &'a str,
     /// Which of the two arbiters of each game it is.
-    pub me: Who,
+    pub me: ArbiterId,
     /// How many games are open at once, at most; 65535 or less.
     pub at_once: NonZeroUsize,
     /// How many decoded blocks the tables may keep.
@@ -108,7 +108,7 @@ pub(crate) const VALUES: [Value; 13] = [
 
 /// The folders and the addresses.
 #[derive(Clone, Copy)]
-struct Ends<'a> {
+struct Endpoints<'a> {
     games: &'a str,
     tables: &'a str,
     bind: &'a str,
@@ -117,8 +117,8 @@ struct Ends<'a> {
 
 /// The numbers, which lines are written, and where records are kept.
 #[derive(Clone, Copy)]
-struct Terms {
-    me: Who,
+struct Limits {
+    me: ArbiterId,
     at_once: NonZeroUsize,
     cache: CacheSize,
     datagrams: u64,
@@ -127,12 +127,12 @@ struct Terms {
 }
 
 /// The folders and the addresses, of options that have to be there.
-fn ends_in<'a>(matches: &ArgMatches<'a>) -> Result<Ends<'a>, ValueFault<'a>>
+fn ends_in<'a>(matches: &ArgMatches<'a>) -> Result<Endpoints<'a>, ValueFault<'a>>
     ensures ok { IfOk result (λ e. AreHostEnds (first_value (found_of matches.now)) e.games.now e.tables.now e.bind.now e.to.now) }
     ensures well { IfOk result (λ e. AreWell (first_value (found_of matches.now)) end_faults) }
     ensures err { IfErr result (λ fault. IsFirstMisuse (first_value (found_of matches.now)) end_faults (fault_words fault)) }
 {
-    Ok(Ends {
+    Ok(Endpoints {
         games: option_in(matches, "games")?,
         tables: option_in(matches, "tables")?,
         bind: option_in(matches, "bind")?,
@@ -141,11 +141,11 @@ fn ends_in<'a>(matches: &ArgMatches<'a>) -> Result<Ends<'a>, ValueFault<'a>>
 }
 
 /// The numbers, which lines are written, and where records are kept.
-fn terms_in<'a>(matches: &ArgMatches<'a>) -> Result<Terms, ValueFault<'a>>
+fn terms_in<'a>(matches: &ArgMatches<'a>) -> Result<Limits, ValueFault<'a>>
     ensures ok { IfOk result (λ t. AreHostTerms (first_value (found_of matches.now)) t.me t.at_once.value t.cache t.datagrams t.log t.store) }
     ensures err { IfErr result (λ fault. IsFirstMisuse (first_value (found_of matches.now)) term_faults (fault_words fault)) }
 {
-    let terms = Terms {
+    let terms = Limits {
         me: me_in(matches)?,
         at_once: at_once_in(matches)?,
         cache: cache_in(matches)?,
@@ -189,10 +189,10 @@ impl<'a> HostGames<'a> {
     }
 
     /// What is read for it.
-    pub(crate) fn places(&self) -> Places<'a>
+    pub(crate) fn places(&self) -> InputPaths<'a>
         ensures { named_by result ≡ named self.now }
     {
-        Places {
+        InputPaths {
             folder: Some(self.tables),
             manifest: self.manifest,
             reads_input: false,

@@ -21,7 +21,7 @@ use board_core::Position;
 use clap::ArgMatches;
 use fen_text::read;
 use std::alloc::{AllocError, Global};
-use task_files::{Places, Sources};
+use task_files::{InputPaths, Inputs};
 
 /// The verdict on a position.
 #[derive(Clone, Copy)]
@@ -53,7 +53,7 @@ pub(crate) const VALUES: [Value; 3] = [
 /// The verdict by the tables of files, or that the game goes on, or the refusal of the files: of a manifest at fault, then of
 /// the first file at fault.
 #[tactic(auto, unfolding(crate::specs::Commands::Judge::judged))]
-fn verdict_of(alloc: Global, sources: &Sources, position: &Position) -> Result<Answer, AllocError>
+fn verdict_of(alloc: Global, sources: &Inputs, position: &Position) -> Result<Answer, AllocError>
     ensures { IfOk result (λ a. ByTables (gathered sources.now) IsJudged position.now (reply_of a)) }
 {
     match gather(alloc, sources, CacheSize::usual()) {
@@ -80,10 +80,10 @@ impl<'a> Judge<'a> {
     }
 
     /// What is read for it.
-    pub(crate) fn places(&self) -> Places<'a>
+    pub(crate) fn places(&self) -> InputPaths<'a>
         ensures { named_by result ≡ named self.now }
     {
-        Places {
+        InputPaths {
             folder: self.tables,
             manifest: self.manifest,
             reads_input: false,
@@ -93,7 +93,7 @@ impl<'a> Judge<'a> {
     }
 
     /// The verdict on the position of the text: a text that is none is refused first.
-    pub(crate) fn answer(&self, alloc: Global, sources: &Sources) -> Result<Answer, AllocError>
+    pub(crate) fn answer(&self, alloc: Global, sources: &Inputs) -> Result<Answer, AllocError>
         ensures ok { IfOk result (λ a. IsReply self.now sources.now (reply_of a)) }
         ensures memory { OnErr result (IsText self.now.fen.now) }
     {

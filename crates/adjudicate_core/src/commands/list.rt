@@ -17,7 +17,7 @@ use move_msg::{Line as Entry, Manifest, manifest_write};
 use std::alloc::Global;
 use std::io::Write;
 use system_io::{Disk, ReadFault};
-use task_files::{Places, looks_in};
+use task_files::{InputPaths, looks_in};
 
 /// The manifest of the tables in a folder.
 #[derive(Clone, Copy)]
@@ -53,10 +53,10 @@ impl<'a> List<'a> {
     }
 
     /// What is read for it before it answers: nothing, since it reads its folder itself.
-    pub(crate) fn places(&self) -> Places<'a>
+    pub(crate) fn places(&self) -> InputPaths<'a>
         ensures { named_by result ≡ named }
     {
-        Places::none()
+        InputPaths::none()
     }
 
     /// The manifest of the files. One file at a time is held. Progress is written if requested.

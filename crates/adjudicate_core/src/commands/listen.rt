@@ -14,8 +14,8 @@ use crate::values::{
 };
 use board_core::Delay;
 use clap::ArgMatches;
-use move_msg::{GameName, Who};
-use task_files::Places;
+use move_msg::{ArbiterId, GameName};
+use task_files::InputPaths;
 
 /// The values of an arbiter that answers datagrams.
 #[derive(Drop)]
@@ -27,7 +27,7 @@ pub struct Listen<'a> {
     /// The folder of the tables.
     pub tables: &'a str,
     /// Which of the two arbiters it is.
-    pub me: Who,
+    pub me: ArbiterId,
     /// The address at which datagrams come.
     pub bind: &'a str,
     /// To whom answers are sent: addresses and `sender`, separated by commas.
@@ -100,7 +100,7 @@ pub(crate) const VALUES: [Value; 12] = [
 
 /// The addresses and the kept file.
 #[derive(Clone, Copy)]
-struct Ends<'a> {
+struct Endpoints<'a> {
     bind: &'a str,
     to: &'a str,
     kept: &'a str,
@@ -108,8 +108,8 @@ struct Ends<'a> {
 
 /// The numbers, whether it asks first, and whether it tells its address.
 #[derive(Clone, Copy)]
-struct Terms {
-    me: Who,
+struct Limits {
+    me: ArbiterId,
     datagrams: u64,
     delay: Delay,
     fetch: bool,
@@ -117,12 +117,12 @@ struct Terms {
 }
 
 /// The addresses and the kept file, of options that have to be there.
-fn ends_in<'a>(matches: &ArgMatches<'a>) -> Result<Ends<'a>, ValueFault<'a>>
+fn ends_in<'a>(matches: &ArgMatches<'a>) -> Result<Endpoints<'a>, ValueFault<'a>>
     ensures ok { IfOk result (λ e. AreListenEnds (first_value (found_of matches.now)) e.bind.now e.to.now e.kept.now) }
     ensures well { IfOk result (λ e. AreWell (first_value (found_of matches.now)) end_faults) }
     ensures err { IfErr result (λ fault. IsFirstMisuse (first_value (found_of matches.now)) end_faults (fault_words fault)) }
 {
-    Ok(Ends {
+    Ok(Endpoints {
         bind: option_in(matches, "bind")?,
         to: recipients_in(matches)?,
         kept: option_in(matches, "kept")?,
@@ -130,11 +130,11 @@ fn ends_in<'a>(matches: &ArgMatches<'a>) -> Result<Ends<'a>, ValueFault<'a>>
 }
 
 /// The numbers, whether it asks first, and whether it tells its address.
-fn terms_in<'a>(matches: &ArgMatches<'a>) -> Result<Terms, ValueFault<'a>>
+fn terms_in<'a>(matches: &ArgMatches<'a>) -> Result<Limits, ValueFault<'a>>
     ensures ok { IfOk result (λ t. AreListenTerms (first_value (found_of matches.now)) t.me t.datagrams t.delay t.fetch t.ready) }
     ensures err { IfErr result (λ fault. IsFirstMisuse (first_value (found_of matches.now)) term_faults (fault_words fault)) }
 {
-    let terms = Terms {
+    let terms = Limits {
         me: me_in(matches)?,
         datagrams: datagrams_in(matches)?,
         delay: delay_in(matches)?,
@@ -186,10 +186,10 @@ impl<'a> Listen<'a> {
     }
 
     /// What is read for it.
-    pub(crate) fn places(&self) -> Places<'a>
+    pub(crate) fn places(&self) -> InputPaths<'a>
         ensures { named_by result ≡ named self.now }
     {
-        Places {
+        InputPaths {
             folder: Some(self.tables),
             manifest: None,
             reads_input: false,

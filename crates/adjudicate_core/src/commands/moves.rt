@@ -18,7 +18,7 @@ use board_core::Position;
 use clap::ArgMatches;
 use fen_text::read;
 use std::alloc::{AllocError, Global};
-use task_files::Places;
+use task_files::InputPaths;
 
 /// The legal moves of a position.
 #[derive(Clone, Copy)]
@@ -58,10 +58,10 @@ impl<'a> Moves<'a> {
     }
 
     /// What is read for it.
-    pub(crate) fn places(&self) -> Places<'a>
+    pub(crate) fn places(&self) -> InputPaths<'a>
         ensures { named_by result ≡ named self.now }
     {
-        Places::none()
+        InputPaths::none()
     }
 
     /// The legal moves of the position of the text: a text that is none is refused first.

@@ -20,9 +20,9 @@ use crate::values::{option_in, word_in};
 use board_core::Position;
 use clap::ArgMatches;
 use fen_text::read;
-use judge_core::{Column, Probed, Set};
+use judge_core::{Column, ProbeResult, Set};
 use std::alloc::{AllocError, Global};
-use task_files::{Places, Sources};
+use task_files::{InputPaths, Inputs};
 
 /// The values of a position in tables.
 #[derive(Clone, Copy)]
@@ -52,7 +52,7 @@ pub(crate) const VALUES: [Value; 3] = [
 ];
 
 /// Both probes, a line each.
-fn tell(alloc: Global, probed: Probed) -> Result<Answer, AllocError>
+fn tell(alloc: Global, probed: ProbeResult) -> Result<Answer, AllocError>
     ensures { IfOk result (λ a. reply_of a ≡ probed_reply probed) }
 {
     let lines = [Line::Wdl(Column(probed.wdl)), Line::Dtz(Column(probed.dtz))];
@@ -72,7 +72,7 @@ fn told_by(alloc: Global, set: &mut Set<'_>, position: &Position) -> Result<Answ
 
 /// The values of a position in the tables of files, or the refusal of these: of a malformed manifest, then of the first
 /// file at fault.
-fn told_of(alloc: Global, sources: &Sources, position: &Position) -> Result<Answer, AllocError>
+fn told_of(alloc: Global, sources: &Inputs, position: &Position) -> Result<Answer, AllocError>
     ensures { IfOk result (λ a. ByTables (gathered sources.now) IsProbeReply position.now (reply_of a)) }
 {
     match gather(alloc, sources, CacheSize::usual()) {
@@ -96,10 +96,10 @@ impl<'a> Probe<'a> {
     }
 
     /// What is read for it.
-    pub(crate) fn places(&self) -> Places<'a>
+    pub(crate) fn places(&self) -> InputPaths<'a>
         ensures { named_by result ≡ named self.now }
     {
-        Places {
+        InputPaths {
             folder: Some(self.tables),
             manifest: self.manifest,
             reads_input: false,
@@ -109,7 +109,7 @@ impl<'a> Probe<'a> {
     }
 
     /// The values of the position of the text. A text that is no position is refused first.
-    pub(crate) fn answer(&self, alloc: Global, sources: &Sources) -> Result<Answer, AllocError>
+    pub(crate) fn answer(&self, alloc: Global, sources: &Inputs) -> Result<Answer, AllocError>
         ensures ok { IfOk result (λ a. IsReply self.now sources.now (reply_of a)) }
         ensures memory { OnErr result (IsText self.now.fen.now) }
     {

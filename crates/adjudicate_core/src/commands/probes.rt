@@ -28,11 +28,11 @@ use clap::ArgMatches;
 use fen_text::read;
 use json_lines::Ask;
 use judge_core::Set;
-use line_teller::{TellFault, Teller};
+use line_teller::{LineHandler, TellFault};
 use std::alloc::{AllocError, Global};
 use std::io::Write;
 use system_io::{Input, Output, WriteFault};
-use task_files::{Places, Sources};
+use task_files::{InputPaths, Inputs};
 
 /// The values of the positions of the input in tables.
 #[derive(Clone, Copy)]
@@ -118,7 +118,7 @@ struct Prober<'a> {
     set: Set<'a>,
 }
 
-impl<'a> Teller for Prober<'a> {
+impl<'a> LineHandler for Prober<'a> {
     ghost use Rattle.adjudicate_core.specs.Reply.{IsText};
     ghost use Rattle.adjudicate_core.specs.Commands.Probes.{TellsLine};
 
@@ -153,10 +153,10 @@ impl<'a> Probes<'a> {
     }
 
     /// What is read for it.
-    pub(crate) fn places(&self) -> Places<'a>
+    pub(crate) fn places(&self) -> InputPaths<'a>
         ensures { named_by result ≡ named self.now }
     {
-        Places {
+        InputPaths {
             folder: Some(self.tables),
             manifest: self.manifest,
             reads_input: false,
@@ -206,7 +206,7 @@ impl<'a> Probes<'a> {
     pub(crate) fn answer<I: Input, W: Output, E: Write>(
         &self,
         alloc: Global,
-        sources: &Sources,
+        sources: &Inputs,
         input: &I,
         out: &mut W,
         errors: &mut E,

@@ -23,7 +23,7 @@ use move_msg::{Record, RecordFault, Stamp};
 use std::alloc::{AllocError, Global};
 use std::io::Write;
 use system_io::WriteFault;
-use task_files::{Places, Sources};
+use task_files::{InputPaths, Inputs};
 
 /// The contents of a kept record.
 #[derive(Clone, Copy)]
@@ -151,10 +151,10 @@ impl<'a> ShowRecord<'a> {
     }
 
     /// What is read for it.
-    pub(crate) fn places(&self) -> Places<'a>
+    pub(crate) fn places(&self) -> InputPaths<'a>
         ensures { named_by result ≡ named self.now }
     {
-        Places {
+        InputPaths {
             folder: None,
             manifest: None,
             reads_input: false,
@@ -164,7 +164,7 @@ impl<'a> ShowRecord<'a> {
     }
 
     /// The answer: a line for each part of the record in the kept file, or why it is none.
-    pub(crate) fn answer(&self, alloc: Global, sources: &Sources) -> Result<Answer, AllocError>
+    pub(crate) fn answer(&self, alloc: Global, sources: &Inputs) -> Result<Answer, AllocError>
         ensures ok { IfOk result (λ a. IsReply sources.now.kept (reply_of a)) }
         ensures memory { OnErr result (RecordTakesMemory sources.now.kept) }
     {

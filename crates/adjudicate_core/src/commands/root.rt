@@ -32,11 +32,11 @@ use clap::ArgMatches;
 use fen_text::{FenFault, read};
 use json_lines::{Ask, JsonLine};
 use judge_core::{Columns, RootMove, Set};
-use line_teller::{TellFault, Teller};
+use line_teller::{LineHandler, TellFault};
 use std::alloc::{AllocError, Global};
 use std::io::Write;
 use system_io::{Input, Output, WriteFault};
-use task_files::{Places, Sources};
+use task_files::{InputPaths, Inputs};
 
 /// The legal moves of a position by their values in tables.
 #[derive(Clone, Copy)]
@@ -165,7 +165,7 @@ fn told_in(
 fn told_of(
     ask: Ask,
     alloc: Global,
-    sources: &Sources,
+    sources: &Inputs,
     position: &Position,
     json: bool,
 ) -> Result<Answer, AllocError>
@@ -193,7 +193,7 @@ fn refused_in(fault: FenFault, json: bool) -> Answer
 fn answer_text(
     ask: Ask,
     alloc: Global,
-    sources: &Sources,
+    sources: &Inputs,
     text: &str,
     json: bool,
 ) -> Result<Answer, AllocError>
@@ -232,7 +232,7 @@ struct Ranker<'a> {
     set: Set<'a>,
 }
 
-impl<'a> Teller for Ranker<'a> {
+impl<'a> LineHandler for Ranker<'a> {
     ghost use Rattle.adjudicate_core.specs.Reply.{IsText};
     ghost use Rattle.adjudicate_core.specs.Commands.Root.{TellsLine};
 
@@ -267,10 +267,10 @@ impl<'a> Root<'a> {
     }
 
     /// What is read for it.
-    pub(crate) fn places(&self) -> Places<'a>
+    pub(crate) fn places(&self) -> InputPaths<'a>
         ensures { named_by result ≡ named self.now }
     {
-        Places {
+        InputPaths {
             folder: Some(self.tables),
             manifest: self.manifest,
             reads_input: false,
@@ -312,7 +312,7 @@ impl<'a> Root<'a> {
     fn answer_input<I: Input, W: Output, E: Write>(
         &self,
         alloc: Global,
-        sources: &Sources,
+        sources: &Inputs,
         input: &I,
         out: &mut W,
         errors: &mut E,
@@ -339,7 +339,7 @@ impl<'a> Root<'a> {
     pub(crate) fn answer<I: Input, W: Output, E: Write>(
         &self,
         alloc: Global,
-        sources: &Sources,
+        sources: &Inputs,
         input: &I,
         out: &mut W,
         errors: &mut E,

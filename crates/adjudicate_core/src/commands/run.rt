@@ -28,12 +28,12 @@ use crate::usage::ValueFault;
 use crate::values::{cache_in, delay_in};
 use board_core::{Delay, Verdict};
 use clap::ArgMatches;
-use move_msg::{NamedFile, Who};
+use move_msg::{ArbiterId, NamedFile};
 use relay_world::schedule::{Schedule, ScheduleFault, read};
 use relay_world::{Event, Game, World, WorldFault, run};
 use std::alloc::{AllocError, Global};
 use table_file::{TableFault, reads_what_is_laid_out};
-use task_files::{Places, Sources};
+use task_files::{InputPaths, Inputs};
 
 /// Two arbiters under the schedule of the input.
 #[derive(Clone, Copy)]
@@ -136,7 +136,7 @@ fn world_of(
 }
 
 /// How many moves an arbiter keeps, and the verdict; none where nothing is kept.
-fn kept_count_of(world: &World, who: Who) -> Option<KeptCount>
+fn kept_count_of(world: &World, who: ArbiterId) -> Option<KeptCount>
     ensures { (stamp : Stamp) (delay : ℕ) (kept : Option Recorded) → KeptIs stamp delay (told_side world.now who).bytes kept → result ≡ counted_record kept }
 {
     match world.kept(who) {
@@ -149,7 +149,7 @@ fn kept_count_of(world: &World, who: Who) -> Option<KeptCount>
 }
 
 /// The line for an arbiter.
-fn line_of(world: &World, who: Who) -> Line
+fn line_of(world: &World, who: ArbiterId) -> Line
     ensures { (stamp : Stamp) (delay : ℕ) (side : Side) → TellsSide stamp delay (told_side world.now who) side → words_of result ≡ side_words who side }
 {
     Line::Arbiter(who, world.state(who), kept_count_of(world, who))
@@ -160,8 +160,8 @@ fn lines_of(alloc: Global, world: &World) -> Result<Vec<Line>, AllocError>
     ensures { IfOk result (λ lines. (game : Judged) (last : Worlds) → TellsWorld game world.now last → map words_of lines.items ≡ world_words last) }
 {
     let lines = [
-        line_of(world, Who::A),
-        line_of(world, Who::B),
+        line_of(world, ArbiterId::A),
+        line_of(world, ArbiterId::B),
         Line::Sent(world.log().len()),
     ];
     Vec::from_slice(alloc, &lines)
@@ -178,7 +178,7 @@ fn answer_world(alloc: Global, world: &World) -> Result<Answer, AllocError>
 /// Two arbiters after the events of a schedule, or the refusal of the first file that is no table.
 fn answer_events(
     alloc: Global,
-    sources: &Sources,
+    sources: &Inputs,
     cache: CacheSize,
     schedule: &Schedule,
     game: &Game,
@@ -196,7 +196,7 @@ fn answer_events(
 /// Two arbiters after a schedule, or the refusal of the first file that is no table.
 fn answer_schedule(
     alloc: Global,
-    sources: &Sources,
+    sources: &Inputs,
     cache: CacheSize,
     delay: Delay,
     schedule: &Schedule,
@@ -224,10 +224,10 @@ impl<'a> RunSchedule<'a> {
     }
 
     /// What is read for it.
-    pub(crate) fn places(&self) -> Places<'a>
+    pub(crate) fn places(&self) -> InputPaths<'a>
         ensures { named_by result ≡ named self.now }
     {
-        Places {
+        InputPaths {
             folder: self.tables,
             manifest: None,
             reads_input: true,
@@ -238,7 +238,7 @@ impl<'a> RunSchedule<'a> {
 
     /// Two arbiters after the schedule of the input. The first malformed line is refused, then the first file that is
     /// no table.
-    pub(crate) fn answer(&self, alloc: Global, sources: &Sources) -> Result<Answer, AllocError>
+    pub(crate) fn answer(&self, alloc: Global, sources: &Inputs) -> Result<Answer, AllocError>
         ensures { IfOk result (λ a. IsReply self.now sources.now (reply_of a)) }
     {
         match schedule_of(alloc, sources.input()) {

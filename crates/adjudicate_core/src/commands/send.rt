@@ -13,7 +13,7 @@ use crate::values::{check_bind, delay_in, game_words_in, to_in, tries_in, wait_i
 use board_core::Delay;
 use clap::ArgMatches;
 use move_msg::{GameName, Stamp};
-use task_files::Places;
+use task_files::InputPaths;
 
 /// A game as words tell it.
 #[derive(Drop)]
@@ -115,7 +115,7 @@ pub(crate) const VALUES: [Value; 11] = [
 
 /// The numbers.
 #[derive(Clone, Copy)]
-struct Terms {
+struct Limits {
     delay: Delay,
     wait: u16,
     tries: u16,
@@ -197,11 +197,11 @@ fn bind_in<'a>(matches: &ArgMatches<'a>) -> &'a str
 }
 
 /// The numbers.
-fn terms_in<'a>(matches: &ArgMatches<'a>) -> Result<Terms, ValueFault<'a>>
+fn terms_in<'a>(matches: &ArgMatches<'a>) -> Result<Limits, ValueFault<'a>>
     ensures ok { IfOk result (λ t. AreSendTerms (first_value (found_of matches.now)) t.delay t.wait t.tries) }
     ensures err { IfErr result (λ fault. IsFirstMisuse (first_value (found_of matches.now)) term_faults (fault_words fault)) }
 {
-    let terms = Terms {
+    let terms = Limits {
         delay: delay_in(matches)?,
         wait: wait_in(matches)?,
         tries: tries_in(matches)?,
@@ -238,9 +238,9 @@ impl<'a> Send<'a> {
     }
 
     /// What is read for it before it answers: nothing, since it reads its tables or its manifest itself.
-    pub(crate) fn places(&self) -> Places<'a>
+    pub(crate) fn places(&self) -> InputPaths<'a>
         ensures { named_by result ≡ named }
     {
-        Places::none()
+        InputPaths::none()
     }
 }

@@ -11,7 +11,7 @@ use crate::lines::{Line, put_line, put_refusal};
 use crate::refusals::Refusal;
 use move_msg::{Feeder, Message, MessageFault};
 use system_io::{Output, WriteFault};
-use task_files::{Places, Sources};
+use task_files::{InputPaths, Inputs};
 
 /// The messages of the input.
 #[derive(Clone, Copy)]
@@ -73,10 +73,10 @@ fn show_messages<W: Output>(stream: &[u8], out: &mut W) -> Result<u8, WriteFault
 
 impl Show {
     /// What is read for it.
-    pub(crate) fn places<'a>(&self) -> Places<'a>
+    pub(crate) fn places<'a>(&self) -> InputPaths<'a>
         ensures { named_by result ≡ named }
     {
-        Places {
+        InputPaths {
             folder: None,
             manifest: None,
             reads_input: true,
@@ -86,7 +86,7 @@ impl Show {
     }
 
     /// Writes a line for each message of the input, and returns the status.
-    pub(crate) fn answer<W: Output>(&self, sources: &Sources, out: &mut W) -> Result<u8, WriteFault>
+    pub(crate) fn answer<W: Output>(&self, sources: &Inputs, out: &mut W) -> Result<u8, WriteFault>
         ensures told { Answers sources.now (W.contents out.old) (W.contents out.new) result }
         ensures cause { OnErr result (HasFailed W.facts) }
     {

@@ -17,7 +17,7 @@ use clap::ArgMatches;
 use game_status::tell_status;
 use std::alloc::Global;
 use system_io::{Disk, Host, Output, WriteFault};
-use task_files::Places;
+use task_files::InputPaths;
 
 /// How far the games of a folder have come.
 #[derive(Clone, Copy)]
@@ -53,10 +53,10 @@ impl<'a> ShowStatus<'a> {
     }
 
     /// What is read for it before it answers: nothing, since it reads its folders itself.
-    pub(crate) fn places(&self) -> Places<'a>
+    pub(crate) fn places(&self) -> InputPaths<'a>
         ensures { named_by result ≡ named }
     {
-        Places::none()
+        InputPaths::none()
     }
 
     /// Tells how far the games have come on a disk, as `game_status::tell_status` has it.

@@ -6,7 +6,7 @@ ghost use Rattle.task_files.specs.Sources.{named_by};
 ghost use Rattle.line_teller.specs.ToldLines.{HasFailed};
 
 use system_io::{Output, WriteFault};
-use task_files::Places;
+use task_files::InputPaths;
 
 /// The program's version.
 #[derive(Clone, Copy)]
@@ -18,10 +18,10 @@ const TEXT: &str = "adjudicate 1.0.0
 
 impl Version {
     /// What is read for it.
-    pub(crate) fn places<'a>(&self) -> Places<'a>
+    pub(crate) fn places<'a>(&self) -> InputPaths<'a>
         ensures { named_by result ≡ named }
     {
-        Places::none()
+        InputPaths::none()
     }
 
     /// Writes the version as a line, and returns the status 0.

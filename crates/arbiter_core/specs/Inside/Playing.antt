@@ -12,7 +12,7 @@ use Rattle.move_msg.specs.declared.record_bytes.Record.{Record}
 use Rattle.move_msg.specs.declared.stamp.Stamp.{Stamp}
 use Rattle.arbiter_core.specs.declared.planning.Plan.{Plan}
 use Rattle.arbiter_core.specs.declared.played.Played.{Played}
-use Rattle.arbiter_core.specs.Recording.{Recorded, Window, advance, reaches}
+use Rattle.arbiter_core.specs.Recording.{Recorded, ReorderBuffer, advance, reaches}
 use Rattle.arbiter_core.specs.Setups.{SetupView, rules_at}
 use Rattle.arbiter_core.specs.Views.{IsNear}
 
@@ -36,7 +36,7 @@ pub record IsPlayedRecord (setup : SetupView) (stamp : Stamp) (p : Played) : Typ
   pub short : length p.record.moves ≤ most_moves
 
 -- what always holds of an arbiter's setup, of what it has recorded and of the moves that wait
-pub record IsArbiterInOrder (setup : SetupView) (p : Played) (window : Window) : Type 0 where
+pub record IsArbiterInOrder (setup : SetupView) (p : Played) (window : ReorderBuffer) : Type 0 where
   pub played : IsPlayedRecord setup p.record.stamp p
   pub near : IsNear window (length p.record.moves + 1)
   pub delay : setup.delay ≤ most_delay
@@ -48,20 +48,20 @@ pub record IsNext (rules : Rules) (old : Recorded) (m : Move) (position : Parts)
   pub short : length old.moves < most_moves
 
 -- the plan adds this move and those that wait behind it
-pub record IsPlan (rules : Rules) (old : Recorded) (m : Move) (window : Window) (p : Plan) : Type 0 where
+pub record IsPlan (rules : Rules) (old : Recorded) (m : Move) (window : ReorderBuffer) (p : Plan) : Type 0 where
   pub advanced : record { moves = old.moves ++ p.moves.items; verdict = p.verdict } ≡ advance rules old.moves m window
   pub at : IsAt rules (old.moves ++ p.moves.items) p.standing
   pub short : length (old.moves ++ p.moves.items) ≤ most_moves
   pub more : length old.moves < length (old.moves ++ p.moves.items)
 
 -- after this move, or one of those that wait behind it, the game stands at a position of which a verdict lists moves
-abbrev pub ListsMovesAhead : Rules → List Move → Move → Window → Type 0
+abbrev pub ListsMovesAhead : Rules → List Move → Move → ReorderBuffer → Type 0
 ListsMovesAhead rules moves m window =
     let all = moves ++ m ∷ some_prefix window in
     (ply : ℕ) × (p : Parts) × (length moves < ply) × (reaches rules all ply ≡ true) × (position_after_all rules.start (take ply all) ≡ Some p) × ListsMovesForVerdict rules.tables p
 
 -- this is recorded after this move and those that wait behind it
-pub record IsPlayedOn (setup : SetupView) (old : Played) (m : Move) (window : Window) (new : Played) : Type 0 where
+pub record IsPlayedOn (setup : SetupView) (old : Played) (m : Move) (window : ReorderBuffer) (new : Played) : Type 0 where
   pub played : IsPlayedRecord setup old.record.stamp new
   pub advanced : recorded_in new ≡ advance (rules_at setup) old.record.moves m window
   pub more : length old.record.moves < length new.record.moves

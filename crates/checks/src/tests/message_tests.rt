@@ -2,7 +2,7 @@
 
 use crate::tests::comparing::{check_same, push_bytes};
 use board_core::{Move, Square};
-use move_msg::{Feeder, Message, MessageFault, Sender, Stamp, Wanted, Who, word};
+use move_msg::{ArbiterId, Feeder, FetchCount, Message, MessageFault, Sender, Stamp, word};
 use std::alloc::Global;
 use std::process::Abort;
 
@@ -48,10 +48,10 @@ fn no_message() -> Message {
 
 #[test]
 fn names_who_and_what(rt: HostRuntime) {
-    check_same(&rt, Who::of_number(2), Some(Who::B), "2");
-    check_same(&rt, Wanted::new(8), Some(Wanted::most()), "8");
+    check_same(&rt, ArbiterId::of_number(2), Some(ArbiterId::B), "2");
+    check_same(&rt, FetchCount::new(8), Some(FetchCount::most()), "8");
     let sender = no_message().sender();
-    check_same(&rt, sender, Sender::Arbiter(Who::A), "default");
+    check_same(&rt, sender, Sender::Arbiter(ArbiterId::A), "default");
     check_same(&rt, sender == Sender::Source, false, "no source");
 }
 

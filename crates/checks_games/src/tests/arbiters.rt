@@ -9,7 +9,7 @@ use board_core::{Move, Verdict};
 use check_helpers::{START, moves_of};
 use fen_text::write_move;
 use judge_core::Set;
-use move_msg::{Count, Message, MoveList, Record, Sender, Stamp, Wanted, Who};
+use move_msg::{ArbiterId, Count, FetchCount, Message, MoveList, Record, Sender, Stamp};
 use std::alloc::Global;
 use std::process::Abort;
 
@@ -55,16 +55,16 @@ fn moved(rt: &impl Abort, stamp: Stamp, sender: Sender, number: u32, text: &str)
     }
 }
 
-fn wanted_of(rt: &impl Abort, text: &str) -> Wanted {
+fn wanted_of(rt: &impl Abort, text: &str) -> FetchCount {
     let number = text.parse::<u8>().ok().expect(rt, text);
-    Wanted::new(number).expect(rt, text)
+    FetchCount::new(number).expect(rt, text)
 }
 
 /// The second arbiter asks for so many moves.
 fn fetch(rt: &impl Abort, stamp: Stamp, number: u32, wanted: &str) -> Message {
     Message::Fetch {
         stamp,
-        who: Who::B,
+        who: ArbiterId::B,
         number: Count::new(number).expect(rt, "a count"),
         wanted: wanted_of(rt, wanted),
     }
@@ -80,7 +80,7 @@ pub(crate) fn message_of(
 ) -> Message {
     match sent {
         Sent::Move => moved(rt, stamp, Sender::Source, number, what),
-        Sent::Relayed => moved(rt, stamp, Sender::Arbiter(Who::B), number, what),
+        Sent::Relayed => moved(rt, stamp, Sender::Arbiter(ArbiterId::B), number, what),
         Sent::Fetch => fetch(rt, stamp, number, what),
     }
 }
@@ -112,13 +112,13 @@ fn move_text(rt: &impl Abort, alloc: Global, number: u32, m: &Move) -> String {
     format!(in alloc; "Move {} {}", number, write_move(m).as_str()).expect(rt, "memory")
 }
 
-fn fetch_text(rt: &impl Abort, alloc: Global, number: Count, wanted: Wanted) -> String {
+fn fetch_text(rt: &impl Abort, alloc: Global, number: Count, wanted: FetchCount) -> String {
     format!(in alloc; "Fetch {} {}", number.number(), wanted.number()).expect(rt, "memory")
 }
 
 /// A move that the first arbiter passes on as text.
 fn passed_on(rt: &impl Abort, alloc: Global, sender: Sender, number: u32, m: &Move) -> String {
-    check_same(rt, sender, Sender::Arbiter(Who::A), "a move's sender");
+    check_same(rt, sender, Sender::Arbiter(ArbiterId::A), "a move's sender");
     move_text(rt, alloc, number, m)
 }
 

@@ -1,6 +1,8 @@
 //! What an arbiter of the longest game passes on where it is asked for moves.
 
-use crate::tests::arbiters::{Sent, empty_keeper, message_of, open_first, record_from, stamp_of, text_of};
+use crate::tests::arbiters::{
+    Sent, empty_keeper, message_of, open_first, record_from, stamp_of, text_of,
+};
 use crate::tests::comparing::{check_bytes, push_bytes};
 use crate::tests::positions::move_of;
 use arbiter_core::{Keeper, MemoryKeeper, Outputs};

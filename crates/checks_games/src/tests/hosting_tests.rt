@@ -5,11 +5,13 @@ use crate::tests::comparing::{check_bytes, check_same};
 use crate::tests::playing::{MOVES, below, message_at, record_at};
 use crate::tests::positions::position_of;
 use arbiter_core::{Keep, Keeper, MemoryKeeper, name_of};
-use arbiter_server::{Found, Games, LineLog, Server, ServerConfig, Uncommitted, Unopened};
+use arbiter_server::{
+    GameConfig, Games, LineLog, OpenGameError, Server, ServerConfig, Uncommitted,
+};
 use board_core::{Delay, Position};
 use check_helpers::START;
 use judge_core::Set;
-use move_msg::{Message, Record, Stamp, Who};
+use move_msg::{ArbiterId, Message, Record, Stamp};
 use std::alloc::Global;
 use std::num::NonZeroUsize;
 use std::process::Abort;
@@ -41,9 +43,9 @@ impl Hosted {
     }
 
     /// A keeper of what is noted or kept of it, with this outcome of each put.
-    fn keeper(&self, alloc: Global, keep: Keep) -> Result<MemoryKeeper, Unopened> {
+    fn keeper(&self, alloc: Global, keep: Keep) -> Result<MemoryKeeper, OpenGameError> {
         let Ok(mut keeper) = MemoryKeeper::new(alloc) else {
-            return Err(Unopened::OutOfMemory);
+            return Err(OpenGameError::OutOfMemory);
         };
         let latest = if self.noted.is_empty() {
             &self.kept
@@ -95,17 +97,17 @@ impl<'r> Games for Folder<'r> {
 
     ghost made = { λ _. None };
 
-    fn find(&self, _alloc: Global, stamp: Stamp) -> Result<Found, Unopened> {
+    fn find(&self, _alloc: Global, stamp: Stamp) -> Result<GameConfig, OpenGameError> {
         for game in self.games.iter() {
             if game.stamp == stamp {
-                return Ok(Found {
+                return Ok(GameConfig {
                     name: name_of(NAME),
                     start: game.start,
                     delay: game.delay,
                 });
             }
         }
-        Err(Unopened::NoGame)
+        Err(OpenGameError::NoGame)
     }
 
     fn take(
@@ -113,13 +115,13 @@ impl<'r> Games for Folder<'r> {
         alloc: Global,
         _history: &mut (),
         stamp: Stamp,
-    ) -> Result<MemoryKeeper, Unopened> {
+    ) -> Result<MemoryKeeper, OpenGameError> {
         for game in self.games.iter_mut() {
             if game.stamp == stamp {
                 return game.keeper(alloc, self.keep);
             }
         }
-        Err(Unopened::NoGame)
+        Err(OpenGameError::NoGame)
     }
 
     fn note(&mut self, stamp: Stamp, keeper: &MemoryKeeper) {
@@ -145,7 +147,11 @@ impl<'r> Games for Folder<'r> {
 fn message(rt: &impl Abort, games: &[Hosted], seed: &mut u64) -> [u8; 27] {
     let game = games.get(below(seed, 3)).expect(rt, "a game");
     let after = (game.acknowledged as usize).saturating_add(below(seed, 4));
-    message_at(rt, game.delay.plies(), after.saturating_sub(1).min(MOVES - 1))
+    message_at(
+        rt,
+        game.delay.plies(),
+        after.saturating_sub(1).min(MOVES - 1),
+    )
 }
 
 /// The outcome of the puts of a run: in one of four they fail.
@@ -167,7 +173,7 @@ fn serve(
 ) {
     let config = ServerConfig {
         manifest: b"",
-        me: Who::A,
+        me: ArbiterId::A,
         at_once: NonZeroUsize::new(2).expect(rt, "a number"),
         together: NonZeroUsize::new(together).expect(rt, "a number"),
     };

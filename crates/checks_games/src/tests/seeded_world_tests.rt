@@ -5,7 +5,7 @@ ghost use Rattle.std.specs.Prelude.{◌<◌};
 use crate::tests::comparing::check_same;
 use crate::tests::world_tests::{game_of, schedule_of, world_of};
 use arbiter_core::Keep;
-use move_msg::{Message, Who};
+use move_msg::{ArbiterId, Message};
 use relay_world::schedule::Schedule;
 use relay_world::{Event, State, World};
 use std::alloc::Global;
@@ -257,8 +257,8 @@ fn keep_of(seed: &mut u64) -> Keep {
 }
 
 /// The arbiter at this place.
-fn who_of(me: usize) -> Who {
-    if me == 0 { Who::A } else { Who::B }
+fn who_of(me: usize) -> ArbiterId {
+    if me == 0 { ArbiterId::A } else { ArbiterId::B }
 }
 
 /// What was said at this place, if anything was.

@@ -10,7 +10,7 @@ use check_helpers::{Failing, START};
 use std::alloc::Global;
 use std::process::Abort;
 use system_fakes::{MemoryCalls, MemoryPort, Passage, Turn};
-use system_io::{Output, Traced, WriteFault};
+use system_io::{CallLog, Output, WriteFault};
 
 /// How a port is served at which the game's moves wait: the call of it that fails, how many datagrams are to come, whether the
 /// other arbiter is asked first, the outcome of each put, the lines and the status, and what passes, a letter for each: `c` for
@@ -335,7 +335,7 @@ fn serve_over_calls(
     port: &mut MemoryPort<'_>,
     out: &mut Vec<u8>,
 ) {
-    let file = Traced::new(alloc, MemoryCalls::new(alloc, None, Some(fails_at)));
+    let file = CallLog::new(alloc, MemoryCalls::new(alloc, None, Some(fails_at)));
     if let Ok(mut keeper) = FileKeeper::new(alloc, file) {
         let setup = setup_of(rt, alloc, START, 0);
         let _ended = open_and_serve(

@@ -8,7 +8,7 @@ use check_helpers::START;
 use move_msg::{Message, Record};
 use std::alloc::Global;
 use std::process::Abort;
-use system_fakes::{Choice, DiskFile, MemoryPort, Outcome, Passage, Turn, read_after};
+use system_fakes::{Crash, DiskFile, MemoryPort, Outcome, Passage, Turn, read_after};
 use system_io::{KeptFile, ReadFault, replace_in_part};
 use theorems::{Stop, run_after};
 
@@ -45,11 +45,11 @@ fn new_disk(rt: &impl Abort, alloc: Global, seed: &mut u64) -> DiskFile {
 }
 
 /// A loss of power, or none.
-fn choice(rt: &impl Abort, alloc: Global, seed: &mut u64) -> Choice {
+fn choice(rt: &impl Abort, alloc: Global, seed: &mut u64) -> Crash {
     if below(seed, 3) == 0 {
-        return Choice::StaysUp;
+        return Crash::StaysUp;
     }
-    Choice::PowerLost {
+    Crash::PowerLost {
         which: below(seed, 4),
         bytes: Vec::from_slice(alloc, b"garbage").expect(rt, "memory"),
         beside: None,
@@ -106,7 +106,7 @@ fn run(
     rt: &impl Abort,
     alloc: Global,
     disk: DiskFile,
-    choice: Choice,
+    choice: Crash,
     port: &mut MemoryPort<'_>,
     datagrams: u32,
 ) -> (Option<DiskFile>, bool) {

@@ -8,8 +8,8 @@ use std::fs;
 use std::io::sink;
 use std::process::Abort;
 use std::rt::Files;
-use system_fakes::{Choice, DiskFile, MadeCall, MemoryCalls, Outcome, read_after};
-use system_io::{KeptFile, ReadFault, SystemFile, Traced, begin, replace, replace_in_part};
+use system_fakes::{Crash, DiskFile, MadeCall, MemoryCalls, Outcome, read_after};
+use system_io::{CallLog, KeptFile, ReadFault, SystemFile, begin, replace, replace_in_part};
 
 /// A letter for each call: `r` and `f` for what is read and for the folder that is synced, `w`, `s` and `n` for the file beside
 /// that is written, synced and given the name, `x` for one that failed.
@@ -34,13 +34,13 @@ fn check_calls(rt: &impl Abort, alloc: Global, calls: &MemoryCalls, wanted: &str
 }
 
 /// A file with the bytes `old`, of whose calls that of this number fails.
-fn traced(rt: &impl Abort, alloc: Global, fails_at: usize) -> Traced<MemoryCalls> {
+fn traced(rt: &impl Abort, alloc: Global, fails_at: usize) -> CallLog<MemoryCalls> {
     let old = Vec::from_slice(alloc, b"old").expect(rt, "memory");
-    Traced::new(alloc, MemoryCalls::new(alloc, Some(old), Some(fails_at)))
+    CallLog::new(alloc, MemoryCalls::new(alloc, Some(old), Some(fails_at)))
 }
 
 /// Reads the file and lets other bytes take the place of those in it, and tells whether both were done.
-fn is_replaced(alloc: Global, file: &mut Traced<MemoryCalls>) -> bool {
+fn is_replaced(alloc: Global, file: &mut CallLog<MemoryCalls>) -> bool {
     begin(alloc, file).is_ok() && replace(file, b"new").is_ok()
 }
 
@@ -98,20 +98,20 @@ fn makes_so_many_calls(rt: HostRuntime) {
 fn keeper_over(
     rt: &impl Abort,
     alloc: Global,
-    file: Traced<MemoryCalls>,
-) -> FileKeeper<Traced<MemoryCalls>> {
+    file: CallLog<MemoryCalls>,
+) -> FileKeeper<CallLog<MemoryCalls>> {
     FileKeeper::new(alloc, file).ok().expect(rt, "a keeper")
 }
 
 /// The calls of a file that are made until there is a keeper over it.
-fn check_start(rt: &impl Abort, alloc: Global, file: Traced<MemoryCalls>, wanted: &str) {
+fn check_start(rt: &impl Abort, alloc: Global, file: CallLog<MemoryCalls>, wanted: &str) {
     let keeper = keeper_over(rt, alloc, file);
     check_calls(rt, alloc, keeper.file().calls(), wanted);
 }
 
 /// Where nothing is kept.
-fn absent(alloc: Global) -> Traced<MemoryCalls> {
-    Traced::new(alloc, MemoryCalls::new(alloc, None, None))
+fn absent(alloc: Global) -> CallLog<MemoryCalls> {
+    CallLog::new(alloc, MemoryCalls::new(alloc, None, None))
 }
 
 /// A keeper reads the file and syncs its folder, and makes no other call, whether there is a file or not.
@@ -123,7 +123,7 @@ fn a_keeper_starts_without_a_write(rt: HostRuntime) {
 }
 
 /// Puts a record, and tells whether it is kept.
-fn is_put(keeper: &mut FileKeeper<Traced<MemoryCalls>>) -> bool {
+fn is_put(keeper: &mut FileKeeper<CallLog<MemoryCalls>>) -> bool {
     keeper.put(b"new").is_ok()
 }
 
@@ -169,8 +169,8 @@ fn synced_again(rt: &impl Abort, alloc: Global, outcome: Outcome) -> DiskFile {
 }
 
 /// A loss of power after which the earliest file has the name.
-fn loss(alloc: Global) -> Choice {
-    Choice::PowerLost {
+fn loss(alloc: Global) -> Crash {
+    Crash::PowerLost {
         which: 0,
         bytes: Vec::new(alloc),
         beside: None,
@@ -188,7 +188,7 @@ fn check_left(rt: &impl Abort, alloc: Global, outcome: Outcome, wanted: &[u8]) {
 fn is_stuck(rt: &impl Abort, alloc: Global, outcome: Outcome) -> bool {
     let disk = synced_again(rt, alloc, outcome);
     matches!(
-        read_after(alloc, disk, Choice::StaysUp),
+        read_after(alloc, disk, Crash::StaysUp),
         Err(ReadFault::Unreadable)
     )
 }

@@ -5,7 +5,7 @@ use arbiter_core::{KeepFault, Keeper};
 use arbiter_server::FileKeeper;
 use std::alloc::Global;
 use std::process::Abort;
-use system_fakes::{Choice, DiskFile, Outcome, read_after};
+use system_fakes::{Crash, DiskFile, Outcome, read_after};
 use system_io::{KeptFile, MOST_KEPT_BYTES, ReadFault};
 
 /// A copy of bytes.
@@ -87,8 +87,8 @@ fn check_kept(
 
 /// A loss of power after which the file of this number has the name, the earliest being 0, and these bytes stand where nothing
 /// was synced.
-fn loss(rt: &impl Abort, alloc: Global, which: usize) -> Choice {
-    Choice::PowerLost {
+fn loss(rt: &impl Abort, alloc: Global, which: usize) -> Crash {
+    Crash::PowerLost {
         which,
         bytes: copy(rt, alloc, b"garbage"),
         beside: None,

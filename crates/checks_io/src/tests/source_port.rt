@@ -3,7 +3,7 @@
 ghost use Rattle.std.specs.Prelude.{◌≡◌, IfOk};
 
 use board_core::Verdict;
-use move_msg::{Count, MOST_MOVES, Message, Stamp, Who};
+use move_msg::{ArbiterId, Count, MOST_MOVES, Message, Stamp};
 use std::alloc::Global;
 use std::io::{self, Read};
 use std::net::SocketAddr;
@@ -25,7 +25,7 @@ fn count_of(digit: u8) -> Count {
 }
 
 /// An arbiter's acknowledgement of so many moves.
-fn ack(stamp: Stamp, who: Who, digit: u8) -> [u8; 27] {
+fn ack(stamp: Stamp, who: ArbiterId, digit: u8) -> [u8; 27] {
     let message = Message::Ack {
         stamp,
         who,
@@ -35,7 +35,7 @@ fn ack(stamp: Stamp, who: Who, digit: u8) -> [u8; 27] {
 }
 
 /// An arbiter's verdict at a ply.
-fn ruled(stamp: Stamp, who: Who, digit: u8, verdict: Verdict) -> [u8; 27] {
+fn ruled(stamp: Stamp, who: ArbiterId, digit: u8, verdict: Verdict) -> [u8; 27] {
     let message = Message::Verdict {
         stamp,
         who,
@@ -49,12 +49,12 @@ fn ruled(stamp: Stamp, who: Who, digit: u8, verdict: Verdict) -> [u8; 27] {
 /// one of another game; `A4` and `B4`, a mate at ply 4; `C4`, a stalemate at ply 4 by the second; all else is noise.
 fn datagram_of(stamp: Stamp, kind: u8, digit: u8) -> [u8; 27] {
     match kind {
-        b'a' => ack(stamp, Who::A, digit),
-        b'b' => ack(stamp, Who::B, digit),
-        b'x' => ack(Stamp([7; 16]), Who::B, digit),
-        b'A' => ruled(stamp, Who::A, digit, Verdict::BlackMates),
-        b'B' => ruled(stamp, Who::B, digit, Verdict::BlackMates),
-        b'C' => ruled(stamp, Who::B, digit, Verdict::Stalemate),
+        b'a' => ack(stamp, ArbiterId::A, digit),
+        b'b' => ack(stamp, ArbiterId::B, digit),
+        b'x' => ack(Stamp([7; 16]), ArbiterId::B, digit),
+        b'A' => ruled(stamp, ArbiterId::A, digit, Verdict::BlackMates),
+        b'B' => ruled(stamp, ArbiterId::B, digit, Verdict::BlackMates),
+        b'C' => ruled(stamp, ArbiterId::B, digit, Verdict::Stalemate),
         _ => [9; 27],
     }
 }

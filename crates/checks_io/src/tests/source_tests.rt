@@ -5,7 +5,7 @@ use crate::tests::source_port::{After, Coming, Given, STAMP, Timed};
 use board_core::Position;
 use check_helpers::{Failing, START};
 use fen_text::read;
-use source_core::{Terms, send_game};
+use source_core::{SendConfig, send_game};
 use std::alloc::Global;
 use std::io::BufReader;
 use std::process::Abort;
@@ -29,8 +29,8 @@ struct Row {
     passed: &'static str,
 }
 
-fn terms(tries: u32) -> Terms {
-    Terms {
+fn terms(tries: u32) -> SendConfig {
+    SendConfig {
         stamp: STAMP,
         tries,
         wait: Duration::from_millis(1),

@@ -18,7 +18,7 @@ use Rattle.system_io.specs.declared.reading.ReadFault.TheVariants as read
 use Rattle.system_io.specs.LineReaders.{LineFacts, ReadsLine}
 use Rattle.game_teller.specs.declared.lines.Stop.{Stop}
 use Rattle.game_teller.specs.declared.lines.Stop.TheVariants as stop
-use Rattle.game_teller.specs.declared.following.Course.{Course}
+use Rattle.game_teller.specs.declared.following.FollowState.{FollowState}
 use Rattle.game_teller.specs.declared.following.Step.{Step}
 use Rattle.game_teller.specs.declared.following.Step.TheVariants as step
 use Rattle.game_teller.specs.Followings.{FollowsTo}
@@ -72,7 +72,7 @@ stop_by read.Unreadable = stop.Unread
 stop_by read.OutOfMemory = stop.OutOfMemory
 
 -- what came of the next line of an input, by the tables and the delay of the game that is followed
-abbrev pub StepsByLine : LineFacts → Option (List ℕ) → Course → ℕ → Reached → Option (List ℕ) → Option (List ℕ) → Step → Type 0
+abbrev pub StepsByLine : LineFacts → Option (List ℕ) → FollowState → ℕ → Reached → Option (List ℕ) → Option (List ℕ) → Step → Type 0
 StepsByLine input now old number new out out' (step.Told verdict) = (line : List ℕ) × ReadsLine input.left now line × HasTurned old.set.tables old.standing line new × PutsPly old.delay (number + 1) new out out' verdict
 StepsByLine input now old number new out out' step.Ended = IsAtEnd input.left × (out' ≡ out)
 StepsByLine input now old number new out out' step.Stopped =
@@ -85,7 +85,7 @@ LineCuts tables delay number old line new out out' =
     (HasTurned tables old line new × CutsPly delay (number + 1) new out out') ⊎ ((why : Stop) × IsNoTurn tables old.position number line why × HasFront out out' (ended (stop_words why)))
 
 -- of what came of the next line
-abbrev pub StepCuts : LineFacts → Option (List ℕ) → Course → ℕ → Reached → Option (List ℕ) → Option (List ℕ) → Type 0
+abbrev pub StepCuts : LineFacts → Option (List ℕ) → FollowState → ℕ → Reached → Option (List ℕ) → Option (List ℕ) → Type 0
 StepCuts input now old number new out out' =
     ((line : List ℕ) × ReadsLine input.left now line × LineCuts old.set.tables old.delay number old.standing line new out out')
     ⊎ ((fault : ReadFault) × stops_by input fault × HasFront out out' (ended (stop_words (stop_by fault))))
@@ -95,6 +95,6 @@ abbrev pub HasBegun : Rules → Reached → Option (List ℕ) → Option (List �
 HasBegun rules s before out = IsAt rules [] s × (verdict_after rules [] ≡ None) × Appends before out (ended (ply_words 0 None s.position))
 
 -- by whatever rules a game has begun to be told so, from then on it is followed, whatever was written before
-abbrev pub FollowsFrom : Course → LineFacts → Option (List ℕ) → Option (List ℕ) → Result Bool WriteFault → Type 0
+abbrev pub FollowsFrom : FollowState → LineFacts → Option (List ℕ) → Option (List ℕ) → Result Bool WriteFault → Type 0
 FollowsFrom course input out out' r =
     (rules : Rules) (before : Option (List ℕ)) → rules.tables ≡ course.set.tables → rules.delay ≡ course.delay → HasBegun rules course.standing before out → FollowsTo rules (stops_by input) input.left before out' r

@@ -11,12 +11,12 @@ use Rattle.judge_core.specs.declared.wdl.Wdl.{Wdl}
 use Rattle.judge_core.specs.declared.wdl.Wdl.TheVariants.{Loss, Win}
 use Rattle.judge_core.specs.declared.distance.Distance.{Distance}
 use Rattle.judge_core.specs.declared.distance.Distance.TheVariants.{Draw}
-use Rattle.judge_core.specs.declared.found.Weighed.{Weighed}
+use Rattle.judge_core.specs.declared.found.CaptureSearch.{CaptureSearch}
 use Rattle.judge_core.specs.declared.fault.ValueFault.{ValueFault}
 use Rattle.judge_core.specs.declared.fault.ValueFault.TheVariants.{NotCovered, Damaged}
 use Rattle.judge_core.specs.Values.{Reading, is_same, opposite, outcome_of}
 use Rattle.judge_core.specs.Tables.{Tables, table_value}
-use Rattle.judge_core.specs.Probing.{weighed_where, wdl_where, wdl_of, worth}
+use Rattle.judge_core.specs.Probing.{searched_where, wdl_where, wdl_of, worth}
 use Rattle.judge_core.specs.Answers.{ListsMoves}
 use Rattle.judge_core.specs.Distances.{Reach, is_by_capture, is_won, towards, zeroing, pawns_reach_where, dtz_by, dtz_to, dtz_of}
 
@@ -43,8 +43,8 @@ extreme tables odd_wins p = in_stead (table_value tables p) (fill odd_wins (coun
 abbrev pub extreme_value : Tables → Bool → Parts → Reading
 extreme_value tables odd_wins = wdl_where (extreme tables odd_wins)
 
-abbrev pub extreme_weighed : Tables → Bool → Parts → Result Weighed ValueFault
-extreme_weighed tables odd_wins p = weighed_where (extreme tables odd_wins) (extreme_value tables odd_wins) p
+abbrev pub extreme_searched : Tables → Bool → Parts → Result CaptureSearch ValueFault
+extreme_searched tables odd_wins p = searched_where (extreme tables odd_wins) (extreme_value tables odd_wins) p
 
 -- the value that two readings have
 abbrev pub agreed : Reading → Reading → Option Wdl
@@ -84,21 +84,21 @@ is_reached (Ok reached) = reached
 is_reached (Err fault) = false
 
 -- by a capture in both, or a win by a pawn move
-abbrev pub is_zeroing : Tables → Parts → Weighed → Weighed → Outcome → Bool
+abbrev pub is_zeroing : Tables → Parts → CaptureSearch → CaptureSearch → Outcome → Bool
 is_zeroing tables p a b outcome = (is_by_capture a && is_by_capture b) || (is_won outcome && is_reached (pawns_reach_in_both tables p (worth a)))
 
-abbrev pub zeroing_distance : Tables → Parts → Weighed → Weighed → Option Outcome → Option Distance
+abbrev pub zeroing_distance : Tables → Parts → CaptureSearch → CaptureSearch → Option Outcome → Option Distance
 zeroing_distance tables p a b None = Some Draw
 zeroing_distance tables p a b (Some outcome) = if is_zeroing tables p a b outcome then Some (towards outcome (zeroing outcome)) else None
 
-abbrev pub agreed_distance : Tables → Parts → Result Weighed ValueFault → Result Weighed ValueFault → Option Distance
+abbrev pub agreed_distance : Tables → Parts → Result CaptureSearch ValueFault → Result CaptureSearch ValueFault → Option Distance
 agreed_distance tables p (Ok a) (Ok b) = if is_same (worth a) (worth b) then zeroing_distance tables p a b (outcome_of (worth a)) else None
 agreed_distance tables p (Ok a) (Err fault) = None
 agreed_distance tables p (Err fault) r = None
 
 -- the distance that both have
 abbrev pub distance_in_both : Tables → Parts → Option Distance
-distance_in_both tables p = agreed_distance tables p (extreme_weighed tables true p) (extreme_weighed tables false p)
+distance_in_both tables p = agreed_distance tables p (extreme_searched tables true p) (extreme_searched tables false p)
 
 abbrev pub or_agreed_distance : Reach → Option Distance → Reach
 or_agreed_distance (Ok d) other = Ok d
@@ -136,14 +136,14 @@ visits Told = 2
 -- ---- lists of moves
 
 -- a win, and not by a capture in both: only then the pawn moves are asked
-pub record AskPawns (a b : Weighed) : Type 0 where
+pub record AskPawns (a b : CaptureSearch) : Type 0 where
   pub outcome : Outcome
   pub is : outcome_of (worth a) ≡ Some outcome
   pub won : is_won outcome ≡ true
   pub no_capture : (is_by_capture a && is_by_capture b) ≡ false
 
--- what is weighed in both is there, and worth the same
-abbrev pub AgreedAskPawns : Result Weighed ValueFault → Result Weighed ValueFault → Type 0
+-- what is searched in both is there, and worth the same
+abbrev pub AgreedAskPawns : Result CaptureSearch ValueFault → Result CaptureSearch ValueFault → Type 0
 AgreedAskPawns (Ok a) (Ok b) = (worth a ≡ worth b) × AskPawns a b
 AgreedAskPawns (Ok a) (Err fault) = ⊥
 AgreedAskPawns (Err fault) r = ⊥
@@ -153,7 +153,7 @@ is_lacking (Ok d) = false
 is_lacking (Err fault) = true
 
 abbrev pub BothAskPawns : Tables → Parts → Type 0
-BothAskPawns tables p = AgreedAskPawns (extreme_weighed tables true p) (extreme_weighed tables false p)
+BothAskPawns tables p = AgreedAskPawns (extreme_searched tables true p) (extreme_searched tables false p)
 
 -- the set tells no distance, and the pawn moves are asked
 pub record LackAndAsk (tables : Tables) (p : Parts) (strict : Reach) : Type 0 where

@@ -7,7 +7,7 @@ use Rattle.judge_core.specs.declared.wdl.Wdl.{Wdl}
 use Rattle.judge_core.specs.declared.wdl.Wdl.TheVariants.{Loss}
 use Rattle.judge_core.specs.declared.fault.ValueFault.{ValueFault}
 use Rattle.judge_core.specs.declared.found.Found.{Found}
-use Rattle.judge_core.specs.declared.found.Weighed.{Weighed}
+use Rattle.judge_core.specs.declared.found.CaptureSearch.{CaptureSearch}
 use Rattle.judge_core.specs.Values.{Reading, greater}
 use Rattle.judge_core.specs.Asked.{faults_in, first_fault, unless, no_faults, with_fault, with_answer}
 use Rattle.judge_core.specs.Probing.{greatest_value, value_or_loss, values_after}
@@ -38,7 +38,7 @@ found_with f (Ok v) passant = found_with_value f v passant
 found_with f (Err fault) passant = record { faults = with_fault f.faults fault; capture = f.capture; passant = f.passant }
 
 -- with the own table last
-abbrev pub closed : Found → Reading → Bool → Result Weighed ValueFault
+abbrev pub closed : Found → Reading → Bool → Result CaptureSearch ValueFault
 closed f own forced =
     unless (first_fault (with_answer f.faults own)) (Ok (record {
       capture = f.capture;

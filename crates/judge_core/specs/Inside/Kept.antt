@@ -1,8 +1,8 @@
--- How a shelf keeps its tables: each in its slot.
+-- How a table_slots keeps its tables: each in its slot.
 use Rattle.std.specs.Prelude.{◌≡◌, ◌≤◌, List, Option, Some, None, length, map}
 use Rattle.std.specs.Arc.{arc_value}
 use Rattle.table_file.specs.Tables.{Contents}
-use Rattle.judge_core.specs.declared.shelf.Shelf.TheInside.{Inside}
+use Rattle.judge_core.specs.declared.table_slots.TableSlots.TheInside.{Inside}
 use Rattle.judge_core.specs.declared.table_slot.TableSlot.{TableSlot}
 use Rattle.judge_core.specs.declared.table_slot.TableSlot.TheVariants.{Empty, Own, Shared}
 use Rattle.judge_core.specs.Tables.{Tables, Holding, AreFiled}

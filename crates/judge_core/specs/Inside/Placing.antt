@@ -9,7 +9,7 @@ use Rattle.table_file.specs.declared.spots.Spot.TheVariants.{At}
 use Rattle.table_file.specs.Expansion.{expansion, entry_at, real_blocks, IsSpot}
 use Rattle.table_file.specs.Tables.{PartAt, IsAskedBy}
 use Rattle.judge_core.specs.declared.blocks.BlockKey.{BlockKey}
-use Rattle.judge_core.specs.declared.probe.Probe.TheInside.{Inside}
+use Rattle.judge_core.specs.declared.located_position.LocatedPosition.TheInside.{Inside}
 use Rattle.judge_core.specs.declared.reading.OwnPlace.{OwnPlace}
 use Rattle.judge_core.specs.declared.reading.PlaceInPart.{PlaceInPart}
 use Rattle.judge_core.specs.declared.reading.PlaceInPart.TheVariants.{Known, InBlock}

@@ -3,9 +3,9 @@ use Rattle.std.specs.Prelude.{◌≡◌, false}
 use Rattle.arbiter_core.specs.Setups.{SetupView, setup_view}
 use Rattle.arbiter_core.specs.Delivers.{Keeps}
 use Rattle.arbiter_core.specs.Memory.{Memory}
-use Rattle.relay_world.specs.declared.seat.Place.{Place}
-use Rattle.relay_world.specs.declared.seat.Place.TheVariants as place
-use Rattle.relay_world.specs.declared.seat.Seat.TheInside.{Inside}
+use Rattle.relay_world.specs.declared.replica.Place.{Place}
+use Rattle.relay_world.specs.declared.replica.Place.TheVariants as place
+use Rattle.relay_world.specs.declared.replica.Replica.TheInside.{Inside}
 use Rattle.relay_world.specs.Inside.Seats.{PlaceView, SeatView, Shut, Open}
 
 abbrev pub place_view : Place → PlaceView

@@ -2,8 +2,8 @@
 use Rattle.std.specs.Prelude.{◌≡◌, ℕ, List, []}
 use Rattle.move_msg.specs.declared.stamp.Stamp.{Stamp}
 use Rattle.move_msg.specs.declared.message.Message.{Message}
-use Rattle.move_msg.specs.declared.who.Who.{Who}
-use Rattle.move_msg.specs.declared.who.Who.TheVariants.{A, B}
+use Rattle.move_msg.specs.declared.arbiter_id.ArbiterId.{ArbiterId}
+use Rattle.move_msg.specs.declared.arbiter_id.ArbiterId.TheVariants.{A, B}
 use Rattle.arbiter_core.specs.declared.keeper.Keep.{Keep}
 use Rattle.arbiter_core.specs.Memory.{Memory}
 use Rattle.arbiter_core.specs.Setups.{SetupView, rules_at, IsGood, IsIdentity}
@@ -43,22 +43,22 @@ abbrev pub IsPairAfter : Pair → (Judged → World → World) → Pair → Type
 IsPairAfter old step new = (game : Judged) (a b : SetupView) (world : World) → StandsFor game a b old world → PairIs game a b new (step game world)
 
 -- whatever it stands for, these messages are what one of the two asks for
-abbrev pub IsAsked : Pair → Who → List Message → Type 0
+abbrev pub IsAsked : Pair → ArbiterId → List Message → Type 0
 IsAsked p who asked =
     (game : Judged) (a b : SetupView) (world : World) → StandsFor game a b p world → asked ≡ wants (identity game who) (side_in world who).kept (side_in world who).life
 
 -- ---- steps
 
 -- one of the two hears a datagram
-abbrev pub hears_datagram : Who → Keep → List ℕ → Judged → World → World
+abbrev pub hears_datagram : ArbiterId → Keep → List ℕ → Judged → World → World
 hears_datagram who keep datagram game world = with_side world who (hears keep (side_in world who) (answer_to_datagram game.rules (identity game who) datagram))
 
 -- it is opened again
-abbrev pub restarts : Who → Keep → Judged → World → World
+abbrev pub restarts : ArbiterId → Keep → Judged → World → World
 restarts who keep game world = with_side world who (restarted game.rules keep (side_in world who).kept, [])
 
 -- it asks for moves
-abbrev pub asks : Who → Judged → World → World
+abbrev pub asks : ArbiterId → Judged → World → World
 asks who game world = with_side world who (side_in world who, wants (identity game who) (side_in world who).kept (side_in world who).life)
 
 -- a pair stands for the first world of a game

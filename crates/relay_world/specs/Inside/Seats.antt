@@ -3,7 +3,7 @@ use Rattle.std.specs.Prelude.{◌≡◌, ◌<◌, ℕ, MatchBool, List, length, 
 use Rattle.move_msg.specs.declared.message.Message.{Message}
 use Rattle.arbiter_core.specs.declared.keeper.Keep.{Keep}
 use Rattle.arbiter_core.specs.Answering.{Answer, Identity, Puts, Refuses, Sends}
-use Rattle.arbiter_core.specs.Recording.{Recorded, Window}
+use Rattle.arbiter_core.specs.Recording.{Recorded, ReorderBuffer}
 use Rattle.arbiter_core.specs.Setups.{SetupView, IsGood, IsIdentity, rules_at}
 use Rattle.arbiter_core.specs.Views.{View}
 use Rattle.arbiter_core.specs.Memory.{Memory}
@@ -64,7 +64,7 @@ AnswerTakesMemory (Sends outputs window) = 4 < length outputs
 AnswerTakesMemory (Puts next outputs window) = Unit {0}
 
 -- that of a side that runs; a closed one and one that is down take none
-abbrev pub TakesAt : Option Recorded → SideLife → (Recorded → Window → Answer) → Type 0
+abbrev pub TakesAt : Option Recorded → SideLife → (Recorded → ReorderBuffer → Answer) → Type 0
 TakesAt (Some old) (Running window) respond = AnswerTakesMemory (respond old window)
 TakesAt (Some old) Closed respond = ⊥
 TakesAt (Some old) Down respond = ⊥

@@ -4,10 +4,10 @@ use Rattle.move_msg.specs.declared.stamp.Stamp.{Stamp}
 use Rattle.source_core.specs.declared.known.Known.{Known}
 use Rattle.source_core.specs.declared.known.Standing.{Standing}
 use Rattle.source_core.specs.declared.known.Standing.TheVariants as standing
-use Rattle.source_core.specs.declared.sending.Course.{Course}
+use Rattle.source_core.specs.declared.sending.SendState.{SendState}
 use Rattle.source_core.specs.declared.turn.Next.{Next}
 use Rattle.source_core.specs.declared.turn.Next.TheVariants as next
-use Rattle.source_core.specs.declared.turn.Terms.{Terms}
+use Rattle.source_core.specs.declared.turn.SendConfig.{SendConfig}
 use Rattle.source_core.specs.declared.turn.Turn.{Turn}
 use Rattle.source_core.specs.declared.turn.Turn.TheVariants as at_turn
 use Rattle.board_core.specs.declared.moves.Move.{Move as Moves}
@@ -55,7 +55,7 @@ Waits came known (next.Clashed c) = Unit {0}
 Waits came known next.PortLost = Unit {0}
 
 -- the try with this number has come to its end
-pub record IsEndOfTry (terms : Terms) (index number : ℕ) (old new : Known) (port port' : PortFacts) (end : Next) : Type 0 where
+pub record IsEndOfTry (terms : SendConfig) (index number : ℕ) (old new : Known) (port port' : PortFacts) (end : Next) : Type 0 where
   pub came : List Passing
   pub received : AllByRecursion IsReceived came
   pub passed : Passed port port' came
@@ -79,7 +79,7 @@ TryLearns stamp all known None = Knows stamp all known
 TryLearns stamp all known (Some end) = (number plies : ℕ) (position : Parts) → TurnEndsSo stamp number plies position all known end
 
 -- the try with this number: it has waited, unless both have reported a verdict, or it ends the turn, whichever move it was
-pub record HasTriedOnce (terms : Terms) (index number addresses : ℕ) (bytes : List ℕ) (old new : Known) (port port' : PortFacts) (end : Option Turn) : Type 0 where
+pub record HasTriedOnce (terms : SendConfig) (index number addresses : ℕ) (bytes : List ℕ) (old new : Known) (port port' : PortFacts) (end : Option Turn) : Type 0 where
   pub came : List Passing
   pub received : AllByRecursion IsReceived came
   pub passed : Passed port port' (one_try addresses bytes came)
@@ -112,7 +112,7 @@ abbrev pub StandsAtInputEnd : ℕ → Parts → Known → End → Type 0
 StandsAtInputEnd number position known end = ((count : ℕ) → end ≡ at_end.Open count → is_ruled known ≡ false) × ((stamp : Stamp) (all : List Passing) → Knows stamp all known → ClosesSo stamp number position all end)
 
 -- after the input's end the last move is handed over once more, and what still comes in time is received
-pub record Closes (terms : Terms) (number : ℕ) (position : Parts) (last : Option Moves) (known : Known) (port port' : PortFacts) (end : End) : Type 0 where
+pub record Closes (terms : SendConfig) (number : ℕ) (position : Parts) (last : Option Moves) (known : Known) (port port' : PortFacts) (end : End) : Type 0 where
   pub came : List Passing
   pub spelling : IfSome last (HasSpelling terms.stamp (number - 1))
   pub received : AllByRecursion IsReceived came
@@ -122,20 +122,20 @@ pub record Closes (terms : Terms) (number : ℕ) (position : Parts) (last : Opti
   pub stands : (before : List Passing) → Knows terms.stamp before known → ClosesSo terms.stamp number position (before ++ (again terms.stamp port.addresses (number - 1) last ++ came)) end
 
 -- one more turn: a move was acknowledged, or the run ends
-unfoldable pub StepsSo : (ReadFault → Type 0) → SendingGame → SendingState → Option (List ℕ) → Course → PortFacts → PortFacts → Option End → Type 0
+unfoldable pub StepsSo : (ReadFault → Type 0) → SendingGame → SendingState → Option (List ℕ) → SendState → PortFacts → PortFacts → Option End → Type 0
 StepsSo cause g at input course port port' None =
     (t : AckedMove) × IsAckedTurn g at t × (t.after.input ≡ input) × (t.after.position ≡ course.position) × (Some t.move ≡ course.last) × Passed port port' (sent_in g at.moves t.move t.tries) × Knows g.terms.stamp t.after.passed course.known
 StepsSo cause g at input course port port' (Some end) =
     (sent : List Moves) × (more : List Passing) × SendingEndsWith cause g at input sent more end × Passed port port' more × (end ≡ at_end.Lost → Knows g.terms.stamp (at.passed ++ more) course.known)
 
 -- whatever has passed before, by which so much is known, and whichever moves are acknowledged
-abbrev pub SendingSteps : (ReadFault → Type 0) → Terms → ℕ → Option (List ℕ) → Option (List ℕ) → Course → Course → PortFacts → PortFacts → Option End → Type 0
+abbrev pub SendingSteps : (ReadFault → Type 0) → SendConfig → ℕ → Option (List ℕ) → Option (List ℕ) → SendState → SendState → PortFacts → PortFacts → Option End → Type 0
 SendingSteps cause terms number input input' course course' port port' end =
     (before : List Passing) (moves : List Moves) → Knows terms.stamp before course.known → number ≡ length moves → course.last ≡ last_of moves →
     StepsSo cause (game_at_port terms port) (record { input = input; position = course.position; moves = moves; passed = before }) input' course' port port' end
 
 -- so at a reader
-abbrev pub StepsAt : Terms → ℕ → LineFacts → LineFacts → Course → Course → PortFacts → PortFacts → Option End → Type 0
+abbrev pub StepsAt : SendConfig → ℕ → LineFacts → LineFacts → SendState → SendState → PortFacts → PortFacts → Option End → Type 0
 StepsAt terms number reader reader' course course' port port' end = SendingSteps (causes reader.fails reader.takes_memory) terms number reader.left reader'.left course course' port port' end
 
 -- nothing is the cause of a failed read
@@ -143,10 +143,10 @@ abbrev pub no_cause : ReadFault → Type 0
 no_cause fault = ⊥
 
 -- the same after a line was read, whatever it was read from
-abbrev pub StepsOn : Terms → ℕ → List ℕ → Course → Course → PortFacts → PortFacts → Option End → Type 0
+abbrev pub StepsOn : SendConfig → ℕ → List ℕ → SendState → SendState → PortFacts → PortFacts → Option End → Type 0
 StepsOn terms number line course course' port port' end =
     (input input' : Option (List ℕ)) → ReadsLine input input' line → SendingSteps no_cause terms number input input' course course' port port' end
 
 -- a game of which nothing is sent yet
-abbrev pub begun_at : Parts → Course
+abbrev pub begun_at : Parts → SendState
 begun_at start = record { position = start; known = record { a = record { count = 0; ruling = None }; b = record { count = 0; ruling = None } }; last = None }

@@ -8,7 +8,7 @@ use Rattle.judge_core.specs.Tables.{Holding, Tables}
 use Rattle.move_msg.specs.Numbers.{most_moves}
 use Rattle.judge_core.specs.Games.{Rules}
 use Rattle.judge_core.specs.Standings.{IsAt}
-use Rattle.arbiter_core.specs.Recording.{Window}
+use Rattle.arbiter_core.specs.Recording.{ReorderBuffer}
 use Rattle.arbiter_core.specs.Setups.{rules_at, terms_with}
 use Rattle.arbiter_core.proofs.PlanLaws.{plan_starts, planned, ends_ruled, ends_none, ends_past, ends_illegal, goes_on, default_free, lists_first, lists_next, next_position}
 use Rattle.arbiter_core.proofs.Settling.{reach_next}
@@ -44,8 +44,8 @@ returns-then-is_some-clause-planned c =
     (ends_ruled _ _ _ _ _ _ _ _ c.loop-slot.invariant.plan (sym c.is_some.ensures ∙ c.if-is_some.true))
 
 -- what a slot holds is what the window has there
-slot_is : (w v : Window) (i : ℕ) (o p : Option Move) → v ≡ w → i < length v → o ≡ get_or v i o → o ≡ p → (i < length w) × (get_or w i None ≡ p)
-slot_is w v i o p e l is here = subst (λ (x : Window). (i < length x) × (get_or x i None ≡ p)) e (l, default_free v i None o l ∙ sym is ∙ here)
+slot_is : (w v : ReorderBuffer) (i : ℕ) (o p : Option Move) → v ≡ w → i < length v → o ≡ get_or v i o → o ≡ p → (i < length w) × (get_or w i None ≡ p)
+slot_is w v i o p e l is here = subst (λ (x : ReorderBuffer). (i < length x) × (get_or x i None ≡ p)) e (l, default_free v i None o l ∙ sym is ∙ here)
 
 pub returns-in_default-clause-planned : goal.returns-in_default-clause-planned
 returns-in_default-clause-planned c =
@@ -61,7 +61,7 @@ returns-in_default-play-clause-planned c =
 
 pub returns-clause-planned : goal.returns-clause-planned
 returns-clause-planned c =
-    let end : length c.args.ahead.now.window.now ≤ c.loop-slot.slot-index = subst (λ (w : Window). length w ≤ c.loop-slot.slot-index) c.places-slot-items.ensures.places c.loop-slot-test.false in
+    let end : length c.args.ahead.now.window.now ≤ c.loop-slot.slot-index = subst (λ (w : ReorderBuffer). length w ≤ c.loop-slot.slot-index) c.places-slot-items.ensures.places c.loop-slot-test.false in
     planned _ _ _ _ _ _ c.loop-slot.invariant.plan c.loop-slot.invariant.short (ends_past _ _ _ _ _ _ _ _ c.loop-slot.invariant.plan end)
 
 pub loop-slot-preserved : goal.loop-slot-preserved

@@ -1,6 +1,6 @@
 use Rattle.std.proofs.Common.{refl, ◌∙◌}
 use Rattle.arbiter_server.specs.Told.{unopened_words}
-use Rattle.arbiter_server.specs.declared.fault.Unopened.TheVariants.{BadGame, Keeper, NoGame, NotOpen, OtherGame, OutOfMemory}
+use Rattle.arbiter_server.specs.declared.fault.OpenGameError.TheVariants.{BadGame, Keeper, NoGame, NotOpen, OtherGame, OutOfMemory}
 use Rattle.arbiter_server.proofs.line.unopened_line.Goals as goal
 
 pub returns-in-NotOpen : goal.returns-in-NotOpen

@@ -1,5 +1,5 @@
 use Rattle.std.proofs.Common.{refl}
-use Rattle.arbiter_server.specs.declared.heard.Heard.TheVariants.{PortLost}
+use Rattle.arbiter_server.specs.declared.datagram_report.DatagramReport.TheVariants.{PortLost}
 use Rattle.arbiter_server.proofs.StepLaws.{heard, missed}
 use Rattle.arbiter_server.proofs.ServingLaws.{going_on}
 use Rattle.arbiter_server.proofs.serving.receive.Goals as goal

@@ -13,7 +13,7 @@ loop-before-preserved g c =
     record {
       told = told_more _ _ _ _ _ _ _ _ _ _ _ flushed (one.0, one.1, (one.2.0, c.loop-before.invariant.same _ _ one.2.1, one.2.2)) refl;
       fails = λ fault fails. c.loop-before.invariant.fails fault (c.in-Ok-Told.ensures.reader fault fails);
-      turns = asks_more g.L.LineReader.facts g.W.Output.facts g.W.Write.contents _ _ _ _ _ _ _ (g.T.Teller.tells c.loop-before.teller) c.in-Ok-Told.is_told c.loop-before.invariant.turns c.flush_before_wait.ensures.kept c.in_ok-flush_before_wait.ensures.may_wait one;
+      turns = asks_more g.L.LineReader.facts g.W.Output.facts g.W.Write.contents _ _ _ _ _ _ _ (g.T.LineHandler.tells c.loop-before.teller) c.in-Ok-Told.is_told c.loop-before.invariant.turns c.flush_before_wait.ensures.kept c.in_ok-flush_before_wait.ensures.may_wait one;
       quiet = λ unasked. c.tell_progress.ensures.quiet unasked ∙ c.loop-before.invariant.quiet unasked;
       same = λ line told h. c.loop-before.invariant.same line told (c.in-Ok-Told.ensures.same line told h);
     }
@@ -50,7 +50,7 @@ returns-in-Ok-Ended-clause-turns g c =
 pub returns-in-Ok-Cut-clause-turns : goal.returns-in-Ok-Cut-clause-turns
 returns-in-Ok-Cut-clause-turns g c =
     let one = rw c.in-Ok-Cut.field-0-is at c.in-Ok-Cut.ensures.told in
-    asks_cut g.L.LineReader.facts g.W.Output.facts g.W.Write.contents _ _ _ _ _ _ _ g.T.Teller.takes_memory (stops_by (g.L.LineReader.facts c.loop-before.reader)) c.loop-before.invariant.turns c.flush_before_wait.ensures.kept one
+    asks_cut g.L.LineReader.facts g.W.Output.facts g.W.Write.contents _ _ _ _ _ _ _ g.T.LineHandler.takes_memory (stops_by (g.L.LineReader.facts c.loop-before.reader)) c.loop-before.invariant.turns c.flush_before_wait.ensures.kept one
 
 pub returns-in-Ok-clause-turns : goal.returns-in-Ok-clause-turns
 returns-in-Ok-clause-turns g c = record { now = c.loop-before.reader; at = c.loop-before.out; asked = c.loop-before.invariant.turns; rest = inr (refused_files, inl refl, c.in-Ok.ensures.cut.1) }

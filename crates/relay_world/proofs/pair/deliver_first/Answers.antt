@@ -1,6 +1,6 @@
 use Rattle.std.proofs.Common.{subst}
 use Rattle.std.proofs.lemmas.Result.{on_ok_weaker}
-use Rattle.move_msg.specs.declared.who.Who.TheVariants.{A}
+use Rattle.move_msg.specs.declared.arbiter_id.ArbiterId.TheVariants.{A}
 use Rattle.judge_core.specs.Games.{Rules}
 use Rattle.relay_world.specs.Inside.Seats.{Steps}
 use Rattle.relay_world.specs.Worlds.{answer_to_datagram, hears, identity}

@@ -2,7 +2,7 @@ use Rattle.std.proofs.Common.{List, [], sym, refl, subst}
 use Rattle.std.specs.Prelude.{IfSome}
 use Rattle.std.proofs.lemmas.List.{append-nil}
 use Rattle.move_msg.specs.declared.message.Message.{Message}
-use Rattle.move_msg.specs.declared.who.Who.TheVariants.{A}
+use Rattle.move_msg.specs.declared.arbiter_id.ArbiterId.TheVariants.{A}
 use Rattle.judge_core.specs.Games.{Rules}
 use Rattle.arbiter_core.specs.Opens.{IsWhole}
 use Rattle.arbiter_core.specs.Setups.{rules_at}

@@ -1,7 +1,7 @@
 use Rattle.std.proofs.Common.{◌≡◌, ◌∙◌, ℕ, List, [], refl, sym, ap, subst}
 use Rattle.std.specs.Prelude.{Result, Ok, Err, IfOk, OnOk, IsOk, slice_get}
 use Rattle.std.proofs.lemmas.Result.{IfOk-weaker, on_ok_weaker}
-use Rattle.move_msg.specs.declared.who.Who.{Who}
+use Rattle.move_msg.specs.declared.arbiter_id.ArbiterId.{ArbiterId}
 use Rattle.arbiter_core.specs.declared.keeper.Keep.{Keep}
 use Rattle.relay_world.specs.declared.event.Event.TheVariants.{Deliver, Restart, Ask}
 use Rattle.arbiter_core.specs.Delivers.{heard}
@@ -10,15 +10,15 @@ use Rattle.relay_world.specs.Inside.Pairs.{IsPairAfter, PairIs}
 use Rattle.relay_world.specs.Worlds.{Judged, World, identity, side_in, with_side, restarted, wants, delivered, noised, happens}
 use Rattle.relay_world.proofs.pair.step.Goals as goal
 
-deliver_is : (game : Judged) (world : World) (who : Who) (index : ℕ) (keep : Keep) → happens game world (Deliver who index keep) ≡ delivered game world who keep (slice_get world.log index)
+deliver_is : (game : Judged) (world : World) (who : ArbiterId) (index : ℕ) (keep : Keep) → happens game world (Deliver who index keep) ≡ delivered game world who keep (slice_get world.log index)
 unfolding happens
 deliver_is game world who index keep = refl
 
-restart_is : (game : Judged) (world : World) (who : Who) (keep : Keep) → happens game world (Restart who keep) ≡ with_side world who (restarted game.rules keep (side_in world who).kept, [])
+restart_is : (game : Judged) (world : World) (who : ArbiterId) (keep : Keep) → happens game world (Restart who keep) ≡ with_side world who (restarted game.rules keep (side_in world who).kept, [])
 unfolding happens
 restart_is game world who keep = refl
 
-ask_is : (game : Judged) (world : World) (who : Who) → happens game world (Ask who) ≡ with_side world who (side_in world who, wants (identity game who) (side_in world who).kept (side_in world who).life)
+ask_is : (game : Judged) (world : World) (who : ArbiterId) → happens game world (Ask who) ≡ with_side world who (side_in world who, wants (identity game who) (side_in world who).kept (side_in world who).life)
 unfolding happens
 ask_is game world who = refl
 

@@ -2,8 +2,8 @@ use Rattle.std.proofs.Common.{◌∙◌, List, refl, sym, ap, subst}
 use Rattle.board_core.specs.declared.moves.Move.{Move}
 use Rattle.judge_core.specs.Tables.{Tables}
 use Rattle.move_msg.specs.declared.stamp.Stamp.{Stamp}
-use Rattle.move_msg.specs.declared.who.Sender.TheVariants.{Source}
-use Rattle.move_msg.specs.declared.who.Who.TheVariants.{A, B}
+use Rattle.move_msg.specs.declared.arbiter_id.Sender.TheVariants.{Source}
+use Rattle.move_msg.specs.declared.arbiter_id.ArbiterId.TheVariants.{A, B}
 use Rattle.arbiter_core.specs.Answering.{sent_by}
 use Rattle.arbiter_core.specs.Memory.{Memory}
 use Rattle.arbiter_core.specs.Setups.{SetupView, setup_view, rules_at, IsIdentity}

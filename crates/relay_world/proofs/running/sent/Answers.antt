@@ -4,8 +4,8 @@ use Rattle.board_core.specs.declared.moves.Move.{Move as Moves}
 use Rattle.move_msg.specs.declared.stamp.Stamp.{Stamp}
 use Rattle.move_msg.specs.declared.message.Message.{Message}
 use Rattle.move_msg.specs.declared.message.Message.TheVariants.{Move}
-use Rattle.move_msg.specs.declared.who.Sender.{Sender}
-use Rattle.move_msg.specs.declared.who.Sender.TheVariants.{Source}
+use Rattle.move_msg.specs.declared.arbiter_id.Sender.{Sender}
+use Rattle.move_msg.specs.declared.arbiter_id.Sender.TheVariants.{Source}
 use Rattle.arbiter_core.specs.Answering.{sent_by}
 use Rattle.relay_world.proofs.running.sent.Goals as goal
 

@@ -1,5 +1,5 @@
 use Rattle.std.proofs.Common.{ℕ, sym, subst}
-use Rattle.move_msg.specs.declared.who.Who.TheVariants.{A, B}
+use Rattle.move_msg.specs.declared.arbiter_id.ArbiterId.TheVariants.{A, B}
 use Rattle.arbiter_core.specs.Memory.{Memory}
 use Rattle.relay_world.specs.Runs.{KeptIs}
 use Rattle.relay_world.specs.Worlds.{identity}

@@ -1,6 +1,6 @@
 use Rattle.std.proofs.Common.{◌∙◌, ◌&&◌, ap, Bool}
-use Rattle.judge_core.specs.declared.probed.Probed.{Probed}
-use Rattle.judge_core.specs.Probed.{has_both}
+use Rattle.judge_core.specs.declared.probe_result.ProbeResult.{ProbeResult}
+use Rattle.judge_core.specs.ProbeResult.{has_both}
 use Rattle.adjudicate_core.proofs.RootLines.{line_more, told_more, reply_is}
 use Rattle.adjudicate_core.proofs.commands.root.lines_of.Goals as goal
 
@@ -8,7 +8,7 @@ pub loop-m-preserved : goal.loop-m-preserved
 loop-m-preserved c = (
   line_more c.args.moves.now c.loop-m.m-index c.m-item.result c.loop-m-test.true c.m-item.is c.loop-m.lines.items _ c.of-line.result c.loop-m.invariant.0 c.of-line.ensures.words c.in_ok-push.ensures.items,
   told_more c.args.moves.now c.loop-m.m-index c.m-item.result c.loop-m-test.true c.m-item.is (has_both c.args.columns.probed) c.loop-m.done _ c.loop-m.invariant.1
-      (ap (λ (b : Bool). c.loop-m.done && b) (c.has_both-done-in-loop-m.ensures ∙ ap (λ (x : Probed). has_both x) c.of-line.ensures.probed)),
+      (ap (λ (b : Bool). c.loop-m.done && b) (c.has_both-done-in-loop-m.ensures ∙ ap (λ (x : ProbeResult). has_both x) c.of-line.ensures.probed)),
 )
 
 pub returns : goal.returns

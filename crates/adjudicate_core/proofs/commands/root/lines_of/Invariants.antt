@@ -1,6 +1,6 @@
 use Rattle.std.proofs.Common.{◌≡◌, ◌&&◌, map, take}
 use Rattle.std.specs.List.{list_all}
-use Rattle.judge_core.specs.Probed.{has_both}
+use Rattle.judge_core.specs.ProbeResult.{has_both}
 use Rattle.adjudicate_core.specs.Lines.{root_words, words_of}
 use Rattle.adjudicate_core.proofs.RootLines.{is_told}
 use Rattle.adjudicate_core.proofs.commands.root.lines_of.Given as goal

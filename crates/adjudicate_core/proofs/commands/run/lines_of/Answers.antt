@@ -1,6 +1,6 @@
 use Rattle.std.proofs.Common.{◌≡◌, List, [], ◌∷◌, length, map, ap, ◌∙◌}
 use Rattle.std.proofs.lemmas.Result.{IfOk-weaker}
-use Rattle.move_msg.specs.declared.who.Who.TheVariants.{A, B}
+use Rattle.move_msg.specs.declared.arbiter_id.ArbiterId.TheVariants.{A, B}
 use Rattle.relay_world.specs.Worlds.{World}
 use Rattle.adjudicate_core.specs.declared.lines.Line.{Line}
 use Rattle.adjudicate_core.specs.declared.lines.Line.TheVariants.{Sent}

@@ -8,7 +8,7 @@ use Rattle.move_msg.specs.Records.{gone_on}
 use Rattle.move_msg.specs.declared.stamp.Stamp.{Stamp}
 use Rattle.move_msg.specs.declared.record_bytes.Record.{Record}
 use Rattle.arbiter_core.specs.declared.played.Played.{Played}
-use Rattle.arbiter_core.specs.Recording.{Recorded, Window, move_count}
+use Rattle.arbiter_core.specs.Recording.{Recorded, ReorderBuffer, move_count}
 use Rattle.arbiter_core.specs.Answering.{still_waits, nothing_waits, told_now, told_of}
 use Rattle.arbiter_core.specs.Setups.{SetupView, rules_at, terms_with}
 use Rattle.arbiter_core.specs.Views.{View, IsNear}
@@ -53,8 +53,8 @@ returns-in-Ok-put g c =
     let above : length old.moves < move_count next = on.more in
     let near : IsNear c.if-is_some.window (move_count next + 1) =
     elim c.if-is_some.branch [
-      | then-is_some w ↦ subst (λ (x : Window). IsNear x (move_count next + 1)) (sym (w.window-is ∙ w.empty-window.ensures)) (near_nothing (move_count next + 1))
-      | else-is_some w ↦ subst (λ (x : Window). IsNear x (move_count next + 1)) (sym (w.window-is ∙ w.after-window.ensures ∙ ap (still_waits c.self.inside.window) more))
+      | then-is_some w ↦ subst (λ (x : ReorderBuffer). IsNear x (move_count next + 1)) (sym (w.window-is ∙ w.empty-window.ensures)) (near_nothing (move_count next + 1))
+      | else-is_some w ↦ subst (λ (x : ReorderBuffer). IsNear x (move_count next + 1)) (sym (w.window-is ∙ w.after-window.ensures ∙ ap (still_waits c.self.inside.window) more))
           (near_still c.self.inside.window (length old.moves) (move_count next) (omega arith) order.near)
     ] in
     let later : c.if-is_some.window ≡ cond (is_some next.verdict) nothing_waits (still_waits v.window (move_count next - move_count v.kept)) =

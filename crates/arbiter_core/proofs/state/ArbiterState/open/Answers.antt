@@ -1,7 +1,7 @@
 use Rattle.std.proofs.Common.{◌≡◌, false, ap, sym, subst, Ok}
 use Rattle.judge_core.specs.Tables.{Holding}
 use Rattle.arbiter_core.specs.declared.state.ArbiterState.TheInside.{Inside}
-use Rattle.arbiter_core.specs.Recording.{Window}
+use Rattle.arbiter_core.specs.Recording.{ReorderBuffer}
 use Rattle.arbiter_core.specs.Answering.{Identity}
 use Rattle.arbiter_core.specs.Setups.{SetupView, terms_with}
 use Rattle.arbiter_core.specs.Resting.{awake}
@@ -19,7 +19,7 @@ returns-in-Ok-clause-wakes g c =
     let set : Holding = c.args.tables.now in
     let terms : SetupView = terms_with c.args.terms set in
     can_wake (record { terms = c.args.terms; played = c.in-Ok.played; window = c.empty.result; down = false }) set
-    (subst (λ (w : Window). IsArbiterInOrder terms c.in-Ok.played w) (sym c.empty.ensures)
+    (subst (λ (w : ReorderBuffer). IsArbiterInOrder terms c.in-Ok.played w) (sym c.empty.ensures)
     (first_in_order terms c.in-Some.stamp c.in-Ok.played (let good = (c.in-Some.ensures.some set).0 in good.delay) c.in-Ok.ensures.played))
 
 pub returns-in-Ok-clause-good : goal.returns-in-Ok-clause-good

@@ -2,7 +2,7 @@ use Rattle.std.proofs.Common.{◌≡◌, ℕ, ◌+◌, ◌-◌, ◌<◌, ◌≤�
 use Rattle.std.specs.Prelude.{is_some, nat_lt}
 use Rattle.move_msg.specs.Numbers.{most_moves}
 use Rattle.move_msg.specs.declared.record_bytes.Record.{Record}
-use Rattle.arbiter_core.specs.Recording.{Window, move_count}
+use Rattle.arbiter_core.specs.Recording.{ReorderBuffer, move_count}
 use Rattle.arbiter_core.specs.Answering.{told_now, told_of, waits_too}
 use Rattle.arbiter_core.specs.Views.{View}
 use Rattle.arbiter_core.specs.Delivers.{answer_to_next, answer_to_numbered, with_window}
@@ -56,7 +56,7 @@ returns-then-number-3 g c =
     record {
       same = refl;
       wakes =
-          subst (λ (w : Window). CanWake (waiting (rest_of c.self.inside) w) c.args.tables.now) (sym later)
+          subst (λ (w : ReorderBuffer). CanWake (waiting (rest_of c.self.inside) w) c.args.tables.now) (sym later)
           (can_wake_too (rest_of c.self.inside) c.args.tables.now c.args.number c.args.m.now (subst (λ (n : ℕ). n < c.args.number) at c.if-number-3.true) c.if-number-ge4096.false can);
       answers =
           of_fields (awake_is c.args.tables.now c.self.view_is) g.K.Keeper.facts c.args.keeper.now c.args.number c.args.m.now c.tell-then-number-3.result.items _

@@ -3,7 +3,7 @@ use Rattle.move_msg.specs.Messages.{stamp_in}
 use Rattle.arbiter_server.specs.Folders.{keepers}
 use Rattle.arbiter_server.specs.Room.{at_stamp}
 use Rattle.arbiter_server.specs.Games.{CommonView}
-use Rattle.arbiter_server.specs.Seats.{IsSeated}
+use Rattle.arbiter_server.specs.Seats.{IsOpenGame}
 use Rattle.arbiter_server.specs.Turns.{datagram_reply}
 use Rattle.arbiter_server.proofs.Seating.{from_place_by}
 use Rattle.arbiter_server.proofs.Handing.{comes_then}
@@ -14,7 +14,7 @@ pub answer_at-requires-clause-absent : goal.answer_at-requires-clause-absent
 answer_at-requires-clause-absent g c = c.in-Ok.ensures.opened.2.absent
 
 pub answer_at-requires-clause-seated : goal.answer_at-requires-clause-seated
-answer_at-requires-clause-seated g c = subst (λ (t : CommonView). IsSeated g.G.Keeper.Keeper.facts t.set c.in-Ok.seat) (sym c.seat_for.ensures.stays.common) c.in-Ok.ensures.opened.2.seated
+answer_at-requires-clause-seated g c = subst (λ (t : CommonView). IsOpenGame g.G.Keeper.Keeper.facts t.set c.in-Ok.seat) (sym c.seat_for.ensures.stays.common) c.in-Ok.ensures.opened.2.seated
 
 pub returns-in-Ok-clause-stays : goal.returns-in-Ok-clause-stays
 returns-in-Ok-clause-stays g c = still c.answer_at.ensures.stays c.seat_for.ensures.stays

@@ -6,7 +6,7 @@ use Rattle.arbiter_server.specs.Acts.{Otherwise, unopened}
 use Rattle.arbiter_server.specs.Folders.{keepers}
 use Rattle.arbiter_server.specs.Games.{common_with}
 use Rattle.arbiter_server.specs.Room.{at_stamp}
-use Rattle.arbiter_server.specs.Seats.{AreSeated, in_hand}
+use Rattle.arbiter_server.specs.Seats.{AreOpenGames, in_hand}
 use Rattle.arbiter_server.specs.Turns.{IsOpened, LeadsFrom, WasOpen, effects_with}
 use Rattle.arbiter_server.proofs.Seating.{both, changed, from_same, not_taken, opens_same, seated_at, taken_absent, taken_is, without}
 use Rattle.arbiter_server.proofs.Turning.{leads_not}
@@ -24,7 +24,7 @@ invariant_of-self g c = record {
 pub invariant_of-self-in-None : goal.invariant_of-self-in-None
 invariant_of-self-in-None g c = record {
   seated =
-      subst (λ (set : Holding). AreSeated g.G.Keeper.Keeper.facts g.G.Games.facts.follows set (g.G.Games.facts.gives c.open_for.new.games) (at_stamp c.take_out.new.seats.entries)) (sym c.open_for.ensures.lent.same)
+      subst (λ (set : Holding). AreOpenGames g.G.Keeper.Keeper.facts g.G.Games.facts.follows set (g.G.Games.facts.gives c.open_for.new.games) (at_stamp c.take_out.new.seats.entries)) (sym c.open_for.ensures.lent.same)
       (changed g.G.Keeper.Keeper.facts g.G.Games.facts.follows c.self.inside.tables (g.G.Games.facts.gives c.self.inside.games) (g.G.Games.facts.gives c.open_for.new.games) (at_stamp c.self.inside.seats.entries) (at_stamp c.take_out.new.seats.entries) c.stamp-stamp.result None tt (rw (sym c.stamp-stamp.ensures) at c.open_for.ensures.lent.others) c.take_out.ensures.after c.self.invariant.seated);
   room = c.take_out.ensures.cap ∙ c.self.invariant.room;
   few = let same = c.in-None.ensures.none in let few = c.self.invariant.few in omega (arith, same, few);

@@ -5,13 +5,13 @@ use Rattle.judge_core.specs.Answers.{IsLeftOpen}
 use Rattle.table_file.specs.declared.kind.TableKind.TheVariants.{Dtz}
 use Rattle.table_file.specs.Distances.{stores}
 use Rattle.judge_core.specs.LookUp.{placed_of}
-use Rattle.judge_core.specs.Probing.{weighed_by, wdl_of}
+use Rattle.judge_core.specs.Probing.{searched_by, wdl_of}
 use Rattle.judge_core.specs.Tables.{Holding, table_at}
 use Rattle.board_core.specs.declared.parts.Parts.{Parts}
-use Rattle.judge_core.specs.Distances.{is_quiet, pawns_reach, move_counts, by_quiet_moves, by_own_table, by_weighed, unless_reached}
+use Rattle.judge_core.specs.Distances.{is_quiet, pawns_reach, move_counts, by_quiet_moves, by_own_table, dtz_from_search, unless_reached}
 use Rattle.judge_core.specs.Inside.Determined.{distance_in_both, or_agreed_distance, reach_beyond}
 use Rattle.judge_core.specs.Inside.Counts.{no_counts, with_count}
-use Rattle.judge_core.proofs.Asking.{with_all, walk-passed, walk-added}
+use Rattle.judge_core.proofs.RequestFrequency.{with_all, walk-passed, walk-added}
 use Rattle.judge_core.proofs.Counting.{counts_result-is, within-count}
 use Rattle.judge_core.proofs.Reaching.{if_same, mate_counts, other_counts, bare_own, missing_own, stored_own, quiet_own, reached_by, reached_is, lost_is, bare_by, many_by_rules, if_told, once, never}
 use Rattle.judge_core.proofs.set.Set.+dtz.Goals.{by_moves-then-is_won+in_ok-found+in-Ok+else-reached, by_moves-else-is_won, by_quiet_moves-in-Some+in_ok-count, by_quiet_moves-in_default, move_counts-else-won-via-then-won+else-is_mate, move_counts-else-won-via-else-won}
@@ -23,9 +23,9 @@ move_counts-returns-then-is_mate-clause-is t c = mate_counts c.args.outcome (rea
 pub move_counts-returns-clause-is : goal.move_counts-returns-clause-is
 move_counts-returns-clause-is t c = elim c.else-won.branch [
   | move_counts-else-won-via-then-won+else-is_mate w ↦
-      other_counts c.args.outcome (reach_beyond c.args.beyond c.args.self.now.tables) c.args.after.now c.is_won-won.result c.in_ok-reach.reach c.counted.result c.is_won-won.ensures (λ won. sym w.is_mate.ensures ∙ w.if-is_mate.false) c.in_ok-reach.ensures.is c.counted.ensures
+      other_counts c.args.outcome (reach_beyond c.args.beyond c.args.self.now.tables) c.args.after.now c.is_won-won.result c.in_ok-reach.reach c.distance_before.result c.is_won-won.ensures (λ won. sym w.is_mate.ensures ∙ w.if-is_mate.false) c.in_ok-reach.ensures.is c.distance_before.ensures
   | move_counts-else-won-via-else-won w ↦
-      other_counts c.args.outcome (reach_beyond c.args.beyond c.args.self.now.tables) c.args.after.now c.is_won-won.result c.in_ok-reach.reach c.counted.result c.is_won-won.ensures (λ won. (let e = sym won ∙ w.if-won.false in cc)) c.in_ok-reach.ensures.is c.counted.ensures
+      other_counts c.args.outcome (reach_beyond c.args.beyond c.args.self.now.tables) c.args.after.now c.is_won-won.result c.in_ok-reach.reach c.distance_before.result c.is_won-won.ensures (λ won. (let e = sym won ∙ w.if-won.false in cc)) c.in_ok-reach.ensures.is c.distance_before.ensures
 ]
 
 pub by_quiet_moves-loop-m-preserved : goal.by_quiet_moves-loop-m-preserved
@@ -60,7 +60,7 @@ by_own_table-returns-in_default-clause-is t c = bare_own c.args.self.now.tables 
 
 pub by_own_table-returns-in_default-part-clause-is : goal.by_own_table-returns-in_default-part-clause-is
 by_own_table-returns-in_default-part-clause-is t c =
-    let there = ap (λ (h : Holding). table_at h.tables Dtz c.material-material.result) (sym c.self.view_is) ∙ ap (table_at c.self.inside.shelf.tables Dtz) c.material-material.ensures in
+    let there = ap (λ (h : Holding). table_at h.tables Dtz c.material-material.result) (sym c.self.view_is) ∙ ap (table_at c.self.inside.table_slots.tables Dtz) c.material-material.ensures in
     let same = sym c.material-material.ensures in
     let at = rw c.in-Some.is at c.placed.ensures in
     let found = at.found ∙ ap (λ (key : ℕ). Some key) same in
@@ -68,7 +68,7 @@ by_own_table-returns-in_default-part-clause-is t c =
 
 pub by_own_table-returns-then-stores-clause-is : goal.by_own_table-returns-then-stores-clause-is
 by_own_table-returns-then-stores-clause-is t c =
-    let there = ap (λ (h : Holding). table_at h.tables Dtz c.material-material.result) (sym c.self.view_is) ∙ ap (table_at c.self.inside.shelf.tables Dtz) c.material-material.ensures in
+    let there = ap (λ (h : Holding). table_at h.tables Dtz c.material-material.result) (sym c.self.view_is) ∙ ap (table_at c.self.inside.table_slots.tables Dtz) c.material-material.ensures in
     let same = sym c.material-material.ensures in
     let at = rw c.in-Some.is at c.placed.ensures in
     let found = at.found ∙ ap (λ (key : ℕ). Some key) same in
@@ -80,7 +80,7 @@ by_own_table-returns-then-stores-clause-is t c =
 pub by_own_table-returns-clause-is : goal.by_own_table-returns-clause-is
 by_own_table-returns-clause-is t c =
     let reach = reach_beyond c.args.beyond c.args.self.now.tables in
-    let there = ap (λ (h : Holding). table_at h.tables Dtz c.material-material.result) (sym c.self.view_is) ∙ ap (table_at c.self.inside.shelf.tables Dtz) c.material-material.ensures in
+    let there = ap (λ (h : Holding). table_at h.tables Dtz c.material-material.result) (sym c.self.view_is) ∙ ap (table_at c.self.inside.table_slots.tables Dtz) c.material-material.ensures in
     let same = sym c.material-material.ensures in
     let at = rw c.in-Some.is at c.placed.ensures in
     let found = at.found ∙ ap (λ (key : ℕ). Some key) same in
@@ -131,18 +131,18 @@ dtz_from-returns-then-is_bare-clause-is t c = bare_by c.args.self.now.tables (re
 pub dtz_from-returns-clause-is : goal.dtz_from-returns-clause-is
 dtz_from-returns-clause-is t c =
     let tables = c.args.self.now.tables in
-    let is = c.weigh-weighed.ensures.is ∙ ap (weighed_by tables (wdl_of tables)) c.of-probe.ensures in
-    if_same c.by_weighed.result _ _
-    (ap (λ (h : Holding). by_weighed h.tables (reach_beyond c.args.beyond h.tables) c.of-probe.result c.weigh-weighed.result) c.weigh-weighed.ensures.unchanged
-    ∙ ap (λ (p : Parts). by_weighed tables (reach_beyond c.args.beyond tables) p c.weigh-weighed.result) c.of-probe.ensures
-    ∙ many_by_rules tables (reach_beyond c.args.beyond tables) c.args.position.now c.weigh-weighed.result (c.is_bare.ensures.more c.if-is_bare.false) is)
-    c.by_weighed.ensures.is
+    let is = c.capture_search-searched.ensures.is ∙ ap (searched_by tables (wdl_of tables)) c.of-probe.ensures in
+    if_same c.dtz_from_search.result _ _
+    (ap (λ (h : Holding). dtz_from_search h.tables (reach_beyond c.args.beyond h.tables) c.of-probe.result c.capture_search-searched.result) c.capture_search-searched.ensures.unchanged
+    ∙ ap (λ (p : Parts). dtz_from_search tables (reach_beyond c.args.beyond tables) p c.capture_search-searched.result) c.of-probe.ensures
+    ∙ many_by_rules tables (reach_beyond c.args.beyond tables) c.args.position.now c.capture_search-searched.result (c.is_bare.ensures.more c.if-is_bare.false) is)
+    c.dtz_from_search.ensures.is
 
 pub dtz_from-returns-clause-memory : goal.dtz_from-returns-clause-memory
 dtz_from-returns-clause-memory t c =
     let tables = c.args.self.now.tables in
-    let is = c.weigh-weighed.ensures.is ∙ ap (weighed_by tables (wdl_of tables)) c.of-probe.ensures in
-    on_err_weaker c.by_weighed.result (λ left. (c.is_bare.ensures.more c.if-is_bare.false, subst IsLeftOpen is left)) c.by_weighed.ensures.memory
+    let is = c.capture_search-searched.ensures.is ∙ ap (searched_by tables (wdl_of tables)) c.of-probe.ensures in
+    on_err_weaker c.dtz_from_search.result (λ left. (c.is_bare.ensures.more c.if-is_bare.false, subst IsLeftOpen is left)) c.dtz_from_search.ensures.memory
 
 pub told_after-returns-clause-is : goal.told_after-returns-clause-is
 told_after-returns-clause-is t c =

@@ -2,7 +2,7 @@ use Rattle.std.proofs.Common.{◌≡◌, ◌+◌, ◌*◌, take}
 use Rattle.judge_core.specs.Distances.{is_quiet, move_counts}
 use Rattle.judge_core.specs.Inside.Determined.{reach_beyond, visits}
 use Rattle.judge_core.specs.Inside.Counts.{no_counts, with_count, AreWithin}
-use Rattle.judge_core.proofs.Asking.{with_all}
+use Rattle.judge_core.proofs.RequestFrequency.{with_all}
 use Rattle.judge_core.proofs.set.Set.+dtz.Given as goal
 
 abbrev pub decreases-dtz_after : goal.decreases-dtz_after
@@ -14,8 +14,8 @@ decreases-told_after l = 7
 abbrev pub decreases-dtz_from : goal.decreases-dtz_from
 decreases-dtz_from l = 10 * visits l.beyond + 6
 
-abbrev pub decreases-by_weighed : goal.decreases-by_weighed
-decreases-by_weighed l = 10 * visits l.beyond + 5
+abbrev pub decreases-dtz_from_search : goal.decreases-dtz_from_search
+decreases-dtz_from_search l = 10 * visits l.beyond + 5
 
 abbrev pub decreases-by_moves : goal.decreases-by_moves
 decreases-by_moves l = 10 * visits l.beyond + 4

@@ -2,13 +2,13 @@ use Rattle.std.proofs.Common.{◌≡◌, ◌∙◌, sym, ap, ◌+◌, refl, arit
 use Rattle.board_core.specs.ComputedMoves.{count_of_men}
 use Rattle.judge_core.specs.Values.{opposite_reading}
 use Rattle.judge_core.specs.Probing.{is_forced}
-use Rattle.judge_core.specs.Inside.Determined.{extreme, extreme_value, extreme_weighed}
+use Rattle.judge_core.specs.Inside.Determined.{extreme, extreme_value, extreme_searched}
 use Rattle.judge_core.specs.Tables.{Holding}
 use Rattle.judge_core.specs.Inside.Found.{found_by_captures}
 use Rattle.board_core.specs.ComputedMoves.{legal_captures}
 use Rattle.judge_core.proofs.Captures.{is_captured, falls}
 use Rattle.judge_core.proofs.Readings.{walk-begins, walk-goes_on, walk-passes, walk-ends, next_legal, next_illegal, fewer_left, with_own_where}
-use Rattle.judge_core.proofs.Rule.{where_bare, where_weighed}
+use Rattle.judge_core.proofs.Rule.{where_bare, where_searched}
 use Rattle.judge_core.proofs.set.Set.+extreme.Goals.{search_extreme-in-Some-play, search_extreme-in_default-play}
 use Rattle.judge_core.proofs.set.Set.+extreme.Goals as goal
 
@@ -18,7 +18,7 @@ wdl_extreme-returns-then-is_bare-clause-is t c = where_bare (extreme c.args.self
 pub wdl_extreme-returns-clause-is : goal.wdl_extreme-returns-clause-is
 wdl_extreme-returns-clause-is t c =
     c.worth_in.ensures
-    ∙ where_weighed (extreme c.args.self.now.tables c.args.odd_wins) c.args.position.now c.weigh_extreme-weighed.result c.is_bare.ensures.position (c.is_bare.ensures.more c.if-is_bare.false) (c.weigh_extreme-weighed.ensures.is ∙ ap (extreme_weighed c.args.self.now.tables c.args.odd_wins) c.of.ensures)
+    ∙ where_searched (extreme c.args.self.now.tables c.args.odd_wins) c.args.position.now c.extreme_search-searched.result c.is_bare.ensures.position (c.is_bare.ensures.more c.if-is_bare.false) (c.extreme_search-searched.ensures.is ∙ ap (extreme_searched c.args.self.now.tables c.args.odd_wins) c.of.ensures)
 
 pub search_extreme-captures-init : goal.search_extreme-captures-init
 search_extreme-captures-init t c = (walk-begins _ _ _ c.new-found.ensures, refl)
@@ -55,7 +55,7 @@ search_extreme-wdl_extreme-reading-requires t c =
 pub search_extreme-returns-clause-is : goal.search_extreme-returns-clause-is
 search_extreme-returns-clause-is t c = walk-ends _ _ _ _ c.captures-2.invariant.0 (rw c.position-position.ensures.is at c.in_default.ensures.none)
 
-pub weigh_extreme-returns-clause-is : goal.weigh_extreme-returns-clause-is
-weigh_extreme-returns-clause-is t c =
+pub extreme_search-returns-clause-is : goal.extreme_search-returns-clause-is
+extreme_search-returns-clause-is t c =
     let found = c.search_extreme-found.ensures.is ∙ ap (λ (h : Holding). found_by_captures (extreme_value h.tables c.args.odd_wins) c.args.probe.now (legal_captures c.args.probe.now)) c.extreme-own.ensures.unchanged in
     with_own_where (extreme c.args.self.now.tables c.args.odd_wins) _ c.args.probe.now _ _ _ _ found c.extreme-own.ensures.is (c.is_forced.ensures ∙ ap is_forced c.position.ensures.is) c.close.ensures

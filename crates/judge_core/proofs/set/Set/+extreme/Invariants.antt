@@ -7,8 +7,8 @@ use Rattle.judge_core.proofs.set.Set.+extreme.Given as goal
 abbrev pub decreases-search_extreme : goal.decreases-search_extreme
 decreases-search_extreme l = 3 * count_of_men l.probe.now
 
-abbrev pub decreases-weigh_extreme : goal.decreases-weigh_extreme
-decreases-weigh_extreme l = 3 * count_of_men l.probe.now + 1
+abbrev pub decreases-extreme_search : goal.decreases-extreme_search
+decreases-extreme_search l = 3 * count_of_men l.probe.now + 1
 
 abbrev pub decreases-wdl_extreme : goal.decreases-wdl_extreme
 decreases-wdl_extreme l = 3 * count_of_men l.position.now + 2

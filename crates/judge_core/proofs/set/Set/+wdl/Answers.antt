@@ -1,11 +1,11 @@
 use Rattle.std.proofs.Common.{◌≡◌, ◌∙◌, sym, ap, ◌+◌, refl, arith}
 use Rattle.board_core.specs.ComputedMoves.{count_of_men}
 use Rattle.judge_core.specs.Values.{opposite_reading}
-use Rattle.judge_core.specs.Probing.{is_forced, weighed_by, wdl_of}
+use Rattle.judge_core.specs.Probing.{is_forced, searched_by, wdl_of}
 use Rattle.judge_core.specs.Tables.{Holding}
 use Rattle.judge_core.proofs.Captures.{is_captured, falls}
 use Rattle.judge_core.proofs.Readings.{walk-begins, walk-goes_on, walk-passes, walk-ends, next_legal, next_illegal, fewer_left, no_captures, with_own}
-use Rattle.judge_core.proofs.Rule.{bare, weighed}
+use Rattle.judge_core.proofs.Rule.{bare, searched}
 use Rattle.judge_core.proofs.set.Set.+wdl.Goals.{search_captures-in-Some-play, search_captures-in_default-play}
 use Rattle.judge_core.proofs.set.Set.+wdl.Goals as goal
 
@@ -15,7 +15,7 @@ wdl_of-returns-then-is_bare-clause-is t c = bare _ _ c.is_bare.ensures.position 
 pub wdl_of-returns-clause-is : goal.wdl_of-returns-clause-is
 wdl_of-returns-clause-is t c =
     c.worth_in.ensures
-    ∙ weighed c.args.self.now.tables c.args.position.now c.weigh-weighed.result c.is_bare.ensures.position (c.is_bare.ensures.more c.if-is_bare.false) (c.weigh-weighed.ensures.is ∙ ap (weighed_by c.args.self.now.tables (wdl_of c.args.self.now.tables)) c.of.ensures)
+    ∙ searched c.args.self.now.tables c.args.position.now c.capture_search-searched.result c.is_bare.ensures.position (c.is_bare.ensures.more c.if-is_bare.false) (c.capture_search-searched.ensures.is ∙ ap (searched_by c.args.self.now.tables (wdl_of c.args.self.now.tables)) c.of.ensures)
 
 pub search_captures-captures-init : goal.search_captures-captures-init
 search_captures-captures-init t c = (walk-begins _ _ _ c.new-found.ensures, refl)
@@ -55,6 +55,6 @@ search_captures-returns-clause-is t c = walk-ends _ _ _ _ c.captures-2.invariant
 pub found_in_captures-returns-else-may_capture-clause-is : goal.found_in_captures-returns-else-may_capture-clause-is
 found_in_captures-returns-else-may_capture-clause-is t c = no_captures _ _ _ c.new.ensures (rw c.position.ensures.is at (c.may_capture.ensures c.if-may_capture.false))
 
-pub weigh_with-returns-clause-is : goal.weigh_with-returns-clause-is
-weigh_with-returns-clause-is t c =
+pub capture_search_by-returns-clause-is : goal.capture_search_by-returns-clause-is
+capture_search_by-returns-clause-is t c =
     with_own c.args.self.now.tables _ c.args.probe.now _ _ _ _ c.found_in_captures-found.ensures.is c.requires.own (c.is_forced.ensures ∙ ap is_forced c.position.ensures.is) c.close.ensures

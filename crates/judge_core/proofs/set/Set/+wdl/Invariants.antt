@@ -10,11 +10,11 @@ decreases-search_captures l = 5 * count_of_men l.probe.now
 abbrev pub decreases-found_in_captures : goal.decreases-found_in_captures
 decreases-found_in_captures l = 5 * count_of_men l.probe.now + 1
 
-abbrev pub decreases-weigh : goal.decreases-weigh
-decreases-weigh l = 5 * count_of_men l.probe.now + 3
+abbrev pub decreases-capture_search : goal.decreases-capture_search
+decreases-capture_search l = 5 * count_of_men l.probe.now + 3
 
-abbrev pub decreases-weigh_with : goal.decreases-weigh_with
-decreases-weigh_with l = 5 * count_of_men l.probe.now + 2
+abbrev pub decreases-capture_search_by : goal.decreases-capture_search_by
+decreases-capture_search_by l = 5 * count_of_men l.probe.now + 2
 
 abbrev pub decreases-wdl_of : goal.decreases-wdl_of
 decreases-wdl_of l = 5 * count_of_men l.position.now + 4

@@ -9,11 +9,11 @@ returns-in_default-clause-is c = bare_value c.args.self.now.tables c.args.probe.
 
 pub returns-in_default-part-clause-is : goal.returns-in_default-part-clause-is
 returns-in_default-part-clause-is c =
-    let there = ap (λ (h : Holding). table_at h.tables Wdl c.material-material.result) (sym c.self.view_is) ∙ ap (table_at c.self.inside.shelf.tables Wdl) c.material-material.ensures in
+    let there = ap (λ (h : Holding). table_at h.tables Wdl c.material-material.result) (sym c.self.view_is) ∙ ap (table_at c.self.inside.table_slots.tables Wdl) c.material-material.ensures in
     missing_value c.args.self.now.tables c.args.probe.now c.placed.result.now _ _ c.in-Some.is c.placed.ensures c.material-material.ensures (there ∙ c.in_default-part.ensures.none)
 
 pub returns-clause-is : goal.returns-clause-is
 returns-clause-is c =
-    let there = ap (λ (h : Holding). table_at h.tables Wdl c.material-material.result) (sym c.self.view_is) ∙ ap (table_at c.self.inside.shelf.tables Wdl) c.material-material.ensures in
+    let there = ap (λ (h : Holding). table_at h.tables Wdl c.material-material.result) (sym c.self.view_is) ∙ ap (table_at c.self.inside.table_slots.tables Wdl) c.material-material.ensures in
     read_value c.args.self.now.tables c.args.probe.now c.placed.result.now _ _ c.in-Some.is c.placed.ensures c.material-material.ensures c.in-Some-part.part.table c.read-points.result _ (there ∙ c.in-Some-part.ensures.found.on) c.read-points.ensures.is
     c.value_of.ensures
