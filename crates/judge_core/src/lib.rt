@@ -10,6 +10,8 @@
 //! `moving`, `mobility`; `judging`, `answering` (all three at once), `root`, `root_move`, `standing`, `game`, `display`, `ask` (strict or determined). Words of
 //! Stockfish: `Set::wdl` is `search`, `Set::dtz` `probe_dtz`, a distance before a move that zeroes the clock `dtz_before_zeroing`,
 //! `Set::root` `root_probe`.
+//! Fathom's words: `Set::wdl` is `probe_wdl`, its search of captures (`capture_search`) `probe_ab`, `Set::dtz` `probe_dtz`, a
+//! table's own value (`table_value`) `probe_table`, `Set::root` `root_probe_dtz` (`root_probe_wdl` where no DTZ table is there).
 //!
 //! Definitions, in reading order: `LookUp`, `Tables`, `Values`, `Asked`, `Probing` (`wdl_of`), `FiveRules`, `Distances`
 //! (`dtz_of`), `Ends`, `Ruling`, `Games`, `Standings`, `Answers`, `ProbeResult`, `Root`, `Determined`.

@@ -7,6 +7,8 @@
 //!
 //! Words of Stockfish: a symbol's pair is `btree`, its count `symlen` (one less), the least and greatest code length `minSymLen`
 //! and `maxSymLen`, first symbol and base `lowestSym` and `base64`; `Dictionary::read` is `set_sizes`.
+//! Fathom's words: `Dictionary::read` is `setup_pairs`, `settle_all` of `counts` is `calc_symLen`, `Dictionary::value`
+//! `decompress_pairs`.
 //!
 //! Definitions, in reading order: `Symbols` (`HasSymbolValues`: the least relation; a symbol in a cycle has none), `Codes` (`IsCode`),
 //! `Blocks` (`block_values`), `Beginnings`, `Reading` (`SpellsDictionary`), `FirstFault`. Its cases stand in `dictionaries.txt`

@@ -10,6 +10,7 @@
 //! kings `MapKK`, pawns `MapPawns`, leading pawns `LeadPawnIdx`, `LeadPawnsSize`; groups `set_groups`, `groupIdx`; the index
 //! `do_probe_table`. Where: the mirror in `Turn::square` (its rule `across` in `specs/Square.antt`), when it applies in
 //! `turn_of_pieces`, two kings in `kings_number`, the order of groups in `src/places.rt`, pawns in `pawn_number`.
+//! Fathom's words: `index` is `encode`, `Placed::file` is `leading_pawn` with `FileToFile`, `lead_pawn` the pawn that it finds.
 //!
 //! Definitions, in reading order: `Material`, `Square`, `Choose`, `Men`, `Pawns`, `Three`, `Kings`, `Others`, `Shape`, `Turning`,
 //! `Index` (`index_of`), `Placed`, `Covered`. `proofs/Indices/WorkedRows.antt` computes six worked indices; those with pawns are

@@ -11,7 +11,9 @@
 //!
 //! Words of Stockfish: a table is `TBTable`, a part `PairsData`, flags `TBFlag`, block lengths `blockLength`, a block's size
 //! `sizeofBlock`, sparse entries `sparseIndex`, value maps `set_dtz_map`, `map_score`; `TablePart::stores` is `check_dtz_stm`.
-//! The wide map: `maps_of` and `Maps::entry`; an entry is `map_entry` in `specs/Distances.antt`.
+//! Fathom's words: `open` is `init_table`; the map of an outcome, which `Maps::entry` reads, is `tb->map` at `WdlToMap`;
+//! `counts_moves` is `PAFlags`, after which `plies` doubles. The wide map: `maps_of` and `Maps::entry`; an entry is `map_entry`
+//! in `specs/Distances.antt`.
 //!
 //! Definitions, in reading order: `Layouts` (`IsLayout`: the one to read), `FirstFaults`, `Tables`, `Expansion` (`expansion`),
 //! `Distances`, then `Plan`, `PlannedFile`, `Forged` for the writer. Its tests stand in `checks` (`forge_tests`); cases in
