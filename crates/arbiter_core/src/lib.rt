@@ -1,19 +1,19 @@
 //! One arbiter of a game: it records the game's moves as they come, and the first verdict.
 //!
 //! A setup and a keeper go in; an arbiter comes out, over what was kept or with the record of no moves put. Then datagrams go in,
-//! and messages to be sent come out. Moves may come late, twice or out of turn; early ones wait in a window of 31 places. The
-//! record is put with the keeper before it is acknowledged. An arbiter whose keeper failed is closed and opened again over what
-//! is kept. `ArbiterState` is all of an arbiter but its tables: it is lent a set for each message, so that many share one, and
-//! `Arbiter` is the pair of both. `Keeper` has one ghost, `facts`: what is kept, which outcomes a put may have and what it
-//! leaves; `MemoryKeeper` fails on request. This crate knows nothing of squares, table files, sockets, or how long a verdict by
-//! tables must hold.
+//! and messages to be sent come out. Moves may come late, twice or out of turn; early ones wait in a window of 31 places
+//! (`ReorderBuffer`). The record is put with the keeper before it is acknowledged. An arbiter whose keeper failed is closed and
+//! opened again over what is kept. `ArbiterState` is all of an arbiter but its tables: it is lent a set for each message, so that
+//! many share one, and `Arbiter` is the pair of both. `Keeper` has one ghost, `facts`: what is kept, which outcomes a put may have
+//! and what it leaves; `MemoryKeeper` fails on request. This crate knows nothing of squares, table files, sockets, or how long a
+//! verdict by tables must hold.
 //!
-//! Inside: `setup`, `keeper`, `fault`, `played` (the record, and where the game stands), `window`, `opening`, `planning`,
-//! `state`, `arbiter`.
+//! Inside: `setup`, `keeper`, `fault`, `played` (the record, and where the game stands), `reorder_buffer`, `opening`, `planning`,
+//! `state`, `arbiter`, `laws`.
 //!
-//! Definitions, in reading order: `Recording` (`record_at`, `advance`), `Answering` (`answer_to`), `Keeping`, `Memory`, `Setups`,
-//! `Views`, `Resting`, `Delivers`, `Opens`, `Laws`. `proofs/WorkedRows.antt` computes answers for every game. Its tests stand in
-//! `checks_games`; cases in `deliveries.txt` of `rows`.
+//! Definitions, in reading order: `Faults`, `Recording` (`record_at`, `advance`), `Answering` (`answer_to`), `Keeping`, `Memory`,
+//! `Setups`, `Views`, `Resting`, `Delivers`, `Opens`, `Laws`. `proofs/WorkedRows.antt` computes answers for every game. Its tests stand
+//! in `checks_games`; cases in `deliveries.txt` of `rows`.
 //!
 //! - CLAIM: `Arbiter::deliver`, clause `delivered`; `ArbiterState::deliver`, clauses `answers`, `keeps`: a datagram is answered
 //!   by the definition's cases. A refusal leaves the arbiter (but its cache) and the keeper as they were, and messages without a

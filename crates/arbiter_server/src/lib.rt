@@ -1,20 +1,26 @@
 //! A server of games: it answers the datagrams that come to a port, each by the arbiter of its game.
 //!
-//! `arbiter_core` decides what is answered and recorded; ports, files and folders are those of `system_io`. There are two ways.
+//! A port, an output and the places of games go in, lent. Of each datagram that comes the answers go out at the port and a line at the
+//! output; records are put with keepers. What comes out at the end is a status. `arbiter_core` decides what is answered and recorded;
+//! ports, files and folders are those of `system_io`. There are two ways.
 //!
 //! - **One game**: `serve` answers the datagrams of a port by one arbiter, over any keeper; `open_and_serve` does so over a
 //!   record in a file (`FileKeeper`).
 //! - **Any number of games**: a message names its game by a stamp. `Server` looks up a game that isn't open by its stamp: its
-//!   name, its start, its delay and its keeper (`Games`; in a folder of files, `DiskGames`). Where no room is left, the one used
-//!   least recently is closed (which one that is, is no clause). All judge by one set of tables, lent to the one that answers. What
-//!   it does for a game is a list of its openings, deliveries and closings (`Hosts`).
+//!   name, its start, its delay and its keeper (`Games`; `DiskGames` over a folder of files, `StoreGames` where all records are in one
+//!   store). Where no room is left, the one used least recently is closed (which one that is, is no clause). All judge by one set of
+//!   tables, lent to the one that answers. What it does for a game is a list of its openings, deliveries and closings (`Hosts`).
+//!   Datagrams that wait are answered in rounds: with a store a round's answers go out only after its commit (`Server::serve`, clause
+//!   `run`; `CommitsEach` of `specs/Hosts.antt`).
 //!
-//! For one game: `file_keeper`, `heard` (lines), `serving`, `over_file`. For many: `config`, `server`, `turn`, `seat`
-//! (an open game), `settling`, `room`, `line`, `line_log` (which lines are written), `last_lines`, `games`, `disk_games`, `folder`,
-//! `game_file`, `game_lines`, `fault`.
+//! For one game: `file_keeper`, `datagram_report` (lines), `serving`, `over_file`. For many: `config`, `server`, `gathering` (a round),
+//! `turn` (a datagram), `open_game`, `open_games`, `settling`, `room`, `line`, `line_log` (which lines are written), `last_lines`;
+//! `games`, `disk_games`, `store_games`, `folder`, `game_file`, `game_lines`. For both: `fault`, `laws`.
 //!
-//! Definitions, in reading order: `StoredBytes`, `ServedLines`, `GoingOut`, `Serving`, `OverFiles`, `Lives` for one
-//! game; `GameFiles`, `GameFolders`, `DiskGames`, `Folders`, `Told`, `LineLogs`, `Acts`, `Games`, `Hosts`, `Servers`, `Laws` for many.
+//! Definitions, in reading order: `StoredBytes`, `ServedLines`, `GoingOut`, `Serving`, `OverFiles`, `Lives` for one game; `GameFiles`,
+//! `GameFolders`, `DiskGames`, `Folders`, `Told`, `LineLogs`, `Acts`, `Games`, `Rounds`, `Hosts`, `StoreGames`, `Servers`, `Laws` for many;
+//! for private clauses `Room`, `Remembering`, `Seats`, `Turns`. Its tests stand in `checks_games` (`serving_tests`, `hosting_tests`,
+//! `stopping_tests`, `udp_tests`) and `checks_io`; cases in `listening.txt`, `hosting.txt` and `games.txt` of `rows`.
 //!
 //! - CLAIM: `serve`, clauses `run`, `keeps`: each datagram that came is answered by one `deliver`, in order. All that passed at
 //!   the port is one request, if it is asked for, and each datagram with the messages of its answer, each once for each address

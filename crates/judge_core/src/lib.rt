@@ -1,20 +1,25 @@
 //! What a set of tables says about a position, and the verdict on it.
 //!
-//! Opened tables go into a set. A position's value is the best of its own table's and of those after its captures: a table may
-//! hold less where a capture does better, and ignores en passant. The distance is that to the next move that sets the halfmove
-//! clock to 0; a DTZ table may store one side alone, and the other's follows from the positions after its moves. `Standing` keeps
-//! where a game stands: each position is judged once, and only this crate knows the rule of delay.
+//! Opened tables go into a set. Positions, games and moves go in; values, distances, root moves and verdicts come out, or faults. A
+//! position's value is the best of its own table's and of those after its captures: a table may hold less where a capture does
+//! better, and ignores en passant. The distance is that to the next move that sets the halfmove clock to 0; a DTZ table may store
+//! one side alone, and the other's follows from the positions after its moves. `Standing` keeps where a game stands: each position
+//! is judged once, and only this crate knows the rule of delay.
 //!
-//! Inside: `table_slots` (tables in their slots), `blocks` (decoded blocks), `reading` (of both), `probe` (a position as its table sees
-//! it); `probing`, `found`, `many` for WDL; `determined`, `determined_dtz` where tables are missing; `dtz`, `counts`, `distance`,
-//! `moving`, `mobility`; `judging`, `answering` (all three at once), `root`, `root_move`, `standing`, `game`, `display`, `ask` (strict or determined). Words of
-//! Stockfish: `Set::wdl` is `search`, `Set::dtz` `probe_dtz`, a distance before a move that zeroes the clock `dtz_before_zeroing`,
-//! `Set::root` `root_probe`.
-//! Fathom's words: `Set::wdl` is `probe_wdl`, its search of captures (`capture_search`) `probe_ab`, `Set::dtz` `probe_dtz`, a
-//! table's own value (`table_value`) `probe_table`, `Set::root` `root_probe_dtz` (`root_probe_wdl` where no DTZ table is there).
+//! Inside: `set`, `table_slots` and `table_slot` (tables in their slots), `blocks` (decoded blocks), `reading` (of both),
+//! `located_position` (a position as its table sees it); `wdl`, `probing`, `found`, `many` for WDL; `determined`, `determined_dtz` where
+//! tables are missing; `dtz`, `counts`, `distance`, `moving`, `mobility`; `judging`, `verdict`, `answering` (all three at once),
+//! `probe_result`, `root`, `root_move`, `standing`, `game`, `display`, `ask` (strict or determined), `fault`.
 //!
-//! Definitions, in reading order: `LookUp`, `Tables`, `Values`, `Asked`, `Probing` (`wdl_of`), `FiveRules`, `Distances`
-//! (`dtz_of`), `Ends`, `Ruling`, `Games`, `Standings`, `Answers`, `ProbeResult`, `Root`, `Determined`.
+//! Words of Stockfish: `Set::wdl` is `search`, `Set::dtz` `probe_dtz`, a distance before a move that zeroes the clock
+//! `dtz_before_zeroing`, `Set::root` `root_probe`.
+//! Fathom's words: `Set::wdl` is `probe_wdl`, its search of captures (`capture_search`) `probe_ab`, `Set::dtz` `probe_dtz`, a table's own
+//! value (`table_value`) `probe_table`; `Set::root` stands for both `root_probe_dtz` and `root_probe_wdl`.
+//!
+//! Definitions, in reading order: `Values`, `LookUp`, `Tables`, `Blocks`, `Asked`, `Probing` (`wdl_of`), `Ends`, `Distances` (`dtz_of`),
+//! `FiveRules`, `Ruling`, `Games`, `Standings`, `Answers`, `ProbeResult`, `Root`, `Determined`, `Ask`, `Words`; `Laws`, `RootLaws`,
+//! `DeterminedLaws`. Its tests stand in `checks` (`root_tests`, `determined_tests`, `refusal_tests`); cases in `probes.txt`, `root.txt`,
+//! `tables.txt` and `many.txt` of `rows`.
 //!
 //! - CLAIM: `Set::new`; `Set::add`, clauses `added`, `refused`, `duplicate`, `no_memory`; `Set::cache`, clause `is`;
 //!   `Set::kept_blocks`; `Set::has`; `Set::largest`, clauses `is`, `few`: a set holds a table for each kind and material. A second one is `Duplicate`

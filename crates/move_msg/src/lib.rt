@@ -1,16 +1,16 @@
 //! Messages between the source of a game and its arbiters, records of games, and their stamps.
 //!
 //! Bytes and values, both ways: messages of 27 bytes and a stream of them in any pieces (`Feeder`); records (`Record`, and
-//! `WrittenRecord`, a record with its bytes); manifests; the stamp of a game; the moves that a text lists. All numbers have their
-//! highest byte first. No disk and no output is used here. A record may have two spellings that are read, so records are
-//! relations; messages have a computed reading too (`heard_in`), for worlds.
+//! `WrittenRecord`, a record with its bytes); manifests; the stamp of a game (`Stamp`, whose contracts see its bytes) and its name
+//! (`GameName`); the moves that a text lists. All numbers have their highest byte first. No disk and no output is used here. A
+//! record may have two spellings that are read, so records are relations; messages have a computed reading too (`heard_in`), for worlds.
 //!
-//! Inside: `message`, `who`, `count`, `words`, `coding`, `feeder`, `record_bytes`, `written_record`, `move_list`, `stamp`,
-//! `game_name`, `manifest`, `told` (the contents of one), `table_name`, `files`, `message_text`, `game_text`.
+//! Inside: `message`, `arbiter_id`, `count`, `words`, `coding`, `feeder`, `record_bytes`, `written_record`, `move_list`, `stamp`,
+//! `game_name`, `manifest`, `told` (the contents of one), `table_name`, `files`, `message_text`, `game_text`, `laws`.
 //!
-//! Definitions, in reading order: `Words`, `Numbers`, `Senders`, `Messages` (`SpellsMessage`), `Heard`, `Streams`, `Records`
-//! (`SpellsRecord`, `WritesRecord`), `Stamps`, `TableNames`, `Manifests`, `ToldManifests`, `GameTexts`, `MessageWords`,
-//! `TextLines`. `proofs/WorkedRows.antt` computes worked messages. Its tests stand in `checks` (`message_tests`, `record_tests`,
+//! Definitions, in reading order: `Words`, `Numbers`, `Senders`, `Stamps`, `Messages` (`SpellsMessage`), `MessageWords`, `Heard`,
+//! `Streams`, `Records` (`SpellsRecord`, `WritesRecord`), `TableNames`, `Manifests`, `Files`, `ToldManifests`, `ToldBy`, `GameTexts`,
+//! `TextLines`, `Laws`. `proofs/WorkedRows.antt` computes worked messages. Its tests stand in `checks` (`message_tests`, `record_tests`,
 //! `manifest_tests`); cases in `messages.txt`, `encodings.txt` and `records.txt` of `rows`.
 //!
 //! - CLAIM: `Message::decode`, clauses `ok`, `only`, `err`, `only_fault`, `computed`; `Message::encode`; `laws::one_message`;
