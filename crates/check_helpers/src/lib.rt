@@ -10,12 +10,12 @@
 //! as an assertion does: what can fail is told by the result, since the gate refuses a library with the bound `Abort`. So
 //! comparisons that end a test, and positions and moves of texts that must be good, stand in the test crates (`comparing`,
 //! `positions`), and so does what one of them alone uses. No function has a contract beyond its trait's: a test is proved to be
-//! safe, and no more.
+//! safe, and no more. It has no definitions of its own, and no tests: those of the three crates use it.
 //!
-//! The test crates are crates of their own, since a crate is proved a second time for its tests, and use public calls alone. A row
-//! of words and results is a case of `rows` and not a test. `tools/planted` and the edits in `must-fail/` show what the contracts
-//! refuse; tests show what no contract says. One of them: `rt test -- NAME` in its crate, where NAME is a part of its name or of
-//! its file's.
+//! The test crates are crates of their own, since a crate is proved a second time for its tests, and use public calls alone. Their
+//! modules stand in `src/tests/`. A row of words and results is a case of `rows` and not a test. `tools/planted` and the edits in
+//! `must-fail/` show what the contracts refuse; tests show what no contract says. One of them: `rt test -- NAME` in its crate, where
+//! NAME is a part of its name or of its file's.
 #![tactic(auto)]
 
 mod failing_writer;

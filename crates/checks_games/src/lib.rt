@@ -1,5 +1,8 @@
 //! Tests of arbiters and of worlds by their public calls, of what no contract says and no case of `rows` shows.
 //!
+//! Games, schedules and calls that fail go in, over the instances in memory of `system_fakes`; a test comes to its end, or it ends the
+//! process where a record or an answer is another one. Random runs are those of a seed, so that each is the same every time.
+//!
 //! - `opening_tests`: keepers that fail, and delays
 //! - `fetching_tests`: what is passed on of the longest game
 //! - `serving_tests`: an arbiter in service, over a port in memory, and outputs that fail
@@ -9,8 +12,8 @@
 //! - `world_tests`: schedules, and what is said of them
 //! - `seeded_world_tests`: random schedules against a plain model
 //!
-//! `positions`, `arbiters`, `playing` and `comparing` are what these tests share. What other crates' tests use too stands in
-//! `check_helpers`, whose head says what is a test and how to run one.
+//! `positions`, `arbiters`, `playing` and `comparing` are what these tests share. All stand in `src/tests/`. What other crates' tests use
+//! too stands in `check_helpers`, whose head says what is a test and how to run one. It has no definitions of its own.
 #![tactic(auto)]
 
 #[cfg(test)]

@@ -8,13 +8,14 @@
 //! Inside: `listing` (the stamps that names tell), `entry` (a game's file and the bytes of its record), `side` (the record),
 //! `comparing` (two records), `status_lines`, `telling` (games in turn, and sums: `GameTeller`), `status`; `audit_lines`, `game_audit`.
 //! Where a host keeps the records of a folder in a store, `store_reading` reads them, also while the host writes, and `stored_disk` is
-//! the disk on which they stand as files: what tells of a folder's files then tells of them, with no change of its own.
+//! the disk on which they stand as files: what tells of a folder's files then tells of them, with no change of its own. `importing`
+//! puts records that stand in files into the store of their folder (`import_records`).
 //! `add_moves`, `add_refused_record` and `add_finding` are for lines of the crate above too.
 //!
 //! Definitions, in reading order: `Listings` (`AreListed`), `Entries` (`HasEntry`, `LacksEntry`), `Sides` (`HasGameAndRecord`, `LacksSide`),
 //! `Comparisons` (`IsComparedAs`), `Tellings` (`TellsGames`, `TellsFolders`), `Statuses` (`IsStatus`, `TellsStatus`), `GameAudits`
-//! (`TellsAudit`); `StoreReadings` (`AreRecordsIn`, `LacksRecords`), `StoredDisks` (`disk_over`). Its cases stand in `status.txt` and
-//! `game_audits.txt` of `rows`.
+//! (`TellsAudit`); `StoreReadings` (`AreRecordsIn`, `LacksRecords`), `StoredDisks` (`disk_over`), `Imports`. Its cases stand in `status.txt`
+//! and `game_audits.txt` of `rows`.
 //!
 //! - CLAIM: `tell_status`: each stamp whose file a folder lists is told, once and in rising order, by what the folder's files have:
 //!   the moves and the verdict of its record, that none is listed, or the first fault. Of two folders the line says whether the

@@ -2,11 +2,12 @@
 //!
 //! `follow_game` takes a set of tables, the start of a game, a delay and an input with a move a line. It writes a line for ply 0 and
 //! then for the ply after each move: its number, its verdict or `open`, and its position. It goes on to the first verdict. It
-//! carries the `Standing` of judge_core from ply to ply, so that each position is judged once. `lines` has the lines, `following`
-//! the run.
+//! carries the `Standing` of judge_core from ply to ply, so that each position is judged once.
 //!
-//! Definitions: `Plies`, `Followings` (`TellsPlies`, `StopsAfter`, `Follows`), over `IsOutcome` of judge_core; `Agreements`. Its cases stand
-//! in `follow.txt` of `rows`.
+//! Inside: `lines` (the lines), `following` (the run).
+//!
+//! Definitions, in reading order: `Plies`, `Followings` (`TellsPlies`, `StopsAfter`, `Follows`), over `IsOutcome` of judge_core;
+//! `Agreements`. Its cases stand in `follow.txt` of `rows`.
 //!
 //! - CLAIM: `follow_game`, clause `follows`: each ply to the first verdict, to the input's end or to the first line that gives no
 //!   legal move is told in its line, and nothing else but why no more is told. What the moves that were read come to is as `game`

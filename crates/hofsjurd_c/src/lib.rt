@@ -1,16 +1,18 @@
 //! The tables for programs in C: a static library over `probe_api`, with the header `include/hofsjurd.h`.
 //!
-//! What C passes goes in: handles, pointers with lengths, numbers. Each export takes what the handle owns out, calls one function
-//! of `probe_api`, and puts it back. A caller keeps a handle for a set of tables, and one for each game that it tells move by
-//! move. The header says what the caller owes; `docs/C_LIBRARY.md` is the guide, "What is proved" there has the exports one by
-//! one. `tools/build_c` builds the library, and `contrib/` has C files over it. No call is undefined for any bytes and numbers,
-//! and each returns, given what the caller owes.
+//! What C passes goes in: handles, pointers with lengths, numbers. A status and a value come out, and what is written into the caller's
+//! room. Each export takes what the handle owns out, calls one function of `probe_api`, and puts it back. A caller keeps a handle for a
+//! set of tables, and one for each game that it tells move by move. The header says what the caller owes; `docs/C_LIBRARY.md` is the
+//! guide, "What is proved" there has the exports one by one. `tools/build_c` builds the library, and `contrib/` has C files over it. No
+//! call is undefined for any bytes and numbers, and each returns, given what the caller owes.
 //!
-//! Inside: `handle`, `game_handle` and `held` (what they own), `seat`, `game_seat` (a pointer as C keeps it), `loose` (a box as
-//! its pointer), `asking`, `move_calls`, `determined_calls`, `holding_calls`, `sharing` (a second handle with the tables of a first; that handles may pass to another thread). This is the only crate with `extern` functions and unsafe code.
+//! Inside: `handle`, `game_handle` and `held` (what they own), `owned_pointer`, `owned_game` (a pointer as C keeps it), `raw_box` (a box
+//! as its pointer), `asking`, `move_calls`, `determined_calls`, `holding_calls`, `sharing` (a second handle with the tables of a first;
+//! that handles may pass to another thread), `call_tests` (each export called once). This is the only crate with `extern` functions and
+//! unsafe code.
 //!
-//! Definitions: `Owned` (which box a handle's pointer owns), `Beginning`. It is tried by `tools/c_harness/run`: values beside
-//! libfathom's, cut and changed files, each allocation refused in turn.
+//! Definitions, in reading order: `Beginning`, `Owned` (which box a handle's pointer owns). It is tried by `tools/c_harness/run`: values
+//! beside libfathom's, cut and changed files, each allocation refused in turn.
 //!
 //! - CLAIM: `hofsjurd_open`, clauses `opened`, `refused`, `memory`; `hofsjurd_close`; `hofsjurd_game_end`: a handle holds one set
 //!   of tables or none, a game's handle one game or none. Closing leaves it empty, and opening replaces what it held; that this

@@ -2,11 +2,12 @@
 //!
 //! `tell_lines` gives each line of a `LineReader` to a `LineHandler`, which writes the answer; what was written goes out before the
 //! next line is awaited. Where the next line has come already, nothing is flushed for it. With progress a line on the second
-//! writer says how many are done after every 10,000: file `told_lines`. `line_words` has the lines of the crates above, which are laid
-//! out without memory and written at once.
+//! writer says how many are done after every 10,000.
 //!
-//! Definitions: `ToldLines` (`TellsLines`, `WritesRead`, `WritesText`). Its cases stand in `lines.txt` and `many.txt` of `rows`;
-//! `tools/ask_probes` tries that each answer comes before the next line is written.
+//! Inside: `told_lines` (the run), `line_words` (the lines of the crates above, which are laid out without memory and written at once).
+//!
+//! Definitions, in reading order: `ToldLines` (`TellsLines`, `WritesRead`, `WritesText`). Its cases stand in `lines.txt` and `many.txt` of
+//! `rows`; `tools/ask_probes` tries that each answer comes before the next line is written.
 //!
 //! - CLAIM: `tell_lines`, clauses `written`, `same`: where an answer is returned, the answers to the lines that were read are
 //!   written in turn, up to the input's end. Or a refusal follows the whole lines before and nothing after it: `refused memory`

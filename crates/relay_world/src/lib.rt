@@ -1,11 +1,11 @@
 //! Two arbiters of one game, and everything that was ever sent between them and its source.
 //!
 //! A game, table files and a list of events go in; the world after them comes out: the state of each arbiter, what it keeps, and
-//! the log. Two real arbiters go through the schedule over keepers in memory (`seat`, `pair`, `running`). Each step is proved to
+//! the log. Two real arbiters go through the schedule over keepers in memory (`replica`, `pair`, `running`). Each step is proved to
 //! be the step of the model (`happens`), so that the laws over the model's worlds are laws of these. `schedule` reads the text of
 //! a schedule.
 //!
-//! Inside: `event`, `game`, `world`, `fault`, `gathering` and `listing` (tables and their manifest), `seat` (one arbiter and its
+//! Inside: `event`, `game`, `world`, `fault`, `gathering` and `listing` (tables and their manifest), `replica` (one arbiter and its
 //! keeper), `pair` (both and the log), `running`, `lines` and `fields` (the schedule's text), `file`, `laws`.
 //!
 //! Definitions, in reading order: `Worlds` (`happens`), `Headline` (`IsFaithful`), `Gathering`, `Runs`, `InOrder`, `NoTables`,

@@ -9,8 +9,10 @@
 //! both digests of a key as they stand behind its block. Tags are compared without an early end (`is_same`); no clause says so, since
 //! a clause says nothing of time.
 //!
-//! Definitions, in reading order: `Hmac`, `Sealing`, `KeyFiles`, `KeyedHosts`, `Laws`. Its tests stand in `checks_io`; cases are in
-//! `sealed.txt` of `rows`, and `tools/forge` tries a forger against real arbiters.
+//! Inside: `mac` (HMAC), `key_file`, `seal_port` (`Sealed`), `keyed_host` (`Keyed`), `laws`.
+//!
+//! Definitions, in reading order: `Hmac`, `Sealing`, `KeyFiles`, `KeyedHosts`, `Laws`. Its tests stand in `checks_io` (`sealed_tests`);
+//! cases are in `sealed.txt` of `rows`, and `tools/forge` tries a forger against real arbiters.
 //!
 //! - CLAIM: `MacKey::hmac`: the HMAC of a text is that of RFC 2104 over SHA-256.
 //! - CLAIM: `laws::only_sealed_is_passed_on`; `laws::sealed_is_passed_on`: nothing but 64 zeros is passed on for a datagram that isn't

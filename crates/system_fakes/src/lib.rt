@@ -1,9 +1,9 @@
 //! Instances in memory of the traits of `system_io`, for tests and for laws. No crate of the program builds on this one.
 //!
-//! A test gives an instance its bytes, its datagrams and the calls that fail, runs the libraries over it, and asks for what it has recorded
-//! or has left; no file and no socket of the machine is touched. What an instance recorded is none where memory for it was refused.
-//! Each meets all clauses of its trait by facts that say something, so it also shows that those clauses can be met; `MemoryInput`
-//! has no other use.
+//! A test gives an instance its bytes, its datagrams and the calls that fail, runs the libraries over it, and asks for what it has
+//! recorded or has left; no file and no socket of the machine is touched. What an instance recorded is none where memory for it was
+//! refused. Each meets all clauses of its trait by facts that say something, so it also shows that those clauses can be met;
+//! `MemoryInput` has no other use.
 //!
 //! - `MemoryDisk`: files, their modes and folders by path (`AtPath`), some of which can't be read
 //! - `MemoryInput` with `MemoryLines`: an input that ends after its bytes or fails there
@@ -14,8 +14,8 @@
 //! - `DiskFile`: a file on a disk that loses power (`Crash`). A call of it may fail before, halfway or after (`Outcome`). `read_after`
 //!   is what a start reads then
 //!
-//! Definitions, in reading order: `MemoryDisks`, `MemoryInputs`, `MemoryPorts`, `MemorySockets`, `MemoryCalls`, `PowerLosses`. Its tests
-//! stand in `checks_io`, and those of an arbiter over a `DiskFile` in `checks_games`.
+//! Definitions, in reading order: `MemoryDisks`, `MemoryInputs`, `MemoryPorts`, `MemorySockets`, `MemoryCalls`, `PowerLosses`;
+//! `MemoryDiskLaws`, `DiskLaws`. Its tests stand in `checks_io`, and those of an arbiter over a `DiskFile` in `checks_games`.
 //!
 //! - CLAIM: `MemoryDisk`, `MemoryInput`, clauses `facts`, `one`; `MemoryLines`, `MemoryPort`, `MemoryCalls`, clause `facts`;
 //!   `MemorySocket`, clause `calls`: each does what its trait says, by what it holds and what it has recorded.

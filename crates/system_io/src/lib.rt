@@ -1,8 +1,8 @@
 //! Where the outside comes in: folders and files, an input and an output, datagrams, a file that is replaced by another, and a
 //! host that opens ports and files.
 //!
-//! Each is a trait (`Disk`, `Input` with `LineReader`, `Output`, `Port`, `KeptFile`, `RecordStore`, `Stores`, `Host`). Its `facts`, a record with named
-//! fields, are all that a proof sees of it. Beside it stands the system's own instance (`SystemDisk`, `SystemInput`,
+//! Each is a trait (`Disk`, `Input` with `LineReader`, `Output`, `Port`, `KeptFile`, `RecordStore`, `Stores`, `Host`). Its `facts`, a
+//! record with named fields, are all that a proof sees of it. Beside it stands the system's own instance (`SystemDisk`, `SystemInput`,
 //! `BufferedOutput`, `UdpPort`, `SystemFile`, `SystemHost`); those in memory, for tests and laws, are in `system_fakes`.
 //! `specs/Premises.antt` says what is trusted of the system. `SystemFile` is `CallLog` over the system's calls (`FileCalls`): what a
 //! start finds follows from the calls that it made and their results.
@@ -11,7 +11,13 @@
 //! keeps none of the others back. Where nothing came in time, its traffic has the wait that was asked for (`Quiet`). `UdpPort` is
 //! over a `Socket`; among its addresses `sender` stands for whoever sent the last datagram.
 //!
-//! Definitions, in reading order: `Descriptors`, `Disks`, `Inputs`, `LineReaders`, `ShortLines`, `Outputs`, `Ports`, `KeptFiles`, `FileCalls`, `Traces`, `Records`, `Hosts`, `Premises`, `Sockets`, `Recipients`, `UdpPorts`, `Answers`. Its tests stand in `checks_io`.
+//! Inside: `disk`, `system_disk`, `descriptors`; `input`, `line_reader`, `bounded_lines`, `reading`, `system_input`; `output`; `port`,
+//! `recipient`, `socket`, `udp_port`, `shared_wait`; `kept_file`, `call_log`, `system_file`, `lock_file`; `record_store`; `host`,
+//! `system_host`, `notes`; `laws`.
+//!
+//! Definitions, in reading order: `Failures`, `Histories`, `Reading`, `Descriptors`, `Disks`, `Inputs`, `LineReaders`, `ShortLines`,
+//! `Outputs`, `Ports`, `KeptFiles`, `FileCalls`, `Traces`, `Hosts`, `Recipients`, `Records`, `Places`, `Premises`, `Sockets`, `UdpPorts`,
+//! `Answers`; `OutputLaws`, `TraceLaws`, `HostLaws`. Its tests stand in `checks_io`; cases in `system.txt` and `disk.txt` of `rows`.
 //!
 //! - CLAIM: `end`: the output is flushed last, also where an answer was not written to its end. The status is the answer's where
 //!   all has gone out; it is 1 in its place only where some can't, or an answer was cut.

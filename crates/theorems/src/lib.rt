@@ -1,25 +1,25 @@
 //! Theorems over the crates: what two arbiters, two servers and a source come to together.
 //!
-//! `arbiter_core` proves what one arbiter does, `arbiter_server` what one server does for each of its games, `source_core` what a
-//! source sends, and `relay_world` what holds of each schedule of deliveries, losses, repeats and restarts. Here the first three
-//! are tied to the fourth: what arbiters, servers and sources keep and send for a game is what the world of some schedule keeps
-//! and has sent, so that each law of `relay_world` holds of them. Each function carries one law and does nothing, but for `run_after`,
-//! a run of an arbiter over a disk in memory that loses power.
+//! Runs go in, each as the contracts of its crate have it, with what is said of the outside; what holds of all of them together comes
+//! out, as the contract of a function that does nothing (but for `run_after`, a run of an arbiter over a disk in memory that loses
+//! power). `arbiter_core` proves what one arbiter does, `arbiter_server` what one server does for each of its games, `source_core` what a
+//! source sends, and `relay_world` what holds of each schedule of deliveries, losses, repeats and restarts. Here the first three are
+//! tied to the fourth: what they keep and send for a game is what the world of some schedule keeps and has sent.
 //!
-//! What the outside gives is a premise, act by act, in `specs/Nets.antt` and `specs/Interleavings.antt`; nothing that a contract gives
-//! is stated there again. Of two hosts these are: which hosts they are and what their tables mean (`IsHostOf`); that the game
-//! found under the stamp is this one, that no message of it is made up, and that keepers keep (`Finds`, `AnswersDatagram`, `Stops`); that the
-//! acts of a stopped run go on as those of one that returns (`goes` of `IsRunOfHost`); that a closing, an act of another game and a datagram
+//! What the outside gives is a premise, act by act, in `specs/Nets.antt` and `specs/Interleavings.antt`; nothing that a contract gives is
+//! stated there again. Of two hosts these are: which hosts they are and what their tables mean (`IsHostOf`); that the game found under
+//! the stamp is this one, that no message of it is made up, and that keepers keep (`Finds`, `AnswersDatagram`, `Stops`); that the acts
+//! of a stopped run go on as those of one that returns (`goes` of `IsRunOfHost`); that a closing, an act of another game and a datagram
 //! without a keeper leave what is found (`GivesOwn`, `GivesIf`).
 //!
-//! In `proofs/`: `Netting` (arbiters), `Seeing` (keepers of any type, seen as what they keep), `Weaving` (an act of a host as
-//! steps of an arbiter), `Stopping`, `Joining`, `Acking`, `Filing` and `FileWeaving` (hosts over files), `Storing`, `StoreKeeping` and
-//! `StoreWeaving` (hosts over stores), `Listening`.
-//!
-//! `Recording` is a host that records what is made at it: so the clauses of `Host` on histories are those of one.
+//! Inside: `arbiters`, `hosts`, `listens`, `host_files`, `store_hosts`, `after_stops`, `sources`, `seals`; `recording` has a host that records
+//! what is made at it (`Recording`): so the clauses of `Host` on histories are those of one. In `proofs/`: `Netting` (arbiters), `Seeing`
+//! (keepers of any type, seen as what they keep), `Weaving` (an act of a host as steps of an arbiter), `Stopping`, `Joining`, `Acking`,
+//! `Filing` and `FileWeaving` (hosts over files), `Storing`, `StoreKeeping` and `StoreWeaving` (hosts over stores), `Listening`.
 //!
 //! Definitions, in reading order: `Nets`, `Interleavings`, `Listens`, `HostFiles`, `AfterStops`, `FileWeaves`, `StoreHosts`, `StoreWeaves`,
-//! `Sources`, `Seals`, `Recording`.
+//! `Sources`, `Seals`, `Recording`. A law has no case of its own; `stopping_tests` of `checks_games` runs `run_after`, and
+//! `tools/host_games` plays games between two hosts.
 //!
 //! - CLAIM: `arbiters_are_worlds`: two arbiters of one game over keepers of any one type, by steps as the contracts of `open` and
 //!   `deliver` have them, come to a world, which is faithful to the game.
