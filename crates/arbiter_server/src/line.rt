@@ -129,6 +129,7 @@ fn unopened_kind(stamp: Stamp, why: OpenGameError) -> Option<usize>
     ensures is { place_in 0 common (ended (unopened_words why)) ≡ result }
     ensures few { IfSome result (λ kind. kind < 8) }
 {
+    // Read for its length, which the proof has from there.
     let _bytes = stamp.0;
     match why {
         OpenGameError::NoGame => Some(0),
@@ -143,6 +144,7 @@ fn open_kind(stamp: Stamp) -> Option<usize>
     ensures long { length stamp ≡ 16 }
     ensures none { result ≡ None }
 {
+    // Read for its length, which the proof has from there.
     let _bytes = stamp.0;
     None
 }

@@ -1,4 +1,4 @@
-use Rattle.std.proofs.Common.{◌≡◌, ◌∙◌, ℕ, ◌⊎◌, inl, inr, refl, sym, subst}
+use Rattle.std.proofs.Common.{rules, ◌≡◌, ◌∙◌, ℕ, ◌⊎◌, inl, inr, refl, sym, subst}
 use Rattle.move_msg.specs.Senders.{who_number}
 use Rattle.move_msg.specs.declared.arbiter_id.ArbiterId.{ArbiterId}
 use Rattle.move_msg.specs.declared.arbiter_id.ArbiterId.TheVariants.{A, B}
@@ -13,5 +13,5 @@ pub returns-clause-good : goal.returns-clause-good
 returns-clause-good c = record {
   name = subst IsGameName (sym (c.name_of.ensures ∙ c.deref.ensures.value)) c.self.invariant.name;
   me = subst (λ (n : ℕ). (n ≡ 1) ⊎ (n ≡ 2)) (sym c.number.ensures) (one_of_two c.args.me);
-  delay = c.plies.ensures.in_range;
+  delay = search rules;
 }
