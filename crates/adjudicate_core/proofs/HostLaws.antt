@@ -20,8 +20,8 @@ use Rattle.arbiter_server.specs.StoreGames.{StoredGames, store_finds, store_game
 use Rattle.arbiter_server.specs.declared.line_log.LogForm.{LogForm}
 use Rattle.arbiter_server.specs.declared.line_log.LogForm.TheVariants.{Nothing}
 use Rattle.adjudicate_core.specs.declared.commands.host.HostGames.{HostGames}
-use Rattle.adjudicate_core.specs.declared.numbers.StoreForm.{StoreForm}
-use Rattle.adjudicate_core.specs.declared.numbers.StoreForm.TheVariants as form
+use Rattle.adjudicate_core.specs.declared.words.numbers.StoreForm.{StoreForm}
+use Rattle.adjudicate_core.specs.declared.words.numbers.StoreForm.TheVariants as form
 use Rattle.task_files.specs.Given.{Given}
 use Rattle.adjudicate_core.specs.Hostings.{BadTables, BindsAndHosts, Bound, Clashing, Unlogged, Hosting, HostsAndWrites, HostsAt, HostsGames, HostsInLines, HostsNow, Imported, InUse, Keeping, KeepsAndHosts, Locked, LocksAndHosts, NoAddress, NoFolder, NoLock, NoRoom, NoRoomForGames, NoRoomForLine, NoRoomForStore, NoRoomToBind, NoRoomToLock, NoStore, NotImported, HostOutside, Ready, HostedRuns, Served, StoresAndHosts, FilesOrStore, Unbound, Unready, common_for, in_files, in_store, seen_as, seen_by, ways_by, written, written_by}
 use Rattle.adjudicate_core.specs.Inside.HostingParts.{IsUnlisted}
@@ -30,7 +30,7 @@ use Rattle.adjudicate_core.specs.Listens.{Hosted}
 use Rattle.adjudicate_core.specs.Looks.{gathered}
 use Rattle.adjudicate_core.specs.Telling.{TellsOne}
 use Rattle.adjudicate_core.proofs.GoneLaws.{line_cut, line_written, lines_to}
-use Rattle.adjudicate_core.specs.declared.refusals.Refusal.{Refusal}
+use Rattle.adjudicate_core.specs.declared.answers.refusals.Refusal.{Refusal}
 use Rattle.judge_core.specs.Tables.{Holding}
 
 -- ---- less is said of what is committed

@@ -17,7 +17,7 @@ use Rattle.adjudicate_core.specs.Locks.{IsBarred, games_lock, kept_lock}
 use Rattle.adjudicate_core.specs.Telling.{TellsOne}
 use Rattle.adjudicate_core.specs.declared.commands.host.HostGames.{HostGames}
 use Rattle.adjudicate_core.specs.declared.commands.listen.Listen.{Listen}
-use Rattle.adjudicate_core.specs.declared.refusals.Refusal.{Refusal}
+use Rattle.adjudicate_core.specs.declared.answers.refusals.Refusal.{Refusal}
 
 pub unhosted : {P F S T : Type 0} (p : hosting.HostOutside P F S) (seen : hosting.FilesOrStore T) (h : HostGames) (t : CommonView) (had has : Option (List Made)) (old new : T) (r : Result ℕ WriteFault) (why : Refusal) → Passes had has [] → IsBarred p.host.host (games_lock h.games.now) why → TellsOne (refusal_words why) (hosting.written_by seen old) (hosting.written_by seen new) r → hosting.LocksAndHosts p seen h t had has old new r
 unhosted p seen h t had has old new r why made (inl (is, held)) told = hosting.InUse made held (told_as why _ _ _ r is told)

@@ -37,11 +37,11 @@ use Rattle.adjudicate_core.specs.declared.commands.enter.Entries.{Entries}
 use Rattle.adjudicate_core.specs.declared.commands.enter.Entries.TheVariants.{From, One}
 use Rattle.adjudicate_core.specs.declared.commands.enter.OneGame.{OneGame}
 use Rattle.adjudicate_core.specs.declared.commands.host.HostGames.{HostGames}
-use Rattle.adjudicate_core.specs.declared.numbers.StoreForm.{StoreForm}
-use Rattle.adjudicate_core.specs.declared.numbers.StoreForm.TheVariants as form
+use Rattle.adjudicate_core.specs.declared.words.numbers.StoreForm.{StoreForm}
+use Rattle.adjudicate_core.specs.declared.words.numbers.StoreForm.TheVariants as form
 use Rattle.adjudicate_core.specs.declared.commands.listen.Listen.{Listen}
 use Rattle.adjudicate_core.specs.declared.commands.send.Send.{Send}
-use Rattle.adjudicate_core.specs.declared.usage.WordsFault.{WordsFault}
+use Rattle.adjudicate_core.specs.declared.words.usage.WordsFault.{WordsFault}
 
 -- ---- nothing
 

@@ -8,11 +8,11 @@ use Rattle.clap.specs.declared.error.Error.{Error}
 use Rattle.clap.specs.declared.error.kind.ErrorKind.{ErrorKind}
 use Rattle.clap.specs.declared.error.kind.ErrorKind.TheVariants as kind
 use Rattle.adjudicate_core.specs.declared.commands.Name.{Name}
-use Rattle.adjudicate_core.specs.declared.usage.Misuse.{Misuse as Misuses}
-use Rattle.adjudicate_core.specs.declared.usage.Misuse.TheVariants.{Refused, Value}
-use Rattle.adjudicate_core.specs.declared.usage.Usage.TheVariants.{Misuse, OutOfMemory}
-use Rattle.adjudicate_core.specs.declared.usage.ValueFault.{ValueFault}
-use Rattle.adjudicate_core.specs.declared.usage.Misuse.TheVariants as misuse
+use Rattle.adjudicate_core.specs.declared.words.usage.Misuse.{Misuse as Misuses}
+use Rattle.adjudicate_core.specs.declared.words.usage.Misuse.TheVariants.{Refused, Value}
+use Rattle.adjudicate_core.specs.declared.words.usage.Usage.TheVariants.{Misuse, OutOfMemory}
+use Rattle.adjudicate_core.specs.declared.words.usage.ValueFault.{ValueFault}
+use Rattle.adjudicate_core.specs.declared.words.usage.Misuse.TheVariants as misuse
 use Rattle.adjudicate_core.specs.Inside.Putting.{IsMisuseOf}
 use Rattle.adjudicate_core.specs.Misuses.{AreWell, AsksForHelp, Fault, IsFirstMisuse, fault_words}
 use Rattle.adjudicate_core.specs.Rules.{argument_value, words_fault}

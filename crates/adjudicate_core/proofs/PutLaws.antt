@@ -3,7 +3,7 @@ use Rattle.std.proofs.Common.{◌≡◌, ◌<◌, ◌++◌, ◌∙◌, ℕ, suc,
 use Rattle.std.specs.Prelude.{Result, Ok, Err, OnErr, OnOk, get_or, false}
 use Rattle.std.proofs.lemmas.Bool.{cond-false}
 use Rattle.hex.specs.Hex.{encode_lower}
-use Rattle.adjudicate_core.specs.declared.usage.Misuse.{Misuse}
+use Rattle.adjudicate_core.specs.declared.words.usage.Misuse.{Misuse}
 use Rattle.std.proofs.lemmas.Grind.{flat_map-append}
 use Rattle.std.proofs.Math.Seq.{split_at}
 use Rattle.std.specs.Io.KnownBytes.{Appends, Keeps}

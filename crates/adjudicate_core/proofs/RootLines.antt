@@ -12,9 +12,9 @@ use Rattle.judge_core.specs.Ruling.{ruling}
 use Rattle.judge_core.specs.Tables.{Tables}
 use Rattle.judge_core.specs.Words.{columns_words}
 use Rattle.move_msg.specs.TextLines.{text_of}
-use Rattle.adjudicate_core.specs.declared.lines.Line.{Line}
-use Rattle.adjudicate_core.specs.declared.lines.Line.TheVariants as line
-use Rattle.adjudicate_core.specs.declared.lines.RootLine.{RootLine}
+use Rattle.adjudicate_core.specs.declared.answers.lines.Line.{Line}
+use Rattle.adjudicate_core.specs.declared.answers.lines.Line.TheVariants as line
+use Rattle.adjudicate_core.specs.declared.answers.lines.RootLine.{RootLine}
 use Rattle.judge_core.specs.Ask.{IsAnswered}
 use Rattle.json_lines.specs.Told.{AreRootMoves}
 use Rattle.judge_core.specs.declared.ask.Ask.{Ask}

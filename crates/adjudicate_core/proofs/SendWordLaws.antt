@@ -2,7 +2,7 @@
 use Rattle.std.proofs.Common.{◌≡◌, ◌++◌, ℕ, List, [], ◌∷◌, map, Option, Some, None, codes, sym, subst, ap, ◌∙◌, inl, inr}
 use Rattle.std.proofs.lemmas.Option.{same_Some}
 use Rattle.clap.specs.Words.{Text}
-use Rattle.adjudicate_core.specs.declared.usage.Wanted.TheVariants as wanted
+use Rattle.adjudicate_core.specs.declared.words.usage.Wanted.TheVariants as wanted
 use Rattle.adjudicate_core.specs.Commands.Send.{file_faults, sent_faults, words_faults}
 use Rattle.adjudicate_core.specs.GamePaths.{NamesGame}
 use Rattle.adjudicate_core.specs.Misuses.{AreWell, Beside, Fault, Holds, IsFirstMisuse, Unfit, Untold, game_faults, text_or_empty, unfit_words}

@@ -9,7 +9,7 @@ use Rattle.game_status.specs.StoredDisks.{Overlaid, overlaid_facts}
 use Rattle.adjudicate_core.specs.Lines.{refusal_words}
 use Rattle.adjudicate_core.specs.Stores.{IsOverStore, IsWithoutStore, NoFolder, NoRoomForStore, OverStore, OverStores, UnreadStore, WithStore}
 use Rattle.adjudicate_core.specs.Telling.{TellsOne}
-use Rattle.adjudicate_core.specs.declared.refusals.Refusal.{Refusal}
+use Rattle.adjudicate_core.specs.declared.answers.refusals.Refusal.{Refusal}
 
 -- a refusal is told by its words
 pub told_as : (why is : Refusal) (old new : Option (List ℕ)) (r : Result ℕ WriteFault) → why ≡ is → TellsOne (refusal_words why) old new r → TellsOne (refusal_words is) old new r

@@ -38,8 +38,8 @@ use Rattle.arbiter_server.specs.StoreGames.{store_finds, store_keepers}
 use Rattle.arbiter_server.specs.declared.file_keeper.FileKeeper.{FileKeeper}
 use Rattle.adjudicate_core.specs.Addresses.{addresses_of}
 use Rattle.adjudicate_core.specs.declared.commands.host.HostGames.{HostGames}
-use Rattle.adjudicate_core.specs.declared.numbers.StoreForm.{StoreForm}
-use Rattle.adjudicate_core.specs.declared.numbers.StoreForm.TheVariants as form
+use Rattle.adjudicate_core.specs.declared.words.numbers.StoreForm.{StoreForm}
+use Rattle.adjudicate_core.specs.declared.words.numbers.StoreForm.TheVariants as form
 use Rattle.game_status.specs.Imports.{CannotImport, IsImported}
 use Rattle.game_status.specs.StoreReadings.{log_name, store_name, store_path}
 use Rattle.game_status.specs.declared.importing.ImportFault.{ImportFault}

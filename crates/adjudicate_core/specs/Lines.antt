@@ -31,14 +31,14 @@ use Rattle.relay_world.specs.Texts.{who_word}
 use Rattle.arbiter_server.specs.ServedLines.{refused_keeper, refused_port, verdict_or_none, refused_store}
 use Rattle.adjudicate_core.specs.declared.tables.FileFault.{FileFault}
 use Rattle.adjudicate_core.specs.declared.tables.FileFault.TheVariants.{Missing, Changed, Bad}
-use Rattle.adjudicate_core.specs.declared.lines.KeptCount.{KeptCount}
-use Rattle.adjudicate_core.specs.declared.lines.Line.{Line}
-use Rattle.adjudicate_core.specs.declared.lines.RootLine.{RootLine}
-use Rattle.adjudicate_core.specs.declared.lines.Line.TheVariants as line
+use Rattle.adjudicate_core.specs.declared.answers.lines.KeptCount.{KeptCount}
+use Rattle.adjudicate_core.specs.declared.answers.lines.Line.{Line}
+use Rattle.adjudicate_core.specs.declared.answers.lines.RootLine.{RootLine}
+use Rattle.adjudicate_core.specs.declared.answers.lines.Line.TheVariants as line
 use Rattle.adjudicate_core.specs.declared.entries.EntryFault.{EntryFault}
 use Rattle.adjudicate_core.specs.declared.entries.EntryFault.TheVariants as entry
-use Rattle.adjudicate_core.specs.declared.refusals.Refusal.{Refusal}
-use Rattle.adjudicate_core.specs.declared.refusals.Refusal.TheVariants as refusal
+use Rattle.adjudicate_core.specs.declared.answers.refusals.Refusal.{Refusal}
+use Rattle.adjudicate_core.specs.declared.answers.refusals.Refusal.TheVariants as refusal
 
 -- ---- names
 

@@ -19,8 +19,8 @@ use Rattle.arbiter_server.specs.OverFiles.{ServesAndWrites, ServesOpened}
 use Rattle.arbiter_core.specs.Setups.{SetupView}
 use Rattle.arbiter_server.specs.declared.file_keeper.FileKeeper.{FileKeeper}
 use Rattle.adjudicate_core.specs.Addresses.{addresses_of}
-use Rattle.adjudicate_core.specs.declared.refusals.Refusal.{Refusal}
-use Rattle.adjudicate_core.specs.declared.refusals.Refusal.TheVariants.{Memory, Port}
+use Rattle.adjudicate_core.specs.declared.answers.refusals.Refusal.{Refusal}
+use Rattle.adjudicate_core.specs.declared.answers.refusals.Refusal.TheVariants.{Memory, Port}
 use Rattle.adjudicate_core.specs.declared.commands.listen.Listen.{Listen}
 use Rattle.task_files.specs.Given.{Given}
 use Rattle.system_io.specs.KeptFiles.{KeptFacts}

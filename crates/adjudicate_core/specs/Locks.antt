@@ -2,8 +2,8 @@
 use Rattle.std.specs.Prelude.{◌≡◌, ◌⊎◌, ◌++◌, ℕ, List, codes}
 use Rattle.system_io.specs.Hosts.{HostFacts}
 use Rattle.system_io.specs.declared.host.LockFault.TheVariants.{Failed, Held}
-use Rattle.adjudicate_core.specs.declared.refusals.Refusal.{Refusal}
-use Rattle.adjudicate_core.specs.declared.refusals.Refusal.TheVariants.{InUse, Keeper, Memory}
+use Rattle.adjudicate_core.specs.declared.answers.refusals.Refusal.{Refusal}
+use Rattle.adjudicate_core.specs.declared.answers.refusals.Refusal.TheVariants.{InUse, Keeper, Memory}
 
 -- the file by which a folder of games is locked, and that by which a kept file is
 abbrev pub games_lock : List ℕ → List ℕ

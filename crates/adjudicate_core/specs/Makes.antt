@@ -14,11 +14,11 @@ use Rattle.adjudicate_core.specs.declared.commands.Task.TheVariants as task
 use Rattle.adjudicate_core.specs.declared.commands.enter.Entries.{Entries}
 use Rattle.adjudicate_core.specs.declared.commands.enter.Entries.TheVariants.{From, One}
 use Rattle.adjudicate_core.specs.declared.commands.host.HostGames.{HostGames}
-use Rattle.adjudicate_core.specs.declared.numbers.StoreForm.{StoreForm}
-use Rattle.adjudicate_core.specs.declared.numbers.StoreForm.TheVariants as form
+use Rattle.adjudicate_core.specs.declared.words.numbers.StoreForm.{StoreForm}
+use Rattle.adjudicate_core.specs.declared.words.numbers.StoreForm.TheVariants as form
 use Rattle.adjudicate_core.specs.declared.commands.listen.Listen.{Listen}
 use Rattle.adjudicate_core.specs.declared.commands.send.Send.{Send}
-use Rattle.adjudicate_core.specs.declared.usage.WordsFault.{WordsFault}
+use Rattle.adjudicate_core.specs.declared.words.usage.WordsFault.{WordsFault}
 
 -- the first of these, in their order, and nothing else
 abbrev pub IsFrontOfMade : List Made → List Made → Type 0

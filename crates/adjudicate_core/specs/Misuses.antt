@@ -8,13 +8,13 @@ use Rattle.adjudicate_core.specs.Addresses.{AreAddresses, AreRecipients, IsAddre
 use Rattle.adjudicate_core.specs.GamePaths.{NamesGame}
 use Rattle.adjudicate_core.specs.Numbers.{IsAtOnce, IsCache, IsDatagrams, IsDelay, IsHundredOr, IsLog, IsMe, IsStore}
 use Rattle.arbiter_server.specs.declared.line_log.LogForm.{LogForm}
-use Rattle.adjudicate_core.specs.declared.numbers.StoreForm.{StoreForm}
-use Rattle.adjudicate_core.specs.declared.usage.Instead.{Instead}
-use Rattle.adjudicate_core.specs.declared.usage.Instead.TheVariants as instead
-use Rattle.adjudicate_core.specs.declared.usage.Wanted.{Wanted}
-use Rattle.adjudicate_core.specs.declared.usage.Wanted.TheVariants as wanted
-use Rattle.adjudicate_core.specs.declared.usage.ValueFault.{ValueFault}
-use Rattle.adjudicate_core.specs.declared.usage.ValueFault.TheVariants as told
+use Rattle.adjudicate_core.specs.declared.words.numbers.StoreForm.{StoreForm}
+use Rattle.adjudicate_core.specs.declared.words.usage.Instead.{Instead}
+use Rattle.adjudicate_core.specs.declared.words.usage.Instead.TheVariants as instead
+use Rattle.adjudicate_core.specs.declared.words.usage.Wanted.{Wanted}
+use Rattle.adjudicate_core.specs.declared.words.usage.Wanted.TheVariants as wanted
+use Rattle.adjudicate_core.specs.declared.words.usage.ValueFault.{ValueFault}
+use Rattle.adjudicate_core.specs.declared.words.usage.ValueFault.TheVariants as told
 
 -- ---- in words
 

@@ -4,8 +4,8 @@ use Rattle.std.specs.Fmt.{decimal}
 use Rattle.std.specs.Str.{bytes_eq}
 use Rattle.std.specs.Str.Parse.{IsNumeral, digits_value, without_leading_plus}
 use Rattle.arbiter_server.specs.declared.line_log.LogForm.{LogForm}
-use Rattle.adjudicate_core.specs.declared.numbers.StoreForm.{StoreForm}
-use Rattle.adjudicate_core.specs.declared.numbers.StoreForm.TheVariants as store
+use Rattle.adjudicate_core.specs.declared.words.numbers.StoreForm.{StoreForm}
+use Rattle.adjudicate_core.specs.declared.words.numbers.StoreForm.TheVariants as store
 use Rattle.arbiter_server.specs.declared.line_log.LogForm.TheVariants as log
 use Rattle.board_core.specs.Delays.{most_delay}
 use Rattle.move_msg.specs.declared.arbiter_id.ArbiterId.{ArbiterId}

@@ -8,10 +8,10 @@ use Rattle.system_io.specs.declared.output.WriteFault.{WriteFault}
 use Rattle.adjudicate_core.specs.declared.commands.Task.{Task}
 use Rattle.adjudicate_core.specs.declared.system.System.{System}
 use Rattle.adjudicate_core.specs.declared.commands.Task.TheVariants as task
-use Rattle.adjudicate_core.specs.declared.usage.Misuse.{Misuse}
-use Rattle.adjudicate_core.specs.declared.usage.WordsFault.{WordsFault}
-use Rattle.adjudicate_core.specs.declared.usage.WordsFault.TheVariants.{NoText}
-use Rattle.adjudicate_core.specs.declared.usage.Misuse.TheVariants as misuse
+use Rattle.adjudicate_core.specs.declared.words.usage.Misuse.{Misuse}
+use Rattle.adjudicate_core.specs.declared.words.usage.WordsFault.{WordsFault}
+use Rattle.adjudicate_core.specs.declared.words.usage.WordsFault.TheVariants.{NoText}
+use Rattle.adjudicate_core.specs.declared.words.usage.Misuse.TheVariants as misuse
 use Rattle.task_files.specs.Given.{Given}
 use Rattle.line_teller.specs.ToldLines.{refused_files, refused_memory}
 use Rattle.system_io.specs.Hosts.{HostFacts, Made}

@@ -11,7 +11,7 @@ use Rattle.relay_world.specs.declared.schedule.Schedule.{Schedule}
 use Rattle.relay_world.specs.Gathering.{tables_of}
 use Rattle.relay_world.specs.Runs.{GameView, life_state}
 use Rattle.relay_world.specs.Worlds.{Side, World}
-use Rattle.adjudicate_core.specs.declared.lines.KeptCount.{KeptCount}
+use Rattle.adjudicate_core.specs.declared.answers.lines.KeptCount.{KeptCount}
 use Rattle.adjudicate_core.specs.Lines.{arbiter_words, sent_words, refused_file}
 
 -- the game of a schedule, where a verdict by tables must hold for so many further plies

@@ -11,8 +11,8 @@ use Rattle.game_status.specs.StoreReadings.{AreRecordsIn, LacksRecords}
 use Rattle.game_status.specs.StoredDisks.{Overlaid, disk_over}
 use Rattle.line_teller.specs.ToldLines.{refused_files, refused_memory}
 use Rattle.adjudicate_core.specs.Telling.{TellsOne}
-use Rattle.adjudicate_core.specs.declared.refusals.Refusal.{Refusal}
-use Rattle.adjudicate_core.specs.declared.refusals.Refusal.TheVariants.{Files, Memory, Store}
+use Rattle.adjudicate_core.specs.declared.answers.refusals.Refusal.{Refusal}
+use Rattle.adjudicate_core.specs.declared.answers.refusals.Refusal.TheVariants.{Files, Memory, Store}
 
 -- a folder can't be listed; or its store can't be read; or memory was refused; or else this is so of the disk on which the records of the
 -- store stand as files of the folder

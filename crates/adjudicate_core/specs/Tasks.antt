@@ -25,9 +25,9 @@ use Rattle.adjudicate_core.specs.Commands.AuditGames as game_audits
 use Rattle.adjudicate_core.specs.Commands.GameRecord as game_records
 use Rattle.adjudicate_core.specs.Commands.Version as versions
 use Rattle.adjudicate_core.specs.Misuses.{AsksForHelp, Fault, IsFirstMisuse, fault_words}
-use Rattle.adjudicate_core.specs.declared.usage.Misuse.{Misuse}
-use Rattle.adjudicate_core.specs.declared.usage.Misuse.TheVariants as misuse
-use Rattle.adjudicate_core.specs.declared.usage.ValueFault.{ValueFault}
+use Rattle.adjudicate_core.specs.declared.words.usage.Misuse.{Misuse}
+use Rattle.adjudicate_core.specs.declared.words.usage.Misuse.TheVariants as misuse
+use Rattle.adjudicate_core.specs.declared.words.usage.ValueFault.{ValueFault}
 use Rattle.adjudicate_core.specs.declared.commands.Name.{Name}
 use Rattle.adjudicate_core.specs.declared.commands.Name.TheVariants as name
 use Rattle.adjudicate_core.specs.declared.commands.Task.{Task}

@@ -1,7 +1,7 @@
 -- Refused memory is distinguished from every other fault of the words.
-use Rattle.adjudicate_core.specs.declared.usage.Usage.{Usage}
-use Rattle.adjudicate_core.specs.declared.usage.Usage.TheVariants.{Misuse, OutOfMemory}
-use Rattle.adjudicate_core.specs.declared.usage.Misuse.TheVariants.{Refused}
+use Rattle.adjudicate_core.specs.declared.words.usage.Usage.{Usage}
+use Rattle.adjudicate_core.specs.declared.words.usage.Usage.TheVariants.{Misuse, OutOfMemory}
+use Rattle.adjudicate_core.specs.declared.words.usage.Misuse.TheVariants.{Refused}
 use Rattle.clap.specs.Words.{kind_of}
 use Rattle.clap.specs.declared.error.Error.{Error}
 use Rattle.clap.specs.declared.error.kind.ErrorKind.{ErrorKind}

@@ -7,8 +7,8 @@ use Rattle.clap.specs.Words.{kind_of}
 use Rattle.clap.specs.declared.error.kind.ErrorKind.TheVariants.{DisplayHelp}
 use Rattle.move_msg.specs.TextLines.{ended}
 use Rattle.system_io.specs.Outputs.{OutputFacts}
-use Rattle.adjudicate_core.specs.declared.usage.Misuse.{Misuse}
-use Rattle.adjudicate_core.specs.declared.usage.Misuse.TheVariants as misuse
+use Rattle.adjudicate_core.specs.declared.words.usage.Misuse.{Misuse}
+use Rattle.adjudicate_core.specs.declared.words.usage.Misuse.TheVariants as misuse
 use Rattle.adjudicate_core.specs.Misuses.{fault_words}
 
 -- ---- words as they are told

@@ -8,9 +8,15 @@ ghost use Rattle.adjudicate_core.specs.Reply.{WritesReply, status_if, status_tol
 ghost use Rattle.system_io.specs.Outputs.{WritesFront};
 ghost use Rattle.line_teller.specs.ToldLines.{HasFailed};
 
-use crate::json_answers::put_json_fault;
-use crate::lines::{Line, put_line, put_refusal};
-use crate::refusals::Refusal;
+pub(crate) mod json_answers;
+pub(crate) mod line_answers;
+pub(crate) mod line_parts;
+pub(crate) mod lines;
+pub(crate) mod refusals;
+
+use crate::answers::json_answers::put_json_fault;
+use crate::answers::lines::{Line, put_line, put_refusal};
+use crate::answers::refusals::Refusal;
 use fen_text::FenFault;
 use std::alloc::AllocError;
 use system_io::{Output, ReadFault, WriteFault};

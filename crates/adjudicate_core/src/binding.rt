@@ -6,7 +6,7 @@ ghost use Rattle.system_io.specs.Hosts.{PortAt, if_made};
 ghost use Rattle.adjudicate_core.specs.Addresses.{addresses_of};
 ghost use Rattle.adjudicate_core.specs.Inside.Binding.{CannotBind};
 
-use crate::addresses::{addresses_in, is_one};
+use crate::words::addresses::{addresses_in, is_one};
 use std::alloc::Global;
 use system_io::{BindFault, Host};
 

@@ -2,7 +2,7 @@
 
 ghost use Rattle.std.specs.Prelude.{◌≡◌, ◌↔◌, IsTrue, map, true, false, IfOk, IfErr, IfSome, IfNone, OnErr, IsErrOf, option_map};
 ghost use Rattle.clap.specs.Words.{HasKind, Text, app_of, is_simple_and_free, found_of, first_value, rule_of, with_rule};
-ghost use Rattle.adjudicate_core.specs.declared.usage.Misuse.{Misuse};
+ghost use Rattle.adjudicate_core.specs.declared.words.usage.Misuse.{Misuse};
 ghost use Rattle.adjudicate_core.specs.Commands.AuditGames.{LacksFolders};
 ghost use Rattle.adjudicate_core.specs.Misuses.{AsksForHelp};
 ghost use Rattle.adjudicate_core.specs.Rules.{argument_value, rule_of_value, words_fault};
@@ -32,7 +32,7 @@ mod show;
 mod status;
 mod version;
 
-use crate::usage::{Misuse, Usage, ValueFault};
+use crate::words::usage::{Misuse, Usage, ValueFault};
 pub use audit::Audit;
 pub use audit_games::AuditGames;
 pub use check::Check;

@@ -14,12 +14,12 @@ ghost use Rattle.adjudicate_core.specs.Listens.{hosted};
 ghost use Rattle.system_io.specs.KeptFiles.{bytes_of};
 ghost use Rattle.line_teller.specs.ToldLines.{HasFailed};
 
+use crate::answers::lines::put_refusal;
+use crate::answers::refusals::Refusal;
 use crate::answers::status_if;
 use crate::commands::{Enter, Entries, OneGame};
 use crate::entries::{EntryFault, first_line, read_entry};
-use crate::lines::put_refusal;
 use crate::manifests::manifest_for;
-use crate::refusals::Refusal;
 use crate::system::System;
 use arbiter_server::{game_path, write_game};
 use board_core::{Delay, Position};

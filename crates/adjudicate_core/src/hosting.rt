@@ -16,15 +16,15 @@ ghost use Rattle.system_io.specs.Histories.{Passes};
 ghost use Rattle.system_io.specs.Hosts.{StoreAt, if_made};
 ghost use Rattle.system_io.specs.Records.{IsSettled};
 
+use crate::answers::lines::put_refusal;
+use crate::answers::refusals::Refusal;
 use crate::binding::bind;
 use crate::commands::HostGames;
-use crate::lines::put_refusal;
 use crate::listening::{manifest_for, ready_line_at};
 use crate::locking::{IN_GAMES, lock};
-use crate::numbers::StoreForm;
-use crate::refusals::Refusal;
 use crate::system::System;
 use crate::tables::gather;
+use crate::words::numbers::StoreForm;
 use arbiter_server::{DiskGames, Games, LineLog, Server, ServerConfig, StoreGames, put_line};
 use game_status::{ImportFault, STORE_LOG_NAME, STORE_NAME, has_name, import_records};
 use judge_core::Set;

@@ -3,7 +3,7 @@
 ghost use Rattle.std.specs.Prelude.{IfOk};
 ghost use Rattle.adjudicate_core.specs.Inside.Keying.{GivesKeys};
 
-use crate::refusals::Refusal;
+use crate::answers::refusals::Refusal;
 use sealed_port::{Keys, MOST_KEY_BYTES};
 use std::alloc::{AllocError, Global};
 use system_io::{Disk, ReadFault};

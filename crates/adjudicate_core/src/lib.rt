@@ -60,41 +60,31 @@
 //!   are read exactly where they are decimal digits, perhaps after a plus, in their range.
 #![tactic(auto)]
 
-mod addresses;
 mod answers;
 mod binding;
 mod commands;
 mod entering;
 mod entries;
-mod game_paths;
 mod hosting;
-mod json_answers;
 mod keys;
 pub mod laws;
-mod line_answers;
-mod line_parts;
-mod lines;
 mod listening;
 mod locking;
 mod manifests;
-mod numbers;
 mod program;
-mod refusals;
 mod sending;
 mod silence;
 mod stores;
 mod system;
 mod tables;
-mod usage;
-mod uses;
-mod values;
+mod words;
 
 pub use commands::{
     Audit, AuditGames, Check, Enter, Entries, Follow, FollowGame, Form, GameFile, GameRecord,
     HostGames, Judge, List, Listen, Moves, Name, OneGame, Probe, Probes, Root, RunSchedule, Send,
     SentGame, Show, ShowRecord, ShowStatus, Task, ToldGame, Value, Version, parse,
 };
-pub use numbers::{CacheSize, StoreForm};
 pub use program::{refuse_memory, run, run_program};
 pub use system::System;
-pub use usage::{Instead, Misuse, Usage, ValueFault, Wanted, WordsFault};
+pub use words::numbers::{CacheSize, StoreForm};
+pub use words::usage::{Instead, Misuse, Usage, ValueFault, Wanted, WordsFault};

@@ -14,13 +14,13 @@ ghost use Rattle.arbiter_server.specs.GoingOut.{writers};
 ghost use Rattle.arbiter_server.specs.StoredBytes.{IsInFile};
 ghost use Rattle.line_teller.specs.ToldLines.{HasFailed};
 
+use crate::answers::lines::put_refusal;
+use crate::answers::refusals::Refusal;
 use crate::binding::bind;
 use crate::commands::Listen;
-use crate::lines::put_refusal;
 use crate::locking::{BESIDE_KEPT, lock};
-use crate::numbers::CacheSize;
-use crate::refusals::Refusal;
 use crate::tables::gather;
+use crate::words::numbers::CacheSize;
 use arbiter_core::{OpenFault, Setup, name_of};
 use arbiter_server::{FileKeeper, Span, put_line};
 use board_core::Position;

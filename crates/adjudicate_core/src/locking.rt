@@ -5,7 +5,7 @@ ghost use Rattle.adjudicate_core.specs.Locks.{IsBarred};
 ghost use Rattle.system_io.specs.Histories.{Passes};
 ghost use Rattle.system_io.specs.Hosts.{LockAt, if_made};
 
-use crate::refusals::Refusal;
+use crate::answers::refusals::Refusal;
 use std::alloc::Global;
 use system_io::{Host, LockFault};
 

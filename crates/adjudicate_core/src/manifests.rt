@@ -4,7 +4,7 @@ ghost use Rattle.std.specs.Prelude.{ℕ, List, None, Some, IfErr, IfOk, option_m
 ghost use Rattle.adjudicate_core.specs.Inside.Manifesting.{LacksManifestOrRoom};
 ghost use Rattle.adjudicate_core.specs.Manifests.{IsNamedManifest};
 
-use crate::refusals::Refusal;
+use crate::answers::refusals::Refusal;
 use move_msg::{Line, Manifest, ManifestFault, manifest_read, manifest_write};
 use std::alloc::Global;
 use std::io;

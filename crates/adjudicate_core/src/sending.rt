@@ -10,11 +10,11 @@ ghost use Rattle.adjudicate_core.specs.Inside.SendingParts.{BindsFrom};
 ghost use Rattle.adjudicate_core.specs.Sends.{EndsOnce, IsFiled, IsSent, IsStamped, LacksFile, LacksSent, LacksTold, SendsGame, SendsOver};
 ghost use Rattle.line_teller.specs.ToldLines.{HasFailed};
 
+use crate::answers::lines::put_refusal;
+use crate::answers::refusals::Refusal;
 use crate::binding::bind;
 use crate::commands::{GameFile, Send, SentGame, ToldGame};
-use crate::lines::put_refusal;
 use crate::manifests::manifest_for;
-use crate::refusals::Refusal;
 use crate::system::System;
 use arbiter_server::{MOST_GAME_BYTES, read_game};
 use board_core::Position;

@@ -8,7 +8,7 @@ ghost use Rattle.adjudicate_core.specs.Inside.Putting.{IsPut};
 ghost use Rattle.adjudicate_core.specs.Silences.{TellsSilence, is_silent, silence_text, silence_words};
 ghost use Rattle.adjudicate_core.specs.Uses.{GoesOut};
 
-use crate::uses::put;
+use crate::words::uses::put;
 use source_core::{Ended, Known, Reported};
 use system_io::{Output, WriteFault};
 

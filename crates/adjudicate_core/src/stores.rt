@@ -4,7 +4,7 @@ ghost use Rattle.std.specs.Prelude.{IfErr, IfOk};
 ghost use Rattle.adjudicate_core.specs.Stores.{IsOverStore, IsWithoutStore};
 ghost use Rattle.game_status.specs.StoredDisks.{overlaid_by};
 
-use crate::refusals::Refusal;
+use crate::answers::refusals::Refusal;
 use game_status::{StoredDisk, records_in};
 use std::alloc::Global;
 use system_io::{Disk, Host, ReadFault, StoreFault};

@@ -8,8 +8,8 @@ ghost use Rattle.adjudicate_core.specs.Lines.{file_fault_name};
 ghost use Rattle.adjudicate_core.specs.Looks.{file_found, gathered, gathered_by, held, look_at, look_for, tables_from_looks, with_found};
 ghost use Rattle.adjudicate_core.specs.Inside.Refusals.{filled_unless_refused, tables_or_refusal};
 
-use crate::numbers::CacheSize;
-use crate::refusals::Refusal;
+use crate::answers::refusals::Refusal;
+use crate::words::numbers::CacheSize;
 use arrayvec::ArrayString;
 use judge_core::{Set, SetFault};
 use move_msg::{Line as Entry, Manifest, NamedFile, file_digest};

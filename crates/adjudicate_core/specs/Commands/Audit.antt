@@ -11,7 +11,7 @@ use Rattle.move_msg.specs.Stamps.{stamp_of}
 use Rattle.clap.specs.Words.{Rule, Text}
 use Rattle.adjudicate_core.specs.Rules.{rule_of_form}
 use Rattle.adjudicate_core.specs.declared.commands.Form.TheVariants as form
-use Rattle.adjudicate_core.specs.declared.usage.Wanted.TheVariants as wanted
+use Rattle.adjudicate_core.specs.declared.words.usage.Wanted.TheVariants as wanted
 use Rattle.adjudicate_core.specs.Audits.{IsAudited}
 use Rattle.adjudicate_core.specs.Misuses.{Fault, NoWord, Unfit, game_faults, AreGameWords}
 use Rattle.task_files.specs.Sources.{Named}

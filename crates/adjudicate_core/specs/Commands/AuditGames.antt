@@ -11,7 +11,7 @@ use Rattle.task_files.specs.Given.{Given}
 use Rattle.game_status.specs.GameAudits.{TellsAuditTo}
 use Rattle.line_teller.specs.ToldLines.{refused_memory}
 use Rattle.adjudicate_core.specs.Misuses.{Fault, NoOption, NotWith, WordNotWith}
-use Rattle.adjudicate_core.specs.declared.usage.Instead.TheVariants as instead
+use Rattle.adjudicate_core.specs.declared.words.usage.Instead.TheVariants as instead
 use Rattle.adjudicate_core.specs.Looks.{gathered}
 use Rattle.adjudicate_core.specs.Reply.{status_told}
 use Rattle.adjudicate_core.specs.Stores.{OverStores}

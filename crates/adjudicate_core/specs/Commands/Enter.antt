@@ -6,8 +6,8 @@ use Rattle.clap.specs.Words.{Rule, Text}
 use Rattle.adjudicate_core.specs.Rules.{rule_of_form}
 use Rattle.adjudicate_core.specs.declared.commands.Form.TheVariants as form
 use Rattle.adjudicate_core.specs.Misuses.{AreGameWords, Fault, NoOption, NotWith, Unfit, game_faults}
-use Rattle.adjudicate_core.specs.declared.usage.Instead.TheVariants as instead
-use Rattle.adjudicate_core.specs.declared.usage.Wanted.TheVariants as wanted
+use Rattle.adjudicate_core.specs.declared.words.usage.Instead.TheVariants as instead
+use Rattle.adjudicate_core.specs.declared.words.usage.Wanted.TheVariants as wanted
 use Rattle.task_files.specs.Sources.{Named, nothing}
 use Rattle.adjudicate_core.specs.Numbers.{IsDelay}
 use Rattle.adjudicate_core.specs.declared.commands.enter.Enter.{Enter}

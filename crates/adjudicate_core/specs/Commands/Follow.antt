@@ -9,7 +9,7 @@ use Rattle.clap.specs.Words.{Rule, Text}
 use Rattle.adjudicate_core.specs.Rules.{rule_of_form}
 use Rattle.adjudicate_core.specs.declared.commands.Form.TheVariants as form
 use Rattle.adjudicate_core.specs.Misuses.{Fault, NoWord, Unfit}
-use Rattle.adjudicate_core.specs.declared.usage.Wanted.TheVariants as wanted
+use Rattle.adjudicate_core.specs.declared.words.usage.Wanted.TheVariants as wanted
 use Rattle.game_teller.specs.Followings.{FollowsTo}
 use Rattle.line_teller.specs.ToldLines.{refused_memory}
 use Rattle.system_io.specs.Inputs.{InputFacts}

@@ -8,7 +8,7 @@ use Rattle.adjudicate_core.specs.Rules.{rule_of_form}
 use Rattle.adjudicate_core.specs.declared.commands.Form.TheVariants as form
 use Rattle.adjudicate_core.specs.GamePaths.{NamesGame}
 use Rattle.adjudicate_core.specs.Misuses.{AreGameWords, Beside, Fault, Unfit, Untold, game_faults, to_faults}
-use Rattle.adjudicate_core.specs.declared.usage.Wanted.TheVariants as wanted
+use Rattle.adjudicate_core.specs.declared.words.usage.Wanted.TheVariants as wanted
 use Rattle.task_files.specs.Sources.{Named, nothing}
 use Rattle.adjudicate_core.specs.Numbers.{IsDelay, IsHundredOr}
 use Rattle.adjudicate_core.specs.declared.commands.send.Send.{Send}

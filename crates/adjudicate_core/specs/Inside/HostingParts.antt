@@ -3,7 +3,7 @@ use Rattle.std.specs.Prelude.{◌≡◌, ◌⊎◌, ℕ, List, Option, Some, Res
 use Rattle.clap.specs.Words.{Text}
 use Rattle.move_msg.specs.declared.arbiter_id.ArbiterId.{ArbiterId}
 use Rattle.arbiter_server.specs.declared.line_log.LogForm.{LogForm}
-use Rattle.adjudicate_core.specs.declared.numbers.StoreForm.{StoreForm}
+use Rattle.adjudicate_core.specs.declared.words.numbers.StoreForm.{StoreForm}
 use Rattle.system_io.specs.Disks.{AtFolder, DiskFacts}
 use Rattle.system_io.specs.Hosts.{Made}
 use Rattle.system_io.specs.Outputs.{OutputFacts}
@@ -16,8 +16,8 @@ use Rattle.arbiter_server.specs.Games.{CommonView}
 use Rattle.arbiter_server.specs.GoingOut.{Writers, writers}
 use Rattle.arbiter_server.specs.Hosts.{CommitsEach}
 use Rattle.system_io.specs.declared.output.WriteFault.{WriteFault}
-use Rattle.adjudicate_core.specs.declared.refusals.Refusal.{Refusal}
-use Rattle.adjudicate_core.specs.declared.refusals.Refusal.TheVariants.{Files, Memory, Store}
+use Rattle.adjudicate_core.specs.declared.answers.refusals.Refusal.{Refusal}
+use Rattle.adjudicate_core.specs.declared.answers.refusals.Refusal.TheVariants.{Files, Memory, Store}
 use Rattle.adjudicate_core.specs.Addresses.{AreRecipients, IsAddressIfAny}
 use Rattle.adjudicate_core.specs.Hostings.{BindsAndHosts, StoreClashes, HostsAt, HostsNow, Keeping, HostedRuns, seen_by}
 use Rattle.adjudicate_core.specs.Listens.{Hosted}

@@ -2,7 +2,7 @@
 use Rattle.std.specs.Prelude.{ℕ, List, Result, Ok, Err}
 use Rattle.sealed_port.specs.declared.seal_port.Keys.{Keys}
 use Rattle.system_io.specs.Disks.{DiskFacts}
-use Rattle.adjudicate_core.specs.declared.refusals.Refusal.{Refusal}
+use Rattle.adjudicate_core.specs.declared.answers.refusals.Refusal.{Refusal}
 use Rattle.adjudicate_core.specs.Keys.{HasKeys, LacksKeys}
 use Rattle.adjudicate_core.specs.Lines.{refusal_words}
 

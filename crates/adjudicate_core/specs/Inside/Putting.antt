@@ -3,8 +3,8 @@ use Rattle.std.specs.Prelude.{◌≡◌, ◌++◌, ℕ, List, Option, Result, Ok
 use Rattle.std.specs.Io.KnownBytes.{Appends}
 use Rattle.clap.specs.Words.{Text}
 use Rattle.system_io.specs.Outputs.{OutputFacts}
-use Rattle.adjudicate_core.specs.declared.usage.Misuse.{Misuse}
-use Rattle.adjudicate_core.specs.declared.usage.Misuse.TheVariants as misuse
+use Rattle.adjudicate_core.specs.declared.words.usage.Misuse.{Misuse}
+use Rattle.adjudicate_core.specs.declared.words.usage.Misuse.TheVariants as misuse
 use Rattle.adjudicate_core.specs.Misuses.{AsksForHelp}
 use Rattle.adjudicate_core.specs.Uses.{CutsOff, GoesOut}
 

@@ -1,7 +1,7 @@
 -- What is gathered in a set; cited by private functions alone.
 use Rattle.std.specs.Prelude.{ℕ, List, Result, Ok, Err}
 use Rattle.judge_core.specs.Tables.{Tables, Holding}
-use Rattle.adjudicate_core.specs.declared.refusals.Refusal.{Refusal}
+use Rattle.adjudicate_core.specs.declared.answers.refusals.Refusal.{Refusal}
 use Rattle.adjudicate_core.specs.Lines.{refusal_words}
 
 -- the tables that are in a set where nothing was refused

@@ -7,15 +7,15 @@ ghost use Rattle.adjudicate_core.specs.Misuses.{AreWell, IsFirstMisuse, fault_wo
 ghost use Rattle.task_files.specs.Sources.{named_by};
 ghost use Rattle.line_teller.specs.ToldLines.{HasFailed};
 
+use crate::answers::lines::put_refusal;
+use crate::answers::refusals::Refusal;
 use crate::answers::status_told;
-use crate::lines::put_refusal;
 use crate::listening::manifest_for;
-use crate::numbers::CacheSize;
-use crate::refusals::Refusal;
 use crate::stores::disk_over;
 use crate::tables::gather;
-use crate::usage::{Instead, ValueFault};
-use crate::values::{option_in, without, without_word};
+use crate::words::numbers::CacheSize;
+use crate::words::usage::{Instead, ValueFault};
+use crate::words::values::{option_in, without, without_word};
 use clap::ArgMatches;
 use game_status::{AuditTables, tell_audit};
 use std::alloc::Global;

@@ -14,12 +14,12 @@ ghost use Rattle.task_files.specs.Sources.{named_by};
 
 use super::{Form, Value};
 use crate::answers::Answer;
-use crate::lines::Line;
-use crate::numbers::is_set;
-use crate::refusals::Refusal;
+use crate::answers::lines::Line;
+use crate::answers::refusals::Refusal;
 use crate::tables::{FileFault, open_file};
-use crate::usage::ValueFault;
-use crate::values::{option_in, word_in};
+use crate::words::numbers::is_set;
+use crate::words::usage::ValueFault;
+use crate::words::values::{option_in, word_in};
 use clap::ArgMatches;
 use move_msg::{Line as Entry, Manifest, NamedFile};
 use std::alloc::{AllocError, Global};

@@ -6,8 +6,8 @@ ghost use Rattle.adjudicate_core.specs.Misuses.{AreWell, IsFirstMisuse, fault_wo
 ghost use Rattle.adjudicate_core.specs.Commands.Enter.{HasValues, LacksGameWords, list_faults, one_faults, without_faults};
 
 use super::{Form, Value};
-use crate::usage::{Instead, ValueFault};
-use crate::values::{delay_in, game_words_in, option_in, without};
+use crate::words::usage::{Instead, ValueFault};
+use crate::words::values::{delay_in, game_words_in, option_in, without};
 use board_core::Delay;
 use clap::ArgMatches;
 use move_msg::GameName;

@@ -10,13 +10,13 @@ ghost use Rattle.task_files.specs.Sources.{named_by};
 ghost use Rattle.line_teller.specs.ToldLines.{HasFailed};
 
 use super::{Form, Value};
+use crate::answers::lines::put_refusal;
+use crate::answers::refusals::Refusal;
 use crate::answers::status_told;
-use crate::lines::put_refusal;
-use crate::numbers::CacheSize;
-use crate::refusals::Refusal;
 use crate::tables::gather;
-use crate::usage::ValueFault;
-use crate::values::{delay_in, word_in};
+use crate::words::numbers::CacheSize;
+use crate::words::usage::ValueFault;
+use crate::words::values::{delay_in, word_in};
 use board_core::{Delay, Position};
 use clap::ArgMatches;
 use fen_text::read;

@@ -9,11 +9,11 @@ ghost use Rattle.system_io.specs.Disks.{AtFile};
 ghost use Rattle.task_files.specs.Sources.{named_by};
 ghost use Rattle.line_teller.specs.ToldLines.{HasFailed};
 
-use crate::lines::put_refusal;
-use crate::refusals::Refusal;
+use crate::answers::lines::put_refusal;
+use crate::answers::refusals::Refusal;
 use crate::stores::disk_over;
-use crate::usage::ValueFault;
-use crate::values::word_in;
+use crate::words::usage::ValueFault;
+use crate::words::values::word_in;
 use clap::ArgMatches;
 use std::alloc::Global;
 use system_io::{Disk, Host, Output, ReadFault, WriteFault};

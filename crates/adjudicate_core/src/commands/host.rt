@@ -7,9 +7,9 @@ ghost use Rattle.adjudicate_core.specs.Commands.Host.{end_faults, term_faults};
 ghost use Rattle.adjudicate_core.specs.Misuses.{AreWell, IsFirstMisuse, fault_words};
 
 use super::{Form, Value};
-use crate::numbers::{CacheSize, StoreForm, is_set};
-use crate::usage::ValueFault;
-use crate::values::{
+use crate::words::numbers::{CacheSize, StoreForm, is_set};
+use crate::words::usage::ValueFault;
+use crate::words::values::{
     at_once_in, cache_in, check_bind, datagrams_in, log_in, me_in, option_in, recipients_in,
     store_in,
 };

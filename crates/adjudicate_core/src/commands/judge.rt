@@ -11,12 +11,12 @@ ghost use Rattle.task_files.specs.Sources.{named_by};
 
 use super::{Form, Value};
 use crate::answers::Answer;
-use crate::lines::Line;
-use crate::numbers::CacheSize;
-use crate::refusals::Refusal;
+use crate::answers::lines::Line;
+use crate::answers::refusals::Refusal;
 use crate::tables::gather;
-use crate::usage::ValueFault;
-use crate::values::word_in;
+use crate::words::numbers::CacheSize;
+use crate::words::usage::ValueFault;
+use crate::words::values::word_in;
 use board_core::Position;
 use clap::ArgMatches;
 use fen_text::read;

@@ -9,9 +9,9 @@ ghost use Rattle.task_files.specs.Sources.{named_by};
 
 use super::{Form, Value};
 use crate::answers::Answer;
-use crate::numbers::is_set;
-use crate::usage::ValueFault;
-use crate::values::word_in;
+use crate::words::numbers::is_set;
+use crate::words::usage::ValueFault;
+use crate::words::values::word_in;
 use clap::ArgMatches;
 use move_msg::{Line as Entry, Manifest, manifest_write};
 use std::alloc::Global;

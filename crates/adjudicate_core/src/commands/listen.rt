@@ -7,9 +7,9 @@ ghost use Rattle.adjudicate_core.specs.Commands.Listen.{end_faults, term_faults}
 ghost use Rattle.adjudicate_core.specs.Misuses.{AreWell, IsFirstMisuse, fault_words};
 
 use super::{Form, Value};
-use crate::numbers::is_set;
-use crate::usage::ValueFault;
-use crate::values::{
+use crate::words::numbers::is_set;
+use crate::words::usage::ValueFault;
+use crate::words::values::{
     check_bind, datagrams_in, delay_in, game_words_in, me_in, option_in, recipients_in,
 };
 use board_core::Delay;

@@ -10,10 +10,10 @@ ghost use Rattle.task_files.specs.Sources.{named_by};
 
 use super::{Form, Value};
 use crate::answers::Answer;
-use crate::lines::Line;
-use crate::refusals::Refusal;
-use crate::usage::ValueFault;
-use crate::values::word_in;
+use crate::answers::lines::Line;
+use crate::answers::refusals::Refusal;
+use crate::words::usage::ValueFault;
+use crate::words::values::word_in;
 use board_core::Position;
 use clap::ArgMatches;
 use fen_text::read;

@@ -12,9 +12,9 @@ ghost use Rattle.task_files.specs.Sources.{named_by};
 
 use super::{Form, Value};
 use crate::answers::Answer;
-use crate::refusals::Refusal;
-use crate::usage::ValueFault;
-use crate::values::word_in;
+use crate::answers::refusals::Refusal;
+use crate::words::usage::ValueFault;
+use crate::words::values::word_in;
 use arbiter_server::verdict_or_none;
 use board_core::{Move, Verdict};
 use clap::ArgMatches;

@@ -20,12 +20,12 @@ ghost use Rattle.adjudicate_core.specs.Schedules.{RefusesTable, counted_record, 
 
 use super::{Form, Value};
 use crate::answers::Answer;
-use crate::lines::{KeptCount, Line};
-use crate::numbers::CacheSize;
-use crate::refusals::Refusal;
+use crate::answers::lines::{KeptCount, Line};
+use crate::answers::refusals::Refusal;
 use crate::tables::FileFault;
-use crate::usage::ValueFault;
-use crate::values::{cache_in, delay_in};
+use crate::words::numbers::CacheSize;
+use crate::words::usage::ValueFault;
+use crate::words::values::{cache_in, delay_in};
 use board_core::{Delay, Verdict};
 use clap::ArgMatches;
 use move_msg::{ArbiterId, NamedFile};

@@ -7,9 +7,9 @@ ghost use Rattle.adjudicate_core.specs.Commands.Send.{HasSentGame, IsGameInFile,
 ghost use Rattle.adjudicate_core.specs.Misuses.{AreWell, Beside, IsFirstMisuse, IsToldMisuse, fault_words};
 
 use super::{Form, Value};
-use crate::game_paths::stamp_in;
-use crate::usage::{ValueFault, Wanted};
-use crate::values::{check_bind, delay_in, game_words_in, to_in, tries_in, wait_in};
+use crate::words::game_paths::stamp_in;
+use crate::words::usage::{ValueFault, Wanted};
+use crate::words::values::{check_bind, delay_in, game_words_in, to_in, tries_in, wait_in};
 use board_core::Delay;
 use clap::ArgMatches;
 use move_msg::{GameName, Stamp};

@@ -7,8 +7,8 @@ ghost use Rattle.adjudicate_core.specs.Inside.Fronts.{IsFront};
 ghost use Rattle.task_files.specs.Sources.{named_by};
 ghost use Rattle.line_teller.specs.ToldLines.{HasFailed};
 
-use crate::lines::{Line, put_line, put_refusal};
-use crate::refusals::Refusal;
+use crate::answers::lines::{Line, put_line, put_refusal};
+use crate::answers::refusals::Refusal;
 use move_msg::{Feeder, Message, MessageFault};
 use system_io::{Output, WriteFault};
 use task_files::{InputPaths, Inputs};

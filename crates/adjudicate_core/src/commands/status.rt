@@ -8,11 +8,11 @@ ghost use Rattle.task_files.specs.Sources.{named_by};
 ghost use Rattle.line_teller.specs.ToldLines.{HasFailed};
 
 use super::{Form, Value};
+use crate::answers::lines::put_refusal;
 use crate::answers::status_told;
-use crate::lines::put_refusal;
 use crate::stores::disk_over;
-use crate::usage::ValueFault;
-use crate::values::option_in;
+use crate::words::usage::ValueFault;
+use crate::words::values::option_in;
 use clap::ArgMatches;
 use game_status::tell_status;
 use std::alloc::Global;

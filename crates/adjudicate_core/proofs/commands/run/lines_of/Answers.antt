@@ -2,8 +2,8 @@ use Rattle.std.proofs.Common.{◌≡◌, List, [], ◌∷◌, length, map, ap, �
 use Rattle.std.proofs.lemmas.Result.{IfOk-weaker}
 use Rattle.move_msg.specs.declared.arbiter_id.ArbiterId.TheVariants.{A, B}
 use Rattle.relay_world.specs.Worlds.{World}
-use Rattle.adjudicate_core.specs.declared.lines.Line.{Line}
-use Rattle.adjudicate_core.specs.declared.lines.Line.TheVariants.{Sent}
+use Rattle.adjudicate_core.specs.declared.answers.lines.Line.{Line}
+use Rattle.adjudicate_core.specs.declared.answers.lines.Line.TheVariants.{Sent}
 use Rattle.adjudicate_core.specs.Lines.{sent_words, words_of}
 use Rattle.adjudicate_core.specs.Schedules.{side_words, world_words}
 use Rattle.adjudicate_core.proofs.commands.run.lines_of.Goals as goal

@@ -1,0 +1,23 @@
+use Rattle.std.proofs.Common.{append_assoc}
+use Rattle.std.specs.Prelude.{codes}
+use Rattle.adjudicate_core.specs.Misuses.{instead_name}
+use Rattle.adjudicate_core.proofs.words.uses.tell_fault.Goals as goal
+
+pub returns-in-NoWord : goal.returns-in-NoWord
+returns-in-NoWord g c = rw c.in-NoWord.is c.tell_name-in-NoWord.ensures
+
+pub returns-in-NotWith : goal.returns-in-NotWith
+returns-in-NotWith g c =
+    let name = c.in-NotWith.name.now in
+    rw c.in-NotWith.is (
+    rw (append_assoc name (codes " cannot be used with --") (instead_name c.in-NotWith.instead))
+    (rw c.rest-in-NotWith.ensures at c.tell_name-in-NotWith.ensures)
+    )
+
+pub returns-in-WordNotWith : goal.returns-in-WordNotWith
+returns-in-WordNotWith g c =
+    let name = c.in-WordNotWith.name.now in
+    rw c.in-WordNotWith.is (
+    rw (append_assoc name (codes " cannot be used with --") (instead_name c.in-WordNotWith.instead))
+    (rw c.rest-in-WordNotWith.ensures at c.tell_name-in-WordNotWith.ensures)
+    )
