@@ -18,9 +18,10 @@
 //! `games`, `disk_games`, `store_games`, `folder`, `game_file`, `game_lines`. For both: `fault`, `laws`.
 //!
 //! Definitions, in reading order: `StoredBytes`, `ServedLines`, `GoingOut`, `Serving`, `OverFiles`, `Lives` for one game; `GameFiles`,
-//! `GameFolders`, `DiskGames`, `Folders`, `Told`, `LineLogs`, `Acts`, `Games`, `Rounds`, `Hosts`, `StoreGames`, `Servers`, `Laws` for many;
-//! for private clauses `Room`, `Remembering`, `Seats`, `Turns`. Its tests stand in `checks_games` (`serving_tests`, `hosting_tests`,
-//! `stopping_tests`, `udp_tests`) and `checks_io`; cases in `listening.txt`, `hosting.txt` and `games.txt` of `rows`.
+//! `GameFolders`, `DiskGames`, `Folders`, `Told`, `LineLogs`, `Acts`, `Games`, `Rounds`, `Hosts`, `StoreGames`, `Servers`, `Laws` for
+//! many; for private clauses `Room`, `Remembering`, `Seats`, `Turns`. Its tests stand in `checks_games` (`serving_tests`,
+//! `hosting_tests`, `stopping_tests`, `udp_tests`) and `checks_io`; cases in `listening.txt`, `hosting.txt` and `games.txt` of
+//! `rows`.
 //!
 //! - CLAIM: `serve`, clauses `run`, `keeps`: each datagram that came is answered by one `deliver`, in order. All that passed at
 //!   the port is one request, if it is asked for, and each datagram with the messages of its answer, each once for each address
