@@ -58,8 +58,8 @@
 //!   move is awaited is in the contract of that function alone.
 //! - CLAIM: `run`, clause `runs`: `status` tells the games of its folders as `game_status::tell_status` has it; the status is 0 only
 //!   where all are told, nothing is at fault and nothing differs.
-//! - CLAIM: `CacheSize::of`, clauses `some`, `none`; `numbers::delay_of`, clauses `some`, `none`: the numbers of `--cache` and `--delay`
-//!   are read exactly where they are decimal digits, perhaps after a plus, in their range.
+//! - CLAIM: `CacheSize::of`, clauses `some`, `none`: the number of `--cache` is read exactly where it is decimal digits, perhaps after a
+//!   plus, in its range. So is that of `--delay`, by the private `delay_of` of `numbers`.
 #![tactic(auto)]
 
 mod addresses;
