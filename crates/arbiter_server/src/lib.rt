@@ -10,8 +10,8 @@
 //!   name, its start, its delay and its keeper (`Games`; `DiskGames` over a folder of files, `StoreGames` where all records are in one
 //!   store). Where no room is left, the one used least recently is closed (which one that is, is no clause). All judge by one set of
 //!   tables, lent to the one that answers. What it does for a game is a list of its openings, deliveries and closings (`Hosts`).
-//!   Datagrams that wait are answered in rounds: with a store a round's answers go out only after its commit (`Server::serve`, clause
-//!   `run`; `CommitsEach` of `specs/Hosts.antt`).
+//!   Datagrams that wait are answered in rounds: with a store a round's answers go out only after its commit, and none where that
+//!   fails (`Server::serve`, clause `run`; `CommitsEach`, `StoreLost` of `specs/Hosts.antt`).
 //!
 //! For one game: `file_keeper`, `datagram_report` (lines), `serving`, `over_file`. For many: `config`, `server`, `gathering` (a round),
 //! `turn` (a datagram), `open_game`, `open_games`, `settling`, `room`, `line`, `line_log` (which lines are written), `last_lines`;
