@@ -1,4 +1,4 @@
--- ArbiterId was silent, where an arbiter doesn't answer a source: what goes to the output of errors (this project's own).
+-- Who was silent, where an arbiter doesn't answer a source: what goes to the output of errors (this project's own).
 use Rattle.std.specs.Prelude.{◌≡◌, ◌⊎◌, ◌==◌, ◌&&◌, ◌++◌, not, cond, true, ℕ, Bool, List, Option, Result, Ok, is_some, codes}
 use Rattle.std.specs.Fmt.{decimal}
 use Rattle.move_msg.specs.TextLines.{ended}

@@ -4,15 +4,17 @@
 //! `program::run` joins these, and `run_program` takes all words that a program was called with. `docs/FORMATS.md`, section 3,
 //! has each command with its lines; the statuses are 0 done, 1 refused, 2 misuse.
 //!
-//! Each command is a file in `commands/`, with its definitions in the file of the same name in `specs/Commands/`. `values`,
-//! `numbers`, `usage`, `uses`, `addresses` read words, `entries` the lines of a list; `tables` and `manifests` make sets of files;
-//! `answers`, `line_answers`, `lines`, `refusals` write, each line laid out by `LineWords` of `line_teller` (its parts in
-//! `line_parts`), which doesn't fail, and written at once; `listening`, `hosting`, `entering`, `sending`, `binding` run
-//! the commands that touch ports and files.
+//! Inside: each command is a file in `commands/`, with its definitions in the file of the same name in `specs/Commands/`. `values`,
+//! `numbers`, `usage`, `uses`, `addresses`, `keys` read words, `entries` the lines of a list; `tables` and `manifests` make sets of
+//! files; `answers`, `line_answers`, `json_answers`, `lines`, `refusals`, `silence` write, each line laid out by `LineWords` of
+//! `line_teller` (its parts in `line_parts`), which doesn't fail, and written at once; `listening`, `hosting`, `entering`, `sending`,
+//! `binding`, `locking`, `stores`, `game_paths` run the commands that touch ports and files; `program` over a `system`; `laws`.
 //!
-//! Definitions, in reading order: `Rules`, `Tasks`, `Misuses`, `Uses` for words; `Looks`, `Lines`, `Reply`, `Commands`,
-//! `Schedules`, `LineAnswers`, `Audits` for answers; `Listens`, `Manifests`, `Sends`, `Entries`, `Enters`, `Hostings`, `Makes` for runs;
-//! `Running` (`Performs`, `Called`) for all. Its cases stand in `rows`.
+//! Definitions, in reading order: `Numbers`, `Rules`, `Commands`, `Tasks`, `Misuses`, `Usage`, `Uses`, `Addresses`, `Keys` for words;
+//! `Looks`, `Lines`, `Reply`, `Telling`, `Schedules`, `LineAnswers`, `TableAnswers`, `JsonAnswers`, `Audits`, `AuditAgreements` for
+//! answers; `Outsides`, `Locks`, `GamePaths`, `Silences`, `Listens`, `Manifests`, `Sends`, `Entries`, `Enters`, `Stores`, `Hostings`,
+//! `Makes` for runs; `Running` (`Performs`, `Called`) for all. Its cases stand in `rows`, nearly all of its files;
+//! `tools/host_games`, `tools/play_games` and `tools/attack` try the program as it is built.
 //!
 //! - CLAIM: `parse`, clauses `ok`, `misuse`, `named`: where the words name a task it is what they say, by the matches of `clap`.
 //!   A misuse is reported only where the first word is missing, asks for help or names no command, where the command refuses the
@@ -25,10 +27,10 @@
 //!   `audit --games`, `run`, `probes`, `root`, `host` and the list of `enter` refused memory has no cause.
 //! - CLAIM: `run`, `run_program`, clause `cause`: an error comes only of a type of writer that may refuse a write, or from which what was
 //!   written can't go out (`HasFailed`). A body that knows no more of its writer has that only from a call of it that failed.
-//! - CLAIM: `run`, clause `made`; `run_program`, clause `made`: at the host nothing is opened but what `IsMadeBy` has of the task, whatever
-//!   it comes to: `listen` opens its port, the lock and the kept file, `send` its port, `host` the lock, its port and files of records,
-//!   `enter` files of games. Which of these it has opened where it ends so, and that a record's file is opened once for each Move or
-//!   Fetch at most, is in `Listens`, `SendsGame`, `HostsGames`.
+//! - CLAIM: `run`, clause `made`; `run_program`, clause `made`: at the host nothing is opened but what `IsMadeBy` has of the task,
+//!   whatever it comes to: `listen` opens its port, the lock and the kept file, `send` its port, `host` the lock, its port and files
+//!   of records, `enter` files of games. Which of these it has opened where it ends so, and that a record's file is opened once for
+//!   each Move or Fetch at most, is in `Listens`, `SendsGame`, `HostsGames`.
 //! - CLAIM: `run`, clauses `runs`, `quiet`; `run_program`: for a misuse standard error gets one line of printing bytes (none
 //!   where help is asked for) and then the usage, of which no clause speaks, or as much of these as it takes. It gets bytes for
 //!   nothing else but for a task with progress, and where `send` ends as `refused lost`: a line of each arbiter, of which it tells that
@@ -56,8 +58,8 @@
 //!   move is awaited is in the contract of that function alone.
 //! - CLAIM: `run`, clause `runs`: `status` tells the games of its folders as `game_status::tell_status` has it; the status is 0 only
 //!   where all are told, nothing is at fault and nothing differs.
-//! - CLAIM: `CacheSize::of`, clauses `some`, `none`; `numbers::delay_of`, clauses `some`, `none`: the numbers of `--cache` and `--delay`
-//!   are read exactly where they are decimal digits, perhaps after a plus, in their range.
+//! - CLAIM: `CacheSize::of`, clauses `some`, `none`: the number of `--cache` is read exactly where it is decimal digits, perhaps after a
+//!   plus, in its range. So is that of `--delay`, by the private `delay_of` of `numbers`.
 #![tactic(auto)]
 
 mod answers;

@@ -1,4 +1,4 @@
-//! ArbiterId was silent, where an arbiter doesn't answer a source.
+//! Who was silent, where an arbiter doesn't answer a source.
 
 ghost use Rattle.std.specs.Prelude.{◌≡◌, ◌++◌, Ok, Err, IfOk, IfErr, OnErr};
 ghost use Rattle.std.specs.Fmt.{decimal};

@@ -10,17 +10,18 @@
 //!   name, its start, its delay and its keeper (`Games`; `DiskGames` over a folder of files, `StoreGames` where all records are in one
 //!   store). Where no room is left, the one used least recently is closed (which one that is, is no clause). All judge by one set of
 //!   tables, lent to the one that answers. What it does for a game is a list of its openings, deliveries and closings (`Hosts`).
-//!   Datagrams that wait are answered in rounds: with a store a round's answers go out only after its commit (`Server::serve`, clause
-//!   `run`; `CommitsEach` of `specs/Hosts.antt`).
+//!   Datagrams that wait are answered in rounds: with a store a round's answers go out only after its commit, and none where that
+//!   fails (`Server::serve`, clause `run`; `CommitsEach`, `StoreLost` of `specs/Hosts.antt`).
 //!
 //! For one game: `file_keeper`, `datagram_report` (lines), `serving`, `over_file`. For many: `config`, `server`, `gathering` (a round),
 //! `turn` (a datagram), `open_game`, `open_games`, `settling`, `room`, `line`, `line_log` (which lines are written), `last_lines`;
 //! `games`, `disk_games`, `store_games`, `folder`, `game_file`, `game_lines`. For both: `fault`, `laws`.
 //!
 //! Definitions, in reading order: `StoredBytes`, `ServedLines`, `GoingOut`, `Serving`, `OverFiles`, `Lives` for one game; `GameFiles`,
-//! `GameFolders`, `DiskGames`, `Folders`, `Told`, `LineLogs`, `Acts`, `Games`, `Rounds`, `Hosts`, `StoreGames`, `Servers`, `Laws` for many;
-//! for private clauses `Room`, `Remembering`, `Seats`, `Turns`. Its tests stand in `checks_games` (`serving_tests`, `hosting_tests`,
-//! `stopping_tests`, `udp_tests`) and `checks_io`; cases in `listening.txt`, `hosting.txt` and `games.txt` of `rows`.
+//! `GameFolders`, `DiskGames`, `Folders`, `Told`, `LineLogs`, `Acts`, `Games`, `Rounds`, `Hosts`, `StoreGames`, `Servers`, `Laws` for
+//! many; for private clauses `Room`, `Remembering`, `Seats`, `Turns`. Its tests stand in `checks_games` (`serving_tests`,
+//! `hosting_tests`, `stopping_tests`, `udp_tests`) and `checks_io`; cases in `listening.txt`, `hosting.txt` and `games.txt` of
+//! `rows`.
 //!
 //! - CLAIM: `serve`, clauses `run`, `keeps`: each datagram that came is answered by one `deliver`, in order. All that passed at
 //!   the port is one request, if it is asked for, and each datagram with the messages of its answer, each once for each address

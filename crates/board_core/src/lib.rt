@@ -5,13 +5,14 @@
 //! article 3, with castling, en passant and promotion; `specs/` states them as relations over a map from squares to men. Squares
 //! are numbered a1 = 0, b1 = 1, .. h1 = 7, a2 = 8, .. h8 = 63. `Verdict` and `Delay` stand here, below rulings and messages.
 //!
-//! Inside: what stands where (`men`, `bitboard`, `sides`, `sets`, `census`, `empty_board`); what attacks, and how a move is made
-//! (`attack`, `king`, `castling`, `rules`, `playing`); which moves there are (`targets`, `generation` with a guard of the king,
-//! `mobility`, `capturing`).
+//! Inside: values (`square`, `piece`, `moves`, `parts`, `verdict`, `delay`); what stands where (`position`, `men`, `bitboard`, `sides`,
+//! `sets`, `census`, `empty_board`); what attacks, and how a move is made (`attack`, `king`, `castling`, `rules`, `playing`); which
+//! moves there are (`targets`, `generation` with a guard of the king, `mobility`, `capturing`); `laws`.
 //!
-//! Definitions, in reading order: `Square`, `Attack`, `Moves` (`Legal`), `Position` (`IsPosition`, `IsFirstFault`), `Sets`; the
-//! same computed, for the crates above: `Computed`, `ComputedMoves`. `proofs/WorkedRows.antt` computes some. Tests: `board_tests`
-//! of `checks`; cases: `rules.txt` and `positions.txt` of `rows`, with whole lists of moves and the published counts.
+//! Definitions, in reading order: `Square`, `Side`, `Attack`, `Castling`, `Moves` (`Legal`), `Position` (`IsPosition`, `IsFirstFault`),
+//! `Sides`, `Sets`; the same computed, for the crates above: `Computed`, `ComputedMoves`, with `Laws`; `Verdicts`, `Delays`.
+//! `proofs/WorkedRows.antt` computes some. Tests: `board_tests` of `checks`; cases: `rules.txt` and `positions.txt` of `rows`, with
+//! whole lists of moves and the published counts.
 //!
 //! - CLAIM: `Position::new`, clauses `ok`, `only`, `err`, `only_fault`; `Position::from_sets`, clauses `ok`, `only`, `err`,
 //!   `only_fault`; `Sets::man_on`: the parts of a position, listed or as sets, are accepted exactly where they meet the seven

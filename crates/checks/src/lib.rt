@@ -1,7 +1,7 @@
 //! Tests of the libraries below the arbiters by their public calls, of what no contract says and no case of `rows` shows.
 //!
 //! Texts, bytes and numbers that stand in a test go in; a test comes to its end, or it ends the process where a value is another one.
-//! Expected values come from outside: the rules of chess, published counts and digests, the worked rows of the formats.
+//! Expected values come from outside the code: the rules of chess, a script's plain count, known digests, the formats' worked rows.
 //!
 //! - `board_tests`: sets of squares, positions whose moves are known apart from the code, and each call of `board_core` once
 //! - `seeded_tests`: a hundred indices of each material, folded to sums that `tools/count_placements` prints from a plain count

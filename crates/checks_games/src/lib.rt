@@ -1,7 +1,7 @@
 //! Tests of arbiters and of worlds by their public calls, of what no contract says and no case of `rows` shows.
 //!
 //! Games, schedules and calls that fail go in, over the instances in memory of `system_fakes`; a test comes to its end, or it ends the
-//! process where a record or an answer is another one. Random runs are those of a seed, so that each is the same every time.
+//! process where a record or an answer is another one. Random runs go by a seed that stands in the test.
 //!
 //! - `opening_tests`: keepers that fail, and delays
 //! - `fetching_tests`: what is passed on of the longest game

@@ -2,10 +2,10 @@
 //!
 //! Bytes go in; a position or a move comes out, or the first fault of the text. A position or a move goes in; its one text comes
 //! out. No call takes memory. Which positions are valid is for `board_core` to say; here is only what a text spells. Inside:
-//! `cuts` (a text cut at each place of a byte), `placement`, `fields`, `counters`, `reading`, `writing`, `coordinates`, `fault`.
+//! `cuts` (a text cut at each place of a byte), `placement`, `fields`, `counters`, `reading`, `writing`, `coordinates`, `fault`, `laws`.
 //!
-//! Definitions, in reading order: `Cuts`, `Placement`, `Numbers`, `Fields`, `Fen` (`SpellsPosition`, `IsFirstFenFault`),
-//! `Written` (`fen_of`), `Coordinates` (`move_text`, `SpellsMove`). Its cases stand in `positions.txt` of `rows`; positions of
+//! Definitions, in reading order: `Cuts`, `Numbers`, `Placement`, `Fields`, `Fen` (`SpellsPosition`, `IsFirstFenFault`),
+//! `Written` (`fen_of`), `Coordinates` (`move_text`, `SpellsMove`), `Laws`. Its cases stand in `positions.txt` of `rows`; positions of
 //! the tests of `checks` are read by it.
 //!
 //! - CLAIM: `read`, clauses `ok`, `position`, `only`, `err`, `only_fault`: a position is answered exactly where the text spells

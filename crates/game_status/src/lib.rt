@@ -12,10 +12,10 @@
 //! puts records that stand in files into the store of their folder (`import_records`).
 //! `add_moves`, `add_refused_record` and `add_finding` are for lines of the crate above too.
 //!
-//! Definitions, in reading order: `Listings` (`AreListed`), `Entries` (`HasEntry`, `LacksEntry`), `Sides` (`HasGameAndRecord`, `LacksSide`),
-//! `Comparisons` (`IsComparedAs`), `Tellings` (`TellsGames`, `TellsFolders`), `Statuses` (`IsStatus`, `TellsStatus`), `GameAudits`
-//! (`TellsAudit`); `StoreReadings` (`AreRecordsIn`, `LacksRecords`), `StoredDisks` (`disk_over`), `Imports`. Its cases stand in `status.txt`
-//! and `game_audits.txt` of `rows`.
+//! Definitions, in reading order: `Listings` (`AreListed`), `Entries` (`HasEntry`, `LacksEntry`), `Sides` (`HasGameAndRecord`,
+//! `LacksSide`), `Comparisons` (`IsComparedAs`), `Tellings` (`TellsGames`, `TellsFolders`), `Statuses` (`IsStatus`, `TellsStatus`),
+//! `GameAudits` (`TellsAudit`); `StoreReadings` (`AreRecordsIn`, `LacksRecords`), `StoredDisks` (`disk_over`), `Imports`. Its cases
+//! stand in `status.txt` and `game_audits.txt` of `rows`.
 //!
 //! - CLAIM: `tell_status`: each stamp whose file a folder lists is told, once and in rising order, by what the folder's files have:
 //!   the moves and the verdict of its record, that none is listed, or the first fault. Of two folders the line says whether the
@@ -29,8 +29,8 @@
 //! - CLAIM: `records_in`, clauses `ok`, `err`: the records are what the two files of the folder's store hold, and none only where the
 //!   folder lists no store. An unreadable store has a cause: the folder or a file can't be read, the files hold what isn't told, or the
 //!   log began anew meanwhile. That the files are of one moment follows from the order of the reads, of which no clause speaks.
-//! - CLAIM: `StoredDisk`, clause `facts`; `StoredDisk::over`: the disk over another has the store's records, the later one of two of a game,
-//!   each as `STAMP.kept` of the folder in place of the file below; all else is as below.
+//! - CLAIM: `StoredDisk`, clause `facts`; `StoredDisk::over`: the disk over another has the store's records, the later one of two of
+//!   a game, each as `STAMP.kept` of the folder in place of the file below; all else is as below.
 #![tactic(auto)]
 
 mod audit_lines;

@@ -12,9 +12,10 @@
 //! - `memory`: the games in memory; `tables`: what tables a database has; `reading`: an opening; `writing`: a batch; `store_tests`: stops
 //!   and losses of power
 //!
-//! Definitions, in reading order: `Records` of `system_io`, what is kept of games; `Rows`, the table and what its rows say; `Slots`,
-//! memory; `Batches`, what a batch makes of a database; `Shelves`, a store; `Listing`; `Files`, what two files hold; `Places`, where
-//! stores are opened.
+//! Definitions, in reading order: `Records` of `system_io`, what is kept of games; `Moments`, from one moment of a database to a
+//! later one; `Rows`, the table and what its rows say; `Slots`, memory; `Batches`, what a batch makes of a database; `Shelves`, a
+//! store; `Tables`; `Files`, what two files hold; `Listing`; `Places`, where stores are opened. Its tests are `store_tests`;
+//! `tools/host_games` plays games between hosts over stores.
 //!
 //! - CLAIM: `Store::put_batch`, clauses `all`, `open`, `kept`, `none`, `same`: at `Ok` each entry is committed and in memory, in turn,
 //!   and what is kept of all other games is as before; after an error memory is as before, and nothing is committed where the store
@@ -24,8 +25,8 @@
 //! - CLAIM: `Store::over`, clauses `found`, `open`, `lasts`, `has`, `crash`, `refused`; `Store::open`, clauses `found`, `open`, `lasts`,
 //!   `has`, `refused`; `Store::open_at`: an opening finds exactly the games that the database has, and leaves them also where it fails or
 //!   stops in the middle. Which of its errors comes has no cause in a clause.
-//! - CLAIM: `Store::record_of`, clauses `found`, `committed`; `Store::list`: what is found and listed is what is committed, in the order of
-//!   the stamps.
+//! - CLAIM: `Store::record_of`, clauses `found`, `committed`; `Store::list`: what is found and listed is what is committed, in the
+//!   order of the stamps.
 //! - CLAIM: `Store::close`, clauses `seen`, `left`, `refused`; `Store::stop`, clauses `finds`, `clean`: after a close the database file
 //!   alone has the games, after a stop the next opening finds what the store could be left with.
 //! - CLAIM: `Store::put_and_stop`: whatever of the two files a stop or a loss of power leaves, the next opening finds the whole batch,

@@ -9,7 +9,7 @@
 //! Inside: `set`, `table_slots` and `table_slot` (tables in their slots), `blocks` (decoded blocks), `reading` (of both),
 //! `located_position` (a position as its table sees it); `wdl`, `probing`, `found`, `many` for WDL; `determined`, `determined_dtz` where
 //! tables are missing; `dtz`, `counts`, `distance`, `moving`, `mobility`; `judging`, `verdict`, `answering` (all three at once),
-//! `probe_result`, `root`, `root_move`, `standing`, `game`, `display`, `ask` (strict or determined), `fault`.
+//! `probe_result`, `root`, `root_move`, `standing`, `game`, `display`, `ask` (strict or determined), `fault`, `laws`.
 //!
 //! Words of Stockfish: `Set::wdl` is `search`, `Set::dtz` `probe_dtz`, a distance before a move that zeroes the clock
 //! `dtz_before_zeroing`, `Set::root` `root_probe`.
@@ -22,9 +22,9 @@
 //! `tables.txt` and `many.txt` of `rows`.
 //!
 //! - CLAIM: `Set::new`; `Set::add`, clauses `added`, `refused`, `duplicate`, `no_memory`; `Set::cache`, clause `is`;
-//!   `Set::kept_blocks`; `Set::has`; `Set::largest`, clauses `is`, `few`: a set holds a table for each kind and material. A second one is `Duplicate`
-//!   and changes nothing; adding never reports lack of memory. `has` tells whether a table is there, `largest` the largest number
-//!   of men of one. `kept_blocks` gives at most `cache`; no other clause speaks of kept blocks.
+//!   `Set::kept_blocks`; `Set::has`; `Set::largest`, clauses `is`, `few`: a set holds a table for each kind and material. A second
+//!   one is `Duplicate` and changes nothing; adding never reports lack of memory. `has` tells whether a table is there, `largest` the
+//!   largest number of men of one. `kept_blocks` gives at most `cache`; no other clause speaks of kept blocks.
 //! - CLAIM: `Set::wdl`, clauses `answer`, `unchanged`, `no_memory`; `laws::wdl_meets_its_rule`; `Set::wdl_each`, clauses `each`,
 //!   `probe`, `unchanged`: the WDL value is the definition's over whole expanded tables, a missing table before a damaged one,
 //!   and lack of memory is never reported; of many positions likewise, but the error of `wdl_each` has no cause.

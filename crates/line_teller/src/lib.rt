@@ -6,8 +6,8 @@
 //!
 //! Inside: `told_lines` (the run), `line_words` (the lines of the crates above, which are laid out without memory and written at once).
 //!
-//! Definitions, in reading order: `ToldLines` (`TellsLines`, `WritesRead`, `WritesText`). Its cases stand in `lines.txt` and `many.txt` of
-//! `rows`; `tools/ask_probes` tries that each answer comes before the next line is written.
+//! Definitions, in reading order: `ToldLines` (`TellsLines`, `WritesRead`, `WritesText`). Its cases stand in `lines.txt` and
+//! `many.txt` of `rows`; `tools/ask_probes` tries that each answer comes before the next line is written.
 //!
 //! - CLAIM: `tell_lines`, clauses `written`, `same`: where an answer is returned, the answers to the lines that were read are
 //!   written in turn, up to the input's end. Or a refusal follows the whole lines before and nothing after it: `refused memory`

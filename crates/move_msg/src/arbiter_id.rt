@@ -1,4 +1,4 @@
-//! ArbiterId sends messages.
+//! Who sends messages.
 
 ghost use Rattle.std.specs.Prelude.{◌≡◌, IfSome, Some};
 ghost use Rattle.move_msg.specs.declared.arbiter_id.ArbiterId.{ArbiterId};
@@ -37,7 +37,7 @@ impl ArbiterId {
     }
 }
 
-/// ArbiterId sends a message.
+/// Who sends a message.
 #[derive(Clone, Copy, PartialEq, Eq, Debug)]
 pub enum Sender {
     /// The source of the game's moves.

@@ -25,8 +25,8 @@
 //! - CLAIM: `WrittenRecord::as_bytes`, clauses `written`, `spelled`, `size`; `WrittenRecord::read`, clauses `ok`, `only`, `err`,
 //!   `only_fault`, `memory`; `WrittenRecord::go_on`, clauses `ok`, `err`; `WrittenRecord::cut_back`: a record with its bytes has
 //!   the bytes that are written of it after each call; where memory is refused it stays as it was.
-//! - CLAIM: `Stamp::of`, clauses `some`, `none`; `GameName::of`, clauses `some`, `none`; `GameName::stamp`: the stamp is the first 16 bytes of the stated digest, the delay in it where it
-//!   isn't 0, and there is none exactly for other names.
+//! - CLAIM: `Stamp::of`, clauses `some`, `none`; `GameName::of`, clauses `some`, `none`; `GameName::stamp`: the stamp is the first 16
+//!   bytes of the stated digest, the delay in it where it isn't 0, and there is none exactly for other names.
 //! - CLAIM: `is_file_name`; `is_game_name`; `Line::of`, clauses `is`, `entry`; `manifest_of`: names of table files and games, a
 //!   manifest's line of a file and the manifest of files, by SHA-256.
 //! - CLAIM: `manifest_read`, clauses `ok`, `err`, `memory`; `manifest_write`; `laws::one_manifest`; `laws::one_bad_line`: bytes

@@ -68,7 +68,7 @@ impl Message {
         }
     }
 
-    /// ArbiterId sends the message.
+    /// Who sends the message.
     pub fn sender(&self) -> Sender
         ensures { result ≡ sender_of self.now }
     {

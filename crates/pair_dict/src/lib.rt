@@ -2,8 +2,8 @@
 //!
 //! The bytes of a table file from the greatest code length on go in; a dictionary that borrows them comes out, with how many
 //! bytes it took, or the first refusal. It gives a block's value at an offset (`value`) or its first values (`decode`). Inside:
-//! `layout`, `symbols`, `nodes`, `counts`, `codes` for what is read; `window`, `runs`, `places` for the loop over a block;
-//! `dictionary`, `fault`.
+//! `layout`, `two_bytes`, `symbols`, `nodes`, `counts`, `codes` for what is read; `window`, `runs`, `places` for the loop over a
+//! block; `dictionary`, `fault`, `laws`.
 //!
 //! Words of Stockfish: a symbol's pair is `btree`, its count `symlen` (one less), the least and greatest code length `minSymLen`
 //! and `maxSymLen`, first symbol and base `lowestSym` and `base64`; `Dictionary::read` is `set_sizes`.

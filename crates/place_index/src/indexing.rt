@@ -1,7 +1,7 @@
 //! The index of a placement (Syzygy index): from a FEN to its place in the table.
 //!
-//! One example, `8/8/5k2/8/6p1/7p/2K5/7r b - - 0 1`, step by step through this crate. The test `index_tests.rt` of
-//! `checks` has these numbers.
+//! One example, `8/8/5k2/8/6p1/7p/2K5/7r b - - 0 1`, step by step through this crate. A case in `indices.txt`
+//! of `rows` has the index.
 //!
 //! **Placement** (`placed.rt`). Black has king, rook and two pawns, so the table is KRPPvK, whose first side has more
 //! men. Colours are exchanged, each man goes to the opposite rank, and the first side is to move. The men are then R

@@ -3,8 +3,9 @@
 //! Names, pieces and positions go in; a table's material, the shape of an index, a position as its table sees it, and its index
 //! come out. Nothing takes memory. The way of a position: `sweep` (its men), `finding` (its material), `placed`, `turning` and
 //! `turn` (mirrorings), `indexing` (the page of this file works an example through), `leading`, `group`. What these stand on:
-//! `material`, `shape`, `arrangement`, `places`, `sizes`, `squares`, `lone_squares`, `short_lists`, `choose`, `numbers`,
-//! `tables`. The numbers of `tables` are literals, proved to be those of the definitions; `tools/index_tables` prints them anew.
+//! `material`, `man`, `piece_code`, `pawn_file`, `shape`, `arrangement`, `places`, `sizes`, `squares`, `lone_squares`, `short_lists`,
+//! `choose`, `numbers`, `tables`; and `laws`. The numbers of `tables` are literals, proved to be those of the definitions;
+//! `tools/index_tables` prints them anew.
 //!
 //! Words of Stockfish: the mirror along a1-h8 is `off_A1H8`, to files a to d `flip_file`; triangles `MapA1D1D4`, `MapB1H1H7`,
 //! kings `MapKK`, pawns `MapPawns`, leading pawns `LeadPawnIdx`, `LeadPawnsSize`; groups `set_groups`, `groupIdx`; the index
@@ -12,9 +13,9 @@
 //! `turn_of_pieces`, two kings in `kings_number`, the order of groups in `src/places.rt`, pawns in `pawn_number`.
 //! Fathom's words: `index` is `encode`, `Placed::file` is `leading_pawn` with `FileToFile`, `lead_pawn` the pawn that it finds.
 //!
-//! Definitions, in reading order: `Material`, `Square`, `Choose`, `Men`, `Pawns`, `Three`, `Kings`, `Others`, `Shape`, `Turning`,
-//! `Index` (`index_of`), `Placed`, `Covered`. `proofs/Indices/WorkedRows.antt` computes six worked indices; those with pawns are
-//! cases in `indices.txt` of `rows`. A hundred seeded positions of each material are compared with a plain count by
+//! Definitions, in reading order: `Material`, `Square`, `Counting`, `Choose`, `Men`, `Pawns`, `Three`, `Kings`, `Others`, `Shape`,
+//! `Turning`, `Index` (`index_of`), `Placed`, `Covered`. `proofs/Indices/WorkedRows.antt` computes six worked indices; those with
+//! pawns are cases in `indices.txt` of `rows`. A hundred seeded positions of each material are compared with a plain count by
 //! `seeded_tests` of `checks`.
 //!
 //! - CLAIM: `Material::from_name`, clauses `found`, `none`; `Material::name`; `Material::key`, clauses `is`, `below`;

@@ -10,7 +10,7 @@
 //! `holding` (which tables a set has), `text` (a text and a byte 0 into a caller's array).
 //!
 //! Definitions, in reading order: `Replies`, `Boards`, `Batches`, `Adding`, `Moves`, `Plays`, `Roots`, `Afters`, `Missing`, `Holds`,
-//! `Texts`, `Names`. It is tried by `tools/c_harness/run`, beside libfathom.
+//! `Texts`, `Names`, `Version`. Its tests are those of the C library: `tools/c_harness/run` tries it beside libfathom.
 //!
 //! - CLAIM: `answer_text`, clauses `is`, `kept`; `answer_board`, clauses `is`, `kept`: of the position that a text spells or a
 //!   board shows, the WDL value, the DTZ value or the verdict of `judge_core`, or else the first fault. Lack of memory is never

@@ -7,8 +7,8 @@
 //!
 //! Inside: `auditing` has all of it.
 //!
-//! Definitions, in reading order: `Findings` (`IsFound`, `IsComparison`), over `Opens` of `arbiter_core`. Its cases stand in `records.txt`
-//! and `game_audits.txt` of `rows`; `tools/audit_kept` compares what it accepts with what `listen` accepts.
+//! Definitions, in reading order: `Findings` (`IsFound`, `IsComparison`), over `Opens` of `arbiter_core`. Its cases stand in
+//! `records.txt` and `game_audits.txt` of `rows`; `tools/audit_kept` compares what it accepts with what `listen` accepts.
 //!
 //! - CLAIM: `audit`, clauses `found`, `spelled`, `none`, `memory`: the finding is `Whole` exactly where an arbiter of the game
 //!   resumes from the bytes, or else why it refuses them. Memory may be refused only where an opening may want it.

@@ -9,7 +9,7 @@
 //! To run these cases alone without any proof: `rt try -- data/indices.txt data/dictionaries.txt` in `crates/rows`. It is a crate
 //! of its own, so that it is proved beside the commands and not after them. A result is compared with the text of a case, and no
 //! contract states it: it has no definitions of its own. Its cases stand in `rules.txt`, `indices.txt`, `dictionaries.txt`,
-//! `table_files.txt`, `messages.txt`, `encodings.txt`, `records.txt` and `deliveries.txt` of `rows`. To add a call, add its name to
+//! `table_files.txt`, `encodings.txt`, `probes.txt`, `deliveries.txt` and `sizes.txt` of `rows`. To add a call, add its name to
 //! `calls`, a function to the file of its library, a line to the README of the cases, and a case.
 #![tactic(auto)]
 

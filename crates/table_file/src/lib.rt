@@ -15,9 +15,10 @@
 //! `counts_moves` is `PAFlags`, after which `plies` doubles. The wide map: `maps_of` and `Maps::entry`; an entry is `map_entry`
 //! in `specs/Distances.antt`.
 //!
-//! Definitions, in reading order: `Layouts` (`IsLayout`: the one to read), `FirstFaults`, `Tables`, `Expansion` (`expansion`),
-//! `Distances`, then `Plan`, `PlannedFile`, `Forged` for the writer. Its tests stand in `checks` (`forge_tests`); cases in
-//! `forged.txt` and `table_files.txt` of `rows`.
+//! Definitions, in reading order: `Layouts` (`IsLayout`: the one to read), `FirstFaults`; what a file says, read from left to right:
+//! `Reading`, `Faults`, `Names`, `Dictionaries`, `Figures`, `SizeRecords`, `Shapes`, `Files`, `Maps`, `Sparse`, `Sections`, `Tables`; its
+//! values: `Expansion` (`expansion`), `Distances`; then `Plan`, `PlannedFile`, `Forged` for the writer. Its tests stand in `checks`
+//! (`forge_tests`); cases in `forged.txt` and `table_files.txt` of `rows`.
 //!
 //! - CLAIM: `open`, clauses `is`, `found`, `only`, `first`, `memory`; `reads_what_is_laid_out`; `tells_first_fault`: exactly the
 //!   files are accepted that have parts by the layout. Otherwise the first fault in the file's order is reported, and lack of

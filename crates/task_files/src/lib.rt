@@ -1,9 +1,9 @@
 //! What is read for a task: the files of tables in a folder, a manifest, the input and kept files.
 //!
 //! What a task names goes in (`InputPaths`); what was read comes out (`Inputs`), over a `Disk` and an `Input`: the system's, or ones
-//! in memory. `looks_in` reads the wanted files of a folder one by one and keeps of each what a type makes of it (`TableRequest`); `files_in` keeps
-//! them whole. Names rise in the order of bytes, and a name that is listed twice is a fault of the folder. With a manifest only the files
-//! that it names are wanted.
+//! in memory. `looks_in` reads the wanted files of a folder one by one and keeps of each what a type makes of it (`TableRequest`);
+//! `files_in` keeps them whole. Names rise in the order of bytes, and a name that is listed twice is a fault of the folder. With a
+//! manifest only the files that it names are wanted.
 //!
 //! Inside: `sources` (all that is read), `reading` (the wanted files of a folder), `file_name`.
 //!

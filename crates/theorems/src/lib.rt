@@ -12,14 +12,15 @@
 //! of a stopped run go on as those of one that returns (`goes` of `IsRunOfHost`); that a closing, an act of another game and a datagram
 //! without a keeper leave what is found (`GivesOwn`, `GivesIf`).
 //!
-//! Inside: `arbiters`, `hosts`, `listens`, `host_files`, `store_hosts`, `after_stops`, `sources`, `seals`; `recording` has a host that records
-//! what is made at it (`Recording`): so the clauses of `Host` on histories are those of one. In `proofs/`: `Netting` (arbiters), `Seeing`
-//! (keepers of any type, seen as what they keep), `Weaving` (an act of a host as steps of an arbiter), `Stopping`, `Joining`, `Acking`,
-//! `Filing` and `FileWeaving` (hosts over files), `Storing`, `StoreKeeping` and `StoreWeaving` (hosts over stores), `Listening`.
+//! Inside: `arbiters`, `hosts`, `listens`, `host_files`, `store_hosts`, `after_stops`, `sources`, `seals`; `recording` has a host that
+//! records what is made at it (`Recording`): so the clauses of `Host` on histories are those of one. In `proofs/`: `Netting`
+//! (arbiters), `Seeing` (keepers of any type, seen as what they keep), `Weaving` (an act of a host as steps of an arbiter),
+//! `Stopping`, `Joining`, `Acking`, `Filing` and `FileWeaving` (hosts over files), `Storing`, `StoreKeeping` and `StoreWeaving`
+//! (hosts over stores), `Listening`.
 //!
-//! Definitions, in reading order: `Nets`, `Interleavings`, `Listens`, `HostFiles`, `AfterStops`, `FileWeaves`, `StoreHosts`, `StoreWeaves`,
-//! `Sources`, `Seals`, `Recording`. A law has no case of its own; `stopping_tests` of `checks_games` runs `run_after`, and
-//! `tools/host_games` plays games between two hosts.
+//! Definitions, in reading order: `Nets`, `Interleavings`, `Listens`, `HostFiles`, `AfterStops`, `FileWeaves`, `StoreHosts`,
+//! `StoreWeaves`, `Sources`, `Seals`, `Recording`. A law has no case of its own; `stopping_tests` of `checks_games` runs `run_after`,
+//! and `tools/host_games` plays games between two hosts.
 //!
 //! - CLAIM: `arbiters_are_worlds`: two arbiters of one game over keepers of any one type, by steps as the contracts of `open` and
 //!   `deliver` have them, come to a world, which is faithful to the game.
@@ -38,10 +39,10 @@
 //!   loses power, and a run over what a stop left of the disk is such a run.
 //! - CLAIM: `hosts_over_files`: two hosts, each over a file of the game, come to a net as `hosts_are_worlds` asks, by what starts find in
 //!   the two files: that keepers keep, and what a closing leaves, are no premises.
-//! - CLAIM: `answers_are_found`: before a host over a store sends the answers of a round, a start over the store finds what they tell, and
-//!   what all answers before them told.
-//! - CLAIM: `store_keeps_what_it_told`: what a host over a store told of a game is found at each later start over the store: as many moves
-//!   as it acknowledged, the same ones, and a verdict at its ply. This holds after any runs, wherever each stopped.
+//! - CLAIM: `answers_are_found`: before a host over a store sends the answers of a round, a start over the store finds what they
+//!   tell, and what all answers before them told.
+//! - CLAIM: `store_keeps_what_it_told`: what a host over a store told of a game is found at each later start over the store: as many
+//!   moves as it acknowledged, the same ones, and a verdict at its ply. This holds after any runs, wherever each stopped.
 //! - CLAIM: `fronts_are_found`: after any runs of a host over a store, wherever each stopped, what a start finds of a game is what they
 //!   keep by the acts of whole rounds: of each run those of its first ones, among them each whose answers went out.
 //! - CLAIM: `hosts_over_stores`: two hosts, each over a store, come by such acts, in whichever order those of the two came, to a net as

@@ -223,7 +223,7 @@ fn is_symmetric(codes: &[u8]) -> bool {
     true
 }
 
-/// ArbiterId moves: with the same men on both sides colours are exchanged where black does.
+/// Who moves: with the same men on both sides colours are exchanged where black does.
 fn side_of(codes: &[u8], drawn: u64) -> Side {
     let bit = if is_symmetric(codes) { 1 } else { 2 };
     if drawn & bit == 0 {
