@@ -4,7 +4,10 @@
 //! deliveries. `tell_call` finds the call of a name and writes its result. `crates/rows/data/README.md`, "Calls", has each with
 //! its words.
 //!
-//! Inside: `calls` (the names), `positions`, `tables`, `files`, `texts`, `rounds` (a value written and read again), `deliveries`.
+//! Inside: `calls` (the names, and what a case gives: `Given`), `positions` (the rules of chess, texts of positions), `tables`
+//! (dictionaries, indices) and `files` (table files), `texts` (messages, records, manifests, words of moves), `rounds` (probes over and
+//! over, of a set that keeps few blocks), `deliveries` (an arbiter, told line by line). Where there is no call of the name, or it
+//! doesn't take its words, the case is told so by its `Fault`.
 //!
 //! To run these cases alone without any proof: `rt try -- data/indices.txt data/dictionaries.txt` in `crates/rows`. It is a crate
 //! of its own, so that it is proved beside the commands and not after them. A result is compared with the text of a case, and no
