@@ -4,11 +4,12 @@
 //! `program::run` joins these, and `run_program` takes all words that a program was called with. `docs/FORMATS.md`, section 3,
 //! has each command with its lines; the statuses are 0 done, 1 refused, 2 misuse.
 //!
-//! Inside: each command is a file in `commands/`, with its definitions in the file of the same name in `specs/Commands/`. `values`,
-//! `numbers`, `usage`, `uses`, `addresses`, `keys` read words, `entries` the lines of a list; `tables` and `manifests` make sets of
-//! files; `answers`, `line_answers`, `json_answers`, `lines`, `refusals`, `silence` write, each line laid out by `LineWords` of
-//! `line_teller` (its parts in `line_parts`), which doesn't fail, and written at once; `listening`, `hosting`, `entering`, `sending`,
-//! `binding`, `locking`, `stores`, `game_paths` run the commands that touch ports and files; `program` over a `system`; `laws`.
+//! Inside: each command is a file in `commands/`, with its definitions in the file of the same name in `specs/Commands/`. `words`
+//! reads the command line: `values`, `numbers`, `usage`, `uses`, `addresses`, `game_paths`. `answers` writes: `line_answers`,
+//! `json_answers`, `lines`, `refusals`, each line laid out by `LineWords` of `line_teller` (its parts in `line_parts`), which doesn't
+//! fail, and written at once. `keys` reads files of keys, `entries` the lines of a list; `tables` and `manifests` make sets of files;
+//! `listening`, `hosting`, `entering`, `sending`, `binding`, `locking`, `silence`, `stores` run the commands that touch ports and
+//! files; `program` over a `system`; `laws`.
 //!
 //! Definitions, in reading order: `Numbers`, `Rules`, `Commands`, `Tasks`, `Misuses`, `Usage`, `Uses`, `Addresses`, `Keys` for words;
 //! `Looks`, `Lines`, `Reply`, `Telling`, `Schedules`, `LineAnswers`, `TableAnswers`, `JsonAnswers`, `Audits`, `AuditAgreements` for

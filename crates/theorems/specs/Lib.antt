@@ -1,5 +1,5 @@
 pub mod Nets
-pub mod Interleaving
+pub mod Interleavings
 pub mod Sources
 pub mod Seals
 pub mod HostFiles
