@@ -15,7 +15,7 @@ use Rattle.judge_core.specs.Values.{Reading, opposite_reading}
 use Rattle.judge_core.specs.Asked.{asked, fault_in, first_fault, unless, with_answer}
 use Rattle.judge_core.specs.Distances.{Reach, is_value, is_pawn_step, pawns_reach_where, is_quiet, move_counts, known_count, lesser, is_odd, by_quiet_moves, by_counts}
 use Rattle.judge_core.specs.Inside.Counts.{no_steps, with_reading, steps_result, no_counts, with_count, counts_result, AreWithin}
-use Rattle.judge_core.proofs.RequestFrequency.{faults_more, faults_in-is, with_all}
+use Rattle.judge_core.proofs.Asking.{faults_more, faults_in-is, with_all}
 use Rattle.judge_core.proofs.Quiet.{no_steps_listed}
 
 or-assoc : (a b c : Bool) → ((a || b) || c) ≡ (a || (b || c))

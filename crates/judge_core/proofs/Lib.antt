@@ -1,4 +1,4 @@
-pub mod RequestFrequency
+pub mod Asking
 pub mod Quiet
 pub mod Counting
 pub mod Reaching

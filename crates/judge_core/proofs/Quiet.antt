@@ -21,7 +21,7 @@ use Rattle.board_core.proofs.ComputedLists.{Decides-legal}
 use Rattle.board_core.proofs.ComputedMoves.{position_legal, Decides-en_passant, Decides-pawn_of}
 use Rattle.judge_core.specs.Inside.Found.{lands_empty}
 use Rattle.judge_core.specs.Distances.{moves_pawn, is_pawn_step, is_quiet}
-use Rattle.judge_core.proofs.RequestFrequency.{passing}
+use Rattle.judge_core.proofs.Asking.{passing}
 
 -- ---- quiet moves
 

@@ -18,7 +18,7 @@ use Rattle.judge_core.specs.Tables.{Tables, table_value}
 use Rattle.judge_core.specs.Asked.{faults_in, first_fault, unless}
 use Rattle.judge_core.specs.Probing.{values_after, greatest_value, value_or_loss, is_forced, searched_by, searched_where}
 use Rattle.judge_core.specs.declared.fault.Faults.{Faults}
-use Rattle.judge_core.proofs.RequestFrequency.{asked-append, faults-append, faults_more}
+use Rattle.judge_core.proofs.Asking.{asked-append, faults-append, faults_more}
 use Rattle.judge_core.specs.Inside.Found.{lands_empty, found_by_captures, nothing_found, found_with, closed}
 use Rattle.judge_core.proofs.Captures.{passants, others}
 

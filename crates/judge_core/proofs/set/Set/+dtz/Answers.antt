@@ -11,7 +11,7 @@ use Rattle.board_core.specs.declared.parts.Parts.{Parts}
 use Rattle.judge_core.specs.Distances.{is_quiet, pawns_reach, move_counts, by_quiet_moves, by_own_table, dtz_from_search, unless_reached}
 use Rattle.judge_core.specs.Inside.Determined.{distance_in_both, or_agreed_distance, reach_beyond}
 use Rattle.judge_core.specs.Inside.Counts.{no_counts, with_count}
-use Rattle.judge_core.proofs.RequestFrequency.{with_all, walk-passed, walk-added}
+use Rattle.judge_core.proofs.Asking.{with_all, walk-passed, walk-added}
 use Rattle.judge_core.proofs.Counting.{counts_result-is, within-count}
 use Rattle.judge_core.proofs.Reaching.{if_same, mate_counts, other_counts, bare_own, missing_own, stored_own, quiet_own, reached_by, reached_is, lost_is, bare_by, many_by_rules, if_told, once, never}
 use Rattle.judge_core.proofs.set.Set.+dtz.Goals.{by_moves-then-is_won+in_ok-found+in-Ok+else-reached, by_moves-else-is_won, by_quiet_moves-in-Some+in_ok-count, by_quiet_moves-in_default, move_counts-else-won-via-then-won+else-is_mate, move_counts-else-won-via-else-won}

@@ -2,7 +2,7 @@ use Rattle.std.proofs.Common.{◌≡◌, ◌+◌, ◌*◌, take}
 use Rattle.judge_core.specs.Distances.{is_quiet, move_counts}
 use Rattle.judge_core.specs.Inside.Determined.{reach_beyond, visits}
 use Rattle.judge_core.specs.Inside.Counts.{no_counts, with_count, AreWithin}
-use Rattle.judge_core.proofs.RequestFrequency.{with_all}
+use Rattle.judge_core.proofs.Asking.{with_all}
 use Rattle.judge_core.proofs.set.Set.+dtz.Given as goal
 
 abbrev pub decreases-dtz_after : goal.decreases-dtz_after

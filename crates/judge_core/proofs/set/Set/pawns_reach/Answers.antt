@@ -6,7 +6,7 @@ use Rattle.judge_core.specs.Inside.Determined.{step_value_as}
 use Rattle.judge_core.specs.Distances.{is_pawn_step}
 use Rattle.judge_core.specs.Inside.Counts.{no_steps, with_reading}
 use Rattle.judge_core.specs.Tables.{Holding}
-use Rattle.judge_core.proofs.RequestFrequency.{with_all, walk-passed, walk-added}
+use Rattle.judge_core.proofs.Asking.{with_all, walk-passed, walk-added}
 use Rattle.judge_core.proofs.Counting.{steps_result-is, no_pawns_reach}
 use Rattle.judge_core.proofs.set.Set.pawns_reach.Goals.{in-Some, in_default}
 use Rattle.judge_core.proofs.set.Set.pawns_reach.Goals as goal

@@ -3,7 +3,7 @@ use Rattle.judge_core.specs.Values.{opposite_reading}
 use Rattle.judge_core.specs.Inside.Determined.{step_value_as}
 use Rattle.judge_core.specs.Distances.{is_pawn_step}
 use Rattle.judge_core.specs.Inside.Counts.{no_steps, with_reading}
-use Rattle.judge_core.proofs.RequestFrequency.{with_all}
+use Rattle.judge_core.proofs.Asking.{with_all}
 use Rattle.judge_core.proofs.set.Set.pawns_reach.Given as goal
 
 abbrev pub invariant-loop-m : goal.invariant-loop-m
