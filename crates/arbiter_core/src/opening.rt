@@ -33,7 +33,7 @@ pub struct Refused<'a> {
     pub setup: Setup<'a>,
 }
 
-/// The stamp of the game by its terms; none where no game has the name.
+/// The stamp of the game by its terms; none where no game may have the name.
 fn identify(terms: &Terms<'_>) -> Option<Stamp>
     ensures some { (set : Holding) → IfSome result (λ stamp. IsGood (terms_with terms.now set) × IsIdentity (terms_with terms.now set) (identity_by terms.now stamp)) }
     ensures none { (set : Holding) → IfNone result (IsGood (terms_with terms.now set) → ⊥) }

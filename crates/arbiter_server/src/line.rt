@@ -129,8 +129,8 @@ fn unopened_kind(stamp: Stamp, why: OpenGameError) -> Option<usize>
     ensures is { place_in 0 common (ended (unopened_words why)) ≡ result }
     ensures few { IfSome result (λ kind. kind < 8) }
 {
-    // Read for its length, which the proof has from there.
-    let _bytes = stamp.0;
+    // Called for its contract: a stamp has 16 bytes.
+    let _bytes = stamp.as_bytes();
     match why {
         OpenGameError::NoGame => Some(0),
         OpenGameError::NotOpen => Some(1),
@@ -144,8 +144,8 @@ fn open_kind(stamp: Stamp) -> Option<usize>
     ensures long { length stamp ≡ 16 }
     ensures none { result ≡ None }
 {
-    // Read for its length, which the proof has from there.
-    let _bytes = stamp.0;
+    // Called for its contract: a stamp has 16 bytes.
+    let _bytes = stamp.as_bytes();
     None
 }
 

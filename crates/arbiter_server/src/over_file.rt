@@ -16,7 +16,8 @@ use system_io::{KeptFile, Output, Port, WriteFault};
 /// Opens an arbiter over a keeper, and answers the datagrams of a span at a port, as `serve` does. Returns the status, or why no
 /// arbiter is opened. Before the first datagram and after each one a start finds the arbiter's record in the file.
 ///
-/// Where none is opened, nothing passes at the port and nothing is written. The outer error comes where a line could not be written whole or can't go out. What was served before is unchanged.
+/// Where none is opened, nothing passes at the port and nothing is written. The outer error comes where a line could not be written
+/// whole or can't go out. What was served before is unchanged.
 pub fn open_and_serve<F: KeptFile + Drop, P: Port, W: Output>(
     alloc: Global,
     setup: Setup<'_>,

@@ -24,7 +24,7 @@ impl Model for OwnedGame {
 }
 
 impl OwnedGame {
-    /// A seat with a null pointer, which owns nothing.
+    /// A null pointer, which owns nothing.
     pub(crate) fn empty(alloc: Global) -> OwnedGame
         ensures { result.value ≡ None }
     {
@@ -34,7 +34,7 @@ impl OwnedGame {
         }
     }
 
-    /// A seat that owns the box.
+    /// A pointer that owns the box.
     pub(crate) fn of(loose: RawBox<HeldGame, Global>) -> OwnedGame
         ensures { result.value ≡ Some loose.value }
     {
@@ -45,7 +45,7 @@ impl OwnedGame {
         }
     }
 
-    /// The box that the seat owns.
+    /// The box that the pointer owns.
     pub(crate) fn into_raw_box(self) -> RawBox<HeldGame, Global>
         requires { IsSome self.value }
         ensures { self.value ≡ Some result.value }

@@ -24,7 +24,7 @@ impl Model for OwnedPointer {
 }
 
 impl OwnedPointer {
-    /// A seat with a null pointer, which owns nothing.
+    /// A null pointer, which owns nothing.
     pub(crate) fn empty(alloc: Global) -> OwnedPointer
         ensures { result.value ≡ None }
     {
@@ -34,7 +34,7 @@ impl OwnedPointer {
         }
     }
 
-    /// A seat that owns the box.
+    /// A pointer that owns the box.
     pub(crate) fn of(loose: RawBox<Held, Global>) -> OwnedPointer
         ensures { result.value ≡ Some loose.value }
     {
@@ -45,7 +45,7 @@ impl OwnedPointer {
         }
     }
 
-    /// The box that the seat owns.
+    /// The box that the pointer owns.
     pub(crate) fn into_raw_box(self) -> RawBox<Held, Global>
         requires { IsSome self.value }
         ensures { self.value ≡ Some result.value }

@@ -21,7 +21,7 @@ held slots k s o lt e is = sym is ∙ ap table_in (get_or_read slots k s lt e Em
 pub filled : (slots : List TableSlot) (k : ℕ) (s : TableSlot) → k < length slots → s ≡ get_or slots k s → is_some (table_in s) ≡ true → IsSome (get_or (tables_in slots) k None)
 filled slots k s lt e some = ap is_some (sym (held slots k s (table_in s) lt e refl)) ∙ some
 
--- ---- a new table_slots
+-- ---- new slots
 
 none_at : (n k : ℕ) → get_or {A = Option Contents} (replicate n None) k None ≡ None
 none_at zero k = refl
@@ -50,7 +50,7 @@ still_filed tables t filed lt below kind key u key_below e = elim (cases_eq (slo
   | inr other ↦ filed kind key u key_below (sym (get_or-set_other tables (slot t.kind t.material) (slot kind key) (Some t) None other) ∙ e)
 ]
 
--- ---- the whole of what a table_slots keeps
+-- ---- the whole of what slots keep
 
 pub new_kept : (a : Inside) (n : ℕ) → n ≡ 290 → tables_in a.tables.items ≡ replicate n None → 1 ≤ a.cache → a.cache ≤ 4096 → IsSoundSet a
 new_kept a n full e some most = record {
@@ -87,7 +87,7 @@ still_kept a b k between kept whole e same g = record {
   most = (let s = whole.most in omega arith);
 }
 
--- a new table_slots has these tables
+-- new slots have these tables
 module _ (tables : Tables) (slots : List TableSlot) (n : ℕ) (so_far : tables_in slots ≡ take n tables) where
   pub shared_more : (slots' : List TableSlot) (s : TableSlot) → n < length tables → slots' ≡ slots ++ s ∷ [] → table_in s ≡ get_or tables n None → tables_in slots' ≡ take (n + 1) tables
   shared_more slots' s lt e is =

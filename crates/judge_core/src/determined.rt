@@ -100,7 +100,7 @@ impl<'a> Set<'a> {
     /// The values there after the captures of the position. It is the search of `wdl` once more, which has no room for a
     /// choice of tables.
     #[cycle(extreme)]
-    fn search_extreme(
+    fn captures_in_extreme(
         &mut self,
         alloc: Global,
         probe: &LocatedPosition<'_>,
@@ -134,7 +134,7 @@ impl<'a> Set<'a> {
         ensures unchanged { self.new ≡ self.old }
     {
         let own = self.extreme(alloc, probe, odd_wins);
-        let found = self.search_extreme(alloc, probe, odd_wins);
+        let found = self.captures_in_extreme(alloc, probe, odd_wins);
         found.close(&own, is_forced(probe.position()))
     }
 

@@ -73,7 +73,7 @@ fn men_in(slot: &TableSlot<'_>) -> usize
 }
 
 impl<'a> TableSlots<'a> {
-    /// A table_slots without tables, for this many decoded blocks, 1 to 4096. The error comes where memory for its slots is
+    /// Slots without tables, for this many decoded blocks, 1 to 4096. The error comes where memory for its slots is
     /// refused.
     pub(crate) fn new(alloc: Global, cache: usize) -> Result<TableSlots<'a>, AllocError>
         requires some { 1 ≤ cache }
@@ -127,8 +127,8 @@ impl<'a> TableSlots<'a> {
         self.tables[own] = TableSlot::Own(table);
     }
 
-    /// Adds a table. One that is refused, since there is a table of its kind for its material, is dropped, and the table_slots stays
-    /// as it was. It takes no memory.
+    /// Adds a table. One that is refused, since there is a table of its kind for its material, is dropped, and the slots stay
+    /// as they were. It takes no memory.
     pub(crate) fn add(&mut self, table: Table<'a>) -> Result<(), SetFault>
         ensures added { OnOk result (self.new ≡ record self.old { tables = slice_set self.old.tables (slot table.entry.kind table.entry.material) (Some table.entry) }) }
         ensures refused { OnErr result (self.new ≡ self.old) }
@@ -158,7 +158,7 @@ impl<'a> TableSlots<'a> {
         }
     }
 
-    /// Another table_slots with the tables of this one, for this many decoded blocks, 1 to 4096. The error comes where memory is refused.
+    /// Other slots with the tables of these, for this many decoded blocks, 1 to 4096. The error comes where memory is refused.
     pub(crate) fn share(
         &mut self,
         alloc: Global,

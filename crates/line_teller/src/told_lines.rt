@@ -23,7 +23,7 @@ pub enum TellFault {
     Io,
 }
 
-/// A teller answers each line of an input.
+/// Answers each line of an input.
 pub trait LineHandler {
     /// This is the answer to the line.
     ghost tells: { Self → List ℕ → LineTold → Type 0 };

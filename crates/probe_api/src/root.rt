@@ -126,9 +126,9 @@ fn put_root(
 /// Puts the legal moves of the position that a text spells at the front of the room, the best first, and tells how many there are.
 ///
 /// A better value comes first; of one value the nearer win and the farther loss. A move whose table is missing or damaged has the
-/// status of that; without a value it comes last, without a distance after those of its value. Where the room is too short nothing is written, and the status is 83 with the number that is
-/// needed. The other statuses are the first fault of the text, 2 where the position is out of scope, and 5 where memory for a list is
-/// refused. The set stays as it was but for its cache.
+/// status of that; without a value it comes last, without a distance after those of its value. Where the room is too short nothing is
+/// written, and the status is 83 with the number that is needed. The other statuses are the first fault of the text, 2 where the
+/// position is out of scope, and 5 where memory for a list is refused. The set stays as it was but for its cache.
 pub fn root_of_text(
     alloc: Global,
     set: &mut Set<'_>,

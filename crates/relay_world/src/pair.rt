@@ -1,4 +1,4 @@
-//! Two seats and what was sent.
+//! Two replicas and what was sent.
 
 ghost use Rattle.std.specs.Prelude.{◌≡◌, ◌++◌, slice_get, IfOk, OnOk, IsOk, is_ok};
 ghost use Rattle.move_msg.specs.declared.arbiter_id.ArbiterId.TheVariants.{A, B};
@@ -13,7 +13,7 @@ use move_msg::{ArbiterId, Message, Stamp};
 use std::alloc::{AllocError, Global};
 use std::vec::Vec;
 
-/// Both seats, and everything that was sent.
+/// Both replicas, and everything that was sent.
 #[derive(Drop)]
 pub(crate) struct Pair<'a> {
     /// The game.

@@ -18,7 +18,7 @@ pub record Named : Type 0 where
 abbrev pub nothing : Named
 nothing = record { folder = None; manifest = None; input = false; kept = None; other_kept = None }
 
-abbrev pub named_by : Places → Named
+abbrev pub named_by : InputPaths → Named
 named_by places = record {
   folder = option_map (λ s. s.now) places.folder;
   manifest = option_map (λ s. s.now) places.manifest;

@@ -1,4 +1,4 @@
--- Two hosts of one game, each over a file of its own (this project's own): what `Interleaving` asks of the outside, by what starts find in the
+-- Two hosts of one game, each over a file of its own (this project's own): what `Interleavings` asks of the outside, by what starts find in the
 -- two files. Of a file each start over it finds what it finds, and each opening starts over the file that the game's last act left; no
 -- other game's act touches it. That no move of the game is made up, and that the game found under the stamp is this one, stay premises.
 --

@@ -1,4 +1,4 @@
--- Two hosts of one game, each over a store of its own (this project's own): what `Interleaving` asks of the outside, by what starts find in the
+-- Two hosts of one game, each over a store of its own (this project's own): what `Interleavings` asks of the outside, by what starts find in the
 -- two stores.
 --
 -- In the worlds, a round whose commit failed or was cut by a stop is a list of deliveries that didn't happen: none of its answers went out,

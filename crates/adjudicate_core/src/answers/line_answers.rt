@@ -12,7 +12,7 @@ use std::alloc::Global;
 use std::io::Write;
 use system_io::{Input, LineReader, Output, WriteFault};
 
-/// Writes the answer of a teller to each line of an input as it comes, and returns the status. Progress is written if
+/// Writes the answer to each line of an input as it comes, and returns the status. Progress is written if
 /// requested.
 fn put_lines_told<T: LineHandler, L: LineReader, W: Output, E: Write>(
     alloc: Global,
@@ -32,7 +32,7 @@ fn put_lines_told<T: LineHandler, L: LineReader, W: Output, E: Write>(
     }
 }
 
-/// Reads an input by lines, and writes the answer of a teller to each. Where memory for reading is refused, the only
+/// Reads an input by lines, and writes the answer to each. Where memory for reading is refused, the only
 /// line is `refused memory`.
 pub(crate) fn put_told<T: LineHandler, I: Input, W: Output, E: Write>(
     alloc: Global,

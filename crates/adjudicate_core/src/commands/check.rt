@@ -54,7 +54,7 @@ pub(crate) const VALUES: [Value; 3] = [
     },
 ];
 
-/// The look at a file: its line in a manifest, and why it is no table, if it isn't one.
+/// What is found of a file: its line in a manifest, and why it is no table, if it isn't one.
 #[derive(Clone, Copy)]
 pub(crate) struct FileCheck {
     /// Its line.

@@ -65,12 +65,11 @@ fn put_stamp<W: Write>(out: &mut W, stamp: Stamp) -> Result<(), WriteFault>
     put(out, b"\n")
 }
 
-/// Writes the delay of a record.
-fn put_delay<W: Write>(out: &mut W, kept: &Record) -> Result<(), WriteFault>
-    ensures { OnOk result (Appends (W.contents out.old) (W.contents out.new) (ended (delay_words kept.now.delay))) }
+/// Writes a delay.
+fn put_delay<W: Write>(out: &mut W, plies: u8) -> Result<(), WriteFault>
+    ensures { OnOk result (Appends (W.contents out.old) (W.contents out.new) (ended (delay_words plies))) }
 {
-    let delay = kept.delay;
-    match writeln!(out, "delay {delay}") {
+    match writeln!(out, "delay {plies}") {
         Ok(()) => Ok(()),
         Err(_) => Err(WriteFault::Io),
     }
@@ -123,7 +122,7 @@ fn put_record<W: Write>(out: &mut W, kept: &Record) -> Result<(), WriteFault>
     ensures { OnOk result (Appends (W.contents out.old) (W.contents out.new) (text_of (record_lines kept.now))) }
 {
     put_stamp(out, kept.stamp)?;
-    put_delay(out, kept)?;
+    put_delay(out, kept.delay)?;
     put_moves(out, kept.moves.as_slice())?;
     put_verdict(out, kept.verdict)
 }

@@ -1,4 +1,4 @@
--- How a table_slots keeps its tables: each in its slot.
+-- How tables are kept: each in its slot.
 use Rattle.std.specs.Prelude.{◌≡◌, ◌≤◌, List, Option, Some, None, length, map}
 use Rattle.std.specs.Arc.{arc_value}
 use Rattle.table_file.specs.Tables.{Contents}

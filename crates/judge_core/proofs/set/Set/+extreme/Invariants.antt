@@ -4,8 +4,8 @@ use Rattle.judge_core.specs.Inside.Determined.{extreme_value}
 use Rattle.judge_core.proofs.Readings.{Walked, moves_left}
 use Rattle.judge_core.proofs.set.Set.+extreme.Given as goal
 
-abbrev pub decreases-search_extreme : goal.decreases-search_extreme
-decreases-search_extreme l = 3 * count_of_men l.probe.now
+abbrev pub decreases-captures_in_extreme : goal.decreases-captures_in_extreme
+decreases-captures_in_extreme l = 3 * count_of_men l.probe.now
 
 abbrev pub decreases-extreme_search : goal.decreases-extreme_search
 decreases-extreme_search l = 3 * count_of_men l.probe.now + 1
@@ -13,8 +13,8 @@ decreases-extreme_search l = 3 * count_of_men l.probe.now + 1
 abbrev pub decreases-wdl_extreme : goal.decreases-wdl_extreme
 decreases-wdl_extreme l = 3 * count_of_men l.position.now + 2
 
-abbrev pub invariant-search_extreme-captures : goal.invariant-search_extreme-captures
-invariant-search_extreme-captures l = Walked (extreme_value l.fn.self.tables l.odd_wins) l.probe l.found l.last × (l.self ≡ l.fn.self)
+abbrev pub invariant-captures_in_extreme-captures : goal.invariant-captures_in_extreme-captures
+invariant-captures_in_extreme-captures l = Walked (extreme_value l.fn.self.tables l.odd_wins) l.probe l.found l.last × (l.self ≡ l.fn.self)
 
-abbrev pub decreases-search_extreme-captures : goal.decreases-search_extreme-captures
-decreases-search_extreme-captures l = moves_left l.last
+abbrev pub decreases-captures_in_extreme-captures : goal.decreases-captures_in_extreme-captures
+decreases-captures_in_extreme-captures l = moves_left l.last
