@@ -9,8 +9,8 @@ returns-in-Some c =
     let g = c.args.game.now in
     let name = c.as_slice.ensures.value in
     let named = subst (λ (n : List ℕ). IsGameName n) name c.in-Some.ensures.some.0 in
-    let is = c.in-Some.ensures.some.1 ∙ ap (λ (n : List ℕ). stamp_of n (fen_of g.start) c.args.manifest.now g.delay) name in
-    own_so c.args.manifest.now c.args.stamp g.name.items g.start g.delay c.in-Some.own.0 c.is_same_stamp.result named is c.is_same_stamp.ensures
+    let is = c.in-Some.ensures.some.1 ∙ ap (λ (n : List ℕ). stamp_of n (fen_of g.start) c.args.manifest.now c.plies.result) name ∙ ap (stamp_of g.name.items (fen_of g.start) c.args.manifest.now) c.plies.ensures.value in
+    own_so c.args.manifest.now c.args.stamp g.name.items g.start g.delay c.in-Some.own c.is_same_stamp.result named is c.is_same_stamp.ensures
 
 pub returns-in-None : goal.returns-in-None
 returns-in-None c =
