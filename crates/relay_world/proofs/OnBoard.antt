@@ -23,12 +23,12 @@ use Rattle.judge_core.specs.Ends.{has_no_move}
 use Rattle.judge_core.specs.Games.{Rules, is_end, judged_after, position_after_all, verdict_after}
 use Rattle.judge_core.specs.Laws.{FirstVerdictInWords, IsLeastRuled, IsRuledAt}
 use Rattle.judge_core.specs.LookUp.{material_of}
-use Rattle.judge_core.specs.Probing.{values_after, weighed_by, weighed_where, wdl_of}
+use Rattle.judge_core.specs.Probing.{values_after, searched_by, searched_where, wdl_of}
 use Rattle.judge_core.specs.Ruling.{end_of, is_out_of_scope, mate_of, ruling, ruling_by}
 use Rattle.judge_core.specs.Tables.{Tables, slot, table_at, table_value, value_in, value_of}
 use Rattle.judge_core.specs.Values.{Reading}
 use Rattle.judge_core.proofs.LookUp.{material_found}
-use Rattle.judge_core.proofs.Rule.{bare, still, weighed}
+use Rattle.judge_core.proofs.Rule.{bare, still, searched}
 use Rattle.move_msg.specs.declared.arbiter_id.ArbiterId.{ArbiterId}
 use Rattle.arbiter_core.specs.Recording.{Recorded, move_count}
 use Rattle.arbiter_core.proofs.Reach.{reach_within}
@@ -73,9 +73,9 @@ no_value : (tables : Tables) (p : Parts) (key : ℕ) → HasNoTable tables → m
 unfolding table_value
 no_value tables p key none m = ap (λ o. value_of tables o p) m ∙ rw (none Wdl key) refl
 
-not_weighed : (tables : Tables) (value : Parts → Reading) (p : Parts) (key : ℕ) → table_value tables p ≡ no_table key p → (k : ℕ) × (weighed_by tables value p ≡ unless (missing_or_damaged (Some k) None) (weighed_by tables value p))
-unfolding weighed_by weighed_where
-not_weighed tables value p key e =
+not_searched : (tables : Tables) (value : Parts → Reading) (p : Parts) (key : ℕ) → table_value tables p ≡ no_table key p → (k : ℕ) × (searched_by tables value p ≡ unless (missing_or_damaged (Some k) None) (searched_by tables value p))
+unfolding searched_by searched_where
+not_searched tables value p key e =
     let f = missing (values_after value p (legal_captures p)) p key in
     (f.0, rw (e, f.1) refl)
 
@@ -83,8 +83,8 @@ unknown : FewMenHaveTables → (tables : Tables) (p : Parts) → HasNoTable tabl
 unknown few tables p none position scope many =
     let found = few.0 p position (omega (arith, many)) (few_enough p scope) in
     let m : material_of p ≡ Some found.0 = sym (material_found p found.0 found.1 found.2) in
-    let w = not_weighed tables (wdl_of tables) p found.0 (no_value tables p found.0 none m) in
-    (w.0, sym (weighed tables p (unless (missing_or_damaged (Some w.0) None) (weighed_by tables (wdl_of tables) p)) position many (sym w.1)))
+    let w = not_searched tables (wdl_of tables) p found.0 (no_value tables p found.0 none m) in
+    (w.0, sym (searched tables p (unless (missing_or_damaged (Some w.0) None) (searched_by tables (wdl_of tables) p)) position many (sym w.1)))
 
 -- ---- the ruling on a position
 
