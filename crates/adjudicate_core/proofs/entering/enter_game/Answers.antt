@@ -8,27 +8,24 @@ returns-in_default-clause-err g c = NoRoomForPath refl
 
 pub returns-in-Ok-keep_at-clause-ok : goal.returns-in-Ok-keep_at-clause-ok
 returns-in-Ok-keep_at-clause-ok g c =
-    let stamp = rw c.plies.ensures.value at c.stamp-stamp.ensures in
-    let spells = rw c.plies-2.ensures.value at (rw c.as_bytes.ensures.bytes at c.write_game-text.ensures.spells) in
     let has = rw c.in-Ok.ensures at (rw c.as_str.ensures.value at (rw c.as_slice.ensures.value at c.in-Ok-keep_at.ensures.ok)) in
-    record { is = stamp; text = c.write_game-text.result.items; spells = spells; has = has }
+    record { is = c.stamp-stamp.ensures; text = c.write_game-text.result.items; spells = c.write_game-text.ensures.spells; has = has }
 
 pub returns-clause-err : goal.returns-clause-err
 returns-clause-err g c =
-    let spells = rw c.plies-2.ensures.value at (rw c.as_bytes.ensures.bytes at c.write_game-text.ensures.spells) in
-    let stamp = rw c.plies.ensures.value at c.stamp-stamp.ensures in
+    let stamp = c.stamp-stamp.ensures in
     let lacks = rw stamp at (rw c.in-Ok.ensures at (rw c.as_str.ensures.value at (rw c.as_slice.ensures.value at c.in-Err.ensures.err))) in
-    NoText c.write_game-text.result.items spells lacks
+    NoText c.write_game-text.result.items c.write_game-text.ensures.spells lacks
 
 pub returns-in_default-clause-made : goal.returns-in_default-clause-made
 returns-in_default-clause-made g c = inl (Passes-nil _)
 
 pub returns-in-Ok-keep_at-clause-made : goal.returns-in-Ok-keep_at-clause-made
 returns-in-Ok-keep_at-clause-made g c =
-    let stamp = rw c.plies.ensures.value at c.stamp-stamp.ensures in
+    let stamp = c.stamp-stamp.ensures in
     rw stamp at (rw c.in-Ok.ensures at (rw c.as_str.ensures.value at c.keep_at.ensures.made))
 
 pub returns-clause-made : goal.returns-clause-made
 returns-clause-made g c =
-    let stamp = rw c.plies.ensures.value at c.stamp-stamp.ensures in
+    let stamp = c.stamp-stamp.ensures in
     rw stamp at (rw c.in-Ok.ensures at (rw c.as_str.ensures.value at c.keep_at.ensures.made))

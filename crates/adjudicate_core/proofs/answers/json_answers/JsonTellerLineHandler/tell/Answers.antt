@@ -3,7 +3,7 @@ use Rattle.json_lines.specs.Objects.{json_text, line_json}
 use Rattle.judge_core.specs.Tables.{Holding}
 use Rattle.adjudicate_core.specs.JsonAnswers.{TellsJson}
 use Rattle.adjudicate_core.proofs.JsonLaws.{has_front, has_text, other_err}
-use Rattle.adjudicate_core.proofs.answers.json_answers.JsonTellerTeller.tell.Goals as goal
+use Rattle.adjudicate_core.proofs.answers.json_answers.JsonTellerLineHandler.tell.Goals as goal
 
 pub returns-in-Ok-put_told-clause-told : goal.returns-in-Ok-put_told-clause-told
 returns-in-Ok-put_told-clause-told g c =

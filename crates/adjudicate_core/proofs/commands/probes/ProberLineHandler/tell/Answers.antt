@@ -1,6 +1,6 @@
 use Rattle.std.proofs.Common.{subst}
 use Rattle.adjudicate_core.specs.Commands.Probes.{TellsLine}
-use Rattle.adjudicate_core.proofs.commands.probes.ProberTeller.tell.Goals as goal
+use Rattle.adjudicate_core.proofs.commands.probes.ProberLineHandler.tell.Goals as goal
 
 pub returns-in-Ok-put_line-clause-same : goal.returns-in-Ok-put_line-clause-same
 returns-in-Ok-put_line-clause-same g c = λ line told h. subst (λ tables. TellsLine c.args.self.now.ask tables line told) c.probe_line.ensures.unchanged h

@@ -1,7 +1,7 @@
 use Rattle.std.proofs.Common.{ap, refl, subst, Bool}
 use Rattle.adjudicate_core.specs.Inside.Asked.{reply_of}
 use Rattle.adjudicate_core.specs.Commands.Root.{TellsLine}
-use Rattle.adjudicate_core.proofs.commands.root.RankerTeller.tell.Goals as goal
+use Rattle.adjudicate_core.proofs.commands.root.RankerLineHandler.tell.Goals as goal
 
 pub returns-in-Ok-put_with_empty_line-clause-same : goal.returns-in-Ok-put_with_empty_line-clause-same
 returns-in-Ok-put_with_empty_line-clause-same g c = λ line told h. subst (λ tables. TellsLine c.args.self.now.ask tables line told) c.answer_line.ensures.unchanged h
