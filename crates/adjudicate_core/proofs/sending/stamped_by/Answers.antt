@@ -1,6 +1,4 @@
-use Rattle.std.proofs.Common.{◌∙◌, ap, inl, inr}
-use Rattle.fen_text.specs.Written.{fen_of}
-use Rattle.move_msg.specs.Stamps.{stamp_of}
+use Rattle.std.proofs.Common.{ap, inl, inr}
 use Rattle.adjudicate_core.specs.Lines.{refusal_words}
 use Rattle.adjudicate_core.specs.Reply.{IsText}
 use Rattle.adjudicate_core.specs.Sends.{NoManifest, NoRoom}
@@ -12,4 +10,4 @@ returns-in-Err-clause-err g c =
     elim c.in-Err.ensures.err [ inl memory ↦ NoRoom text (ap refusal_words memory) | inr lacks ↦ NoManifest text lacks ]
 
 pub returns-in-Ok-clause-ok : goal.returns-in-Ok-clause-ok
-returns-in-Ok-clause-ok g c = record { spelled = c.requires.spelled; position = c.requires.position; manifest = c.in-Ok.manifest.items; found = c.in-Ok.ensures.ok; is = (rw c.deref.ensures.value at c.stamp.ensures) ∙ ap (stamp_of c.args.told.now.name (fen_of c.args.start) c.in-Ok.manifest.items) c.plies.ensures.value }
+returns-in-Ok-clause-ok g c = record { spelled = c.requires.spelled; position = c.requires.position; manifest = c.in-Ok.manifest.items; found = c.in-Ok.ensures.ok; is = rw c.deref.ensures.value at c.stamp.ensures }
