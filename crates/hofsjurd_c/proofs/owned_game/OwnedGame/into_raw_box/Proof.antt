@@ -33,8 +33,8 @@ use Rattle.hofsjurd_c.specs.contracts.owned_game.OwnedGame.into_raw_box.Key.{nam
 use Rattle.hofsjurd_c.proofs.owned_game.OwnedGame.into_raw_box.Statement.{statement}
 use Rattle.hofsjurd_c.proofs.owned_game.OwnedGame.into_raw_box.Code as code
 
-pub into_loose_spec : {M : Type 1} → statement M
-into_loose_spec 𝓤 𝓛 𝓜 𝓡 wired =
+pub into_raw_box_spec : {M : Type 1} → statement M
+into_raw_box_spec 𝓤 𝓛 𝓜 𝓡 wired =
     let H = 𝓛.H in let 𝓣 = tables 𝓤 H 𝓜 𝓡 𝓡.env in let c = f.clauses 𝓛 𝓜.mem 𝓡.returns in let fn = code.function in let LZ = heap_laws.the_row_laws in
     let hs : Stays f.ended.signature.params f.ended.kept = (stay_dropped (plain (λ _. OwnedGame)) yes, tt) in
     proved_at 𝓛 f.ended hs c 𝓜 𝓡 (Goes-dropped 𝓛 0 (plain (λ _. OwnedGame)) yes (λ κs x f. refl), tt) #self fn (code.unfolded 𝓤 H 𝓜 𝓡 wired) (λ z are.
