@@ -17,6 +17,7 @@ mod enter;
 mod follow;
 mod game;
 mod game_record;
+mod games;
 mod host;
 mod judge;
 mod list;
@@ -41,6 +42,7 @@ pub use enter::{Enter, Entries, OneGame};
 pub use follow::Follow;
 pub use game::FollowGame;
 pub use game_record::GameRecord;
+pub use games::FollowGames;
 pub use host::HostGames;
 pub use judge::Judge;
 pub use list::List;
@@ -81,6 +83,8 @@ pub enum Task<'a> {
     Probes(Probes<'a>),
     /// The outcome of the game of the input.
     Game(FollowGame<'a>),
+    /// The outcomes of the games of the input.
+    Games(FollowGames<'a>),
     /// The contents of a kept record.
     Record(ShowRecord<'a>),
     /// The record of a game in a folder.
@@ -128,6 +132,8 @@ pub enum Name {
     Probes,
     /// Judges a game.
     Game,
+    /// Judges many games.
+    Games,
     /// Shows a kept record.
     Record,
     /// Audits kept files.
@@ -183,6 +189,7 @@ impl Name {
             "listen" => Some(Name::Listen),
             "probes" => Some(Name::Probes),
             "game" => Some(Name::Game),
+            "games" => Some(Name::Games),
             "record" => Some(Name::Record),
             "audit" => Some(Name::Audit),
             "version" => Some(Name::Version),
@@ -211,6 +218,7 @@ impl Name {
             Name::Listen => "listen",
             Name::Probes => "probes",
             Name::Game => "game",
+            Name::Games => "games",
             Name::Record => "record",
             Name::Audit => "audit",
             Name::Version => "version",
@@ -238,6 +246,7 @@ impl Name {
             Name::Listen => &listen::VALUES,
             Name::Probes => &probes::VALUES,
             Name::Game => &game::VALUES,
+            Name::Games => &games::VALUES,
             Name::Record => &record::VALUES,
             Name::Audit => &audit::VALUES,
             Name::Version => &[],
@@ -389,6 +398,10 @@ fn task_of<'a>(name: Name, matches: &ArgMatches<'a>) -> Result<Task<'a>, ValueFa
             Ok(task) => Ok(Task::Game(task)),
             Err(fault) => Err(fault),
         },
+        Name::Games => match FollowGames::of(matches) {
+            Ok(task) => Ok(Task::Games(task)),
+            Err(fault) => Err(fault),
+        },
         Name::Record => record_of(matches),
         Name::Audit => audit_of(matches),
         Name::Version => Ok(Task::Version(Version)),
@@ -432,6 +445,7 @@ impl<'a> Task<'a> {
             Task::Listen(task) => task.places(),
             Task::Probes(task) => task.places(),
             Task::Game(task) => task.places(),
+            Task::Games(task) => task.places(),
             Task::Record(task) => task.places(),
             Task::GameRecord(task) => task.places(),
             Task::Audit(task) => task.places(),

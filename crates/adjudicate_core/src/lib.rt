@@ -83,7 +83,7 @@ mod tables;
 mod words;
 
 pub use commands::{
-    Audit, AuditGames, Check, Enter, Entries, Follow, FollowGame, Form, GameFile, GameRecord,
+    Audit, AuditGames, Check, Enter, Entries, Follow, FollowGame, FollowGames, Form, GameFile, GameRecord,
     HostGames, Judge, List, Listen, Moves, Name, OneGame, Probe, Probes, Root, RunSchedule, Send,
     SentGame, Show, ShowRecord, ShowStatus, Task, ToldGame, Value, Version, parse,
 };

@@ -75,6 +75,7 @@ fn answer_given<D: Disk, I: Input, H: Host, W: Output, E: Output>(
         Task::Listen(task) => listen(alloc, task, sources, system.host, history, out),
         Task::Probes(task) => task.answer(alloc, sources, system.input, out, err),
         Task::Game(task) => put_answered(out, task.answer(alloc, sources)),
+        Task::Games(task) => task.answer(alloc, sources, system.input, out, err),
         Task::Record(task) => put_answered(out, task.answer(alloc, sources)),
         Task::GameRecord(task) => task.answer(alloc, system.disk, system.host, out),
         Task::Audit(task) => put_answered(out, task.answer(alloc, sources)),
