@@ -169,3 +169,9 @@ shallow (line.Root t moves) =
 
 pub line_reads_back : (l : JsonLine) (old new : Option (List ℕ)) → Writes false (json_tokens (line_json l)) old new → document (json_text (line_json l)) ≡ Some (line_json l)
 line_reads_back l old new w = reads_back (line_json l) old new w (let s = shallow l in omega (arith, s))
+
+-- an object of some members, and its text
+pub some_object_written : (all : List Member) (a b c d : Option (List ℕ)) → 0 < length all → Writes false (begin_object ∷ []) a b → Writes false (open_tokens (members_of all)) b c → Writes true (end_object ∷ []) c d → Appends a d (json_text (object (members_of all)))
+some_object_written [] a b c d some begins facts ends = absurd (omega (arith, some))
+some_object_written (m ∷ ms) a b c d some begins facts ends =
+    (object_written false (members_of (m ∷ ms)) a c d tt (opened_written false (members_of (m ∷ ms)) a b c begins facts) ends).text

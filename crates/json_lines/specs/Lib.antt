@@ -1,3 +1,4 @@
+pub mod Members
 pub mod Objects
 pub mod Material
 pub mod Told

@@ -19,10 +19,13 @@
 
 mod material;
 mod members;
+mod object;
 mod text;
 mod told;
 mod writing;
 
 pub use judge_core::Ask;
+pub use members::{Member, Value};
+pub use object::put_object;
 pub use told::{JsonLine, MoveTold, PositionTold};
 pub use writing::put_json_line;

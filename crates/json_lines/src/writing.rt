@@ -140,7 +140,7 @@ fn put_error<W: Write>(out: &mut W, probed: &ProbeResult) -> Result<(), WriteFau
 }
 
 /// Writes an opening brace.
-fn put_begin<W: Write>(out: &mut W, later: bool) -> Result<(), WriteFault>
+pub(crate) fn put_begin<W: Write>(out: &mut W, later: bool) -> Result<(), WriteFault>
     ensures { OnOk result (Writes later (begin_object ∷ []) (W.contents out.old) (W.contents out.new)) }
 {
     match put_comma(out, later) {
@@ -150,7 +150,7 @@ fn put_begin<W: Write>(out: &mut W, later: bool) -> Result<(), WriteFault>
 }
 
 /// Writes a closing brace.
-fn put_end<W: Write>(out: &mut W) -> Result<(), WriteFault>
+pub(crate) fn put_end<W: Write>(out: &mut W) -> Result<(), WriteFault>
     ensures { OnOk result (Writes true (end_object ∷ []) (W.contents out.old) (W.contents out.new)) }
 {
     put(out, b"}")
