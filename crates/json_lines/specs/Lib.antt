@@ -1,4 +1,3 @@
 pub mod Objects
-pub mod Material
 pub mod Told
 pub mod Inside
