@@ -5,10 +5,9 @@
 //! ones, or also those that every completion of the missing tables gives. `put_json_line` writes it. Names and meanings are those of the
 //! tablebase API of Lichess, where it has them (FORMATS, section 3.10).
 //!
-//! Inside: `told` (what is told), `material` (whether the men suffice to mate), `writing`, `members` and `text` (objects,
-//! members, strings with their escapes).
+//! Inside: `told` (what is told), `writing`, `members` and `text` (objects, members, strings with their escapes).
 //!
-//! Definitions, in reading order: `Told`, `Material`, `Objects` (`line_json`). The text of a value is that of the
+//! Definitions, in reading order: `Told`, `Objects` (`line_json`). The text of a value is that of the
 //! toolchain's `json` (`print`, `json_tokens`). Its cases stand in `probes.txt` and `root.txt` of `rows` (those with `--json`).
 //!
 //! - CLAIM: `put_json_line`, clauses `written`, `reads_back`: the text is that of the line's object, and a JSON parser reads it back.
@@ -17,7 +16,6 @@
 //!   first fault. Lack of memory is told only at a position in scope; without moves only where its values list moves.
 #![tactic(auto)]
 
-mod material;
 mod members;
 mod object;
 mod text;

@@ -11,7 +11,6 @@ ghost use Rattle.judge_core.specs.Words.{probe_fault_words};
 ghost use Rattle.place_index.specs.Material.{men_of, name_of};
 ghost use Rattle.json_lines.specs.Objects.{after_members, category, category_of, error_members, fault_json, fen_error, first_probe_fault, followed_by, is_stalemate, json_text, line_json, move_json, move_members, moves_items, number_or_null, position_json, position_members, root_json, verdict_or_null};
 
-use crate::material::is_insufficient;
 use crate::members::{Member, Value, put_comma, put_key, put_member, put_members};
 use crate::text::put;
 use crate::told::{JsonLine, MoveTold, PositionTold};
@@ -211,7 +210,7 @@ fn put_position<W: Write>(out: &mut W, told: &PositionTold) -> Result<(), WriteF
         member("stalemate", Value::Boolean(is_stalemate(state))),
         member(
             "insufficient_material",
-            Value::Boolean(is_insufficient(&told.position)),
+            Value::Boolean(told.position.has_insufficient_material()),
         ),
     ];
     put_facts(out, &members, probed)
