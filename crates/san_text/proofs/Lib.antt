@@ -1,0 +1,5 @@
+pub mod LegalMoves
+pub mod Rivals
+pub mod Meant
+pub mod Bytes
+pub mod ReadingLaws
