@@ -19,7 +19,7 @@ use Rattle.pgn_games.specs.declared.tags.TagName.{TagName}
 use Rattle.pgn_games.specs.declared.tags.TagName.TheVariants.{Fen}
 use Rattle.pgn_games.specs.Lines.{one_more}
 use Rattle.pgn_games.specs.Tags.{TagPair, TagTexts, no_tags, with_tag, name_of, value_of}
-use Rattle.pgn_games.specs.Lexemes.{Lexeme, Tag, MoveText, Begins, Ends, Told, Stray, Endless, TooLong}
+use Rattle.pgn_games.specs.Lexemes.{Telling, Tag, MoveText, Begins, Ends, Told, Stray, Endless, TooLong}
 use Rattle.pgn_games.specs.Tokens.{Token, tokens_of}
 
 -- how many variations are open
@@ -34,7 +34,7 @@ over_at zero = Over
 over_at (suc depth) = Moves (suc depth)
 
 -- how far a game has come after a token: the movetext begins with a move, a variation or its end
-abbrev pub after : Phase → Lexeme → Phase
+abbrev pub after : Phase → Telling → Phase
 after phase (Tag first pair) = phase
 after phase (MoveText text) = Moves (depth_of phase)
 after phase Begins = Moves (one_more (depth_of phase))
@@ -44,7 +44,7 @@ after phase Stray = phase
 after phase Endless = phase
 after phase TooLong = phase
 
-abbrev pub is_tag_in_first_column : Lexeme → Bool
+abbrev pub is_tag_in_first_column : Telling → Bool
 is_tag_in_first_column (Tag first pair) = first
 is_tag_in_first_column (MoveText text) = false
 is_tag_in_first_column Begins = false
@@ -55,7 +55,7 @@ is_tag_in_first_column Endless = false
 is_tag_in_first_column TooLong = false
 
 -- whether a token still belongs to a game. A tag in the first column behind movetext is the next game's
-abbrev pub goes_on : Phase → Lexeme → Bool
+abbrev pub goes_on : Phase → Telling → Bool
 goes_on Tags lexeme = true
 goes_on (Moves depth) lexeme = not (is_tag_in_first_column lexeme)
 goes_on Over lexeme = false
@@ -117,10 +117,14 @@ TakesTag c Tags (Some pair) r = SetsTag c (value_of pair.quoted) (name_of pair.n
 TakesTag c (Moves depth) pair r = r ≡ Err StrayToken
 TakesTag c Over pair r = r ≡ Err StrayToken
 
+-- a move is played
+abbrev pub Plays : Course → Move → Course → Type 0
+Plays c m d = (p : Parts) × Legal c.position m p × (d ≡ record c { moves = c.moves ++ m ∷ []; position = p })
+
 -- a move is read in the position before it, and there are 4,096 at most
 abbrev pub ReadsMove : Course → List ℕ → Result Course Cause → Type 0
 ReadsMove c text (Ok d) =
-    (m : Move) × (p : Parts) × ReadsSan c.position text m × Legal c.position m p × (d ≡ record c { moves = c.moves ++ m ∷ []; position = p })
+    (m : Move) × ReadsSan c.position text m × Plays c m d
 ReadsMove c text (Err cause) = (fault : SanFault) × IsFirstSanFault c.position text fault × (cause ≡ BadMove fault)
 
 abbrev pub TakesMove : Course → List ℕ → Bool → Result Course Cause → Type 0
@@ -138,7 +142,7 @@ Closes zero c r = r ≡ Err StrayToken
 Closes (suc depth) c r = r ≡ Ok c
 
 -- a game takes a token, or is at fault there
-abbrev pub Takes : Course → Lexeme → Result Course Cause → Type 0
+abbrev pub Takes : Course → Telling → Result Course Cause → Type 0
 Takes c (Tag first pair) r = TakesTag c c.phase pair r
 Takes c (MoveText text) r = TakesIfMain (depth_of c.phase) c r (TakesMove c text (nat_lt (length c.moves) 4096) r)
 Takes c Begins r = r ≡ Ok c
@@ -156,14 +160,15 @@ fault_of c line cause = record { line = unwrap_or c.line line; at = line; plies 
 abbrev pub passed : Course → Token → Course
 passed c t = record c { line = Some (unwrap_or c.line t.line); last = t.line; phase = after c.phase t.is }
 
-abbrev pub passed_by : Course → Token → Result Course Cause → Course
-passed_by c t (Ok d) = passed d t
-passed_by c t (Err cause) = passed (record c { fault = Some (fault_of c t.line cause) }) t
+-- what a token makes of a game, or its fault
+abbrev pub taken : Course → ℕ → Result Course Cause → Course
+taken c line (Ok d) = d
+taken c line (Err cause) = record c { fault = Some (fault_of c line cause) }
 
 -- a game goes on over a token. Behind its first fault what the tokens say counts no more
 abbrev pub Passes : Course → Token → Course → Type 0
 Passes c t d =
-    MatchOption c.fault ((r : Result Course Cause) × Takes c t.is r × (d ≡ passed_by c t r)) (λ fault. d ≡ passed c t)
+    MatchOption c.fault ((r : Result Course Cause) × Takes c t.is r × (d ≡ passed (taken c t.line r) t)) (λ fault. d ≡ passed c t)
 
 -- a game: its line, its tags, its start, its moves and its result
 pub record GameTold : Type 0 where

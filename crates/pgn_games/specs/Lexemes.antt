@@ -1,7 +1,7 @@
 -- The lexemes of PGN text (PGN standard, sections 5, 7, 8.1 and 8.2). Each begins where the last one ended. What it tells and where it
 -- ends goes by its first byte.
 use Rattle.std.specs.Prelude.{◌+◌, ◌-◌, ◌==◌, ◌&&◌, not, nat_lt, ℕ, Bool, true, false, List, [], ◌∷◌, length, take, drop, Option, Some, None, if◌then◌else◌, codes, bytes_eq}
-use Rattle.std.specs.List.{list_any, list_all, position_or_len}
+use Rattle.std.specs.List.{list_any, position_or_len}
 use Rattle.pgn_games.specs.declared.bytes.ByteKind.{ByteKind}
 use Rattle.pgn_games.specs.declared.bytes.ByteKind.TheVariants.{Blank, Opens, Closes, Bracket, Semicolon, Star, Dollar, Symbol, Other}
 use Rattle.pgn_games.specs.declared.game.GameResult.{GameResult}
@@ -10,29 +10,29 @@ use Rattle.pgn_games.specs.Bytes.{is_blank, is_digit, is_symbol, kind_of, run_le
 use Rattle.pgn_games.specs.Tags.{TagPair, TagAndRest, tag_pair}
 
 -- what a lexeme tells of a game
-pub data Lexeme : Type 0 where
+pub data Telling : Type 0 where
   -- a bracket, in the first column or not, and the tag pair that it opens, where it is well formed
-  Tag : Bool → Option TagPair → Lexeme
+  Tag : Bool → Option TagPair → Telling
   -- a symbol that is no number and no result: the text of a move
-  MoveText : List ℕ → Lexeme
+  MoveText : List ℕ → Telling
   -- ( and ) of a variation
-  Begins : Lexeme
-  Ends : Lexeme
+  Begins : Telling
+  Ends : Telling
   -- a result
-  Told : GameResult → Lexeme
+  Told : GameResult → Telling
   -- what is no token
-  Stray : Lexeme
+  Stray : Telling
   -- a comment that never ends
-  Endless : Lexeme
+  Endless : Telling
   -- a line of more than 65,535 bytes
-  TooLong : Lexeme
+  TooLong : Telling
 
 -- a lexeme tells something or nothing, and has so many bytes behind its first one
 pub record Lexed : Type 0 where
-  pub tells : Option Lexeme
+  pub tells : Option Telling
   pub more : ℕ
 
-abbrev pub lexed : Option Lexeme → ℕ → Lexed
+abbrev pub lexed : Option Telling → ℕ → Lexed
 lexed tells more = record { tells = tells; more = more }
 
 -- the results (section 8.2.6)
@@ -41,13 +41,13 @@ result_of t =
     if bytes_eq t (codes "1-0") then Some WhiteWins else if bytes_eq t (codes "0-1") then Some BlackWins else if bytes_eq t (codes "1/2-1/2") then Some Draw else None
 
 -- a symbol is a result, or else the text of a move
-abbrev pub result_or_move : List ℕ → Option GameResult → Lexeme
+abbrev pub result_or_move : List ℕ → Option GameResult → Telling
 result_or_move t None = MoveText t
 result_or_move t (Some result) = Told result
 
 -- a symbol of digits alone is a move's number, and tells nothing
-abbrev pub symbol_tells : List ℕ → Option Lexeme
-symbol_tells t = if list_all is_digit t then None else Some (result_or_move t (result_of t))
+abbrev pub symbol_tells : List ℕ → Option Telling
+symbol_tells t = if run_len is_digit t == length t then None else Some (result_or_move t (result_of t))
 
 -- a tag that isn't well formed goes to the end of its line
 abbrev pub lexed_tag : Bool → List ℕ → Option TagAndRest → Lexed
@@ -75,7 +75,7 @@ abbrev pub rest_of_line : List ℕ → List ℕ
 rest_of_line t = take (position_or_len (λ b. b == 10) t) t
 
 -- a comment in braces goes to the first closing brace, over any number of lines; in it a line of more than 65,535 bytes is at fault too
-abbrev pub comment_tells : ℕ → List ℕ → Option Lexeme
+abbrev pub comment_tells : ℕ → List ℕ → Option Telling
 comment_tells n t =
     if not (nat_lt n (length t)) then Some Endless else if list_any (λ b. b == 256) (take n t) then Some TooLong else None
 

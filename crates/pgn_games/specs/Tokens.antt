@@ -1,16 +1,19 @@
 -- The tokens of a text, each with the number of its line.
 use Rattle.std.specs.Prelude.{◌==◌, ◌++◌, ℕ, zero, suc, Bool, true, List, [], ◌∷◌, Option, Some, None, if◌then◌else◌}
 use Rattle.pgn_games.specs.Lines.{one_more, read_text}
-use Rattle.pgn_games.specs.Lexemes.{Lexeme, Lexed, lexed_at}
+use Rattle.pgn_games.specs.Lexemes.{Telling, Lexed, lexed_at}
 
 pub record Token : Type 0 where
   pub line : ℕ
-  pub is : Lexeme
+  pub is : Telling
+
+abbrev pub token : ℕ → Telling → Token
+token line lexeme = record { line = line; is = lexeme }
 
 -- a token, where a lexeme tells something
-abbrev pub token_if : ℕ → Option Lexeme → List Token
+abbrev pub token_if : ℕ → Option Telling → List Token
 token_if line None = []
-token_if line (Some lexeme) = record { line = line; is = lexeme } ∷ []
+token_if line (Some lexeme) = token line lexeme ∷ []
 
 -- the number of the line after a byte
 abbrev pub line_after : ℕ → ℕ → ℕ

@@ -1,11 +1,11 @@
 //! The lexemes of a line (PGN standard, sections 7 and 8).
 
-ghost use Rattle.std.specs.Prelude.{◌≡◌, ◌≤◌, ◌<◌, ◌+◌, ◌∷◌, Bool, false, length, take, drop, slice_index};
+ghost use Rattle.std.specs.Prelude.{◌≡◌, ◌≤◌, ◌<◌, ◌+◌, ◌∷◌, Bool, length, take, drop, slice_index};
 ghost use Rattle.pgn_games.specs.Lexemes.{lexed_in_line, lexed_tag, result_of, symbol_tells};
 ghost use Rattle.pgn_games.specs.Tags.{tag_pair};
 ghost use Rattle.pgn_games.specs.Inside.Scan.{lexeme_of};
 
-use crate::bytes::{ByteKind, Class, is_digit, kind_of, run_len};
+use crate::bytes::{ByteKind, Class, kind_of, run_len};
 use crate::game::GameResult;
 use crate::tag_pair::{TagPair, tag_pair};
 
@@ -51,7 +51,7 @@ fn result_of(text: &[u8]) -> Option<GameResult>
 fn symbol_tells(text: &[u8]) -> Lexeme<'_>
     ensures { (first : Bool) → lexeme_of first result ≡ symbol_tells text.now }
 {
-    if text.iter().all(|b| is_digit(*b)) {
+    if run_len(text, Class::Digit) == text.len() {
         return Lexeme::Nothing;
     }
     match result_of(text) {
@@ -63,7 +63,7 @@ fn symbol_tells(text: &[u8]) -> Lexeme<'_>
 /// A tag pair behind a bracket, and its length with the bracket.
 fn lex_tag(rest: &[u8]) -> (Lexeme<'_>, usize)
     ensures is { (first : Bool) → lexeme_of first result.0 ≡ (lexed_tag first rest.now (tag_pair rest.now)).tells }
-    ensures size { result.1 ≡ (lexed_tag false rest.now (tag_pair rest.now)).more + 1 }
+    ensures size { (first : Bool) → result.1 ≡ (lexed_tag first rest.now (tag_pair rest.now)).more + 1 }
     ensures within { result.1 ≤ length rest.now + 1 }
 {
     match tag_pair(rest) {

@@ -1,6 +1,6 @@
 //! The tags of a game that are kept (PGN standard, sections 8.1.1 and 9.7.2).
 
-ghost use Rattle.std.specs.Prelude.{◌≡◌, IfOk, OnErr, ◌++◌};
+ghost use Rattle.std.specs.Prelude.{◌≡◌, IfOk, false};
 ghost use Rattle.pgn_games.specs.Tags.{name_of, value_of, no_tags, unescaped, with_tag};
 ghost use Rattle.pgn_games.specs.Inside.Owned.{texts_of};
 
@@ -60,9 +60,9 @@ pub(crate) fn name_of(name: &[u8]) -> Option<TagName>
 /// How many bytes of a tag's value are kept, 255: the longest line that the standard writes.
 const MOST_VALUE_BYTES: usize = 255;
 
-/// What a string of a tag says, of which 255 bytes are kept.
-pub(crate) fn value_of(alloc: Global, quoted: &[u8]) -> Result<Vec<u8>, AllocError>
-    ensures { IfOk result (λ value. value.items ≡ value_of quoted.now) }
+/// What a string of a tag says.
+fn unescaped(alloc: Global, quoted: &[u8]) -> Result<Vec<u8>, AllocError>
+    ensures { IfOk result (λ value. value.items ≡ unescaped false quoted.now) }
 {
     let mut value = Vec::new(alloc);
     let mut escaped = false;
@@ -74,6 +74,14 @@ pub(crate) fn value_of(alloc: Global, quoted: &[u8]) -> Result<Vec<u8>, AllocErr
             escaped = false;
         }
     }
+    Ok(value)
+}
+
+/// What a string of a tag says, of which 255 bytes are kept.
+pub(crate) fn value_of(alloc: Global, quoted: &[u8]) -> Result<Vec<u8>, AllocError>
+    ensures { IfOk result (λ value. value.items ≡ value_of quoted.now) }
+{
+    let mut value = unescaped(alloc, quoted)?;
     value.truncate(MOST_VALUE_BYTES);
     Ok(value)
 }
