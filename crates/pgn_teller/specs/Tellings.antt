@@ -1,5 +1,6 @@
 -- The games of an input, told as they are read (this project's own).
-use Rattle.std.specs.Prelude.{◌≡◌, ◌+◌, ◌++◌, ◌==◌, ◌||◌, not, ℕ, Bool, true, false, List, [], length, Option, Some, None, if◌then◌else◌}
+use Rattle.std.specs.Prelude.{◌≡◌, ◌⊎◌, ◌++◌, ◌==◌, ◌||◌, not, ℕ, Bool, true, false, List, [], ◌∷◌, length, take, Option, Some, None, if◌then◌else◌}
+use Rattle.std.specs.Io.KnownBytes.{Appends}
 use Rattle.json.specs.Json.{object}
 use Rattle.json_lines.specs.Objects.{json_text}
 use Rattle.judge_core.specs.Tables.{Tables}
@@ -7,7 +8,10 @@ use Rattle.move_msg.specs.TextLines.{ended}
 use Rattle.pgn_games.specs.declared.fault.GameFault.{GameFault}
 use Rattle.pgn_games.specs.declared.game.GameResult.{GameResult}
 use Rattle.pgn_games.specs.Games.{FaultRead, GameRead, GameTold, ReadingTold}
+use Rattle.pgn_games.specs.Games.{ReadsGame}
 use Rattle.pgn_games.specs.Lines.{one_more}
+use Rattle.pgn_games.specs.Tokens.{Token}
+use Rattle.line_teller.specs.ToldLines.{HasFront, refused_files, refused_memory}
 use Rattle.pgn_teller.specs.declared.finding.Finding.TheVariants.{Agrees, Differs, Uncompared}
 use Rattle.pgn_teller.specs.declared.game_line.Form.{Form}
 use Rattle.pgn_teller.specs.declared.game_line.Form.TheVariants.{Words, Json}
@@ -15,6 +19,9 @@ use Rattle.pgn_teller.specs.declared.rating.Ruled.{Ruled}
 use Rattle.pgn_teller.specs.declared.sums.Mark.{Mark}
 use Rattle.pgn_teller.specs.declared.sums.Mark.TheVariants as mark
 use Rattle.pgn_teller.specs.declared.sums.Sums.{Sums}
+use Rattle.pgn_teller.specs.declared.telling.Telling.{Telling}
+use Rattle.pgn_teller.specs.declared.telling.Telling.TheVariants.{CutShort, Whole}
+use Rattle.pgn_teller.specs.declared.telling.GameTeller.{GameTeller}
 use Rattle.pgn_teller.specs.GameLines.{fault_words, game_words, sums_words}
 use Rattle.pgn_teller.specs.GameObjects.{fault_members, game_members, sums_members}
 use Rattle.pgn_teller.specs.Ratings.{IsRuled, agrees}
@@ -41,6 +48,9 @@ pub record Terms : Type 0 where
   pub delay : ℕ
   pub form : Form
   pub only_differing : Bool
+
+abbrev pub terms_of : GameTeller → Terms
+terms_of teller = record { tables = teller.set.tables; delay = teller.delay; form = teller.form; only_differing = teller.only_differing }
 
 -- what counts of a game
 abbrev pub mark_of : Option Ruled → GameResult → Mark
@@ -83,3 +93,59 @@ text_of_line only_differing l = if is_written only_differing l.mark then ended l
 abbrev pub line_of_sums : Form → Sums → List ℕ
 line_of_sums Words s = sums_words s
 line_of_sums Json s = json_text (object (sums_members s))
+
+-- ---- games in turn
+
+-- the games are told in turn: the text of their lines, and how many there are after them
+unfoldable pub TellsEach : Terms → Sums → List ReadingTold → Sums → List ℕ → Type 0
+TellsEach t s [] new text = (new ≡ s) × (text ≡ [])
+TellsEach t s (reading ∷ others) new text =
+    (l : Line) × (rest : List ℕ) × IsLineOf t (one_more s.games) reading l × TellsEach t (counted s l.mark) others new rest × (text ≡ text_of_line t.only_differing l ++ rest)
+
+-- these are the first games of the tokens, and what is left behind them
+unfoldable pub ReadsFront : List Token → List ReadingTold → List Token → Type 0
+ReadsFront tokens [] behind = behind ≡ tokens
+ReadsFront tokens (reading ∷ others) behind =
+    (next : List Token) × ReadsGame tokens (Some reading) next × ReadsFront next others behind
+
+-- so many games were told, and this is left
+pub record HasTold (t : Terms) (s : Sums) (tokens : List Token) (new : Sums) (behind : List Token) (text : List ℕ) : Type 0 where
+  pub readings : List ReadingTold
+  pub read : ReadsFront tokens readings behind
+  pub told : TellsEach t s readings new text
+
+-- why no more is told
+pub data IsCut : List ℕ → Type 0 where
+  Unread : IsCut refused_files
+  NoMemory : IsCut refused_memory
+
+-- the games of the tokens were told, all of them; or the first of them, until no more could be read or told, which was written last
+pub data TellsGames (t : Terms) (s : Sums) (tokens : List Token) (new : Sums) (before after : Option (List ℕ)) (how : Telling) : Type 0 where
+  ToldAll : (behind rest : List Token) (text : List ℕ) → HasTold t s tokens new behind text → ReadsGame behind None rest → Appends before after text → how ≡ Whole → TellsGames t s tokens new before after how
+  ToldSome : (behind : List Token) (text words : List ℕ) → HasTold t s tokens new behind text → IsCut words → Appends before after (text ++ ended words) → how ≡ CutShort → TellsGames t s tokens new before after how
+
+-- what is written next: the line of the next game; or why there is none
+abbrev pub IsNextText : Terms → Sums → List Token → List ℕ → Type 0
+IsNextText t s tokens text =
+    ((reading : ReadingTold) × (behind : List Token) × (l : Line) × ReadsGame tokens (Some reading) behind × IsLineOf t (one_more s.games) reading l × (text ≡ text_of_line t.only_differing l))
+    ⊎ ((words : List ℕ) × IsCut words × (text ≡ ended words))
+
+-- what a writer that failed leaves: the lines of the first games, and of one more line a front
+pub record CutsGames (t : Terms) (s : Sums) (tokens : List Token) (before after : Option (List ℕ)) : Type 0 where
+  pub new : Sums
+  pub behind : List Token
+  pub text : List ℕ
+  pub last : List ℕ
+  pub count : ℕ
+  pub has : HasTold t s tokens new behind text
+  pub is_last : IsNextText t new behind last
+  pub wrote : Appends before after (text ++ take count last)
+
+-- the sums are told in one line, and whether no game was at fault; or memory for the line was refused
+pub data TellsSums (form : Form) (s : Sums) (before after : Option (List ℕ)) (well : Bool) : Type 0 where
+  SumsTold : Appends before after (ended (line_of_sums form s)) → well ≡ (s.faults == 0) → TellsSums form s before after well
+  NoRoom : Appends before after (ended refused_memory) → well ≡ false → TellsSums form s before after well
+
+-- of that a front was written
+abbrev pub CutsSums : Form → Sums → Option (List ℕ) → Option (List ℕ) → Type 0
+CutsSums form s before after = HasFront before after (ended (line_of_sums form s)) ⊎ HasFront before after (ended refused_memory)

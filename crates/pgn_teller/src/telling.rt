@@ -1,21 +1,25 @@
 //! The games of an input that are told as they are read.
 
-ghost use Rattle.std.specs.Prelude.{◌≡◌, ◌++◌, IfOk, IsErrOf, OnErr, OnOk};
+ghost use Rattle.std.specs.Prelude.{◌≡◌, ◌++◌, IfOk, IfSome, OnErr, [], if◌then◌else◌};
 ghost use Rattle.std.specs.Io.KnownBytes.{Appends};
-ghost use Rattle.line_teller.specs.ToldLines.{HasFailed, HasFront};
+ghost use Rattle.line_teller.specs.ToldLines.{HasFailed, HasFront, cut_words};
 ghost use Rattle.move_msg.specs.TextLines.{ended};
-ghost use Rattle.pgn_games.specs.Owned.{reading_of};
-ghost use Rattle.pgn_teller.specs.Tellings.{IsLineOf, is_shown, mark_of, sums_text, terms_of};
+ghost use Rattle.system_io.specs.Outputs.{WritesFront};
+ghost use Rattle.pgn_games.specs.Owned.{game_of, reading_of};
+ghost use Rattle.pgn_games.specs.Readers.{tokens_left};
+ghost use Rattle.pgn_teller.specs.Inside.Steps.{CutsNext, CutsReading, IsTextOf, TellsNext, TellsReading};
+ghost use Rattle.pgn_games.specs.Games.{GameRead};
+ghost use Rattle.pgn_teller.specs.Tellings.{CutsGames, CutsSums, TellsGames, TellsSums, differs, is_written, line_of, line_of_fault, line_of_sums, mark_of, terms_of};
 
 use crate::finding::Finding;
 use crate::game_line::{Form, fault_line, game_line, sums_line};
 use crate::game_object::{Texts, put_fault, put_game, put_sums};
 use crate::rating::{Ruled, rule};
-use crate::sums::{Mark, Sums};
+use crate::sums::{Mark, Sums, one_more};
 use board_core::Delay;
 use judge_core::Set;
 use line_teller::{LineWords, TellFault, tell_cut};
-use pgn_games::{Game, GameFault, PgnReader, Reading};
+use pgn_games::{Game, GameFault, GameResult, PgnReader, Reading};
 use std::alloc::{AllocError, Global};
 use std::io::Write;
 use system_io::{LineReader, Output, ReadFault, WriteFault};
@@ -75,23 +79,68 @@ fn text_of(alloc: Global, line: LineWords) -> Result<Vec<u8>, AllocError>
     }
 }
 
-/// Adds the line feed to an object.
-fn ended(text: Vec<u8>, put: Result<(), WriteFault>) -> Result<Vec<u8>, AllocError> {
-    let mut text = text;
-    match put {
-        Ok(()) => {
-            text.push(b'\n')?;
-            Ok(text)
-        }
-        Err(_) => Err(AllocError),
+/// The object of a game, with a line feed.
+fn object_of_game(
+    alloc: Global,
+    number: u64,
+    game: &Game,
+    ruled: Option<Ruled>,
+) -> Result<Vec<u8>, AllocError>
+    ensures { IfOk result (λ text. text.items ≡ ended (line_of Form.Json number (game_of game.now) ruled)) }
+{
+    let texts = Texts::of(alloc, game)?;
+    let mut text = Vec::new(alloc);
+    match put_game(&mut text, number, game, &texts, ruled) {
+        Ok(()) => {}
+        Err(_) => return Err(AllocError),
     }
+    text.push(b'\n')?;
+    Ok(text)
+}
+
+/// The object of a game that isn't read, with a line feed.
+fn object_of_fault(alloc: Global, number: u64, fault: &GameFault) -> Result<Vec<u8>, AllocError>
+    ensures { IfOk result (λ text. text.items ≡ ended (line_of_fault Form.Json number fault.now)) }
+{
+    let mut text = Vec::new(alloc);
+    match put_fault(&mut text, number, fault) {
+        Ok(()) => {}
+        Err(_) => return Err(AllocError),
+    }
+    text.push(b'\n')?;
+    Ok(text)
+}
+
+/// The object of the sums, with a line feed.
+fn object_of_sums(alloc: Global, sums: &Sums) -> Result<Vec<u8>, AllocError>
+    ensures { IfOk result (λ text. text.items ≡ ended (line_of_sums Form.Json sums.now)) }
+{
+    let mut text = Vec::new(alloc);
+    match put_sums(&mut text, sums) {
+        Ok(()) => {}
+        Err(_) => return Err(AllocError),
+    }
+    text.push(b'\n')?;
+    Ok(text)
 }
 
 /// What counts of a game, by its first verdict and the result that stands in the file.
-fn mark_of(ruled: Option<Ruled>, game: &Game) -> Mark {
+fn mark_of(ruled: Option<Ruled>, stands: GameResult) -> Mark
+    ensures { result ≡ mark_of ruled stands }
+{
     match ruled {
-        Some(_) => Mark::Ruled(Finding::of(ruled, game.result)),
+        Some(ruled) => Mark::Ruled(Finding::beside(ruled.verdict, stands)),
         None => Mark::Open,
+    }
+}
+
+/// Whether a game with this mark has a result that isn't the verdict's.
+fn differs(mark: Mark) -> bool
+    ensures { result ≡ differs mark }
+{
+    match mark {
+        Mark::Ruled(Finding::Differs) => true,
+        _ => false,
     }
 }
 
@@ -102,54 +151,73 @@ impl<'a> GameTeller<'a> {
         number: u64,
         game: &Game,
         ruled: Option<Ruled>,
-    ) -> Result<Vec<u8>, AllocError> {
+    ) -> Result<Vec<u8>, AllocError>
+        ensures { IfOk result (λ text. text.items ≡ ended (line_of self.now.form number (game_of game.now) ruled)) }
+    {
         match self.form {
             Form::Words => {
                 let line = game_line(number, game.moves.len(), ruled, game.result);
                 text_of(self.alloc, line)
             }
-            Form::Json => {
-                let texts = Texts::of(self.alloc, game)?;
-                let mut text = Vec::new(self.alloc);
-                let put = put_game(&mut text, number, game, &texts, ruled);
-                ended(text, put)
-            }
+            Form::Json => object_of_game(self.alloc, number, game, ruled),
         }
     }
 
     /// The line of a game that isn't read.
-    fn text_of_fault(&self, number: u64, fault: &GameFault) -> Result<Vec<u8>, AllocError> {
+    fn text_of_fault(&self, number: u64, fault: &GameFault) -> Result<Vec<u8>, AllocError>
+        ensures { IfOk result (λ text. text.items ≡ ended (line_of_fault self.now.form number fault.now)) }
+    {
         match self.form {
             Form::Words => text_of(self.alloc, fault_line(number, fault)),
-            Form::Json => {
-                let mut text = Vec::new(self.alloc);
-                let put = put_fault(&mut text, number, fault);
-                ended(text, put)
-            }
+            Form::Json => object_of_fault(self.alloc, number, fault),
         }
     }
 
+    /// The line of a game that is read.
+    fn judged(&mut self, number: u64, game: &Game) -> Result<GameText, AllocError>
+        ensures line { IfOk result (IsTextOf (terms_of self.old) number (GameRead (game_of game.now))) }
+        ensures set { self.new.set ≡ self.old.set }
+        ensures rest { (self.new.sums ≡ self.old.sums) × (self.new.delay ≡ self.old.delay) × (self.new.form ≡ self.old.form) × (self.new.only_differing ≡ self.old.only_differing) }
+    {
+        let ruled = rule(self.alloc, &mut self.set, self.delay, game)?;
+        let text = self.text_of_game(number, game, ruled)?;
+        let mark = mark_of(ruled, game.result);
+        Ok(GameText { text, mark })
+    }
+
     /// The line of a game that is read, or isn't.
-    fn text_of_reading(&mut self, number: u64, reading: &Reading) -> Result<GameText, AllocError> {
+    fn text_of_reading(&mut self, number: u64, reading: &Reading) -> Result<GameText, AllocError>
+        ensures line { IfOk result (IsTextOf (terms_of self.old) number (reading_of reading.now)) }
+        ensures set { self.new.set ≡ self.old.set }
+        ensures rest { (self.new.sums ≡ self.old.sums) × (self.new.delay ≡ self.old.delay) × (self.new.form ≡ self.old.form) × (self.new.only_differing ≡ self.old.only_differing) }
+    {
         match reading {
-            Reading::Game(game) => {
-                let ruled = rule(self.alloc, &mut self.set, self.delay, game)?;
-                let text = self.text_of_game(number, game, ruled)?;
-                Ok(GameText {
-                    text,
-                    mark: mark_of(ruled, game),
-                })
+            Reading::Game(game) => self.judged(number, game),
+            Reading::Fault(fault) => {
+                let text = self.text_of_fault(number, fault)?;
+                let mark = Mark::AtFault;
+                Ok(GameText { text, mark })
             }
-            Reading::Fault(fault) => Ok(GameText {
-                text: self.text_of_fault(number, fault)?,
-                mark: Mark::AtFault,
-            }),
         }
     }
 
     /// Whether a game with this mark is written.
-    fn shows(&self, mark: Mark) -> bool {
-        !self.only_differing || mark == Mark::Ruled(Finding::Differs)
+    fn writes(&self, mark: Mark) -> bool
+        ensures { result ≡ is_written self.now.only_differing mark }
+    {
+        !self.only_differing || differs(mark)
+    }
+
+    /// Writes the line of a game, where it is written, and sees to it that it has gone out.
+    fn put_line<W: Output>(&self, line: &GameText, out: &mut W) -> Result<(), WriteFault>
+        ensures front { WritesFront (W.contents out.old) (W.contents out.new) (if is_written self.now.only_differing line.now.mark then line.now.text.items else []) result }
+        ensures cause { OnErr result (HasFailed W.facts) }
+    {
+        if !self.writes(line.mark) {
+            return Ok(());
+        }
+        out.put(&line.text)?;
+        out.flush_all()
     }
 
     /// Tells a game that is read, or isn't.
@@ -157,17 +225,18 @@ impl<'a> GameTeller<'a> {
         &mut self,
         reading: &Reading,
         out: &mut W,
-    ) -> Result<Step, WriteFault> {
-        let number = self.sums.games.saturating_add(1);
-        let Ok(GameText { text, mark }) = self.text_of_reading(number, reading) else {
+    ) -> Result<Step, WriteFault>
+        ensures told { IfOk result (TellsReading (terms_of self.old) self.old.sums (reading_of reading.now) self.new.sums (W.contents out.old) (W.contents out.new)) }
+        ensures front { OnErr result (CutsReading (terms_of self.old) self.old.sums (reading_of reading.now) (W.contents out.old) (W.contents out.new)) }
+        ensures cause { OnErr result (HasFailed W.facts) }
+        ensures same { terms_of self.new ≡ terms_of self.old }
+    {
+        let number = one_more(self.sums.games);
+        let Ok(line) = self.text_of_reading(number, reading) else {
             return put_cut(out, ReadFault::OutOfMemory);
         };
-        self.sums = self.sums.with(mark);
-        if !self.shows(mark) {
-            return Ok(Step::Told);
-        }
-        out.put(&text)?;
-        out.flush_all()?;
+        self.put_line(&line, out)?;
+        self.sums = self.sums.with(line.mark);
         Ok(Step::Told)
     }
 
@@ -176,7 +245,12 @@ impl<'a> GameTeller<'a> {
         &mut self,
         reader: &mut PgnReader<L>,
         out: &mut W,
-    ) -> Result<Step, WriteFault> {
+    ) -> Result<Step, WriteFault>
+        ensures told { IfOk result (λ step. IfSome (tokens_left (λ l. (L.LineReader.facts l).left) reader.old) (λ tokens. TellsNext (terms_of self.old) self.old.sums tokens self.new.sums (tokens_left (λ l. (L.LineReader.facts l).left) reader.new) (W.contents out.old) (W.contents out.new) step)) }
+        ensures front { OnErr result (IfSome (tokens_left (λ l. (L.LineReader.facts l).left) reader.old) (λ tokens. CutsNext (terms_of self.old) self.old.sums tokens (W.contents out.old) (W.contents out.new))) }
+        ensures cause { OnErr result (HasFailed W.facts) }
+        ensures same { terms_of self.new ≡ terms_of self.old }
+    {
         match reader.next_game() {
             Ok(Some(reading)) => self.tell_reading(&reading, out),
             Ok(None) => Ok(Step::Ended),
@@ -184,52 +258,71 @@ impl<'a> GameTeller<'a> {
         }
     }
 
-    /// Tells the games of an input, a line each as they are read.
+    /// Tells the games of an input, a line each as they are read, and counts them. Each line has gone out before more is read.
+    ///
+    /// Where memory is refused, the line `refused memory` follows the lines before it, and where the input can't be read further,
+    /// `refused files`; nothing follows then. The error comes only where the writer failed. The lines before are whole then, and of the last a
+    /// front is written.
     pub fn tell_games<L: LineReader + Drop, W: Output>(
         &mut self,
         reader: &mut PgnReader<L>,
         out: &mut W,
-    ) -> Result<Telling, WriteFault> {
+    ) -> Result<Telling, WriteFault>
+        ensures told { IfOk result (λ how. IfSome (tokens_left (λ l. (L.LineReader.facts l).left) reader.old) (λ tokens. TellsGames (terms_of self.old) self.old.sums tokens self.new.sums (W.contents out.old) (W.contents out.new) how)) }
+        ensures front { OnErr result (IfSome (tokens_left (λ l. (L.LineReader.facts l).left) reader.old) (λ tokens. CutsGames (terms_of self.old) self.old.sums tokens (W.contents out.old) (W.contents out.new))) }
+        ensures cause { OnErr result (HasFailed W.facts) }
+        ensures same { terms_of self.new ≡ terms_of self.old }
+    {
         for _ in 0..u64::MAX {
-            match self.tell_next(reader, out)? {
-                Step::Told => {}
-                Step::Ended => return Ok(Telling::Whole),
-                Step::Cut => return Ok(Telling::CutShort),
+            match self.tell_next(reader, out) {
+                Ok(Step::Told) => {}
+                Ok(Step::Ended) => return Ok(Telling::Whole),
+                Ok(Step::Cut) => return Ok(Telling::CutShort),
+                Err(fault) => return Err(fault),
             }
         }
-        put_cut(out, ReadFault::Unreadable)?;
-        Ok(Telling::CutShort)
+        match put_cut(out, ReadFault::Unreadable) {
+            Ok(_) => Ok(Telling::CutShort),
+            Err(fault) => Err(fault),
+        }
     }
 
     /// The line of the sums.
-    fn text_of_sums(&self) -> Result<Vec<u8>, AllocError> {
+    fn text_of_sums(&self) -> Result<Vec<u8>, AllocError>
+        ensures { IfOk result (λ text. text.items ≡ ended (line_of_sums self.now.form self.now.sums)) }
+    {
         match self.form {
             Form::Words => text_of(self.alloc, sums_line(&self.sums)),
-            Form::Json => {
-                let mut text = Vec::new(self.alloc);
-                let put = put_sums(&mut text, &self.sums);
-                ended(text, put)
-            }
+            Form::Json => object_of_sums(self.alloc, &self.sums),
         }
     }
 
-    /// Writes the sums in one line, and returns whether no game was at fault.
-    pub fn tell_sums<W: Output>(&self, out: &mut W) -> Result<bool, WriteFault> {
-        match self.text_of_sums() {
-            Ok(text) => {
-                out.put(&text)?;
-                Ok(self.sums.faults == 0)
-            }
-            Err(_) => {
-                tell_cut(out, ReadFault::OutOfMemory)?;
-                Ok(false)
-            }
+    /// Writes the sums in one line, and returns whether no game was at fault. Where memory for the line is refused, it is `refused memory`,
+    /// and the result is false.
+    pub fn tell_sums<W: Output>(&self, out: &mut W) -> Result<bool, WriteFault>
+        ensures told { IfOk result (TellsSums self.now.form self.now.sums (W.contents out.old) (W.contents out.new)) }
+        ensures front { OnErr result (CutsSums self.now.form self.now.sums (W.contents out.old) (W.contents out.new)) }
+        ensures cause { OnErr result (HasFailed W.facts) }
+    {
+        let Ok(text) = self.text_of_sums() else {
+            return match tell_cut(out, ReadFault::OutOfMemory) {
+                Ok(()) => Ok(false),
+                Err(fault) => Err(fault),
+            };
+        };
+        match out.put(&text) {
+            Ok(()) => Ok(self.sums.faults == 0),
+            Err(fault) => Err(fault),
         }
     }
 }
 
 /// Writes why no more is told.
-fn put_cut<W: Output>(out: &mut W, fault: ReadFault) -> Result<Step, WriteFault> {
+fn put_cut<W: Output>(out: &mut W, fault: ReadFault) -> Result<Step, WriteFault>
+    ensures cut { IfOk result (λ step. (step ≡ Step.Cut) × Appends (W.contents out.old) (W.contents out.new) (ended (cut_words fault))) }
+    ensures front { OnErr result (HasFront (W.contents out.old) (W.contents out.new) (ended (cut_words fault))) }
+    ensures cause { OnErr result (HasFailed W.facts) }
+{
     match tell_cut(out, fault) {
         Ok(()) => Ok(Step::Cut),
         Err(fault) => Err(fault),
