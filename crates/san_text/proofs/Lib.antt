@@ -3,3 +3,4 @@ pub mod Rivals
 pub mod Meant
 pub mod Bytes
 pub mod ReadingLaws
+pub mod SpellingLaws
