@@ -4,3 +4,5 @@ pub mod Meant
 pub mod Bytes
 pub mod ReadingLaws
 pub mod SpellingLaws
+pub mod PawnLaws
+pub mod WrittenLaws

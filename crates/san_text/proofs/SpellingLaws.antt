@@ -103,7 +103,7 @@ square_split (c ∷ d ∷ cs) s e =
 
 -- ---- the sign between
 
-no_sign : (file rank : Option ℕ) → IsOneOf (between_texts file rank false) []
+pub no_sign : (file rank : Option ℕ) → IsOneOf (between_texts file rank false) []
 no_sign None rank = inl refl
 no_sign (Some file) None = inl refl
 no_sign (Some file) (Some rank) = inl refl
