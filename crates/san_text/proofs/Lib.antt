@@ -6,3 +6,5 @@ pub mod ReadingLaws
 pub mod SpellingLaws
 pub mod PawnLaws
 pub mod WrittenLaws
+pub mod Answered
+pub mod MarkLaws

@@ -333,7 +333,7 @@ castling_spelled : (sign : ℕ) (t : List ℕ) (told : Told) → IsOneOf (castli
 castling_spelled sign t told king queen short e = elim (cases_Bool (is_longer sign (past_three t))) [
   | inl l ↦
       let whole : t ≡ (sign ∷ 45 ∷ sign ∷ 45 ∷ sign ∷ []) ++ past_two (past_three t) =
-          short_split sign t short ∙ ap (λ (s : List ℕ). (sign ∷ 45 ∷ sign ∷ []) ++ s) (longer_split sign (past_three t) l) in
+      short_split sign t short ∙ ap (λ (s : List ℕ). (sign ∷ 45 ∷ sign ∷ []) ++ s) (longer_split sign (past_three t) l) in
       subst (λ (s : List ℕ). SpellsTold s told) (sym whole) (castles_spelled QueenSide _ (past_two (past_three t)) told queen (rw l at e))
   | inr l ↦ subst (λ (s : List ℕ). SpellsTold s told) (sym (short_split sign t short)) (castles_spelled KingSide _ (past_three t) told king (rw l at e))
 ]

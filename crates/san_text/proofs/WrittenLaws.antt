@@ -242,13 +242,3 @@ pub one_reading : (p : Parts) (t : List ℕ) (m n : Move) → ReadsSan p t m →
 one_reading p t m n h k =
     let same : k.told ≡ h.told = let e = sym (spelled_read t k.told k.spells) ∙ spelled_read t h.told h.spells in cc in
     sym (h.only n (subst (λ told. IsMeant p told n) same k.meant))
-
--- ---- the marks
-
-has_some_of : (p : Parts) (moves : List Move) → legal_moves p ≡ moves → Decides (has_some moves) ((m : Move) × IsLegal p m)
-has_some_of p [] e = (λ t. absurd (let f = t in cc), λ a. absurd (let c = (HasLegal-moves p).complete a.0 a.1 in let lt = rw e at c.1 in omega arith))
-has_some_of p (m ∷ moves) e = (λ _. (m, let s = (HasLegal-moves p).sound in (rw e at s) 0 m (omega arith)), λ _. refl)
-
-Decides-moves : (p : Parts) → Decides (has_legal_move p) ((m : Move) × IsLegal p m)
-unfolding has_legal_move
-Decides-moves p = has_some_of p (legal_moves p) refl
