@@ -1,9 +1,9 @@
 //! What tables tell of a position and of its legal moves, as one JSON object (RFC 8259).
 //!
-//! `JsonLine` is what a line tells: why a text is no position, or both probes of a position and the verdict on it, or these with the
-//! legal moves, the best first, each with the values of the position after it. `Ask` of judge_core says whether values are the strict
-//! ones, or also those that every completion of the missing tables gives. `put_json_line` writes it. Names and meanings are those of the
-//! tablebase API of Lichess, where it has them (FORMATS, section 3.10).
+//! `JsonLine` is what a line tells: why a text is no position, or both probes of a position and the verdict on it, or these with all
+//! legal moves, each with the values of the position after it: the best first, or in the order of moves where the position is out of
+//! scope. `Ask` of judge_core says whether values are the strict ones, or also those that every completion of the missing tables gives.
+//! `put_json_line` writes it. Names and meanings are those of the tablebase API of Lichess, where it has them (FORMATS, section 3.10).
 //!
 //! Inside: `told` (what is told), `writing`, `members` and `text` (objects, members, strings with their escapes).
 //!
@@ -13,7 +13,8 @@
 //! - CLAIM: `put_json_line`, clauses `written`, `reads_back`: the text is that of the line's object, and a JSON parser reads it back.
 //! - CLAIM: `JsonLine::of_text`, clauses `told`, `memory`, `lack`, `unchanged`; `JsonLine::of_position`, clauses `told`, `memory`,
 //!   `unchanged`; `JsonLine::is_done`: the line tells what the set's calls tell of the position that the text spells, or the text's
-//!   first fault. Lack of memory is told only at a position in scope; without moves only where its values list moves.
+//!   first fault. With moves it has each legal move once, in scope or not. Without them lack of memory is told only where its values
+//!   list moves.
 #![tactic(auto)]
 
 mod members;

@@ -218,9 +218,9 @@ fn put_position<W: Write>(out: &mut W, told: &PositionTold) -> Result<(), WriteF
 
 /// Writes the member that has a move.
 fn put_uci<W: Write>(out: &mut W, told: &MoveTold) -> Result<(), WriteFault>
-    ensures { OnOk result (Writes false (key (codes "uci") ∷ json_tokens (string (move_text told.now.root.played))) (W.contents out.old) (W.contents out.new)) }
+    ensures { OnOk result (Writes false (key (codes "uci") ∷ json_tokens (string (move_text told.now.played))) (W.contents out.old) (W.contents out.new)) }
 {
-    let played = write_move(&told.root.played);
+    let played = write_move(&told.played);
     let member = Member {
         name: "uci",
         value: Value::Text(played.as_str()),
@@ -233,36 +233,23 @@ fn put_after<W: Write>(out: &mut W, told: &MoveTold) -> Result<(), WriteFault>
     ensures { OnOk result (Writes true (open_tokens (after_members told.now)) (W.contents out.old) (W.contents out.new)) }
 {
     let fen = write(&told.after);
-    let state = told.root.state;
+    let state = told.state;
     let members = [
-        Member {
-            name: "fen",
-            value: Value::Text(fen.as_str()),
-        },
-        Member {
-            name: "wdl",
-            value: number_or_null(&told.probed.wdl),
-        },
-        Member {
-            name: "dtz",
-            value: number_or_null(&told.probed.dtz),
-        },
-        Member {
-            name: "category",
-            value: Value::Text(category_of(state, &told.probed.wdl)),
-        },
-        Member {
-            name: "zeroing",
-            value: Value::Boolean(told.root.effect.zeroes_clock()),
-        },
-        Member {
-            name: "checkmate",
-            value: Value::Boolean(state.is_checkmate()),
-        },
-        Member {
-            name: "stalemate",
-            value: Value::Boolean(is_stalemate(state)),
-        },
+        member("fen", Value::Text(fen.as_str())),
+        member("wdl", number_or_null(&told.probed.wdl)),
+        member("dtz", number_or_null(&told.probed.dtz)),
+        member(
+            "category",
+            Value::Text(category_of(state, &told.probed.wdl)),
+        ),
+        member("zeroing", Value::Boolean(told.effect.zeroes_clock())),
+        member("checkmate", Value::Boolean(state.is_checkmate())),
+        member("stalemate", Value::Boolean(is_stalemate(state))),
+        member("check", Value::Boolean(told.after.in_check())),
+        member(
+            "insufficient_material",
+            Value::Boolean(told.after.has_insufficient_material()),
+        ),
     ];
     put_told(out, true, &members, &told.probed)
 }
