@@ -1,3 +1,4 @@
+use Rattle.std.proofs.Common.{rules}
 use Rattle.json_lines.proofs.Pieces.{writes_count}
 use Rattle.json_lines.proofs.members.put_count.Goals as goal
 
