@@ -1,0 +1,28 @@
+//! Laws over the definitions alone, for the layers above.
+
+ghost use Rattle.san_text.specs.Laws.{IsReadBack, HasOneMove, TellsOneThing, MarksMate, MarksCheck};
+
+/// What is written for a legal move is read as this move.
+pub fn is_read_back()
+    ensures { IsReadBack }
+{}
+
+/// Two legal moves of a position have two texts.
+pub fn one_move()
+    ensures { HasOneMove }
+{}
+
+/// A text tells one thing at most.
+pub fn one_thing()
+    ensures { TellsOneThing }
+{}
+
+/// A text has `#` exactly where the position after the move is checkmate.
+pub fn marks_mate()
+    ensures { MarksMate }
+{}
+
+/// A text has `+` exactly where the position after the move is check, and no checkmate.
+pub fn marks_check()
+    ensures { MarksCheck }
+{}
