@@ -1,6 +1,7 @@
 //! Laws over the definitions of specs/, for proofs above: each function carries one law and does nothing.
 
 ghost use Rattle.judge_core.specs.FiveRules.{DistanceByFiveRules};
+ghost use Rattle.judge_core.specs.MoreTables.{MoreTablesAnswerTheSame};
 ghost use Rattle.judge_core.specs.DeterminedLaws.{CompletionsExist, DeterminedAnswersAreOne, DeterminedDistanceIsOne, DeterminedMoveIsAsProbed, DeterminedValueIsOne, FirstDeterminedMoveIsBest, FirstDeterminedMoveWinsWithinRule};
 ghost use Rattle.judge_core.specs.RootLaws.{FirstMoveIsBest, FirstMoveWinsWithinRule, FirstMoveKeepsTheValue, NearestWinIsTheDistance, NoCaptureIsBetter};
 ghost use Rattle.judge_core.specs.Laws.{WdlMeetsItsRule, DtzMeetsItsRules, GameHasOneOutcome, NoDelayIsTheRuling, FirstVerdictInWords, FirstVerdictLooksBack, IllegalStaysIllegal, OneMoveMore};
@@ -118,4 +119,9 @@ pub fn first_determined_move_is_best()
 /// greater number.
 pub fn first_determined_move_wins_within_rule()
     ensures { FirstDeterminedMoveWinsWithinRule }
+{}
+
+/// A set that has more tables answers the same, but where the first set misses a table that it has.
+pub fn more_tables_answer_the_same()
+    ensures { MoreTablesAnswerTheSame }
 {}
