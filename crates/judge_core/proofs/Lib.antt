@@ -41,3 +41,4 @@ pub mod Told
 pub mod Firm
 pub mod FirmDistances
 pub mod MoreTables
+pub mod Opened

@@ -1,7 +1,7 @@
 //! Laws over the definitions of specs/, for proofs above: each function carries one law and does nothing.
 
 ghost use Rattle.judge_core.specs.FiveRules.{DistanceByFiveRules};
-ghost use Rattle.judge_core.specs.MoreTables.{MoreTablesAnswerTheSame};
+ghost use Rattle.judge_core.specs.MoreTables.{AskingAgainEnds, MoreTablesAnswerTheSame, WhatIsMissingStaysMissing};
 ghost use Rattle.judge_core.specs.DeterminedLaws.{CompletionsExist, DeterminedAnswersAreOne, DeterminedDistanceIsOne, DeterminedMoveIsAsProbed, DeterminedValueIsOne, FirstDeterminedMoveIsBest, FirstDeterminedMoveWinsWithinRule};
 ghost use Rattle.judge_core.specs.RootLaws.{FirstMoveIsBest, FirstMoveWinsWithinRule, FirstMoveKeepsTheValue, NearestWinIsTheDistance, NoCaptureIsBetter};
 ghost use Rattle.judge_core.specs.Laws.{WdlMeetsItsRule, DtzMeetsItsRules, GameHasOneOutcome, NoDelayIsTheRuling, FirstVerdictInWords, FirstVerdictLooksBack, IllegalStaysIllegal, OneMoveMore};
@@ -124,4 +124,15 @@ pub fn first_determined_move_wins_within_rule()
 /// A set that has more tables answers the same, but where the first set misses a table that it has.
 pub fn more_tables_answer_the_same()
     ensures { MoreTablesAnswerTheSame }
+{}
+
+/// The table that an answer names as missing is missing, and the answer stays until it is there.
+pub fn what_is_missing_stays_missing()
+    ensures { WhatIsMissingStaysMissing }
+{}
+
+/// Whoever opens the table that an answer misses, where it is to be had, and asks again, comes to an answer that is final,
+/// after no more sets than there are slots.
+pub fn asking_again_ends()
+    ensures { AskingAgainEnds }
 {}

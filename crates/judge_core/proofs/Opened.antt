@@ -1,0 +1,155 @@
+-- Whoever opens what is missing, and asks again, comes to an end.
+use Rattle.std.proofs.Common.{◌≡◌, ◌≢◌, ◌∙◌, sym, ap, subst, refl, ℕ, zero, suc, ◌+◌, ◌<◌, ◌≤◌, ◌⊎◌, cond, is_some, List, [], ◌∷◌, length, get_or, Option, Some, None, inl, inr, arith}
+use Rattle.std.specs.Prelude.{IfSome, count_by}
+use Rattle.std.proofs.lemmas.List.Sums.{sum_by-cons, count_by-le-length}
+use Rattle.table_file.specs.declared.kind.TableKind.{TableKind}
+use Rattle.table_file.specs.declared.kind.TableKind.TheVariants.{Wdl, Dtz}
+use Rattle.table_file.specs.Tables.{Contents}
+use Rattle.judge_core.specs.Tables.{Tables, slot, table_at}
+use Rattle.judge_core.specs.MoreTables.{HasAll, AddsNone, IsFinalValue, IsFinalDistance, table_count, AreOpened, IsReached, AskingAgainEnds}
+
+-- ---- counting tables
+
+one : (o : Option Contents) (tables : Tables) → table_count (o ∷ tables) ≡ cond (is_some o) 1 0 + table_count tables
+one o tables = sum_by-cons (λ (o : Option Contents). cond (is_some o) 1 0) o tables
+
+counted : (o : Option Contents) (t : Contents) → o ≡ Some t → cond (is_some o) 1 0 ≡ suc zero
+counted o t e = rw e refl
+
+uncounted : (o : Option Contents) → o ≡ None → cond (is_some o) 1 0 ≡ zero
+uncounted o e = rw e refl
+
+-- each table of the first is in the second
+abbrev IsWithin : Tables → Tables → Type 0
+IsWithin xs ys = (i : ℕ) (t : Contents) → get_or xs i None ≡ Some t → get_or ys i None ≡ Some t
+
+rest_within : (x y : Option Contents) (xs ys : Tables) → IsWithin (x ∷ xs) (y ∷ ys) → IsWithin xs ys
+rest_within x y xs ys h i t e = h (suc i) t e
+
+head_within : (x y : Option Contents) (xs ys : Tables) → IsWithin (x ∷ xs) (y ∷ ys) → cond (is_some x) 1 0 ≤ cond (is_some y) 1 0
+head_within None y xs ys h = omega arith
+head_within (Some t) y xs ys h = (let e : y ≡ Some t = h 0 t refl in rw e (omega arith))
+
+none_within : (xs : Tables) → IsWithin xs [] → table_count xs ≤ 0
+none_within [] h = omega arith
+none_within (None ∷ xs) h = (let rest = none_within xs (λ i t e. h (suc i) t e) in let e = one None xs in omega (arith, rest, e))
+none_within (Some t ∷ xs) h = (let never : None ≡ Some t = h 0 t refl in absurd cc)
+
+count_le : (xs ys : Tables) → IsWithin xs ys → table_count xs ≤ table_count ys
+count_le [] ys h = omega arith
+count_le (x ∷ xs) [] h = none_within (x ∷ xs) h
+count_le (x ∷ xs) (y ∷ ys) h =
+    let head = head_within x y xs ys h in
+    let rest = count_le xs ys (rest_within x y xs ys h) in
+    let a = one x xs in
+    let b = one y ys in
+    omega (arith, head, rest, a, b)
+
+count_lt : (xs ys : Tables) (i : ℕ) (t : Contents) → IsWithin xs ys → get_or xs i None ≡ None → get_or ys i None ≡ Some t → table_count xs < table_count ys
+count_lt xs [] i t h none some = absurd (cc)
+count_lt [] (y ∷ ys) zero t h none some =
+    let a = one y ys in
+    let b = counted y t some in
+    omega (arith, a, b)
+count_lt [] (y ∷ ys) (suc i) t h none some =
+    let rest = count_lt [] ys i t (λ j u e. absurd cc) refl some in
+    let a = one y ys in
+    omega (arith, a, rest)
+count_lt (x ∷ xs) (y ∷ ys) zero t h none some =
+    let rest = count_le xs ys (rest_within x y xs ys h) in
+    let a = one x xs in
+    let b = one y ys in
+    let c = uncounted x none in
+    let d = counted y t some in
+    omega (arith, rest, a, b, c, d)
+count_lt (x ∷ xs) (y ∷ ys) (suc i) t h none some =
+    let head = head_within x y xs ys h in
+    let rest = count_lt xs ys i t (rest_within x y xs ys h) none some in
+    let a = one x xs in
+    let b = one y ys in
+    omega (arith, head, rest, a, b)
+
+within : (tables more : Tables) → HasAll tables more → IsWithin tables more
+within tables more all i t e = all Wdl i t e
+
+-- ---- what is added
+
+-- the whole set has a table of this kind and material that the first lacks
+pub record Adds (tables whole : Tables) (kind : TableKind) (key : ℕ) : Type 0 where
+  pub table : Contents
+  pub lacks : table_at tables kind key ≡ None
+  pub there : table_at whole kind key ≡ Some table
+
+adds_or_none : (tables whole : Tables) → HasAll tables whole → (kind : TableKind) (key : ℕ) → AddsNone tables whole kind key ⊎ Adds tables whole kind key
+adds_or_none tables whole all kind key = by_table (table_at tables kind key) (table_at whole kind key) refl refl
+  where
+    by_table : (o w : Option Contents) → table_at tables kind key ≡ o → table_at whole kind key ≡ w → AddsNone tables whole kind key ⊎ Adds tables whole kind key
+    by_table None None e f = inl (f ∙ sym e)
+    by_table None (Some t) e f = inr (record { table = t; lacks = e; there = f })
+    by_table (Some t) w e f = inl (all kind key t e ∙ sym e)
+
+-- the whole set has a table that is missing, and which is there in a set that is final for it
+pub record IsAdded (IsFinal : Tables → Tables → Option ℕ → Type 0) (tables whole : Tables) (missing : Option ℕ) : Type 0 where
+  pub kind : TableKind
+  pub key : ℕ
+  pub adds : Adds tables whole kind key
+  pub opened : (more : Tables) → IsFinal more whole missing → AddsNone more whole kind key
+
+-- it is known whether what is missing is final
+abbrev IsKnown : (Tables → Tables → Option ℕ → Type 0) → Type 0
+IsKnown IsFinal = (tables whole : Tables) (missing : Option ℕ) → HasAll tables whole → IsFinal tables whole missing ⊎ IsAdded IsFinal tables whole missing
+
+known_value : IsKnown IsFinalValue
+known_value tables whole None all = inl tt
+known_value tables whole (Some key) all = elim (adds_or_none tables whole all Wdl key) [
+  | inl none ↦ inl none
+  | inr adds ↦ inr (record { kind = Wdl; key = key; adds = adds; opened = λ more final. final })
+]
+
+known_distance : IsKnown IsFinalDistance
+known_distance tables whole None all = inl tt
+known_distance tables whole (Some key) all = by_kinds (adds_or_none tables whole all Wdl key) (adds_or_none tables whole all Dtz key)
+  where
+    both : AddsNone tables whole Wdl key → AddsNone tables whole Dtz key → (kind : TableKind) → AddsNone tables whole kind key
+    both a b Wdl = a
+    both a b Dtz = b
+
+    by_kinds : AddsNone tables whole Wdl key ⊎ Adds tables whole Wdl key → AddsNone tables whole Dtz key ⊎ Adds tables whole Dtz key → IsFinalDistance tables whole (Some key) ⊎ IsAdded IsFinalDistance tables whole (Some key)
+    by_kinds (inl a) (inl b) = inl (both a b)
+    by_kinds (inl a) (inr adds) = inr (record { kind = Dtz; key = key; adds = adds; opened = λ more final. final Dtz })
+    by_kinds (inr adds) b = inr (record { kind = Wdl; key = key; adds = adds; opened = λ more final. final Wdl })
+
+-- ---- the end
+
+module _ (IsFinal : Tables → Tables → Option ℕ → Type 0) (known : IsKnown IsFinal) (missing : Tables → Option ℕ) (whole : Tables) (sets : ℕ → Tables) (h : AreOpened IsFinal missing whole sets) where
+  -- the next set has a table more
+  grown : (n : ℕ) → IsAdded IsFinal (sets n) whole (missing (sets n)) → table_count (sets n) < table_count (sets (n + 1))
+  grown n added =
+      let there : table_at (sets (n + 1)) added.kind added.key ≡ Some added.adds.table = sym (added.opened (sets (n + 1)) (h.opened n)) ∙ added.adds.there in
+      count_lt (sets n) (sets (n + 1)) (slot added.kind added.key) added.adds.table (within (sets n) (sets (n + 1)) (h.kept n)) added.adds.lacks there
+
+  most : (n : ℕ) → table_count (sets n) ≤ table_count whole
+  most n = count_le (sets n) whole (within (sets n) whole (h.within n))
+
+  by_end : (n : ℕ) → n + table_count (sets 0) ≤ table_count (sets n) → (IsAdded IsFinal (sets n) whole (missing (sets n)) → IsReached IsFinal missing whole sets) → IsFinal (sets n) whole (missing (sets n)) ⊎ IsAdded IsFinal (sets n) whole (missing (sets n))
+      → IsReached IsFinal missing whole sets
+  by_end n brought later (inl final) = record {
+    last = n;
+    final = final;
+    brought = brought;
+    soon = (let a = most n in let b : table_count whole ≤ length whole = count_by-le-length is_some whole in omega (arith, a, b, brought));
+  }
+  by_end n brought later (inr added) = later added
+
+  -- from a set that lacks so many tables of the whole one
+  from_set : (k n : ℕ) → table_count whole ≤ table_count (sets n) + k → n + table_count (sets 0) ≤ table_count (sets n) → IsReached IsFinal missing whole sets
+  from_set zero n left brought =
+      by_end n brought (λ added. (let a = grown n added in let b = most (n + 1) in absurd (omega (arith, a, b, left)))) (known (sets n) whole (missing (sets n)) (h.within n))
+  from_set (suc k) n left brought =
+      by_end n brought (λ added. (let a = grown n added in from_set k (n + 1) (omega (arith, a, left)) (omega (arith, a, brought)))) (known (sets n) whole (missing (sets n)) (h.within n))
+
+  reached : IsReached IsFinal missing whole sets
+  reached = from_set (table_count whole) 0 (omega arith) (omega arith)
+
+pub asking_again_ends : AskingAgainEnds
+asking_again_ends missing whole sets = (reached IsFinalValue known_value missing whole sets, reached IsFinalDistance known_distance missing whole sets)
