@@ -1,12 +1,13 @@
 -- Whoever opens what is missing, and asks again, comes to an end.
-use Rattle.std.proofs.Common.{◌≡◌, ◌≢◌, ◌∙◌, sym, ap, subst, refl, ℕ, zero, suc, ◌+◌, ◌<◌, ◌≤◌, ◌⊎◌, cond, is_some, List, [], ◌∷◌, length, get_or, Option, Some, None, inl, inr, arith}
-use Rattle.std.specs.Prelude.{IfSome, count_by}
+use Rattle.std.proofs.Common.{◌≡◌, ◌≢◌, ◌∙◌, sym, ap, refl, ℕ, zero, suc, ◌+◌, ◌<◌, ◌≤◌, ◌⊎◌, cond, is_some, [], ◌∷◌, length, get_or, set, Option, Some, None, inl, inr, arith}
+use Rattle.std.proofs.lemmas.Bool.{cases_eq}
+use Rattle.std.proofs.lemmas.List.{get_or-set_same, get_or-set_other}
 use Rattle.std.proofs.lemmas.List.Sums.{sum_by-cons, count_by-le-length}
 use Rattle.table_file.specs.declared.kind.TableKind.{TableKind}
 use Rattle.table_file.specs.declared.kind.TableKind.TheVariants.{Wdl, Dtz}
 use Rattle.table_file.specs.Tables.{Contents}
 use Rattle.judge_core.specs.Tables.{Tables, slot, table_at}
-use Rattle.judge_core.specs.MoreTables.{HasAll, AddsNone, IsFinalValue, IsFinalDistance, table_count, AreOpened, IsReached, AskingAgainEnds}
+use Rattle.judge_core.specs.MoreTables.{HasAll, AddsNone, IsFinalValue, IsFinalDistance, table_count, AreOpened, IsReached, AskingAgainEnds, AddingKeepsTheRest}
 
 -- ---- counting tables
 
@@ -153,3 +154,31 @@ module _ (IsFinal : Tables → Tables → Option ℕ → Type 0) (known : IsKnow
 
 pub asking_again_ends : AskingAgainEnds
 asking_again_ends missing whole sets = (reached IsFinalValue known_value missing whole sets, reached IsFinalDistance known_distance missing whole sets)
+
+-- ---- one table more
+
+module _ (tables : Tables) (kind : TableKind) (key : ℕ) (t : Contents) (none : table_at tables kind key ≡ None) (lt : slot kind key < length tables) where
+  abbrev added : Tables
+  added = set tables (slot kind key) (Some t)
+
+  there : table_at added kind key ≡ Some t
+  there = get_or-set_same tables (slot kind key) (Some t) None lt
+
+  elsewhere : (i : ℕ) → i ≢ slot kind key → get_or added i None ≡ get_or tables i None
+  elsewhere i apart = get_or-set_other tables (slot kind key) i (Some t) None apart
+
+  kept : HasAll tables added
+  kept k m u e = elsewhere (slot k m) (λ same. (let never : None ≡ Some u = sym none ∙ sym (ap (λ i. get_or tables i None) same) ∙ e in absurd cc)) ∙ e
+
+  in_whole : (whole : Tables) → HasAll tables whole → table_at whole kind key ≡ Some t → HasAll added whole
+  in_whole whole all has k m u e = elim (cases_eq (slot k m) (slot kind key)) [
+    | inl same ↦ ap (λ i. get_or whole i None) same ∙ has ∙ sym there ∙ sym (ap (λ i. get_or added i None) same) ∙ e
+    | inr apart ↦ all k m u (sym (elsewhere (slot k m) apart) ∙ e)
+  ]
+
+pub adding_keeps_the_rest : AddingKeepsTheRest
+adding_keeps_the_rest tables kind key t none lt = record {
+  kept = kept tables kind key t none lt;
+  there = there tables kind key t none lt;
+  within = in_whole tables kind key t none lt;
+}

@@ -1,6 +1,6 @@
 -- A set that has more tables answers the same, but where the first set misses a table that it has. So tables may be opened
 -- one after another, as answers miss them. Functions of src/laws.rt carry these laws.
-use Rattle.std.specs.Prelude.{◌≡◌, ◌≤◌, ◌<◌, ◌+◌, ℕ, zero, ℤ, IsFalse, IfSome, is_some, List, length, All, count_by, Option, Some, None, Result, Ok, Err}
+use Rattle.std.specs.Prelude.{◌≡◌, ◌≤◌, ◌<◌, ◌+◌, ℕ, ℤ, IsFalse, IfSome, is_some, List, length, All, count_by, slice_set, Option, Some, None, Result, Ok, Err}
 use Rattle.std.specs.List.{AllZip}
 use Rattle.board_core.specs.declared.parts.Parts.{Parts}
 use Rattle.board_core.specs.ComputedMoves.{legal_moves}
@@ -14,7 +14,7 @@ use Rattle.judge_core.specs.declared.fault.ProbeFault.{ProbeFault}
 use Rattle.judge_core.specs.declared.fault.ProbeFault.TheVariants.{OutOfScope, NotCovered, Damaged, OutOfMemory}
 use Rattle.judge_core.specs.declared.probe_result.ProbeResult.{ProbeResult}
 use Rattle.judge_core.specs.declared.root_move.RootMove.{RootMove}
-use Rattle.judge_core.specs.Tables.{Tables, table_at}
+use Rattle.judge_core.specs.Tables.{Tables, slot, table_at}
 use Rattle.judge_core.specs.Asked.{not_covered}
 use Rattle.judge_core.specs.Probing.{wdl_of}
 use Rattle.judge_core.specs.Ends.{has_no_move}
@@ -108,6 +108,18 @@ WhatIsMissingStaysMissing =
     × (dtz_of tables p ≡ Err (value.NotCovered key) → (kind : TableKind) × IsMissing (λ set. dtz_of set p) tables kind key)
 
 -- ---- tables that are opened one after another
+
+-- the second set is the first with one table more
+pub record IsOneMore (tables more : Tables) (kind : TableKind) (key : ℕ) (t : Contents) : Type 0 where
+  pub kept : HasAll tables more
+  pub there : table_at more kind key ≡ Some t
+  pub within : (whole : Tables) → HasAll tables whole → table_at whole kind key ≡ Some t → HasAll more whole
+
+-- A table that is put into its empty slot, as `Set::add` does, changes nothing else.
+abbrev pub AddingKeepsTheRest : Type 0
+AddingKeepsTheRest =
+    (tables : Tables) (kind : TableKind) (key : ℕ) (t : Contents) → table_at tables kind key ≡ None → slot kind key < length tables
+    → IsOneMore tables (slice_set tables (slot kind key) (Some t)) kind key t
 
 abbrev pub table_count : Tables → ℕ
 table_count tables = count_by is_some tables

@@ -1,7 +1,7 @@
 //! Laws over the definitions of specs/, for proofs above: each function carries one law and does nothing.
 
 ghost use Rattle.judge_core.specs.FiveRules.{DistanceByFiveRules};
-ghost use Rattle.judge_core.specs.MoreTables.{AskingAgainEnds, MoreTablesAnswerTheSame, WhatIsMissingStaysMissing};
+ghost use Rattle.judge_core.specs.MoreTables.{AddingKeepsTheRest, AskingAgainEnds, MoreTablesAnswerTheSame, WhatIsMissingStaysMissing};
 ghost use Rattle.judge_core.specs.DeterminedLaws.{CompletionsExist, DeterminedAnswersAreOne, DeterminedDistanceIsOne, DeterminedMoveIsAsProbed, DeterminedValueIsOne, FirstDeterminedMoveIsBest, FirstDeterminedMoveWinsWithinRule};
 ghost use Rattle.judge_core.specs.RootLaws.{FirstMoveIsBest, FirstMoveWinsWithinRule, FirstMoveKeepsTheValue, NearestWinIsTheDistance, NoCaptureIsBetter};
 ghost use Rattle.judge_core.specs.Laws.{WdlMeetsItsRule, DtzMeetsItsRules, GameHasOneOutcome, NoDelayIsTheRuling, FirstVerdictInWords, FirstVerdictLooksBack, IllegalStaysIllegal, OneMoveMore};
@@ -135,4 +135,9 @@ pub fn what_is_missing_stays_missing()
 /// after no more sets than there are slots.
 pub fn asking_again_ends()
     ensures { AskingAgainEnds }
+{}
+
+/// A table that is added where there was none changes nothing else: all others are kept.
+pub fn adding_keeps_the_rest()
+    ensures { AddingKeepsTheRest }
 {}
