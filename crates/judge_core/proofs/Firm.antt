@@ -1,6 +1,5 @@
 -- Answers of a set that stay the same with more tables, unless they miss one of these.
 use Rattle.std.proofs.Common.{◌≡◌, ◌∙◌, sym, ap, subst, refl, ℕ, zero, suc, ◌<◌, nat_le, Bool, true, false, not, List, [], ◌∷◌, ◌++◌, Option, Some, None, option_map, filter, if◌then◌else◌, Result, Ok, Err}
-use Rattle.std.specs.Prelude.{IfSome}
 use Rattle.std.specs.Option.{option_or, option_and_then}
 use Rattle.std.specs.List.{cons_option}
 use Rattle.board_core.specs.declared.parts.Parts.{Parts}
@@ -18,8 +17,8 @@ use Rattle.judge_core.specs.Values.{Reading, opposite_reading, of_points}
 use Rattle.judge_core.specs.LookUp.{material_of, placed_of}
 use Rattle.judge_core.specs.Tables.{Tables, table_at, table_value, value_of, value_in, value_or_damaged, entry_in}
 use Rattle.judge_core.specs.Asked.{asked, first, not_covered, damaged, missing_or_damaged, fault_in, unless}
-use Rattle.judge_core.specs.Probing.{values_after, greatest_value, value_or_loss, is_forced, searched_where, searched_by, wdl_from_search, wdl_to, wdl_where, wdl_of, worth_in}
-use Rattle.judge_core.specs.MoreTables.{HasAll, AddsNone}
+use Rattle.judge_core.specs.Probing.{values_after, greatest_value, value_or_loss, is_forced, searched_where, wdl_from_search, wdl_to, wdl_where, wdl_of, worth_in}
+use Rattle.judge_core.specs.MoreTables.{HasAll}
 use Rattle.judge_core.proofs.TwoSteps.{known_key}
 
 -- ---- under the condition that a table is still missing

@@ -1,11 +1,10 @@
 -- Distances of a set that stay the same with more tables, unless they miss one of these.
-use Rattle.std.proofs.Common.{◌≡◌, ◌∙◌, sym, ap, subst, refl, ℕ, zero, suc, ◌<◌, nat_le, Bool, true, false, ◌&&◌, List, [], ◌∷◌, ◌++◌, Option, Some, None, filter, if◌then◌else◌, Result, Ok, Err}
+use Rattle.std.proofs.Common.{◌≡◌, ◌∙◌, sym, ap, subst, refl, ℕ, zero, suc, ◌<◌, nat_le, Bool, true, false, ◌&&◌, List, [], ◌++◌, Option, Some, None, filter, if◌then◌else◌, Result, Ok, Err}
 use Rattle.std.specs.List.{list_any}
 use Rattle.std.proofs.lemmas.List.{append-nil}
 use Rattle.board_core.specs.declared.parts.Parts.{Parts}
 use Rattle.board_core.specs.declared.moves.Move.{Move}
 use Rattle.board_core.specs.ComputedMoves.{legal_moves, count_of_men}
-use Rattle.table_file.specs.declared.kind.TableKind.{TableKind}
 use Rattle.table_file.specs.declared.kind.TableKind.TheVariants.{Dtz}
 use Rattle.table_file.specs.declared.outcome.Outcome.{Outcome}
 use Rattle.table_file.specs.Tables.{Contents}
@@ -15,11 +14,11 @@ use Rattle.judge_core.specs.declared.wdl.Wdl.{Wdl as Value}
 use Rattle.judge_core.specs.declared.fault.ValueFault.{ValueFault}
 use Rattle.judge_core.specs.declared.fault.ValueFault.TheVariants.{NotCovered, Damaged}
 use Rattle.judge_core.specs.declared.found.CaptureSearch.{CaptureSearch}
-use Rattle.judge_core.specs.Values.{Reading, opposite_reading, outcome_of}
+use Rattle.judge_core.specs.Values.{opposite_reading, outcome_of}
 use Rattle.judge_core.specs.LookUp.{material_of, placed_of}
 use Rattle.judge_core.specs.Tables.{Tables, table_at, table_value, part_asked}
 use Rattle.judge_core.specs.Asked.{asked, not_covered, fault_in, unless}
-use Rattle.judge_core.specs.Probing.{values_after, searched_by, wdl_of, worth}
+use Rattle.judge_core.specs.Probing.{searched_by, wdl_of, worth}
 use Rattle.judge_core.specs.Ends.{is_mate}
 use Rattle.judge_core.specs.Distances.{Reach, zeroing, towards, is_won, is_value, is_by_capture, is_pawn_step, is_quiet, is_odd, pawns_reach_where, pawns_reach, distance_before, move_counts, least, greatest_count, won_in, by_counts, by_quiet_moves, stored_distance, distance_in, by_table, by_material, by_own_table, unless_reached, by_moves, by_outcome, dtz_from_search, dtz_by, dtz_to, dtz_of}
 use Rattle.judge_core.proofs.TwoSteps.{known_key}

@@ -42,3 +42,4 @@ pub mod Firm
 pub mod FirmDistances
 pub mod MoreTables
 pub mod Opened
+pub mod ByRulings

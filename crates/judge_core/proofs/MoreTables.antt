@@ -8,10 +8,9 @@ use Rattle.std.proofs.lemmas.List.Elements.{All-head, All-tail, All-weaker, All-
 use Rattle.std.proofs.lemmas.List.Sorted.{Contains-permutation}
 use Rattle.board_core.specs.declared.parts.Parts.{Parts}
 use Rattle.board_core.specs.declared.moves.Move.{Move}
-use Rattle.board_core.specs.declared.verdict.Verdict.{Verdict}
 use Rattle.board_core.specs.ComputedMoves.{position_after, legal_moves}
 use Rattle.table_file.specs.declared.kind.TableKind.{TableKind}
-use Rattle.table_file.specs.declared.kind.TableKind.TheVariants.{Wdl, Dtz}
+use Rattle.table_file.specs.declared.kind.TableKind.TheVariants.{Wdl}
 use Rattle.judge_core.specs.declared.wdl.Wdl.{Wdl as Value}
 use Rattle.judge_core.specs.declared.wdl.Wdl.TheVariants.{Loss, BlessedLoss, Draw, CursedWin, Win}
 use Rattle.judge_core.specs.declared.distance.Distance.TheVariants.{Win as WonIn}
@@ -28,11 +27,11 @@ use Rattle.judge_core.specs.Asked.{not_covered}
 use Rattle.judge_core.specs.Probing.{wdl_of}
 use Rattle.judge_core.specs.Ends.{has_no_move}
 use Rattle.judge_core.specs.Distances.{Reach, dtz_of}
-use Rattle.judge_core.specs.Answers.{IsProbe, IsWdlProbe, IsDecisive, signed_in}
+use Rattle.judge_core.specs.Answers.{IsProbe, IsDecisive, signed_in}
 use Rattle.judge_core.specs.ProbeResult.{IsProbed, numbered}
 use Rattle.judge_core.specs.Root.{IsRoot, is_checkmate, value_before, zeroed, reach_one_ply_before, reach_before, effect_of, state_of, zeroes_clock, root_move_by, root_move_at, root_moves_by, root_moves, move_rank, rank_cmp}
 use Rattle.judge_core.specs.Ruling.{is_out_of_scope, end_of, ruling, ruling_by}
-use Rattle.judge_core.specs.MoreTables.{HasAll, missed, IsFinalValue, IsFinalDistance, IsFinalRuling, IsFinalMove, IsSameMove, AnswersTheSame, MoreTablesAnswerTheSame, IsMissing, WhatIsMissingStaysMissing}
+use Rattle.judge_core.specs.MoreTables.{HasAll, missed, IsFinalValue, IsFinalDistance, IsFinalRuling, IsFinalMove, IsSameMove, MoreTablesAnswerTheSame, IsMissing, WhatIsMissingStaysMissing}
 use Rattle.judge_core.proofs.Firm.{OnlyWdl, Either, Under, IsFirm, firm_map, turned, wdl_firm}
 use Rattle.judge_core.proofs.FirmDistances.{after_firm, dtz_firm}
 

@@ -1,13 +1,22 @@
 -- Whoever opens what is missing, and asks again, comes to an end.
-use Rattle.std.proofs.Common.{◌≡◌, ◌≢◌, ◌∙◌, sym, ap, refl, ℕ, zero, suc, ◌+◌, ◌<◌, ◌≤◌, ◌⊎◌, cond, is_some, [], ◌∷◌, length, get_or, set, Option, Some, None, inl, inr, arith}
+use Rattle.std.proofs.Common.{◌≡◌, ◌≢◌, ◌∙◌, sym, ap, subst, refl, IsFalse, ℕ, zero, suc, ◌+◌, ◌<◌, ◌≤◌, ◌⊎◌, cond, is_some, [], ◌∷◌, length, get_or, set, Option, Some, None, inl, inr, arith}
 use Rattle.std.proofs.lemmas.Bool.{cases_eq}
 use Rattle.std.proofs.lemmas.List.{get_or-set_same, get_or-set_other}
 use Rattle.std.proofs.lemmas.List.Sums.{sum_by-cons, count_by-le-length}
+use Rattle.board_core.specs.declared.parts.Parts.{Parts}
+use Rattle.board_core.specs.ComputedMoves.{legal_moves}
 use Rattle.table_file.specs.declared.kind.TableKind.{TableKind}
 use Rattle.table_file.specs.declared.kind.TableKind.TheVariants.{Wdl, Dtz}
 use Rattle.table_file.specs.Tables.{Contents}
 use Rattle.judge_core.specs.Tables.{Tables, slot, table_at}
-use Rattle.judge_core.specs.MoreTables.{HasAll, AddsNone, IsFinalValue, IsFinalDistance, table_count, AreOpened, IsReached, AskingAgainEnds, AddingKeepsTheRest}
+use Rattle.judge_core.specs.Asked.{not_covered}
+use Rattle.judge_core.specs.Probing.{wdl_of}
+use Rattle.judge_core.specs.Ends.{has_no_move}
+use Rattle.judge_core.specs.Distances.{dtz_of}
+use Rattle.judge_core.specs.Answers.{IsDecisive}
+use Rattle.judge_core.specs.Ruling.{is_out_of_scope}
+use Rattle.judge_core.proofs.MoreTables.{more_answer_the_same}
+use Rattle.judge_core.specs.MoreTables.{IsFinalRuling, AnswersTheSame, FinalStaysFinal, HasAll, AddsNone, IsFinalValue, IsFinalDistance, table_count, AreOpened, HasLast, AskingAgainEnds, AddingKeepsTheRest}
 
 -- ---- counting tables
 
@@ -132,8 +141,8 @@ module _ (IsFinal : Tables → Tables → Option ℕ → Type 0) (known : IsKnow
   most : (n : ℕ) → table_count (sets n) ≤ table_count whole
   most n = count_le (sets n) whole (within (sets n) whole (h.within n))
 
-  by_end : (n : ℕ) → n + table_count (sets 0) ≤ table_count (sets n) → (IsAdded IsFinal (sets n) whole (missing (sets n)) → IsReached IsFinal missing whole sets) → IsFinal (sets n) whole (missing (sets n)) ⊎ IsAdded IsFinal (sets n) whole (missing (sets n))
-      → IsReached IsFinal missing whole sets
+  by_end : (n : ℕ) → n + table_count (sets 0) ≤ table_count (sets n) → (IsAdded IsFinal (sets n) whole (missing (sets n)) → HasLast IsFinal missing whole sets) → IsFinal (sets n) whole (missing (sets n)) ⊎ IsAdded IsFinal (sets n) whole (missing (sets n))
+      → HasLast IsFinal missing whole sets
   by_end n brought later (inl final) = record {
     last = n;
     final = final;
@@ -143,17 +152,66 @@ module _ (IsFinal : Tables → Tables → Option ℕ → Type 0) (known : IsKnow
   by_end n brought later (inr added) = later added
 
   -- from a set that lacks so many tables of the whole one
-  from_set : (k n : ℕ) → table_count whole ≤ table_count (sets n) + k → n + table_count (sets 0) ≤ table_count (sets n) → IsReached IsFinal missing whole sets
+  from_set : (k n : ℕ) → table_count whole ≤ table_count (sets n) + k → n + table_count (sets 0) ≤ table_count (sets n) → HasLast IsFinal missing whole sets
   from_set zero n left brought =
       by_end n brought (λ added. (let a = grown n added in let b = most (n + 1) in absurd (omega (arith, a, b, left)))) (known (sets n) whole (missing (sets n)) (h.within n))
   from_set (suc k) n left brought =
       by_end n brought (λ added. (let a = grown n added in from_set k (n + 1) (omega (arith, a, left)) (omega (arith, a, brought)))) (known (sets n) whole (missing (sets n)) (h.within n))
 
-  reached : IsReached IsFinal missing whole sets
+  reached : HasLast IsFinal missing whole sets
   reached = from_set (table_count whole) 0 (omega arith) (omega arith)
 
 pub asking_again_ends : AskingAgainEnds
 asking_again_ends missing whole sets = (reached IsFinalValue known_value missing whole sets, reached IsFinalDistance known_distance missing whole sets)
+
+-- ---- between two sets
+
+module _ (tables more whole : Tables) (below : HasAll tables more) (above : HasAll more whole) where
+  between : (kind : TableKind) (key : ℕ) → AddsNone tables whole kind key → AddsNone tables more kind key
+  between kind key none = by_table (table_at more kind key) (table_at tables kind key) refl refl
+    where
+      by_table : (o w : Option Contents) → table_at more kind key ≡ o → table_at tables kind key ≡ w → o ≡ w
+      by_table None None e f = refl
+      by_table None (Some t) e f = sym e ∙ below kind key t f
+      by_table (Some t) w e f = sym (above kind key t e) ∙ none ∙ f
+
+  above_none : (kind : TableKind) (key : ℕ) → AddsNone tables whole kind key → AddsNone more whole kind key
+  above_none kind key none = none ∙ sym (between kind key none)
+
+  value_stays : (missing : Option ℕ) → IsFinalValue tables whole missing → IsFinalValue tables more missing × IsFinalValue more whole missing
+  value_stays None f = (tt, tt)
+  value_stays (Some key) f = (between Wdl key f, above_none Wdl key f)
+
+  distance_stays : (missing : Option ℕ) → IsFinalDistance tables whole missing → IsFinalDistance tables more missing × IsFinalDistance more whole missing
+  distance_stays None f = (tt, tt)
+  distance_stays (Some key) f = (λ kind. between kind key (f kind), λ kind. above_none kind key (f kind))
+
+  module _ (p : Parts) (f : IsFinalRuling tables whole p) where
+    same : AnswersTheSame tables more p
+    same = more_answer_the_same tables more p below
+
+    value_there : IsFalse (has_no_move (legal_moves p)) → IsFalse (is_out_of_scope p) → wdl_of more p ≡ wdl_of tables p
+    value_there left scope = same.value (value_stays (not_covered (wdl_of tables p)) (f.value left scope)).0
+
+    distance_there : IsFalse (has_no_move (legal_moves p)) → IsFalse (is_out_of_scope p) → IsDecisive (wdl_of more p) → IsFinalDistance more whole (not_covered (dtz_of more p))
+    distance_there left scope decisive =
+        let final = distance_stays (not_covered (dtz_of tables p)) (f.distance left scope (subst (λ r. IsDecisive r) (value_there left scope) decisive)) in
+        subst (λ r. IsFinalDistance more whole (not_covered r)) (sym (same.distance final.0)) final.1
+
+    ruling_stays : IsFinalRuling tables more p × IsFinalRuling more whole p
+    ruling_stays = (
+      record {
+        value = λ left scope. (value_stays (not_covered (wdl_of tables p)) (f.value left scope)).0;
+        distance = λ left scope decisive. (distance_stays (not_covered (dtz_of tables p)) (f.distance left scope decisive)).0;
+      },
+      record {
+        value = λ left scope. subst (λ r. IsFinalValue more whole (not_covered r)) (sym (value_there left scope)) (value_stays (not_covered (wdl_of tables p)) (f.value left scope)).1;
+        distance = distance_there;
+      },
+    )
+
+pub final_stays_final : FinalStaysFinal
+final_stays_final tables more whole below above = (value_stays tables more whole below above, distance_stays tables more whole below above, ruling_stays tables more whole below above)
 
 -- ---- one table more
 

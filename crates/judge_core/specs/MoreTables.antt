@@ -1,8 +1,9 @@
--- A set that has more tables answers the same, but where the first set misses a table that it has. So tables may be opened
--- one after another, as answers miss them. Functions of src/laws.rt carry these laws.
-use Rattle.std.specs.Prelude.{◌≡◌, ◌≤◌, ◌<◌, ◌+◌, ℕ, ℤ, IsFalse, IfSome, is_some, List, length, All, count_by, slice_set, Option, Some, None, Result, Ok, Err}
+-- Laws of sets that have more tables. They answer the same, but where the first set misses a table that they have. So tables
+-- may be opened one after another, as answers miss them. Functions of src/laws.rt carry these laws.
+use Rattle.std.specs.Prelude.{◌≡◌, ◌≤◌, ◌<◌, ◌+◌, ℕ, ℤ, IsFalse, IfSome, is_some, List, length, All, count_by, slice_set, take, Option, Some, None, Result, Ok, Err}
 use Rattle.std.specs.List.{AllZip}
 use Rattle.board_core.specs.declared.parts.Parts.{Parts}
+use Rattle.board_core.specs.declared.moves.Move.{Move}
 use Rattle.board_core.specs.ComputedMoves.{legal_moves}
 use Rattle.table_file.specs.declared.kind.TableKind.{TableKind}
 use Rattle.table_file.specs.declared.kind.TableKind.TheVariants.{Wdl}
@@ -12,6 +13,7 @@ use Rattle.judge_core.specs.declared.fault.ValueFault.{ValueFault}
 use Rattle.judge_core.specs.declared.fault.ValueFault.TheVariants as value
 use Rattle.judge_core.specs.declared.fault.ProbeFault.{ProbeFault}
 use Rattle.judge_core.specs.declared.fault.ProbeFault.TheVariants.{OutOfScope, NotCovered, Damaged, OutOfMemory}
+use Rattle.judge_core.specs.declared.game.GameOutcome.{GameOutcome}
 use Rattle.judge_core.specs.declared.probe_result.ProbeResult.{ProbeResult}
 use Rattle.judge_core.specs.declared.root_move.RootMove.{RootMove}
 use Rattle.judge_core.specs.Tables.{Tables, slot, table_at}
@@ -23,6 +25,8 @@ use Rattle.judge_core.specs.Answers.{IsProbe, IsWdlProbe, IsDecisive, signed_in}
 use Rattle.judge_core.specs.ProbeResult.{IsProbed}
 use Rattle.judge_core.specs.Root.{IsRoot, root_moves}
 use Rattle.judge_core.specs.Ruling.{is_out_of_scope, ruling}
+use Rattle.judge_core.specs.Games.{Rules, position_after_all, plies_to, IsOutcome}
+use Rattle.judge_core.specs.Standings.{Reached, IsAt}
 
 -- the second set has each table of the first
 abbrev pub HasAll : Tables → Tables → Type 0
@@ -34,7 +38,7 @@ AddsNone tables more kind key = table_at more kind key ≡ table_at tables kind 
 
 -- ---- final answers
 
--- the material whose table a probe misses
+-- the material of which a probe misses a table
 abbrev pub missed : {X : Type 0} → Result X ProbeFault → Option ℕ
 missed (Ok x) = None
 missed (Err OutOfScope) = None
@@ -42,16 +46,16 @@ missed (Err (NotCovered key)) = Some key
 missed (Err (Damaged key)) = None
 missed (Err OutOfMemory) = None
 
--- A value of the first set is final for the second if it misses no table, or one that the second doesn't add.
+-- A value is final: it misses no table, or the WDL table of a material of which the second set adds none.
 abbrev pub IsFinalValue : Tables → Tables → Option ℕ → Type 0
 IsFinalValue tables more missing = IfSome missing (AddsNone tables more Wdl)
 
--- So is a distance, which needs tables of both kinds.
+-- A distance is final: it misses no table, or one of a material of which the second set adds none of either kind.
 abbrev pub IsFinalDistance : Tables → Tables → Option ℕ → Type 0
 IsFinalDistance tables more missing = IfSome missing (λ key. (kind : TableKind) → AddsNone tables more kind key)
 
--- So is a ruling, which looks at the value where a legal move is left and the position is in scope, and then for a win or a
--- loss at the distance. It doesn't tell what it misses.
+-- A ruling, which doesn't tell what it misses, is final: so is what it looks at. That is the value, where a legal move is left
+-- and the position is in scope, and for a win or a loss the distance.
 pub record IsFinalRuling (tables more : Tables) (p : Parts) : Type 0 where
   pub value : IsFalse (has_no_move (legal_moves p)) → IsFalse (is_out_of_scope p) → IsFinalValue tables more (not_covered (wdl_of tables p))
   pub distance :
@@ -72,7 +76,8 @@ pub record IsSameMove (tables more : Tables) (m other : RootMove) : Type 0 where
   pub wdl : IsFinalValue tables more (not_covered m.wdl) → other.wdl ≡ m.wdl
   pub dtz : IsFinalDistance tables more (not_covered m.dtz) → other.dtz ≡ m.dtz
 
--- what is final of the first set's answers on a position is what the second answers
+-- What the first set answers on a position and is final, the second answers too: values, distances and verdicts, what
+-- `Set::wdl`, `Set::dtz` and `Set::answers` return, and root moves, each by itself and all in their order.
 pub record AnswersTheSame (tables more : Tables) (p : Parts) : Type 0 where
   pub value : IsFinalValue tables more (not_covered (wdl_of tables p)) → wdl_of more p ≡ wdl_of tables p
   pub distance : IsFinalDistance tables more (not_covered (dtz_of tables p)) → dtz_of more p ≡ dtz_of tables p
@@ -93,14 +98,14 @@ MoreTablesAnswerTheSame = (tables more : Tables) (p : Parts) → HasAll tables m
 
 -- ---- missing tables
 
--- the set lacks this table, and so each set that has more tables, but not this one, answers the same
+-- The set lacks this table, and each set that has more tables, but not this one, misses it too.
 pub record IsMissing {X : Type 0} (answer : Tables → Result X ValueFault) (tables : Tables) (kind : TableKind) (key : ℕ) : Type 0 where
   pub known : key < 145
   pub lacks : table_at tables kind key ≡ None
   pub stays : (more : Tables) → HasAll tables more → table_at more kind key ≡ None → answer more ≡ Err (value.NotCovered key)
 
--- The table that an answer names as missing is missing, and keeps its answer until it is there. A value misses a WDL table, a
--- distance a table of one of the kinds.
+-- A table that an answer names as missing is missing, and the answer stays until it is there. For a value it is the WDL table,
+-- for a distance one of the two.
 abbrev pub WhatIsMissingStaysMissing : Type 0
 WhatIsMissingStaysMissing =
     (tables : Tables) (p : Parts) (key : ℕ)
@@ -121,27 +126,49 @@ AddingKeepsTheRest =
     (tables : Tables) (kind : TableKind) (key : ℕ) (t : Contents) → table_at tables kind key ≡ None → slot kind key < length tables
     → IsOneMore tables (slice_set tables (slot kind key) (Some t)) kind key t
 
+-- What is final for the whole set is final for each set between, and stays final there.
+abbrev pub FinalStaysFinal : Type 0
+FinalStaysFinal =
+    (tables more whole : Tables) → HasAll tables more → HasAll more whole
+    → ((missing : Option ℕ) → IsFinalValue tables whole missing → IsFinalValue tables more missing × IsFinalValue more whole missing)
+    × ((missing : Option ℕ) → IsFinalDistance tables whole missing → IsFinalDistance tables more missing × IsFinalDistance more whole missing)
+    × ((p : Parts) → IsFinalRuling tables whole p → IsFinalRuling tables more p × IsFinalRuling more whole p)
+
 abbrev pub table_count : Tables → ℕ
 table_count tables = count_by is_some tables
 
--- Each set has the tables of the one before, none that the whole set lacks, and all that this has of the table that the one
--- before misses.
+-- Sets that are asked one after another, where `missing` tells of a set which table its answer misses: each has the tables of
+-- the one before and, of the table that this misses, what the whole set has. None has a table that the whole set lacks.
 pub record AreOpened (IsFinal : Tables → Tables → Option ℕ → Type 0) (missing : Tables → Option ℕ) (whole : Tables) (sets : ℕ → Tables) : Type 0 where
   pub within : (n : ℕ) → HasAll (sets n) whole
   pub kept : (n : ℕ) → HasAll (sets n) (sets (n + 1))
   pub opened : (n : ℕ) → IsFinal (sets (n + 1)) whole (missing (sets n))
 
--- One of the sets is final. Each one before it was asked only once, and brought a table; there are no more than slots.
-pub record IsReached (IsFinal : Tables → Tables → Option ℕ → Type 0) (missing : Tables → Option ℕ) (whole : Tables) (sets : ℕ → Tables) : Type 0 where
+-- The answer of one of them is final, and so is that of the whole set. There were no more before it than the tables that they
+-- brought, and no more than slots.
+pub record HasLast (IsFinal : Tables → Tables → Option ℕ → Type 0) (missing : Tables → Option ℕ) (whole : Tables) (sets : ℕ → Tables) : Type 0 where
   pub last : ℕ
   pub final : IsFinal (sets last) whole (missing (sets last))
   pub brought : last + table_count (sets 0) ≤ table_count (sets last)
   pub soon : last ≤ length whole
 
--- Whoever opens the table that an answer misses, if the whole set has it, and asks again, comes to an answer that is final,
--- and so to that of the whole set.
+-- Whoever opens the table that an answer misses, where the whole set has it, and asks again, comes to a final answer.
 abbrev pub AskingAgainEnds : Type 0
 AskingAgainEnds =
     (missing : Tables → Option ℕ) (whole : Tables) (sets : ℕ → Tables)
-    → (AreOpened IsFinalValue missing whole sets → IsReached IsFinalValue missing whole sets)
-    × (AreOpened IsFinalDistance missing whole sets → IsReached IsFinalDistance missing whole sets)
+    → (AreOpened IsFinalValue missing whole sets → HasLast IsFinalValue missing whole sets)
+    × (AreOpened IsFinalDistance missing whole sets → HasLast IsFinalDistance missing whole sets)
+
+-- ---- games
+
+-- both sets rule the same at each ply up to this one
+abbrev pub RulesTheSame : Rules → Tables → List Move → ℕ → Type 0
+RulesTheSame rules more moves last =
+    (ply : ℕ) (p : Parts) → ply ≤ last → position_after_all rules.start (take ply moves) ≡ Some p → ruling more p ≡ ruling rules.tables p
+
+-- The outcome of a game, and where it stands, depend on the tables by the rulings alone of the plies up to there.
+abbrev pub GamesDependOnRulings : Type 0
+GamesDependOnRulings =
+    (rules : Rules) (more : Tables) (moves : List Move)
+    → ((outcome : GameOutcome) → RulesTheSame rules more moves (plies_to moves outcome) → IsOutcome rules moves outcome → IsOutcome (record rules { tables = more }) moves outcome)
+    × ((s : Reached) → RulesTheSame rules more moves (length moves) → IsAt rules moves s → IsAt (record rules { tables = more }) moves s)

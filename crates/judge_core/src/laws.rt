@@ -1,7 +1,7 @@
 //! Laws over the definitions of specs/, for proofs above: each function carries one law and does nothing.
 
 ghost use Rattle.judge_core.specs.FiveRules.{DistanceByFiveRules};
-ghost use Rattle.judge_core.specs.MoreTables.{AddingKeepsTheRest, AskingAgainEnds, MoreTablesAnswerTheSame, WhatIsMissingStaysMissing};
+ghost use Rattle.judge_core.specs.MoreTables.{AddingKeepsTheRest, AskingAgainEnds, FinalStaysFinal, GamesDependOnRulings, MoreTablesAnswerTheSame, WhatIsMissingStaysMissing};
 ghost use Rattle.judge_core.specs.DeterminedLaws.{CompletionsExist, DeterminedAnswersAreOne, DeterminedDistanceIsOne, DeterminedMoveIsAsProbed, DeterminedValueIsOne, FirstDeterminedMoveIsBest, FirstDeterminedMoveWinsWithinRule};
 ghost use Rattle.judge_core.specs.RootLaws.{FirstMoveIsBest, FirstMoveWinsWithinRule, FirstMoveKeepsTheValue, NearestWinIsTheDistance, NoCaptureIsBetter};
 ghost use Rattle.judge_core.specs.Laws.{WdlMeetsItsRule, DtzMeetsItsRules, GameHasOneOutcome, NoDelayIsTheRuling, FirstVerdictInWords, FirstVerdictLooksBack, IllegalStaysIllegal, OneMoveMore};
@@ -131,8 +131,8 @@ pub fn what_is_missing_stays_missing()
     ensures { WhatIsMissingStaysMissing }
 {}
 
-/// Whoever opens the table that an answer misses, where it is to be had, and asks again, comes to an answer that is final,
-/// after no more sets than there are slots.
+/// Whoever opens the table that an answer misses, where there is one, and asks again, comes to an answer that is final, after
+/// no more rounds than tables were opened.
 pub fn asking_again_ends()
     ensures { AskingAgainEnds }
 {}
@@ -140,4 +140,14 @@ pub fn asking_again_ends()
 /// A table that is added where there was none changes nothing else: all others are kept.
 pub fn adding_keeps_the_rest()
     ensures { AddingKeepsTheRest }
+{}
+
+/// An answer that is final for the whole set is final for each set between, and stays final there.
+pub fn final_stays_final()
+    ensures { FinalStaysFinal }
+{}
+
+/// The outcome of a game, and where it stands, depend on the tables by the rulings alone of the plies up to there.
+pub fn games_depend_on_rulings()
+    ensures { GamesDependOnRulings }
 {}
