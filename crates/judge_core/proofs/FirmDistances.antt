@@ -19,7 +19,7 @@ use Rattle.judge_core.specs.LookUp.{material_of, placed_of}
 use Rattle.judge_core.specs.Tables.{Tables, table_at, table_value, part_asked}
 use Rattle.judge_core.specs.Asked.{asked, not_covered, fault_in, unless}
 use Rattle.judge_core.specs.Probing.{searched_by, wdl_of, worth}
-use Rattle.judge_core.specs.Ends.{is_mate}
+use Rattle.board_core.specs.Ends.{is_checkmate}
 use Rattle.judge_core.specs.Distances.{Reach, zeroing, towards, is_won, is_value, is_by_capture, is_pawn_step, is_quiet, is_odd, pawns_reach_where, pawns_reach, distance_before, move_counts, least, greatest_count, won_in, by_counts, by_quiet_moves, stored_distance, distance_in, by_table, by_material, by_own_table, unless_reached, by_moves, by_outcome, dtz_from_search, dtz_by, dtz_to, dtz_of}
 use Rattle.judge_core.proofs.TwoSteps.{known_key}
 use Rattle.judge_core.proofs.Firm.{OnlyWdl, Either, Under, IsFirm, under_map, under_both, firm_same, firm_const, firm_map, firm_bind, firm_unless, list_firm, agreed_all, turned, own_firm, searched_firm, wdl_firm}
@@ -79,7 +79,7 @@ module _ (tables : Tables) where
   module _ (reach : Tables → Parts → Reach) (reaches : (q : Parts) → IsFirm tables Either (λ t. reach t q)) where
     counts_firm : (outcome : Outcome) (q : Parts) → IsFirm tables Either (λ t. move_counts outcome (reach t) q)
     unfolding move_counts
-    counts_firm outcome q = by_mate (is_won outcome && is_mate q)
+    counts_firm outcome q = by_mate (is_won outcome && is_checkmate q)
       where
         by_mate : (b : Bool) → IsFirm tables Either (λ t. if b then Ok (Some 1) else distance_before (is_won outcome) (reach t q))
         by_mate true = λ more all. refl

@@ -25,7 +25,7 @@ use Rattle.judge_core.specs.Values.{Reading, opposite_reading}
 use Rattle.judge_core.specs.Tables.{Tables, table_at}
 use Rattle.judge_core.specs.Asked.{not_covered}
 use Rattle.judge_core.specs.Probing.{wdl_of}
-use Rattle.judge_core.specs.Ends.{has_no_move}
+use Rattle.board_core.specs.Ends.{has_no_move}
 use Rattle.judge_core.specs.Distances.{Reach, dtz_of}
 use Rattle.judge_core.specs.Answers.{IsProbe, IsDecisive, signed_in}
 use Rattle.judge_core.specs.ProbeResult.{IsProbed, numbered}

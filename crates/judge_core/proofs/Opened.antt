@@ -11,7 +11,7 @@ use Rattle.table_file.specs.Tables.{Contents}
 use Rattle.judge_core.specs.Tables.{Tables, slot, table_at}
 use Rattle.judge_core.specs.Asked.{not_covered}
 use Rattle.judge_core.specs.Probing.{wdl_of}
-use Rattle.judge_core.specs.Ends.{has_no_move}
+use Rattle.board_core.specs.Ends.{has_no_move}
 use Rattle.judge_core.specs.Distances.{dtz_of}
 use Rattle.judge_core.specs.Answers.{IsDecisive}
 use Rattle.judge_core.specs.Ruling.{is_out_of_scope}

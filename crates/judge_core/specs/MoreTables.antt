@@ -19,7 +19,7 @@ use Rattle.judge_core.specs.declared.root_move.RootMove.{RootMove}
 use Rattle.judge_core.specs.Tables.{Tables, slot, table_at}
 use Rattle.judge_core.specs.Asked.{not_covered}
 use Rattle.judge_core.specs.Probing.{wdl_of}
-use Rattle.judge_core.specs.Ends.{has_no_move}
+use Rattle.board_core.specs.Ends.{has_no_move}
 use Rattle.judge_core.specs.Distances.{dtz_of}
 use Rattle.judge_core.specs.Answers.{IsProbe, IsWdlProbe, IsDecisive, signed_in}
 use Rattle.judge_core.specs.ProbeResult.{IsProbed}
