@@ -16,7 +16,7 @@ use Rattle.judge_core.specs.Distances.{dtz_of}
 use Rattle.judge_core.specs.Answers.{IsDecisive}
 use Rattle.judge_core.specs.Ruling.{is_out_of_scope}
 use Rattle.judge_core.proofs.MoreTables.{more_answer_the_same}
-use Rattle.judge_core.specs.MoreTables.{IsFinalRuling, AnswersTheSame, FinalStaysFinal, HasAll, AddsNone, IsFinalValue, IsFinalDistance, table_count, AreOpened, HasLast, AskingAgainEnds, AddingKeepsTheRest}
+use Rattle.judge_core.specs.MoreTables.{IsFinalRuling, AnswersTheSame, FinalStaysFinal, HasAll, AddsNone, IsFinalValue, IsFinalDistance, table_count, AreOpened, HasLast, AskingAgainEnds, AddingKeepsTheRest, Adds, WhatIsNotFinalCanBeOpened}
 
 -- ---- counting tables
 
@@ -82,13 +82,7 @@ count_lt (x ∷ xs) (y ∷ ys) (suc i) t h none some =
 within : (tables more : Tables) → HasAll tables more → IsWithin tables more
 within tables more all i t e = all Wdl i t e
 
--- ---- what is added
-
--- the whole set has a table of this kind and material that the first lacks
-pub record Adds (tables whole : Tables) (kind : TableKind) (key : ℕ) : Type 0 where
-  pub table : Contents
-  pub lacks : table_at tables kind key ≡ None
-  pub there : table_at whole kind key ≡ Some table
+-- ---- what can be opened
 
 adds_or_none : (tables whole : Tables) → HasAll tables whole → (kind : TableKind) (key : ℕ) → AddsNone tables whole kind key ⊎ Adds tables whole kind key
 adds_or_none tables whole all kind key = by_table (table_at tables kind key) (table_at whole kind key) refl refl
@@ -98,71 +92,66 @@ adds_or_none tables whole all kind key = by_table (table_at tables kind key) (ta
     by_table None (Some t) e f = inr (record { table = t; lacks = e; there = f })
     by_table (Some t) w e f = inl (all kind key t e ∙ sym e)
 
--- the whole set has a table that is missing, and which is there in a set that is final for it
-pub record IsAdded (IsFinal : Tables → Tables → Option ℕ → Type 0) (tables whole : Tables) (missing : Option ℕ) : Type 0 where
-  pub kind : TableKind
-  pub key : ℕ
-  pub adds : Adds tables whole kind key
-  pub opened : (more : Tables) → IsFinal more whole missing → AddsNone more whole kind key
-
--- it is known whether what is missing is final
-abbrev IsKnown : (Tables → Tables → Option ℕ → Type 0) → Type 0
-IsKnown IsFinal = (tables whole : Tables) (missing : Option ℕ) → HasAll tables whole → IsFinal tables whole missing ⊎ IsAdded IsFinal tables whole missing
-
-known_value : IsKnown IsFinalValue
-known_value tables whole None all = inl tt
-known_value tables whole (Some key) all = elim (adds_or_none tables whole all Wdl key) [
+value_or_opened : (tables whole : Tables) (missing : Option ℕ) → HasAll tables whole → IsFinalValue tables whole missing ⊎ ((key : ℕ) × (missing ≡ Some key) × Adds tables whole Wdl key)
+value_or_opened tables whole None all = inl tt
+value_or_opened tables whole (Some key) all = elim (adds_or_none tables whole all Wdl key) [
   | inl none ↦ inl none
-  | inr adds ↦ inr (record { kind = Wdl; key = key; adds = adds; opened = λ more final. final })
+  | inr adds ↦ inr (key, refl, adds)
 ]
 
-known_distance : IsKnown IsFinalDistance
-known_distance tables whole None all = inl tt
-known_distance tables whole (Some key) all = by_kinds (adds_or_none tables whole all Wdl key) (adds_or_none tables whole all Dtz key)
+distance_or_opened : (tables whole : Tables) (missing : Option ℕ) → HasAll tables whole → IsFinalDistance tables whole missing ⊎ ((key : ℕ) × (missing ≡ Some key) × (kind : TableKind) × Adds tables whole kind key)
+distance_or_opened tables whole None all = inl tt
+distance_or_opened tables whole (Some key) all = by_kinds (adds_or_none tables whole all Wdl key) (adds_or_none tables whole all Dtz key)
   where
     both : AddsNone tables whole Wdl key → AddsNone tables whole Dtz key → (kind : TableKind) → AddsNone tables whole kind key
     both a b Wdl = a
     both a b Dtz = b
 
-    by_kinds : AddsNone tables whole Wdl key ⊎ Adds tables whole Wdl key → AddsNone tables whole Dtz key ⊎ Adds tables whole Dtz key → IsFinalDistance tables whole (Some key) ⊎ IsAdded IsFinalDistance tables whole (Some key)
+    by_kinds : AddsNone tables whole Wdl key ⊎ Adds tables whole Wdl key → AddsNone tables whole Dtz key ⊎ Adds tables whole Dtz key
+        → IsFinalDistance tables whole (Some key) ⊎ ((k : ℕ) × (Some key ≡ Some k) × (kind : TableKind) × Adds tables whole kind k)
     by_kinds (inl a) (inl b) = inl (both a b)
-    by_kinds (inl a) (inr adds) = inr (record { kind = Dtz; key = key; adds = adds; opened = λ more final. final Dtz })
-    by_kinds (inr adds) b = inr (record { kind = Wdl; key = key; adds = adds; opened = λ more final. final Wdl })
+    by_kinds (inl a) (inr adds) = inr (key, refl, Dtz, adds)
+    by_kinds (inr adds) b = inr (key, refl, Wdl, adds)
+
+pub not_final_can_be_opened : WhatIsNotFinalCanBeOpened
+not_final_can_be_opened tables whole missing all = (value_or_opened tables whole missing all, distance_or_opened tables whole missing all)
 
 -- ---- the end
 
-module _ (IsFinal : Tables → Tables → Option ℕ → Type 0) (known : IsKnown IsFinal) (missing : Tables → Option ℕ) (whole : Tables) (sets : ℕ → Tables) (h : AreOpened IsFinal missing whole sets) where
+module _ (IsFinal : Tables → Type 0) (whole : Tables) (sets : ℕ → Tables) (h : AreOpened IsFinal whole sets) where
+  abbrev IsOpened : ℕ → Type 0
+  IsOpened n = (kind : TableKind) × (key : ℕ) × Adds (sets n) (sets (n + 1)) kind key
+
   -- the next set has a table more
-  grown : (n : ℕ) → IsAdded IsFinal (sets n) whole (missing (sets n)) → table_count (sets n) < table_count (sets (n + 1))
-  grown n added =
-      let there : table_at (sets (n + 1)) added.kind added.key ≡ Some added.adds.table = sym (added.opened (sets (n + 1)) (h.opened n)) ∙ added.adds.there in
-      count_lt (sets n) (sets (n + 1)) (slot added.kind added.key) added.adds.table (within (sets n) (sets (n + 1)) (h.kept n)) added.adds.lacks there
+  grown : (n : ℕ) → IsOpened n → table_count (sets n) < table_count (sets (n + 1))
+  grown n (kind, key, adds) = count_lt (sets n) (sets (n + 1)) (slot kind key) adds.table (within (sets n) (sets (n + 1)) (h.kept n)) adds.lacks adds.there
 
   most : (n : ℕ) → table_count (sets n) ≤ table_count whole
   most n = count_le (sets n) whole (within (sets n) whole (h.within n))
 
-  by_end : (n : ℕ) → n + table_count (sets 0) ≤ table_count (sets n) → (IsAdded IsFinal (sets n) whole (missing (sets n)) → HasLast IsFinal missing whole sets) → IsFinal (sets n) whole (missing (sets n)) ⊎ IsAdded IsFinal (sets n) whole (missing (sets n))
-      → HasLast IsFinal missing whole sets
-  by_end n brought later (inl final) = record {
+  by_end : (n : ℕ) → n + table_count (sets 0) ≤ table_count (sets n) → (IsOpened n → HasLast IsFinal whole sets) → IsFinal (sets n) ⊎ IsOpened n → HasLast IsFinal whole sets
+  by_end n opened later (inl final) = record {
     last = n;
     final = final;
-    brought = brought;
-    soon = (let a = most n in let b : table_count whole ≤ length whole = count_by-le-length is_some whole in omega (arith, a, b, brought));
+    opened = opened;
+    soon = (let a = most n in let b : table_count whole ≤ length whole = count_by-le-length is_some whole in omega (arith, a, b, opened));
   }
-  by_end n brought later (inr added) = later added
+  by_end n opened later (inr added) = later added
 
   -- from a set that lacks so many tables of the whole one
-  from_set : (k n : ℕ) → table_count whole ≤ table_count (sets n) + k → n + table_count (sets 0) ≤ table_count (sets n) → HasLast IsFinal missing whole sets
-  from_set zero n left brought =
-      by_end n brought (λ added. (let a = grown n added in let b = most (n + 1) in absurd (omega (arith, a, b, left)))) (known (sets n) whole (missing (sets n)) (h.within n))
-  from_set (suc k) n left brought =
-      by_end n brought (λ added. (let a = grown n added in from_set k (n + 1) (omega (arith, a, left)) (omega (arith, a, brought)))) (known (sets n) whole (missing (sets n)) (h.within n))
+  from_set : (k n : ℕ) → table_count whole ≤ table_count (sets n) + k → n + table_count (sets 0) ≤ table_count (sets n) → HasLast IsFinal whole sets
+  from_set zero n left opened = by_end n opened (λ added. (let a = grown n added in let b = most (n + 1) in absurd (omega (arith, a, b, left)))) (h.opened n)
+  from_set (suc k) n left opened = by_end n opened (λ added. (let a = grown n added in from_set k (n + 1) (omega (arith, a, left)) (omega (arith, a, opened)))) (h.opened n)
 
-  reached : HasLast IsFinal missing whole sets
+  reached : HasLast IsFinal whole sets
   reached = from_set (table_count whole) 0 (omega arith) (omega arith)
 
 pub asking_again_ends : AskingAgainEnds
-asking_again_ends missing whole sets = (reached IsFinalValue known_value missing whole sets, reached IsFinalDistance known_distance missing whole sets)
+asking_again_ends whole sets missing p = (
+  reached (λ set. IsFinalValue set whole (missing set)) whole sets,
+  reached (λ set. IsFinalDistance set whole (missing set)) whole sets,
+  reached (λ set. IsFinalRuling set whole p) whole sets,
+)
 
 -- ---- between two sets
 

@@ -1,6 +1,6 @@
 -- Laws of sets that have more tables. They answer the same, but where the first set misses a table that they have. So tables
 -- may be opened one after another, as answers miss them. Functions of src/laws.rt carry these laws.
-use Rattle.std.specs.Prelude.{◌≡◌, ◌≤◌, ◌<◌, ◌+◌, ℕ, ℤ, IsFalse, IfSome, is_some, List, length, All, count_by, slice_set, take, Option, Some, None, Result, Ok, Err}
+use Rattle.std.specs.Prelude.{◌≡◌, ◌≤◌, ◌<◌, ◌⊎◌, ◌+◌, ℕ, ℤ, IsFalse, IfSome, is_some, List, length, All, count_by, slice_set, take, Option, Some, None, Result, Ok, Err}
 use Rattle.std.specs.List.{AllZip}
 use Rattle.board_core.specs.declared.parts.Parts.{Parts}
 use Rattle.board_core.specs.declared.moves.Move.{Move}
@@ -134,30 +134,44 @@ FinalStaysFinal =
     × ((missing : Option ℕ) → IsFinalDistance tables whole missing → IsFinalDistance tables more missing × IsFinalDistance more whole missing)
     × ((p : Parts) → IsFinalRuling tables whole p → IsFinalRuling tables more p × IsFinalRuling more whole p)
 
+-- the second set has a table of this kind and this material that the first lacks
+pub record Adds (tables more : Tables) (kind : TableKind) (key : ℕ) : Type 0 where
+  pub table : Contents
+  pub lacks : table_at tables kind key ≡ None
+  pub there : table_at more kind key ≡ Some table
+
+-- An answer is final, or the whole set has a table that this set lacks, of the material that the answer names.
+abbrev pub WhatIsNotFinalCanBeOpened : Type 0
+WhatIsNotFinalCanBeOpened =
+    (tables whole : Tables) (missing : Option ℕ) → HasAll tables whole
+    → (IsFinalValue tables whole missing ⊎ ((key : ℕ) × (missing ≡ Some key) × Adds tables whole Wdl key))
+    × (IsFinalDistance tables whole missing ⊎ ((key : ℕ) × (missing ≡ Some key) × (kind : TableKind) × Adds tables whole kind key))
+
+-- Sets that are asked one after another. Each is final, or the next one has a table that it lacks; each has the tables of the
+-- one before, and none that the whole set lacks.
+pub record AreOpened (IsFinal : Tables → Type 0) (whole : Tables) (sets : ℕ → Tables) : Type 0 where
+  pub within : (n : ℕ) → HasAll (sets n) whole
+  pub kept : (n : ℕ) → HasAll (sets n) (sets (n + 1))
+  pub opened : (n : ℕ) → IsFinal (sets n) ⊎ ((kind : TableKind) × (key : ℕ) × Adds (sets n) (sets (n + 1)) kind key)
+
 abbrev pub table_count : Tables → ℕ
 table_count tables = count_by is_some tables
 
--- Sets that are asked one after another, where `missing` tells of a set which table its answer misses: each has the tables of
--- the one before and, of the table that this misses, what the whole set has. None has a table that the whole set lacks.
-pub record AreOpened (IsFinal : Tables → Tables → Option ℕ → Type 0) (missing : Tables → Option ℕ) (whole : Tables) (sets : ℕ → Tables) : Type 0 where
-  pub within : (n : ℕ) → HasAll (sets n) whole
-  pub kept : (n : ℕ) → HasAll (sets n) (sets (n + 1))
-  pub opened : (n : ℕ) → IsFinal (sets (n + 1)) whole (missing (sets n))
-
--- The answer of one of them is final, and so is that of the whole set. There were no more before it than the tables that they
--- brought, and no more than slots.
-pub record HasLast (IsFinal : Tables → Tables → Option ℕ → Type 0) (missing : Tables → Option ℕ) (whole : Tables) (sets : ℕ → Tables) : Type 0 where
+-- One of them is final. There are no more before it than tables were opened, and no more than slots.
+pub record HasLast (IsFinal : Tables → Type 0) (whole : Tables) (sets : ℕ → Tables) : Type 0 where
   pub last : ℕ
-  pub final : IsFinal (sets last) whole (missing (sets last))
-  pub brought : last + table_count (sets 0) ≤ table_count (sets last)
+  pub final : IsFinal (sets last)
+  pub opened : last + table_count (sets 0) ≤ table_count (sets last)
   pub soon : last ≤ length whole
 
--- Whoever opens the table that an answer misses, where the whole set has it, and asks again, comes to a final answer.
+-- Whoever opens a table that an answer misses, and asks again, comes to an answer that is final, and so that of the whole set.
+-- Here `missing` is what some answer of a set misses.
 abbrev pub AskingAgainEnds : Type 0
 AskingAgainEnds =
-    (missing : Tables → Option ℕ) (whole : Tables) (sets : ℕ → Tables)
-    → (AreOpened IsFinalValue missing whole sets → HasLast IsFinalValue missing whole sets)
-    × (AreOpened IsFinalDistance missing whole sets → HasLast IsFinalDistance missing whole sets)
+    (whole : Tables) (sets : ℕ → Tables) (missing : Tables → Option ℕ) (p : Parts)
+    → (AreOpened (λ set. IsFinalValue set whole (missing set)) whole sets → HasLast (λ set. IsFinalValue set whole (missing set)) whole sets)
+    × (AreOpened (λ set. IsFinalDistance set whole (missing set)) whole sets → HasLast (λ set. IsFinalDistance set whole (missing set)) whole sets)
+    × (AreOpened (λ set. IsFinalRuling set whole p) whole sets → HasLast (λ set. IsFinalRuling set whole p) whole sets)
 
 -- ---- games
 

@@ -1,7 +1,7 @@
 //! Laws over the definitions of specs/, for proofs above: each function carries one law and does nothing.
 
 ghost use Rattle.judge_core.specs.FiveRules.{DistanceByFiveRules};
-ghost use Rattle.judge_core.specs.MoreTables.{AddingKeepsTheRest, AskingAgainEnds, FinalStaysFinal, GamesDependOnRulings, MoreTablesAnswerTheSame, WhatIsMissingStaysMissing};
+ghost use Rattle.judge_core.specs.MoreTables.{AddingKeepsTheRest, AskingAgainEnds, FinalStaysFinal, GamesDependOnRulings, MoreTablesAnswerTheSame, WhatIsMissingStaysMissing, WhatIsNotFinalCanBeOpened};
 ghost use Rattle.judge_core.specs.DeterminedLaws.{CompletionsExist, DeterminedAnswersAreOne, DeterminedDistanceIsOne, DeterminedMoveIsAsProbed, DeterminedValueIsOne, FirstDeterminedMoveIsBest, FirstDeterminedMoveWinsWithinRule};
 ghost use Rattle.judge_core.specs.RootLaws.{FirstMoveIsBest, FirstMoveWinsWithinRule, FirstMoveKeepsTheValue, NearestWinIsTheDistance, NoCaptureIsBetter};
 ghost use Rattle.judge_core.specs.Laws.{WdlMeetsItsRule, DtzMeetsItsRules, GameHasOneOutcome, NoDelayIsTheRuling, FirstVerdictInWords, FirstVerdictLooksBack, IllegalStaysIllegal, OneMoveMore};
@@ -131,8 +131,13 @@ pub fn what_is_missing_stays_missing()
     ensures { WhatIsMissingStaysMissing }
 {}
 
-/// Whoever opens the table that an answer misses, where there is one, and asks again, comes to an answer that is final, after
-/// no more rounds than tables were opened.
+/// An answer is final for a set that has more tables, or this has a table of the material that the answer names.
+pub fn what_is_not_final_can_be_opened()
+    ensures { WhatIsNotFinalCanBeOpened }
+{}
+
+/// Whoever opens a table that an answer misses, and asks again, comes to an answer that is final, after no more rounds than
+/// tables were opened.
 pub fn asking_again_ends()
     ensures { AskingAgainEnds }
 {}
