@@ -16,7 +16,7 @@ use Rattle.judge_core.specs.Distances.{dtz_of}
 use Rattle.judge_core.specs.Answers.{IsDecisive}
 use Rattle.judge_core.specs.Ruling.{is_out_of_scope}
 use Rattle.judge_core.proofs.MoreTables.{more_answer_the_same}
-use Rattle.judge_core.specs.MoreTables.{IsFinalRuling, AnswersTheSame, FinalStaysFinal, HasAll, AddsNone, IsFinalValue, IsFinalDistance, table_count, AreOpened, HasLast, AskingAgainEnds, AddingKeepsTheRest, Adds, WhatIsNotFinalCanBeOpened}
+use Rattle.judge_core.specs.MoreTables.{IsFinalRuling, AnswersTheSame, FinalStaysFinal, HasAll, AddsNone, IsFinalValue, IsFinalDistance, table_count, AreOpened, HasLast, AskingAgainEnds, AddingKeepsTheRest, AddsTable, WhatIsNotFinalCanBeOpened}
 
 -- ---- counting tables
 
@@ -84,22 +84,22 @@ within tables more all i t e = all Wdl i t e
 
 -- ---- what can be opened
 
-adds_or_none : (tables whole : Tables) → HasAll tables whole → (kind : TableKind) (key : ℕ) → AddsNone tables whole kind key ⊎ Adds tables whole kind key
+adds_or_none : (tables whole : Tables) → HasAll tables whole → (kind : TableKind) (key : ℕ) → AddsNone tables whole kind key ⊎ AddsTable tables whole kind key
 adds_or_none tables whole all kind key = by_table (table_at tables kind key) (table_at whole kind key) refl refl
   where
-    by_table : (o w : Option Contents) → table_at tables kind key ≡ o → table_at whole kind key ≡ w → AddsNone tables whole kind key ⊎ Adds tables whole kind key
+    by_table : (o w : Option Contents) → table_at tables kind key ≡ o → table_at whole kind key ≡ w → AddsNone tables whole kind key ⊎ AddsTable tables whole kind key
     by_table None None e f = inl (f ∙ sym e)
     by_table None (Some t) e f = inr (record { table = t; lacks = e; there = f })
     by_table (Some t) w e f = inl (all kind key t e ∙ sym e)
 
-value_or_opened : (tables whole : Tables) (missing : Option ℕ) → HasAll tables whole → IsFinalValue tables whole missing ⊎ ((key : ℕ) × (missing ≡ Some key) × Adds tables whole Wdl key)
+value_or_opened : (tables whole : Tables) (missing : Option ℕ) → HasAll tables whole → IsFinalValue tables whole missing ⊎ ((key : ℕ) × (missing ≡ Some key) × AddsTable tables whole Wdl key)
 value_or_opened tables whole None all = inl tt
 value_or_opened tables whole (Some key) all = elim (adds_or_none tables whole all Wdl key) [
   | inl none ↦ inl none
   | inr adds ↦ inr (key, refl, adds)
 ]
 
-distance_or_opened : (tables whole : Tables) (missing : Option ℕ) → HasAll tables whole → IsFinalDistance tables whole missing ⊎ ((key : ℕ) × (missing ≡ Some key) × (kind : TableKind) × Adds tables whole kind key)
+distance_or_opened : (tables whole : Tables) (missing : Option ℕ) → HasAll tables whole → IsFinalDistance tables whole missing ⊎ ((key : ℕ) × (missing ≡ Some key) × (kind : TableKind) × AddsTable tables whole kind key)
 distance_or_opened tables whole None all = inl tt
 distance_or_opened tables whole (Some key) all = by_kinds (adds_or_none tables whole all Wdl key) (adds_or_none tables whole all Dtz key)
   where
@@ -107,8 +107,8 @@ distance_or_opened tables whole (Some key) all = by_kinds (adds_or_none tables w
     both a b Wdl = a
     both a b Dtz = b
 
-    by_kinds : AddsNone tables whole Wdl key ⊎ Adds tables whole Wdl key → AddsNone tables whole Dtz key ⊎ Adds tables whole Dtz key
-        → IsFinalDistance tables whole (Some key) ⊎ ((k : ℕ) × (Some key ≡ Some k) × (kind : TableKind) × Adds tables whole kind k)
+    by_kinds : AddsNone tables whole Wdl key ⊎ AddsTable tables whole Wdl key → AddsNone tables whole Dtz key ⊎ AddsTable tables whole Dtz key
+        → IsFinalDistance tables whole (Some key) ⊎ ((k : ℕ) × (Some key ≡ Some k) × (kind : TableKind) × AddsTable tables whole kind k)
     by_kinds (inl a) (inl b) = inl (both a b)
     by_kinds (inl a) (inr adds) = inr (key, refl, Dtz, adds)
     by_kinds (inr adds) b = inr (key, refl, Wdl, adds)
@@ -120,7 +120,7 @@ not_final_can_be_opened tables whole missing all = (value_or_opened tables whole
 
 module _ (IsFinal : Tables → Type 0) (whole : Tables) (sets : ℕ → Tables) (h : AreOpened IsFinal whole sets) where
   abbrev IsOpened : ℕ → Type 0
-  IsOpened n = (kind : TableKind) × (key : ℕ) × Adds (sets n) (sets (n + 1)) kind key
+  IsOpened n = (kind : TableKind) × (key : ℕ) × AddsTable (sets n) (sets (n + 1)) kind key
 
   -- the next set has a table more
   grown : (n : ℕ) → IsOpened n → table_count (sets n) < table_count (sets (n + 1))

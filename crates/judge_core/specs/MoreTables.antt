@@ -135,7 +135,7 @@ FinalStaysFinal =
     × ((p : Parts) → IsFinalRuling tables whole p → IsFinalRuling tables more p × IsFinalRuling more whole p)
 
 -- the second set has a table of this kind and this material that the first lacks
-pub record Adds (tables more : Tables) (kind : TableKind) (key : ℕ) : Type 0 where
+pub record AddsTable (tables more : Tables) (kind : TableKind) (key : ℕ) : Type 0 where
   pub table : Contents
   pub lacks : table_at tables kind key ≡ None
   pub there : table_at more kind key ≡ Some table
@@ -144,15 +144,15 @@ pub record Adds (tables more : Tables) (kind : TableKind) (key : ℕ) : Type 0 w
 abbrev pub WhatIsNotFinalCanBeOpened : Type 0
 WhatIsNotFinalCanBeOpened =
     (tables whole : Tables) (missing : Option ℕ) → HasAll tables whole
-    → (IsFinalValue tables whole missing ⊎ ((key : ℕ) × (missing ≡ Some key) × Adds tables whole Wdl key))
-    × (IsFinalDistance tables whole missing ⊎ ((key : ℕ) × (missing ≡ Some key) × (kind : TableKind) × Adds tables whole kind key))
+    → (IsFinalValue tables whole missing ⊎ ((key : ℕ) × (missing ≡ Some key) × AddsTable tables whole Wdl key))
+    × (IsFinalDistance tables whole missing ⊎ ((key : ℕ) × (missing ≡ Some key) × (kind : TableKind) × AddsTable tables whole kind key))
 
 -- Sets that are asked one after another. Each is final, or the next one has a table that it lacks; each has the tables of the
 -- one before, and none that the whole set lacks.
 pub record AreOpened (IsFinal : Tables → Type 0) (whole : Tables) (sets : ℕ → Tables) : Type 0 where
   pub within : (n : ℕ) → HasAll (sets n) whole
   pub kept : (n : ℕ) → HasAll (sets n) (sets (n + 1))
-  pub opened : (n : ℕ) → IsFinal (sets n) ⊎ ((kind : TableKind) × (key : ℕ) × Adds (sets n) (sets (n + 1)) kind key)
+  pub opened : (n : ℕ) → IsFinal (sets n) ⊎ ((kind : TableKind) × (key : ℕ) × AddsTable (sets n) (sets (n + 1)) kind key)
 
 abbrev pub table_count : Tables → ℕ
 table_count tables = count_by is_some tables
