@@ -1,6 +1,6 @@
 -- What a text spells is read from it.
-use Rattle.std.proofs.Common.{◌≡◌, ℕ, ◌+◌, ◌-◌, ◌*◌, ◌<◌, Bool, true, false, not, List, [], ◌∷◌, ◌++◌, Option, Some, None, is_some, refl, sym, ap, ap₂, subst, ◌∙◌, arith, append_assoc, inl, inr}
-use Rattle.std.specs.Prelude.{◌==◌, ◌&&◌, ◌⊎◌, if◌then◌else◌}
+use Rattle.std.proofs.Common.{◌≡◌, ℕ, ◌+◌, ◌-◌, ◌*◌, ◌<◌, Bool, true, false, not, List, [], ◌∷◌, ◌++◌, Option, Some, None, is_some, refl, sym, ap, ◌∙◌, arith, append_assoc, inl, inr}
+use Rattle.std.specs.Prelude.{◌==◌, ◌&&◌, if◌then◌else◌}
 use Rattle.std.specs.List.{list_all}
 use Rattle.std.proofs.lemmas.Bool.{and_parts, not-true}
 use Rattle.board_core.specs.declared.piece.Kind.{Kind}
@@ -13,8 +13,8 @@ use Rattle.board_core.specs.Square.{file_of, rank_of}
 use Rattle.san_text.specs.declared.told.ManTold.{ManTold}
 use Rattle.san_text.specs.declared.told.Told.{Told}
 use Rattle.san_text.specs.declared.told.Told.TheVariants.{Castles, Goes}
-use Rattle.san_text.specs.Told.{kind_text, file_text, rank_text, square_text, IsOneOf, castling_texts, promotion_texts, between_texts, en_passant_text, check_texts, glyph_texts, AreMarks, IsBelowEight, SpellsCastling, SpellsMan, SpellsTold}
-use Rattle.san_text.specs.Inside.Scan.{is_file, is_rank, kind_by, kind_at, past_kind, takes_at, past_between, square_at, promotion_by, promotion_at, past_promotion, passes_at, past_passing, are_marks, is_short, is_longer, with_tail, man_at_square, after_kind, castling_by, told_of}
+use Rattle.san_text.specs.Told.{kind_text, file_text, rank_text, square_text, IsOneOf, castling_texts, promotion_texts, between_texts, en_passant_text, check_texts, glyph_texts, AreMarks, IsBelowEight, SpellsMan, SpellsTold}
+use Rattle.san_text.specs.Inside.Scan.{is_file, is_rank, past_between, square_at, promotion_by, promotion_at, past_promotion, passes_at, past_passing, are_marks, is_short, is_longer, with_tail, man_at_square, after_kind, told_of}
 use Rattle.san_text.proofs.Bytes.{IsInner, IsFileByte, IsRankByte, file_byte, rank_byte}
 
 -- ---- marks

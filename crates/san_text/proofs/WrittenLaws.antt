@@ -1,10 +1,7 @@
 -- What is written for a legal move is read as this move.
-use Rattle.std.proofs.Common.{◌≡◌, ◌≢◌, ◌<◌, ℕ, Bool, true, false, not, List, [], ◌∷◌, ◌++◌, Option, Some, None, Decides, refl, sym, ap, ap₂, subst, ◌∙◌, arith, append-nil, inl, inr, ◌↔◌}
-use Rattle.std.specs.Prelude.{◌==◌, ◌&&◌, IsTrue, codes, if◌then◌else◌}
-use Rattle.std.proofs.lemmas.Bool.{cases_Bool, cases_eq, and_from, eq-eqb, ne_eqb}
-use Rattle.std.proofs.lemmas.List.{append_cancel_left}
-use Rattle.board_core.specs.declared.piece.Piece.{Piece}
-use Rattle.board_core.specs.declared.piece.Side.{Side}
+use Rattle.std.proofs.Common.{◌≡◌, ◌≢◌, ◌<◌, ℕ, Bool, true, false, not, List, [], ◌++◌, Option, Some, None, refl, sym, ap, subst, ◌∙◌, arith, append-nil, inl, inr}
+use Rattle.std.specs.Prelude.{◌==◌, codes, if◌then◌else◌}
+use Rattle.std.proofs.lemmas.Bool.{cases_Bool, cases_eq, eq-eqb, ne_eqb}
 use Rattle.board_core.specs.declared.piece.Kind.{Kind}
 use Rattle.board_core.specs.declared.piece.Kind.TheVariants.{Pawn, Knight, Bishop, Rook, Queen, King}
 use Rattle.board_core.specs.declared.piece.Promotion.{Promotion}
@@ -14,25 +11,19 @@ use Rattle.board_core.specs.declared.piece.Wing.TheVariants.{KingSide, QueenSide
 use Rattle.board_core.specs.declared.parts.Parts.{Parts}
 use Rattle.board_core.specs.declared.moves.Move.{Move}
 use Rattle.board_core.specs.Square.{file_of, rank_of}
-use Rattle.board_core.specs.Attack.{man_at, IsInCheck}
-use Rattle.board_core.specs.Moves.{Stands, IsLegal, Legal}
+use Rattle.board_core.specs.Moves.{Stands, IsLegal}
 use Rattle.board_core.specs.Computed.{is_in_check}
-use Rattle.board_core.specs.ComputedMoves.{is_capture, legal_moves, has_some, has_legal_move, position_after}
-use Rattle.board_core.proofs.Computed.{Decides-in_check}
-use Rattle.board_core.proofs.ComputedMoves.{legal_position}
-use Rattle.board_core.proofs.ComputedLists.{HasLegal-moves}
+use Rattle.board_core.specs.ComputedMoves.{is_capture, position_after}
 use Rattle.board_core.proofs.Listing.{IsLegal-stands}
 use Rattle.san_text.specs.declared.told.ManTold.{ManTold}
-use Rattle.san_text.specs.declared.told.Told.{Told}
 use Rattle.san_text.specs.declared.told.Told.TheVariants.{Castles, Goes}
 use Rattle.san_text.specs.declared.origin.Apart.{Apart}
 use Rattle.san_text.specs.declared.origin.Apart.TheVariants.{Nothing, ByFile, ByRank, BySquare}
-use Rattle.san_text.specs.Told.{kind_text, file_text, rank_text, takes_text, square_text, promotion_text, IsOneOf, promotion_texts, between_texts, castling_texts, castling_text, AreMarks, IsBelowEight, SpellsMan, SpellsTold, told_text}
-use Rattle.san_text.specs.Agrees.{castling, IsAsTold, file_told, AgreesMan, Agrees}
+use Rattle.san_text.specs.Told.{takes_text, promotion_text, IsOneOf, promotion_texts, between_texts, castling_texts, castling_text, AreMarks, IsBelowEight, SpellsMan, told_text}
+use Rattle.san_text.specs.Agrees.{castling, IsAsTold, file_told, AgreesMan}
 use Rattle.san_text.specs.Written.{kind_letter, kind_there, kind_moved, is_rival, has_rival, anywhere, on_file_of, on_rank_of, told_apart, pawn_apart, origin_told, file_by, rank_by, man_told, told_by, san_told, is_checkmate, mark_of, mark_after, san_of}
 use Rattle.san_text.specs.San.{IsMeant, ReadsSan}
-use Rattle.san_text.specs.Laws.{IsMate}
-use Rattle.san_text.proofs.LegalMoves.{same_kind, castles_by}
+use Rattle.san_text.proofs.LegalMoves.{castles_by}
 use Rattle.san_text.proofs.PawnLaws.{one_square, one_pawn, pawn_stays}
 use Rattle.san_text.proofs.Rivals.{Decides-rival}
 use Rattle.san_text.proofs.ReadingLaws.{spelled_read}

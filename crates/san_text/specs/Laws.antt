@@ -1,12 +1,14 @@
 -- What holds of moves and their texts.
-use Rattle.std.specs.Prelude.{◌≡◌, ◌↔◌, ◌++◌, ℕ, List, codes, IsTrue, Some}
+use Rattle.std.specs.Prelude.{◌≡◌, ◌↔◌, ◌++◌, ℕ, List, codes, Some}
 use Rattle.board_core.specs.declared.parts.Parts.{Parts}
 use Rattle.board_core.specs.declared.moves.Move.{Move}
 use Rattle.board_core.specs.Attack.{IsInCheck}
-use Rattle.board_core.specs.Moves.{IsLegal, Legal}
+use Rattle.board_core.specs.declared.piece.Wing.{Wing}
+use Rattle.board_core.specs.Moves.{IsCastle, IsLegal, Legal}
 use Rattle.board_core.specs.Position.{IsPosition}
 use Rattle.san_text.specs.declared.told.Told.{Told}
 use Rattle.san_text.specs.Told.{SpellsTold, told_text}
+use Rattle.san_text.specs.Agrees.{castling}
 use Rattle.san_text.specs.San.{ReadsSan}
 use Rattle.san_text.specs.Written.{san_of, san_told}
 
@@ -22,6 +24,10 @@ HasOneMove =
 -- a text tells one thing at most
 abbrev pub TellsOneThing : Type 0
 TellsOneThing = (t : List ℕ) (a b : Told) → SpellsTold t a → SpellsTold t b → a ≡ b
+
+-- castling is told exactly where king and rook castle by the rules
+abbrev pub CastlingIsTold : Type 0
+CastlingIsTold = (p : Parts) (m : Move) (wing : Wing) → IsLegal p m → (castling p m ≡ Some wing) ↔ IsCastle p m wing
 
 -- no legal move, and the side to move in check
 abbrev pub IsMate : Parts → Type 0

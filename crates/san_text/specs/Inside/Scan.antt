@@ -171,8 +171,8 @@ man_at_square kind file rank takes to = record { kind = kind; file = file; rank 
 
 -- the file and the rank that were read are those of the man's square
 abbrev pub square_alone : Kind → Option ℕ → Option ℕ → List ℕ → Option Told
-square_alone kind None rank t = None
-square_alone kind (Some file) None t = None
+square_alone _ None rank t = None
+square_alone _ (Some file) None t = None
 square_alone kind (Some file) (Some rank) t = with_tail (man_at_square kind None None false (8 * rank + file)) t
 
 -- the text from the sign between on, then the text behind it

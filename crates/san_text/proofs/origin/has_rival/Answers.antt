@@ -1,4 +1,4 @@
-use Rattle.std.proofs.Common.{◌≡◌, ℕ, true, arith, rules, sym, ◌∙◌}
+use Rattle.std.proofs.Common.{arith, sym, ◌∙◌}
 use Rattle.board_core.proofs.Sweep.{Rests-without, none_on}
 use Rattle.san_text.specs.Inside.Movers.{is_among}
 use Rattle.san_text.proofs.Rivals.{RivalAmong, Decides-found, none_found}

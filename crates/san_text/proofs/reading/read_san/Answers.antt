@@ -1,4 +1,4 @@
-use Rattle.std.proofs.Common.{◌≡◌, None, Some, Err, sym, ap, ◌∙◌}
+use Rattle.std.proofs.Common.{◌≡◌, None, Err, sym, ap, ◌∙◌}
 use Rattle.san_text.specs.declared.fault.SanFault.{SanFault}
 use Rattle.san_text.specs.Inside.Scan.{told_of}
 use Rattle.san_text.proofs.SpellingLaws.{read_spelled}
