@@ -207,15 +207,15 @@ tail_none t passes h = record {
 }
 
 -- a letter alone, and one behind a sign of equality
-tail_letter : (c : ℕ) (kind : Promotion) (t : List ℕ) (passes : Bool) → promotion_by c ≡ Some kind → (c == 61) ≡ false → (c == 120) ≡ false → (c == 45) ≡ false → Passing t passes → Tail (c ∷ t) (Some kind) passes
-tail_letter c kind [] passes k equals x dash h = record {
+tail_letter : (c : ℕ) (what : Promotion) (t : List ℕ) (passes : Bool) → promotion_by c ≡ Some what → (c == 61) ≡ false → (c == 120) ≡ false → (c == 45) ≡ false → Passing t passes → Tail (c ∷ t) (Some what) passes
+tail_letter c what [] passes k equals x dash h = record {
   promotes = k;
   told = rw k h.told;
   marks = rw k h.marks;
   between = rw (x, dash) refl;
   square = refl;
 }
-tail_letter c kind (d ∷ t) passes k equals x dash h = record {
+tail_letter c what (d ∷ t) passes k equals x dash h = record {
   promotes = rw equals k;
   told = rw (equals, k) h.told;
   marks = rw (equals, k) h.marks;
@@ -223,8 +223,8 @@ tail_letter c kind (d ∷ t) passes k equals x dash h = record {
   square = h.after_file c;
 }
 
-tail_equals : (c : ℕ) (kind : Promotion) (t : List ℕ) (passes : Bool) → promotion_by c ≡ Some kind → Passing t passes → Tail (61 ∷ c ∷ t) (Some kind) passes
-tail_equals c kind t passes k h = record {
+tail_equals : (c : ℕ) (what : Promotion) (t : List ℕ) (passes : Bool) → promotion_by c ≡ Some what → Passing t passes → Tail (61 ∷ c ∷ t) (Some what) passes
+tail_equals c what t passes k h = record {
   promotes = rw k k;
   told = rw (k, k) h.told;
   marks = rw (k, k) h.marks;
@@ -232,7 +232,7 @@ tail_equals c kind t passes k h = record {
   square = refl;
 }
 
-tail_of : (kind : Option Promotion) (promotion t : List ℕ) (passes : Bool) → IsOneOf (promotion_texts kind) promotion → Passing t passes → Tail (promotion ++ t) kind passes
+tail_of : (what : Option Promotion) (promotion t : List ℕ) (passes : Bool) → IsOneOf (promotion_texts what) promotion → Passing t passes → Tail (promotion ++ t) what passes
 tail_of None promotion t passes (inl e) h = rw e (tail_none t passes h)
 tail_of None promotion t passes (inr e) h = absurd e
 tail_of (Some ToQueen) promotion t passes (inl e) h = rw e (tail_equals 81 ToQueen t passes refl h)
@@ -256,9 +256,9 @@ tail_of (Some ToKnight) promotion t passes (inr (inr (inl e))) h = rw e (tail_eq
 tail_of (Some ToKnight) promotion t passes (inr (inr (inr (inl e)))) h = rw e (tail_letter 110 ToKnight t passes refl refl refl refl h)
 tail_of (Some ToKnight) promotion t passes (inr (inr (inr (inr e)))) h = absurd e
 
-tail_read : (kind : Kind) (file rank : Option ℕ) (takes passes : Bool) (to : ℕ) (promotion : Option Promotion) (t : List ℕ) → Tail t promotion passes
-    → with_tail (man_at_square kind file rank takes to) t ≡ Some (Goes (record { kind = kind; file = file; rank = rank; takes = takes; to = to; promotion = promotion; en_passant = passes }))
-tail_read kind file rank takes passes to promotion t h = rw (h.marks, h.promotes, h.told) refl
+tail_read : (what : Kind) (file rank : Option ℕ) (takes passes : Bool) (to : ℕ) (promotion : Option Promotion) (t : List ℕ) → Tail t promotion passes
+    → with_tail (man_at_square what file rank takes to) t ≡ Some (Goes (record { kind = what; file = file; rank = rank; takes = takes; to = to; promotion = promotion; en_passant = passes }))
+tail_read what file rank takes passes to promotion t h = rw (h.marks, h.promotes, h.told) refl
 
 -- ---- the square and what stands before it
 
@@ -270,57 +270,57 @@ square_read : (to c d : ℕ) (t : List ℕ) → IsFileByte c (file_of to) → Is
 square_read to c d t f r = rw (f.file, r.rank) (ap (λ (n : ℕ). Some n) (square_sum to c d f.number r.number))
 
 -- the file and the rank of the square are read first where nothing is told of the origin
-alone_read : (kind : Kind) (to c d : ℕ) (t : List ℕ) → IsFileByte c (file_of to) → IsRankByte d (rank_of to) → past_between true t ≡ t → square_at t ≡ None
-    → after_kind kind (c ∷ d ∷ t) ≡ with_tail (man_at_square kind None None false to) t
-alone_read kind to c d t f r between square =
-    rw (f.file, r.rank, between, square) (ap (λ n. with_tail (man_at_square kind None None false n) t) (square_sum to c d f.number r.number))
+alone_read : (what : Kind) (to c d : ℕ) (t : List ℕ) → IsFileByte c (file_of to) → IsRankByte d (rank_of to) → past_between true t ≡ t → square_at t ≡ None
+    → after_kind what (c ∷ d ∷ t) ≡ with_tail (man_at_square what None None false to) t
+alone_read what to c d t f r between square =
+    rw (f.file, r.rank, between, square) (ap (λ n. with_tail (man_at_square what None None false n) t) (square_sum to c d f.number r.number))
 
-takes_read : (kind : Kind) (to c d : ℕ) (t : List ℕ) → IsFileByte c (file_of to) → IsRankByte d (rank_of to)
-    → after_kind kind (120 ∷ c ∷ d ∷ t) ≡ with_tail (man_at_square kind None None true to) t
-takes_read kind to c d t f r = rw (square_read to c d t f r) refl
+takes_read : (what : Kind) (to c d : ℕ) (t : List ℕ) → IsFileByte c (file_of to) → IsRankByte d (rank_of to)
+    → after_kind what (120 ∷ c ∷ d ∷ t) ≡ with_tail (man_at_square what None None true to) t
+takes_read what to c d t f r = rw (square_read to c d t f r) refl
 
-rank_read : (kind : Kind) (to c d g rank : ℕ) (t : List ℕ) → IsFileByte c (file_of to) → IsRankByte d (rank_of to) → IsRankByte g rank
-    → after_kind kind (g ∷ c ∷ d ∷ t) ≡ with_tail (man_at_square kind None (Some rank) false to) t
-rank_read kind to c d g rank t f r o = rw (o.no_file, o.rank, f.no_x, square_read to c d t f r, o.number, f.no_x) refl
+rank_read : (what : Kind) (to c d g rank : ℕ) (t : List ℕ) → IsFileByte c (file_of to) → IsRankByte d (rank_of to) → IsRankByte g rank
+    → after_kind what (g ∷ c ∷ d ∷ t) ≡ with_tail (man_at_square what None (Some rank) false to) t
+rank_read what to c d g rank t f r o = rw (o.no_file, o.rank, f.no_x, square_read to c d t f r, o.number, f.no_x) refl
 
-rank_takes_read : (kind : Kind) (to c d g rank : ℕ) (t : List ℕ) → IsFileByte c (file_of to) → IsRankByte d (rank_of to) → IsRankByte g rank
-    → after_kind kind (g ∷ 120 ∷ c ∷ d ∷ t) ≡ with_tail (man_at_square kind None (Some rank) true to) t
-rank_takes_read kind to c d g rank t f r o = rw (o.no_file, o.rank, square_read to c d t f r, o.number) refl
+rank_takes_read : (what : Kind) (to c d g rank : ℕ) (t : List ℕ) → IsFileByte c (file_of to) → IsRankByte d (rank_of to) → IsRankByte g rank
+    → after_kind what (g ∷ 120 ∷ c ∷ d ∷ t) ≡ with_tail (man_at_square what None (Some rank) true to) t
+rank_takes_read what to c d g rank t f r o = rw (o.no_file, o.rank, square_read to c d t f r, o.number) refl
 
-file_read : (kind : Kind) (to c d g file : ℕ) (t : List ℕ) → IsFileByte c (file_of to) → IsRankByte d (rank_of to) → IsFileByte g file
-    → after_kind kind (g ∷ c ∷ d ∷ t) ≡ with_tail (man_at_square kind (Some file) None false to) t
-file_read kind to c d g file t f r o = rw (o.file, f.no_rank, f.no_x, square_read to c d t f r, o.number, f.no_x) refl
+file_read : (what : Kind) (to c d g file : ℕ) (t : List ℕ) → IsFileByte c (file_of to) → IsRankByte d (rank_of to) → IsFileByte g file
+    → after_kind what (g ∷ c ∷ d ∷ t) ≡ with_tail (man_at_square what (Some file) None false to) t
+file_read what to c d g file t f r o = rw (o.file, f.no_rank, f.no_x, square_read to c d t f r, o.number, f.no_x) refl
 
-file_takes_read : (kind : Kind) (to c d g file : ℕ) (t : List ℕ) → IsFileByte c (file_of to) → IsRankByte d (rank_of to) → IsFileByte g file
-    → after_kind kind (g ∷ 120 ∷ c ∷ d ∷ t) ≡ with_tail (man_at_square kind (Some file) None true to) t
-file_takes_read kind to c d g file t f r o = rw (o.file, square_read to c d t f r, o.number) refl
+file_takes_read : (what : Kind) (to c d g file : ℕ) (t : List ℕ) → IsFileByte c (file_of to) → IsRankByte d (rank_of to) → IsFileByte g file
+    → after_kind what (g ∷ 120 ∷ c ∷ d ∷ t) ≡ with_tail (man_at_square what (Some file) None true to) t
+file_takes_read what to c d g file t f r o = rw (o.file, square_read to c d t f r, o.number) refl
 
-both_read : (kind : Kind) (to c d g file h rank : ℕ) (t : List ℕ) → IsFileByte c (file_of to) → IsRankByte d (rank_of to) → IsFileByte g file → IsRankByte h rank
-    → after_kind kind (g ∷ h ∷ c ∷ d ∷ t) ≡ with_tail (man_at_square kind (Some file) (Some rank) false to) t
-both_read kind to c d g file h rank t f r o w = rw (o.file, w.rank, f.no_x, f.no_dash, square_read to c d t f r, o.number, w.number, f.no_x) refl
+both_read : (what : Kind) (to c d g file h rank : ℕ) (t : List ℕ) → IsFileByte c (file_of to) → IsRankByte d (rank_of to) → IsFileByte g file → IsRankByte h rank
+    → after_kind what (g ∷ h ∷ c ∷ d ∷ t) ≡ with_tail (man_at_square what (Some file) (Some rank) false to) t
+both_read what to c d g file h rank t f r o w = rw (o.file, w.rank, f.no_x, f.no_dash, square_read to c d t f r, o.number, w.number, f.no_x) refl
 
-both_dash_read : (kind : Kind) (to c d g file h rank : ℕ) (t : List ℕ) → IsFileByte c (file_of to) → IsRankByte d (rank_of to) → IsFileByte g file → IsRankByte h rank
-    → after_kind kind (g ∷ h ∷ 45 ∷ c ∷ d ∷ t) ≡ with_tail (man_at_square kind (Some file) (Some rank) false to) t
-both_dash_read kind to c d g file h rank t f r o w = rw (o.file, w.rank, square_read to c d t f r, o.number, w.number) refl
+both_dash_read : (what : Kind) (to c d g file h rank : ℕ) (t : List ℕ) → IsFileByte c (file_of to) → IsRankByte d (rank_of to) → IsFileByte g file → IsRankByte h rank
+    → after_kind what (g ∷ h ∷ 45 ∷ c ∷ d ∷ t) ≡ with_tail (man_at_square what (Some file) (Some rank) false to) t
+both_dash_read what to c d g file h rank t f r o w = rw (o.file, w.rank, square_read to c d t f r, o.number, w.number) refl
 
-both_takes_read : (kind : Kind) (to c d g file h rank : ℕ) (t : List ℕ) → IsFileByte c (file_of to) → IsRankByte d (rank_of to) → IsFileByte g file → IsRankByte h rank
-    → after_kind kind (g ∷ h ∷ 120 ∷ c ∷ d ∷ t) ≡ with_tail (man_at_square kind (Some file) (Some rank) true to) t
-both_takes_read kind to c d g file h rank t f r o w = rw (o.file, w.rank, square_read to c d t f r, o.number, w.number) refl
+both_takes_read : (what : Kind) (to c d g file h rank : ℕ) (t : List ℕ) → IsFileByte c (file_of to) → IsRankByte d (rank_of to) → IsFileByte g file → IsRankByte h rank
+    → after_kind what (g ∷ h ∷ 120 ∷ c ∷ d ∷ t) ≡ with_tail (man_at_square what (Some file) (Some rank) true to) t
+both_takes_read what to c d g file h rank t f r o w = rw (o.file, w.rank, square_read to c d t f r, o.number, w.number) refl
 
 -- the text behind the letter of the man: it has two bytes at least, and begins with none of the letters
-record Behind (kind : Kind) (t : List ℕ) (told : Option Told) : Type 0 where
+record Behind (what : Kind) (t : List ℕ) (told : Option Told) : Type 0 where
   pub first : ℕ
   pub second : ℕ
   pub others : List ℕ
   pub inner : IsInner first
   pub is : t ≡ first ∷ second ∷ others
-  pub reads : after_kind kind t ≡ told
+  pub reads : after_kind what t ≡ told
 
 not_short : (sign c d : ℕ) (t : List ℕ) → (c == sign) ≡ false → is_short sign (c ∷ d ∷ t) ≡ false
 not_short sign c d [] e = refl
 not_short sign c d (g ∷ t) e = rw e refl
 
-kind_read : (kind : Kind) (t : List ℕ) (told : Option Told) → Behind kind t told → told_of (kind_text kind ++ t) ≡ told
+kind_read : (what : Kind) (t : List ℕ) (told : Option Told) → Behind what t told → told_of (kind_text what ++ t) ≡ told
 unfolding told_of
 kind_read Pawn t told h =
     ap told_of h.is
@@ -335,63 +335,63 @@ x_inner : IsInner 120
 x_inner = record { no_kind = refl; no_letter = refl; no_zero = refl }
 
 -- each form of what stands before the square
-origin_read : (kind : Kind) (file rank : Option ℕ) (takes : Bool) (between : List ℕ) (to : ℕ) (t : List ℕ)
+origin_read : (what : Kind) (file rank : Option ℕ) (takes : Bool) (between : List ℕ) (to : ℕ) (t : List ℕ)
     → IsBelowEight file → IsBelowEight rank → to < 64 → IsOneOf (between_texts file rank takes) between → past_between true t ≡ t → square_at t ≡ None
-    → Behind kind (file_text file ++ (rank_text rank ++ (between ++ (square_text to ++ t)))) (with_tail (man_at_square kind file rank takes to) t)
-origin_read kind None None false between to t fb rb lt (inl e) whole square =
+    → Behind what (file_text file ++ (rank_text rank ++ (between ++ (square_text to ++ t)))) (with_tail (man_at_square what file rank takes to) t)
+origin_read what None None false between to t fb rb lt (inl e) whole square =
     let f = file_byte (file_of to) (omega arith) in
     let r = rank_byte (rank_of to) (omega arith) in
-    rw e (record { first = 97 + file_of to; second = 49 + rank_of to; others = t; inner = f.inner; is = refl; reads = alone_read kind to _ _ t f r whole square })
-origin_read kind None None false between to t fb rb lt (inr e) whole square = absurd e
-origin_read kind None None true between to t fb rb lt (inl e) whole square =
+    rw e (record { first = 97 + file_of to; second = 49 + rank_of to; others = t; inner = f.inner; is = refl; reads = alone_read what to _ _ t f r whole square })
+origin_read what None None false between to t fb rb lt (inr e) whole square = absurd e
+origin_read what None None true between to t fb rb lt (inl e) whole square =
     let f = file_byte (file_of to) (omega arith) in
     let r = rank_byte (rank_of to) (omega arith) in
-    rw e (record { first = 120; second = 97 + file_of to; others = (49 + rank_of to) ∷ t; inner = x_inner; is = refl; reads = takes_read kind to _ _ t f r })
-origin_read kind None None true between to t fb rb lt (inr e) whole square = absurd e
-origin_read kind None (Some rank) false between to t fb rb lt (inl e) whole square =
-    let f = file_byte (file_of to) (omega arith) in
-    let r = rank_byte (rank_of to) (omega arith) in
-    let o = rank_byte rank rb in
-    rw e (record { first = 49 + rank; second = 97 + file_of to; others = (49 + rank_of to) ∷ t; inner = o.inner; is = refl; reads = rank_read kind to _ _ _ rank t f r o })
-origin_read kind None (Some rank) false between to t fb rb lt (inr e) whole square = absurd e
-origin_read kind None (Some rank) true between to t fb rb lt (inl e) whole square =
+    rw e (record { first = 120; second = 97 + file_of to; others = (49 + rank_of to) ∷ t; inner = x_inner; is = refl; reads = takes_read what to _ _ t f r })
+origin_read what None None true between to t fb rb lt (inr e) whole square = absurd e
+origin_read what None (Some rank) false between to t fb rb lt (inl e) whole square =
     let f = file_byte (file_of to) (omega arith) in
     let r = rank_byte (rank_of to) (omega arith) in
     let o = rank_byte rank rb in
-    rw e (record { first = 49 + rank; second = 120; others = (97 + file_of to) ∷ (49 + rank_of to) ∷ t; inner = o.inner; is = refl; reads = rank_takes_read kind to _ _ _ rank t f r o })
-origin_read kind None (Some rank) true between to t fb rb lt (inr e) whole square = absurd e
-origin_read kind (Some file) None false between to t fb rb lt (inl e) whole square =
+    rw e (record { first = 49 + rank; second = 97 + file_of to; others = (49 + rank_of to) ∷ t; inner = o.inner; is = refl; reads = rank_read what to _ _ _ rank t f r o })
+origin_read what None (Some rank) false between to t fb rb lt (inr e) whole square = absurd e
+origin_read what None (Some rank) true between to t fb rb lt (inl e) whole square =
+    let f = file_byte (file_of to) (omega arith) in
+    let r = rank_byte (rank_of to) (omega arith) in
+    let o = rank_byte rank rb in
+    rw e (record { first = 49 + rank; second = 120; others = (97 + file_of to) ∷ (49 + rank_of to) ∷ t; inner = o.inner; is = refl; reads = rank_takes_read what to _ _ _ rank t f r o })
+origin_read what None (Some rank) true between to t fb rb lt (inr e) whole square = absurd e
+origin_read what (Some file) None false between to t fb rb lt (inl e) whole square =
     let f = file_byte (file_of to) (omega arith) in
     let r = rank_byte (rank_of to) (omega arith) in
     let o = file_byte file fb in
-    rw e (record { first = 97 + file; second = 97 + file_of to; others = (49 + rank_of to) ∷ t; inner = o.inner; is = refl; reads = file_read kind to _ _ _ file t f r o })
-origin_read kind (Some file) None false between to t fb rb lt (inr e) whole square = absurd e
-origin_read kind (Some file) None true between to t fb rb lt (inl e) whole square =
+    rw e (record { first = 97 + file; second = 97 + file_of to; others = (49 + rank_of to) ∷ t; inner = o.inner; is = refl; reads = file_read what to _ _ _ file t f r o })
+origin_read what (Some file) None false between to t fb rb lt (inr e) whole square = absurd e
+origin_read what (Some file) None true between to t fb rb lt (inl e) whole square =
     let f = file_byte (file_of to) (omega arith) in
     let r = rank_byte (rank_of to) (omega arith) in
     let o = file_byte file fb in
-    rw e (record { first = 97 + file; second = 120; others = (97 + file_of to) ∷ (49 + rank_of to) ∷ t; inner = o.inner; is = refl; reads = file_takes_read kind to _ _ _ file t f r o })
-origin_read kind (Some file) None true between to t fb rb lt (inr e) whole square = absurd e
-origin_read kind (Some file) (Some rank) false between to t fb rb lt (inl e) whole square =
-    let f = file_byte (file_of to) (omega arith) in
-    let r = rank_byte (rank_of to) (omega arith) in
-    let o = file_byte file fb in
-    let w = rank_byte rank rb in
-    rw e (record { first = 97 + file; second = 49 + rank; others = (97 + file_of to) ∷ (49 + rank_of to) ∷ t; inner = o.inner; is = refl; reads = both_read kind to _ _ _ file _ rank t f r o w })
-origin_read kind (Some file) (Some rank) false between to t fb rb lt (inr (inl e)) whole square =
-    let f = file_byte (file_of to) (omega arith) in
-    let r = rank_byte (rank_of to) (omega arith) in
-    let o = file_byte file fb in
-    let w = rank_byte rank rb in
-    rw e (record { first = 97 + file; second = 49 + rank; others = 45 ∷ (97 + file_of to) ∷ (49 + rank_of to) ∷ t; inner = o.inner; is = refl; reads = both_dash_read kind to _ _ _ file _ rank t f r o w })
-origin_read kind (Some file) (Some rank) false between to t fb rb lt (inr (inr e)) whole square = absurd e
-origin_read kind (Some file) (Some rank) true between to t fb rb lt (inl e) whole square =
+    rw e (record { first = 97 + file; second = 120; others = (97 + file_of to) ∷ (49 + rank_of to) ∷ t; inner = o.inner; is = refl; reads = file_takes_read what to _ _ _ file t f r o })
+origin_read what (Some file) None true between to t fb rb lt (inr e) whole square = absurd e
+origin_read what (Some file) (Some rank) false between to t fb rb lt (inl e) whole square =
     let f = file_byte (file_of to) (omega arith) in
     let r = rank_byte (rank_of to) (omega arith) in
     let o = file_byte file fb in
     let w = rank_byte rank rb in
-    rw e (record { first = 97 + file; second = 49 + rank; others = 120 ∷ (97 + file_of to) ∷ (49 + rank_of to) ∷ t; inner = o.inner; is = refl; reads = both_takes_read kind to _ _ _ file _ rank t f r o w })
-origin_read kind (Some file) (Some rank) true between to t fb rb lt (inr e) whole square = absurd e
+    rw e (record { first = 97 + file; second = 49 + rank; others = (97 + file_of to) ∷ (49 + rank_of to) ∷ t; inner = o.inner; is = refl; reads = both_read what to _ _ _ file _ rank t f r o w })
+origin_read what (Some file) (Some rank) false between to t fb rb lt (inr (inl e)) whole square =
+    let f = file_byte (file_of to) (omega arith) in
+    let r = rank_byte (rank_of to) (omega arith) in
+    let o = file_byte file fb in
+    let w = rank_byte rank rb in
+    rw e (record { first = 97 + file; second = 49 + rank; others = 45 ∷ (97 + file_of to) ∷ (49 + rank_of to) ∷ t; inner = o.inner; is = refl; reads = both_dash_read what to _ _ _ file _ rank t f r o w })
+origin_read what (Some file) (Some rank) false between to t fb rb lt (inr (inr e)) whole square = absurd e
+origin_read what (Some file) (Some rank) true between to t fb rb lt (inl e) whole square =
+    let f = file_byte (file_of to) (omega arith) in
+    let r = rank_byte (rank_of to) (omega arith) in
+    let o = file_byte file fb in
+    let w = rank_byte rank rb in
+    rw e (record { first = 97 + file; second = 49 + rank; others = 120 ∷ (97 + file_of to) ∷ (49 + rank_of to) ∷ t; inner = o.inner; is = refl; reads = both_takes_read what to _ _ _ file _ rank t f r o w })
+origin_read what (Some file) (Some rank) true between to t fb rb lt (inr e) whole square = absurd e
 
 regroup : (a b c d e f g h : List ℕ) → a ++ b ++ c ++ d ++ e ++ f ++ g ++ h ≡ a ++ (b ++ (c ++ (d ++ (e ++ (f ++ (g ++ h))))))
 regroup a b c d e f g h = simp append_assoc

@@ -28,15 +28,15 @@ pub record Split (t : List ℕ) (Form : List ℕ → Type 0) (rest : List ℕ) :
 
 -- ---- the letter of the man
 
-kind_letter_of : (c : ℕ) (kind : Kind) → kind_by c ≡ Some kind → kind_text kind ≡ c ∷ []
-kind_letter_of c kind e =
-    pick (c == 78) Knight kind _ _ (same Knight 78 refl) (
-    pick (c == 66) Bishop kind _ _ (same Bishop 66 refl) (
-    pick (c == 82) Rook kind _ _ (same Rook 82 refl) (
-    pick (c == 81) Queen kind _ _ (same Queen 81 refl) (
-    pick (c == 75) King kind None _ (same King 75 refl) (λ f. absurd (let g = f in cc)))))) e
+kind_letter_of : (c : ℕ) (what : Kind) → kind_by c ≡ Some what → kind_text what ≡ c ∷ []
+kind_letter_of c what e =
+    pick (c == 78) Knight what _ _ (same Knight 78 refl) (
+    pick (c == 66) Bishop what _ _ (same Bishop 66 refl) (
+    pick (c == 82) Rook what _ _ (same Rook 82 refl) (
+    pick (c == 81) Queen what _ _ (same Queen 81 refl) (
+    pick (c == 75) King what None _ (same King 75 refl) (λ f. absurd (let g = f in cc)))))) e
   where
-    same : (of : Kind) (letter : ℕ) → kind_text of ≡ letter ∷ [] → (c == letter) ≡ true → of ≡ kind → kind_text kind ≡ c ∷ []
+    same : (of : Kind) (letter : ℕ) → kind_text of ≡ letter ∷ [] → (c == letter) ≡ true → of ≡ what → kind_text what ≡ c ∷ []
     same of letter t l k = ap kind_text (sym k) ∙ t ∙ ap (λ (n : ℕ). n ∷ []) (sym (eqb-true c letter l))
 
 kind_split : (t : List ℕ) → t ≡ kind_text (kind_at t) ++ past_kind t
@@ -45,7 +45,7 @@ kind_split (c ∷ cs) = by_kind (kind_by c) refl
   where
     by_kind : (o : Option Kind) → kind_by c ≡ o → c ∷ cs ≡ kind_text (kind_at (c ∷ cs)) ++ past_kind (c ∷ cs)
     by_kind None e = rw e refl
-    by_kind (Some kind) e = rw e (ap (λ (l : List ℕ). l ++ cs) (sym (kind_letter_of c kind e)))
+    by_kind (Some what) e = rw e (ap (λ (l : List ℕ). l ++ cs) (sym (kind_letter_of c what e)))
 
 -- ---- files, ranks and squares
 
@@ -126,9 +126,9 @@ between_split file rank (c ∷ cs) = elim (cases_Bool (c == 120)) [
 
 -- ---- promotions
 
-pub record Forms (c : ℕ) (kind : Promotion) : Type 0 where
-  pub alone : IsOneOf (promotion_texts (Some kind)) (c ∷ [])
-  pub behind : IsOneOf (promotion_texts (Some kind)) (61 ∷ c ∷ [])
+pub record Forms (c : ℕ) (what : Promotion) : Type 0 where
+  pub alone : IsOneOf (promotion_texts (Some what)) (c ∷ [])
+  pub behind : IsOneOf (promotion_texts (Some what)) (61 ∷ c ∷ [])
 
 queen_forms : (c : ℕ) → ((c ≡ 81) ⊎ (c ≡ 113)) → Forms c ToQueen
 queen_forms c (inl e) = rw e (record { alone = inr (inl refl); behind = inl refl })
@@ -149,19 +149,19 @@ knight_forms c (inr e) = rw e (record { alone = inr (inr (inr (inl refl))); behi
 either : (c a b : ℕ) → ((c == a) || (c == b)) ≡ true → (c ≡ a) ⊎ (c ≡ b)
 either c a b e = elim (or_cases (c == a) (c == b) e) [ inl x ↦ inl (eqb-true c a x) | inr y ↦ inr (eqb-true c b y) ]
 
-promotion_forms : (c : ℕ) (kind : Promotion) → promotion_by c ≡ Some kind → Forms c kind
-promotion_forms c kind e =
-    pick ((c == 81) || (c == 113)) ToQueen kind _ _ (λ t k. subst (Forms c) k (queen_forms c (either c 81 113 t))) (
-    pick ((c == 82) || (c == 114)) ToRook kind _ _ (λ t k. subst (Forms c) k (rook_forms c (either c 82 114 t))) (
-    pick ((c == 66) || (c == 98)) ToBishop kind _ _ (λ t k. subst (Forms c) k (bishop_forms c (either c 66 98 t))) (
-    pick ((c == 78) || (c == 110)) ToKnight kind None _ (λ t k. subst (Forms c) k (knight_forms c (either c 78 110 t))) (λ f. absurd (let g = f in cc))))) e
+promotion_forms : (c : ℕ) (what : Promotion) → promotion_by c ≡ Some what → Forms c what
+promotion_forms c what e =
+    pick ((c == 81) || (c == 113)) ToQueen what _ _ (λ t k. subst (Forms c) k (queen_forms c (either c 81 113 t))) (
+    pick ((c == 82) || (c == 114)) ToRook what _ _ (λ t k. subst (Forms c) k (rook_forms c (either c 82 114 t))) (
+    pick ((c == 66) || (c == 98)) ToBishop what _ _ (λ t k. subst (Forms c) k (bishop_forms c (either c 66 98 t))) (
+    pick ((c == 78) || (c == 110)) ToKnight what None _ (λ t k. subst (Forms c) k (knight_forms c (either c 78 110 t))) (λ f. absurd (let g = f in cc))))) e
 
 letter_split : (c : ℕ) (cs : List ℕ) → Split (c ∷ cs) (IsOneOf (promotion_texts (promotion_by c))) (past_letter (c ∷ cs))
 letter_split c cs = by_letter (promotion_by c) refl
   where
     by_letter : (o : Option Promotion) → promotion_by c ≡ o → Split (c ∷ cs) (IsOneOf (promotion_texts (promotion_by c))) (past_letter (c ∷ cs))
     by_letter None e = rw e (record { piece = []; form = inl refl; text = refl })
-    by_letter (Some kind) e = rw e (record { piece = c ∷ []; form = (promotion_forms c kind e).alone; text = refl })
+    by_letter (Some what) e = rw e (record { piece = c ∷ []; form = (promotion_forms c what e).alone; text = refl })
 
 promotion_split : (t : List ℕ) → Split t (IsOneOf (promotion_texts (promotion_at t))) (past_promotion t)
 promotion_split [] = record { piece = []; form = inl refl; text = refl }
@@ -173,7 +173,7 @@ promotion_split (c ∷ d ∷ cs) = elim (cases_Bool ((c == 61) && is_some (promo
   where
     by_letter : (o : Option Promotion) → promotion_by d ≡ o → c ≡ 61 → is_some o ≡ true → Split (c ∷ d ∷ cs) (IsOneOf (promotion_texts (promotion_by d))) (past_letter (d ∷ cs))
     by_letter None e equals some = absurd (let f = some in cc)
-    by_letter (Some kind) e equals some = rw e (record { piece = 61 ∷ d ∷ []; form = (promotion_forms d kind e).behind; text = ap (λ (n : ℕ). n ∷ d ∷ cs) equals })
+    by_letter (Some what) e equals some = rw e (record { piece = 61 ∷ d ∷ []; form = (promotion_forms d what e).behind; text = ap (λ (n : ℕ). n ∷ d ∷ cs) equals })
 
 -- ---- e.p. and the marks
 
@@ -241,17 +241,17 @@ marks_spelled t e =
 regroup : (a b c d e f g h : List ℕ) → a ++ (b ++ (c ++ (d ++ (e ++ (f ++ (g ++ h)))))) ≡ a ++ b ++ c ++ d ++ e ++ f ++ g ++ h
 regroup a b c d e f g h = sym (simp append_assoc)
 
-tail_spelled : (kind : Kind) (file rank : Option ℕ) (takes : Bool) (to : ℕ) (between t : List ℕ) (told : Told)
-    → IsBelowEight file → IsBelowEight rank → to < 64 → IsOneOf (between_texts file rank takes) between → with_tail (man_at_square kind file rank takes to) t ≡ Some told
-    → SpellsTold (kind_text kind ++ (file_text file ++ (rank_text rank ++ (between ++ (square_text to ++ t))))) told
-tail_spelled kind file rank takes to between t told fb rb lt form e =
+tail_spelled : (what : Kind) (file rank : Option ℕ) (takes : Bool) (to : ℕ) (between t : List ℕ) (told : Told)
+    → IsBelowEight file → IsBelowEight rank → to < 64 → IsOneOf (between_texts file rank takes) between → with_tail (man_at_square what file rank takes to) t ≡ Some told
+    → SpellsTold (kind_text what ++ (file_text file ++ (rank_text rank ++ (between ++ (square_text to ++ t))))) told
+tail_spelled what file rank takes to between t told fb rb lt form e =
     pick (are_marks (past_passing (past_promotion t))) _ told None _
     (λ m same.
     let p = promotion_split t in
     let q = passing_split (past_promotion t) in
     let whole : t ≡ p.piece ++ (en_passant_text (passes_at (past_promotion t)) ++ past_passing (past_promotion t)) =
     p.text ∙ ap (λ (s : List ℕ). p.piece ++ s) q in
-    subst (λ x. SpellsTold (kind_text kind ++ (file_text file ++ (rank_text rank ++ (between ++ (square_text to ++ t))))) x) same
+    subst (λ x. SpellsTold (kind_text what ++ (file_text file ++ (rank_text rank ++ (between ++ (square_text to ++ t))))) x) same
     (record {
       file = fb;
       rank = rb;
@@ -262,8 +262,8 @@ tail_spelled kind file rank takes to between t told fb rb lt form e =
       is_between = form;
       promotes = p.form;
       are_marks = marks_spelled (past_passing (past_promotion t)) m;
-      text = ap (λ (s : List ℕ). kind_text kind ++ (file_text file ++ (rank_text rank ++ (between ++ (square_text to ++ s))))) whole
-          ∙ regroup (kind_text kind) (file_text file) (rank_text rank) between (square_text to) p.piece (en_passant_text (passes_at (past_promotion t))) (past_passing (past_promotion t));
+      text = ap (λ (s : List ℕ). kind_text what ++ (file_text file ++ (rank_text rank ++ (between ++ (square_text to ++ s))))) whole
+          ∙ regroup (kind_text what) (file_text file) (rank_text rank) between (square_text to) p.piece (en_passant_text (passes_at (past_promotion t))) (past_passing (past_promotion t));
     }))
     (λ f. absurd (let g = f in cc)) e
 
@@ -273,35 +273,35 @@ square_of file rank lt =
     let r : rank_of (8 * rank + file) ≡ rank = omega arith in
     ap₂ (λ (x y : ℕ). (97 + x) ∷ (49 + y) ∷ []) f r
 
-alone_spelled : (kind : Kind) (file rank : Option ℕ) (t : List ℕ) (told : Told) → IsBelowEight file → IsBelowEight rank → square_alone kind file rank t ≡ Some told
-    → SpellsTold (kind_text kind ++ (file_text file ++ (rank_text rank ++ t))) told
-alone_spelled kind None rank t told fb rb e = absurd (let f = e in cc)
-alone_spelled kind (Some file) None t told fb rb e = absurd (let f = e in cc)
-alone_spelled kind (Some file) (Some rank) t told fb rb e =
-    subst (λ (s : List ℕ). SpellsTold (kind_text kind ++ (s ++ t)) told) (square_of file rank fb)
-    (tail_spelled kind None None false (8 * rank + file) [] t told tt tt (omega arith) (inl refl) e)
+alone_spelled : (what : Kind) (file rank : Option ℕ) (t : List ℕ) (told : Told) → IsBelowEight file → IsBelowEight rank → square_alone what file rank t ≡ Some told
+    → SpellsTold (kind_text what ++ (file_text file ++ (rank_text rank ++ t))) told
+alone_spelled what None rank t told fb rb e = absurd (let f = e in cc)
+alone_spelled what (Some file) None t told fb rb e = absurd (let f = e in cc)
+alone_spelled what (Some file) (Some rank) t told fb rb e =
+    subst (λ (s : List ℕ). SpellsTold (kind_text what ++ (s ++ t)) told) (square_of file rank fb)
+    (tail_spelled what None None false (8 * rank + file) [] t told tt tt (omega arith) (inl refl) e)
 
-between_spelled : (kind : Kind) (file rank : Option ℕ) (t : List ℕ) (told : Told) → IsBelowEight file → IsBelowEight rank → after_origin kind file rank t ≡ Some told
-    → SpellsTold (kind_text kind ++ (file_text file ++ (rank_text rank ++ t))) told
-between_spelled kind file rank t told fb rb e = by_square (square_at (past_between (whole_square file rank) t)) refl e
+between_spelled : (what : Kind) (file rank : Option ℕ) (t : List ℕ) (told : Told) → IsBelowEight file → IsBelowEight rank → after_origin what file rank t ≡ Some told
+    → SpellsTold (kind_text what ++ (file_text file ++ (rank_text rank ++ t))) told
+between_spelled what file rank t told fb rb e = by_square (square_at (past_between (whole_square file rank) t)) refl e
   where
-    by_square : (o : Option ℕ) → square_at (past_between (whole_square file rank) t) ≡ o → after_between kind file rank t o (past_between (whole_square file rank) t) ≡ Some told
-        → SpellsTold (kind_text kind ++ (file_text file ++ (rank_text rank ++ t))) told
-    by_square None at f = alone_spelled kind file rank t told fb rb f
+    by_square : (o : Option ℕ) → square_at (past_between (whole_square file rank) t) ≡ o → after_between what file rank t o (past_between (whole_square file rank) t) ≡ Some told
+        → SpellsTold (kind_text what ++ (file_text file ++ (rank_text rank ++ t))) told
+    by_square None at f = alone_spelled what file rank t told fb rb f
     by_square (Some to) at f =
         let s = between_split file rank t in
         let q = square_split (past_between (whole_square file rank) t) to at in
         let whole : t ≡ s.piece ++ (square_text to ++ past_two (past_between (whole_square file rank) t)) = s.text ∙ ap (λ (r : List ℕ). s.piece ++ r) q.text in
-        subst (λ (r : List ℕ). SpellsTold (kind_text kind ++ (file_text file ++ (rank_text rank ++ r))) told) (sym whole)
-        (tail_spelled kind file rank (takes_at t) to s.piece (past_two (past_between (whole_square file rank) t)) told fb rb q.below s.form f)
+        subst (λ (r : List ℕ). SpellsTold (kind_text what ++ (file_text file ++ (rank_text rank ++ r))) told) (sym whole)
+        (tail_spelled what file rank (takes_at t) to s.piece (past_two (past_between (whole_square file rank) t)) told fb rb q.below s.form f)
 
-kind_spelled : (kind : Kind) (t : List ℕ) (told : Told) → after_kind kind t ≡ Some told → SpellsTold (kind_text kind ++ t) told
-kind_spelled kind t told e =
+kind_spelled : (what : Kind) (t : List ℕ) (told : Told) → after_kind what t ≡ Some told → SpellsTold (kind_text what ++ t) told
+kind_spelled what t told e =
     let f = file_split t in
     let r = rank_split (past_file t) in
     let whole : t ≡ file_text (file_at t) ++ (rank_text (rank_at (past_file t)) ++ past_rank (past_file t)) = f.text ∙ ap (λ (s : List ℕ). file_text (file_at t) ++ s) r.text in
-    subst (λ (s : List ℕ). SpellsTold (kind_text kind ++ s) told) (sym whole)
-    (between_spelled kind (file_at t) (rank_at (past_file t)) (past_rank (past_file t)) told f.below r.below e)
+    subst (λ (s : List ℕ). SpellsTold (kind_text what ++ s) told) (sym whole)
+    (between_spelled what (file_at t) (rank_at (past_file t)) (past_rank (past_file t)) told f.below r.below e)
 
 -- ---- castling
 

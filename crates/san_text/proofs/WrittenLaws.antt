@@ -91,8 +91,8 @@ rank_small BySquare from lt = omega arith
 pub moved : (p : Parts) (m : Move) → IsLegal p m → Stands p.men m.from p.side (kind_moved p m)
 moved p m l =
     let st = IsLegal-stands p m l in
-    let kind : kind_moved p m ≡ st.0 = ap kind_there st.1 in
-    subst (Stands p.men m.from p.side) (sym kind) st.1
+    let what : kind_moved p m ≡ st.0 = ap kind_there st.1 in
+    subst (Stands p.men m.from p.side) (sym what) st.1
 
 rank_so : (apart : Apart) (from : ℕ) → IsAsTold (rank_by apart from) (rank_of from)
 rank_so Nothing from = tt
@@ -100,9 +100,9 @@ rank_so ByFile from = tt
 rank_so ByRank from = refl
 rank_so BySquare from = refl
 
-file_so : (kind : Kind) (apart : Apart) (from to : ℕ) → (kind ≡ Pawn → file_by apart from ≡ None → file_of from ≡ file_of to) → IsAsTold (file_told kind (file_by apart from) to) (file_of from)
-file_so kind ByFile from to pawn = refl
-file_so kind BySquare from to pawn = refl
+file_so : (what : Kind) (apart : Apart) (from to : ℕ) → (what ≡ Pawn → file_by apart from ≡ None → file_of from ≡ file_of to) → IsAsTold (file_told what (file_by apart from) to) (file_of from)
+file_so what ByFile from to pawn = refl
+file_so what BySquare from to pawn = refl
 file_so Pawn Nothing from to pawn = pawn refl refl
 file_so Knight Nothing from to pawn = tt
 file_so Bishop Nothing from to pawn = tt
@@ -120,8 +120,8 @@ no_file_told : (p : Parts) (m : Move) (takes : Bool) → is_capture p m ≡ take
 no_file_told p m true e f = absurd (let g = f in cc)
 no_file_told p m false e f = e
 
-pawn_file : (p : Parts) (m : Move) (kind : Kind) → IsLegal p m → Stands p.men m.from p.side kind → kind ≡ Pawn → file_by (origin_told kind p m) m.from ≡ None → file_of m.from ≡ file_of m.to
-pawn_file p m kind l st pawn none =
+pawn_file : (p : Parts) (m : Move) (what : Kind) → IsLegal p m → Stands p.men m.from p.side what → what ≡ Pawn → file_by (origin_told what p m) m.from ≡ None → file_of m.from ≡ file_of m.to
+pawn_file p m what l st pawn none =
     let pawn_stands = subst (Stands p.men m.from p.side) pawn st in
     let f : file_by (origin_told Pawn p m) m.from ≡ None = subst (λ k. file_by (origin_told k p m) m.from ≡ None) pawn none in
     pawn_stays p m l pawn_stands (no_file_told p m (is_capture p m) refl f)
@@ -142,8 +142,8 @@ man_agrees p m l none = record {
 
 -- another man of the kind who goes to the square is a rival
 rival_of : (p : Parts) (m n : Move) → IsLegal p n → kind_moved p n ≡ kind_moved p m → n.to ≡ m.to → n.from ≢ m.from → (test : ℕ → Bool) → test n.from ≡ true → has_rival p m test ≡ true
-rival_of p m n l kind to ne test t =
-    let same : (kind_letter (kind_moved p n) == kind_letter (kind_moved p m)) ≡ true = eq-eqb (kind_letter (kind_moved p n)) (kind_letter (kind_moved p m)) (ap kind_letter kind) in
+rival_of p m n l what to ne test t =
+    let same : (kind_letter (kind_moved p n) == kind_letter (kind_moved p m)) ≡ true = eq-eqb (kind_letter (kind_moved p n)) (kind_letter (kind_moved p m)) (ap kind_letter what) in
     let there : (n.to == m.to) ≡ true = eq-eqb n.to m.to to in
     let apart : (n.from == m.from) ≡ false = ne_eqb n.from m.from ne in
     let rival : is_rival p m n ≡ true = rw (same, there, apart) refl in
@@ -156,35 +156,35 @@ FromThere ByFile from other = file_of other ≡ file_of from
 FromThere ByRank from other = rank_of other ≡ rank_of from
 FromThere BySquare from other = (file_of other ≡ file_of from) × (rank_of other ≡ rank_of from)
 
-from_told : (kind : Kind) (apart : Apart) (from other to : ℕ) → IsAsTold (file_told kind (file_by apart from) to) (file_of other) → IsAsTold (rank_by apart from) (rank_of other) → FromThere apart from other
-from_told kind Nothing from other to f r = tt
-from_told kind ByFile from other to f r = f
-from_told kind ByRank from other to f r = r
-from_told kind BySquare from other to f r = (f, r)
+from_told : (what : Kind) (apart : Apart) (from other to : ℕ) → IsAsTold (file_told what (file_by apart from) to) (file_of other) → IsAsTold (rank_by apart from) (rank_of other) → FromThere apart from other
+from_told what Nothing from other to f r = tt
+from_told what ByFile from other to f r = f
+from_told what ByRank from other to f r = r
+from_told what BySquare from other to f r = (f, r)
 
 -- whoever has what tells the man apart is no rival
 not_apart : (p : Parts) (m n : Move) → IsLegal p n → kind_moved p n ≡ kind_moved p m → n.to ≡ m.to → n.from ≢ m.from → FromThere (told_apart p m) m.from n.from → ⊥
 unfolding told_apart
-not_apart p m n l kind to ne h =
-    let all = rival_of p m n l kind to ne anywhere refl in
+not_apart p m n l what to ne h =
+    let all = rival_of p m n l what to ne anywhere refl in
     let g : FromThere (if not (has_rival p m (on_file_of m.from)) then ByFile else (if not (has_rival p m (on_rank_of m.from)) then ByRank else BySquare)) m.from n.from = rw all at h in
     elim (cases_Bool (has_rival p m (on_file_of m.from))) [
       | inl file ↦ elim (cases_Bool (has_rival p m (on_rank_of m.from))) [
         | inl rank ↦ let both : (file_of n.from ≡ file_of m.from) × (rank_of n.from ≡ rank_of m.from) = rw (file, rank) at g in ne (one_square n.from m.from both.0 both.1)
         | inr rank ↦
             let same : rank_of n.from ≡ rank_of m.from = rw (file, rank) at g in
-            let t = sym rank ∙ rival_of p m n l kind to ne (on_rank_of m.from) (eq-eqb (rank_of n.from) (rank_of m.from) same) in cc
+            let t = sym rank ∙ rival_of p m n l what to ne (on_rank_of m.from) (eq-eqb (rank_of n.from) (rank_of m.from) same) in cc
       ]
       | inr file ↦
           let same : file_of n.from ≡ file_of m.from = rw file at g in
-          let t = sym file ∙ rival_of p m n l kind to ne (on_file_of m.from) (eq-eqb (file_of n.from) (file_of m.from) same) in cc
+          let t = sym file ∙ rival_of p m n l what to ne (on_file_of m.from) (eq-eqb (file_of n.from) (file_of m.from) same) in cc
     ]
 
 -- a man other than a pawn
 piece_from : (p : Parts) (m n : Move) → IsLegal p n → kind_moved p n ≡ kind_moved p m → n.to ≡ m.to → FromThere (told_apart p m) m.from n.from → n.from ≡ m.from
-piece_from p m n l kind to h = elim (cases_eq n.from m.from) [
+piece_from p m n l what to h = elim (cases_eq n.from m.from) [
   | inl e ↦ e
-  | inr ne ↦ absurd (not_apart p m n l kind to ne h)
+  | inr ne ↦ absurd (not_apart p m n l what to ne h)
 ]
 
 pawn_from_file : (p : Parts) (m n : Move) (takes : Bool) → IsLegal p m → IsLegal p n → is_capture p m ≡ takes → Stands p.men m.from p.side Pawn → Stands p.men n.from p.side Pawn → n.to ≡ m.to
@@ -192,8 +192,8 @@ pawn_from_file : (p : Parts) (m n : Move) (takes : Bool) → IsLegal p m → IsL
 pawn_from_file p m n true l k c a b to f = one_pawn p n m k l b a to f
 pawn_from_file p m n false l k c a b to f = one_pawn p n m k l b a to (f ∙ sym (pawn_stays p m l a c))
 
-from_kind : (p : Parts) (m n : Move) (kind : Kind) → kind_moved p m ≡ kind → IsLegal p m → IsLegal p n → Stands p.men m.from p.side kind → Stands p.men n.from p.side kind → n.to ≡ m.to
-    → IsAsTold (file_told kind (file_by (origin_told kind p m) m.from) m.to) (file_of n.from) → IsAsTold (rank_by (origin_told kind p m) m.from) (rank_of n.from) → n.from ≡ m.from
+from_kind : (p : Parts) (m n : Move) (what : Kind) → kind_moved p m ≡ what → IsLegal p m → IsLegal p n → Stands p.men m.from p.side what → Stands p.men n.from p.side what → n.to ≡ m.to
+    → IsAsTold (file_told what (file_by (origin_told what p m) m.from) m.to) (file_of n.from) → IsAsTold (rank_by (origin_told what p m) m.from) (rank_of n.from) → n.from ≡ m.from
 from_kind p m n Pawn e l k a b to f r = pawn_from_file p m n (is_capture p m) l k refl a b to f
 from_kind p m n Knight e l k a b to f r = piece_from p m n k (ap kind_there b ∙ sym e) to (from_told Knight (told_apart p m) m.from n.from m.to f r)
 from_kind p m n Bishop e l k a b to f r = piece_from p m n k (ap kind_there b ∙ sym e) to (from_told Bishop (told_apart p m) m.from n.from m.to f r)
