@@ -13,7 +13,7 @@ use Rattle.board_core.specs.Square.{file_of, rank_of}
 use Rattle.san_text.specs.declared.told.ManTold.{ManTold}
 use Rattle.san_text.specs.declared.told.Told.{Told}
 use Rattle.san_text.specs.declared.told.Told.TheVariants.{Castles, Goes}
-use Rattle.san_text.specs.Told.{kind_text, file_text, rank_text, square_text, IsOneOf, castling_texts, promotion_texts, between_texts, en_passant_text, check_texts, glyph_texts, AreMarks, IsBelowEight, SpellsMan, SpellsTold}
+use Rattle.san_text.specs.Told.{kind_texts, file_text, rank_text, square_text, IsOneOf, castling_texts, promotion_texts, between_texts, en_passant_text, check_texts, glyph_texts, AreMarks, IsBelowEight, SpellsMan, SpellsTold}
 use Rattle.san_text.specs.Inside.Scan.{is_file, is_rank, past_between, square_at, promotion_by, promotion_at, past_promotion, passes_at, past_passing, are_marks, is_short, is_longer, with_tail, man_at_square, after_kind, told_of}
 use Rattle.san_text.proofs.Bytes.{IsInner, IsFileByte, IsRankByte, file_byte, rank_byte}
 
@@ -320,16 +320,23 @@ not_short : (sign c d : ℕ) (t : List ℕ) → (c == sign) ≡ false → is_sho
 not_short sign c d [] e = refl
 not_short sign c d (g ∷ t) e = rw e refl
 
-kind_read : (what : Kind) (t : List ℕ) (told : Option Told) → Behind what t told → told_of (kind_text what ++ t) ≡ told
+kind_read : (what : Kind) (letter t : List ℕ) (told : Option Told) → IsOneOf (kind_texts what) letter → Behind what t told → told_of (letter ++ t) ≡ told
 unfolding told_of
-kind_read Pawn t told h =
-    ap told_of h.is
-    ∙ rw (not_short 79 h.first h.second h.others h.inner.no_letter, not_short 48 h.first h.second h.others h.inner.no_zero, h.inner.no_kind) (ap (after_kind Pawn) (sym h.is) ∙ h.reads)
-kind_read Knight t told h = ap (λ s. told_of (78 ∷ s)) h.is ∙ ap (after_kind Knight) (sym h.is) ∙ h.reads
-kind_read Bishop t told h = ap (λ s. told_of (66 ∷ s)) h.is ∙ ap (after_kind Bishop) (sym h.is) ∙ h.reads
-kind_read Rook t told h = ap (λ s. told_of (82 ∷ s)) h.is ∙ ap (after_kind Rook) (sym h.is) ∙ h.reads
-kind_read Queen t told h = ap (λ s. told_of (81 ∷ s)) h.is ∙ ap (after_kind Queen) (sym h.is) ∙ h.reads
-kind_read King t told h = ap (λ s. told_of (75 ∷ s)) h.is ∙ ap (after_kind King) (sym h.is) ∙ h.reads
+kind_read Pawn letter t told (inl e) h =
+    rw e (ap told_of h.is
+    ∙ rw (not_short 79 h.first h.second h.others h.inner.no_letter, not_short 48 h.first h.second h.others h.inner.no_zero, h.inner.no_kind) (ap (after_kind Pawn) (sym h.is) ∙ h.reads))
+kind_read Pawn letter t told (inr (inl e)) h = rw e (ap (λ s. told_of (80 ∷ s)) h.is ∙ ap (after_kind Pawn) (sym h.is) ∙ h.reads)
+kind_read Pawn letter t told (inr (inr e)) h = absurd e
+kind_read Knight letter t told (inl e) h = rw e (ap (λ s. told_of (78 ∷ s)) h.is ∙ ap (after_kind Knight) (sym h.is) ∙ h.reads)
+kind_read Knight letter t told (inr e) h = absurd e
+kind_read Bishop letter t told (inl e) h = rw e (ap (λ s. told_of (66 ∷ s)) h.is ∙ ap (after_kind Bishop) (sym h.is) ∙ h.reads)
+kind_read Bishop letter t told (inr e) h = absurd e
+kind_read Rook letter t told (inl e) h = rw e (ap (λ s. told_of (82 ∷ s)) h.is ∙ ap (after_kind Rook) (sym h.is) ∙ h.reads)
+kind_read Rook letter t told (inr e) h = absurd e
+kind_read Queen letter t told (inl e) h = rw e (ap (λ s. told_of (81 ∷ s)) h.is ∙ ap (after_kind Queen) (sym h.is) ∙ h.reads)
+kind_read Queen letter t told (inr e) h = absurd e
+kind_read King letter t told (inl e) h = rw e (ap (λ s. told_of (75 ∷ s)) h.is ∙ ap (after_kind King) (sym h.is) ∙ h.reads)
+kind_read King letter t told (inr e) h = absurd e
 
 x_inner : IsInner 120
 x_inner = record { no_kind = refl; no_letter = refl; no_zero = refl }
@@ -400,8 +407,8 @@ pub man_read : (t : List ℕ) (man : ManTold) → SpellsMan t man → told_of t 
 man_read t man h =
     let tail = tail_of man.promotion h.promotion (en_passant_text man.en_passant ++ h.marks) man.en_passant h.promotes (passing man.en_passant h.marks h.are_marks) in
     let origin = origin_read man.kind man.file man.rank man.takes h.between man.to (h.promotion ++ (en_passant_text man.en_passant ++ h.marks)) h.file h.rank h.square h.is_between tail.between tail.square in
-    ap told_of (h.text ∙ regroup (kind_text man.kind) (file_text man.file) (rank_text man.rank) h.between (square_text man.to) h.promotion (en_passant_text man.en_passant) h.marks)
-    ∙ kind_read man.kind _ _ origin
+    ap told_of (h.text ∙ regroup h.letter (file_text man.file) (rank_text man.rank) h.between (square_text man.to) h.promotion (en_passant_text man.en_passant) h.marks)
+    ∙ kind_read man.kind h.letter _ _ h.is_letter origin
     ∙ tail_read man.kind man.file man.rank man.takes man.en_passant man.to man.promotion _ tail
 
 -- ---- castling

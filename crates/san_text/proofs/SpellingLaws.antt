@@ -3,7 +3,7 @@ use Rattle.std.proofs.Common.{◌≡◌, ℕ, ◌+◌, ◌-◌, ◌*◌, ◌<◌
 use Rattle.std.specs.Prelude.{◌==◌, ◌&&◌, ◌||◌, ◌⊎◌, if◌then◌else◌}
 use Rattle.std.proofs.lemmas.Bool.{and_parts, or_cases, cases_Bool, eqb-true}
 use Rattle.board_core.specs.declared.piece.Kind.{Kind}
-use Rattle.board_core.specs.declared.piece.Kind.TheVariants.{Knight, Bishop, Rook, Queen, King}
+use Rattle.board_core.specs.declared.piece.Kind.TheVariants.{Pawn, Knight, Bishop, Rook, Queen, King}
 use Rattle.board_core.specs.declared.piece.Promotion.{Promotion}
 use Rattle.board_core.specs.declared.piece.Promotion.TheVariants.{Queen as ToQueen, Rook as ToRook, Bishop as ToBishop, Knight as ToKnight}
 use Rattle.board_core.specs.declared.piece.Wing.{Wing}
@@ -11,7 +11,7 @@ use Rattle.board_core.specs.declared.piece.Wing.TheVariants.{KingSide, QueenSide
 use Rattle.board_core.specs.Square.{file_of, rank_of}
 use Rattle.san_text.specs.declared.told.Told.{Told}
 use Rattle.san_text.specs.declared.told.Told.TheVariants.{Castles}
-use Rattle.san_text.specs.Told.{kind_text, file_text, rank_text, square_text, IsOneOf, castling_texts, promotion_texts, between_texts, en_passant_text, check_texts, glyph_texts, AreMarks, IsBelowEight, SpellsTold}
+use Rattle.san_text.specs.Told.{kind_texts, file_text, rank_text, square_text, IsOneOf, castling_texts, promotion_texts, between_texts, en_passant_text, check_texts, glyph_texts, AreMarks, IsBelowEight, SpellsTold}
 use Rattle.san_text.specs.Inside.Scan.{is_file, is_rank, kind_by, kind_at, past_kind, file_at, past_file, rank_at, past_rank, takes_at, past_between, square_at, past_two, promotion_by, past_letter, promotion_at, past_promotion, passes_at, past_passing, past_plus, past_check, is_glyph, are_glyphs, are_marks, is_short, past_three, is_longer, castles_before, castling_by, with_tail, whole_square, man_at_square, square_alone, after_between, after_origin, after_kind, told_of}
 use Rattle.san_text.proofs.Bytes.{file_bounds, rank_bounds}
 
@@ -28,24 +28,26 @@ pub record Split (t : List ℕ) (Form : List ℕ → Type 0) (rest : List ℕ) :
 
 -- ---- the letter of the man
 
-kind_letter_of : (c : ℕ) (what : Kind) → kind_by c ≡ Some what → kind_text what ≡ c ∷ []
-kind_letter_of c what e =
-    pick (c == 78) Knight what _ _ (same Knight 78 refl) (
-    pick (c == 66) Bishop what _ _ (same Bishop 66 refl) (
-    pick (c == 82) Rook what _ _ (same Rook 82 refl) (
-    pick (c == 81) Queen what _ _ (same Queen 81 refl) (
-    pick (c == 75) King what None _ (same King 75 refl) (λ f. absurd (let g = f in cc)))))) e
+letter_form : (c : ℕ) (what : Kind) → kind_by c ≡ Some what → IsOneOf (kind_texts what) (c ∷ [])
+letter_form c what e =
+    pick (c == 78) Knight what _ _ (same Knight 78 (inl refl)) (
+    pick (c == 66) Bishop what _ _ (same Bishop 66 (inl refl)) (
+    pick (c == 82) Rook what _ _ (same Rook 82 (inl refl)) (
+    pick (c == 81) Queen what _ _ (same Queen 81 (inl refl)) (
+    pick (c == 75) King what _ _ (same King 75 (inl refl)) (
+    pick (c == 80) Pawn what None _ (same Pawn 80 (inr (inl refl))) (λ f. absurd (let g = f in cc))))))) e
   where
-    same : (of : Kind) (letter : ℕ) → kind_text of ≡ letter ∷ [] → (c == letter) ≡ true → of ≡ what → kind_text what ≡ c ∷ []
-    same of letter t l k = ap kind_text (sym k) ∙ t ∙ ap (λ (n : ℕ). n ∷ []) (sym (eqb-true c letter l))
+    same : (of : Kind) (letter : ℕ) → IsOneOf (kind_texts of) (letter ∷ []) → (c == letter) ≡ true → of ≡ what → IsOneOf (kind_texts what) (c ∷ [])
+    same of letter form l k =
+        subst (λ x. IsOneOf (kind_texts x) (c ∷ [])) k (subst (λ (n : ℕ). IsOneOf (kind_texts of) (n ∷ [])) (sym (eqb-true c letter l)) form)
 
-kind_split : (t : List ℕ) → t ≡ kind_text (kind_at t) ++ past_kind t
-kind_split [] = refl
+kind_split : (t : List ℕ) → Split t (IsOneOf (kind_texts (kind_at t))) (past_kind t)
+kind_split [] = record { piece = []; form = inl refl; text = refl }
 kind_split (c ∷ cs) = by_kind (kind_by c) refl
   where
-    by_kind : (o : Option Kind) → kind_by c ≡ o → c ∷ cs ≡ kind_text (kind_at (c ∷ cs)) ++ past_kind (c ∷ cs)
-    by_kind None e = rw e refl
-    by_kind (Some what) e = rw e (ap (λ (l : List ℕ). l ++ cs) (sym (kind_letter_of c what e)))
+    by_kind : (o : Option Kind) → kind_by c ≡ o → Split (c ∷ cs) (IsOneOf (kind_texts (kind_at (c ∷ cs)))) (past_kind (c ∷ cs))
+    by_kind None e = rw e (record { piece = []; form = inl refl; text = refl })
+    by_kind (Some what) e = rw e (record { piece = c ∷ []; form = letter_form c what e; text = refl })
 
 -- ---- files, ranks and squares
 
@@ -241,29 +243,31 @@ marks_spelled t e =
 regroup : (a b c d e f g h : List ℕ) → a ++ (b ++ (c ++ (d ++ (e ++ (f ++ (g ++ h)))))) ≡ a ++ b ++ c ++ d ++ e ++ f ++ g ++ h
 regroup a b c d e f g h = sym (simp append_assoc)
 
-tail_spelled : (what : Kind) (file rank : Option ℕ) (takes : Bool) (to : ℕ) (between t : List ℕ) (told : Told)
+tail_spelled : (what : Kind) (letter : List ℕ) → IsOneOf (kind_texts what) letter → (file rank : Option ℕ) (takes : Bool) (to : ℕ) (between t : List ℕ) (told : Told)
     → IsBelowEight file → IsBelowEight rank → to < 64 → IsOneOf (between_texts file rank takes) between → with_tail (man_at_square what file rank takes to) t ≡ Some told
-    → SpellsTold (kind_text what ++ (file_text file ++ (rank_text rank ++ (between ++ (square_text to ++ t))))) told
-tail_spelled what file rank takes to between t told fb rb lt form e =
+    → SpellsTold (letter ++ (file_text file ++ (rank_text rank ++ (between ++ (square_text to ++ t))))) told
+tail_spelled what letter is file rank takes to between t told fb rb lt form e =
     pick (are_marks (past_passing (past_promotion t))) _ told None _
     (λ m same.
     let p = promotion_split t in
     let q = passing_split (past_promotion t) in
     let whole : t ≡ p.piece ++ (en_passant_text (passes_at (past_promotion t)) ++ past_passing (past_promotion t)) =
     p.text ∙ ap (λ (s : List ℕ). p.piece ++ s) q in
-    subst (λ x. SpellsTold (kind_text what ++ (file_text file ++ (rank_text rank ++ (between ++ (square_text to ++ t))))) x) same
+    subst (λ x. SpellsTold (letter ++ (file_text file ++ (rank_text rank ++ (between ++ (square_text to ++ t))))) x) same
     (record {
       file = fb;
       rank = rb;
       square = lt;
+      letter = letter;
       between = between;
       promotion = p.piece;
       marks = past_passing (past_promotion t);
+      is_letter = is;
       is_between = form;
       promotes = p.form;
       are_marks = marks_spelled (past_passing (past_promotion t)) m;
-      text = ap (λ (s : List ℕ). kind_text what ++ (file_text file ++ (rank_text rank ++ (between ++ (square_text to ++ s))))) whole
-          ∙ regroup (kind_text what) (file_text file) (rank_text rank) between (square_text to) p.piece (en_passant_text (passes_at (past_promotion t))) (past_passing (past_promotion t));
+      text = ap (λ (s : List ℕ). letter ++ (file_text file ++ (rank_text rank ++ (between ++ (square_text to ++ s))))) whole
+          ∙ regroup letter (file_text file) (rank_text rank) between (square_text to) p.piece (en_passant_text (passes_at (past_promotion t))) (past_passing (past_promotion t));
     }))
     (λ f. absurd (let g = f in cc)) e
 
@@ -273,35 +277,35 @@ square_of file rank lt =
     let r : rank_of (8 * rank + file) ≡ rank = omega arith in
     ap₂ (λ (x y : ℕ). (97 + x) ∷ (49 + y) ∷ []) f r
 
-alone_spelled : (what : Kind) (file rank : Option ℕ) (t : List ℕ) (told : Told) → IsBelowEight file → IsBelowEight rank → square_alone what file rank t ≡ Some told
-    → SpellsTold (kind_text what ++ (file_text file ++ (rank_text rank ++ t))) told
-alone_spelled what None rank t told fb rb e = absurd (let f = e in cc)
-alone_spelled what (Some file) None t told fb rb e = absurd (let f = e in cc)
-alone_spelled what (Some file) (Some rank) t told fb rb e =
-    subst (λ (s : List ℕ). SpellsTold (kind_text what ++ (s ++ t)) told) (square_of file rank fb)
-    (tail_spelled what None None false (8 * rank + file) [] t told tt tt (omega arith) (inl refl) e)
+alone_spelled : (what : Kind) (letter : List ℕ) → IsOneOf (kind_texts what) letter → (file rank : Option ℕ) (t : List ℕ) (told : Told) → IsBelowEight file → IsBelowEight rank → square_alone what file rank t ≡ Some told
+    → SpellsTold (letter ++ (file_text file ++ (rank_text rank ++ t))) told
+alone_spelled what letter is None rank t told fb rb e = absurd (let f = e in cc)
+alone_spelled what letter is (Some file) None t told fb rb e = absurd (let f = e in cc)
+alone_spelled what letter is (Some file) (Some rank) t told fb rb e =
+    subst (λ (s : List ℕ). SpellsTold (letter ++ (s ++ t)) told) (square_of file rank fb)
+    (tail_spelled what letter is None None false (8 * rank + file) [] t told tt tt (omega arith) (inl refl) e)
 
-between_spelled : (what : Kind) (file rank : Option ℕ) (t : List ℕ) (told : Told) → IsBelowEight file → IsBelowEight rank → after_origin what file rank t ≡ Some told
-    → SpellsTold (kind_text what ++ (file_text file ++ (rank_text rank ++ t))) told
-between_spelled what file rank t told fb rb e = by_square (square_at (past_between (whole_square file rank) t)) refl e
+between_spelled : (what : Kind) (letter : List ℕ) → IsOneOf (kind_texts what) letter → (file rank : Option ℕ) (t : List ℕ) (told : Told) → IsBelowEight file → IsBelowEight rank → after_origin what file rank t ≡ Some told
+    → SpellsTold (letter ++ (file_text file ++ (rank_text rank ++ t))) told
+between_spelled what letter is file rank t told fb rb e = by_square (square_at (past_between (whole_square file rank) t)) refl e
   where
     by_square : (o : Option ℕ) → square_at (past_between (whole_square file rank) t) ≡ o → after_between what file rank t o (past_between (whole_square file rank) t) ≡ Some told
-        → SpellsTold (kind_text what ++ (file_text file ++ (rank_text rank ++ t))) told
-    by_square None at f = alone_spelled what file rank t told fb rb f
+        → SpellsTold (letter ++ (file_text file ++ (rank_text rank ++ t))) told
+    by_square None at f = alone_spelled what letter is file rank t told fb rb f
     by_square (Some to) at f =
         let s = between_split file rank t in
         let q = square_split (past_between (whole_square file rank) t) to at in
         let whole : t ≡ s.piece ++ (square_text to ++ past_two (past_between (whole_square file rank) t)) = s.text ∙ ap (λ (r : List ℕ). s.piece ++ r) q.text in
-        subst (λ (r : List ℕ). SpellsTold (kind_text what ++ (file_text file ++ (rank_text rank ++ r))) told) (sym whole)
-        (tail_spelled what file rank (takes_at t) to s.piece (past_two (past_between (whole_square file rank) t)) told fb rb q.below s.form f)
+        subst (λ (r : List ℕ). SpellsTold (letter ++ (file_text file ++ (rank_text rank ++ r))) told) (sym whole)
+        (tail_spelled what letter is file rank (takes_at t) to s.piece (past_two (past_between (whole_square file rank) t)) told fb rb q.below s.form f)
 
-kind_spelled : (what : Kind) (t : List ℕ) (told : Told) → after_kind what t ≡ Some told → SpellsTold (kind_text what ++ t) told
-kind_spelled what t told e =
+kind_spelled : (what : Kind) (letter : List ℕ) → IsOneOf (kind_texts what) letter → (t : List ℕ) (told : Told) → after_kind what t ≡ Some told → SpellsTold (letter ++ t) told
+kind_spelled what letter is t told e =
     let f = file_split t in
     let r = rank_split (past_file t) in
     let whole : t ≡ file_text (file_at t) ++ (rank_text (rank_at (past_file t)) ++ past_rank (past_file t)) = f.text ∙ ap (λ (s : List ℕ). file_text (file_at t) ++ s) r.text in
-    subst (λ (s : List ℕ). SpellsTold (kind_text what ++ s) told) (sym whole)
-    (between_spelled what (file_at t) (rank_at (past_file t)) (past_rank (past_file t)) told f.below r.below e)
+    subst (λ (s : List ℕ). SpellsTold (letter ++ s) told) (sym whole)
+    (between_spelled what letter is (file_at t) (rank_at (past_file t)) (past_rank (past_file t)) told f.below r.below e)
 
 -- ---- castling
 
@@ -344,6 +348,6 @@ read_spelled t told e = elim (cases_Bool (is_short 79 t)) [
   | inl s ↦ castling_spelled 79 t told (inl refl) (inl refl) s (rw s at e)
   | inr n ↦ elim (cases_Bool (is_short 48 t)) [
     | inl s ↦ castling_spelled 48 t told (inr (inl refl)) (inr (inl refl)) s (rw (n, s) at e)
-    | inr m ↦ subst (λ (s : List ℕ). SpellsTold s told) (sym (kind_split t)) (kind_spelled (kind_at t) (past_kind t) told (rw (n, m) at e))
+    | inr m ↦ let k = kind_split t in subst (λ (s : List ℕ). SpellsTold s told) (sym k.text) (kind_spelled (kind_at t) k.piece k.form (past_kind t) told (rw (n, m) at e))
   ]
 ]

@@ -19,9 +19,10 @@ use Rattle.san_text.specs.declared.told.ManTold.{ManTold}
 use Rattle.san_text.specs.declared.told.Told.TheVariants.{Castles, Goes}
 use Rattle.san_text.specs.declared.origin.Apart.{Apart}
 use Rattle.san_text.specs.declared.origin.Apart.TheVariants.{Nothing, ByFile, ByRank, BySquare}
-use Rattle.san_text.specs.Told.{takes_text, promotion_text, IsOneOf, promotion_texts, between_texts, castling_texts, castling_text, AreMarks, IsBelowEight, SpellsMan, told_text}
+use Rattle.san_text.specs.Told.{kind_text, kind_texts, takes_text, promotion_text, IsOneOf, promotion_texts, between_texts, castling_texts, castling_text, AreMarks, IsBelowEight, SpellsMan, told_text}
+use Rattle.board_core.specs.Ends.{is_checkmate}
 use Rattle.san_text.specs.Agrees.{castling, IsAsTold, file_told, AgreesMan}
-use Rattle.san_text.specs.Written.{kind_letter, kind_there, kind_moved, is_rival, has_rival, anywhere, on_file_of, on_rank_of, told_apart, pawn_apart, origin_told, file_by, rank_by, man_told, told_by, san_told, is_checkmate, mark_of, mark_after, san_of}
+use Rattle.san_text.specs.Written.{kind_letter, kind_there, kind_moved, is_rival, has_rival, anywhere, on_file_of, on_rank_of, told_apart, pawn_apart, origin_told, file_by, rank_by, man_told, told_by, san_told, mark_of, mark_after, san_of}
 use Rattle.san_text.specs.San.{IsMeant, ReadsSan}
 use Rattle.san_text.proofs.LegalMoves.{castles_by}
 use Rattle.san_text.proofs.PawnLaws.{one_square, one_pawn, pawn_stays}
@@ -38,6 +39,14 @@ own_promotion (Some ToRook) = inl refl
 own_promotion (Some ToBishop) = inl refl
 own_promotion (Some ToKnight) = inl refl
 
+own_letter : (what : Kind) → IsOneOf (kind_texts what) (kind_text what)
+own_letter Pawn = inl refl
+own_letter Knight = inl refl
+own_letter Bishop = inl refl
+own_letter Rook = inl refl
+own_letter Queen = inl refl
+own_letter King = inl refl
+
 own_sign : (file rank : Option ℕ) (takes : Bool) → IsOneOf (between_texts file rank takes) (takes_text takes)
 own_sign file rank true = inl refl
 own_sign file rank false = no_sign file rank
@@ -51,9 +60,11 @@ man_spelled man mark none file rank square marks = record {
   file = file;
   rank = rank;
   square = square;
+  letter = kind_text man.kind;
   between = takes_text man.takes;
   promotion = promotion_text man.promotion;
   marks = mark;
+  is_letter = own_letter man.kind;
   is_between = own_sign man.file man.rank man.takes;
   promotes = own_promotion man.promotion;
   are_marks = marks;

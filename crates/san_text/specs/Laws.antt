@@ -4,6 +4,7 @@ use Rattle.board_core.specs.declared.parts.Parts.{Parts}
 use Rattle.board_core.specs.declared.moves.Move.{Move}
 use Rattle.board_core.specs.Attack.{IsInCheck}
 use Rattle.board_core.specs.declared.piece.Wing.{Wing}
+use Rattle.board_core.specs.Ends.{IsCheckmate}
 use Rattle.board_core.specs.Moves.{IsCastle, IsLegal, Legal}
 use Rattle.board_core.specs.Position.{IsPosition}
 use Rattle.san_text.specs.declared.told.Told.{Told}
@@ -29,15 +30,11 @@ TellsOneThing = (t : List ℕ) (a b : Told) → SpellsTold t a → SpellsTold t 
 abbrev pub CastlingIsTold : Type 0
 CastlingIsTold = (p : Parts) (m : Move) (wing : Wing) → IsLegal p m → (castling p m ≡ Some wing) ↔ IsCastle p m wing
 
--- no legal move, and the side to move in check
-abbrev pub IsMate : Parts → Type 0
-IsMate q = IsInCheck q.men q.side × ((m : Move) → IsLegal q m → ⊥)
-
 -- # stands exactly where the position after the move is checkmate, + exactly where it is another check
 abbrev pub MarksMate : Type 0
 MarksMate =
-    (p : Parts) (m : Move) (q : Parts) → Legal p m q → (san_of p m ≡ told_text (san_told p m) ++ codes "#") ↔ IsMate q
+    (p : Parts) (m : Move) (q : Parts) → Legal p m q → (san_of p m ≡ told_text (san_told p m) ++ codes "#") ↔ IsCheckmate q
 
 abbrev pub MarksCheck : Type 0
 MarksCheck =
-    (p : Parts) (m : Move) (q : Parts) → Legal p m q → (san_of p m ≡ told_text (san_told p m) ++ codes "+") ↔ (IsInCheck q.men q.side × (IsMate q → ⊥))
+    (p : Parts) (m : Move) (q : Parts) → Legal p m q → (san_of p m ≡ told_text (san_told p m) ++ codes "+") ↔ (IsInCheck q.men q.side × (IsCheckmate q → ⊥))

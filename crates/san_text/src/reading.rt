@@ -94,8 +94,8 @@ fn meant(position: &Position, told: &Told) -> Result<Move, SanFault>
 ///
 /// Besides the standard's text it takes what files have. More may be told of the square that the man leaves than is
 /// needed, and behind a whole square a dash may stand. A sign of check or mate and the glyphs `!` and `?` may be missing
-/// or needless: they tell nothing. Castling may be written by zeros, a promotion without `=` or by a small letter, and
-/// `e.p.` behind a capture en passant. Letters of men are capital: `b` is a file.
+/// or needless: they tell nothing. Castling may be written by zeros, a promotion without `=` or by a small letter, `e.p.`
+/// behind a capture en passant, and `P` before a pawn's move. Letters of men are capital: `b` is a file.
 ///
 /// What is told must be so of exactly one legal move. An `x` needs a capture; without it both are taken. Castling text is
 /// castling alone, and the text of a king's move never castles. A pawn's text that tells no file of origin tells that of

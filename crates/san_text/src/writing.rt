@@ -179,7 +179,7 @@ fn mark(after: &Position) -> &'static str
     if !after.in_check() {
         return "";
     }
-    if after.has_legal_move() { "+" } else { "#" }
+    if after.is_checkmate() { "#" } else { "+" }
 }
 
 /// Writes the text of a move (PGN standard, section 8.2.3), of two to seven bytes; none where the move isn't legal.

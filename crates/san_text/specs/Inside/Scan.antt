@@ -20,7 +20,7 @@ is_rank c = nat_le 49 c && nat_le c 56
 abbrev pub kind_by : ℕ → Option Kind
 kind_by c =
     if c == 78 then Some Knight else (if c == 66 then Some Bishop else (if c == 82 then Some Rook else (if c == 81 then Some Queen
-    else (if c == 75 then Some King else None))))
+    else (if c == 75 then Some King else (if c == 80 then Some Pawn else None)))))
 
 abbrev pub kind_or_pawn : Option Kind → Kind
 kind_or_pawn None = Pawn
