@@ -53,6 +53,6 @@ is_among OnFile from = on_file_of from
 is_among OnRank from = on_rank_of from
 
 -- what is told has a text of seven bytes at most, and files and ranks from 0 to 7
-abbrev pub IsShort : Told → Type 0
-IsShort (Castles wing) = Unit {0}
-IsShort (Goes man) = IsBelowEight man.file × IsBelowEight man.rank × (length (told_text (Goes man)) ≤ 7)
+abbrev pub IsWithinSeven : Told → Type 0
+IsWithinSeven (Castles wing) = Unit {0}
+IsWithinSeven (Goes man) = IsBelowEight man.file × IsBelowEight man.rank × (length (told_text (Goes man)) ≤ 7)
