@@ -4,7 +4,7 @@ ghost use Rattle.std.specs.Prelude.{◌≡◌, ◌≤◌, ◌<◌, ◌+◌, ◌+
 ghost use Rattle.arrayvec.specs.ArrayString.{array_string_len};
 ghost use Rattle.board_core.specs.Moves.{IsLegal};
 ghost use Rattle.san_text.specs.declared.told.Told.{Told};
-ghost use Rattle.san_text.specs.Inside.Movers.{IsWithinSeven};
+ghost use Rattle.san_text.specs.Inside.Written.{IsWithinSeven};
 ghost use Rattle.san_text.specs.Told.{IsBelowEight, kind_text, file_letter, rank_digit, takes_text, square_text, promoted_text, castles_text, told_text};
 ghost use Rattle.san_text.specs.Written.{kind_moved, man_told, san_told, check_mark, san_of};
 
