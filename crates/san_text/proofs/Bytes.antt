@@ -1,5 +1,5 @@
 -- The bytes of files and ranks, and how the code reads them.
-use Rattle.std.proofs.Common.{◌≡◌, ℕ, ◌+◌, ◌-◌, ◌*◌, ◌<◌, ◌≤◌, Bool, true, false, eqb, Option, None, refl, arith}
+use Rattle.std.proofs.Common.{◌≡◌, ℕ, ◌+◌, ◌-◌, ◌<◌, ◌≤◌, true, false, None, refl, arith}
 use Rattle.std.specs.Prelude.{◌==◌}
 use Rattle.std.proofs.lemmas.Bool.{ne_eqb, le-leb, lt-leb, and_parts, leb-true}
 use Rattle.san_text.specs.Inside.Scan.{is_file, is_rank, kind_by}
@@ -29,19 +29,19 @@ pub record IsRankByte (c r : ℕ) : Type 0 where
 differs : (c d : ℕ) → (c ≡ d → ⊥) → (c == d) ≡ false
 differs c d ne = ne_eqb c d ne
 
-kindless : (c : ℕ) → (c ≡ 78 → ⊥) → (c ≡ 66 → ⊥) → (c ≡ 82 → ⊥) → (c ≡ 81 → ⊥) → (c ≡ 75 → ⊥) → kind_by c ≡ None
-kindless c n b r q k = rw (differs c 78 n, differs c 66 b, differs c 82 r, differs c 81 q, differs c 75 k) refl
+kindless : (c : ℕ) → (c ≡ 78 → ⊥) → (c ≡ 66 → ⊥) → (c ≡ 82 → ⊥) → (c ≡ 81 → ⊥) → (c ≡ 75 → ⊥) → (c ≡ 80 → ⊥) → kind_by c ≡ None
+kindless c n b r q k p = rw (differs c 78 n, differs c 66 b, differs c 82 r, differs c 81 q, differs c 75 k, differs c 80 p) refl
 
 above_letters : (c : ℕ) → 90 < c → IsInner c
 above_letters c h = record {
-  no_kind = kindless c (λ e. omega arith) (λ e. omega arith) (λ e. omega arith) (λ e. omega arith) (λ e. omega arith);
+  no_kind = kindless c (λ e. omega arith) (λ e. omega arith) (λ e. omega arith) (λ e. omega arith) (λ e. omega arith) (λ e. omega arith);
   no_letter = differs c 79 (λ e. omega arith);
   no_zero = differs c 48 (λ e. omega arith);
 }
 
 digits_inner : (c : ℕ) → 48 < c → c < 60 → IsInner c
 digits_inner c h k = record {
-  no_kind = kindless c (λ e. omega arith) (λ e. omega arith) (λ e. omega arith) (λ e. omega arith) (λ e. omega arith);
+  no_kind = kindless c (λ e. omega arith) (λ e. omega arith) (λ e. omega arith) (λ e. omega arith) (λ e. omega arith) (λ e. omega arith);
   no_letter = differs c 79 (λ e. omega arith);
   no_zero = differs c 48 (λ e. omega arith);
 }

@@ -1,14 +1,14 @@
 -- What the rules say of legal moves, as their texts need it.
-use Rattle.std.proofs.Common.{◌≡◌, ◌≢◌, ◌≤◌, ◌<◌, ℕ, Bool, true, false, not, ◌||◌, ◌+◌, if◌then◌else◌, Option, Some, None, is_some, Decides, refl, sym, ap, subst, ◌∙◌, arith, inl, inr}
+use Rattle.std.proofs.Common.{◌≡◌, ◌≢◌, ◌≤◌, ◌<◌, ℕ, Bool, true, false, ◌+◌, if◌then◌else◌, Option, Some, None, is_some, Decides, refl, sym, ap, subst, ◌∙◌, arith, inl, inr}
 use Rattle.std.proofs.lemmas.Bool.{false_from_ne_true, ne_eqb, cases_lt}
 use Rattle.board_core.proofs.Sweep.{Rests}
 use Rattle.std.proofs.lemmas.Bool.Decides.{same_from_decides, Decides-like}
-use Rattle.std.specs.Prelude.{List, IsTrue}
+use Rattle.std.specs.Prelude.{List}
 use Rattle.board_core.specs.declared.piece.Piece.{Piece}
 use Rattle.board_core.specs.declared.piece.Side.{Side}
 use Rattle.board_core.specs.declared.piece.Side.TheVariants.{White, Black}
 use Rattle.board_core.specs.declared.piece.Kind.{Kind}
-use Rattle.board_core.specs.declared.piece.Kind.TheVariants.{Pawn, Knight, Bishop, Rook, Queen, King}
+use Rattle.board_core.specs.declared.piece.Kind.TheVariants.{Pawn, King}
 use Rattle.board_core.specs.declared.piece.Promotion.{Promotion}
 use Rattle.board_core.specs.declared.piece.Wing.{Wing}
 use Rattle.board_core.specs.declared.piece.Wing.TheVariants.{KingSide, QueenSide}
@@ -16,11 +16,11 @@ use Rattle.board_core.specs.declared.parts.Parts.{Parts}
 use Rattle.board_core.specs.declared.moves.Move.{Move}
 use Rattle.board_core.specs.declared.moves.MoveCase.{MoveCase}
 use Rattle.board_core.specs.declared.moves.MoveCase.TheVariants.{Plain, Advance, DoubleStep, PawnCapture, EnPassant, Castle}
-use Rattle.board_core.specs.Square.{file_of, rank_of, apart}
+use Rattle.board_core.specs.Square.{file_of, apart}
 use Rattle.board_core.specs.Attack.{man_at, Along, IsPawnAttack, Reaches, forward}
 use Rattle.board_core.specs.Castling.{king_home, king_end}
 use Rattle.board_core.specs.Position.{is_king_of}
-use Rattle.board_core.specs.Moves.{Stands, IsMove, IsLegal}
+use Rattle.board_core.specs.Moves.{Stands, IsMove, IsCastle, IsLegal}
 use Rattle.board_core.specs.ComputedMoves.{is_capture, is_en_passant}
 use Rattle.board_core.proofs.Computed.{Decides-king_of}
 use Rattle.board_core.proofs.ComputedMoves.{Decides-en_passant}
@@ -87,20 +87,19 @@ wing_back White QueenSide = refl
 wing_back Black KingSide = refl
 wing_back Black QueenSide = refl
 
-pub king_castles : (p : Parts) (m : Move) (c : MoveCase) (wing : Wing) → IsMove p m c → Stands p.men m.from p.side King → wing_by_files (file_of m.from) (file_of m.to) ≡ Some wing → m ≡ castling_move p.side wing
-king_castles p m Plain wing r king e =
+castle_rule : (p : Parts) (m : Move) (c : MoveCase) (wing : Wing) → IsMove p m c → Stands p.men m.from p.side King → wing_by_files (file_of m.from) (file_of m.to) ≡ Some wing → IsCastle p m wing
+castle_rule p m Plain wing r king e =
     let kind = same_kind p.men m.from p.side r.kind King r.stands king in
     let step = subst (λ k. Reaches p.men p.side k m.from m.to) kind r.reaches in
     absurd (let f = sym (no_wing (file_of m.from) (file_of m.to) step.1) ∙ e in cc)
-king_castles p m Advance wing r king e = absurd (let f = same_kind p.men m.from p.side Pawn King r.stands king in cc)
-king_castles p m DoubleStep wing r king e = absurd (let f = same_kind p.men m.from p.side Pawn King r.stands king in cc)
-king_castles p m PawnCapture wing r king e = absurd (let f = same_kind p.men m.from p.side Pawn King r.stands king in cc)
-king_castles p m EnPassant wing r king e = absurd (let f = same_kind p.men m.from p.side Pawn King r.stands king in cc)
-king_castles p m (Castle w) wing r king e =
+castle_rule p m Advance wing r king e = absurd (let f = same_kind p.men m.from p.side Pawn King r.stands king in cc)
+castle_rule p m DoubleStep wing r king e = absurd (let f = same_kind p.men m.from p.side Pawn King r.stands king in cc)
+castle_rule p m PawnCapture wing r king e = absurd (let f = same_kind p.men m.from p.side Pawn King r.stands king in cc)
+castle_rule p m EnPassant wing r king e = absurd (let f = same_kind p.men m.from p.side Pawn King r.stands king in cc)
+castle_rule p m (Castle w) wing r king e =
     let files : wing_by_files (file_of m.from) (file_of m.to) ≡ Some w = rw (r.from_home, r.to_end) (wing_back p.side w) in
     let same : w ≡ wing = let f = sym files ∙ e in cc in
-    let to : m.to ≡ king_end p.side wing = r.to_end ∙ ap (king_end p.side) same in
-    rw (← r.from_home, ← to, ← r.whole) refl
+    subst (λ x. IsCastle p m x) same r
 
 pub king_of_castling : (p : Parts) (m : Move) (wing : Wing) → castling p m ≡ Some wing → Stands p.men m.from p.side King
 king_of_castling p m wing e = by_test (is_king_of p.side (man_at p.men m.from)) refl e
@@ -109,12 +108,21 @@ king_of_castling p m wing e = by_test (is_king_of p.side (man_at p.men m.from)) 
     by_test true t f = (Decides-king_of p.side (man_at p.men m.from)).0 t
     by_test false t f = absurd (let g = f in cc)
 
--- the move that castles
-pub castles_by : (p : Parts) (m : Move) (wing : Wing) → IsLegal p m → castling p m ≡ Some wing → m ≡ castling_move p.side wing
-castles_by p m wing l e =
+-- castling is told exactly of the moves that castle by the rules
+pub castling_rule : (p : Parts) (m : Move) (wing : Wing) → IsLegal p m → castling p m ≡ Some wing → IsCastle p m wing
+castling_rule p m wing l e =
     let king = king_of_castling p m wing e in
     let t = (Decides-king_of p.side (man_at p.men m.from)).1 king in
-    king_castles p m l.1.case wing l.1.rule king (rw t at e)
+    castle_rule p m l.1.case wing l.1.rule king (rw t at e)
+
+pub castling_told : (p : Parts) (m : Move) (wing : Wing) → IsCastle p m wing → castling p m ≡ Some wing
+castling_told p m wing r =
+    let t = (Decides-king_of p.side (man_at p.men m.from)).1 r.stands in
+    rw t (rw (r.from_home, r.to_end) (wing_back p.side wing))
+
+-- the move that castles
+pub castles_by : (p : Parts) (m : Move) (wing : Wing) → IsLegal p m → castling p m ≡ Some wing → m ≡ castling_move p.side wing
+castles_by p m wing l e = let r = castling_rule p m wing l e in rw (← r.from_home, ← r.to_end, ← r.whole) refl
 
 -- ---- promotions
 

@@ -1,12 +1,12 @@
 -- The moves that may be meant, and the faults of a text.
-use Rattle.std.proofs.Common.{◌≡◌, ◌≢◌, ℕ, refl, sym, ap, subst, ◌∙◌}
+use Rattle.std.proofs.Common.{◌≡◌, refl, ap, subst}
 use Rattle.board_core.specs.declared.parts.Parts.{Parts}
 use Rattle.board_core.specs.declared.moves.Move.{Move}
 use Rattle.board_core.specs.Moves.{IsLegal}
 use Rattle.san_text.specs.declared.fault.SanFault.{SanFault}
 use Rattle.san_text.specs.declared.fault.SanFault.TheVariants.{BadText, NoMove, Ambiguous}
 use Rattle.san_text.specs.declared.told.ManTold.{ManTold}
-use Rattle.san_text.specs.declared.told.Told.TheVariants.{Castles, Goes}
+use Rattle.san_text.specs.declared.told.Told.TheVariants.{Goes}
 use Rattle.san_text.specs.Agrees.{AgreesMan}
 use Rattle.san_text.specs.Inside.Movers.{told_move, MayBeMeant, IsMoverFault, IsToldFault}
 

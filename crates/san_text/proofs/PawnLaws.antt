@@ -1,20 +1,17 @@
 -- Pawns that go to one square from one file.
-use Rattle.std.proofs.Common.{◌≡◌, ◌≢◌, ◌<◌, ℕ, ◌+◌, Bool, true, false, List, Option, Some, None, refl, sym, ap, subst, ◌∙◌, arith, inl, inr}
+use Rattle.std.proofs.Common.{◌≡◌, ℕ, ◌+◌, false, sym, subst, ◌∙◌, arith, inl, inr}
 use Rattle.std.specs.Prelude.{◌⊎◌}
-use Rattle.board_core.specs.declared.piece.Piece.{Piece}
 use Rattle.board_core.specs.declared.piece.Side.{Side}
 use Rattle.board_core.specs.declared.piece.Side.TheVariants.{White, Black}
-use Rattle.board_core.specs.declared.piece.Kind.{Kind}
-use Rattle.board_core.specs.declared.piece.Kind.TheVariants.{Pawn, Knight, Bishop, Rook, Queen, King}
+use Rattle.board_core.specs.declared.piece.Kind.TheVariants.{Pawn, King}
 use Rattle.board_core.specs.declared.parts.Parts.{Parts}
 use Rattle.board_core.specs.declared.moves.Move.{Move}
 use Rattle.board_core.specs.declared.moves.MoveCase.{MoveCase}
 use Rattle.board_core.specs.declared.moves.MoveCase.TheVariants.{Plain, Advance, DoubleStep, PawnCapture, EnPassant, Castle}
 use Rattle.board_core.specs.Square.{file_of, rank_of}
-use Rattle.board_core.specs.Attack.{man_at, Along, IsClear, IsPawnAttack, forward}
+use Rattle.board_core.specs.Attack.{Along, IsClear, IsPawnAttack, forward}
 use Rattle.board_core.specs.Moves.{Stands, IsMove, IsLegal}
-use Rattle.board_core.specs.ComputedMoves.{is_capture, is_en_passant}
-use Rattle.board_core.proofs.ComputedMoves.{Decides-en_passant}
+use Rattle.board_core.specs.ComputedMoves.{is_capture}
 use Rattle.board_core.proofs.ComputedLists.{Decides-capture}
 use Rattle.san_text.proofs.LegalMoves.{same_kind, on_file}
 

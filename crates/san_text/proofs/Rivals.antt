@@ -1,21 +1,17 @@
 -- Other men who can go where a move goes.
-use Rattle.std.proofs.Common.{◌≡◌, ◌≢◌, ◌<◌, is_some, ℕ, Bool, true, false, not, ◌&&◌, ◌==◌, List, Option, Some, None, Decides, refl, sym, ap, subst, ◌∙◌, arith}
-use Rattle.std.specs.List.{list_any}
-use Rattle.std.proofs.lemmas.Bool.{false_from_ne_true, and_parts, and_from, eqb-true, eq-eqb, ne_eqb, not_from_false, not-true}
+use Rattle.std.proofs.Common.{◌≡◌, ◌<◌, is_some, ℕ, Bool, true, false, ◌&&◌, Some, Decides, refl, sym, ap, subst, ◌∙◌, arith}
+use Rattle.std.proofs.lemmas.Bool.{false_from_ne_true, and_parts, and_from}
 use Rattle.std.proofs.lemmas.List.Folds.{Any-from_list_any, list_any_at}
-use Rattle.board_core.specs.declared.piece.Piece.{Piece}
-use Rattle.board_core.specs.declared.piece.Kind.{Kind}
-use Rattle.board_core.specs.declared.piece.Kind.TheVariants.{Pawn, Knight, Bishop, Rook, Queen, King}
 use Rattle.board_core.specs.declared.parts.Parts.{Parts}
 use Rattle.board_core.specs.declared.moves.Move.{Move}
 use Rattle.board_core.specs.Attack.{man_at}
-use Rattle.board_core.specs.Moves.{IsLegal, Stands}
+use Rattle.board_core.specs.Moves.{IsLegal}
 use Rattle.board_core.specs.ComputedMoves.{legal_moves}
 use Rattle.board_core.proofs.ComputedLists.{HasLegal-moves}
 use Rattle.board_core.proofs.Listing.{IsLegal-stands}
 use Rattle.board_core.proofs.Sweep.{Rests, none_left}
-use Rattle.san_text.specs.Written.{kind_letter, kind_there, kind_moved, is_rival, has_rival}
-use Rattle.san_text.specs.Inside.Movers.{Rivals}
+use Rattle.san_text.specs.Written.{is_rival, has_rival}
+use Rattle.san_text.specs.Inside.Written.{Rivals}
 
 -- there is a rival from a square that passes the test
 pub Decides-rival : (p : Parts) (m : Move) (test : ℕ → Bool) → Decides (has_rival p m test) ((s : ℕ) × Rivals p m s × (test s ≡ true))

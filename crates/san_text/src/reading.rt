@@ -13,7 +13,7 @@ ghost use Rattle.san_text.specs.Written.{san_of};
 
 use crate::agreeing::{castling, only_mover};
 use crate::fault::SanFault;
-use crate::spelling::told_of;
+use crate::spelling::told_by_text;
 use crate::told::{ManTold, Told};
 use board_core::{Move, Position, Side, Square, Wing};
 
@@ -94,8 +94,8 @@ fn meant(position: &Position, told: &Told) -> Result<Move, SanFault>
 ///
 /// Besides the standard's text it takes what files have. More may be told of the square that the man leaves than is
 /// needed, and behind a whole square a dash may stand. A sign of check or mate and the glyphs `!` and `?` may be missing
-/// or needless: they tell nothing. Castling may be written by zeros, a promotion without `=` or by a small letter, and
-/// `e.p.` behind a capture en passant. Letters of men are capital: `b` is a file.
+/// or needless: they tell nothing. Castling may be written by zeros, a promotion without `=` or by a small letter, `e.p.`
+/// behind a capture en passant, and `P` before a pawn's move. Letters of men are capital: `b` is a file.
 ///
 /// What is told must be so of exactly one legal move. An `x` needs a capture; without it both are taken. Castling text is
 /// castling alone, and the text of a king's move never castles. A pawn's text that tells no file of origin tells that of
@@ -111,7 +111,7 @@ pub fn read_san(position: &Position, text: &[u8]) -> Result<Move, SanFault>
     // What `write_san` writes for a legal move reads as this move.
     ensures written { (m : Move) → IsLegal position.now m → text.now ≡ san_of position.now m → result ≡ Ok m }
 {
-    let Some(told) = told_of(text) else {
+    let Some(told) = told_by_text(text) else {
         return Err(SanFault::BadText);
     };
     meant(position, &told)

@@ -1,8 +1,6 @@
-use Rattle.std.proofs.Common.{ℕ, ◌≡◌, arith, rules}
-use Rattle.std.specs.Int.{bit_at}
+use Rattle.std.proofs.Common.{arith, rules}
 use Rattle.board_core.proofs.Sweep.{Rests-without, none_on}
-use Rattle.san_text.specs.Inside.Movers.{MayBeMeant}
-use Rattle.san_text.proofs.LegalMoves.{MeantWithin, others_rest}
+use Rattle.san_text.proofs.LegalMoves.{others_rest}
 use Rattle.san_text.proofs.agreeing.next_mover.Goals as goal
 
 pub returns-then-may_be_meant-clause-rest : goal.returns-then-may_be_meant-clause-rest

@@ -1,7 +1,6 @@
 use Rattle.std.proofs.Common.{◌≡◌, ℕ, ◌<◌, ◌-◌}
 use Rattle.std.specs.Int.{bit_at}
 use Rattle.board_core.proofs.Sweep.{Rests}
-use Rattle.san_text.specs.Inside.Movers.{MayBeMeant}
 use Rattle.san_text.proofs.LegalMoves.{MeantWithin}
 use Rattle.san_text.proofs.agreeing.next_mover.Given as goal
 

@@ -1,6 +1,5 @@
 use Rattle.std.proofs.Common.{sym, ◌∙◌}
 use Rattle.san_text.proofs.ReadingLaws.{spelled_read}
-use Rattle.san_text.proofs.SpellingLaws.{read_spelled}
 use Rattle.san_text.proofs.laws.one_thing.Goals as goal
 
 pub returns : goal.returns
