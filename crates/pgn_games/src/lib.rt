@@ -3,6 +3,7 @@
 
 mod bytes;
 mod course;
+mod cursor;
 mod fault;
 mod game;
 mod lexeme;

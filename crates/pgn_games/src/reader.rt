@@ -1,9 +1,10 @@
 //! The games of an input, one at a time.
 
 use crate::course::Course;
+use crate::cursor::{Cursor, Left};
 use crate::game::Reading;
-use crate::lexeme::{Lexeme, lex};
-use crate::phase::{Phase, one_more};
+use crate::lexeme::Lexeme;
+use crate::phase::one_more;
 use board_core::Position;
 use std::alloc::Global;
 use system_io::{LineReader, ReadFault};
@@ -11,46 +12,40 @@ use system_io::{LineReader, ReadFault};
 /// The longest line that is read, 65,535 bytes without its line feed.
 const MOST_LINE_BYTES: usize = 65_535;
 
+/// The position of a new game (FIDE article 2.3).
+const USUAL_START: &[u8; 56] = b"rnbqkbnr/pppppppp/8/8/8/8/PPPPPPPP/RNBQKBNR w KQkq - 0 1";
+
 /// The games of an input, one at a time.
 #[derive(Drop)]
 pub struct PgnReader<L: LineReader + Drop> {
     alloc: Global,
     lines: L,
-    line: Vec<u8>,
-    place: usize,
-    number: u64,
+    cursor: Cursor,
     usual: Position,
 }
 
 /// What was taken of an input.
-#[derive(Clone, Copy, PartialEq, Eq)]
-enum Taken {
+#[derive(Clone, Copy)]
+pub(crate) enum Taken {
+    /// A line.
     Line,
+    /// A line that is too long, of which nothing is read.
     LongLine,
+    /// The input is at its end.
     Nothing,
 }
 
-/// Where a line is left.
-#[derive(Clone, Copy, PartialEq, Eq)]
-enum Left {
-    /// At its end.
-    AtEnd,
-    /// Within a comment.
-    InComment,
-    /// Where the game is over.
-    GameOver,
-}
-
-/// Whether a line's text is read.
-fn is_escaped(line: &[u8]) -> bool {
-    match line {
-        [b'%', ..] => true,
-        _ => false,
+/// Takes a line away that isn't read. Returns whether it is too long.
+fn cut_line(line: &mut Vec<u8>) -> bool {
+    if let Some(b'%') = line.as_slice().first() {
+        line.clear();
+        return false;
     }
-}
-
-fn place_of(text: &[u8], byte: u8) -> Option<usize> {
-    text.iter().position(|b| *b == byte)
+    if line.len() > MOST_LINE_BYTES {
+        line.clear();
+        return true;
+    }
+    false
 }
 
 impl<L: LineReader + Drop> PgnReader<L> {
@@ -59,70 +54,39 @@ impl<L: LineReader + Drop> PgnReader<L> {
         PgnReader {
             alloc,
             lines,
-            line: Vec::new(alloc),
-            place: 0,
-            number: 0,
+            cursor: Cursor::new(alloc),
             usual,
         }
     }
 
-    /// Whether a whole line has come already.
+    /// Whether a whole line has come already, so that the next one is read without waiting.
     pub fn has_line(&self) -> bool {
         self.lines.has_line()
     }
 
     /// Takes the next line.
     fn take_line(&mut self) -> Result<Taken, ReadFault> {
-        self.place = 0;
-        if !self.lines.next_line(&mut self.line)? {
-            self.line.clear();
-            return Ok(Taken::Nothing);
-        }
-        self.number = one_more(self.number);
-        if is_escaped(&self.line) {
-            self.line.clear();
-        }
-        if self.line.len() > MOST_LINE_BYTES {
-            self.line.clear();
-            return Ok(Taken::LongLine);
-        }
-        Ok(Taken::Line)
-    }
-
-    /// Puts the lexemes of the line.
-    fn tell_line(&mut self, course: &mut Course) -> Result<Left, ReadFault> {
-        while self.place < self.line.len() {
-            if let Phase::Moves(_) = course.phase() {
-                if self.place == 0 && self.line[0] == b'[' {
-                    return Ok(Left::GameOver);
-                }
+        match self.lines.next_line(&mut self.cursor.line) {
+            Ok(true) => {
+                let long = cut_line(&mut self.cursor.line);
+                self.cursor.number = one_more(self.cursor.number);
+                self.cursor.place = if long { 1 } else { 0 };
+                Ok(if long { Taken::LongLine } else { Taken::Line })
             }
-            if self.line[self.place] == b'{' {
-                match place_of(&self.line[self.place + 1..], b'}') {
-                    None => {
-                        self.place += 1;
-                        return Ok(Left::InComment);
-                    }
-                    Some(len) => self.place += len + 2,
-                }
-            } else {
-                let (lexeme, len) = lex(&self.line, self.place);
-                if let Lexeme::Nothing = lexeme {
-                } else {
-                    course.put(self.number, lexeme)?;
-                }
-                self.place += len;
-                if let Phase::Over = course.phase() {
-                    return Ok(Left::GameOver);
-                }
+            Ok(false) => {
+                self.cursor.line.clear();
+                Ok(Taken::Nothing)
+            }
+            Err(fault) => {
+                self.cursor.line.clear();
+                Err(fault)
             }
         }
-        Ok(Left::AtEnd)
     }
 
     /// Passes over the rest of a comment.
     fn pass_comment(&mut self, course: &mut Course) -> Result<(), ReadFault> {
-        let from = self.number;
+        let from = self.cursor.number;
         let mut long = false;
         for _ in 0..u64::MAX {
             match self.take_line()? {
@@ -132,8 +96,7 @@ impl<L: LineReader + Drop> PgnReader<L> {
                 }
                 Taken::LongLine => long = true,
                 Taken::Line => {
-                    if let Some(len) = place_of(&self.line, b'}') {
-                        self.place = len + 1;
+                    if self.cursor.close_comment() {
                         if long {
                             course.put(from, Lexeme::TooLong)?;
                         }
@@ -149,12 +112,12 @@ impl<L: LineReader + Drop> PgnReader<L> {
     pub fn next_game(&mut self) -> Result<Option<Reading>, ReadFault> {
         let mut course = Course::new(self.alloc, &self.usual);
         for _ in 0..u64::MAX {
-            match self.tell_line(&mut course)? {
+            match self.cursor.tell_line(&mut course)? {
                 Left::GameOver => return Ok(course.reading()),
                 Left::InComment => self.pass_comment(&mut course)?,
                 Left::AtEnd => match self.take_line()? {
                     Taken::Nothing => return Ok(course.reading()),
-                    Taken::LongLine => course.put(self.number, Lexeme::TooLong)?,
+                    Taken::LongLine => course.put(self.cursor.number, Lexeme::TooLong)?,
                     Taken::Line => {}
                 },
             }
