@@ -6,3 +6,4 @@ pub mod TokenLaws
 pub mod CommentLaws
 pub mod GameLaws
 pub mod StepLaws
+pub mod LineLaws

@@ -9,8 +9,10 @@ use Rattle.pgn_games.specs.Games.{Course, Passes, goes_on}
 use Rattle.pgn_games.specs.declared.phase.Phase.{Phase}
 use Rattle.pgn_games.specs.declared.phase.Phase.TheVariants.{Over}
 use Rattle.pgn_games.specs.Inside.Scan.{lexeme_of}
-use Rattle.pgn_games.specs.Inside.Steps.{BeginsLine, Continues, IsOver}
-use Rattle.pgn_games.proofs.TokenLaws.{OneLine, lexeme_at}
+use Rattle.pgn_games.specs.Inside.Steps.{OneLine, BeginsLine, Continues, IsOver, comment_left}
+use Rattle.std.proofs.lemmas.List.{at_drop_more}
+use Rattle.pgn_games.proofs.CommentLaws.{comment_begins}
+use Rattle.pgn_games.proofs.TokenLaws.{lexeme_at}
 use Rattle.pgn_games.proofs.GameLaws.{continues_one, continues_same, over_before, over_by_result}
 
 -- what is told of a lexeme that is something
@@ -52,3 +54,8 @@ stops_before c n told ts us e phase same on stops is =
 
 pub over_then : (c : Course) (phase : Phase) (ts : List Token) → phase ≡ c.phase → phase ≡ Over → IsOver c ts
 over_then c phase ts same over = over_by_result c ts (sym same ∙ over)
+
+-- the brace of a comment at a place of a line
+pub at_comment : (n place : ℕ) (s more : List ℕ) → place < length s → get_or s place 0 ≡ 123 → from_place n place s more ≡ comment_left n false n (drop (place + 1) s ++ more)
+at_comment n place s more within is =
+    ap (λ (l : List ℕ). tokens_from 0 n (place == 0) (l ++ more)) (at_drop_more (λ (l : List ℕ). l) s place 0 within ∙ ap (λ (b : ℕ). b ∷ drop (place + 1) s) is) ∙ comment_begins n (place == 0) (drop (place + 1) s ++ more)

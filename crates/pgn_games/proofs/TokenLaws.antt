@@ -8,10 +8,7 @@ use Rattle.std.proofs.lemmas.List.Elements.{All-drop, All-get_or, All-head, All-
 use Rattle.pgn_games.specs.Lines.{one_more}
 use Rattle.pgn_games.specs.Lexemes.{Lexed, lexed_at, lexed_in_line, rest_of_line}
 use Rattle.pgn_games.specs.Tokens.{Token, line_after, token_if, tokens_from}
-use Rattle.pgn_games.specs.Inside.Steps.{BeginsLine}
-
-abbrev pub OneLine : List ℕ → Type 0
-OneLine = All (λ b. b ≢ 10)
+use Rattle.pgn_games.specs.Inside.Steps.{BeginsLine, OneLine}
 
 pub differs : (a b : ℕ) → a ≢ b → (a == b) ≡ false
 differs a b h = grind (arith, nat_tests)

@@ -15,7 +15,6 @@ pub struct Cursor {
     pub(crate) place: usize,
     /// The number of the line, from 1; 0 before the first one.
     pub(crate) number: u64,
-    ghost one_line: { All (λ b. b ≢ 10) line.items },
 }
 
 /// Whether a game goes on.
@@ -47,7 +46,7 @@ fn brace_in(text: &[u8]) -> Option<usize>
 
 impl Cursor {
     ghost use Rattle.pgn_games.specs.Inside.Owned.{course_of};
-    ghost use Rattle.pgn_games.specs.Inside.Steps.{ClosesComment, LeavesLine, StepsOn};
+    ghost use Rattle.pgn_games.specs.Inside.Steps.{ClosesComment, LeavesLine, OneLine, StepsOn};
 
     /// Before the first line.
     pub(crate) fn new(alloc: Global) -> Cursor {
@@ -60,7 +59,8 @@ impl Cursor {
 
     /// Goes behind the brace that closes a comment, or to the end of the line where there is none.
     pub(crate) fn close_comment(&mut self) -> bool
-        requires { self.old.place ≤ vec_len self.old.line }
+        requires within { self.old.place ≤ vec_len self.old.line }
+        requires one { OneLine self.old.line.items }
         ensures closes { ClosesComment self.old self.new result }
         ensures end { result ≡ false → vec_len self.new.line ≤ self.new.place }
         ensures further { self.old.place ≤ self.new.place }
@@ -82,6 +82,7 @@ impl Cursor {
     /// Passes a lexeme.
     fn tell_lexeme(&mut self, course: &mut Course) -> Result<Next, AllocError>
         requires within { self.old.place < vec_len self.old.line }
+        requires one { OneLine self.old.line.items }
         requires plain { slice_index self.old.line.items self.old.place ≢ 123 }
         ensures steps { IfOk result (StepsOn (course_of course.old) self.old (course_of course.new) self.new) }
         ensures further { IfOk result (λ next. next ≡ Next.GoesOn → self.old.place < self.new.place) }
@@ -106,6 +107,7 @@ impl Cursor {
 
     /// Passes the rest of the line.
     pub(crate) fn tell_line(&mut self, course: &mut Course) -> Result<Left, AllocError>
+        requires { OneLine self.old.line.items }
         ensures leaves { IfOk result (LeavesLine (course_of course.old) self.old (course_of course.new) self.new) }
         ensures line { self.new.line ≡ self.old.line }
         ensures number { self.new.number ≡ self.old.number }

@@ -7,6 +7,7 @@ mod cursor;
 mod fault;
 mod game;
 mod lexeme;
+mod lines;
 mod phase;
 mod reader;
 mod tag_pair;

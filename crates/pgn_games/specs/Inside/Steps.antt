@@ -1,15 +1,22 @@
 -- How the code goes on over the text of a game. Only private contracts cite these words.
-use Rattle.std.specs.Prelude.{◌≡◌, ◌≤◌, ◌<◌, ◌==◌, ◌||◌, ◌++◌, ℕ, Bool, true, false, List, [], ◌∷◌, length, drop, Option, Some, None, MatchBool, if◌then◌else◌}
+use Rattle.std.specs.Prelude.{◌≡◌, ◌≢◌, ◌≤◌, ◌<◌, ◌==◌, ◌||◌, ◌++◌, ℕ, Bool, true, false, List, [], ◌∷◌, length, drop, Option, Some, None, MatchBool, if◌then◌else◌}
+use Rattle.std.specs.List.{All}
 use Rattle.pgn_games.specs.declared.cursor.Cursor.{Cursor}
 use Rattle.pgn_games.specs.declared.cursor.Next.{Next}
 use Rattle.pgn_games.specs.declared.cursor.Next.TheVariants.{GoesOn, Stops}
 use Rattle.pgn_games.specs.declared.cursor.Left.{Left}
 use Rattle.pgn_games.specs.declared.cursor.Left.TheVariants.{AtEnd, InComment, GameOver}
-use Rattle.pgn_games.specs.Lines.{one_more}
+use Rattle.pgn_games.specs.declared.lines.Taken.{Taken}
+use Rattle.pgn_games.specs.declared.lines.Taken.TheVariants.{Line, LongLine, Nothing}
+use Rattle.pgn_games.specs.Lines.{one_more, read_text, text_of_line}
 use Rattle.pgn_games.specs.Lexemes.{Endless, TooLong}
 use Rattle.pgn_games.specs.Tokens.{Token, line_after, token, token_if, tokens_from}
 use Rattle.pgn_games.specs.Games.{Course, ReadingTold, Tells, behind_game, of_game}
 use Rattle.pgn_games.specs.Reading.{tokens_with}
+
+-- there is no line feed in a line
+abbrev pub OneLine : List ℕ → Type 0
+OneLine line = All (λ b. b ≢ 10) line
 
 -- a text that begins with a line feed, or is empty
 abbrev pub BeginsLine : List ℕ → Type 0
@@ -60,3 +67,26 @@ LeavesLine c old d new InComment =
     (length new.line.items ≤ new.place) × ((more : List ℕ) → BeginsLine more → Continues c (tokens_with old more) d (comment_left new.number false new.number more))
 LeavesLine c old d new GameOver =
     (more : List ℕ) → BeginsLine more → Continues c (tokens_with old more) d (tokens_with new more) × IsOver d (tokens_with new more)
+
+-- a line that was read is begun, behind the one of this number
+abbrev pub BeginsAs : List ℕ → ℕ → Cursor → Taken → Type 0
+BeginsAs line number new Line =
+    (new.line.items ≡ text_of_line line) × (new.number ≡ one_more number) × (new.place ≡ 0)
+BeginsAs line number new LongLine =
+    (text_of_line line ≡ 256 ∷ []) × (new.line.items ≡ []) × (new.number ≡ one_more number) × (new.place ≡ 1)
+BeginsAs line number new Nothing = ⊥
+
+-- the next line, in front of which stands a line feed; one that is too long; or the end of the text
+abbrev pub TakesText : Cursor → Cursor → Taken → List ℕ → List ℕ → Type 0
+TakesText old new Line left behind =
+    (rest_with old (read_text left) ≡ 10 ∷ rest_with new (read_text behind)) × (new.number ≡ one_more old.number) × (new.place ≡ 0)
+TakesText old new LongLine left behind =
+    (rest_with old (read_text left) ≡ 10 ∷ 256 ∷ rest_with new (read_text behind)) × (new.number ≡ one_more old.number) × (new.place ≡ 1)
+TakesText old new Nothing left behind =
+    (rest_with old (read_text left) ≡ []) × (rest_with new (read_text behind) ≡ [])
+
+-- the next line is read from its first column; otherwise nothing is left of it
+abbrev pub StandsAt : Cursor → Taken → Type 0
+StandsAt new Line = new.place ≡ 0
+StandsAt new LongLine = length new.line.items ≤ new.place
+StandsAt new Nothing = length new.line.items ≤ new.place

@@ -22,7 +22,7 @@ returns-in-Nothing-clause-steps c =
       byte = c.lex-len.ensures.byte;
     } in
     λ more begins.
-    continues_same _ _ _ (lexed_one self.number self.place c.lex-len.result.1 d self.line.items more None c.deref.ensures.value self.one_line begins within c.requires.plain l)
+    continues_same _ _ _ (lexed_one self.number self.place c.lex-len.result.1 d self.line.items more None c.deref.ensures.value c.requires.one begins within c.requires.plain l)
 
 pub returns-in-Nothing-clause-further : goal.returns-in-Nothing-clause-further
 returns-in-Nothing-clause-further c = λ is. omega (arith, c.lex-len.ensures.size (c.args.self.now.place == 0))
@@ -43,7 +43,7 @@ returns-then-not-goes_on c =
     } in
     record {
       steps = λ more begins.
-      stops_before _ self.number told.0 _ _ (lexed_one self.number self.place c.lex-len.result.1 d self.line.items more (Some told.0) c.deref.ensures.value self.one_line begins within c.requires.plain l) c.phase.result c.phase.ensures c.goes_on.result c.if-not-goes_on.true (c.goes_on.ensures told.0 told.1);
+      stops_before _ self.number told.0 _ _ (lexed_one self.number self.place c.lex-len.result.1 d self.line.items more (Some told.0) c.deref.ensures.value c.requires.one begins within c.requires.plain l) c.phase.result c.phase.ensures c.goes_on.result c.if-not-goes_on.true (c.goes_on.ensures told.0 told.1);
       further = λ e. absurd (cc);
       line = refl;
       number = refl;
@@ -64,7 +64,7 @@ returns-in-Over c =
       byte = c.lex-len.ensures.byte;
     } in
     record {
-      steps = λ more begins. (steps_on _ _ self.number told.0 _ _ (lexed_one self.number self.place c.lex-len.result.1 d self.line.items more (Some told.0) c.deref.ensures.value self.one_line begins within c.requires.plain l) (c.in_ok-put.ensures first told.0 told.1) c.phase.result c.phase.ensures c.goes_on.result c.if-not-goes_on.false (c.goes_on.ensures told.0 told.1), over_then _ c.phase-2.result _ c.phase-2.ensures c.in-Over.is);
+      steps = λ more begins. (steps_on _ _ self.number told.0 _ _ (lexed_one self.number self.place c.lex-len.result.1 d self.line.items more (Some told.0) c.deref.ensures.value c.requires.one begins within c.requires.plain l) (c.in_ok-put.ensures first told.0 told.1) c.phase.result c.phase.ensures c.goes_on.result c.if-not-goes_on.false (c.goes_on.ensures told.0 told.1), over_then _ c.phase-2.result _ c.phase-2.ensures c.in-Over.is);
       further = λ e. absurd (cc);
       line = refl;
       number = refl;
@@ -85,7 +85,7 @@ returns-in_default-phase c =
       byte = c.lex-len.ensures.byte;
     } in
     record {
-      steps = λ more begins. steps_on _ _ self.number told.0 _ _ (lexed_one self.number self.place c.lex-len.result.1 d self.line.items more (Some told.0) c.deref.ensures.value self.one_line begins within c.requires.plain l) (c.in_ok-put.ensures first told.0 told.1) c.phase.result c.phase.ensures c.goes_on.result c.if-not-goes_on.false (c.goes_on.ensures told.0 told.1);
+      steps = λ more begins. steps_on _ _ self.number told.0 _ _ (lexed_one self.number self.place c.lex-len.result.1 d self.line.items more (Some told.0) c.deref.ensures.value c.requires.one begins within c.requires.plain l) (c.in_ok-put.ensures first told.0 told.1) c.phase.result c.phase.ensures c.goes_on.result c.if-not-goes_on.false (c.goes_on.ensures told.0 told.1);
       further = λ e. omega (arith, c.lex-len.ensures.size first);
       line = refl;
       number = refl;
