@@ -1,6 +1,6 @@
 -- What tokens tell of a game, one after another.
 use Rattle.std.proofs.Common.{◌≡◌, ◌∙◌, ℕ, zero, suc, ◌<◌, ◌++◌, Bool, true, false, List, [], ◌∷◌, Option, Some, None, Result, Ok, Err, cond, refl, sym, ap, subst, arith}
-use Rattle.std.specs.Prelude.{nat_lt, MatchOption}
+use Rattle.std.specs.Prelude.{nat_lt, not, MatchOption}
 use Rattle.pgn_games.specs.declared.fault.Cause.{Cause}
 use Rattle.pgn_games.specs.declared.fault.GameFault.{GameFault}
 use Rattle.pgn_games.specs.declared.phase.Phase.{Phase}
@@ -10,8 +10,8 @@ use Rattle.pgn_games.specs.declared.tags.TagName.TheVariants as name
 use Rattle.pgn_games.specs.Tags.{TagPair, name_of, value_of}
 use Rattle.pgn_games.specs.Lexemes.{Telling, Tag, MoveText, Begins, Ends, Told, Stray, Endless, TooLong}
 use Rattle.pgn_games.specs.Tokens.{Token, token}
-use Rattle.pgn_games.specs.Games.{Course, Closes, Passes, ReadingTold, SetsTag, Takes, TakesIfMain, TakesMove, TakesTag, Tells, after, behind_game, depth_of, fault_of, goes_on, of_game, passed, taken}
-use Rattle.pgn_games.specs.Inside.Steps.{Continues, IsOver}
+use Rattle.pgn_games.specs.Games.{Course, Closes, Passes, ReadingTold, SetsTag, Takes, TakesIfMain, TakesMove, TakesTag, Tells, after, behind_game, depth_of, fault_of, goes_on, is_tag_in_first_column, of_game, passed, taken}
+use Rattle.pgn_games.specs.Inside.Steps.{Continues, IsOn, IsOver}
 
 ok_same : (c d : Course) → ◌≡◌ {A = Result Course Cause} (Ok d) (Ok c) → d.phase ≡ c.phase
 ok_same c d e = let same : d ≡ c = cc in ap (λ (x : Course). x.phase) same
@@ -124,3 +124,20 @@ over_any c (t ∷ ts) e = over_before c t ts (ap (λ (p : Phase). goes_on p t.is
 
 pub over_by_result : (c : Course) (ts : List Token) → c.phase ≡ Over → IsOver c ts
 over_by_result c ts e = over_any c ts e
+
+on_by : (p : Phase) → (p ≡ Over → ⊥) → IsOn p
+on_by Tags h = tt
+on_by (Moves depth) h = tt
+on_by Over h = h refl
+
+pub is_on : (p q : Phase) → p ≡ q → (p ≡ Over → ⊥) → IsOn q
+is_on p q e h = subst IsOn e (on_by p h)
+
+-- a fault leaves it as far as it had come
+pub still_on : (c d : Course) (t : Token) → Passes c t d → after c.phase t.is ≡ c.phase → IsOn c.phase → IsOn d.phase
+still_on c d t h same on = subst IsOn (sym (phase_after c d t h ∙ same)) on
+
+pub goes_on_by : (p : Phase) (told : Telling) → IsOn p → is_tag_in_first_column told ≡ false → goes_on p told ≡ true
+goes_on_by Tags told on none = refl
+goes_on_by (Moves depth) told on none = ap not none
+goes_on_by Over told on none = absurd on

@@ -7,3 +7,4 @@ pub mod CommentLaws
 pub mod GameLaws
 pub mod StepLaws
 pub mod LineLaws
+pub mod ReadLaws

@@ -46,7 +46,7 @@ fn brace_in(text: &[u8]) -> Option<usize>
 
 impl Cursor {
     ghost use Rattle.pgn_games.specs.Inside.Owned.{course_of};
-    ghost use Rattle.pgn_games.specs.Inside.Steps.{ClosesComment, LeavesLine, OneLine, StepsOn};
+    ghost use Rattle.pgn_games.specs.Inside.Steps.{ClosesComment, IsOn, LeavesLine, OneLine, StepsOn};
 
     /// Before the first line.
     pub(crate) fn new(alloc: Global) -> Cursor {
@@ -83,9 +83,11 @@ impl Cursor {
     fn tell_lexeme(&mut self, course: &mut Course) -> Result<Next, AllocError>
         requires within { self.old.place < vec_len self.old.line }
         requires one { OneLine self.old.line.items }
+        requires on { IsOn course.old.phase }
         requires plain { slice_index self.old.line.items self.old.place ≢ 123 }
         ensures steps { IfOk result (StepsOn (course_of course.old) self.old (course_of course.new) self.new) }
         ensures further { IfOk result (λ next. next ≡ Next.GoesOn → self.old.place < self.new.place) }
+        ensures on { IfOk result (λ next. next ≡ Next.GoesOn → IsOn course.new.phase) }
         ensures line { self.new.line ≡ self.old.line }
         ensures number { self.new.number ≡ self.old.number }
     {
@@ -107,8 +109,10 @@ impl Cursor {
 
     /// Passes the rest of the line.
     pub(crate) fn tell_line(&mut self, course: &mut Course) -> Result<Left, AllocError>
-        requires { OneLine self.old.line.items }
+        requires one { OneLine self.old.line.items }
+        requires on { IsOn course.old.phase }
         ensures leaves { IfOk result (LeavesLine (course_of course.old) self.old (course_of course.new) self.new) }
+        ensures on { IfOk result (λ left. (left ≡ Left.GameOver → ⊥) → IsOn course.new.phase) }
         ensures line { self.new.line ≡ self.old.line }
         ensures number { self.new.number ≡ self.old.number }
     {

@@ -6,9 +6,13 @@ use Rattle.pgn_games.specs.declared.cursor.Next.{Next}
 use Rattle.pgn_games.specs.declared.cursor.Next.TheVariants.{GoesOn, Stops}
 use Rattle.pgn_games.specs.declared.cursor.Left.{Left}
 use Rattle.pgn_games.specs.declared.cursor.Left.TheVariants.{AtEnd, InComment, GameOver}
+use Rattle.pgn_games.specs.declared.reader.Closing.{Closing}
+use Rattle.pgn_games.specs.declared.reader.Closing.TheVariants.{Whole, WithLongLine, Never}
 use Rattle.pgn_games.specs.declared.lines.Taken.{Taken}
 use Rattle.pgn_games.specs.declared.lines.Taken.TheVariants.{Line, LongLine, Nothing}
 use Rattle.pgn_games.specs.Lines.{one_more, read_text, text_of_line}
+use Rattle.pgn_games.specs.declared.phase.Phase.{Phase}
+use Rattle.pgn_games.specs.declared.phase.Phase.TheVariants.{Tags, Moves, Over}
 use Rattle.pgn_games.specs.Lexemes.{Endless, TooLong}
 use Rattle.pgn_games.specs.Tokens.{Token, line_after, token, token_if, tokens_from}
 use Rattle.pgn_games.specs.Games.{Course, ReadingTold, Tells, behind_game, of_game}
@@ -32,6 +36,12 @@ unfoldable pub comment_left : ℕ → Bool → ℕ → List ℕ → List Token
 comment_left from long line [] = token from Endless ∷ []
 comment_left from long line (b ∷ t) =
     if b == 125 then closed from long ++ tokens_from 0 line false t else comment_left from (long || b == 256) (line_after line b) t
+
+-- a game isn't over
+abbrev pub IsOn : Phase → Type 0
+IsOn Tags = Unit {0}
+IsOn (Moves depth) = Unit {0}
+IsOn Over = ⊥
 
 -- what tokens tell of a game goes on with what others tell of it, and behind it stands the same
 pub record Continues (c : Course) (ts : List Token) (d : Course) (us : List Token) : Type 0 where
@@ -90,3 +100,18 @@ abbrev pub StandsAt : Cursor → Taken → Type 0
 StandsAt new Line = new.place ≡ 0
 StandsAt new LongLine = length new.line.items ≤ new.place
 StandsAt new Nothing = length new.line.items ≤ new.place
+
+-- a game is told to its end
+abbrev pub TellsGame : Course → List Token → Course → List Token → Type 0
+TellsGame c ts d us = Continues c ts d us × IsOver d us
+
+-- a game goes on, or is told to its end
+abbrev pub TellsOn : Next → Course → List Token → Course → List Token → Type 0
+TellsOn GoesOn c ts d us = Continues c ts d us
+TellsOn Stops c ts d us = TellsGame c ts d us
+
+-- what a comment tells that began on a line
+abbrev pub closing_tokens : ℕ → Closing → List Token
+closing_tokens from Whole = []
+closing_tokens from WithLongLine = token from TooLong ∷ []
+closing_tokens from Never = token from Endless ∷ []

@@ -4,7 +4,7 @@ use Rattle.pgn_games.specs.Lexemes.{Telling}
 use Rattle.pgn_games.specs.Tokens.{token}
 use Rattle.pgn_games.specs.Inside.Scan.{lexeme_of}
 use Rattle.pgn_games.specs.Inside.Steps.{BeginsLine}
-use Rattle.pgn_games.proofs.GameLaws.{continues_same}
+use Rattle.pgn_games.proofs.GameLaws.{continues_same, is_on}
 use Rattle.pgn_games.proofs.StepLaws.{Lexes, from_place, lexed_one, over_then, some_told, steps_on, stops_before}
 use Rattle.pgn_games.proofs.cursor.Cursor.tell_lexeme.Goals as goal
 
@@ -45,6 +45,7 @@ returns-then-not-goes_on c =
       steps = λ more begins.
       stops_before _ self.number told.0 _ _ (lexed_one self.number self.place c.lex-len.result.1 d self.line.items more (Some told.0) c.deref.ensures.value c.requires.one begins within c.requires.plain l) c.phase.result c.phase.ensures c.goes_on.result c.if-not-goes_on.true (c.goes_on.ensures told.0 told.1);
       further = λ e. absurd (cc);
+      on = λ e. absurd (cc);
       line = refl;
       number = refl;
     }
@@ -66,6 +67,7 @@ returns-in-Over c =
     record {
       steps = λ more begins. (steps_on _ _ self.number told.0 _ _ (lexed_one self.number self.place c.lex-len.result.1 d self.line.items more (Some told.0) c.deref.ensures.value c.requires.one begins within c.requires.plain l) (c.in_ok-put.ensures first told.0 told.1) c.phase.result c.phase.ensures c.goes_on.result c.if-not-goes_on.false (c.goes_on.ensures told.0 told.1), over_then _ c.phase-2.result _ c.phase-2.ensures c.in-Over.is);
       further = λ e. absurd (cc);
+      on = λ e. absurd (cc);
       line = refl;
       number = refl;
     }
@@ -87,6 +89,7 @@ returns-in_default-phase c =
     record {
       steps = λ more begins. steps_on _ _ self.number told.0 _ _ (lexed_one self.number self.place c.lex-len.result.1 d self.line.items more (Some told.0) c.deref.ensures.value c.requires.one begins within c.requires.plain l) (c.in_ok-put.ensures first told.0 told.1) c.phase.result c.phase.ensures c.goes_on.result c.if-not-goes_on.false (c.goes_on.ensures told.0 told.1);
       further = λ e. omega (arith, c.lex-len.ensures.size first);
+      on = λ e. is_on c.phase-2.result _ c.phase-2.ensures c.in_default-phase.not-Over;
       line = refl;
       number = refl;
     }

@@ -22,5 +22,6 @@ loop-self-preserved-else-not-close_comment c =
       steps = λ more begins.
       continues_then _ _ _ _ _ _ (c.loop-self.invariant.steps more begins) (continues_same _ _ _ (at_comment self.number self.place self.line.items more within brace ∙ c.if-not-close_comment.ensures.closes self.number false more));
       line = c.close_comment.ensures.line ∙ c.loop-self.invariant.line;
+      on = c.loop-self.invariant.on;
       number = c.close_comment.ensures.number ∙ c.loop-self.invariant.number;
     }
