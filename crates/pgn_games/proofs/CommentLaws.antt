@@ -10,7 +10,8 @@ use Rattle.std.proofs.lemmas.Bool.{eqb-true}
 use Rattle.pgn_games.specs.Lines.{one_more}
 use Rattle.pgn_games.specs.Lexemes.{Telling, Endless, TooLong, lexed_at}
 use Rattle.pgn_games.specs.Tokens.{Token, line_after, token_if, tokens_from}
-use Rattle.pgn_games.specs.Inside.Steps.{OneLine, closed, comment_left}
+use Rattle.pgn_games.specs.Inside.Lines.{OneLine}
+use Rattle.pgn_games.specs.Inside.Steps.{closed, comment_left}
 use Rattle.pgn_games.proofs.TokenLaws.{differs}
 
 or_none : (a : Bool) → (a || false) ≡ a

@@ -11,7 +11,8 @@ use Rattle.pgn_games.specs.declared.lines.Taken.{Taken}
 use Rattle.pgn_games.specs.declared.lines.Taken.TheVariants.{Line, LongLine, Nothing}
 use Rattle.pgn_games.specs.Lines.{lines_of, onto_first_line, read_text, text_of_line}
 use Rattle.pgn_games.specs.Reading.{IfKnown}
-use Rattle.pgn_games.specs.Inside.Steps.{OneLine, BeginsAs, BeginsLine, TakesText, rest_with}
+use Rattle.pgn_games.specs.Inside.Lines.{OneLine}
+use Rattle.pgn_games.specs.Inside.Steps.{BeginsAs, BeginsLine, TakesText, rest_with}
 use Rattle.pgn_games.proofs.TokenLaws.{differs}
 
 lines_by : (x : ℕ) (t : List ℕ) → x ≢ 10 → lines_of (x ∷ t) ≡ onto_first_line x (lines_of t)

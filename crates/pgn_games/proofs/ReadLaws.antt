@@ -1,6 +1,6 @@
 -- What is read of an input tells a game.
 use Rattle.std.proofs.Common.{◌≡◌, ◌≢◌, ◌∙◌, ℕ, zero, suc, ◌+◌, ◌<◌, ◌≤◌, ◌++◌, Bool, true, false, List, [], ◌∷◌, length, take, drop, Option, Some, None, cond, refl, sym, ap, subst, arith}
-use Rattle.std.specs.Prelude.{◌==◌}
+use Rattle.std.specs.Prelude.{◌==◌, option_map}
 use Rattle.board_core.specs.declared.parts.Parts.{Parts}
 use Rattle.fen_text.specs.Written.{fen_of}
 use Rattle.pgn_games.specs.declared.cursor.Cursor.{Cursor}
@@ -122,3 +122,12 @@ told_over c d ts us h over = (h, over)
 pub tells_then : (next : Next) (c d e : Course) (ts us vs : List Token) → Continues c ts d us → TellsOn next d us e vs → TellsOn next c ts e vs
 tells_then GoesOn c d e ts us vs h k = continues_then c d e ts us vs h k
 tells_then Stops c d e ts us vs h k = (continues_then c d e ts us vs h k.0, k.1)
+
+pub known_of : {A B : Type 0} (f g : A → B) (a b : Option A) (P : A → A → Type 0) (Q : B → B → Type 0) → ((x y : A) → P x y → Q (f x) (g y)) → IfKnown a b P → IfKnown (option_map f a) (option_map g b) Q
+known_of f g None b P Q h k = tt
+known_of f g (Some x) None P Q h k = k
+known_of f g (Some x) (Some y) P Q h k = h x y k
+
+pub reading_told : (usual : Parts) (first c : Course) (ts us : List Token) (told : Option ReadingTold) → usual_start ≡ fen_of usual → first ≡ no_course usual → told ≡ told_of c → TellsGame first ts c us → ReadsGame ts told us
+reading_told usual first c ts us told spelled begun is h =
+    subst (λ (t : Option ReadingTold). ReadsGame ts t us) (sym is) (game_read usual c ts us spelled (subst (λ (f : Course). Continues f ts c us) begun h.0) h.1)

@@ -9,7 +9,8 @@ use Rattle.pgn_games.specs.Games.{Course, Passes, goes_on}
 use Rattle.pgn_games.specs.declared.phase.Phase.{Phase}
 use Rattle.pgn_games.specs.declared.phase.Phase.TheVariants.{Over}
 use Rattle.pgn_games.specs.Inside.Scan.{lexeme_of}
-use Rattle.pgn_games.specs.Inside.Steps.{OneLine, BeginsLine, Continues, IsOver, comment_left}
+use Rattle.pgn_games.specs.Inside.Lines.{OneLine}
+use Rattle.pgn_games.specs.Inside.Steps.{BeginsLine, Continues, IsOver, comment_left}
 use Rattle.std.proofs.lemmas.List.{at_drop_more}
 use Rattle.pgn_games.proofs.CommentLaws.{comment_begins}
 use Rattle.pgn_games.proofs.TokenLaws.{lexeme_at}

@@ -8,7 +8,8 @@ use Rattle.std.proofs.lemmas.List.Elements.{All-drop, All-get_or, All-head, All-
 use Rattle.pgn_games.specs.Lines.{one_more}
 use Rattle.pgn_games.specs.Lexemes.{Lexed, lexed_at, lexed_in_line, rest_of_line}
 use Rattle.pgn_games.specs.Tokens.{Token, line_after, token_if, tokens_from}
-use Rattle.pgn_games.specs.Inside.Steps.{BeginsLine, OneLine}
+use Rattle.pgn_games.specs.Inside.Lines.{OneLine}
+use Rattle.pgn_games.specs.Inside.Steps.{BeginsLine}
 
 pub differs : (a b : ℕ) → a ≢ b → (a == b) ≡ false
 differs a b h = grind (arith, nat_tests)

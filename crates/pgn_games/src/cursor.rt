@@ -1,6 +1,6 @@
 //! The line that is read, and the place in it.
 
-ghost use Rattle.std.specs.Prelude.{◌≡◌, ◌≢◌, ◌<◌, ◌≤◌, ◌==◌, Some, Bool, IfOk, IsTrue, IfSome, position, length, vec_len, slice_index, false};
+ghost use Rattle.std.specs.Prelude.{◌≡◌, ◌≢◌, [], ◌<◌, ◌≤◌, ◌==◌, Some, Bool, IfOk, IsTrue, IfSome, position, length, vec_len, slice_index, false};
 ghost use Rattle.std.specs.List.{All};
 
 use crate::course::Course;
@@ -46,10 +46,15 @@ fn brace_in(text: &[u8]) -> Option<usize>
 
 impl Cursor {
     ghost use Rattle.pgn_games.specs.Inside.Owned.{course_of};
-    ghost use Rattle.pgn_games.specs.Inside.Steps.{ClosesComment, IsOn, LeavesLine, OneLine, StepsOn};
+    ghost use Rattle.pgn_games.specs.Inside.Lines.{OneLine};
+    ghost use Rattle.pgn_games.specs.Inside.Steps.{ClosesComment, IsOn, LeavesLine, StepsOn};
 
     /// Before the first line.
-    pub(crate) fn new(alloc: Global) -> Cursor {
+    pub(crate) fn new(alloc: Global) -> Cursor
+        ensures line { result.line.items ≡ [] }
+        ensures place { result.place ≡ 0 }
+        ensures number { result.number ≡ 0 }
+    {
         Cursor {
             line: Vec::new(alloc),
             place: 0,

@@ -12,6 +12,8 @@ mod phase;
 mod reader;
 mod tag_pair;
 mod tags;
+mod telling;
+mod usual;
 
 
 

@@ -3,7 +3,8 @@
 ghost use Rattle.std.specs.Prelude.{◌≡◌, ◌≤◌, [], ◌∷◌, IfOk, IsErrOf, MatchBool, vec_len};
 ghost use Rattle.pgn_games.specs.Lines.{is_escaped, text_of_line};
 ghost use Rattle.pgn_games.specs.Reading.{IfKnown};
-ghost use Rattle.pgn_games.specs.Inside.Steps.{BeginsAs, OneLine, StandsAt, TakesText};
+ghost use Rattle.pgn_games.specs.Inside.Lines.{OneLine};
+ghost use Rattle.pgn_games.specs.Inside.Steps.{BeginsAs, StandsAt, TakesText};
 
 use crate::cursor::Cursor;
 use crate::phase::one_more;

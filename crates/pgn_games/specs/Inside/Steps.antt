@@ -1,13 +1,12 @@
 -- How the code goes on over the text of a game. Only private contracts cite these words.
-use Rattle.std.specs.Prelude.{◌≡◌, ◌≢◌, ◌≤◌, ◌<◌, ◌==◌, ◌||◌, ◌++◌, ℕ, Bool, true, false, List, [], ◌∷◌, length, drop, Option, Some, None, MatchBool, if◌then◌else◌}
-use Rattle.std.specs.List.{All}
+use Rattle.std.specs.Prelude.{◌≡◌, ◌≤◌, ◌<◌, ◌==◌, ◌||◌, ◌++◌, ℕ, Bool, true, false, List, [], ◌∷◌, length, drop, Option, Some, None, MatchBool, if◌then◌else◌}
 use Rattle.pgn_games.specs.declared.cursor.Cursor.{Cursor}
 use Rattle.pgn_games.specs.declared.cursor.Next.{Next}
 use Rattle.pgn_games.specs.declared.cursor.Next.TheVariants.{GoesOn, Stops}
 use Rattle.pgn_games.specs.declared.cursor.Left.{Left}
 use Rattle.pgn_games.specs.declared.cursor.Left.TheVariants.{AtEnd, InComment, GameOver}
-use Rattle.pgn_games.specs.declared.reader.Closing.{Closing}
-use Rattle.pgn_games.specs.declared.reader.Closing.TheVariants.{Whole, WithLongLine, Never}
+use Rattle.pgn_games.specs.declared.telling.Closing.{Closing}
+use Rattle.pgn_games.specs.declared.telling.Closing.TheVariants.{Whole, WithLongLine, Never}
 use Rattle.pgn_games.specs.declared.lines.Taken.{Taken}
 use Rattle.pgn_games.specs.declared.lines.Taken.TheVariants.{Line, LongLine, Nothing}
 use Rattle.pgn_games.specs.Lines.{one_more, read_text, text_of_line}
@@ -17,10 +16,6 @@ use Rattle.pgn_games.specs.Lexemes.{Endless, TooLong}
 use Rattle.pgn_games.specs.Tokens.{Token, line_after, token, token_if, tokens_from}
 use Rattle.pgn_games.specs.Games.{Course, ReadingTold, Tells, behind_game, of_game}
 use Rattle.pgn_games.specs.Reading.{tokens_with}
-
--- there is no line feed in a line
-abbrev pub OneLine : List ℕ → Type 0
-OneLine line = All (λ b. b ≢ 10) line
 
 -- a text that begins with a line feed, or is empty
 abbrev pub BeginsLine : List ℕ → Type 0

@@ -2,7 +2,8 @@ use Rattle.std.proofs.Common.{All, Option, ◌≢◌, ◌<◌, ◌∙◌, ap, sy
 use Rattle.std.specs.Prelude.{◌==◌, position}
 use Rattle.std.proofs.lemmas.List.Elements.{All-drop}
 use Rattle.pgn_games.specs.Tokens.{Token}
-use Rattle.pgn_games.specs.Inside.Steps.{OneLine, closed}
+use Rattle.pgn_games.specs.Inside.Lines.{OneLine}
+use Rattle.pgn_games.specs.Inside.Steps.{closed}
 use Rattle.pgn_games.proofs.RunLaws.{rest_of}
 use Rattle.pgn_games.proofs.TokenLaws.{further_on}
 use Rattle.pgn_games.proofs.CommentLaws.{none_closes, some_closes}

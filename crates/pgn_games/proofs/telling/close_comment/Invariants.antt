@@ -1,8 +1,9 @@
 use Rattle.std.proofs.Common.{ℕ, ◌≡◌, ◌≤◌, false, vec_len}
 use Rattle.pgn_games.specs.Lines.{read_text}
 use Rattle.pgn_games.specs.Reading.{IfKnown}
-use Rattle.pgn_games.specs.Inside.Steps.{OneLine, comment_left, rest_with}
-use Rattle.pgn_games.proofs.reader.close_comment.Given as goal
+use Rattle.pgn_games.specs.Inside.Lines.{OneLine}
+use Rattle.pgn_games.specs.Inside.Steps.{comment_left, rest_with}
+use Rattle.pgn_games.proofs.telling.close_comment.Given as goal
 
 abbrev pub invariant-loop : goal.invariant-loop
 invariant-loop g l = record {

@@ -2,8 +2,9 @@ use Rattle.std.proofs.Common.{◌≡◌, ◌≤◌}
 use Rattle.pgn_games.specs.Lines.{read_text}
 use Rattle.pgn_games.specs.Reading.{IfKnown, tokens_with}
 use Rattle.pgn_games.specs.Inside.Owned.{course_of}
-use Rattle.pgn_games.specs.Inside.Steps.{Continues, IsOn, OneLine}
-use Rattle.pgn_games.proofs.reader.tell_game.Given as goal
+use Rattle.pgn_games.specs.Inside.Lines.{OneLine}
+use Rattle.pgn_games.specs.Inside.Steps.{Continues, IsOn}
+use Rattle.pgn_games.proofs.telling.tell_game.Given as goal
 
 abbrev pub invariant-loop : goal.invariant-loop
 invariant-loop g l = record {

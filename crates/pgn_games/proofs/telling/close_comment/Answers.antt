@@ -4,10 +4,11 @@ use Rattle.pgn_games.specs.declared.lines.Taken.{Taken}
 use Rattle.pgn_games.specs.Lines.{read_text}
 use Rattle.pgn_games.specs.Tokens.{Token}
 use Rattle.pgn_games.specs.Reading.{IfKnown, tokens_with}
-use Rattle.pgn_games.specs.Inside.Steps.{OneLine, StandsAt, TakesText, comment_left, rest_with}
+use Rattle.pgn_games.specs.Inside.Lines.{OneLine}
+use Rattle.pgn_games.specs.Inside.Steps.{StandsAt, TakesText, comment_left, rest_with}
 use Rattle.pgn_games.proofs.ReadLaws.{comment_at_end, comment_line, comment_long_line, joined, known_map, known_then, not_closed}
-use Rattle.pgn_games.proofs.reader.close_comment.Goals as goal
-use Rattle.pgn_games.proofs.reader.close_comment.Goals.{in-LongLine, in-Line+else-close_comment}
+use Rattle.pgn_games.proofs.telling.close_comment.Goals as goal
+use Rattle.pgn_games.proofs.telling.close_comment.Goals.{in-LongLine, in-Line+else-close_comment}
 
 pub returns-in-Nothing-clause-closes : goal.returns-in-Nothing-clause-closes
 returns-in-Nothing-clause-closes g c =

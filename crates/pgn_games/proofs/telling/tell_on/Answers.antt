@@ -7,7 +7,7 @@ use Rattle.pgn_games.specs.Inside.Steps.{LeavesLine, TellsGame, TellsOn, comment
 use Rattle.pgn_games.proofs.GameLaws.{continues_same, continues_then}
 use Rattle.pgn_games.proofs.LineLaws.{begins}
 use Rattle.pgn_games.proofs.ReadLaws.{known_map, known_same, past_line, tells_then, told_over}
-use Rattle.pgn_games.proofs.reader.tell_on.Goals as goal
+use Rattle.pgn_games.proofs.telling.tell_on.Goals as goal
 
 pub returns-in-GameOver-clause-told : goal.returns-in-GameOver-clause-told
 returns-in-GameOver-clause-told g c =

@@ -6,7 +6,7 @@ use Rattle.pgn_games.specs.Inside.Owned.{course_of}
 use Rattle.pgn_games.specs.Inside.Steps.{TakesText}
 use Rattle.pgn_games.proofs.GameLaws.{continues_same, continues_then}
 use Rattle.pgn_games.proofs.ReadLaws.{continues_fault, known_map, next_line, next_long_line, no_line, on_after_fault, over_without_line, told_over}
-use Rattle.pgn_games.proofs.reader.tell_next.Goals as goal
+use Rattle.pgn_games.proofs.telling.tell_next.Goals as goal
 
 pub returns-in-Nothing-clause-told : goal.returns-in-Nothing-clause-told
 returns-in-Nothing-clause-told g c =

@@ -1,7 +1,7 @@
 use Rattle.std.proofs.Common.{List, ℕ, ◌++◌, ◌≡◌, refl, sym, subst}
 use Rattle.pgn_games.proofs.GameLaws.{continues_same, continues_then}
 use Rattle.pgn_games.proofs.ReadLaws.{known_map}
-use Rattle.pgn_games.proofs.reader.pass_comment.Goals as goal
+use Rattle.pgn_games.proofs.telling.pass_comment.Goals as goal
 
 pub returns-clause-told : goal.returns-clause-told
 returns-clause-told g c =
