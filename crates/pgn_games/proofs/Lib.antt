@@ -8,3 +8,4 @@ pub mod GameLaws
 pub mod StepLaws
 pub mod LineLaws
 pub mod ReadLaws
+pub mod UsualLaws
