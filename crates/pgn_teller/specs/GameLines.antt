@@ -47,11 +47,11 @@ cause_words EndlessComment = codes "EndlessComment"
 cause_words LongLine = codes "LongLine"
 
 -- a game that isn't read: its number, the line at fault, the plies before it, and why
-abbrev pub fault_words : ℕ → GameFault → List ℕ
-fault_words number fault =
+abbrev pub unread_game_words : ℕ → GameFault → List ℕ
+unread_game_words number fault =
     decimal number ++ codes " refused line " ++ decimal fault.at ++ codes " ply " ++ decimal fault.plies ++ codes " " ++ cause_words fault.cause
 
 -- how many games there are of each kind
-abbrev pub sums_words : Sums → List ℕ
-sums_words s =
+abbrev pub pgn_sums_words : Sums → List ℕ
+pgn_sums_words s =
     decimal s.games ++ codes " games, " ++ decimal s.ruled ++ codes " with a verdict, " ++ decimal s.faults ++ codes " at fault, " ++ decimal s.agree ++ codes " agree, " ++ decimal s.differ ++ codes " differ"

@@ -46,9 +46,9 @@ abbrev pub ply_or_null : Option Ruled → Json
 ply_or_null None = null
 ply_or_null (Some ruled) = number (decimal ruled.ply)
 
-abbrev pub verdict_or_null : Option Ruled → Json
-verdict_or_null None = null
-verdict_or_null (Some ruled) = string (verdict_name ruled.verdict)
+abbrev pub ruled_verdict_or_null : Option Ruled → Json
+ruled_verdict_or_null None = null
+ruled_verdict_or_null (Some ruled) = string (verdict_name ruled.verdict)
 
 -- the result that stands in the file, and what it is beside the verdict
 abbrev pub result_or_null : GameResult → Json
@@ -76,7 +76,7 @@ game_members n game ruled =
     (member (codes "start") (string (fen_of game.start))
     (member (codes "moves") (string (moves_text game.moves))
     (member (codes "ply") (ply_or_null ruled)
-    (member (codes "verdict") (verdict_or_null ruled)
+    (member (codes "verdict") (ruled_verdict_or_null ruled)
     (member (codes "result") (result_or_null game.result)
     (member (codes "finding") (finding_or_null (finding_of ruled game.result)) no_members))))))))))))
 
@@ -84,8 +84,8 @@ abbrev pub cause_json : Cause → Json
 cause_json cause = string (cause_words cause)
 
 -- a game that isn't read: its line, why, the line at fault, and how many plies came before it
-abbrev pub fault_members : ℕ → GameFault → Members
-fault_members n fault =
+abbrev pub unread_game_members : ℕ → GameFault → Members
+unread_game_members n fault =
     member (codes "game") (number (decimal n))
     (member (codes "line") (number (decimal fault.line))
     (member (codes "error") (cause_json fault.cause)

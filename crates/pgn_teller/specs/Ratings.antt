@@ -66,7 +66,7 @@ ruled_by (outcome.Illegal place) = None
 ruled_by outcome.Going = None
 
 -- by tables and a delay, this is the first verdict of a game of a file, or it has none
-pub record IsRuled (delay : ℕ) (tables : Tables) (game : GameTold) (ruled : Option Ruled) : Type 0 where
+pub record IsFirstRuled (delay : ℕ) (tables : Tables) (game : GameTold) (ruled : Option Ruled) : Type 0 where
   pub outcome : GameOutcome
   pub is : IsOutcome (record { start = game.start; tables = tables; delay = delay }) game.moves outcome
   pub by : ruled ≡ ruled_by outcome

@@ -1,7 +1,7 @@
 //! The lines of games as words.
 
 ghost use Rattle.std.specs.Prelude.{◌≡◌, ◌≤◌, ◌+◌, ◌++◌, length};
-ghost use Rattle.pgn_teller.specs.GameLines.{cause_words, fault_words, fen_words, game_words, ruled_words, sums_words};
+ghost use Rattle.pgn_teller.specs.GameLines.{cause_words, unread_game_words, fen_words, game_words, ruled_words, pgn_sums_words};
 
 use crate::finding::{Finding, result_word};
 use crate::rating::Ruled;
@@ -96,7 +96,7 @@ pub(crate) fn add_cause(line: &mut LineWords, cause: Cause)
 
 /// The line of a game that isn't read: its number, the line at fault, the plies before it, and why.
 pub(crate) fn fault_line(number: u64, fault: &GameFault) -> LineWords
-    ensures { result ≡ fault_words number fault.now }
+    ensures { result ≡ unread_game_words number fault.now }
 {
     let mut line = LineWords::new();
     line.add_number(number);
@@ -109,7 +109,7 @@ pub(crate) fn fault_line(number: u64, fault: &GameFault) -> LineWords
 
 /// The line of the sums.
 pub(crate) fn sums_line(sums: &Sums) -> LineWords
-    ensures { result ≡ sums_words sums.now }
+    ensures { result ≡ pgn_sums_words sums.now }
 {
     let mut line = LineWords::new();
     line.add_number(sums.games);

@@ -6,7 +6,7 @@ ghost use Rattle.json.specs.Json.{object, string};
 ghost use Rattle.json_lines.specs.Members.{value_json};
 ghost use Rattle.json_lines.specs.Objects.{json_text};
 ghost use Rattle.pgn_games.specs.Shown.{game_of, texts_of};
-ghost use Rattle.pgn_teller.specs.GameObjects.{cause_json, fault_members, finding_or_null, game_members, lossy, moves_text, ply_or_null, result_or_null, sums_members, text_or_null, verdict_or_null, with_move};
+ghost use Rattle.pgn_teller.specs.GameObjects.{cause_json, unread_game_members, finding_or_null, game_members, lossy, moves_text, ply_or_null, result_or_null, sums_members, text_or_null, ruled_verdict_or_null, with_move};
 ghost use Rattle.pgn_teller.specs.Inside.Texts.{AreTextsOf};
 
 use crate::finding::{Finding, result_word};
@@ -102,8 +102,8 @@ fn ply_or_null<'a>(ruled: Option<Ruled>) -> Value<'a>
 }
 
 /// The name of the first verdict, or null where there is none.
-fn verdict_or_null<'a>(ruled: Option<Ruled>) -> Value<'a>
-    ensures { value_json result ≡ verdict_or_null ruled }
+fn ruled_verdict_or_null<'a>(ruled: Option<Ruled>) -> Value<'a>
+    ensures { value_json result ≡ ruled_verdict_or_null ruled }
 {
     match ruled {
         Some(ruled) => Value::Text(ruled.verdict.name()),
@@ -153,7 +153,7 @@ pub(crate) fn put_game<W: Write>(
         member("start", Value::Text(texts.start.as_str())),
         member("moves", Value::Text(texts.moves.as_str())),
         member("ply", ply_or_null(ruled)),
-        member("verdict", verdict_or_null(ruled)),
+        member("verdict", ruled_verdict_or_null(ruled)),
         member("result", result_or_null(game.result)),
         member("finding", finding_or_null(Finding::of(ruled, game.result))),
     ];
@@ -190,7 +190,7 @@ pub(crate) fn put_fault<W: Write>(
     number: u64,
     fault: &GameFault,
 ) -> Result<(), WriteFault>
-    ensures { OnOk result (Appends (W.contents out.old) (W.contents out.new) (json_text (object (fault_members number fault.now)))) }
+    ensures { OnOk result (Appends (W.contents out.old) (W.contents out.new) (json_text (object (unread_game_members number fault.now)))) }
 {
     let members = [
         member("game", Value::Count(number)),

@@ -6,7 +6,7 @@
 //! Inside: `rating` (the first verdict of a game), `finding` (the result beside it), `game_line` (the line of a game), `game_object` (its
 //! object), `sums`, `telling` (the run).
 //!
-//! Definitions, in reading order: `Ratings` (`IsRuled`, `finding_of`), `GameLines`, `GameObjects`, `Tellings` (`TellsGames`). Its cases stand
+//! Definitions, in reading order: `Ratings` (`IsFirstRuled`, `finding_of`), `GameLines`, `GameObjects`, `Tellings` (`TellsPgn`). Its cases stand
 //! in `pgn.txt` of `rows`.
 #![tactic(auto)]
 

@@ -2,7 +2,7 @@
 
 ghost use Rattle.std.specs.Prelude.{◌≡◌, IfOk};
 ghost use Rattle.pgn_games.specs.Shown.{game_of};
-ghost use Rattle.pgn_teller.specs.Ratings.{IsRuled, ruled_by};
+ghost use Rattle.pgn_teller.specs.Ratings.{IsFirstRuled, ruled_by};
 
 use board_core::{Delay, Verdict};
 use judge_core::{GameOutcome, Set};
@@ -36,7 +36,7 @@ pub fn rule(
     delay: Delay,
     game: &Game,
 ) -> Result<Option<Ruled>, AllocError>
-    ensures ruled { IfOk result (IsRuled delay set.old.tables (game_of game.now)) }
+    ensures ruled { IfOk result (IsFirstRuled delay set.old.tables (game_of game.now)) }
     ensures unchanged { set.new ≡ set.old }
 {
     let outcome = set.judge_game(alloc, &game.start, &game.moves, delay.plies())?;

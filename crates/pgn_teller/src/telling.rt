@@ -6,10 +6,10 @@ ghost use Rattle.line_teller.specs.ToldLines.{HasFailed, HasFront, cut_words};
 ghost use Rattle.move_msg.specs.TextLines.{ended};
 ghost use Rattle.system_io.specs.Outputs.{WritesFront};
 ghost use Rattle.pgn_games.specs.Shown.{game_of, reading_of};
-ghost use Rattle.pgn_games.specs.Reading.{tokens_left};
+ghost use Rattle.pgn_games.specs.Reading.{input_of, tokens_left};
 ghost use Rattle.pgn_teller.specs.Inside.Steps.{CutsNext, CutsReading, IsTextOf, TellsNext, TellsReading};
 ghost use Rattle.pgn_games.specs.Games.{GameRead};
-ghost use Rattle.pgn_teller.specs.Tellings.{CutsGames, CutsSums, TellsGames, TellsSums, differs, is_written, line_of, line_of_fault, line_of_sums, mark_of, terms_of};
+ghost use Rattle.pgn_teller.specs.Tellings.{CutsPgn, CutsSums, TellsPgn, TellsSums, differs, is_written, pgn_line, pgn_fault_line, pgn_sums_line, counted_as, terms_of};
 
 use crate::finding::Finding;
 use crate::game_line::{Form, fault_line, game_line, sums_line};
@@ -86,7 +86,7 @@ fn object_of_game(
     game: &Game,
     ruled: Option<Ruled>,
 ) -> Result<Vec<u8>, AllocError>
-    ensures { IfOk result (λ text. text.items ≡ ended (line_of Form.Json number (game_of game.now) ruled)) }
+    ensures { IfOk result (λ text. text.items ≡ ended (pgn_line Form.Json number (game_of game.now) ruled)) }
 {
     let texts = Texts::of(alloc, game)?;
     let mut text = Vec::new(alloc);
@@ -100,7 +100,7 @@ fn object_of_game(
 
 /// The object of a game that isn't read, with a line feed.
 fn object_of_fault(alloc: Global, number: u64, fault: &GameFault) -> Result<Vec<u8>, AllocError>
-    ensures { IfOk result (λ text. text.items ≡ ended (line_of_fault Form.Json number fault.now)) }
+    ensures { IfOk result (λ text. text.items ≡ ended (pgn_fault_line Form.Json number fault.now)) }
 {
     let mut text = Vec::new(alloc);
     match put_fault(&mut text, number, fault) {
@@ -113,7 +113,7 @@ fn object_of_fault(alloc: Global, number: u64, fault: &GameFault) -> Result<Vec<
 
 /// The object of the sums, with a line feed.
 fn object_of_sums(alloc: Global, sums: &Sums) -> Result<Vec<u8>, AllocError>
-    ensures { IfOk result (λ text. text.items ≡ ended (line_of_sums Form.Json sums.now)) }
+    ensures { IfOk result (λ text. text.items ≡ ended (pgn_sums_line Form.Json sums.now)) }
 {
     let mut text = Vec::new(alloc);
     match put_sums(&mut text, sums) {
@@ -125,8 +125,8 @@ fn object_of_sums(alloc: Global, sums: &Sums) -> Result<Vec<u8>, AllocError>
 }
 
 /// What counts of a game, by its first verdict and the result that stands in the file.
-fn mark_of(ruled: Option<Ruled>, stands: GameResult) -> Mark
-    ensures { result ≡ mark_of ruled stands }
+fn counted_as(ruled: Option<Ruled>, stands: GameResult) -> Mark
+    ensures { result ≡ counted_as ruled stands }
 {
     match ruled {
         Some(ruled) => Mark::Ruled(Finding::beside(ruled.verdict, stands)),
@@ -152,7 +152,7 @@ impl<'a> GameTeller<'a> {
         game: &Game,
         ruled: Option<Ruled>,
     ) -> Result<Vec<u8>, AllocError>
-        ensures { IfOk result (λ text. text.items ≡ ended (line_of self.now.form number (game_of game.now) ruled)) }
+        ensures { IfOk result (λ text. text.items ≡ ended (pgn_line self.now.form number (game_of game.now) ruled)) }
     {
         match self.form {
             Form::Words => {
@@ -165,7 +165,7 @@ impl<'a> GameTeller<'a> {
 
     /// The line of a game that isn't read.
     fn text_of_fault(&self, number: u64, fault: &GameFault) -> Result<Vec<u8>, AllocError>
-        ensures { IfOk result (λ text. text.items ≡ ended (line_of_fault self.now.form number fault.now)) }
+        ensures { IfOk result (λ text. text.items ≡ ended (pgn_fault_line self.now.form number fault.now)) }
     {
         match self.form {
             Form::Words => text_of(self.alloc, fault_line(number, fault)),
@@ -181,7 +181,7 @@ impl<'a> GameTeller<'a> {
     {
         let ruled = rule(self.alloc, &mut self.set, self.delay, game)?;
         let text = self.text_of_game(number, game, ruled)?;
-        let mark = mark_of(ruled, game.result);
+        let mark = counted_as(ruled, game.result);
         Ok(GameText { text, mark })
     }
 
@@ -246,10 +246,11 @@ impl<'a> GameTeller<'a> {
         reader: &mut PgnReader<L>,
         out: &mut W,
     ) -> Result<Step, WriteFault>
-        ensures told { IfOk result (λ step. IfSome (tokens_left (λ l. (L.LineReader.facts l).left) reader.old) (λ tokens. TellsNext (terms_of self.old) self.old.sums tokens self.new.sums (tokens_left (λ l. (L.LineReader.facts l).left) reader.new) (W.contents out.old) (W.contents out.new) step)) }
-        ensures front { OnErr result (IfSome (tokens_left (λ l. (L.LineReader.facts l).left) reader.old) (λ tokens. CutsNext (terms_of self.old) self.old.sums tokens (W.contents out.old) (W.contents out.new))) }
+        ensures told { IfOk result (λ step. IfSome (tokens_left (λ l. (L.LineReader.facts l).left) reader.old) (λ tokens. TellsNext (terms_of self.old) self.old.sums (L.LineReader.facts (input_of reader.old)).fails tokens self.new.sums (tokens_left (λ l. (L.LineReader.facts l).left) reader.new) (W.contents out.old) (W.contents out.new) step)) }
+        ensures front { OnErr result (IfSome (tokens_left (λ l. (L.LineReader.facts l).left) reader.old) (λ tokens. CutsNext (terms_of self.old) self.old.sums (L.LineReader.facts (input_of reader.old)).fails tokens (W.contents out.old) (W.contents out.new))) }
         ensures cause { OnErr result (HasFailed W.facts) }
         ensures same { terms_of self.new ≡ terms_of self.old }
+        ensures reader { (L.LineReader.facts (input_of reader.new)).fails → (L.LineReader.facts (input_of reader.old)).fails }
     {
         match reader.next_game() {
             Ok(Some(reading)) => self.tell_reading(&reading, out),
@@ -261,15 +262,15 @@ impl<'a> GameTeller<'a> {
     /// Tells the games of an input, a line each as they are read, and counts them. Each line has gone out before more is read.
     ///
     /// Where memory is refused, the line `refused memory` follows the lines before it, and where the input can't be read further,
-    /// `refused files`; nothing follows then. The error comes only where the writer failed. The lines before are whole then, and of the last a
+    /// `refused files` (after 2^64 - 1 games `refused memory`); nothing follows then. The error comes only where the writer failed. The lines before are whole then, and of the last a
     /// front is written.
     pub fn tell_games<L: LineReader + Drop, W: Output>(
         &mut self,
         reader: &mut PgnReader<L>,
         out: &mut W,
     ) -> Result<Telling, WriteFault>
-        ensures told { IfOk result (λ how. IfSome (tokens_left (λ l. (L.LineReader.facts l).left) reader.old) (λ tokens. TellsGames (terms_of self.old) self.old.sums tokens self.new.sums (W.contents out.old) (W.contents out.new) how)) }
-        ensures front { OnErr result (IfSome (tokens_left (λ l. (L.LineReader.facts l).left) reader.old) (λ tokens. CutsGames (terms_of self.old) self.old.sums tokens (W.contents out.old) (W.contents out.new))) }
+        ensures told { IfOk result (λ how. IfSome (tokens_left (λ l. (L.LineReader.facts l).left) reader.old) (λ tokens. TellsPgn (terms_of self.old) self.old.sums (L.LineReader.facts (input_of reader.old)).fails tokens self.new.sums (W.contents out.old) (W.contents out.new) how)) }
+        ensures front { OnErr result (IfSome (tokens_left (λ l. (L.LineReader.facts l).left) reader.old) (λ tokens. CutsPgn (terms_of self.old) self.old.sums (L.LineReader.facts (input_of reader.old)).fails tokens (W.contents out.old) (W.contents out.new))) }
         ensures cause { OnErr result (HasFailed W.facts) }
         ensures same { terms_of self.new ≡ terms_of self.old }
     {
@@ -281,7 +282,7 @@ impl<'a> GameTeller<'a> {
                 Err(fault) => return Err(fault),
             }
         }
-        match put_cut(out, ReadFault::Unreadable) {
+        match put_cut(out, ReadFault::OutOfMemory) {
             Ok(_) => Ok(Telling::CutShort),
             Err(fault) => Err(fault),
         }
@@ -289,7 +290,7 @@ impl<'a> GameTeller<'a> {
 
     /// The line of the sums.
     fn text_of_sums(&self) -> Result<Vec<u8>, AllocError>
-        ensures { IfOk result (λ text. text.items ≡ ended (line_of_sums self.now.form self.now.sums)) }
+        ensures { IfOk result (λ text. text.items ≡ ended (pgn_sums_line self.now.form self.now.sums)) }
     {
         match self.form {
             Form::Words => text_of(self.alloc, sums_line(&self.sums)),

@@ -65,11 +65,11 @@ abbrev pub moves_in : List ℕ → List ℕ
 moves_in line = moves_behind line (tab_in line)
 
 -- the start is a position
-abbrev pub HasStart : List ℕ → Type 0
-HasStart line = IsText (start_in line)
+abbrev pub HasStartFen : List ℕ → Type 0
+HasStartFen line = IsText (start_in line)
 
 -- a line is told as `game` tells it: the refusal of its start; or else of its first word that is no move; or else what its game comes to
-pub data TellsGame (delay : ℕ) (tables : Tables) (line : List ℕ) (told : LineTold) : Type 0 where
-  NoStart : (fault : FenFault) → IsFirstFenFault (start_in line) fault → told ≡ record { words = refused_fen fault; done = false } → TellsGame delay tables line told
-  NoMove : HasStart line → (place : ℕ) → IsBadWordAt (words_in (moves_in line)) place → told ≡ record { words = refused_move place; done = false } → TellsGame delay tables line told
-  Played : (start : Parts) → SpellsPosition (start_in line) start → IsPosition start → (moves : List Move) → TellsMoves (moves_in line) moves → (outcome : GameOutcome) → IsOutcome (record { start = start; tables = tables; delay = delay }) moves outcome → told ≡ record { words = outcome_words outcome (length moves); done = are_all_legal outcome } → TellsGame delay tables line told
+pub data TellsGameLine (delay : ℕ) (tables : Tables) (line : List ℕ) (told : LineTold) : Type 0 where
+  NoStart : (fault : FenFault) → IsFirstFenFault (start_in line) fault → told ≡ record { words = refused_fen fault; done = false } → TellsGameLine delay tables line told
+  NoMove : HasStartFen line → (place : ℕ) → IsBadWordAt (words_in (moves_in line)) place → told ≡ record { words = refused_move place; done = false } → TellsGameLine delay tables line told
+  Played : (start : Parts) → SpellsPosition (start_in line) start → IsPosition start → (moves : List Move) → TellsMoves (moves_in line) moves → (outcome : GameOutcome) → IsOutcome (record { start = start; tables = tables; delay = delay }) moves outcome → told ≡ record { words = outcome_words outcome (length moves); done = are_all_legal outcome } → TellsGameLine delay tables line told

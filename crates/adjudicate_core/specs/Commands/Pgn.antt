@@ -5,7 +5,7 @@ use Rattle.line_teller.specs.ToldLines.{refused_files, refused_memory}
 use Rattle.pgn_games.specs.Tokens.{tokens_of}
 use Rattle.pgn_teller.specs.declared.sums.Sums.{Sums}
 use Rattle.pgn_teller.specs.declared.telling.Telling.TheVariants.{CutShort, Whole}
-use Rattle.pgn_teller.specs.Tellings.{CutsGames, CutsSums, TellsGames, TellsSums, Terms, no_sums}
+use Rattle.pgn_teller.specs.Tellings.{CutsPgn, CutsSums, TellsPgn, TellsSums, Terms, no_sums}
 use Rattle.system_io.specs.declared.output.WriteFault.{WriteFault}
 use Rattle.system_io.specs.declared.reading.ReadFault.{ReadFault}
 use Rattle.system_io.specs.declared.reading.ReadFault.TheVariants as read
@@ -59,27 +59,27 @@ abbrev pub terms_by : JudgePgn → Tables → Terms
 terms_by t tables = record { tables = tables; delay = t.delay; form = form_by t.json; only_differing = t.differ }
 
 -- why a file isn't read
-abbrev pub unread : ReadFault → List ℕ
-unread read.Unreadable = refused_files
-unread read.OutOfMemory = refused_memory
+abbrev pub unread_words : ReadFault → List ℕ
+unread_words read.Unreadable = refused_files
+unread_words read.OutOfMemory = refused_memory
 
 -- Of bytes, where they are known, the games were told and then the sums; or the games until no more could be read or told; or the writer failed
 -- at a game, or at the sums.
-pub data PutsGames (terms : Terms) (s : Sums) (bytes old new : Option (List ℕ)) (r : Result ℕ WriteFault) : Type 0 where
-  PutsAll : (now : Sums) (mid : Option (List ℕ)) (well : Bool) → IfSome bytes (λ known. TellsGames terms s (tokens_of known) now old mid Whole) → TellsSums terms.form now mid new well → r ≡ Ok (status_if well) → PutsGames terms s bytes old new r
-  PutsSome : (now : Sums) → IfSome bytes (λ known. TellsGames terms s (tokens_of known) now old new CutShort) → r ≡ Ok 1 → PutsGames terms s bytes old new r
-  FailsAtGame : (fault : WriteFault) → IfSome bytes (λ known. CutsGames terms s (tokens_of known) old new) → r ≡ Err fault → PutsGames terms s bytes old new r
-  FailsAtSums : (now : Sums) (mid : Option (List ℕ)) (fault : WriteFault) → IfSome bytes (λ known. TellsGames terms s (tokens_of known) now old mid Whole) → CutsSums terms.form now mid new → r ≡ Err fault → PutsGames terms s bytes old new r
+pub data PutsPgn (terms : Terms) (s : Sums) (bytes old new : Option (List ℕ)) (r : Result ℕ WriteFault) : Type 0 where
+  PutsAll : (now : Sums) (mid : Option (List ℕ)) (well : Bool) → IfSome bytes (λ known. TellsPgn terms s (tokens_of known) now old mid Whole) → TellsSums terms.form now mid new well → r ≡ Ok (status_if well) → PutsPgn terms s bytes old new r
+  PutsSome : (now : Sums) → IfSome bytes (λ known. TellsPgn terms s (tokens_of known) now old new CutShort) → r ≡ Ok 1 → PutsPgn terms s bytes old new r
+  FailsAtGame : (fault : WriteFault) → IfSome bytes (λ known. CutsPgn terms s (tokens_of known) old new) → r ≡ Err fault → PutsPgn terms s bytes old new r
+  FailsAtSums : (now : Sums) (mid : Option (List ℕ)) (fault : WriteFault) → IfSome bytes (λ known. TellsPgn terms s (tokens_of known) now old mid Whole) → CutsSums terms.form now mid new → r ≡ Err fault → PutsPgn terms s bytes old new r
 
 -- so it is of the bytes of a file; or it can't be read; or memory for reading it was refused, or no descriptor was left
 pub data PutsFile (terms : Terms) (s : Sums) (disk : DiskFacts) (path : List ℕ) (old new : Option (List ℕ)) (r : Result ℕ WriteFault) : Type 0 where
-  OfFile : (bytes : Option (List ℕ)) → IfSome bytes (disk.holds path) → PutsGames terms s bytes old new r → PutsFile terms s disk path old new r
+  OfFile : (bytes : Option (List ℕ)) → IfSome bytes (disk.holds path) → PutsPgn terms s bytes old new r → PutsFile terms s disk path old new r
   OfNone : disk.fails (AtFile path) → TellsOne refused_files old new r → PutsFile terms s disk path old new r
   NoRoomForFile : TellsOne refused_memory old new r → PutsFile terms s disk path old new r
 
 -- so it is of the bytes of the input; or memory for reading it was refused
 pub data PutsInput (terms : Terms) (s : Sums) (source : InputFacts) (old new : Option (List ℕ)) (r : Result ℕ WriteFault) : Type 0 where
-  OfInput : (bytes : Option (List ℕ)) → IfSome bytes source.gives → PutsGames terms s bytes old new r → PutsInput terms s source old new r
+  OfInput : (bytes : Option (List ℕ)) → IfSome bytes source.gives → PutsPgn terms s bytes old new r → PutsInput terms s source old new r
   NoRoomForInput : source.takes_memory → TellsOne refused_memory old new r → PutsInput terms s source old new r
 
 -- the games of the file that is named, or else of the input

@@ -7,7 +7,7 @@ ghost use Rattle.fen_text.specs.Fen.{SpellsPosition};
 ghost use Rattle.line_teller.specs.ToldLines.{HasFailed};
 ghost use Rattle.move_msg.specs.GameTexts.{TellsMoves};
 ghost use Rattle.task_files.specs.Sources.{named_by};
-ghost use Rattle.adjudicate_core.specs.Commands.Games.{HasStart, HasValues, TellsGame, faults, moves_behind, moves_in, named, start_before, start_in, tab_in};
+ghost use Rattle.adjudicate_core.specs.Commands.Games.{HasStartFen, HasValues, TellsGameLine, faults, moves_behind, moves_in, named, start_before, start_in, tab_in};
 ghost use Rattle.adjudicate_core.specs.LineAnswers.{PutsLinesOrNone};
 ghost use Rattle.adjudicate_core.specs.Lines.{words_of};
 ghost use Rattle.adjudicate_core.specs.Misuses.{IsFirstMisuse, fault_words};
@@ -115,7 +115,7 @@ impl<'a> GameJudge<'a> {
         requires spelled { SpellsPosition (start_in line.now) start.now }
         requires position { IsPosition start.now }
         requires moves { TellsMoves (moves_in line.now) moves.now }
-        ensures told { IfOk result (λ told. TellsGame self.old.delay self.old.set.tables line.now (record { words = words_of told.0; done = told.1 })) }
+        ensures told { IfOk result (λ told. TellsGameLine self.old.delay self.old.set.tables line.now (record { words = words_of told.0; done = told.1 })) }
         ensures set { self.new.set ≡ self.old.set }
         ensures delay { self.new.delay ≡ self.old.delay }
     {
@@ -133,7 +133,7 @@ impl<'a> GameJudge<'a> {
     fn answer_from(&mut self, line: &[u8], start: &Position) -> Result<(Line, bool), AllocError>
         requires spelled { SpellsPosition (start_in line.now) start.now }
         requires position { IsPosition start.now }
-        ensures told { IfOk result (λ told. TellsGame self.old.delay self.old.set.tables line.now (record { words = words_of told.0; done = told.1 })) }
+        ensures told { IfOk result (λ told. TellsGameLine self.old.delay self.old.set.tables line.now (record { words = words_of told.0; done = told.1 })) }
         ensures set { self.new.set ≡ self.old.set }
         ensures delay { self.new.delay ≡ self.old.delay }
     {
@@ -145,10 +145,10 @@ impl<'a> GameJudge<'a> {
 
     /// The answer to a line, and whether it is complete.
     fn answer(&mut self, line: &[u8]) -> Result<(Line, bool), AllocError>
-        ensures told { IfOk result (λ told. TellsGame self.old.delay self.old.set.tables line.now (record { words = words_of told.0; done = told.1 })) }
+        ensures told { IfOk result (λ told. TellsGameLine self.old.delay self.old.set.tables line.now (record { words = words_of told.0; done = told.1 })) }
         ensures set { self.new.set ≡ self.old.set }
         ensures delay { self.new.delay ≡ self.old.delay }
-        ensures memory { OnErr result (HasStart line.now) }
+        ensures memory { OnErr result (HasStartFen line.now) }
     {
         match read(start_in(line)) {
             Ok(start) => self.answer_from(line, &start),
@@ -158,11 +158,11 @@ impl<'a> GameJudge<'a> {
 }
 
 impl<'a> LineHandler for GameJudge<'a> {
-    ghost use Rattle.adjudicate_core.specs.Commands.Games.{HasStart, TellsGame};
+    ghost use Rattle.adjudicate_core.specs.Commands.Games.{HasStartFen, TellsGameLine};
 
-    ghost tells = { λ j. TellsGame j.delay j.set.tables };
+    ghost tells = { λ j. TellsGameLine j.delay j.set.tables };
 
-    ghost takes_memory = { HasStart };
+    ghost takes_memory = { HasStartFen };
 
     fn tell<W: Output>(&mut self, line: &[u8], out: &mut W) -> Result<bool, TellFault> {
         match self.answer(line) {
@@ -218,7 +218,7 @@ impl<'a> FollowGames<'a> {
         out: &mut W,
         errors: &mut E,
     ) -> Result<u8, WriteFault>
-        ensures written { PutsByTables (TellsGame self.now.delay) HasStart (I.facts input.now) sources.now (W.contents out.old) (W.contents out.new) result }
+        ensures written { PutsByTables (TellsGameLine self.now.delay) HasStartFen (I.facts input.now) sources.now (W.contents out.old) (W.contents out.new) result }
         ensures quiet { self.now.progress ≡ false → errors.new ≡ errors.old }
         ensures cause { OnErr result (HasFailed W.facts) }
     {

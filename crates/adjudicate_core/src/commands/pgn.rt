@@ -5,7 +5,7 @@ ghost use Rattle.clap.specs.Words.{first_value, found_of};
 ghost use Rattle.line_teller.specs.ToldLines.{HasFailed};
 ghost use Rattle.pgn_teller.specs.Tellings.{no_sums, terms_of};
 ghost use Rattle.task_files.specs.Sources.{named_by};
-ghost use Rattle.adjudicate_core.specs.Commands.Pgn.{HasValues, Puts, PutsFile, PutsGames, PutsInput, PutsOf, faults, form_by, named, terms_by, unread};
+ghost use Rattle.adjudicate_core.specs.Commands.Pgn.{HasValues, Puts, PutsFile, PutsPgn, PutsInput, PutsOf, faults, form_by, named, terms_by, unread_words};
 ghost use Rattle.adjudicate_core.specs.Lines.{refusal_words};
 ghost use Rattle.adjudicate_core.specs.Misuses.{IsFirstMisuse, fault_words};
 
@@ -89,7 +89,7 @@ fn tell_games<L: LineReader + Drop, W: Output>(
     lines: L,
     out: &mut W,
 ) -> Result<u8, WriteFault>
-    ensures told { PutsGames (terms_of teller.old) teller.old.sums (L.LineReader.facts lines).left (W.contents out.old) (W.contents out.new) result }
+    ensures told { PutsPgn (terms_of teller.old) teller.old.sums (L.LineReader.facts lines).left (W.contents out.old) (W.contents out.new) result }
     ensures cause { OnErr result (HasFailed W.facts) }
 {
     let mut reader = PgnReader::new(alloc, lines);
@@ -105,7 +105,7 @@ fn tell_games<L: LineReader + Drop, W: Output>(
 
 /// Why a file isn't read.
 fn unread(fault: ReadFault) -> Refusal
-    ensures { refusal_words result ≡ unread fault }
+    ensures { refusal_words result ≡ unread_words fault }
 {
     match fault {
         ReadFault::Unreadable => Refusal::Files,

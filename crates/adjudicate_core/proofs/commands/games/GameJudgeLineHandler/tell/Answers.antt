@@ -1,5 +1,5 @@
 use Rattle.std.proofs.Common.{subst}
-use Rattle.adjudicate_core.specs.Commands.Games.{TellsGame}
+use Rattle.adjudicate_core.specs.Commands.Games.{TellsGameLine}
 use Rattle.adjudicate_core.proofs.commands.games.GameJudgeLineHandler.tell.Goals as goal
 
 pub returns-in-Err-put_line-clause-front : goal.returns-in-Err-put_line-clause-front
