@@ -1,6 +1,6 @@
 //! Files that are read line by line.
 
-ghost use Rattle.std.specs.Prelude.{IfOk, IfSome, IsErrOf};
+ghost use Rattle.std.specs.Prelude.{◌≡◌, true, IfOk, IfSome, IsErrOf, IsSome};
 ghost use Rattle.system_io.specs.Disks.{AtFile};
 
 use crate::bounded_lines::BoundedLines;
@@ -19,9 +19,10 @@ pub trait LineDisk: Disk {
     type Lines: LineReader + Drop;
 
     /// The lines of a regular file, none of them read yet. What is no regular file isn't waited for: it can't be read. A link is
-    /// followed. `OutOfMemory` where memory for the read-ahead buffer is refused, or no descriptor is left.
+    /// followed. A disk whose contents are stated tells all bytes of the lines. `OutOfMemory` where memory for the read-ahead buffer is refused, or no descriptor is left.
     fn lines(&self, alloc: Global, path: &str) -> Result<Self::Lines, ReadFault>
         ensures held { IfOk result (λ lines. IfSome (Self.Lines.facts lines).left ((Self.facts self.now).holds path.now)) }
+        ensures known { IfOk result (λ lines. (Self.facts self.now).is_told ≡ true → IsSome (Self.Lines.facts lines).left) }
         ensures broken { IfOk result (λ lines. (Self.Lines.facts lines).fails → (Self.facts self.now).fails (AtFile path.now)) }
         ensures cause { IsErrOf result ReadFault.Unreadable → (Self.facts self.now).fails (AtFile path.now) };
 }
