@@ -15,8 +15,6 @@ mod tags;
 mod telling;
 mod usual;
 
-
-
 pub use fault::{Cause, GameFault};
 pub use game::{Game, GameResult, Reading};
 pub use reader::PgnReader;
