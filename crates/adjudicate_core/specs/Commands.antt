@@ -6,6 +6,7 @@ pub mod Check
 pub mod Enter
 pub mod Follow
 pub mod Game
+pub mod Games
 pub mod Host
 pub mod Judge
 pub mod List

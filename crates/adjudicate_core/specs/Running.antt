@@ -36,6 +36,7 @@ use Rattle.adjudicate_core.specs.Commands.Check as checks
 use Rattle.adjudicate_core.specs.Commands.Show as shows
 use Rattle.adjudicate_core.specs.Commands.Run as runs
 use Rattle.adjudicate_core.specs.Commands.Game as games
+use Rattle.adjudicate_core.specs.Commands.Games as of_games
 use Rattle.adjudicate_core.specs.Commands.Record as records
 use Rattle.adjudicate_core.specs.Commands.Audit as audits
 use Rattle.adjudicate_core.specs.Commands.AuditGames as game_audits
@@ -76,8 +77,9 @@ AnswersFrom m Told (task.Check t) given old new r = AnswersRead (checks.IsReply 
 AnswersFrom m Told (task.Show t) given old new r = shows.Answers given old new r
 AnswersFrom m Told (task.Run t) given old new r = AnswersOnce (runs.IsReply t given) (Unit {0}) old new r
 AnswersFrom m Told (task.Listen t) given old new r = Listens m.outside.host (serving_seen_as m.outside.host.file r) t given m.outside.had m.outside.has old new r
-AnswersFrom m Told (task.Probes t) given old new r = PutsByTables (of_probes.TellsLineIn t.json (ask_of t.determined)) m.outside.source given old new r
+AnswersFrom m Told (task.Probes t) given old new r = PutsByTables (of_probes.TellsLineIn t.json (ask_of t.determined)) IsText m.outside.source given old new r
 AnswersFrom m Told (task.Game t) given old new r = AnswersOnce (games.IsReply t given) (IsText t.fen.now) old new r
+AnswersFrom m Told (task.Games t) given old new r = PutsByTables (of_games.TellsGame t.delay) of_games.HasStart m.outside.source given old new r
 AnswersFrom m Told (task.Record t) given old new r = AnswersOnce (records.IsReply given.kept) (records.RecordTakesMemory given.kept) old new r
 AnswersFrom m Told (task.GameRecord t) given old new r = game_records.Puts m.outside.disk m.stores t old new r
 AnswersFrom m Told (task.Audit t) given old new r = AnswersOnce (audits.IsReply t given) (IsText t.start.now) old new r

@@ -7,11 +7,11 @@ use Rattle.task_files.specs.Given.{Given}
 use Rattle.line_teller.specs.ToldLines.{LineTold, refused_memory}
 use Rattle.adjudicate_core.specs.LineAnswers.{PutsLinesOrNone}
 use Rattle.adjudicate_core.specs.Looks.{gathered}
-use Rattle.adjudicate_core.specs.Reply.{IsText}
 use Rattle.adjudicate_core.specs.Telling.{TellsOne}
 
--- the tables are refused; or the lines of the input were told, or memory was refused for reading them; or it was for the tables
-pub data PutsByTables (Tells : Tables → List ℕ → LineTold → Type 0) (source : InputFacts) (given : Given) (old new : Option (List ℕ)) (r : Result ℕ WriteFault) : Type 0 where
-  PutsRefusal : (words : List ℕ) → gathered given ≡ Err words → TellsOne words old new r → PutsByTables Tells source given old new r
-  PutsLinesOf : (tables : Tables) → gathered given ≡ Ok tables → PutsLinesOrNone (Tells tables) IsText source old new r → PutsByTables Tells source given old new r
-  PutsNoLine : TellsOne refused_memory old new r → PutsByTables Tells source given old new r
+-- the tables are refused; or the lines of the input were told, some of which take memory, or memory was refused for reading them; or it was
+-- for the tables
+pub data PutsByTables (Tells : Tables → List ℕ → LineTold → Type 0) (Takes : List ℕ → Type 0) (source : InputFacts) (given : Given) (old new : Option (List ℕ)) (r : Result ℕ WriteFault) : Type 0 where
+  PutsRefusal : (words : List ℕ) → gathered given ≡ Err words → TellsOne words old new r → PutsByTables Tells Takes source given old new r
+  PutsLinesOf : (tables : Tables) → gathered given ≡ Ok tables → PutsLinesOrNone (Tells tables) Takes source old new r → PutsByTables Tells Takes source given old new r
+  PutsNoLine : TellsOne refused_memory old new r → PutsByTables Tells Takes source given old new r

@@ -17,11 +17,13 @@ mod enter;
 mod follow;
 mod game;
 mod game_record;
+mod games;
 mod host;
 mod judge;
 mod list;
 mod listen;
 mod moves;
+mod pgn;
 mod probe;
 mod probes;
 mod record;
@@ -41,11 +43,13 @@ pub use enter::{Enter, Entries, OneGame};
 pub use follow::Follow;
 pub use game::FollowGame;
 pub use game_record::GameRecord;
+pub use games::FollowGames;
 pub use host::HostGames;
 pub use judge::Judge;
 pub use list::List;
 pub use listen::Listen;
 pub use moves::Moves;
+pub use pgn::JudgePgn;
 pub use probe::Probe;
 pub use probes::Probes;
 pub use record::ShowRecord;
@@ -81,6 +85,10 @@ pub enum Task<'a> {
     Probes(Probes<'a>),
     /// The outcome of the game of the input.
     Game(FollowGame<'a>),
+    /// The outcomes of the games of the input.
+    Games(FollowGames<'a>),
+    /// What tables say of the games of a PGN file.
+    Pgn(JudgePgn<'a>),
     /// The contents of a kept record.
     Record(ShowRecord<'a>),
     /// The record of a game in a folder.
@@ -128,6 +136,10 @@ pub enum Name {
     Probes,
     /// Judges a game.
     Game,
+    /// Judges many games.
+    Games,
+    /// Judges the games of a PGN file.
+    Pgn,
     /// Shows a kept record.
     Record,
     /// Audits kept files.
@@ -183,6 +195,8 @@ impl Name {
             "listen" => Some(Name::Listen),
             "probes" => Some(Name::Probes),
             "game" => Some(Name::Game),
+            "games" => Some(Name::Games),
+            "pgn" => Some(Name::Pgn),
             "record" => Some(Name::Record),
             "audit" => Some(Name::Audit),
             "version" => Some(Name::Version),
@@ -211,6 +225,8 @@ impl Name {
             Name::Listen => "listen",
             Name::Probes => "probes",
             Name::Game => "game",
+            Name::Games => "games",
+            Name::Pgn => "pgn",
             Name::Record => "record",
             Name::Audit => "audit",
             Name::Version => "version",
@@ -238,6 +254,8 @@ impl Name {
             Name::Listen => &listen::VALUES,
             Name::Probes => &probes::VALUES,
             Name::Game => &game::VALUES,
+            Name::Games => &games::VALUES,
+            Name::Pgn => &pgn::VALUES,
             Name::Record => &record::VALUES,
             Name::Audit => &audit::VALUES,
             Name::Version => &[],
@@ -389,6 +407,14 @@ fn task_of<'a>(name: Name, matches: &ArgMatches<'a>) -> Result<Task<'a>, ValueFa
             Ok(task) => Ok(Task::Game(task)),
             Err(fault) => Err(fault),
         },
+        Name::Games => match FollowGames::of(matches) {
+            Ok(task) => Ok(Task::Games(task)),
+            Err(fault) => Err(fault),
+        },
+        Name::Pgn => match JudgePgn::of(matches) {
+            Ok(task) => Ok(Task::Pgn(task)),
+            Err(fault) => Err(fault),
+        },
         Name::Record => record_of(matches),
         Name::Audit => audit_of(matches),
         Name::Version => Ok(Task::Version(Version)),
@@ -432,6 +458,8 @@ impl<'a> Task<'a> {
             Task::Listen(task) => task.places(),
             Task::Probes(task) => task.places(),
             Task::Game(task) => task.places(),
+            Task::Games(task) => task.places(),
+            Task::Pgn(task) => task.places(),
             Task::Record(task) => task.places(),
             Task::GameRecord(task) => task.places(),
             Task::Audit(task) => task.places(),

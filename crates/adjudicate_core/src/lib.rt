@@ -83,9 +83,10 @@ mod tables;
 mod words;
 
 pub use commands::{
-    Audit, AuditGames, Check, Enter, Entries, Follow, FollowGame, Form, GameFile, GameRecord,
-    HostGames, Judge, List, Listen, Moves, Name, OneGame, Probe, Probes, Root, RunSchedule, Send,
-    SentGame, Show, ShowRecord, ShowStatus, Task, ToldGame, Value, Version, parse,
+    Audit, AuditGames, Check, Enter, Entries, Follow, FollowGame, FollowGames, Form, GameFile,
+    GameRecord, HostGames, Judge, JudgePgn, List, Listen, Moves, Name, OneGame, Probe, Probes, Root,
+    RunSchedule, Send, SentGame, Show, ShowRecord, ShowStatus, Task, ToldGame, Value, Version,
+    parse,
 };
 pub use program::{refuse_memory, run, run_program};
 pub use system::System;

@@ -3,3 +3,4 @@ pub mod Coding
 pub mod Search
 pub mod EmptyBoard
 pub mod Census
+pub mod Material

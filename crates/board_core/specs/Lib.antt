@@ -8,6 +8,7 @@ pub mod Sides
 pub mod Sets
 pub mod Computed
 pub mod ComputedMoves
+pub mod Ends
 pub mod Laws
 pub mod Verdicts
 pub mod Delays

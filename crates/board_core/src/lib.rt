@@ -1,16 +1,18 @@
 //! Chess positions and their legal moves.
 //!
 //! The parts of a position, or sets of squares by side and kind, go in; a position comes out, or the first of seven faults. It
-//! gives its legal moves, its captures, check, and the position after a move. The rules are those of the FIDE Laws of Chess,
-//! article 3, with castling, en passant and promotion; `specs/` states them as relations over a map from squares to men. Squares
-//! are numbered a1 = 0, b1 = 1, .. h1 = 7, a2 = 8, .. h8 = 63. `Verdict` and `Delay` stand here, below rulings and messages.
+//! gives its legal moves, its captures, check, checkmate, stalemate, and the position after a move. The rules are those of the FIDE
+//! Laws of Chess, article 3, with castling, en passant and promotion, and 5.1.1, 5.2.1 and 5.2.2 for the ends of a game; `specs/`
+//! states them as relations over a map from squares to men. Squares are numbered a1 = 0, b1 = 1, .. h1 = 7, a2 = 8, .. h8 = 63.
+//! `Verdict` and `Delay` stand here, below rulings and messages.
 //!
 //! Inside: values (`square`, `piece`, `moves`, `parts`, `verdict`, `delay`); what stands where (`position`, `men`, `bitboard`, `sides`,
 //! `sets`, `census`, `empty_board`); what attacks, and how a move is made (`attack`, `king`, `castling`, `rules`, `playing`); which
-//! moves there are (`targets`, `generation` with a guard of the king, `mobility`, `capturing`); `laws`.
+//! moves there are (`targets`, `generation` with a guard of the king, `mobility`, `capturing`); how a game ends (`ends`, `material`);
+//! `laws`.
 //!
 //! Definitions, in reading order: `Square`, `Side`, `Attack`, `Castling`, `Moves` (`Legal`), `Position` (`IsPosition`, `IsFirstFault`),
-//! `Sides`, `Sets`; the same computed, for the crates above: `Computed`, `ComputedMoves`, with `Laws`; `Verdicts`, `Delays`.
+//! `Sides`, `Sets`; the same computed, for the crates above: `Computed`, `ComputedMoves`, with `Laws`; `Ends`; `Verdicts`, `Delays`.
 //! `proofs/WorkedRows.antt` computes some. Tests: `board_tests` of `checks`; cases: `rules.txt` and `positions.txt` of `rows`, with
 //! whole lists of moves and the published counts.
 //!
@@ -30,6 +32,8 @@
 //!   it.
 //! - CLAIM: `Position::has_legal_move`, clause `relation`; `Position::has_move_besides_en_passant`, clause `relation`: whether
 //!   some move is legal, and whether one besides en passant is.
+//! - CLAIM: `Position::is_checkmate`, clauses `relation`, `computed`; `Position::is_stalemate`, clauses `relation`, `computed`;
+//!   `Position::has_insufficient_material`: no move is legal, with check and without; and no mate can come by the kinds of the men.
 //! - CLAIM: `Bitboard::with`, clauses `here`, `kept`, `others`; `Bitboard::without`, clauses `gone`, `kept`, `only`;
 //!   `Position::parts`, clauses `value`, `position`; `Position::piece_at`; `Position::men`, clauses `by_side`, `computed`;
 //!   `Position::occupied`: sets of squares hold what was put in; readers give the parts, how many men there are, and where.
@@ -53,9 +57,11 @@ mod castling;
 mod census;
 mod delay;
 mod empty_board;
+mod ends;
 mod generation;
 mod king;
 pub mod laws;
+mod material;
 mod men;
 mod mobility;
 mod moves;

@@ -1,5 +1,5 @@
 -- Words and moves of a text.
-use Rattle.std.proofs.Common.{◌≡◌, ℕ, true, false, List, [], ◌∷◌, ◌++◌, length, filter, refl, sym, ap, ◌∙◌, subst, append_assoc}
+use Rattle.std.proofs.Common.{arith, ◌≡◌, ℕ, true, false, List, [], ◌∷◌, ◌++◌, length, filter, refl, sym, ap, ◌∙◌, subst, append_assoc}
 use Rattle.std.specs.Prelude.{Result, Ok, Err, OnErr}
 use Rattle.std.specs.List.{slice_split}
 use Rattle.board_core.specs.declared.moves.Move.{Move as Moves}
@@ -72,3 +72,29 @@ has_move text rest word ws old r cut h =
 pub anyhow : {A E X : Type 0} (r : Result A E) → X → OnErr r X
 anyhow (Ok a) x = tt
 anyhow (Err e) x = x
+
+-- an empty piece is no word
+pub word_passed : (text word tail : List ℕ) → slice_split is_gap text ≡ word ∷ slice_split is_gap tail → length word ≡ 0 → words_in text ≡ words_in tail
+unfolding words_in
+word_passed text [] tail cut none = ap (filter has_bytes) cut
+word_passed text (b ∷ bs) tail cut none = absurd (omega arith)
+
+abbrev pub IsNext : List ℕ → List ℕ → List ℕ → Type 0
+IsNext text word tail = words_in text ≡ word ∷ words_in tail
+
+-- a piece with bytes is the next word
+pub word_next : (text word tail : List ℕ) → slice_split is_gap text ≡ word ∷ slice_split is_gap tail → (word ≡ [] → ⊥) → IsNext text word tail
+unfolding words_in
+word_next text [] tail cut some = absurd (some refl)
+word_next text (b ∷ bs) tail cut some = ap (filter has_bytes) cut
+
+-- where a text has no gap it is one word, or none
+pub word_last : (text : List ℕ) → slice_split is_gap text ≡ text ∷ [] → (text ≡ [] → ⊥) → IsNext text text []
+unfolding words_in
+word_last [] cut some = absurd (some refl)
+word_last (b ∷ bs) cut some = ap (filter has_bytes) cut
+
+pub no_word : (text : List ℕ) → length text ≡ 0 → words_in text ≡ []
+unfolding words_in
+no_word [] none = refl
+no_word (b ∷ bs) none = absurd (omega arith)

@@ -1,6 +1,6 @@
 //! The moves that a text lists.
 
-ghost use Rattle.std.specs.Prelude.{◌≡◌, ◌∷◌, [], true, position, IfOk, IfErr, IfSome, IfNone, OnErr};
+ghost use Rattle.std.specs.Prelude.{◌≡◌, ◌<◌, ◌+◌, ◌∷◌, [], length, true, position, IfOk, IfErr, IfSome, IfNone, OnErr};
 ghost use Rattle.std.specs.List.{slice_split};
 ghost use Rattle.board_core.specs.declared.moves.Move.{Move as Moves};
 ghost use Rattle.fen_text.specs.Coordinates.{SpellsMove};
@@ -22,11 +22,33 @@ fn gap_in(text: &[u8]) -> Option<usize>
 /// What stands before the first gap, and the text after it; none where there is no gap.
 fn cut_first(text: &[u8]) -> Option<(&[u8], &[u8])>
     ensures some { IfSome result (λ x. slice_split is_gap text.now ≡ x.0.now ∷ slice_split is_gap x.1.now) }
+    ensures shorter { IfSome result (λ x. length x.0.now + length x.1.now < length text.now) }
     ensures none { IfNone result (slice_split is_gap text.now ≡ text.now ∷ []) }
 {
     match gap_in(text) {
         None => None,
         Some(i) => Some((&text[..i], &text[i + 1..])),
+    }
+}
+
+/// The first word of a text, and the text behind it; none where it has no word. Any number of spaces, line feeds and carriage returns
+/// separate words. It takes no memory.
+pub fn next_word(text: &[u8]) -> Option<(&[u8], &[u8])>
+    ensures some { IfSome result (λ x. words_in text.now ≡ x.0.now ∷ words_in x.1.now) }
+    ensures shorter { IfSome result (λ x. length x.1.now < length text.now) }
+    ensures none { IfNone result (words_in text.now ≡ []) }
+{
+    let Some((word, rest)) = cut_first(text) else {
+        return if text.is_empty() {
+            None
+        } else {
+            Some((text, &[]))
+        };
+    };
+    if word.is_empty() {
+        next_word(rest)
+    } else {
+        Some((word, rest))
     }
 }
 

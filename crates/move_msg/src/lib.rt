@@ -65,7 +65,7 @@ pub use count::{Count, FetchCount, MOST_MOVES};
 pub use feeder::Feeder;
 pub use files::{NamedFile, file_digest};
 pub use game_name::{GameName, is_game_name};
-pub use game_text::read_moves;
+pub use game_text::{next_word, read_moves};
 pub use manifest::{Line, ManifestFault, manifest_of, manifest_read, manifest_write};
 pub use message::{Message, MessageFault};
 pub use move_list::MoveList;

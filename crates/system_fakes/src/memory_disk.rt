@@ -4,9 +4,10 @@ ghost use Rattle.std.specs.Prelude.{◌↔◌, IfNone, IfSome, IsTrue};
 ghost use Rattle.system_io.specs.Disks.{AtFile};
 ghost use Rattle.system_fakes.specs.MemoryDisks.{HasMode, HasRegular, IsFoundAt, IsIrregularAt, IsNowhere, IsRegular, disk_of};
 
+use crate::memory_input::MemoryLines;
 use crate::texts::owned;
 use std::alloc::Global;
-use system_io::{Disk, FileWithMode, MOST_BYTES, ReadFault};
+use system_io::{Disk, FileWithMode, LineDisk, MOST_BYTES, ReadFault};
 
 /// What stands at a path: the bytes of a file, or the names in a folder.
 #[derive(Clone, Copy)]
@@ -159,6 +160,17 @@ impl<'a> Disk for MemoryDisk<'a> {
         match self.read_within(alloc, path, most) {
             Ok(bytes) => Ok(FileWithMode { bytes, mode }),
             Err(fault) => Err(fault),
+        }
+    }
+}
+
+impl<'a> LineDisk for MemoryDisk<'a> {
+    type Lines = MemoryLines<'a>;
+
+    fn lines(&self, _alloc: Global, path: &str) -> Result<MemoryLines<'a>, ReadFault> {
+        match self.file_at(path) {
+            Some(bytes) => Ok(MemoryLines::of(bytes)),
+            None => Err(ReadFault::Unreadable),
         }
     }
 }

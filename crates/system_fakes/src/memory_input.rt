@@ -1,6 +1,6 @@
 //! An input in memory, which may fail at its end.
 
-ghost use Rattle.std.specs.Prelude.{◌↔◌, IsTrue};
+ghost use Rattle.std.specs.Prelude.{◌≡◌, ◌↔◌, IsTrue, false};
 ghost use Rattle.system_fakes.specs.MemoryInputs.{HasNoEnd};
 
 use std::alloc::{AllocError, Global};
@@ -28,6 +28,19 @@ impl<'a> MemoryInput<'a> {
 pub struct MemoryLines<'a> {
     left: &'a [u8],
     fails: bool,
+}
+
+impl<'a> MemoryLines<'a> {
+    /// The lines of bytes that end.
+    pub(crate) fn of(bytes: &'a [u8]) -> MemoryLines<'a>
+        ensures bytes { result.left.now ≡ bytes.now }
+        ensures whole { result.fails ≡ false }
+    {
+        MemoryLines {
+            left: bytes,
+            fails: false,
+        }
+    }
 }
 
 impl<'a> LineReader for MemoryLines<'a> {

@@ -33,8 +33,13 @@ where
         SystemDisk { rt, notes }
     }
 
+    /// The system.
+    pub(crate) fn rt(&self) -> &'a R {
+        self.rt
+    }
+
     /// Tells why what stands at a path is refused.
-    fn refused(&self, path: &str, error: io::Error) -> ReadFault {
+    pub(crate) fn refused(&self, path: &str, error: io::Error) -> ReadFault {
         tell_refused(self.notes, path, &error);
         unopened(error)
     }

@@ -1,5 +1,5 @@
 -- `game [--tables DIR] [--manifest FILE] [--delay N] FEN`: what the game of the input comes to (this project's own).
-use Rattle.std.specs.Prelude.{◌≡◌, ℕ, true, List, [], ◌∷◌, length, Option, Some, None, Result, Ok, Err, codes, option_map}
+use Rattle.std.specs.Prelude.{◌≡◌, ℕ, Bool, true, false, List, [], ◌∷◌, length, Option, Some, None, Result, Ok, Err, codes, option_map}
 use Rattle.board_core.specs.declared.parts.Parts.{Parts}
 use Rattle.board_core.specs.declared.moves.Move.{Move}
 use Rattle.move_msg.specs.GameTexts.{IsBadWordAt, TellsMoves, words_in}
@@ -19,7 +19,7 @@ use Rattle.task_files.specs.Given.{Given}
 use Rattle.adjudicate_core.specs.Lines.{refused_move}
 use Rattle.adjudicate_core.specs.Looks.{gathered}
 use Rattle.adjudicate_core.specs.Numbers.{IsDelay}
-use Rattle.adjudicate_core.specs.Reply.{IsForText, Reply, refusal_reply}
+use Rattle.adjudicate_core.specs.Reply.{IsForText, Reply, refusal_reply, status_if}
 use Rattle.adjudicate_core.specs.declared.commands.game.FollowGame.{FollowGame}
 
 abbrev pub rules : List Rule
@@ -41,14 +41,14 @@ faults = Unfit wanted.Delay ∷ NoWord (codes "FEN") ∷ []
 abbrev pub named : FollowGame → Named
 named t = record { folder = option_map (λ s. s.now) t.tables; manifest = option_map (λ s. s.now) t.manifest; input = true; kept = None; other_kept = None }
 
--- 0 where all moves are legal, 1 where one isn't
-abbrev pub outcome_status : GameOutcome → ℕ
-outcome_status (Ruled ply verdict) = 0
-outcome_status (Illegal place) = 1
-outcome_status Going = 0
+-- all moves of the game are legal, or those to its verdict
+abbrev pub are_all_legal : GameOutcome → Bool
+are_all_legal (Ruled ply verdict) = true
+are_all_legal (Illegal place) = false
+are_all_legal Going = true
 
 abbrev pub outcome_reply : GameOutcome → List Move → Reply
-outcome_reply outcome moves = record { text = ended (outcome_words outcome (length moves)); status = outcome_status outcome }
+outcome_reply outcome moves = record { text = ended (outcome_words outcome (length moves)); status = status_if (are_all_legal outcome) }
 
 -- the refusal of the first word that is no move; or else that of the tables; or else what the game comes to
 pub data IsPlayedReply (text : List ℕ) (found : Result Tables (List ℕ)) (delay : ℕ) (start : Parts) (r : Reply) : Type 0 where

@@ -82,4 +82,4 @@ TellsLineIn false ask = TellsLine ask
 -- what is told of the position of the words, or of those of the input
 abbrev pub Puts : Bool → Ask → InputFacts → Option (Bor (List ℕ)) → Given → Option (List ℕ) → Option (List ℕ) → Result ℕ WriteFault → Type 0
 Puts json ask source (Some fen) given old new r = AnswersOnce (IsForTextIn json fen.now (ByTables (gathered given) (IsToldIn json ask))) (IsText fen.now) old new r
-Puts json ask source None given old new r = PutsByTables (TellsLineIn json ask) source given old new r
+Puts json ask source None given old new r = PutsByTables (TellsLineIn json ask) IsText source given old new r

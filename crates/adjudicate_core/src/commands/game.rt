@@ -5,8 +5,8 @@ ghost use Rattle.clap.specs.Words.{first_value, found_of};
 ghost use Rattle.move_msg.specs.GameTexts.{TellsMoves};
 ghost use Rattle.adjudicate_core.specs.Inside.Asked.{reply_of};
 ghost use Rattle.adjudicate_core.specs.Looks.{gathered};
-ghost use Rattle.adjudicate_core.specs.Reply.{IsText, status_if};
-ghost use Rattle.adjudicate_core.specs.Commands.Game.{HasValues, IsPlayedReply, IsReply, faults, named, outcome_status};
+ghost use Rattle.adjudicate_core.specs.Reply.{IsText};
+ghost use Rattle.adjudicate_core.specs.Commands.Game.{HasValues, IsPlayedReply, IsReply, are_all_legal, faults, named};
 ghost use Rattle.adjudicate_core.specs.Misuses.{IsFirstMisuse, fault_words};
 ghost use Rattle.task_files.specs.Sources.{named_by};
 
@@ -79,12 +79,12 @@ fn answer_moves(
         outcome,
         plies: moves.len(),
     });
-    Ok(Answer::One(line, is_legal(outcome)))
+    Ok(Answer::One(line, are_all_legal(outcome)))
 }
 
-/// Whether all moves of a game are legal.
-fn is_legal(outcome: GameOutcome) -> bool
-    ensures { status_if result ≡ outcome_status outcome }
+/// Whether all moves of a game are legal, or those to its verdict.
+pub(crate) fn are_all_legal(outcome: GameOutcome) -> bool
+    ensures { result ≡ are_all_legal outcome }
 {
     match outcome {
         GameOutcome::Illegal { .. } => false,

@@ -317,7 +317,7 @@ impl<'a> Root<'a> {
         out: &mut W,
         errors: &mut E,
     ) -> Result<u8, WriteFault>
-        ensures written { PutsByTables (TellsLineIn self.now.json (ask_of self.now.determined)) (I.facts input.now) sources.now (W.contents out.old) (W.contents out.new) result }
+        ensures written { PutsByTables (TellsLineIn self.now.json (ask_of self.now.determined)) IsText (I.facts input.now) sources.now (W.contents out.old) (W.contents out.new) result }
         ensures quiet { errors.new ≡ errors.old }
         ensures cause { OnErr result (HasFailed W.facts) }
     {

@@ -21,6 +21,8 @@ const USAGE: &str = "usage: adjudicate judge [--tables DIR] [--manifest FILE] FE
        adjudicate probes --tables DIR [--manifest FILE] [--json] [--determined] [--progress]
        adjudicate root --tables DIR [--manifest FILE] [--json] [--determined] [FEN]
        adjudicate game [--tables DIR] [--manifest FILE] [--delay N] FEN
+       adjudicate games --tables DIR [--manifest FILE] [--delay N] [--progress]
+       adjudicate pgn --tables DIR [--manifest FILE] [--delay N] [--json] [--differ] [FILE]
        adjudicate follow [--tables DIR] [--manifest FILE] [--delay N] FEN
        adjudicate run [--tables DIR] [--cache N] [--delay N]
        adjudicate listen --name N --start FEN --tables DIR --me M --bind ADDR --to ADDR[,ADDR] --kept FILE

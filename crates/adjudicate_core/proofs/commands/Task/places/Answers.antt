@@ -30,6 +30,9 @@ returns-in-Probes c = rw c.in-Probes.is c.places-in-Probes.ensures
 pub returns-in-Game : goal.returns-in-Game
 returns-in-Game c = rw c.in-Game.is c.places-in-Game.ensures
 
+pub returns-in-Games : goal.returns-in-Games
+returns-in-Games c = rw c.in-Games.is c.places-in-Games.ensures
+
 pub returns-in-Record : goal.returns-in-Record
 returns-in-Record c = rw c.in-Record.is c.places-in-Record.ensures
 

@@ -1,0 +1,75 @@
+-- `games --tables DIR [--manifest FILE] [--delay N] [--progress]`: what the games of the input come to, a line each (this project's own).
+use Rattle.std.specs.Prelude.{◌≡◌, ◌==◌, ◌+◌, ℕ, Bool, true, false, List, [], ◌∷◌, length, Option, Some, None, codes, drop, option_map, position, take}
+use Rattle.board_core.specs.declared.parts.Parts.{Parts}
+use Rattle.board_core.specs.declared.moves.Move.{Move}
+use Rattle.board_core.specs.Position.{IsPosition}
+use Rattle.fen_text.specs.declared.fault.FenFault.{FenFault}
+use Rattle.fen_text.specs.Fen.{SpellsPosition, IsFirstFenFault}
+use Rattle.judge_core.specs.declared.game.GameOutcome.{GameOutcome}
+use Rattle.judge_core.specs.Games.{IsOutcome}
+use Rattle.judge_core.specs.Words.{outcome_words}
+use Rattle.judge_core.specs.Tables.{Tables}
+use Rattle.move_msg.specs.GameTexts.{IsBadWordAt, TellsMoves, words_in}
+use Rattle.clap.specs.Words.{Rule, Text}
+use Rattle.line_teller.specs.ToldLines.{LineTold}
+use Rattle.task_files.specs.Sources.{Named}
+use Rattle.adjudicate_core.specs.Commands.Game.{are_all_legal}
+use Rattle.adjudicate_core.specs.Rules.{rule_of_form}
+use Rattle.adjudicate_core.specs.declared.commands.Form.TheVariants as form
+use Rattle.adjudicate_core.specs.Lines.{refused_fen, refused_move}
+use Rattle.adjudicate_core.specs.Misuses.{Fault, NoOption, Unfit}
+use Rattle.adjudicate_core.specs.declared.words.usage.Wanted.TheVariants as wanted
+use Rattle.adjudicate_core.specs.Numbers.{IsDelay, is_set}
+use Rattle.adjudicate_core.specs.Reply.{IsText}
+use Rattle.adjudicate_core.specs.declared.commands.games.FollowGames.{FollowGames}
+
+abbrev pub rules : List Rule
+rules =
+    rule_of_form form.Option (codes "tables")
+    ∷ rule_of_form form.Option (codes "manifest")
+    ∷ rule_of_form form.Option (codes "delay")
+    ∷ rule_of_form form.Flag (codes "progress") ∷ []
+
+-- the values of its arguments
+abbrev pub HasValues : (Text → Option Text) → FollowGames → Type 0
+HasValues value t =
+    (Some t.tables.now ≡ value (codes "tables")) × (option_map (λ s. s.now) t.manifest ≡ value (codes "manifest"))
+    × IsDelay (value (codes "delay")) t.delay × (t.progress ≡ is_set (value (codes "progress")))
+
+-- what may be wrong with its values, in the order in which it is told
+abbrev pub faults : List Fault
+faults = NoOption (codes "tables") ∷ Unfit wanted.Delay ∷ []
+
+-- what is read for it
+abbrev pub named : FollowGames → Named
+named t = record { folder = Some t.tables.now; manifest = option_map (λ s. s.now) t.manifest; input = false; kept = None; other_kept = None }
+
+-- ---- a line: the FEN text of a start, and behind the first tab the moves from there
+
+abbrev pub start_before : List ℕ → Option ℕ → List ℕ
+start_before line None = line
+start_before line (Some tab) = take tab line
+
+abbrev pub moves_behind : List ℕ → Option ℕ → List ℕ
+moves_behind line None = []
+moves_behind line (Some tab) = drop (tab + 1) line
+
+-- where the first tab of a line stands
+abbrev pub tab_in : List ℕ → Option ℕ
+tab_in line = position (λ b. b == 9) line
+
+abbrev pub start_in : List ℕ → List ℕ
+start_in line = start_before line (tab_in line)
+
+abbrev pub moves_in : List ℕ → List ℕ
+moves_in line = moves_behind line (tab_in line)
+
+-- the start is a position
+abbrev pub HasStart : List ℕ → Type 0
+HasStart line = IsText (start_in line)
+
+-- a line is told as `game` tells it: the refusal of its start; or else of its first word that is no move; or else what its game comes to
+pub data TellsGame (delay : ℕ) (tables : Tables) (line : List ℕ) (told : LineTold) : Type 0 where
+  NoStart : (fault : FenFault) → IsFirstFenFault (start_in line) fault → told ≡ record { words = refused_fen fault; done = false } → TellsGame delay tables line told
+  NoMove : HasStart line → (place : ℕ) → IsBadWordAt (words_in (moves_in line)) place → told ≡ record { words = refused_move place; done = false } → TellsGame delay tables line told
+  Played : (start : Parts) → SpellsPosition (start_in line) start → IsPosition start → (moves : List Move) → TellsMoves (moves_in line) moves → (outcome : GameOutcome) → IsOutcome (record { start = start; tables = tables; delay = delay }) moves outcome → told ≡ record { words = outcome_words outcome (length moves); done = are_all_legal outcome } → TellsGame delay tables line told

@@ -1,0 +1,87 @@
+-- What tables say of the games of a file, and what the results that stand there are beside it (this project's own).
+use Rattle.std.specs.Prelude.{◌≡◌, ℕ, Bool, true, false, List, Option, Some, None, codes, if◌then◌else◌}
+use Rattle.board_core.specs.declared.verdict.Verdict.{Verdict}
+use Rattle.board_core.specs.declared.verdict.Verdict.TheVariants.{WhiteMates, BlackMates, Stalemate, TableDraw, TableWhite, TableBlack, Stopped}
+use Rattle.judge_core.specs.declared.game.GameOutcome.{GameOutcome}
+use Rattle.judge_core.specs.declared.game.GameOutcome.TheVariants as outcome
+use Rattle.judge_core.specs.Games.{IsOutcome}
+use Rattle.judge_core.specs.Tables.{Tables}
+use Rattle.pgn_games.specs.declared.game.GameResult.{GameResult}
+use Rattle.pgn_games.specs.declared.game.GameResult.TheVariants.{WhiteWins, BlackWins, Draw, Unknown, Missing}
+use Rattle.pgn_games.specs.Games.{GameTold}
+use Rattle.pgn_teller.specs.declared.finding.Finding.{Finding}
+use Rattle.pgn_teller.specs.declared.finding.Finding.TheVariants.{Agrees, Differs, Uncompared}
+use Rattle.pgn_teller.specs.declared.rating.Ruled.{Ruled}
+
+-- the verdict gives the game to White (PGN standard, section 8.2.6: 1-0)
+abbrev pub gives_white : Verdict → Bool
+gives_white WhiteMates = true
+gives_white BlackMates = false
+gives_white Stalemate = false
+gives_white TableDraw = false
+gives_white TableWhite = true
+gives_white TableBlack = false
+gives_white Stopped = false
+
+-- to Black (0-1)
+abbrev pub gives_black : Verdict → Bool
+gives_black WhiteMates = false
+gives_black BlackMates = true
+gives_black Stalemate = false
+gives_black TableDraw = false
+gives_black TableWhite = false
+gives_black TableBlack = true
+gives_black Stopped = false
+
+-- to neither (1/2-1/2)
+abbrev pub is_drawn : Verdict → Bool
+is_drawn WhiteMates = false
+is_drawn BlackMates = false
+is_drawn Stalemate = true
+is_drawn TableDraw = true
+is_drawn TableWhite = false
+is_drawn TableBlack = false
+is_drawn Stopped = false
+
+abbrev pub finding_by : Bool → Finding
+finding_by true = Agrees
+finding_by false = Differs
+
+-- whether the result that stands there is the verdict's; a game that is told to go on, or of which nothing is told, isn't compared
+abbrev pub agrees : Verdict → GameResult → Finding
+agrees verdict WhiteWins = finding_by (gives_white verdict)
+agrees verdict BlackWins = finding_by (gives_black verdict)
+agrees verdict Draw = finding_by (is_drawn verdict)
+agrees verdict Unknown = Uncompared
+agrees verdict Missing = Uncompared
+
+abbrev pub finding_of : Option Ruled → GameResult → Finding
+finding_of None stands = Uncompared
+finding_of (Some ruled) stands = agrees ruled.verdict stands
+
+-- the first verdict of a game and its ply, if it has one
+abbrev pub ruled_by : GameOutcome → Option Ruled
+ruled_by (outcome.Ruled ply verdict) = Some (record { ply = ply; verdict = verdict })
+ruled_by (outcome.Illegal place) = None
+ruled_by outcome.Going = None
+
+-- by tables and a delay, this is the first verdict of a game of a file, or it has none
+pub record IsRuled (delay : ℕ) (tables : Tables) (game : GameTold) (ruled : Option Ruled) : Type 0 where
+  pub outcome : GameOutcome
+  pub is : IsOutcome (record { start = game.start; tables = tables; delay = delay }) game.moves outcome
+  pub by : ruled ≡ ruled_by outcome
+
+-- ---- in words
+
+abbrev pub finding_word : Finding → List ℕ
+finding_word Agrees = codes "agree"
+finding_word Differs = codes "differ"
+finding_word Uncompared = codes "-"
+
+-- a result as a file has it, and a dash where it has none
+abbrev pub result_word : GameResult → List ℕ
+result_word WhiteWins = codes "1-0"
+result_word BlackWins = codes "0-1"
+result_word Draw = codes "1/2-1/2"
+result_word Unknown = codes "*"
+result_word Missing = codes "-"
