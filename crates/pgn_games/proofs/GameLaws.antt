@@ -46,7 +46,7 @@ close_phase : (depth : ℕ) (c d : Course) → Closes depth c (Ok d) → d.phase
 close_phase zero c d h = ok_none d _ c.phase h
 close_phase (suc depth) c d h = ok_same c d h
 
-taken_phase : (c d : Course) (told : Telling) → Takes c told (Ok d) → d.phase ≡ c.phase
+pub taken_phase : (c d : Course) (told : Telling) → Takes c told (Ok d) → d.phase ≡ c.phase
 taken_phase c d (Tag first pair) h = pair_phase c d c.phase pair h
 taken_phase c d (MoveText text) h = main_phase (depth_of c.phase) c d _ h (move_phase c d text _)
 taken_phase c d Begins h = ok_same c d h

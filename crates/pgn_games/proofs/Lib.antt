@@ -9,3 +9,4 @@ pub mod StepLaws
 pub mod LineLaws
 pub mod ReadLaws
 pub mod UsualLaws
+pub mod SoundLaws

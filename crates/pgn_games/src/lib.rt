@@ -6,6 +6,7 @@ mod course;
 mod cursor;
 mod fault;
 mod game;
+pub mod laws;
 mod lexeme;
 mod lines;
 mod phase;
