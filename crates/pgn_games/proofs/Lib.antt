@@ -10,3 +10,5 @@ pub mod LineLaws
 pub mod ReadLaws
 pub mod UsualLaws
 pub mod SoundLaws
+pub mod EndLaws
+pub mod WorkedRows
