@@ -12,3 +12,4 @@ pub mod UsualLaws
 pub mod SoundLaws
 pub mod EndLaws
 pub mod WorkedRows
+pub mod BackLaws

@@ -24,6 +24,8 @@
 //! - CLAIM: `PgnReader::has_line`: it says whether a whole line has come already.
 //! - CLAIM: `laws::games_are_of_chess`: a game that is read begins at the position of its FEN tag or at the usual one, and its moves, at
 //!   most 4,096, are legal in turn.
+//! - CLAIM: `laws::moves_are_read_back`: the tokens of texts that are read as moves in turn, and of a result, are read as the game of these
+//!   moves.
 //! - CLAIM: `laws::none_is_the_end`: no game is told exactly where no token is left.
 #![tactic(auto)]
 
