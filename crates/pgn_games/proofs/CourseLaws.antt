@@ -1,5 +1,5 @@
 -- What a token makes of a game.
-use Rattle.std.proofs.Common.{◌≡◌, ◌∙◌, ℕ, ◌<◌, Bool, true, false, List, Option, Some, None, Result, Ok, Err, refl, sym, ap, subst, arith, ltb, lt-ltb}
+use Rattle.std.proofs.Common.{◌≡◌, ◌∙◌, ℕ, ◌<◌, Bool, List, Option, Some, None, Result, refl, sym, ap, subst, lt-ltb}
 use Rattle.std.specs.Prelude.{nat_lt}
 use Rattle.pgn_games.specs.declared.fault.Cause.{Cause}
 use Rattle.pgn_games.specs.declared.tags.TagName.{TagName}

@@ -1,6 +1,6 @@
 -- What tokens tell of a game, one after another.
-use Rattle.std.proofs.Common.{◌≡◌, ◌∙◌, ℕ, zero, suc, ◌<◌, ◌++◌, Bool, true, false, List, [], ◌∷◌, Option, Some, None, Result, Ok, Err, cond, refl, sym, ap, subst, arith}
-use Rattle.std.specs.Prelude.{nat_lt, not, MatchOption}
+use Rattle.std.proofs.Common.{◌≡◌, ◌∙◌, ℕ, zero, suc, Bool, true, false, List, [], ◌∷◌, Option, Some, None, Result, Ok, Err, cond, refl, sym, ap, subst}
+use Rattle.std.specs.Prelude.{not, MatchOption}
 use Rattle.pgn_games.specs.declared.fault.Cause.{Cause}
 use Rattle.pgn_games.specs.declared.fault.GameFault.{GameFault}
 use Rattle.pgn_games.specs.declared.phase.Phase.{Phase}
@@ -9,8 +9,8 @@ use Rattle.pgn_games.specs.declared.tags.TagName.{TagName}
 use Rattle.pgn_games.specs.declared.tags.TagName.TheVariants as name
 use Rattle.pgn_games.specs.Tags.{TagPair, name_of, value_of}
 use Rattle.pgn_games.specs.Lexemes.{Telling, Tag, MoveText, Begins, Ends, Told, Stray, Endless, TooLong}
-use Rattle.pgn_games.specs.Tokens.{Token, token}
-use Rattle.pgn_games.specs.Games.{Course, Closes, Passes, ReadingTold, SetsTag, Takes, TakesIfMain, TakesMove, TakesTag, Tells, after, behind_game, depth_of, fault_of, goes_on, is_tag_in_first_column, of_game, passed, taken}
+use Rattle.pgn_games.specs.Tokens.{Token}
+use Rattle.pgn_games.specs.Games.{Course, Closes, Passes, ReadingTold, SetsTag, Takes, TakesIfMain, TakesMove, TakesTag, Tells, after, behind_game, depth_of, goes_on, is_tag_in_first_column, of_game, passed, taken}
 use Rattle.pgn_games.specs.Inside.Steps.{Continues, IsOn, IsOver}
 
 ok_same : (c d : Course) → ◌≡◌ {A = Result Course Cause} (Ok d) (Ok c) → d.phase ≡ c.phase
@@ -46,7 +46,7 @@ close_phase : (depth : ℕ) (c d : Course) → Closes depth c (Ok d) → d.phase
 close_phase zero c d h = ok_none d _ c.phase h
 close_phase (suc depth) c d h = ok_same c d h
 
-taken_phase : (c d : Course) (told : Telling) → Takes c told (Ok d) → d.phase ≡ c.phase
+pub taken_phase : (c d : Course) (told : Telling) → Takes c told (Ok d) → d.phase ≡ c.phase
 taken_phase c d (Tag first pair) h = pair_phase c d c.phase pair h
 taken_phase c d (MoveText text) h = main_phase (depth_of c.phase) c d _ h (move_phase c d text _)
 taken_phase c d Begins h = ok_same c d h

@@ -9,3 +9,7 @@ pub mod StepLaws
 pub mod LineLaws
 pub mod ReadLaws
 pub mod UsualLaws
+pub mod SoundLaws
+pub mod EndLaws
+pub mod WorkedRows
+pub mod BackLaws

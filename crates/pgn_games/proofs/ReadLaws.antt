@@ -1,24 +1,21 @@
 -- What is read of an input tells a game.
-use Rattle.std.proofs.Common.{◌≡◌, ◌≢◌, ◌∙◌, ℕ, zero, suc, ◌+◌, ◌<◌, ◌≤◌, ◌++◌, Bool, true, false, List, [], ◌∷◌, length, take, drop, Option, Some, None, cond, refl, sym, ap, subst, arith}
+use Rattle.std.proofs.Common.{◌≡◌, ◌∙◌, ℕ, ◌≤◌, ◌++◌, Bool, true, false, List, [], ◌∷◌, length, Option, Some, None, refl, sym, ap, subst}
 use Rattle.std.specs.Prelude.{◌==◌, option_map}
 use Rattle.board_core.specs.declared.parts.Parts.{Parts}
 use Rattle.fen_text.specs.Written.{fen_of}
 use Rattle.pgn_games.specs.declared.cursor.Cursor.{Cursor}
 use Rattle.pgn_games.specs.declared.cursor.Next.{Next}
 use Rattle.pgn_games.specs.declared.cursor.Next.TheVariants.{GoesOn, Stops}
-use Rattle.pgn_games.specs.declared.lines.Taken.{Taken}
 use Rattle.pgn_games.specs.declared.lines.Taken.TheVariants.{Line, LongLine, Nothing}
-use Rattle.pgn_games.specs.declared.phase.Phase.TheVariants.{Tags}
-use Rattle.pgn_games.specs.Lines.{one_more, read_text}
-use Rattle.pgn_games.specs.Lexemes.{Telling, Endless, TooLong, lexed_at}
-use Rattle.pgn_games.specs.Tokens.{Token, token, token_if, tokens_from}
-use Rattle.pgn_games.specs.Games.{Course, Passes, ReadingTold, ReadsGame, Tells, behind_game, no_course, of_game, told_of, usual_start}
+use Rattle.pgn_games.specs.Lines.{read_text}
+use Rattle.pgn_games.specs.Lexemes.{Endless, TooLong, lexed_at}
+use Rattle.pgn_games.specs.Tokens.{Token, token, tokens_from}
+use Rattle.pgn_games.specs.Games.{Course, Passes, ReadingTold, ReadsGame, Tells, no_course, of_game, told_of, usual_start}
 use Rattle.pgn_games.specs.Reading.{IfKnown, tokens_with}
-use Rattle.pgn_games.specs.Inside.Steps.{BeginsLine, ClosesComment, Continues, IsOn, IsOver, TakesText, TellsGame, TellsOn, closed, comment_left, rest_with}
+use Rattle.pgn_games.specs.Inside.Steps.{Continues, IsOn, IsOver, TakesText, TellsGame, TellsOn, comment_left, rest_with}
 use Rattle.pgn_games.proofs.TokenLaws.{feed_passed, none_left}
 use Rattle.pgn_games.proofs.CommentLaws.{comment_endless, comment_feed, comment_too_long}
-use Rattle.pgn_games.proofs.GameLaws.{continues_one, continues_same, continues_then, goes_on_by, over_at_end, still_on}
-use Rattle.pgn_games.proofs.LineLaws.{begins}
+use Rattle.pgn_games.proofs.GameLaws.{continues_one, continues_then, goes_on_by, over_at_end, still_on}
 use Rattle.std.proofs.lemmas.List.{drop_all}
 
 pub known_same : {A : Type 0} (a : Option A) (P : A → A → Type 0) → ((x : A) → P x x) → IfKnown a a P

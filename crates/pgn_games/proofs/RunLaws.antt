@@ -1,5 +1,5 @@
 -- Places of bytes.
-use Rattle.std.proofs.Common.{◌≡◌, ◌∙◌, ℕ, suc, ◌+◌, ◌-◌, ◌<◌, take, drop, get_or, add-one, drop-cons, take_all, length-drop, ◌≤◌, Bool, true, false, List, [], ◌∷◌, length, Option, Some, None, cond, refl, sym, ap, arith, ltb}
+use Rattle.std.proofs.Common.{◌≡◌, ◌∙◌, ℕ, suc, ◌+◌, ◌-◌, ◌<◌, take, drop, get_or, add-one, drop-cons, take_all, length-drop, ◌≤◌, Bool, true, false, List, [], ◌∷◌, length, Some, None, cond, refl, ap, arith}
 use Rattle.std.specs.Prelude.{not, nat_lt, position, unwrap_or}
 use Rattle.std.specs.List.{position_or_len}
 use Rattle.std.proofs.lemmas.Bool.Decides.{nat_tests}

@@ -1,5 +1,5 @@
 -- One lexeme of a line, and what it tells of a game.
-use Rattle.std.proofs.Common.{◌≡◌, ◌≢◌, ◌∙◌, ℕ, zero, suc, ◌+◌, ◌<◌, ◌≤◌, ◌++◌, All, Bool, true, false, List, [], ◌∷◌, length, take, drop, Option, Some, None, cond, refl, sym, ap, subst, arith, get_or}
+use Rattle.std.proofs.Common.{◌≡◌, ◌≢◌, ◌∙◌, ℕ, ◌+◌, ◌<◌, ◌≤◌, ◌++◌, Bool, true, false, List, ◌∷◌, length, drop, Option, Some, refl, sym, ap, subst, get_or}
 use Rattle.std.specs.Prelude.{◌==◌}
 use Rattle.pgn_games.specs.declared.lexeme.Lexeme.{Lexeme}
 use Rattle.pgn_games.specs.declared.lexeme.Lexeme.TheVariants as read

@@ -1,5 +1,5 @@
 -- The bytes of PGN text (PGN standard, section 7).
-use Rattle.std.specs.Prelude.{◌+◌, ◌==◌, ◌&&◌, ◌||◌, not, nat_le, ℕ, Bool, List, if◌then◌else◌}
+use Rattle.std.specs.Prelude.{◌==◌, ◌&&◌, ◌||◌, not, nat_le, ℕ, Bool, List, if◌then◌else◌}
 use Rattle.std.specs.List.{position_or_len}
 use Rattle.pgn_games.specs.declared.bytes.Class.{Class}
 use Rattle.pgn_games.specs.declared.bytes.Class.TheVariants.{Space, Name, Digit}

@@ -1,6 +1,6 @@
 -- The lexemes of PGN text (PGN standard, sections 5, 7, 8.1 and 8.2). Each begins where the last one ended. What it tells and where it
 -- ends goes by its first byte.
-use Rattle.std.specs.Prelude.{◌+◌, ◌-◌, ◌==◌, ◌&&◌, not, nat_lt, ℕ, Bool, true, false, List, [], ◌∷◌, length, take, drop, Option, Some, None, if◌then◌else◌, codes, bytes_eq}
+use Rattle.std.specs.Prelude.{◌+◌, ◌-◌, ◌==◌, not, nat_lt, ℕ, Bool, List, ◌∷◌, length, take, Option, Some, None, if◌then◌else◌, codes, bytes_eq}
 use Rattle.std.specs.List.{list_any, position_or_len}
 use Rattle.pgn_games.specs.declared.bytes.ByteKind.{ByteKind}
 use Rattle.pgn_games.specs.declared.bytes.ByteKind.TheVariants.{Blank, Opens, Closes, Bracket, Semicolon, Star, Dollar, Symbol, Other}

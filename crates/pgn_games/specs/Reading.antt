@@ -1,5 +1,5 @@
 -- What is left of an input that is read game by game.
-use Rattle.std.specs.Prelude.{◌==◌, ◌++◌, ℕ, Bool, List, Option, Some, None, option_map, drop}
+use Rattle.std.specs.Prelude.{◌==◌, ◌++◌, ℕ, List, Option, Some, None, option_map, drop}
 use Rattle.pgn_games.specs.declared.cursor.Cursor.{Cursor}
 use Rattle.pgn_games.specs.declared.reader.PgnReader.{PgnReader}
 use Rattle.pgn_games.specs.Lines.{read_text}

@@ -1,5 +1,5 @@
 -- Tag pairs (PGN standard, section 8.1).
-use Rattle.std.specs.Prelude.{◌+◌, ◌==◌, ℕ, Bool, true, false, List, [], ◌∷◌, length, take, drop, Option, Some, None, option_map, if◌then◌else◌, codes, bytes_eq}
+use Rattle.std.specs.Prelude.{◌+◌, ◌==◌, ℕ, Bool, true, false, List, [], ◌∷◌, take, drop, Option, Some, None, option_map, if◌then◌else◌, codes, bytes_eq}
 use Rattle.pgn_games.specs.declared.tags.TagName.{TagName}
 use Rattle.pgn_games.specs.declared.tags.TagName.TheVariants.{Event, White, Black, Round, Result, Fen}
 use Rattle.pgn_games.specs.Bytes.{is_space, is_name, run_len}

@@ -1,7 +1,7 @@
 -- The tokens of a text, each with the number of its line.
 use Rattle.std.specs.Prelude.{◌==◌, ◌++◌, ℕ, zero, suc, Bool, true, List, [], ◌∷◌, Option, Some, None, if◌then◌else◌}
 use Rattle.pgn_games.specs.Lines.{one_more, read_text}
-use Rattle.pgn_games.specs.Lexemes.{Telling, Lexed, lexed_at}
+use Rattle.pgn_games.specs.Lexemes.{Telling, lexed_at}
 
 pub record Token : Type 0 where
   pub line : ℕ

@@ -53,15 +53,7 @@ pub(crate) fn is_blank(b: u8) -> bool
 fn is_sign(b: u8) -> bool
     ensures { result ≡ is_sign b }
 {
-    b == 95
-        || b == 43
-        || b == 35
-        || b == 61
-        || b == 58
-        || b == 45
-        || b == 47
-        || b == 33
-        || b == 63
+    b == 95 || b == 43 || b == 35 || b == 61 || b == 58 || b == 45 || b == 47 || b == 33 || b == 63
 }
 
 pub(crate) fn is_symbol(b: u8) -> bool

@@ -1,4 +1,32 @@
-//! The games of a PGN file.
+//! The games of a PGN file (PGN standard of 1994), one at a time, in bounded memory.
+//!
+//! The lines of an input go in (`system_io::LineReader`); out comes for each game its line, its tags, its start, its moves and its
+//! result, or the first fault of it (`Reading`). `PgnReader` holds one line, at most 65,536 bytes, and one game, at most 4,096 moves
+//! and 255 bytes of each of six tags: so a file's size takes no memory.
+//!
+//! What is read: tag pairs with escapes, several on a line, each on one line; moves as `san_text` reads them, their numbers with any
+//! dots, results, `$` glyphs, and `!` or `?` alone; comments in braces and behind `;`; lines that begin with `%`, passed over also
+//! within a comment; variations to any depth, of which only brackets and comments count. A line ends with LF or CR LF, and bytes need not be text.
+//! Where the standard is silent: the last of two tags of a name counts; a FEN tag counts with and without SetUp; a game without a result is
+//! read, with the result `Missing`; a byte order mark is no token. A null move is the text of no move.
+//!
+//! A game begins with its first token. It is over with its result outside of variations, before a `[` in the first column behind its
+//! movetext, or at the end of the input. That goes by its tokens alone, so a faulty game ends where a good one would.
+//! Inside: `bytes`, `tag_pair`, `tags`, `lexeme`, `phase`, `course` (what a game's tokens tell so far), `cursor` (the line), `lines`, `telling`,
+//! `usual`, `reader`; `game`, `fault`; `laws`.
+//!
+//! Definitions, in reading order: `Lines`, `Bytes`, `Tags`, `Lexemes` (`lexed_at`), `Tokens` (`tokens_of`), `Games` (`ReadsGame`,
+//! `SpellsGames`), `Shown`, `Reading` (`tokens_left`), `Laws`.
+//!
+//! - CLAIM: `PgnReader::new`; `PgnReader::next_game`, clause `game`: where the bytes of an input are known, each call reads the next game of
+//!   their tokens, and leaves those behind it.
+//! - CLAIM: `PgnReader::next_game`, clauses `cause`, `same`: reading fails as `Unreadable` only where the input fails.
+//! - CLAIM: `PgnReader::has_line`: it says whether a whole line has come already.
+//! - CLAIM: `laws::games_are_of_chess`: a game that is read begins at the position of its FEN tag or at the usual one, and its moves, at
+//!   most 4,096, are legal in turn.
+//! - CLAIM: `laws::moves_are_read_back`: the tokens of texts that are read as moves in turn, and of a result, are read as the game of these
+//!   moves.
+//! - CLAIM: `laws::none_is_the_end`: no game is told exactly where no token is left.
 #![tactic(auto)]
 
 mod bytes;
@@ -6,6 +34,7 @@ mod course;
 mod cursor;
 mod fault;
 mod game;
+pub mod laws;
 mod lexeme;
 mod lines;
 mod phase;
@@ -14,8 +43,6 @@ mod tag_pair;
 mod tags;
 mod telling;
 mod usual;
-
-
 
 pub use fault::{Cause, GameFault};
 pub use game::{Game, GameResult, Reading};

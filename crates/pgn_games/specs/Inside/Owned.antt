@@ -1,5 +1,5 @@
 -- What values that own memory show. Only private contracts cite these words.
-use Rattle.std.specs.Prelude.{◌≡◌, ℕ, List, Option, Some, None, Result, Ok, Err, MatchOption}
+use Rattle.std.specs.Prelude.{◌≡◌, ℕ, Option, Some, None, Result, Ok, Err, MatchOption}
 use Rattle.pgn_games.specs.declared.course.Course.{Course as ReadCourse}
 use Rattle.pgn_games.specs.declared.fault.Cause.{Cause}
 use Rattle.pgn_games.specs.Shown.{texts_of}

@@ -3,7 +3,7 @@ use Rattle.std.specs.Prelude.{Bool, Option, Some, None}
 use Rattle.pgn_games.specs.declared.lexeme.Lexeme.{Lexeme as Read}
 use Rattle.pgn_games.specs.declared.lexeme.Lexeme.TheVariants as read
 use Rattle.pgn_games.specs.declared.tag_pair.TagPair.{TagPair as ReadPair}
-use Rattle.pgn_games.specs.Tags.{TagPair, TagAndRest}
+use Rattle.pgn_games.specs.Tags.{TagAndRest}
 use Rattle.pgn_games.specs.Lexemes.{Telling, Tag, MoveText, Begins, Ends, Told, Stray, Endless, TooLong}
 
 -- a tag pair that was read

@@ -1,5 +1,5 @@
 -- How the code goes on over the text of a game. Only private contracts cite these words.
-use Rattle.std.specs.Prelude.{◌≡◌, ◌≤◌, ◌<◌, ◌==◌, ◌||◌, ◌++◌, ℕ, Bool, true, false, List, [], ◌∷◌, length, drop, Option, Some, None, MatchBool, if◌then◌else◌}
+use Rattle.std.specs.Prelude.{◌≡◌, ◌≤◌, ◌==◌, ◌||◌, ◌++◌, ℕ, Bool, false, List, [], ◌∷◌, length, drop, Option, Some, None, MatchBool, if◌then◌else◌}
 use Rattle.pgn_games.specs.declared.cursor.Cursor.{Cursor}
 use Rattle.pgn_games.specs.declared.cursor.Next.{Next}
 use Rattle.pgn_games.specs.declared.cursor.Next.TheVariants.{GoesOn, Stops}

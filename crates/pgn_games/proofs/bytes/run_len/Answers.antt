@@ -1,6 +1,5 @@
 use Rattle.std.proofs.Common.{◌≤◌, ◌∙◌, ap, length, subst, sym}
 use Rattle.std.specs.Prelude.{not, unwrap_or}
-use Rattle.std.specs.List.{position_or_len}
 use Rattle.pgn_games.specs.Bytes.{passes}
 use Rattle.pgn_games.proofs.RunLaws.{place_within, unwrapped}
 use Rattle.pgn_games.proofs.bytes.run_len.Goals as goal

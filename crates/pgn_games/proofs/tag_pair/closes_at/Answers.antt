@@ -1,4 +1,4 @@
-use Rattle.std.proofs.Common.{◌≡◌, ◌<◌, ◌+◌, ℕ, Bool, false, true, drop, get_or, length, subst, sym}
+use Rattle.std.proofs.Common.{◌≡◌, ◌+◌, Bool, false, drop, subst, sym}
 use Rattle.std.specs.Prelude.{option_map}
 use Rattle.pgn_games.specs.Tags.{closes_at}
 use Rattle.pgn_games.proofs.QuoteLaws.{at_first, escaped_more, none_found, quote_found, quoted_more}
@@ -22,8 +22,8 @@ loop-i-preserved c =
     let Before : Bool → Type 0 = λ e. closes_at false t ≡ option_map (λ n. i + n) (closes_at e (drop i t)) in
     let After : Bool → Type 0 = λ e. closes_at false t ≡ option_map (λ n. (i + 1) + n) (closes_at e (drop (i + 1) t)) in
     elim c.if-escaped.branch [
-      then-escaped w ↦ subst After (sym w.escaped-is) (escaped_more t i _ c.loop-i-test.true (subst Before w.if-escaped.true c.loop-i.invariant))
-    | else-escaped+else-b-eq34 w ↦ subst After (sym w.escaped-is) (quoted_more t i _ c.loop-i-test.true (subst Before w.if-escaped.false c.loop-i.invariant) w.if-b-eq34.false)
+      | then-escaped w ↦ subst After (sym w.escaped-is) (escaped_more t i _ c.loop-i-test.true (subst Before w.if-escaped.true c.loop-i.invariant))
+      | else-escaped+else-b-eq34 w ↦ subst After (sym w.escaped-is) (quoted_more t i _ c.loop-i-test.true (subst Before w.if-escaped.false c.loop-i.invariant) w.if-b-eq34.false)
     ]
 
 pub returns-clause-is : goal.returns-clause-is

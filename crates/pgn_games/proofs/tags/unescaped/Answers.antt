@@ -14,17 +14,17 @@ loop-b-preserved c =
     let Before : Bool → Type 0 = λ e. unescaped false t ≡ v ++ unescaped e (drop i t) in
     let After : List ℕ → Bool → Type 0 = λ w e. unescaped false t ≡ w ++ unescaped e rest in
     elim c.if-not-escaped.branch [
-      then-not-escaped+then-b-eq92 w ↦
-      let step : After v true = sign_more t i _ v c.loop-b-test.true (subst Before w.if-not-escaped.true c.loop-b.invariant) w.if-b-eq92.true in
-      joined _ _ _ _ (λ x e. After x e) (sym (ap (λ x. x.items) w.value-is)) (sym w.escaped-is) step
-    | else-not-escaped+in_ok-push w ↦
-      let pushed : w.push.new.self.items ≡ v ++ b ∷ [] = w.in_ok-push.ensures.items in
-      let step : After (v ++ b ∷ []) false =
-      elim w.else-not-escaped.branch [
-        else-not-escaped-via-then-not-escaped+else-b-eq92 x ↦ plain_more t i _ v c.loop-b-test.true (subst Before x.if-not-escaped.true c.loop-b.invariant) x.if-b-eq92.false
-      | else-not-escaped-via-else-not-escaped x ↦ escaped_more t i _ v c.loop-b-test.true (subst Before x.if-not-escaped.false c.loop-b.invariant)
-      ] in
-      joined _ _ _ _ (λ x e. After x e) (sym (ap (λ x. x.items) w.value-is ∙ pushed)) (sym w.escaped-is) step
+      | then-not-escaped+then-b-eq92 w ↦
+          let step : After v true = sign_more t i _ v c.loop-b-test.true (subst Before w.if-not-escaped.true c.loop-b.invariant) w.if-b-eq92.true in
+          joined _ _ _ _ (λ x e. After x e) (sym (ap (λ x. x.items) w.value-is)) (sym w.escaped-is) step
+      | else-not-escaped+in_ok-push w ↦
+          let pushed : w.push.new.self.items ≡ v ++ b ∷ [] = w.in_ok-push.ensures.items in
+          let step : After (v ++ b ∷ []) false =
+          elim w.else-not-escaped.branch [
+            | else-not-escaped-via-then-not-escaped+else-b-eq92 x ↦ plain_more t i _ v c.loop-b-test.true (subst Before x.if-not-escaped.true c.loop-b.invariant) x.if-b-eq92.false
+            | else-not-escaped-via-else-not-escaped x ↦ escaped_more t i _ v c.loop-b-test.true (subst Before x.if-not-escaped.false c.loop-b.invariant)
+          ] in
+          joined _ _ _ _ (λ x e. After x e) (sym (ap (λ x. x.items) w.value-is ∙ pushed)) (sym w.escaped-is) step
     ]
 
 pub returns : goal.returns

@@ -1,4 +1,3 @@
-use Rattle.std.proofs.Common.{List, ℕ, ◌++◌, ◌≡◌, refl, sym, subst}
 use Rattle.pgn_games.proofs.GameLaws.{continues_same, continues_then}
 use Rattle.pgn_games.proofs.ReadLaws.{known_map}
 use Rattle.pgn_games.proofs.telling.pass_comment.Goals as goal

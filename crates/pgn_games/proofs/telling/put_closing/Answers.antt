@@ -1,10 +1,9 @@
-use Rattle.std.proofs.Common.{List, ap, refl, subst, sym, false, ◌++◌}
+use Rattle.std.proofs.Common.{refl, subst, sym, false, ◌++◌}
 use Rattle.pgn_games.specs.declared.telling.Closing.{Closing}
 use Rattle.pgn_games.specs.Lexemes.{Endless, TooLong}
 use Rattle.pgn_games.specs.Inside.Owned.{course_of}
 use Rattle.pgn_games.specs.Inside.Steps.{Continues, closing_tokens}
 use Rattle.pgn_games.proofs.ReadLaws.{continues_endless, continues_fault, on_after_endless, on_after_fault}
-use Rattle.pgn_games.proofs.GameLaws.{continues_same}
 use Rattle.pgn_games.proofs.telling.put_closing.Goals as goal
 
 pub returns-in_ok-put-in-WithLongLine-clause-told : goal.returns-in_ok-put-in-WithLongLine-clause-told

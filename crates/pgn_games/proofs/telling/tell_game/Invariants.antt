@@ -1,4 +1,3 @@
-use Rattle.std.proofs.Common.{◌≡◌, ◌≤◌}
 use Rattle.pgn_games.specs.Lines.{read_text}
 use Rattle.pgn_games.specs.Reading.{IfKnown, tokens_with}
 use Rattle.pgn_games.specs.Inside.Owned.{course_of}

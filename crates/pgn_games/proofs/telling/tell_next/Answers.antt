@@ -1,4 +1,4 @@
-use Rattle.std.proofs.Common.{refl, false, subst, ◌∙◌, ◌≡◌}
+use Rattle.std.proofs.Common.{refl, false, subst}
 use Rattle.pgn_games.specs.declared.lines.Taken.{Taken}
 use Rattle.pgn_games.specs.Lexemes.{TooLong}
 use Rattle.pgn_games.specs.Reading.{IfKnown}

@@ -1,7 +1,6 @@
-use Rattle.std.proofs.Common.{◌≡◌, ◌≤◌, ◌∙◌, false, ap, arith, length, refl, subst, sym}
-use Rattle.pgn_games.specs.declared.cursor.Left.{Left}
+use Rattle.std.proofs.Common.{false, ap, subst, sym}
 use Rattle.pgn_games.specs.Lines.{read_text}
-use Rattle.pgn_games.specs.Reading.{IfKnown, tokens_with}
+use Rattle.pgn_games.specs.Reading.{tokens_with}
 use Rattle.pgn_games.specs.Inside.Owned.{course_of}
 use Rattle.pgn_games.specs.Inside.Steps.{LeavesLine, TellsGame, TellsOn, comment_left}
 use Rattle.pgn_games.proofs.GameLaws.{continues_same, continues_then}

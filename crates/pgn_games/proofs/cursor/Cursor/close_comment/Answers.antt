@@ -1,4 +1,4 @@
-use Rattle.std.proofs.Common.{All, Option, ◌≢◌, ◌<◌, ◌∙◌, ap, sym, drop, subst, take, length, List, ℕ, arith, ◌-◌, ◌≡◌, ◌≤◌, Some, None, ◌++◌}
+use Rattle.std.proofs.Common.{All, ◌≢◌, ◌<◌, ◌∙◌, ap, sym, drop, subst, List, ◌≡◌, Some, None, ◌++◌}
 use Rattle.std.specs.Prelude.{◌==◌, position}
 use Rattle.std.proofs.lemmas.List.Elements.{All-drop}
 use Rattle.pgn_games.specs.Tokens.{Token}

@@ -1,11 +1,8 @@
-use Rattle.std.proofs.Common.{Option, ◌∙◌, ap, sym, subst, length, ◌<◌, List, ℕ, arith, ◌+◌, ◌≡◌, Some, None, ◌++◌, ◌∷◌, refl}
+use Rattle.std.proofs.Common.{◌∙◌, ap, sym, subst, length, ◌<◌, List, ℕ, arith, Some, None, refl}
 use Rattle.std.specs.Prelude.{◌==◌}
-use Rattle.pgn_games.specs.Lexemes.{Telling}
-use Rattle.pgn_games.specs.Tokens.{token}
 use Rattle.pgn_games.specs.Inside.Scan.{lexeme_of}
-use Rattle.pgn_games.specs.Inside.Steps.{BeginsLine}
 use Rattle.pgn_games.proofs.GameLaws.{continues_same, is_on}
-use Rattle.pgn_games.proofs.StepLaws.{Lexes, from_place, lexed_one, over_then, some_told, steps_on, stops_before}
+use Rattle.pgn_games.proofs.StepLaws.{Lexes, lexed_one, over_then, some_told, steps_on, stops_before}
 use Rattle.pgn_games.proofs.cursor.Cursor.tell_lexeme.Goals as goal
 
 pub returns-in-Nothing-clause-steps : goal.returns-in-Nothing-clause-steps
@@ -43,7 +40,7 @@ returns-then-not-goes_on c =
     } in
     record {
       steps = λ more begins.
-      stops_before _ self.number told.0 _ _ (lexed_one self.number self.place c.lex-len.result.1 d self.line.items more (Some told.0) c.deref.ensures.value c.requires.one begins within c.requires.plain l) c.phase.result c.phase.ensures c.goes_on.result c.if-not-goes_on.true (c.goes_on.ensures told.0 told.1);
+          stops_before _ self.number told.0 _ _ (lexed_one self.number self.place c.lex-len.result.1 d self.line.items more (Some told.0) c.deref.ensures.value c.requires.one begins within c.requires.plain l) c.phase.result c.phase.ensures c.goes_on.result c.if-not-goes_on.true (c.goes_on.ensures told.0 told.1);
       further = λ e. absurd (cc);
       on = λ e. absurd (cc);
       line = refl;

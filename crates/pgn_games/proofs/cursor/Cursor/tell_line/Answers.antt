@@ -1,4 +1,4 @@
-use Rattle.std.proofs.Common.{◌∙◌, ap, arith, drop, false, get_or, length, sym, subst, ◌<◌, ◌≤◌, ◌≡◌, List, ℕ}
+use Rattle.std.proofs.Common.{◌∙◌, ap, arith, false, get_or, length, sym, ◌<◌, ◌≡◌, ℕ}
 use Rattle.std.proofs.lemmas.List.{get_or_read}
 use Rattle.pgn_games.specs.Inside.Steps.{comment_left}
 use Rattle.pgn_games.proofs.GameLaws.{continues_same, continues_then}
@@ -20,7 +20,7 @@ loop-self-preserved-else-not-close_comment c =
     let brace : get_or self.line.items self.place 0 ≡ 123 = sym (get_or_read self.line.items _ _ within c.index.ensures 0) ∙ c.if-index-eq123.true in
     record {
       steps = λ more begins.
-      continues_then _ _ _ _ _ _ (c.loop-self.invariant.steps more begins) (continues_same _ _ _ (at_comment self.number self.place self.line.items more within brace ∙ c.if-not-close_comment.ensures.closes self.number false more));
+          continues_then _ _ _ _ _ _ (c.loop-self.invariant.steps more begins) (continues_same _ _ _ (at_comment self.number self.place self.line.items more within brace ∙ c.if-not-close_comment.ensures.closes self.number false more));
       line = c.close_comment.ensures.line ∙ c.loop-self.invariant.line;
       on = c.loop-self.invariant.on;
       number = c.close_comment.ensures.number ∙ c.loop-self.invariant.number;

@@ -1,4 +1,3 @@
-use Rattle.std.proofs.Common.{List, ℕ}
 use Rattle.std.specs.Prelude.{option_map}
 use Rattle.pgn_games.specs.Lines.{read_text}
 use Rattle.pgn_games.specs.Games.{ReadsGame}

@@ -1,0 +1,18 @@
+//! Laws over the definitions alone, for the layers above.
+
+ghost use Rattle.pgn_games.specs.Laws.{GamesAreOfChess, MovesAreReadBack, NoneIsTheEnd};
+
+/// A game that is read begins at the position of its FEN tag or at the usual one, and its moves, at most 4,096, are legal in turn.
+pub fn games_are_of_chess()
+    ensures { GamesAreOfChess }
+{}
+
+/// None is told exactly where no token is left.
+pub fn none_is_the_end()
+    ensures { NoneIsTheEnd }
+{}
+
+/// The tokens of moves that are read in turn, and of a result, are read as the game of these moves.
+pub fn moves_are_read_back()
+    ensures { MovesAreReadBack }
+{}
