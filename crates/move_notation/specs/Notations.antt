@@ -37,7 +37,7 @@ pub record IsFirstUnread (p : Parts) (texts : List (List ℕ)) (place : ℕ) : T
   pub text : List ℕ
   pub behind : List (List ℕ)
   pub are : texts ≡ before ++ text ∷ behind
-  pub place : length before ≡ place
+  pub counted : length before ≡ place
   pub moves : List Moves
   pub there : Parts
   pub leads : LeadsTo p before moves there
