@@ -22,7 +22,7 @@ names_one one thing San p t m n a b =
     b.only m (subst (λ (told : Told). IsMeant p told m) same a.meant)
 
 -- one more word is read
-leads_more : (p q next : Parts) (texts : List (List ℕ)) (moves : List Moves) (text : List ℕ) (m : Moves) → LeadsTo p texts moves q → ReadsSan q text m → position_after q m ≡ Some next → LeadsTo p (texts ++ text ∷ []) (moves ++ m ∷ []) next
+pub leads_more : (p q next : Parts) (texts : List (List ℕ)) (moves : List Moves) (text : List ℕ) (m : Moves) → LeadsTo p texts moves q → ReadsSan q text m → position_after q m ≡ Some next → LeadsTo p (texts ++ text ∷ []) (moves ++ m ∷ []) next
 unfolding LeadsTo
 leads_more p q next [] [] text m leads reads played =
     (next, subst (λ p. ReadsSan p text m) leads reads, subst (λ (p : Parts). position_after p m ≡ Some next) leads played, refl)
