@@ -192,6 +192,7 @@ abbrev pub words_of : Line → List ℕ
 words_of (line.Ruling verdict) = verdict_words verdict
 words_of (line.Refused why) = refusal_words why
 words_of (line.Move m) = move_text m
+words_of (line.SanMove m text) = move_text m ++ 9 ∷ text.bytes
 words_of (line.Look name fault) = look_words name.bytes fault
 words_of (line.Wdl told) = told_words (codes "wdl") told.0
 words_of (line.Dtz told) = told_words (codes "dtz") told.0

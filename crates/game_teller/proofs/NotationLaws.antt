@@ -12,7 +12,6 @@ use Rattle.move_notation.specs.declared.notation.Notation.TheVariants.{Coordinat
 use Rattle.move_notation.specs.Laws.{NamesOneMove}
 use Rattle.move_notation.specs.Notations.{AreMovesIn, LeadsTo, Spells}
 use Rattle.move_notation.proofs.TurnLaws.{leads_more}
-use Rattle.san_text.specs.San.{ReadsSan}
 
 -- a move, and then the others
 goes_first : (p q : Parts) (m : Moves) (moves : List Moves) → position_after p m ≡ Some q → position_after_all p (m ∷ moves) ≡ position_after_all q moves
