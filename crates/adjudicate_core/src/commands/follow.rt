@@ -82,9 +82,7 @@ fn put_game<I: Input, W: Output>(
     let Ok(mut lines) = input.lines(alloc) else {
         return put_refusal(out, Refusal::Memory);
     };
-    status_told(follow_game(
-        alloc, notation, set, start, delay, &mut lines, out,
-    ))
+    status_told(follow_game(alloc, notation, set, start, delay, &mut lines, out))
 }
 
 impl<'a> Follow<'a> {
@@ -130,7 +128,15 @@ impl<'a> Follow<'a> {
         ensures cause { OnErr result (HasFailed W.facts) }
     {
         match gather(alloc, sources, CacheSize::usual()) {
-            Ok(Ok(set)) => put_game(alloc, Notation::by_flag(self.san), set, start, self.delay, input, out),
+            Ok(Ok(set)) => put_game(
+                alloc,
+                Notation::by_flag(self.san),
+                set,
+                start,
+                self.delay,
+                input,
+                out,
+            ),
             Ok(Err(refusal)) => put_refusal(out, refusal),
             Err(_) => put_refusal(out, Refusal::Memory),
         }
