@@ -17,7 +17,7 @@ use std::env::{Env, FillError};
 use std::process::ExitCode;
 use std::{env, io};
 use system_io::{
-    BufferedOutput, Disk, Host, Input, Output, SystemDisk, SystemHost, SystemInput, WriteFault,
+    BufferedOutput, Host, Input, LineDisk, Output, SystemDisk, SystemHost, SystemInput, WriteFault,
     end, open_above_standard,
 };
 
@@ -63,7 +63,7 @@ fn words_of(rt: &HostRuntime) -> Result<Vec<String>, WordsFault> {
 
 /// Runs the program on its words over this disk, input and host. Standard error is buffered; where memory for that is refused,
 /// nothing is run.
-fn run_over<D: Disk, I: Input, H: Host, W: Output>(
+fn run_over<D: LineDisk, I: Input, H: Host, W: Output>(
     rt: &HostRuntime,
     disk: &D,
     input: &I,

@@ -23,6 +23,7 @@ mod judge;
 mod list;
 mod listen;
 mod moves;
+mod pgn;
 mod probe;
 mod probes;
 mod record;
@@ -48,6 +49,7 @@ pub use judge::Judge;
 pub use list::List;
 pub use listen::Listen;
 pub use moves::Moves;
+pub use pgn::JudgePgn;
 pub use probe::Probe;
 pub use probes::Probes;
 pub use record::ShowRecord;
@@ -85,6 +87,8 @@ pub enum Task<'a> {
     Game(FollowGame<'a>),
     /// The outcomes of the games of the input.
     Games(FollowGames<'a>),
+    /// What tables say of the games of a PGN file.
+    Pgn(JudgePgn<'a>),
     /// The contents of a kept record.
     Record(ShowRecord<'a>),
     /// The record of a game in a folder.
@@ -134,6 +138,8 @@ pub enum Name {
     Game,
     /// Judges many games.
     Games,
+    /// Judges the games of a PGN file.
+    Pgn,
     /// Shows a kept record.
     Record,
     /// Audits kept files.
@@ -190,6 +196,7 @@ impl Name {
             "probes" => Some(Name::Probes),
             "game" => Some(Name::Game),
             "games" => Some(Name::Games),
+            "pgn" => Some(Name::Pgn),
             "record" => Some(Name::Record),
             "audit" => Some(Name::Audit),
             "version" => Some(Name::Version),
@@ -219,6 +226,7 @@ impl Name {
             Name::Probes => "probes",
             Name::Game => "game",
             Name::Games => "games",
+            Name::Pgn => "pgn",
             Name::Record => "record",
             Name::Audit => "audit",
             Name::Version => "version",
@@ -247,6 +255,7 @@ impl Name {
             Name::Probes => &probes::VALUES,
             Name::Game => &game::VALUES,
             Name::Games => &games::VALUES,
+            Name::Pgn => &pgn::VALUES,
             Name::Record => &record::VALUES,
             Name::Audit => &audit::VALUES,
             Name::Version => &[],
@@ -402,6 +411,10 @@ fn task_of<'a>(name: Name, matches: &ArgMatches<'a>) -> Result<Task<'a>, ValueFa
             Ok(task) => Ok(Task::Games(task)),
             Err(fault) => Err(fault),
         },
+        Name::Pgn => match JudgePgn::of(matches) {
+            Ok(task) => Ok(Task::Pgn(task)),
+            Err(fault) => Err(fault),
+        },
         Name::Record => record_of(matches),
         Name::Audit => audit_of(matches),
         Name::Version => Ok(Task::Version(Version)),
@@ -446,6 +459,7 @@ impl<'a> Task<'a> {
             Task::Probes(task) => task.places(),
             Task::Game(task) => task.places(),
             Task::Games(task) => task.places(),
+            Task::Pgn(task) => task.places(),
             Task::Record(task) => task.places(),
             Task::GameRecord(task) => task.places(),
             Task::Audit(task) => task.places(),

@@ -84,7 +84,7 @@ mod words;
 
 pub use commands::{
     Audit, AuditGames, Check, Enter, Entries, Follow, FollowGame, FollowGames, Form, GameFile,
-    GameRecord, HostGames, Judge, List, Listen, Moves, Name, OneGame, Probe, Probes, Root,
+    GameRecord, HostGames, Judge, JudgePgn, List, Listen, Moves, Name, OneGame, Probe, Probes, Root,
     RunSchedule, Send, SentGame, Show, ShowRecord, ShowStatus, Task, ToldGame, Value, Version,
     parse,
 };

@@ -27,7 +27,7 @@ use crate::words::uses::tell_misuse;
 use sealed_port::Keyed;
 use std::alloc::{AllocError, Global};
 use std::io::Write;
-use system_io::{Disk, Host, Input, Output, ReadFault, WriteFault};
+use system_io::{Host, Input, LineDisk, Output, ReadFault, WriteFault};
 use task_files::Inputs;
 
 /// What a task is answered from.
@@ -50,7 +50,7 @@ struct Context<'s, 'a, D, I, H> {
 /// the writer failed. `list`, `check` and `status` read their folder here, and hold one file at a time. With `--progress` the
 /// progress goes to `err`: for `probes` after every 10,000 lines, for `list` and `check` after each hundred million
 /// bytes. For `send` who was silent goes there, where an arbiter doesn't answer. No other task writes there.
-fn answer_given<D: Disk, I: Input, H: Host, W: Output, E: Output>(
+fn answer_given<D: LineDisk, I: Input, H: Host, W: Output, E: Output>(
     alloc: Global,
     task: &Task,
     given: Context<'_, '_, D, I, H>,
@@ -59,7 +59,7 @@ fn answer_given<D: Disk, I: Input, H: Host, W: Output, E: Output>(
     err: &mut E,
 ) -> Result<u8, WriteFault>
     ensures quiet { tells_progress task.now ≡ false → TellsIfLost E.facts E.contents err.old err.new task.now result }
-    ensures answered { GivenAt D.facts I.facts H.facts H.stores H.made H.Port.facts H.File.facts H.Store.facts W.contents E.facts E.contents task.now given.entry history.old history.new out.old out.new err.old err.new result }
+    ensures answered { GivenAt D.Disk.facts I.facts H.facts H.stores H.made H.Port.facts H.File.facts H.Store.facts W.contents E.facts E.contents task.now given.entry history.old history.new out.old out.new err.old err.new result }
     ensures made { MakesFor task.now (H.made history.old) (H.made history.new) }
     ensures cause { OnErr result (HasFailed W.facts) }
 {
@@ -76,6 +76,7 @@ fn answer_given<D: Disk, I: Input, H: Host, W: Output, E: Output>(
         Task::Probes(task) => task.answer(alloc, sources, system.input, out, err),
         Task::Game(task) => put_answered(out, task.answer(alloc, sources)),
         Task::Games(task) => task.answer(alloc, sources, system.input, out, err),
+        Task::Pgn(task) => task.answer(alloc, sources, system.disk, system.input, out),
         Task::Record(task) => put_answered(out, task.answer(alloc, sources)),
         Task::GameRecord(task) => task.answer(alloc, system.disk, system.host, out),
         Task::Audit(task) => put_answered(out, task.answer(alloc, sources)),
@@ -91,7 +92,7 @@ fn answer_given<D: Disk, I: Input, H: Host, W: Output, E: Output>(
 }
 
 /// Answers a task from what it reads.
-fn run_task<D: Disk, I: Input, H: Host, W: Output, E: Output>(
+fn run_task<D: LineDisk, I: Input, H: Host, W: Output, E: Output>(
     alloc: Global,
     task: &Task,
     system: &System<'_, D, I, H>,
@@ -100,7 +101,7 @@ fn run_task<D: Disk, I: Input, H: Host, W: Output, E: Output>(
     err: &mut E,
 ) -> Result<u8, WriteFault>
     ensures quiet { tells_progress task.now ≡ false → TellsIfLost E.facts E.contents err.old err.new task.now result }
-    ensures answered { TaskAt D.facts I.facts H.facts H.stores H.made H.Port.facts H.File.facts H.Store.facts W.contents E.facts E.contents task.now system.now history.old history.new out.old out.new err.old err.new result }
+    ensures answered { TaskAt D.Disk.facts I.facts H.facts H.stores H.made H.Port.facts H.File.facts H.Store.facts W.contents E.facts E.contents task.now system.now history.old history.new out.old out.new err.old err.new result }
     ensures made { MakesFor task.now (H.made history.old) (H.made history.new) }
     ensures cause { OnErr result (HasFailed W.facts) }
 {
@@ -120,7 +121,7 @@ fn run_task<D: Disk, I: Input, H: Host, W: Output, E: Output>(
 
 /// Answers a task from what it reads. Where it names a file of keys, the ports of the host are sealed by these. The refusal of that
 /// file comes before all others.
-fn run_by_key<D: Disk, I: Input, H: Host, W: Output, E: Output>(
+fn run_by_key<D: LineDisk, I: Input, H: Host, W: Output, E: Output>(
     alloc: Global,
     task: &Task,
     system: &System<'_, D, I, H>,
@@ -129,7 +130,7 @@ fn run_by_key<D: Disk, I: Input, H: Host, W: Output, E: Output>(
     err: &mut E,
 ) -> Result<u8, WriteFault>
     ensures quiet { tells_progress task.now ≡ false → TellsIfLost E.facts E.contents err.old err.new task.now result }
-    ensures answered { SealedAt D.facts I.facts H.facts H.stores H.made H.Port.facts H.File.facts H.Store.facts W.contents E.facts E.contents task.now system.now history.old history.new out.old out.new err.old err.new result }
+    ensures answered { SealedAt D.Disk.facts I.facts H.facts H.stores H.made H.Port.facts H.File.facts H.Store.facts W.contents E.facts E.contents task.now system.now history.old history.new out.old out.new err.old err.new result }
     ensures made { MakesFor task.now (H.made history.old) (H.made history.new) }
     ensures cause { OnErr result (HasFailed W.facts) }
 {
@@ -175,7 +176,7 @@ fn first_of<'a>(words: &[&'a str]) -> &'a str {
 /// gets the usage alone, after a command that of the command. The progress of a task with `--progress` goes there too, and who was silent where
 /// `send` ends as `refused lost`, and nothing else. A failure of
 /// `err` changes nothing. The error comes only where `out` failed.
-pub fn run<D: Disk, I: Input, H: Host, W: Output, E: Output>(
+pub fn run<D: LineDisk, I: Input, H: Host, W: Output, E: Output>(
     alloc: Global,
     words: &[&str],
     system: &System<'_, D, I, H>,
@@ -184,7 +185,7 @@ pub fn run<D: Disk, I: Input, H: Host, W: Output, E: Output>(
     err: &mut E,
 ) -> Result<u8, WriteFault>
     ensures quiet { err.new ≢ err.old → (result ≡ Ok 2) ⊎ ((t : Task) × IsTask (texts words.now) t × IsLoud E.facts E.contents err.old err.new t result) }
-    ensures runs { RunsProgram D.facts I.facts H.facts H.stores H.made H.Port.facts H.File.facts H.Store.facts W.contents E.facts E.contents words.now system.now history.old history.new out.old out.new err.old err.new result }
+    ensures runs { RunsProgram D.Disk.facts I.facts H.facts H.stores H.made H.Port.facts H.File.facts H.Store.facts W.contents E.facts E.contents words.now system.now history.old history.new out.old out.new err.old err.new result }
     ensures made { Makes (texts words.now) (H.made history.old) (H.made history.new) }
     ensures cause { OnErr result (HasFailed W.facts) }
 {
@@ -232,7 +233,7 @@ pub fn refuse_memory<W: Write>(out: &mut W) -> Result<u8, WriteFault>
 
 /// Runs the program on all words that it was called with, its own name first. A word that is not UTF-8 is a misuse.
 /// Where memory was refused for the words, the line is `refused memory`.
-pub fn run_program<D: Disk, I: Input, H: Host, W: Output, E: Output>(
+pub fn run_program<D: LineDisk, I: Input, H: Host, W: Output, E: Output>(
     alloc: Global,
     called: &Result<Vec<String>, WordsFault>,
     system: &System<'_, D, I, H>,
@@ -240,7 +241,7 @@ pub fn run_program<D: Disk, I: Input, H: Host, W: Output, E: Output>(
     out: &mut W,
     err: &mut E,
 ) -> Result<u8, WriteFault>
-    ensures runs { Calls D.facts I.facts H.facts H.stores H.made H.Port.facts H.File.facts H.Store.facts W.contents E.facts E.contents called.now system.now history.old history.new out.old out.new err.old err.new result }
+    ensures runs { Calls D.Disk.facts I.facts H.facts H.stores H.made H.Port.facts H.File.facts H.Store.facts W.contents E.facts E.contents called.now system.now history.old history.new out.old out.new err.old err.new result }
     ensures made { MakesCalled (called_by called.now) (H.made history.old) (H.made history.new) }
     ensures cause { OnErr result (HasFailed W.facts) }
 {

@@ -1,4 +1,3 @@
 pub mod Pieces
-pub mod Squares
 pub mod Whole
 pub mod Playing

@@ -1,6 +1,6 @@
 -- Tokens that are written one after the other.
 use Rattle.std.proofs.Common.{◌≡◌, ◌∙◌, sym, ap, refl, subst, ℕ, ℤ, ◌<◌, ◌^◌, ◌≤◌, ◌++◌, Bool, true, false, cond, List, [], ◌∷◌, Option, Some, append_assoc, append-nil, option_and_then, arith, ◌+◌, length, take, get_or}
-use Rattle.std.specs.Fmt.{signed_decimal}
+use Rattle.std.specs.Fmt.{decimal, signed_decimal}
 use Rattle.std.specs.Int.Signed.{mag}
 use Rattle.std.specs.Io.KnownBytes.{Appends}
 use Rattle.std.proofs.KnownBytes.{Appends-nil, Appends-trans}
@@ -12,7 +12,7 @@ use Rattle.json.specs.Token.{Token, end_object, end_array, key}
 use Rattle.json.specs.Json.{Json, null, boolean, number, string, array, object, Items, no_items, item, Members, no_members, member, max_depth, document, value, if_last}
 use Rattle.json.specs.Print.{ArePrintable, IsPrintable, escape, escape_byte, print_from, quoted, separator, token_text}
 use Rattle.json.specs.Tree.{json_tokens, items_tokens, members_tokens, depth}
-use Rattle.json.proofs.Printed.Decimals.{IsNumber-signed_decimal}
+use Rattle.json.proofs.Printed.Decimals.{IsNumber-decimal, IsNumber-signed_decimal}
 use Rattle.json.proofs.Printed.Tokens.{print_from-append, tokens-print}
 use Rattle.json.proofs.Printed.Strings.{escape_byte_plain}
 use Rattle.json.proofs.Printed.Trees.{value-json_tokens}
@@ -78,6 +78,9 @@ writes_both later ts us old mid new a b = record {
 
 pub writes_number : (z : ℤ) (old new : Option (List ℕ)) → mag z < 2 ^ 31 → Appends old new (signed_decimal z) → Writes false (Token.number (signed_decimal z) ∷ []) old new
 writes_number z old new few text = writes_one false _ old new (IsNumber-signed_decimal z (omega (arith, few))) text
+
+pub writes_count : (n : ℕ) (old new : Option (List ℕ)) → n < 2 ^ 64 → Appends old new (decimal n) → Writes false (Token.number (decimal n) ∷ []) old new
+writes_count n old new few text = writes_one false _ old new (IsNumber-decimal n few) text
 
 -- a name, behind a comma where a value stands before it, and its colon
 pub writes_key : (later : Bool) (k : List ℕ) (old mid after new : Option (List ℕ)) → Appends old mid (cond later (44 ∷ []) []) → Appends mid after (quoted k) → Appends after new (58 ∷ []) → Writes later (key k ∷ []) old new

@@ -1,5 +1,5 @@
 -- Objects and lists that are written whole.
-use Rattle.std.proofs.Common.{◌≡◌, ◌∙◌, sym, refl, subst, ℕ, ℤ, ◌<◌, ◌≤◌, max, Bool, true, false, cond, List, [], ◌∷◌, ◌++◌, length, Option, Some, None, append-nil, arith}
+use Rattle.std.proofs.Common.{◌≡◌, ◌∙◌, sym, ap, refl, subst, ℕ, ℤ, ◌<◌, ◌≤◌, max, Bool, true, false, cond, List, [], ◌∷◌, ◌++◌, length, Option, Some, None, append-nil, arith}
 use Rattle.std.specs.Prelude.{Result, Ok, Err, codes, ⊤}
 use Rattle.std.specs.List.{IsFirstAndRest}
 use Rattle.std.specs.Io.KnownBytes.{Appends}
@@ -86,19 +86,12 @@ pub one_error : (probed : ProbeResult) (o : Option ProbeFault) (fault : ProbeFau
     → Writes true (open_tokens (error_members probed)) a b
 one_error probed o fault a b is some h = subst (λ x. Writes true (open_tokens (fault_members x)) a b) (sym some ∙ is) (one_open true (codes "error") (string (probe_fault_words fault)) a b h)
 
--- the members of the position after a move, each as it is told
-abbrev pub after_base : (fen wdl dtz category zeroing checkmate stalemate : Json) → Members
-after_base fen wdl dtz category zeroing checkmate stalemate =
-    member (codes "fen") fen
-    (member (codes "wdl") wdl
-    (member (codes "dtz") dtz
-    (member (codes "category") category
-    (member (codes "zeroing") zeroing
-    (member (codes "checkmate") checkmate
-    (member (codes "stalemate") stalemate no_members))))))
-
-pub after_same : {a b c d e f g a' b' c' d' e' f' g' : Json} → a ≡ a' → b ≡ b' → c ≡ c' → d ≡ d' → e ≡ e' → f ≡ f' → g ≡ g' → after_base a b c d e f g ≡ after_base a' b' c' d' e' f' g'
-after_same p q r s t u v = λ i. after_base (p i) (q i) (r i) (s i) (t i) (u i) (v i)
+-- a member as it is told, and then others
+pub one_same : (m n : Member) (j : Json) (ms ns : Members) → m ≡ n → value_json n.value ≡ j → ms ≡ ns → member m.name.now (value_json m.value) ms ≡ member n.name.now j ns
+one_same m n j ms ns is told others =
+    ap (λ (x : Member). member x.name.now (value_json x.value) ms) is
+    ∙ ap (λ k. member n.name.now k ms) told
+    ∙ ap (λ xs. member n.name.now j xs) others
 
 -- ---- lists
 
@@ -169,3 +162,9 @@ shallow (line.Root t moves) =
 
 pub line_reads_back : (l : JsonLine) (old new : Option (List ℕ)) → Writes false (json_tokens (line_json l)) old new → document (json_text (line_json l)) ≡ Some (line_json l)
 line_reads_back l old new w = reads_back (line_json l) old new w (let s = shallow l in omega (arith, s))
+
+-- an object of some members, and its text
+pub some_object_written : (all : List Member) (a b c d : Option (List ℕ)) → 0 < length all → Writes false (begin_object ∷ []) a b → Writes false (open_tokens (members_of all)) b c → Writes true (end_object ∷ []) c d → Appends a d (json_text (object (members_of all)))
+some_object_written [] a b c d some begins facts ends = absurd (omega (arith, some))
+some_object_written (m ∷ ms) a b c d some begins facts ends =
+    (object_written false (members_of (m ∷ ms)) a c d tt (opened_written false (members_of (m ∷ ms)) a b c begins facts) ends).text

@@ -1,4 +1,3 @@
 -- What private functions write, and what they may ask for.
 pub mod Members
 pub mod Playing
-pub mod Sought

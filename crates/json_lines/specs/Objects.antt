@@ -5,6 +5,8 @@ use Rattle.std.specs.Fmt.{signed_decimal}
 use Rattle.std.specs.Ordering.{int_eq}
 use Rattle.board_core.specs.declared.parts.Parts.{Parts}
 use Rattle.board_core.specs.declared.verdict.Verdict.{Verdict}
+use Rattle.board_core.specs.Computed.{is_in_check}
+use Rattle.board_core.specs.Ends.{has_insufficient_material}
 use Rattle.board_core.specs.Position.{fault_name as position_fault_name}
 use Rattle.board_core.specs.Verdicts.{verdict_name}
 use Rattle.fen_text.specs.declared.fault.FenFault.{FenFault}
@@ -25,7 +27,6 @@ use Rattle.json_lines.specs.declared.told.JsonLine.{JsonLine}
 use Rattle.json_lines.specs.declared.told.JsonLine.TheVariants as line
 use Rattle.json_lines.specs.declared.told.MoveTold.{MoveTold}
 use Rattle.json_lines.specs.declared.told.PositionTold.{PositionTold}
-use Rattle.json_lines.specs.Material.{is_insufficient}
 
 -- the text of a value: no space, and the shortest escapes
 abbrev pub json_text : Json → List ℕ
@@ -97,7 +98,7 @@ position_members p probed verdict =
     (member (codes "category") (string (category_of (state_of p) probed.wdl))
     (member (codes "checkmate") (boolean (is_checkmate (state_of p)))
     (member (codes "stalemate") (boolean (is_stalemate (state_of p)))
-    (member (codes "insufficient_material") (boolean (is_insufficient p)) no_members))))))))
+    (member (codes "insufficient_material") (boolean (has_insufficient_material p)) no_members))))))))
     (error_members probed)
 
 -- a legal move: what the probes tell of the position after it, from the view of its side to move
@@ -107,14 +108,16 @@ after_members t =
     (member (codes "fen") (string (fen_of t.after))
     (member (codes "wdl") (number_or_null t.probed.wdl)
     (member (codes "dtz") (number_or_null t.probed.dtz)
-    (member (codes "category") (string (category_of t.root.state t.probed.wdl))
-    (member (codes "zeroing") (boolean (zeroes_clock t.root.effect))
-    (member (codes "checkmate") (boolean (is_checkmate t.root.state))
-    (member (codes "stalemate") (boolean (is_stalemate t.root.state)) no_members)))))))
+    (member (codes "category") (string (category_of t.state t.probed.wdl))
+    (member (codes "zeroing") (boolean (zeroes_clock t.effect))
+    (member (codes "checkmate") (boolean (is_checkmate t.state))
+    (member (codes "stalemate") (boolean (is_stalemate t.state))
+    (member (codes "check") (boolean (is_in_check t.after.men t.after.side))
+    (member (codes "insufficient_material") (boolean (has_insufficient_material t.after)) no_members)))))))))
     (error_members t.probed)
 
 abbrev pub move_members : MoveTold → Members
-move_members t = member (codes "uci") (string (move_text t.root.played)) (after_members t)
+move_members t = member (codes "uci") (string (move_text t.played)) (after_members t)
 
 abbrev pub move_json : MoveTold → Json
 move_json t = object (move_members t)

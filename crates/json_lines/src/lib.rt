@@ -1,28 +1,30 @@
 //! What tables tell of a position and of its legal moves, as one JSON object (RFC 8259).
 //!
-//! `JsonLine` is what a line tells: why a text is no position, or both probes of a position and the verdict on it, or these with the
-//! legal moves, the best first, each with the values of the position after it. `Ask` of judge_core says whether values are the strict
-//! ones, or also those that every completion of the missing tables gives. `put_json_line` writes it. Names and meanings are those of the
-//! tablebase API of Lichess, where it has them (FORMATS, section 3.10).
+//! `JsonLine` is what a line tells: why a text is no position, or both probes of a position and the verdict on it, or these with all
+//! legal moves, each with the values of the position after it: the best first, or in the order of moves where the position is out of
+//! scope. `Ask` of judge_core says whether values are the strict ones, or also those that every completion of the missing tables gives.
+//! `put_json_line` writes it. Names and meanings are those of the tablebase API of Lichess, where it has them (FORMATS, section 3.10).
 //!
-//! Inside: `told` (what is told), `material` (whether the men suffice to mate), `writing`, `members` and `text` (objects,
-//! members, strings with their escapes).
+//! Inside: `told` (what is told), `writing`, `members` and `text` (objects, members, strings with their escapes).
 //!
-//! Definitions, in reading order: `Told`, `Material`, `Objects` (`line_json`). The text of a value is that of the
+//! Definitions, in reading order: `Told`, `Objects` (`line_json`). The text of a value is that of the
 //! toolchain's `json` (`print`, `json_tokens`). Its cases stand in `probes.txt` and `root.txt` of `rows` (those with `--json`).
 //!
 //! - CLAIM: `put_json_line`, clauses `written`, `reads_back`: the text is that of the line's object, and a JSON parser reads it back.
 //! - CLAIM: `JsonLine::of_text`, clauses `told`, `memory`, `lack`, `unchanged`; `JsonLine::of_position`, clauses `told`, `memory`,
 //!   `unchanged`; `JsonLine::is_done`: the line tells what the set's calls tell of the position that the text spells, or the text's
-//!   first fault. Lack of memory is told only at a position in scope; without moves only where its values list moves.
+//!   first fault. With moves it has each legal move once, in scope or not. Without them lack of memory is told only where its values
+//!   list moves.
 #![tactic(auto)]
 
-mod material;
 mod members;
+mod object;
 mod text;
 mod told;
 mod writing;
 
 pub use judge_core::Ask;
+pub use members::{Member, Value};
+pub use object::put_object;
 pub use told::{JsonLine, MoveTold, PositionTold};
 pub use writing::put_json_line;

@@ -4,7 +4,7 @@ ghost use Rattle.std.specs.Prelude.{◌∷◌, [], cond, false, OnOk};
 ghost use Rattle.std.specs.Io.KnownBytes.{Appends};
 ghost use Rattle.json.specs.Token.{key};
 ghost use Rattle.json.specs.Tree.{json_tokens};
-ghost use Rattle.json_lines.specs.declared.members.Value.TheVariants.{Boolean, Number};
+ghost use Rattle.json_lines.specs.declared.members.Value.TheVariants.{Boolean, Count, Number};
 ghost use Rattle.json_lines.specs.Inside.Members.{Writes, members_of, open_tokens, value_json};
 
 use crate::text::{put, put_string, put_text};
@@ -13,13 +13,15 @@ use system_io::WriteFault;
 
 /// A value that is neither a list nor an object.
 #[derive(Clone, Copy)]
-pub(crate) enum Value<'a> {
+pub enum Value<'a> {
     /// `null`.
     Null,
     /// `true` or `false`.
     Boolean(bool),
     /// A whole number.
     Number(i32),
+    /// A number that counts.
+    Count(u64),
     /// A string.
     Text(&'a str),
     /// A string of two parts.
@@ -28,11 +30,11 @@ pub(crate) enum Value<'a> {
 
 /// A member of an object.
 #[derive(Clone, Copy)]
-pub(crate) struct Member<'a> {
+pub struct Member<'a> {
     /// Its name.
-    pub(crate) name: &'static str,
+    pub name: &'static str,
     /// Its value.
-    pub(crate) value: Value<'a>,
+    pub value: Value<'a>,
 }
 
 /// Writes a whole number.
@@ -40,6 +42,16 @@ fn put_number<W: Write>(out: &mut W, number: i32) -> Result<(), WriteFault>
     ensures { OnOk result (Writes false (json_tokens (value_json (Number number))) (W.contents out.old) (W.contents out.new)) }
 {
     match write!(out, "{number}") {
+        Ok(()) => Ok(()),
+        Err(_) => Err(WriteFault::Io),
+    }
+}
+
+/// Writes a number that counts.
+fn put_count<W: Write>(out: &mut W, count: u64) -> Result<(), WriteFault>
+    ensures { OnOk result (Writes false (json_tokens (value_json (Count count))) (W.contents out.old) (W.contents out.new)) }
+{
+    match write!(out, "{count}") {
         Ok(()) => Ok(()),
         Err(_) => Err(WriteFault::Io),
     }
@@ -64,6 +76,7 @@ fn put_value<W: Write>(out: &mut W, value: &Value<'_>) -> Result<(), WriteFault>
         Value::Null => put(out, b"null"),
         Value::Boolean(value) => put_boolean(out, *value),
         Value::Number(number) => put_number(out, *number),
+        Value::Count(count) => put_count(out, *count),
         Value::Text(text) => put_text(out, text),
         Value::Words(front, rest) => put_string(out, front, rest),
     }

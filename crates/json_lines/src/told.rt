@@ -1,18 +1,18 @@
 //! What tables tell of a position and of its legal moves.
 
-ghost use Rattle.std.specs.Prelude.{◌≡◌, ◌++◌, ◌∷◌, [], false, IfOk, OnErr, OnOk};
+ghost use Rattle.std.specs.Prelude.{◌≡◌, ◌++◌, ◌∷◌, [], Some, IfOk, OnErr, OnOk, map};
+ghost use Rattle.board_core.specs.ComputedMoves.{position_after};
 ghost use Rattle.std.specs.List.{All, list_all};
 ghost use Rattle.judge_core.specs.ProbeResult.{has_both};
 ghost use Rattle.judge_core.specs.Root.{is_checkmate};
-ghost use Rattle.judge_core.specs.Ruling.{is_out_of_scope};
 ghost use Rattle.json_lines.specs.declared.told.MoveTold.{MoveTold};
 ghost use Rattle.json_lines.specs.Inside.Playing.{IsPlayable};
 ghost use Rattle.judge_core.specs.Ask.{MayLack};
-ghost use Rattle.json_lines.specs.Told.{AreMovesTold, IsLineFor, IsLineOf, IsMoveTold, IsPositionTold, IsProbedAfter, IsRootTold, IsText, MayLackLine, OfText, is_done};
+ghost use Rattle.json_lines.specs.Told.{AreMovesTold, AreOrdered, IsLineFor, IsLineOf, IsMoveTold, IsPositionTold, IsProbedAfter, IsRootTold, IsText, MayLackLine, OfText, is_done, played_in};
 
-use board_core::Position;
+use board_core::{Move, Position};
 use fen_text::{FenFault, read};
-use judge_core::{Ask, Columns, ProbeResult, RootMove, Set};
+use judge_core::{Ask, BoardState, Columns, Effect, ProbeResult, RootMove, Set};
 use std::alloc::{AllocError, Global};
 
 /// Both probes of a position and the verdict on it.
@@ -24,13 +24,17 @@ pub struct PositionTold {
     pub columns: Columns,
 }
 
-/// A legal move, and both probes of the position after it.
+/// A legal move, and what is told of the position after it.
 #[derive(Clone, Copy)]
 pub struct MoveTold {
     /// The move.
-    pub root: RootMove,
+    pub played: Move,
+    /// What it does.
+    pub effect: Effect,
     /// The position after it.
     pub after: Position,
+    /// How that position stands for its side to move.
+    pub state: BoardState,
     /// The values of that position, from the view of its side to move. A side that is mated has -2 and -1.
     pub probed: ProbeResult,
 }
@@ -42,22 +46,22 @@ pub enum JsonLine {
     Fault(FenFault),
     /// A position.
     Position(PositionTold),
-    /// A position and its legal moves, the best first.
+    /// A position and its legal moves: the best first, or in the order of moves where it is out of scope.
     Root(PositionTold, Vec<MoveTold>),
 }
 
-/// The values of the position after a move. Where it is mate they need no table.
+/// The values of a position that stands so for its side to move. Where it is mate they need no table.
 fn probed_after(
     ask: Ask,
     alloc: Global,
     set: &mut Set<'_>,
-    m: &RootMove,
+    state: BoardState,
     after: &Position,
 ) -> Result<ProbeResult, AllocError>
-    ensures told { IfOk result (IsProbedAfter ask set.old.tables (is_checkmate m.now.state) after.now) }
+    ensures told { IfOk result (IsProbedAfter ask set.old.tables (is_checkmate state) after.now) }
     ensures unchanged { set.new ≡ set.old }
 {
-    if m.state.is_checkmate() {
+    if state.is_checkmate() {
         return Ok(ProbeResult {
             wdl: Ok(-2),
             dtz: Ok(-1),
@@ -69,27 +73,47 @@ fn probed_after(
     }
 }
 
+/// A legal move with what is told of the position after it.
+fn told_after(
+    ask: Ask,
+    alloc: Global,
+    set: &mut Set<'_>,
+    position: &Position,
+    m: &Move,
+    after: &Position,
+) -> Result<MoveTold, AllocError>
+    requires { position_after position.now m.now ≡ Some after.now }
+    ensures told { IfOk result (IsMoveTold ask set.old.tables position.now m.now) }
+    ensures unchanged { set.new ≡ set.old }
+{
+    let effect = Effect::of(position, m);
+    let state = BoardState::of(after);
+    match probed_after(ask, alloc, set, state, after) {
+        Ok(probed) => Ok(MoveTold {
+            played: *m,
+            effect,
+            after: *after,
+            state,
+            probed,
+        }),
+        Err(fault) => Err(fault),
+    }
+}
+
 /// A legal move with what is told of it.
 fn move_told(
     ask: Ask,
     alloc: Global,
     set: &mut Set<'_>,
     position: &Position,
-    m: &RootMove,
+    m: &Move,
 ) -> Result<MoveTold, AllocError>
     requires { IsPlayable position.now m.now }
     ensures told { IfOk result (IsMoveTold ask set.old.tables position.now m.now) }
     ensures unchanged { set.new ≡ set.old }
 {
-    match position.play(m.played) {
-        Some(after) => match probed_after(ask, alloc, set, m, &after) {
-            Ok(probed) => Ok(MoveTold {
-                root: *m,
-                after,
-                probed,
-            }),
-            Err(fault) => Err(fault),
-        },
+    match position.play(*m) {
+        Some(after) => told_after(ask, alloc, set, position, m, &after),
         None => unreachable!(),
     }
 }
@@ -109,7 +133,7 @@ fn add_move_told(
     alloc: Global,
     set: &mut Set<'_>,
     position: &Position,
-    m: &RootMove,
+    m: &Move,
     told: &mut Vec<MoveTold>,
 ) -> Result<(), AllocError>
     requires { IsPlayable position.now m.now }
@@ -128,7 +152,7 @@ fn moves_told(
     alloc: Global,
     set: &mut Set<'_>,
     position: &Position,
-    moves: &[RootMove],
+    moves: &[Move],
 ) -> Result<Vec<MoveTold>, AllocError>
     requires { All (IsPlayable position.now) moves.now }
     ensures told { IfOk result (λ told. AreMovesTold ask set.old.tables position.now moves.now told.items) }
@@ -141,7 +165,35 @@ fn moves_told(
     Ok(told)
 }
 
-/// All legal moves of a position with what is told of them, the best first.
+/// The moves of a list.
+fn played(alloc: Global, roots: &[RootMove]) -> Result<Vec<Move>, AllocError>
+    ensures { IfOk result (λ moves. moves.items ≡ map played_in roots.now) }
+{
+    let mut moves = Vec::new(alloc);
+    for root in roots {
+        add(&mut moves, root.played)?;
+    }
+    Ok(moves)
+}
+
+/// All legal moves of a position, the best first; where it is out of scope, in the order of moves.
+fn ordered(
+    ask: Ask,
+    alloc: Global,
+    set: &mut Set<'_>,
+    position: &Position,
+) -> Result<Vec<Move>, AllocError>
+    ensures moves { IfOk result (λ moves. AreOrdered ask set.old.tables position.now moves.items) }
+    ensures unchanged { set.new ≡ set.old }
+{
+    match ask.root(alloc, set, position) {
+        Ok(Some(roots)) => played(alloc, &roots),
+        Ok(None) => position.legal(alloc),
+        Err(fault) => Err(fault),
+    }
+}
+
+/// All legal moves of a position with what is told of them.
 fn root_told(
     ask: Ask,
     alloc: Global,
@@ -149,14 +201,10 @@ fn root_told(
     position: &Position,
 ) -> Result<Vec<MoveTold>, AllocError>
     ensures told { IfOk result (λ told. IsRootTold ask set.old.tables position.now told.items) }
-    ensures memory { OnErr result (is_out_of_scope position.now ≡ false) }
     ensures unchanged { set.new ≡ set.old }
 {
-    match ask.root(alloc, set, position) {
-        Ok(Some(moves)) => moves_told(ask, alloc, set, position, &moves),
-        Ok(None) => Ok(Vec::new(alloc)),
-        Err(fault) => Err(fault),
-    }
+    let moves = ordered(ask, alloc, set, position)?;
+    moves_told(ask, alloc, set, position, &moves)
 }
 
 /// A position with both probes and its verdict.
@@ -180,12 +228,12 @@ fn position_told(
 }
 
 impl JsonLine {
-    /// What tables tell of a position, with its legal moves if they are wanted, the best first.
+    /// What tables tell of a position, with its legal moves if they are wanted.
     ///
-    /// Values and verdict are those of `Ask::answers`, the moves those of `Ask::root`. The values of a move are those of
-    /// `Ask::answers` for the position after it. A position that is out of scope has no move. The error comes only where
-    /// memory is refused, at a position in scope; without moves only where `Ask::answers` may give it. The tables stay as
-    /// they were.
+    /// Values and verdict are those of `Ask::answers`, the moves those of `Ask::root`, or where the position is out of
+    /// scope all legal moves in the order of moves. The values of a move are those of `Ask::answers` for the position
+    /// after it. The error comes only where memory is refused, without moves only where `Ask::answers` may give it. The
+    /// tables stay as they were.
     pub fn of_position(
         alloc: Global,
         set: &mut Set<'_>,

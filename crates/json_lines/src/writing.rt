@@ -11,7 +11,6 @@ ghost use Rattle.judge_core.specs.Words.{probe_fault_words};
 ghost use Rattle.place_index.specs.Material.{men_of, name_of};
 ghost use Rattle.json_lines.specs.Objects.{after_members, category, category_of, error_members, fault_json, fen_error, first_probe_fault, followed_by, is_stalemate, json_text, line_json, move_json, move_members, moves_items, number_or_null, position_json, position_members, root_json, verdict_or_null};
 
-use crate::material::is_insufficient;
 use crate::members::{Member, Value, put_comma, put_key, put_member, put_members};
 use crate::text::put;
 use crate::told::{JsonLine, MoveTold, PositionTold};
@@ -140,7 +139,7 @@ fn put_error<W: Write>(out: &mut W, probed: &ProbeResult) -> Result<(), WriteFau
 }
 
 /// Writes an opening brace.
-fn put_begin<W: Write>(out: &mut W, later: bool) -> Result<(), WriteFault>
+pub(crate) fn put_begin<W: Write>(out: &mut W, later: bool) -> Result<(), WriteFault>
     ensures { OnOk result (Writes later (begin_object ∷ []) (W.contents out.old) (W.contents out.new)) }
 {
     match put_comma(out, later) {
@@ -150,7 +149,7 @@ fn put_begin<W: Write>(out: &mut W, later: bool) -> Result<(), WriteFault>
 }
 
 /// Writes a closing brace.
-fn put_end<W: Write>(out: &mut W) -> Result<(), WriteFault>
+pub(crate) fn put_end<W: Write>(out: &mut W) -> Result<(), WriteFault>
     ensures { OnOk result (Writes true (end_object ∷ []) (W.contents out.old) (W.contents out.new)) }
 {
     put(out, b"}")
@@ -211,7 +210,7 @@ fn put_position<W: Write>(out: &mut W, told: &PositionTold) -> Result<(), WriteF
         member("stalemate", Value::Boolean(is_stalemate(state))),
         member(
             "insufficient_material",
-            Value::Boolean(is_insufficient(&told.position)),
+            Value::Boolean(told.position.has_insufficient_material()),
         ),
     ];
     put_facts(out, &members, probed)
@@ -219,9 +218,9 @@ fn put_position<W: Write>(out: &mut W, told: &PositionTold) -> Result<(), WriteF
 
 /// Writes the member that has a move.
 fn put_uci<W: Write>(out: &mut W, told: &MoveTold) -> Result<(), WriteFault>
-    ensures { OnOk result (Writes false (key (codes "uci") ∷ json_tokens (string (move_text told.now.root.played))) (W.contents out.old) (W.contents out.new)) }
+    ensures { OnOk result (Writes false (key (codes "uci") ∷ json_tokens (string (move_text told.now.played))) (W.contents out.old) (W.contents out.new)) }
 {
-    let played = write_move(&told.root.played);
+    let played = write_move(&told.played);
     let member = Member {
         name: "uci",
         value: Value::Text(played.as_str()),
@@ -234,36 +233,23 @@ fn put_after<W: Write>(out: &mut W, told: &MoveTold) -> Result<(), WriteFault>
     ensures { OnOk result (Writes true (open_tokens (after_members told.now)) (W.contents out.old) (W.contents out.new)) }
 {
     let fen = write(&told.after);
-    let state = told.root.state;
+    let state = told.state;
     let members = [
-        Member {
-            name: "fen",
-            value: Value::Text(fen.as_str()),
-        },
-        Member {
-            name: "wdl",
-            value: number_or_null(&told.probed.wdl),
-        },
-        Member {
-            name: "dtz",
-            value: number_or_null(&told.probed.dtz),
-        },
-        Member {
-            name: "category",
-            value: Value::Text(category_of(state, &told.probed.wdl)),
-        },
-        Member {
-            name: "zeroing",
-            value: Value::Boolean(told.root.effect.zeroes_clock()),
-        },
-        Member {
-            name: "checkmate",
-            value: Value::Boolean(state.is_checkmate()),
-        },
-        Member {
-            name: "stalemate",
-            value: Value::Boolean(is_stalemate(state)),
-        },
+        member("fen", Value::Text(fen.as_str())),
+        member("wdl", number_or_null(&told.probed.wdl)),
+        member("dtz", number_or_null(&told.probed.dtz)),
+        member(
+            "category",
+            Value::Text(category_of(state, &told.probed.wdl)),
+        ),
+        member("zeroing", Value::Boolean(told.effect.zeroes_clock())),
+        member("checkmate", Value::Boolean(state.is_checkmate())),
+        member("stalemate", Value::Boolean(is_stalemate(state))),
+        member("check", Value::Boolean(told.after.in_check())),
+        member(
+            "insufficient_material",
+            Value::Boolean(told.after.has_insufficient_material()),
+        ),
     ];
     put_told(out, true, &members, &told.probed)
 }

@@ -12,7 +12,7 @@ use Rattle.judge_core.specs.declared.distance.Distance.TheVariants.{Draw}
 use Rattle.judge_core.specs.declared.probe_result.ProbeResult.{ProbeResult}
 use Rattle.judge_core.specs.Answers.{IsProbe, as_probe, signed_in}
 use Rattle.judge_core.specs.Distances.{Reach, dtz_by, dtz_to, dtz_of}
-use Rattle.judge_core.specs.Ends.{has_no_move}
+use Rattle.board_core.specs.Ends.{has_no_move}
 use Rattle.judge_core.specs.Probing.{wdl_of}
 use Rattle.judge_core.specs.Ruling.{end_of, is_out_of_scope, ruling, ruling_by}
 use Rattle.judge_core.specs.Tables.{Tables}

@@ -11,7 +11,7 @@ use Rattle.board_core.specs.Position.{IsPosition}
 use Rattle.board_core.specs.ComputedMoves.{has_some, has_legal_move, has_move_besides_en_passant, is_later, captures_after, is_square, is_en_passant, is_capture, legal_moves, legal_captures, position_after, count_of_men}
 use Rattle.board_core.proofs.ComputedMoves.{position_legal}
 use Rattle.board_core.proofs.ComputedMen.{capture_takes}
-use Rattle.judge_core.specs.Ends.{has_no_move}
+use Rattle.board_core.specs.Ends.{has_no_move}
 use Rattle.judge_core.specs.Probing.{is_forced, are_en_passant}
 use Rattle.judge_core.specs.Inside.Found.{lands_empty}
 

@@ -22,7 +22,7 @@ use Rattle.judge_core.specs.Tables.{Tables, table_at, table_value, part_asked}
 use Rattle.judge_core.specs.Asked.{asked, first, not_covered, missing_or_damaged, fault_in, unless}
 use Rattle.judge_core.specs.Probing.{values_after, greatest_value, value_or_loss, is_forced, searched_where, searched_by, wdl_from_search, wdl_where, wdl_of, worth, worth_in}
 use Rattle.judge_core.specs.Distances.{Reach, is_won, is_value, is_quiet, is_pawn_step, is_by_capture, distance_before, move_counts, by_counts, by_quiet_moves, by_table, by_material, by_own_table, pawns_reach_where, unless_reached, by_moves, by_outcome, dtz_from_search, zeroing, towards, dtz_by, dtz_to, dtz_of}
-use Rattle.judge_core.specs.Ends.{is_mate}
+use Rattle.board_core.specs.Ends.{is_checkmate}
 use Rattle.judge_core.specs.Determined.{Completes, IsCompletion, IsCompletedBy}
 use Rattle.judge_core.proofs.Captures.{falls}
 use Rattle.judge_core.proofs.Rule.{where_meets_rule, still}
@@ -163,7 +163,7 @@ counted_kept won (Err fault) s k x e = absurd (cc)
 
 count_kept : (outcome : Outcome) (f g : Parts → Reach) (q : Parts) → Keeps (f q) (g q) → Keeps (move_counts outcome f q) (move_counts outcome g q)
 unfolding move_counts
-count_kept outcome f g q k = step (is_won outcome && is_mate q)
+count_kept outcome f g q k = step (is_won outcome && is_checkmate q)
   where
     step : (b : Bool) → Keeps (cond b (Ok (Some 1)) (distance_before (is_won outcome) (f q))) (cond b (Ok (Some 1)) (distance_before (is_won outcome) (g q)))
     step true = λ x e. e

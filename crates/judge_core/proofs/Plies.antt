@@ -12,7 +12,7 @@ use Rattle.judge_core.specs.Tables.{Tables}
 use Rattle.board_core.specs.declared.verdict.Verdict.{Verdict}
 use Rattle.board_core.specs.ComputedMoves.{legal_moves}
 use Rattle.judge_core.specs.Values.{Reading}
-use Rattle.judge_core.specs.Ends.{has_no_move}
+use Rattle.board_core.specs.Ends.{has_no_move}
 use Rattle.board_core.specs.ComputedMoves.{count_of_men}
 use Rattle.judge_core.specs.declared.fault.ValueFault.{ValueFault}
 use Rattle.judge_core.specs.declared.found.CaptureSearch.{CaptureSearch}

@@ -16,7 +16,7 @@ use Rattle.judge_core.specs.declared.distance.Distance.{Distance}
 use Rattle.judge_core.specs.declared.distance.Distance.TheVariants.{Draw}
 use Rattle.judge_core.specs.LookUp.{material_of, placed_of}
 use Rattle.judge_core.specs.Tables.{Tables, table_at, part_asked}
-use Rattle.judge_core.specs.Ends.{is_mate}
+use Rattle.board_core.specs.Ends.{is_checkmate}
 use Rattle.judge_core.specs.Probing.{searched_by, wdl_of}
 use Rattle.judge_core.specs.Distances.{Reach, is_won, zeroing, towards, distance_before, move_counts, by_quiet_moves, distance_in, stored_distance, by_own_table, pawns_reach, unless_reached, by_moves, dtz_from_search, dtz_by, dtz_to}
 use Rattle.judge_core.specs.Inside.Determined.{distance_in_both, or_agreed_distance, reach_after}
@@ -27,11 +27,11 @@ if_same {X} r a b e h = subst (λ (y : X). IfOk r (λ x. x ≡ y)) e h
 
 -- ---- one move
 
-pub mate_counts : (outcome : Outcome) (reach : Parts → Reach) (q : Parts) → is_won outcome ≡ true → is_mate q ≡ true → Ok (Some 1) ≡ move_counts outcome reach q
+pub mate_counts : (outcome : Outcome) (reach : Parts → Reach) (q : Parts) → is_won outcome ≡ true → is_checkmate q ≡ true → Ok (Some 1) ≡ move_counts outcome reach q
 unfolding move_counts
 mate_counts outcome reach q w m = rw (w, m) refl
 
-pub other_counts : (outcome : Outcome) (reach : Parts → Reach) (q : Parts) (won : Bool) (r : Reach) (n : Result (Option ℕ) ValueFault) → won ≡ is_won outcome → (won ≡ true → is_mate q ≡ false) → r ≡ reach q → n ≡ distance_before won r → n ≡ move_counts outcome reach q
+pub other_counts : (outcome : Outcome) (reach : Parts → Reach) (q : Parts) (won : Bool) (r : Reach) (n : Result (Option ℕ) ValueFault) → won ≡ is_won outcome → (won ≡ true → is_checkmate q ≡ false) → r ≡ reach q → n ≡ distance_before won r → n ≡ move_counts outcome reach q
 unfolding move_counts
 other_counts outcome reach q true r n w no_mate er en = en ∙ rw (← w, no_mate refl, ← er) refl
 other_counts outcome reach q false r n w no_mate er en = en ∙ rw (← w, ← er) refl

@@ -13,7 +13,7 @@ use Rattle.judge_core.specs.Tables.{Tables}
 use Rattle.judge_core.specs.Asked.{asked, fault_in, unless}
 use Rattle.judge_core.specs.Probing.{wdl_of}
 use Rattle.judge_core.specs.Answers.{signed_in}
-use Rattle.judge_core.specs.Ends.{has_no_move, is_mate}
+use Rattle.board_core.specs.Ends.{has_no_move, is_checkmate as is_mate}
 use Rattle.judge_core.specs.Distances.{Reach, is_won, is_quiet, moves_pawn, distance_before, move_counts, known_count, lesser, least, won_in, by_counts, dtz_of}
 use Rattle.judge_core.specs.FiveRules.{counts_after}
 use Rattle.judge_core.specs.Root.{effect_of, zeroes_clock, state_of, state_by, is_checkmate, reach_one_ply_before, root_move_by, root_move_at, root_moves_by, root_moves}

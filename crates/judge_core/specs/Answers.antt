@@ -13,7 +13,7 @@ use Rattle.judge_core.specs.Values.{Reading}
 use Rattle.judge_core.specs.Tables.{Tables}
 use Rattle.judge_core.specs.Probing.{wdl_of, searched_by, worth}
 use Rattle.judge_core.specs.Distances.{Reach, is_by_capture, signed}
-use Rattle.judge_core.specs.Ends.{has_no_move}
+use Rattle.board_core.specs.Ends.{has_no_move}
 use Rattle.judge_core.specs.Ruling.{is_out_of_scope}
 
 -- The probe returns what the tables say, unless the position is out of their scope or memory was refused.

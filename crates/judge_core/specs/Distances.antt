@@ -27,7 +27,7 @@ use Rattle.judge_core.specs.Tables.{Tables, table_at, part_asked}
 use Rattle.judge_core.specs.Asked.{asked, fault_in, unless}
 use Rattle.table_file.specs.Distances.{stores, distance}
 use Rattle.judge_core.specs.Probing.{values_after, searched_by, wdl_of, worth}
-use Rattle.judge_core.specs.Ends.{is_mate}
+use Rattle.board_core.specs.Ends.{is_checkmate}
 
 -- a distance, or which table is missing or damaged
 abbrev pub Reach : Type 0
@@ -118,7 +118,7 @@ distance_before won (Err fault) = Err fault
 
 -- the distance before a move, from the position after it; after a mating move none is needed where the side to move wins
 unfoldable pub move_counts : Outcome → (Parts → Reach) → Parts → Result (Option ℕ) ValueFault
-move_counts outcome reach q = if is_won outcome && is_mate q then Ok (Some 1) else distance_before (is_won outcome) (reach q)
+move_counts outcome reach q = if is_won outcome && is_checkmate q then Ok (Some 1) else distance_before (is_won outcome) (reach q)
 
 abbrev pub known_count : Result (Option ℕ) ValueFault → Option ℕ
 known_count (Ok n) = n

@@ -4,7 +4,6 @@ pub mod Tables
 pub mod Blocks
 pub mod Asked
 pub mod Probing
-pub mod Ends
 pub mod Distances
 pub mod Ruling
 pub mod Games

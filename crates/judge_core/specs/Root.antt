@@ -23,7 +23,7 @@ use Rattle.judge_core.specs.Tables.{Tables}
 use Rattle.judge_core.specs.Probing.{wdl_of}
 use Rattle.judge_core.specs.Distances.{Reach, moves_pawn, zeroing, towards, dtz_of}
 use Rattle.judge_core.specs.Answers.{signed_in}
-use Rattle.judge_core.specs.Ends.{has_no_move}
+use Rattle.board_core.specs.Ends.{has_no_move}
 use Rattle.judge_core.specs.Ruling.{is_out_of_scope}
 
 -- ---- what a move does

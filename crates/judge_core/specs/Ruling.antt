@@ -14,7 +14,7 @@ use Rattle.board_core.specs.declared.verdict.Verdict.TheVariants.{WhiteMates, Bl
 use Rattle.judge_core.specs.Values.{Reading}
 use Rattle.judge_core.specs.Tables.{Tables}
 use Rattle.judge_core.specs.Probing.{wdl_of}
-use Rattle.judge_core.specs.Ends.{has_no_move}
+use Rattle.board_core.specs.Ends.{has_no_move}
 use Rattle.judge_core.specs.Distances.{Reach, plies, dtz_of}
 
 -- ---- the end of a game on the board

@@ -5,7 +5,7 @@ ghost use Rattle.board_core.specs.ComputedMoves.{legal_moves};
 ghost use Rattle.judge_core.specs.Answers.{ListsMoves, as_probe, signed_in};
 ghost use Rattle.judge_core.specs.declared.fault.ProbeFault.TheVariants.{OutOfScope};
 ghost use Rattle.judge_core.specs.Distances.{plies, dtz_of};
-ghost use Rattle.judge_core.specs.Ends.{has_no_move};
+ghost use Rattle.board_core.specs.Ends.{has_no_move};
 ghost use Rattle.judge_core.specs.ProbeResult.{IsProbed, wdl_number};
 ghost use Rattle.judge_core.specs.Probing.{wdl_of};
 ghost use Rattle.judge_core.specs.Ruling.{end_of, is_out_of_scope, ruling, ruling_by};

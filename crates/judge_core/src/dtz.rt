@@ -14,7 +14,6 @@ use crate::distance::{Distance, distance_before, is_won, towards, zeroing};
 use crate::fault::{ProbeFault, ValueFault};
 use crate::found::CaptureSearch;
 use crate::located_position::{LocatedPosition, is_bare};
-use crate::mobility::is_mate;
 use crate::moving::{after_pawn_step, after_quiet_move, has_pawn};
 use crate::set::Set;
 use crate::verdict::is_out_of_scope;
@@ -101,7 +100,7 @@ impl<'a> Set<'a> {
         ensures unchanged { self.new ≡ self.old }
     {
         let won = is_won(outcome);
-        if won && is_mate(after) {
+        if won && after.is_checkmate() {
             return Ok(Ok(Some(1)));
         }
         let reach = self.dtz_after(alloc, after, beyond)?;

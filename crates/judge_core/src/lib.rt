@@ -16,7 +16,7 @@
 //! Fathom's words: `Set::wdl` is `probe_wdl`, its search of captures (`capture_search`) `probe_ab`, `Set::dtz` `probe_dtz`, a table's own
 //! value (`table_value`) `probe_table`; `Set::root` stands for both `root_probe_dtz` and `root_probe_wdl`.
 //!
-//! Definitions, in reading order: `Values`, `LookUp`, `Tables`, `Blocks`, `Asked`, `Probing` (`wdl_of`), `Ends`, `Distances` (`dtz_of`),
+//! Definitions, in reading order: `Values`, `LookUp`, `Tables`, `Blocks`, `Asked`, `Probing` (`wdl_of`), `Distances` (`dtz_of`),
 //! `FiveRules`, `Ruling`, `Games`, `Standings`, `Answers`, `ProbeResult`, `Root`, `Determined`, `Ask`, `Words`; `Laws`, `RootLaws`,
 //! `DeterminedLaws`. Its tests stand in `checks` (`root_tests`, `determined_tests`, `refusal_tests`); cases in `probes.txt`, `root.txt`,
 //! `tables.txt` and `many.txt` of `rows`.

@@ -61,7 +61,7 @@ pub struct RootMove {
 
 impl Effect {
     /// What a legal move does.
-    pub(crate) fn of(position: &Position, m: &Move) -> Effect
+    pub fn of(position: &Position, m: &Move) -> Effect
         ensures { (q : Parts) → position_after position.now m.now ≡ Some q → result ≡ effect_of position.now m.now }
     {
         if !lands_empty(position, m) {

@@ -61,7 +61,7 @@ impl Finding {
     }
 
     /// What a result is beside a verdict.
-    fn beside(verdict: Verdict, stands: GameResult) -> Finding
+    pub(crate) fn beside(verdict: Verdict, stands: GameResult) -> Finding
         ensures { result ≡ agrees verdict stands }
     {
         match stands {

@@ -33,7 +33,7 @@ pub struct Sums {
 }
 
 /// One more, up to 2^64 - 1.
-fn one_more(n: u64) -> u64
+pub(crate) fn one_more(n: u64) -> u64
     ensures { result ≡ one_more n }
 {
     if n < u64::MAX { n + 1 } else { n }

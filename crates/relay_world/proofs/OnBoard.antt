@@ -1,5 +1,5 @@
 -- What a game comes to that is judged without tables.
-use Rattle.std.proofs.Common.{◌≡◌, ℕ, ◌-◌, ◌<◌, ◌≤◌, Bool, true, false, ◌||◌, List, [], ◌∷◌, ◌++◌, length, take, replicate, Option, Some, None, Result, Ok, sym, refl, ap, ◌∙◌, subst, arith, ⊎_elim, inl, inr, true≢false}
+use Rattle.std.proofs.Common.{◌≡◌, ℕ, ◌-◌, ◌<◌, ◌≤◌, Bool, true, false, ◌||◌, ◌&&◌, not, List, [], ◌∷◌, ◌++◌, length, take, replicate, Option, Some, None, Result, Ok, sym, refl, ap, ◌∙◌, subst, arith, ⊎_elim, inl, inr, true≢false}
 use Rattle.std.specs.Prelude.{IfSome, IsSome, IsTrue, ◌⊎◌, fold, option_and_then, nat_lt, slice_index_or}
 use Rattle.std.specs.Option.{option_or}
 use Rattle.std.proofs.lemmas.Bool.{cases_lt, le-ltb, ltb-false}
@@ -13,13 +13,13 @@ use Rattle.board_core.specs.declared.verdict.Verdict.TheVariants.{Stalemate, Tab
 use Rattle.board_core.specs.Castling.{has_any_right}
 use Rattle.board_core.specs.Computed.{is_in_check}
 use Rattle.board_core.specs.ComputedMoves.{position_after, legal_moves, legal_captures, count_of_men}
+use Rattle.board_core.specs.Ends.{has_no_move, is_checkmate, is_stalemate}
 use Rattle.board_core.specs.Position.{IsPosition}
 use Rattle.place_index.specs.Covered.{FewMenHaveTables}
 use Rattle.table_file.specs.declared.kind.TableKind.TheVariants.{Wdl}
 use Rattle.table_file.specs.Tables.{Contents}
 use Rattle.judge_core.specs.Asked.{fault_in, first, missing_or_damaged, not_covered, unless}
 use Rattle.judge_core.specs.Distances.{dtz_of}
-use Rattle.judge_core.specs.Ends.{has_no_move}
 use Rattle.judge_core.specs.Games.{Rules, is_end, judged_after, position_after_all, verdict_after}
 use Rattle.judge_core.specs.Laws.{FirstVerdictInWords, IsLeastRuled, IsRuledAt}
 use Rattle.judge_core.specs.LookUp.{material_of}
@@ -36,7 +36,7 @@ use Rattle.relay_world.specs.declared.fault.WorldFault.{WorldFault}
 use Rattle.relay_world.specs.declared.event.Event.{Event}
 use Rattle.relay_world.specs.Gathering.{tables_of, tables_from}
 use Rattle.relay_world.specs.Laws.{KeepsAfter}
-use Rattle.relay_world.specs.NoTables.{EndsAt, checkmate, stalemate, bare_kings, HasBareKings, HasNoTable, IsBareKings, IsCheckmate, IsFirstEnd, IsStalemate}
+use Rattle.relay_world.specs.NoTables.{EndsAt, checkmate, stalemate, bare_kings, HasBareKings, HasNoTable, IsBareKings, IsFirstEnd}
 use Rattle.relay_world.specs.Worlds.{Judged}
 use Rattle.relay_world.proofs.Steps.{count_at, first_from, start_legal}
 use Rattle.relay_world.proofs.Whole.{kept_is}
@@ -90,16 +90,16 @@ unknown few tables p none position scope many =
 
 -- what the board says of a position
 data OnBoard (p : Parts) (v : Ruling) : Type 0 where
-  mated : IsCheckmate p → v ≡ mate_of p.side → OnBoard p v
-  stuck : IsStalemate p → v ≡ Stalemate → OnBoard p v
+  mated : IsTrue (is_checkmate p) → v ≡ mate_of p.side → OnBoard p v
+  stuck : IsTrue (is_stalemate p) → v ≡ Stalemate → OnBoard p v
   kings : IsBareKings p → v ≡ TableDraw → OnBoard p v
 
 some_one : {X : Type 0} (x y : X) → Some x ≡ Some y → x ≡ y
 some_one x y e = cc
 
 ended : (p : Parts) (v : Ruling) → has_no_move (legal_moves p) ≡ true → (b : Bool) → is_in_check p.men p.side ≡ b → end_of p ≡ v → OnBoard p v
-ended p v over true c e = mated (record { check = c; no_move = over }) (sym e ∙ rw c refl)
-ended p v over false c e = stuck (record { no_check = c; no_move = over }) (sym e ∙ rw c refl)
+ended p v over true c e = mated (rw (c, over) refl) (sym e ∙ rw c refl)
+ended p v over false c e = stuck (rw (c, over) refl) (sym e ∙ rw c refl)
 
 no_right : (p : Parts) → is_out_of_scope p ≡ false → has_any_right p.rights ≡ false
 unfolding is_out_of_scope
@@ -151,9 +151,21 @@ ruled_on few tables p v none position e = by_moves (has_no_move (legal_moves p))
     by_moves true over = ended p v over (is_in_check p.men p.side) refl (some_one (end_of p) v (sym (ruling_end tables p over) ∙ e))
     by_moves false over = by_scope over (is_out_of_scope p) refl
 
+both : (a b : Bool) → (a && b) ≡ true → (a ≡ true) × (b ≡ true)
+both true b h = (refl, h)
+both false b h = absurd (true≢false (sym h))
+
+not_so : (a : Bool) → not a ≡ true → a ≡ false
+not_so true h = absurd (true≢false (sym h))
+not_so false h = refl
+
 board_rules : (tables : Tables) (p : Parts) (v : Ruling) → IsPosition p → OnBoard p v → ruling tables p ≡ Some v
-board_rules tables p v position (mated m e) = ruling_end tables p m.no_move ∙ ap Some (rw m.check (sym e))
-board_rules tables p v position (stuck s e) = ruling_end tables p s.no_move ∙ ap Some (rw s.no_check (sym e))
+board_rules tables p v position (mated m e) =
+    let h = both (is_in_check p.men p.side) (has_no_move (legal_moves p)) m in
+    ruling_end tables p h.1 ∙ ap Some (rw h.0 (sym e))
+board_rules tables p v position (stuck s e) =
+    let h = both (not (is_in_check p.men p.side)) (has_no_move (legal_moves p)) s in
+    ruling_end tables p h.1 ∙ ap Some (rw (not_so (is_in_check p.men p.side) h.0) (sym e))
 board_rules tables p v position (kings k e) =
     ruling_in tables p k.a_move (in_scope p k.two k.no_right)
     ∙ ap (λ r. ruling_by p r (dtz_of tables p)) (sym (bare tables p position k.two)) ∙ ap Some (sym e)

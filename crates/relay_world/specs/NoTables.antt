@@ -5,10 +5,9 @@ use Rattle.board_core.specs.declared.moves.Move.{Move}
 use Rattle.board_core.specs.declared.verdict.Verdict.{Verdict}
 use Rattle.board_core.specs.declared.verdict.Verdict.TheVariants.{Stalemate, TableDraw}
 use Rattle.board_core.specs.Castling.{has_any_right}
-use Rattle.board_core.specs.Computed.{is_in_check}
 use Rattle.board_core.specs.ComputedMoves.{legal_moves, count_of_men}
+use Rattle.board_core.specs.Ends.{has_no_move, is_checkmate, is_stalemate}
 use Rattle.table_file.specs.declared.kind.TableKind.{TableKind}
-use Rattle.judge_core.specs.Ends.{has_no_move}
 use Rattle.judge_core.specs.Games.{Rules, position_after_all}
 use Rattle.judge_core.specs.Ruling.{mate_of}
 use Rattle.judge_core.specs.Tables.{Tables, table_at}
@@ -16,16 +15,6 @@ use Rattle.judge_core.specs.Tables.{Tables, table_at}
 -- there is no table of any kind and material
 abbrev pub HasNoTable : Tables → Type 0
 HasNoTable tables = (kind : TableKind) (key : ℕ) → table_at tables kind key ≡ None
-
--- the side to move is in check and has no legal move (5.1.1)
-pub record IsCheckmate (p : Parts) : Type 0 where
-  pub check : IsTrue (is_in_check p.men p.side)
-  pub no_move : IsTrue (has_no_move (legal_moves p))
-
--- the side to move is not in check and has no legal move (5.2.1)
-pub record IsStalemate (p : Parts) : Type 0 where
-  pub no_check : IsFalse (is_in_check p.men p.side)
-  pub no_move : IsTrue (has_no_move (legal_moves p))
 
 -- The two kings alone are left, so that neither side can mate (5.2.2). There is a legal move, and no right to castle, which takes
 -- a rook.
@@ -43,8 +32,8 @@ pub record HasBareKings (rules : Rules) (moves : List Move) (ply : ℕ) : Type 0
 -- The game ends so at this ply: checkmate and stalemate at once, and bare kings, which are a draw by tables, once they have stood
 -- for as many plies as the delay says.
 pub data EndsAt (rules : Rules) (moves : List Move) (ply : ℕ) (v : Verdict) : Type 0 where
-  checkmate : {p : Parts} → position_after_all rules.start (take ply moves) ≡ Some p → IsCheckmate p → v ≡ mate_of p.side → EndsAt rules moves ply v
-  stalemate : {p : Parts} → position_after_all rules.start (take ply moves) ≡ Some p → IsStalemate p → v ≡ Stalemate → EndsAt rules moves ply v
+  checkmate : {p : Parts} → position_after_all rules.start (take ply moves) ≡ Some p → IsTrue (is_checkmate p) → v ≡ mate_of p.side → EndsAt rules moves ply v
+  stalemate : {p : Parts} → position_after_all rules.start (take ply moves) ≡ Some p → IsTrue (is_stalemate p) → v ≡ Stalemate → EndsAt rules moves ply v
   bare_kings : rules.delay ≤ ply → ((k : ℕ) → ply - rules.delay ≤ k → k ≤ ply → HasBareKings rules moves k) → v ≡ TableDraw → EndsAt rules moves ply v
 
 -- it does, and at no ply before

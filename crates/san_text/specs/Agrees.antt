@@ -1,5 +1,5 @@
 -- Which moves agree with what a text tells (PGN standard, section 8.2.3).
-use Rattle.std.specs.Prelude.{◌≡◌, ℕ, ◌+◌, ◌==◌, IsTrue, Bool, true, false, Option, Some, None, if◌then◌else◌}
+use Rattle.std.specs.Prelude.{◌≡◌, ℕ, ◌+◌, ◌==◌, IsTrue, Option, Some, None, if◌then◌else◌}
 use Rattle.board_core.specs.declared.piece.Kind.{Kind}
 use Rattle.board_core.specs.declared.piece.Kind.TheVariants.{Pawn, Knight, Bishop, Rook, Queen, King}
 use Rattle.board_core.specs.declared.piece.Wing.{Wing}
@@ -29,7 +29,7 @@ IsAsTold (Some told) n = n ≡ told
 
 -- the file that is told of the square that a man leaves: a pawn's text that has none tells that of its square
 abbrev pub file_told : Kind → Option ℕ → ℕ → Option ℕ
-file_told kind (Some file) to = Some file
+file_told _ (Some file) to = Some file
 file_told Pawn None to = Some (file_of to)
 file_told Knight None to = None
 file_told Bishop None to = None

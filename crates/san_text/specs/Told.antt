@@ -11,7 +11,7 @@ use Rattle.san_text.specs.declared.told.ManTold.{ManTold}
 use Rattle.san_text.specs.declared.told.Told.{Told}
 use Rattle.san_text.specs.declared.told.Told.TheVariants.{Castles, Goes}
 
--- the letter of a man; a pawn has none (section 8.2.3.2)
+-- the letter of a man; a pawn's is not written (section 8.2.3.2)
 abbrev pub kind_text : Kind → List ℕ
 kind_text Pawn = []
 kind_text Knight = codes "N"
@@ -55,7 +55,15 @@ abbrev pub IsOneOf : List (List ℕ) → List ℕ → Type 0
 IsOneOf [] t = ⊥
 IsOneOf (x ∷ xs) t = (t ≡ x) ⊎ IsOneOf xs t
 
--- what files have besides: castling by zeros, a promotion without the sign of equality or by a small letter
+-- what files have besides: the letter P of a pawn, castling by zeros, a promotion without the sign of equality or by a small letter
+abbrev pub kind_texts : Kind → List (List ℕ)
+kind_texts Pawn = [] ∷ codes "P" ∷ []
+kind_texts Knight = codes "N" ∷ []
+kind_texts Bishop = codes "B" ∷ []
+kind_texts Rook = codes "R" ∷ []
+kind_texts Queen = codes "Q" ∷ []
+kind_texts King = codes "K" ∷ []
+
 abbrev pub castling_texts : Wing → List (List ℕ)
 castling_texts KingSide = codes "O-O" ∷ codes "0-0" ∷ []
 castling_texts QueenSide = codes "O-O-O" ∷ codes "0-0-0" ∷ []
@@ -109,13 +117,15 @@ pub record SpellsMan (t : List ℕ) (told : ManTold) : Type 0 where
   pub file : IsBelowEight told.file
   pub rank : IsBelowEight told.rank
   pub square : told.to < 64
+  pub letter : List ℕ
   pub between : List ℕ
   pub promotion : List ℕ
   pub marks : List ℕ
+  pub is_letter : IsOneOf (kind_texts told.kind) letter
   pub is_between : IsOneOf (between_texts told.file told.rank told.takes) between
   pub promotes : IsOneOf (promotion_texts told.promotion) promotion
   pub are_marks : AreMarks marks
-  pub text : t ≡ kind_text told.kind ++ file_text told.file ++ rank_text told.rank ++ between ++ square_text told.to ++ promotion ++ en_passant_text told.en_passant ++ marks
+  pub text : t ≡ letter ++ file_text told.file ++ rank_text told.rank ++ between ++ square_text told.to ++ promotion ++ en_passant_text told.en_passant ++ marks
 
 -- the text tells this
 abbrev pub SpellsTold : List ℕ → Told → Type 0

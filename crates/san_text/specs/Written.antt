@@ -1,5 +1,5 @@
 -- The one text of a legal move (PGN standard, sections 8.2.3.2 to 8.2.3.5), as a computable definition.
-use Rattle.std.specs.Prelude.{ℕ, ◌==◌, ◌&&◌, ◌++◌, not, Bool, true, false, List, [], ◌∷◌, Option, Some, None, codes, if◌then◌else◌}
+use Rattle.std.specs.Prelude.{ℕ, ◌==◌, ◌&&◌, ◌++◌, not, Bool, true, false, List, [], Option, Some, None, codes, if◌then◌else◌}
 use Rattle.std.specs.List.{list_any}
 use Rattle.board_core.specs.declared.piece.Piece.{Piece}
 use Rattle.board_core.specs.declared.piece.Kind.{Kind}
@@ -10,7 +10,8 @@ use Rattle.board_core.specs.declared.moves.Move.{Move}
 use Rattle.board_core.specs.Square.{file_of, rank_of}
 use Rattle.board_core.specs.Attack.{man_at}
 use Rattle.board_core.specs.Computed.{is_in_check}
-use Rattle.board_core.specs.ComputedMoves.{is_capture, legal_moves, has_legal_move, position_after}
+use Rattle.board_core.specs.ComputedMoves.{is_capture, legal_moves, position_after}
+use Rattle.board_core.specs.Ends.{is_checkmate}
 use Rattle.san_text.specs.declared.told.ManTold.{ManTold}
 use Rattle.san_text.specs.declared.told.Told.{Told}
 use Rattle.san_text.specs.declared.told.Told.TheVariants.{Castles, Goes}
@@ -108,11 +109,7 @@ told_by (Some wing) man = Castles wing
 unfoldable pub san_told : Parts → Move → Told
 san_told p m = told_by (castling p m) (man_told p m)
 
--- the side to move is in check and has no legal move (FIDE article 5.1.1)
-abbrev pub is_checkmate : Parts → Bool
-is_checkmate q = is_in_check q.men q.side && not (has_legal_move q)
-
--- # for checkmate, + for another check (section 8.2.3.5)
+-- # for checkmate (FIDE article 5.1.1), + for another check (section 8.2.3.5)
 unfoldable pub mark_of : Parts → List ℕ
 mark_of q = if is_checkmate q then codes "#" else (if is_in_check q.men q.side then codes "+" else [])
 

@@ -47,6 +47,14 @@ pub(crate) fn castling(position: &Position, m: &Move) -> Option<Wing>
     wing_by_files(m.from.file(), m.to.file())
 }
 
+/// Whether a pawn leaves its file.
+fn leaves_file(position: &Position, m: &Move) -> bool
+    ensures { IsTrue result ↔ (file_of m.now.from ≢ file_of m.now.to
+        × Stands position.now.men m.now.from position.now.side Kind.Pawn) }
+{
+    m.from.file() != m.to.file() && stands(position, m.from, Kind::Pawn)
+}
+
 /// Whether a legal move takes a man: one stands on its square, or a pawn leaves its file.
 pub(crate) fn is_capture(position: &Position, m: &Move) -> bool
     requires { IsLegal position.now m.now }
@@ -55,7 +63,7 @@ pub(crate) fn is_capture(position: &Position, m: &Move) -> bool
     if position.piece_at(m.to).is_some() {
         return true;
     }
-    m.from.file() != m.to.file() && stands(position, m.from, Kind::Pawn)
+    leaves_file(position, m)
 }
 
 /// Whether a legal move takes a pawn en passant: a pawn leaves its file, to an empty square.
@@ -63,9 +71,10 @@ fn is_en_passant(position: &Position, m: &Move) -> bool
     requires { IsLegal position.now m.now }
     ensures { result ≡ is_en_passant position.now m.now }
 {
-    m.from.file() != m.to.file()
-        && position.piece_at(m.to).is_none()
-        && stands(position, m.from, Kind::Pawn)
+    if position.piece_at(m.to).is_some() {
+        return false;
+    }
+    leaves_file(position, m)
 }
 
 /// Whether a number that is told is this one.
@@ -135,6 +144,7 @@ pub(crate) fn next_mover(
     within: Bitboard,
 ) -> Option<(Square, Bitboard)>
     ensures meant { IfSome result (λ x. MayBeMeant position.now man.now x.0) }
+    ensures within { IfSome result (λ x. bit_at within x.0 ≡ 1) }
     ensures after { IfSome result (λ x. (s : ℕ) → bit_at x.1 s ≡ 1 → s ≢ x.0) }
     ensures rest { IfSome result (λ x. (s : ℕ) → s < 64 → bit_at within s ≡ 1
         → MayBeMeant position.now man.now s → s ≢ x.0 → bit_at x.1 s ≡ 1) }

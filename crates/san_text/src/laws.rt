@@ -1,6 +1,6 @@
 //! Laws over the definitions alone, for the layers above.
 
-ghost use Rattle.san_text.specs.Laws.{IsReadBack, HasOneMove, TellsOneThing, MarksMate, MarksCheck};
+ghost use Rattle.san_text.specs.Laws.{IsReadBack, HasOneMove, TellsOneThing, CastlingIsTold, MarksMate, MarksCheck};
 
 /// What is written for a legal move is read as this move.
 pub fn is_read_back()
@@ -15,6 +15,11 @@ pub fn one_move()
 /// A text tells one thing at most.
 pub fn one_thing()
     ensures { TellsOneThing }
+{}
+
+/// Castling is told exactly of the moves that castle.
+pub fn castling_is_told()
+    ensures { CastlingIsTold }
 {}
 
 /// A text has `#` exactly where the position after the move is checkmate.

@@ -1,6 +1,6 @@
 //! Reading the text of a move.
 
-ghost use Rattle.std.specs.Prelude.{◌≡◌, IfOk, IfErr, IfSome, IfNone, Ok, Err, Some};
+ghost use Rattle.std.specs.Prelude.{◌≡◌, ◌↔◌, IsTrue, IfOk, IfErr, IfSome, IfNone, Ok, Err, Some};
 ghost use Rattle.board_core.specs.declared.moves.Move.{Move};
 ghost use Rattle.board_core.specs.Moves.{IsLegal};
 ghost use Rattle.board_core.specs.Position.{IsPosition};
@@ -36,6 +36,16 @@ fn king_move(side: Side, wing: Wing) -> Move
     }
 }
 
+/// Whether a move castles to this wing.
+fn is_to(castling: Option<Wing>, wing: Wing) -> bool
+    ensures { IsTrue result ↔ (castling ≡ Some wing) }
+{
+    match castling {
+        Some(other) => other == wing,
+        None => false,
+    }
+}
+
 /// Castling to this wing, where it is legal.
 fn castle(position: &Position, wing: Wing) -> Result<Move, SanFault>
     ensures ok { IfOk result (λ m. IsLegal position.now m × (castling position.now m ≡ Some wing)) }
@@ -43,11 +53,13 @@ fn castle(position: &Position, wing: Wing) -> Result<Move, SanFault>
     ensures err { IfErr result (λ fault. fault ≡ SanFault.NoMove) }
 {
     let m = king_move(position.side(), wing);
-    if castling(position, &m) == Some(wing) && position.is_legal(m) {
-        Ok(m)
-    } else {
-        Err(SanFault::NoMove)
+    if !is_to(castling(position, &m), wing) {
+        return Err(SanFault::NoMove);
     }
+    if !position.is_legal(m) {
+        return Err(SanFault::NoMove);
+    }
+    Ok(m)
 }
 
 /// The one legal move of the man that is told.
@@ -82,8 +94,8 @@ fn meant(position: &Position, told: &Told) -> Result<Move, SanFault>
 ///
 /// Besides the standard's text it takes what files have. More may be told of the square that the man leaves than is
 /// needed, and behind a whole square a dash may stand. A sign of check or mate and the glyphs `!` and `?` may be missing
-/// or needless: they tell nothing. Castling may be written by zeros, a promotion without `=` or by a small letter, and
-/// `e.p.` behind a capture en passant. Letters of men are capital: `b` is a file.
+/// or needless: they tell nothing. Castling may be written by zeros, a promotion without `=` or by a small letter, `e.p.`
+/// behind a capture en passant, and `P` before a pawn's move. Letters of men are capital: `b` is a file.
 ///
 /// What is told must be so of exactly one legal move. An `x` needs a capture; without it both are taken. Castling text is
 /// castling alone, and the text of a king's move never castles. A pawn's text that tells no file of origin tells that of

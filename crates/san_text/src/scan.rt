@@ -30,6 +30,7 @@ fn kind_by(c: u8) -> Option<Kind>
         b'R' => Some(Kind::Rook),
         b'Q' => Some(Kind::Queen),
         b'K' => Some(Kind::King),
+        b'P' => Some(Kind::Pawn),
         _ => None,
     }
 }

@@ -162,6 +162,7 @@ fn push_told(told: &Told, out: &mut ArrayString<8>)
     requires told { IsShort told.now }
     requires empty { array_string_len out.old ≡ 0 }
     ensures text { out.new.bytes ≡ told_text told.now }
+    ensures len { array_string_len out.new ≤ 7 }
 {
     match told {
         Told::Castles(wing) => out.push_str(castling_sign(*wing)),
@@ -172,12 +173,13 @@ fn push_told(told: &Told, out: &mut ArrayString<8>)
 /// The mark behind the text: `#` for checkmate, `+` for another check.
 #[tactic(auto, unfolding(crate::specs::Written::mark_of))]
 fn mark(after: &Position) -> &'static str
-    ensures { result.now ≡ mark_of after.now }
+    ensures mark { result.now ≡ mark_of after.now }
+    ensures len { length result.now ≤ 1 }
 {
     if !after.in_check() {
         return "";
     }
-    if after.has_legal_move() { "+" } else { "#" }
+    if after.is_checkmate() { "#" } else { "+" }
 }
 
 /// Writes the text of a move (PGN standard, section 8.2.3), of two to seven bytes; none where the move isn't legal.

@@ -1,12 +1,10 @@
 -- The source's own board: a reported mate is believed only where the board shows it (FIDE articles 5.1.1 and 5.2.1).
 use Rattle.std.specs.Prelude.{◌≡◌, ◌<◌, ℕ, List, IfSome}
-use Rattle.board_core.specs.declared.moves.Move.{Move as Moves}
 use Rattle.board_core.specs.declared.parts.Parts.{Parts}
 use Rattle.board_core.specs.declared.piece.Side.TheVariants.{White, Black}
 use Rattle.board_core.specs.declared.verdict.Verdict.{Verdict}
 use Rattle.board_core.specs.declared.verdict.Verdict.TheVariants.{WhiteMates, BlackMates, Stalemate, TableDraw, TableWhite, TableBlack, Stopped}
-use Rattle.board_core.specs.Attack.{IsInCheck}
-use Rattle.board_core.specs.Moves.{IsLegal}
+use Rattle.board_core.specs.Ends.{IsCheckmate, IsStalemate}
 use Rattle.move_msg.specs.declared.stamp.Stamp.{Stamp}
 use Rattle.move_msg.specs.declared.arbiter_id.ArbiterId.{ArbiterId}
 use Rattle.system_io.specs.Ports.{Passing}
@@ -16,23 +14,11 @@ use Rattle.source_core.specs.Reports.{HasRuled, IsRuled}
 
 -- ---- a position
 
--- the side to move has no legal move
-abbrev pub HasNoMove : Parts → Type 0
-HasNoMove p = (m : Moves) → IsLegal p m → ⊥
-
--- it is checkmated
-abbrev pub IsCheckmated : Parts → Type 0
-IsCheckmated p = HasNoMove p × IsInCheck p.men p.side
-
--- it is stalemated
-abbrev pub IsStalemated : Parts → Type 0
-IsStalemated p = HasNoMove p × (IsInCheck p.men p.side → ⊥)
-
 -- the position is as the verdict says; of a verdict by tables, or of damaged ones, it shows nothing
 abbrev pub IsShown : Parts → Verdict → Type 0
-IsShown p WhiteMates = IsCheckmated p × (p.side ≡ Black)
-IsShown p BlackMates = IsCheckmated p × (p.side ≡ White)
-IsShown p Stalemate = IsStalemated p
+IsShown p WhiteMates = IsCheckmate p × (p.side ≡ Black)
+IsShown p BlackMates = IsCheckmate p × (p.side ≡ White)
+IsShown p Stalemate = IsStalemate p
 IsShown p TableDraw = Unit {0}
 IsShown p TableWhite = Unit {0}
 IsShown p TableBlack = Unit {0}

@@ -1,7 +1,7 @@
 //! The source's own board, by which it believes a reported mate or not.
 
 ghost use Rattle.std.specs.Prelude.{◌≡◌, ◌↔◌, ◌⊎◌, IsTrue, Some, IfSome, IfNone};
-ghost use Rattle.source_core.specs.Boards.{AreBelieved, HasNoMove, IsBelieved, IsCheckmated, IsMate, IsShown, IsStalemated};
+ghost use Rattle.source_core.specs.Boards.{AreBelieved, IsBelieved, IsMate, IsShown};
 
 use crate::known::Known;
 use crate::report::Ruling;
@@ -16,27 +16,6 @@ pub struct Board<'a> {
     pub position: &'a Position,
 }
 
-/// Whether no legal move is left.
-fn has_no_move(position: &Position) -> bool
-    ensures { IsTrue result ↔ HasNoMove position.now }
-{
-    !position.has_legal_move()
-}
-
-/// Whether the side to move is checkmated (FIDE article 5.1.1).
-fn is_checkmate(position: &Position) -> bool
-    ensures { IsTrue result ↔ IsCheckmated position.now }
-{
-    has_no_move(position) && position.in_check()
-}
-
-/// Whether the side to move is stalemated (FIDE article 5.2.1).
-fn is_stalemate(position: &Position) -> bool
-    ensures { IsTrue result ↔ IsStalemated position.now }
-{
-    has_no_move(position) && !position.in_check()
-}
-
 /// Whether this side is to move.
 fn has_move(position: &Position, side: Side) -> bool
     ensures { IsTrue result ↔ (position.now.side ≡ side) }
@@ -49,9 +28,9 @@ fn is_shown(position: &Position, verdict: Verdict) -> bool
     ensures { IsTrue result ↔ IsShown position.now verdict }
 {
     match verdict {
-        Verdict::WhiteMates => is_checkmate(position) && has_move(position, Side::Black),
-        Verdict::BlackMates => is_checkmate(position) && has_move(position, Side::White),
-        Verdict::Stalemate => is_stalemate(position),
+        Verdict::WhiteMates => position.is_checkmate() && has_move(position, Side::Black),
+        Verdict::BlackMates => position.is_checkmate() && has_move(position, Side::White),
+        Verdict::Stalemate => position.is_stalemate(),
         Verdict::TableDraw | Verdict::TableWhite | Verdict::TableBlack | Verdict::Stopped => true,
     }
 }

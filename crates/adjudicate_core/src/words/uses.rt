@@ -22,6 +22,7 @@ const USAGE: &str = "usage: adjudicate judge [--tables DIR] [--manifest FILE] FE
        adjudicate root --tables DIR [--manifest FILE] [--json] [--determined] [FEN]
        adjudicate game [--tables DIR] [--manifest FILE] [--delay N] [--san] FEN
        adjudicate games --tables DIR [--manifest FILE] [--delay N] [--progress]
+       adjudicate pgn --tables DIR [--manifest FILE] [--delay N] [--json] [--differ] [FILE]
        adjudicate follow [--tables DIR] [--manifest FILE] [--delay N] [--san] FEN
        adjudicate run [--tables DIR] [--cache N] [--delay N]
        adjudicate listen --name N --start FEN --tables DIR --me M --bind ADDR --to ADDR[,ADDR] --kept FILE

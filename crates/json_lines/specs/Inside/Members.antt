@@ -1,15 +1,12 @@
 -- Objects token by token; cited by private functions alone.
 use Rattle.std.specs.Prelude.{◌++◌, ℕ, Bool, List, [], ◌∷◌, Option}
 use Rattle.std.specs.List.{fold}
-use Rattle.std.specs.Fmt.{signed_decimal}
 use Rattle.std.specs.Io.KnownBytes.{Appends}
 use Rattle.json.specs.Token.{Token, key}
-use Rattle.json.specs.Json.{Json, null, boolean, number, string, Items, no_items, item, Members, no_members, member}
+use Rattle.json.specs.Json.{Json, Items, no_items, item, Members, no_members, member}
 use Rattle.json.specs.Print.{ArePrintable, ends, print_from}
 use Rattle.json.specs.Tree.{json_tokens}
-use Rattle.json_lines.specs.declared.members.Value.{Value}
-use Rattle.json_lines.specs.declared.members.Value.TheVariants as value
-use Rattle.json_lines.specs.declared.members.Member.{Member}
+pub use Rattle.json_lines.specs.Members.{members_of, value_json}
 
 -- a value behind these tokens ends, or one begins
 abbrev pub value_ends_behind : Bool → List Token → Bool
@@ -19,17 +16,6 @@ value_ends_behind later ts = fold (λ _ t. ends t) later ts
 pub record Writes (later : Bool) (ts : List Token) (old new : Option (List ℕ)) : Type 0 where
   pub text : Appends old new (print_from later ts)
   pub printable : ArePrintable ts
-
-abbrev pub value_json : Value → Json
-value_json value.Null = null
-value_json (value.Boolean b) = boolean b
-value_json (value.Number n) = number (signed_decimal n)
-value_json (value.Text text) = string text.now
-value_json (value.Words front rest) = string (front.now ++ rest.now)
-
-abbrev pub members_of : List Member → Members
-members_of [] = no_members
-members_of (m ∷ ms) = member m.name.now (value_json m.value) (members_of ms)
 
 -- members without the closing brace, and items without the closing bracket
 abbrev pub open_tokens : Members → List Token

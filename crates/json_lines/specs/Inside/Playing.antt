@@ -1,9 +1,9 @@
 -- Legal moves of a list; cited by private functions alone.
 use Rattle.std.specs.Prelude.{◌≡◌, Some}
 use Rattle.board_core.specs.declared.parts.Parts.{Parts}
+use Rattle.board_core.specs.declared.moves.Move.{Move}
 use Rattle.board_core.specs.ComputedMoves.{position_after}
-use Rattle.judge_core.specs.declared.root_move.RootMove.{RootMove}
 
 -- the move can be played
-abbrev pub IsPlayable : Parts → RootMove → Type 0
-IsPlayable p m = (q : Parts) × (position_after p m.played ≡ Some q)
+abbrev pub IsPlayable : Parts → Move → Type 0
+IsPlayable p m = (q : Parts) × (position_after p m ≡ Some q)

@@ -20,7 +20,7 @@ is_rank c = nat_le 49 c && nat_le c 56
 abbrev pub kind_by : ℕ → Option Kind
 kind_by c =
     if c == 78 then Some Knight else (if c == 66 then Some Bishop else (if c == 82 then Some Rook else (if c == 81 then Some Queen
-    else (if c == 75 then Some King else None))))
+    else (if c == 75 then Some King else (if c == 80 then Some Pawn else None)))))
 
 abbrev pub kind_or_pawn : Option Kind → Kind
 kind_or_pawn None = Pawn
@@ -171,8 +171,8 @@ man_at_square kind file rank takes to = record { kind = kind; file = file; rank 
 
 -- the file and the rank that were read are those of the man's square
 abbrev pub square_alone : Kind → Option ℕ → Option ℕ → List ℕ → Option Told
-square_alone kind None rank t = None
-square_alone kind (Some file) None t = None
+square_alone _ None rank t = None
+square_alone _ (Some file) None t = None
 square_alone kind (Some file) (Some rank) t = with_tail (man_at_square kind None None false (8 * rank + file)) t
 
 -- the text from the sign between on, then the text behind it

@@ -7,4 +7,4 @@ use Rattle.json_lines.proofs.Whole.{move_written}
 use Rattle.json_lines.proofs.writing.put_move_facts.Goals as goal
 
 pub returns : goal.returns
-returns g c = on_ok_weaker c.put_after.result (λ h. move_written c.args.later (codes "uci") (string (move_text c.args.told.now.root.played)) (after_members c.args.told.now) _ _ _ _ c.in_ok-put_begin.ensures c.in_ok-put_uci.ensures h) c.put_after.ensures
+returns g c = on_ok_weaker c.put_after.result (λ h. move_written c.args.later (codes "uci") (string (move_text c.args.told.now.played)) (after_members c.args.told.now) _ _ _ _ c.in_ok-put_begin.ensures c.in_ok-put_uci.ensures h) c.put_after.ensures

@@ -14,16 +14,16 @@ use Rattle.judge_core.specs.Inside.Counts.{no_counts, with_count}
 use Rattle.judge_core.proofs.Asking.{with_all, walk-passed, walk-added}
 use Rattle.judge_core.proofs.Counting.{counts_result-is, within-count}
 use Rattle.judge_core.proofs.Reaching.{if_same, mate_counts, other_counts, bare_own, missing_own, stored_own, quiet_own, reached_by, reached_is, lost_is, bare_by, many_by_rules, if_told, once, never}
-use Rattle.judge_core.proofs.set.Set.+dtz.Goals.{by_moves-then-is_won+in_ok-found+in-Ok+else-reached, by_moves-else-is_won, by_quiet_moves-in-Some+in_ok-count, by_quiet_moves-in_default, move_counts-else-won-via-then-won+else-is_mate, move_counts-else-won-via-else-won}
+use Rattle.judge_core.proofs.set.Set.+dtz.Goals.{by_moves-then-is_won+in_ok-found+in-Ok+else-reached, by_moves-else-is_won, by_quiet_moves-in-Some+in_ok-count, by_quiet_moves-in_default, move_counts-else-won-via-then-won+else-is_checkmate, move_counts-else-won-via-else-won}
 use Rattle.judge_core.proofs.set.Set.+dtz.Goals as goal
 
-pub move_counts-returns-then-is_mate-clause-is : goal.move_counts-returns-then-is_mate-clause-is
-move_counts-returns-then-is_mate-clause-is t c = mate_counts c.args.outcome (reach_beyond c.args.beyond c.args.self.now.tables) c.args.after.now (sym c.is_won-won.ensures ∙ c.if-won.true) (sym c.is_mate.ensures ∙ c.if-is_mate.true)
+pub move_counts-returns-then-is_checkmate-clause-is : goal.move_counts-returns-then-is_checkmate-clause-is
+move_counts-returns-then-is_checkmate-clause-is t c = mate_counts c.args.outcome (reach_beyond c.args.beyond c.args.self.now.tables) c.args.after.now (sym c.is_won-won.ensures ∙ c.if-won.true) (sym c.is_checkmate.ensures.computed ∙ c.if-is_checkmate.true)
 
 pub move_counts-returns-clause-is : goal.move_counts-returns-clause-is
 move_counts-returns-clause-is t c = elim c.else-won.branch [
-  | move_counts-else-won-via-then-won+else-is_mate w ↦
-      other_counts c.args.outcome (reach_beyond c.args.beyond c.args.self.now.tables) c.args.after.now c.is_won-won.result c.in_ok-reach.reach c.distance_before.result c.is_won-won.ensures (λ won. sym w.is_mate.ensures ∙ w.if-is_mate.false) c.in_ok-reach.ensures.is c.distance_before.ensures
+  | move_counts-else-won-via-then-won+else-is_checkmate w ↦
+      other_counts c.args.outcome (reach_beyond c.args.beyond c.args.self.now.tables) c.args.after.now c.is_won-won.result c.in_ok-reach.reach c.distance_before.result c.is_won-won.ensures (λ won. sym w.is_checkmate.ensures.computed ∙ w.if-is_checkmate.false) c.in_ok-reach.ensures.is c.distance_before.ensures
   | move_counts-else-won-via-else-won w ↦
       other_counts c.args.outcome (reach_beyond c.args.beyond c.args.self.now.tables) c.args.after.now c.is_won-won.result c.in_ok-reach.reach c.distance_before.result c.is_won-won.ensures (λ won. (let e = sym won ∙ w.if-won.false in cc)) c.in_ok-reach.ensures.is c.distance_before.ensures
 ]

@@ -1,0 +1,4 @@
+pub mod RunLaws
+pub mod QuoteLaws
+pub mod EscapeLaws
+pub mod CourseLaws

@@ -1,0 +1,3 @@
+-- Invariants of values and intermediate results of functions. Private clauses alone cite them.
+pub mod Scan
+pub mod Owned

@@ -1,0 +1,19 @@
+//! The games of a PGN file.
+#![tactic(auto)]
+
+mod bytes;
+mod course;
+mod fault;
+mod game;
+mod lexeme;
+mod phase;
+mod reader;
+mod tag_pair;
+mod tags;
+
+
+
+pub use fault::{Cause, GameFault};
+pub use game::{Game, GameResult, Reading};
+pub use reader::PgnReader;
+pub use tags::Tags;

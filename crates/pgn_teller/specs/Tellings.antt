@@ -1,0 +1,151 @@
+-- The games of an input, told as they are read (this project's own).
+use Rattle.std.specs.Prelude.{◌≡◌, ◌⊎◌, ◌++◌, ◌==◌, ◌||◌, not, ℕ, Bool, true, false, List, [], ◌∷◌, length, take, Option, Some, None, if◌then◌else◌}
+use Rattle.std.specs.Io.KnownBytes.{Appends}
+use Rattle.json.specs.Json.{object}
+use Rattle.json_lines.specs.Objects.{json_text}
+use Rattle.judge_core.specs.Tables.{Tables}
+use Rattle.move_msg.specs.TextLines.{ended}
+use Rattle.pgn_games.specs.declared.fault.GameFault.{GameFault}
+use Rattle.pgn_games.specs.declared.game.GameResult.{GameResult}
+use Rattle.pgn_games.specs.Games.{FaultRead, GameRead, GameTold, ReadingTold}
+use Rattle.pgn_games.specs.Games.{ReadsGame}
+use Rattle.pgn_games.specs.Lines.{one_more}
+use Rattle.pgn_games.specs.Tokens.{Token}
+use Rattle.line_teller.specs.ToldLines.{HasFront, refused_files, refused_memory}
+use Rattle.pgn_teller.specs.declared.finding.Finding.TheVariants.{Agrees, Differs, Uncompared}
+use Rattle.pgn_teller.specs.declared.game_line.Form.{Form}
+use Rattle.pgn_teller.specs.declared.game_line.Form.TheVariants.{Words, Json}
+use Rattle.pgn_teller.specs.declared.rating.Ruled.{Ruled}
+use Rattle.pgn_teller.specs.declared.sums.Mark.{Mark}
+use Rattle.pgn_teller.specs.declared.sums.Mark.TheVariants as mark
+use Rattle.pgn_teller.specs.declared.sums.Sums.{Sums}
+use Rattle.pgn_teller.specs.declared.telling.Telling.{Telling}
+use Rattle.pgn_teller.specs.declared.telling.Telling.TheVariants.{CutShort, Whole}
+use Rattle.pgn_teller.specs.declared.telling.GameTeller.{GameTeller}
+use Rattle.pgn_teller.specs.GameLines.{fault_words, game_words, sums_words}
+use Rattle.pgn_teller.specs.GameObjects.{fault_members, game_members, sums_members}
+use Rattle.pgn_teller.specs.Ratings.{IsRuled, agrees}
+
+-- ---- sums
+
+abbrev pub no_sums : Sums
+no_sums = record { games = 0; ruled = 0; faults = 0; agree = 0; differ = 0 }
+
+-- how many games were told, with one more
+abbrev pub counted : Sums → Mark → Sums
+counted s mark.AtFault = record s { games = one_more s.games; faults = one_more s.faults }
+counted s mark.Open = record s { games = one_more s.games }
+counted s (mark.Ruled Agrees) = record s { games = one_more s.games; ruled = one_more s.ruled; agree = one_more s.agree }
+counted s (mark.Ruled Differs) = record s { games = one_more s.games; ruled = one_more s.ruled; differ = one_more s.differ }
+counted s (mark.Ruled Uncompared) = record s { games = one_more s.games; ruled = one_more s.ruled }
+
+-- ---- one game
+
+-- by what games are told: the tables, the delay, the form of a line, and whether only those are written whose result is another one than
+-- the verdict's
+pub record Terms : Type 0 where
+  pub tables : Tables
+  pub delay : ℕ
+  pub form : Form
+  pub only_differing : Bool
+
+abbrev pub terms_of : GameTeller → Terms
+terms_of teller = record { tables = teller.set.tables; delay = teller.delay; form = teller.form; only_differing = teller.only_differing }
+
+-- what counts of a game
+abbrev pub mark_of : Option Ruled → GameResult → Mark
+mark_of None stands = mark.Open
+mark_of (Some ruled) stands = mark.Ruled (agrees ruled.verdict stands)
+
+-- the line of a game with this number, and of one that isn't read
+abbrev pub line_of : Form → ℕ → GameTold → Option Ruled → List ℕ
+line_of Words number game ruled = game_words number (length game.moves) ruled game.result
+line_of Json number game ruled = json_text (object (game_members number game ruled))
+
+abbrev pub line_of_fault : Form → ℕ → GameFault → List ℕ
+line_of_fault Words number fault = fault_words number fault
+line_of_fault Json number fault = json_text (object (fault_members number fault))
+
+-- what is told of a game, and what counts of it
+pub record Line : Type 0 where
+  pub words : List ℕ
+  pub mark : Mark
+
+pub data IsLineOf (t : Terms) (number : ℕ) (reading : ReadingTold) (l : Line) : Type 0 where
+  OfGame : (game : GameTold) → reading ≡ GameRead game → (ruled : Option Ruled) → IsRuled t.delay t.tables game ruled → l ≡ record { words = line_of t.form number game ruled; mark = mark_of ruled game.result } → IsLineOf t number reading l
+  OfFault : (fault : GameFault) → reading ≡ FaultRead fault → l ≡ record { words = line_of_fault t.form number fault; mark = mark.AtFault } → IsLineOf t number reading l
+
+abbrev pub differs : Mark → Bool
+differs mark.AtFault = false
+differs mark.Open = false
+differs (mark.Ruled Agrees) = false
+differs (mark.Ruled Differs) = true
+differs (mark.Ruled Uncompared) = false
+
+abbrev pub is_written : Bool → Mark → Bool
+is_written only_differing m = not only_differing || differs m
+
+abbrev pub text_of_line : Bool → Line → List ℕ
+text_of_line only_differing l = if is_written only_differing l.mark then ended l.words else []
+
+-- ---- the sums
+
+abbrev pub line_of_sums : Form → Sums → List ℕ
+line_of_sums Words s = sums_words s
+line_of_sums Json s = json_text (object (sums_members s))
+
+-- ---- games in turn
+
+-- the games are told in turn: the text of their lines, and how many there are after them
+unfoldable pub TellsEach : Terms → Sums → List ReadingTold → Sums → List ℕ → Type 0
+TellsEach t s [] new text = (new ≡ s) × (text ≡ [])
+TellsEach t s (reading ∷ others) new text =
+    (l : Line) × (rest : List ℕ) × IsLineOf t (one_more s.games) reading l × TellsEach t (counted s l.mark) others new rest × (text ≡ text_of_line t.only_differing l ++ rest)
+
+-- these are the first games of the tokens, and what is left behind them
+unfoldable pub ReadsFront : List Token → List ReadingTold → List Token → Type 0
+ReadsFront tokens [] behind = behind ≡ tokens
+ReadsFront tokens (reading ∷ others) behind =
+    (next : List Token) × ReadsGame tokens (Some reading) next × ReadsFront next others behind
+
+-- so many games were told, and this is left
+pub record HasTold (t : Terms) (s : Sums) (tokens : List Token) (new : Sums) (behind : List Token) (text : List ℕ) : Type 0 where
+  pub readings : List ReadingTold
+  pub read : ReadsFront tokens readings behind
+  pub told : TellsEach t s readings new text
+
+-- why no more is told
+pub data IsCut : List ℕ → Type 0 where
+  Unread : IsCut refused_files
+  NoMemory : IsCut refused_memory
+
+-- the games of the tokens were told, all of them; or the first of them, until no more could be read or told, which was written last
+pub data TellsGames (t : Terms) (s : Sums) (tokens : List Token) (new : Sums) (before after : Option (List ℕ)) (how : Telling) : Type 0 where
+  ToldAll : (behind rest : List Token) (text : List ℕ) → HasTold t s tokens new behind text → ReadsGame behind None rest → Appends before after text → how ≡ Whole → TellsGames t s tokens new before after how
+  ToldSome : (behind : List Token) (text words : List ℕ) → HasTold t s tokens new behind text → IsCut words → Appends before after (text ++ ended words) → how ≡ CutShort → TellsGames t s tokens new before after how
+
+-- what is written next: the line of the next game; or why there is none
+abbrev pub IsNextText : Terms → Sums → List Token → List ℕ → Type 0
+IsNextText t s tokens text =
+    ((reading : ReadingTold) × (behind : List Token) × (l : Line) × ReadsGame tokens (Some reading) behind × IsLineOf t (one_more s.games) reading l × (text ≡ text_of_line t.only_differing l))
+    ⊎ ((words : List ℕ) × IsCut words × (text ≡ ended words))
+
+-- what a writer that failed leaves: the lines of the first games, and of one more line a front
+pub record CutsGames (t : Terms) (s : Sums) (tokens : List Token) (before after : Option (List ℕ)) : Type 0 where
+  pub new : Sums
+  pub behind : List Token
+  pub text : List ℕ
+  pub last : List ℕ
+  pub count : ℕ
+  pub has : HasTold t s tokens new behind text
+  pub is_last : IsNextText t new behind last
+  pub wrote : Appends before after (text ++ take count last)
+
+-- the sums are told in one line, and whether no game was at fault; or memory for the line was refused
+pub data TellsSums (form : Form) (s : Sums) (before after : Option (List ℕ)) (well : Bool) : Type 0 where
+  SumsTold : Appends before after (ended (line_of_sums form s)) → well ≡ (s.faults == 0) → TellsSums form s before after well
+  NoRoom : Appends before after (ended refused_memory) → well ≡ false → TellsSums form s before after well
+
+-- of that a front was written
+abbrev pub CutsSums : Form → Sums → Option (List ℕ) → Option (List ℕ) → Type 0
+CutsSums form s before after = HasFront before after (ended (line_of_sums form s)) ⊎ HasFront before after (ended refused_memory)
