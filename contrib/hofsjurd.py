@@ -5,6 +5,7 @@
         tables.probe_wdl("7k/8/6K1/8/8/8/8/1Q6 w - - 0 1")      # 2
         tables.probe_dtz("7k/8/6K1/8/8/8/8/1Q6 w - - 0 1")      # 1
         tables.root("7k/8/6K1/8/8/8/8/1Q6 w - - 0 1")[0].uci()  # 'b1b8'
+        tables.san("7k/8/6K1/8/8/8/8/1Q6 w - - 0 1", "b1b8")    # 'Qb8#'
 
 A position is a FEN text of six fields, or anything whose `fen()` gives one, as a chess.Board. The shared library is the file that
 the environment names by HOFSJURD_LIBRARY, or libhofsjurd.so.1 of the folder that tools/build_c made, or the system's.
@@ -15,9 +16,10 @@ import ctypes
 import os
 from pathlib import Path
 
-__all__ = ["MissingTableError", "OutOfScopeError", "ProbeError", "RootMove", "Tablebase", "open_tablebase", "version"]
+__all__ = ["MissingTableError", "MoveError", "OutOfScopeError", "ProbeError", "RootMove", "Tablebase", "open_tablebase", "version"]
 
 _OK, _OUT_OF_SCOPE, _NOT_COVERED, _OUT_OF_MEMORY = 0, 2, 3, 5
+_BAD_MOVE, _ILLEGAL_MOVE, _AMBIGUOUS_MOVE = 85, 86, 88
 _MOST_MOVES = 256
 _PROMOTIONS = ("", "q", "r", "b", "n")
 _EFFECTS = ("quiet", "pawn move", "capture", "en passant")
@@ -30,6 +32,10 @@ class _Handle(ctypes.Structure):
 
 class _Reply(ctypes.Structure):
     _fields_ = [("status", ctypes.c_uint32), ("value", ctypes.c_int32)]
+
+
+class _Move(ctypes.Structure):
+    _fields_ = [(name, ctypes.c_uint8) for name in ("start", "end", "promotion")]
 
 
 class _RootMove(ctypes.Structure):
@@ -63,6 +69,8 @@ def _load():
         ("hofsjurd_root", _Reply, handle, text, size, ctypes.POINTER(_RootMove), size),
         ("hofsjurd_has", _Reply, handle, text, size, ctypes.c_uint8),
         ("hofsjurd_largest", _Reply, handle),
+        ("hofsjurd_move_san", _Reply, text, size, ctypes.POINTER(_Move), text, size),
+        ("hofsjurd_read_san", ctypes.c_uint32, text, size, text, size, ctypes.POINTER(_Move)),
         ("hofsjurd_status_name", size, ctypes.c_uint32, text, size),
         ("hofsjurd_version", size, text, size),
         ("hofsjurd_folder_map_telling", ctypes.c_uint32, folder, text, _Teller, ctypes.c_void_p),
@@ -107,8 +115,16 @@ class OutOfScopeError(ProbeError, KeyError):
     """A right to castle, or more than five men."""
 
 
+class MoveError(ProbeError, ValueError):
+    """A text that is no move, or a move that isn't legal, or a text that is so of two legal moves."""
+
+
+_ERRORS = {_NOT_COVERED: MissingTableError, _OUT_OF_SCOPE: OutOfScopeError}
+_ERRORS.update(dict.fromkeys((_BAD_MOVE, _ILLEGAL_MOVE, _AMBIGUOUS_MOVE), MoveError))
+
+
 def _error(status):
-    return {_NOT_COVERED: MissingTableError, _OUT_OF_SCOPE: OutOfScopeError}.get(status, ProbeError)(status)
+    return _ERRORS.get(status, ProbeError)(status)
 
 
 def _value(reply):
@@ -117,8 +133,25 @@ def _value(reply):
     return reply.value
 
 
+def _fen(board):
+    return (board if isinstance(board, str) else board.fen()).encode()
+
+
 def _square(number):
     return "abcdefgh"[number % 8] + str(number // 8 + 1)
+
+
+def _number(square):
+    file, rank = square
+    return "abcdefgh".index(file) + 8 * "12345678".index(rank)
+
+
+def _move(move):
+    text = move if isinstance(move, str) else move.uci()
+    try:
+        return _Move(_number(text[:2]), _number(text[2:4]), _PROMOTIONS.index(text[4:]))
+    except ValueError:
+        raise _error(_BAD_MOVE) from None
 
 
 class RootMove:
@@ -215,8 +248,26 @@ class Tablebase:
         count = _value(self._asked(_library.hofsjurd_root, board, moves, _MOST_MOVES))
         return [RootMove(it) for it in moves[:count]]
 
+    @staticmethod
+    def san(board, move):
+        """A legal move in standard algebraic notation, as "Nf3". It is given in coordinates, as "g1f3", or as a RootMove or anything
+        else whose `uci()` gives such a text. A MoveError where it is no move or isn't legal. It needs no table."""
+        fen, room = _fen(board), ctypes.create_string_buffer(16)
+        _value(_library.hofsjurd_move_san(fen, len(fen), _move(move), room, len(room)))
+        return room.value.decode()
+
+    @staticmethod
+    def parse_san(board, san):
+        """The move in coordinates that a text in standard algebraic notation tells. A MoveError where it is none of a move, no legal
+        move is as it tells, or two are. It needs no table."""
+        fen, text, move = _fen(board), san.encode(), _Move()
+        status = _library.hofsjurd_read_san(fen, len(fen), text, len(text), move)
+        if status:
+            raise _error(status)
+        return _square(move.start) + _square(move.end) + _PROMOTIONS[move.promotion]
+
     def _asked(self, call, board, *given):
-        fen = (board if isinstance(board, str) else board.fen()).encode()
+        fen = _fen(board)
         return call(self._handle, fen, len(fen), *given)
 
     def close(self):

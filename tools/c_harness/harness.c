@@ -157,6 +157,34 @@ static int check_root(hofsjurd *h, size_t i)
     return wrong;
 }
 
+/* Of one position: the text of each legal move is read as that move, in a room that is just large enough; and what is refused. */
+static int check_san(size_t i)
+{
+    hofsjurd_move listed[HOFSJURD_MOST_MOVES], read, none = {64, 0, 0}, stays = {0, 0, 0};
+    size_t length = strlen(fens[i]), n = (size_t)hofsjurd_moves(fens[i], length, listed, HOFSJURD_MOST_MOVES).value;
+    char text[16];
+    int wrong = 0;
+    for (size_t k = 0; k < n; k++) {
+        memset(text, 0x5a, sizeof text);
+        memset(&read, 0x5a, sizeof read);
+        hofsjurd_reply told = hofsjurd_move_san(fens[i], length, &listed[k], text, sizeof text);
+        size_t size = (size_t)told.value;
+        wrong += told.status || size > 8 || strlen(text) != size;
+        wrong += hofsjurd_read_san(fens[i], length, text, size, &read) != HOFSJURD_OK || memcmp(&read, &listed[k], sizeof read);
+        memset(text, 0x5a, sizeof text);
+        hofsjurd_reply shut = hofsjurd_move_san(fens[i], length, &listed[k], text, size);
+        wrong += shut.status != HOFSJURD_NO_ROOM || shut.value != told.value + 1 || text[0] != 0x5a;
+        wrong += hofsjurd_move_san(fens[i], length, &listed[k], text, size + 1).status || text[size] != 0 || text[size + 1] != 0x5a;
+    }
+    memset(text, 0x5a, sizeof text);
+    wrong += hofsjurd_move_san(fens[i], length, &none, text, sizeof text).status != HOFSJURD_BAD_MOVE || text[0] != 0x5a;
+    wrong += hofsjurd_move_san(fens[i], length, &stays, text, sizeof text).status != HOFSJURD_ILLEGAL_MOVE || text[0] != 0x5a;
+    read = none;
+    wrong += hofsjurd_read_san(fens[i], length, "Kx", 2, &read) != HOFSJURD_BAD_MOVE || memcmp(&read, &none, sizeof read);
+    if (wrong) printf("moves as text of %s: %d wrong\n", fens[i], wrong);
+    return wrong;
+}
+
 /* A set without tables misses that of each position. */
 static int check_missing(size_t i)
 {
@@ -207,8 +235,8 @@ static int check_shared(hofsjurd *h)
 static int compare(hofsjurd *h)
 {
     int root_wrong = check_held(h) + check_shared(h);
-    for (size_t i = 0; i < count; i++) root_wrong += check_root(h, i) + check_missing(i);
-    printf("%zu positions: %d root moves, boards after them, states or missing tables are wrong\n", count, root_wrong);
+    for (size_t i = 0; i < count; i++) root_wrong += check_root(h, i) + check_san(i) + check_missing(i);
+    printf("%zu positions: %d root moves, boards after them, their texts, states or missing tables are wrong\n", count, root_wrong);
     size_t wdl_differ = 0, dtz_differ = 0, board_differ = 0, decided = 0, skipped = 0;
     for (size_t i = 0; i < count; i++) {
         const char *s = fens[i];

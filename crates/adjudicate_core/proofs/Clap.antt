@@ -19,6 +19,7 @@ is_simple name.Listen = refl
 is_simple name.Probes = refl
 is_simple name.Game = refl
 is_simple name.Games = refl
+is_simple name.Pgn = refl
 is_simple name.Record = refl
 is_simple name.Audit = refl
 is_simple name.Version = refl

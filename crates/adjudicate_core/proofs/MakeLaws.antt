@@ -61,6 +61,7 @@ nothing_by (task.Listen l) = (of_listen l, refl)
 nothing_by (task.Probes t) = refl
 nothing_by (task.Game t) = refl
 nothing_by (task.Games t) = refl
+nothing_by (task.Pgn t) = refl
 nothing_by (task.Record t) = refl
 nothing_by (task.GameRecord t) = refl
 nothing_by (task.Audit t) = refl

@@ -16,9 +16,8 @@ use Rattle.adjudicate_core.specs.declared.answers.lines.Line.{Line}
 use Rattle.adjudicate_core.specs.declared.answers.lines.Line.TheVariants as line
 use Rattle.adjudicate_core.specs.declared.answers.lines.RootLine.{RootLine}
 use Rattle.judge_core.specs.Ask.{IsAnswered}
-use Rattle.json_lines.specs.Told.{AreRootMoves}
 use Rattle.judge_core.specs.declared.ask.Ask.{Ask}
-use Rattle.adjudicate_core.specs.Commands.Root.{IsRootReply, root_reply}
+use Rattle.adjudicate_core.specs.Commands.Root.{AreRootMoves, IsRootReply, root_reply}
 use Rattle.adjudicate_core.specs.Lines.{probed_of, root_line_words, root_words, words_of}
 use Rattle.adjudicate_core.specs.Reply.{Reply, status_if}
 

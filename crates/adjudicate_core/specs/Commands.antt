@@ -7,6 +7,7 @@ pub mod Enter
 pub mod Follow
 pub mod Game
 pub mod Games
+pub mod Pgn
 pub mod Host
 pub mod Judge
 pub mod List

@@ -71,6 +71,7 @@ IsMadeBy (task.Listen l) more = IsFrontOfMade (of_listen l) more
 IsMadeBy (task.Probes t) more = more ≡ []
 IsMadeBy (task.Game t) more = more ≡ []
 IsMadeBy (task.Games t) more = more ≡ []
+IsMadeBy (task.Pgn t) more = more ≡ []
 IsMadeBy (task.Record t) more = more ≡ []
 IsMadeBy (task.GameRecord t) more = more ≡ []
 IsMadeBy (task.Audit t) more = more ≡ []

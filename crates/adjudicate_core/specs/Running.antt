@@ -37,6 +37,7 @@ use Rattle.adjudicate_core.specs.Commands.Show as shows
 use Rattle.adjudicate_core.specs.Commands.Run as runs
 use Rattle.adjudicate_core.specs.Commands.Game as games
 use Rattle.adjudicate_core.specs.Commands.Games as of_games
+use Rattle.adjudicate_core.specs.Commands.Pgn as of_pgn
 use Rattle.adjudicate_core.specs.Commands.Record as records
 use Rattle.adjudicate_core.specs.Commands.Audit as audits
 use Rattle.adjudicate_core.specs.Commands.AuditGames as game_audits
@@ -80,6 +81,7 @@ AnswersFrom m Told (task.Listen t) given old new r = Listens m.outside.host (ser
 AnswersFrom m Told (task.Probes t) given old new r = PutsByTables (of_probes.TellsLineIn t.json (ask_of t.determined)) IsText m.outside.source given old new r
 AnswersFrom m Told (task.Game t) given old new r = AnswersOnce (games.IsReply t given) (IsText t.fen.now) old new r
 AnswersFrom m Told (task.Games t) given old new r = PutsByTables (of_games.TellsGame t.delay) of_games.HasStart m.outside.source given old new r
+AnswersFrom m Told (task.Pgn t) given old new r = of_pgn.Puts m.outside.disk m.outside.source t given old new r
 AnswersFrom m Told (task.Record t) given old new r = AnswersOnce (records.IsReply given.kept) (records.RecordTakesMemory given.kept) old new r
 AnswersFrom m Told (task.GameRecord t) given old new r = game_records.Puts m.outside.disk m.stores t old new r
 AnswersFrom m Told (task.Audit t) given old new r = AnswersOnce (audits.IsReply t given) (IsText t.start.now) old new r

@@ -14,6 +14,7 @@ use Rattle.adjudicate_core.specs.Commands.Listen as listens
 use Rattle.adjudicate_core.specs.Commands.Probes as of_probes
 use Rattle.adjudicate_core.specs.Commands.Game as games
 use Rattle.adjudicate_core.specs.Commands.Games as of_games
+use Rattle.adjudicate_core.specs.Commands.Pgn as of_pgn
 use Rattle.adjudicate_core.specs.Commands.Send as sends
 use Rattle.adjudicate_core.specs.Commands.Enter as enters
 use Rattle.adjudicate_core.specs.Commands.Host as hosts
@@ -49,6 +50,7 @@ command_word name.Listen = codes "listen"
 command_word name.Probes = codes "probes"
 command_word name.Game = codes "game"
 command_word name.Games = codes "games"
+command_word name.Pgn = codes "pgn"
 command_word name.Record = codes "record"
 command_word name.Audit = codes "audit"
 command_word name.Version = codes "version"
@@ -72,6 +74,7 @@ command_rules name.Listen = listens.rules
 command_rules name.Probes = of_probes.rules
 command_rules name.Game = games.rules
 command_rules name.Games = of_games.rules
+command_rules name.Pgn = of_pgn.rules
 command_rules name.Record = records.rules
 command_rules name.Audit = audits.rules
 command_rules name.Version = versions.rules
@@ -95,6 +98,7 @@ faults_of name.Listen value = listens.faults
 faults_of name.Probes value = of_probes.faults
 faults_of name.Game value = games.faults
 faults_of name.Games value = of_games.faults
+faults_of name.Pgn value = of_pgn.faults
 faults_of name.Record value = records.faults
 faults_of name.Audit value = game_audits.faults_by (value (codes "games")) (value (codes "other"))
 faults_of name.Version value = versions.faults
@@ -119,6 +123,7 @@ task_name (task.Listen t) = name.Listen
 task_name (task.Probes t) = name.Probes
 task_name (task.Game t) = name.Game
 task_name (task.Games t) = name.Games
+task_name (task.Pgn t) = name.Pgn
 task_name (task.Record t) = name.Record
 task_name (task.GameRecord t) = name.Record
 task_name (task.Audit t) = name.Audit
@@ -144,6 +149,7 @@ HasTaskValues value (task.Listen t) = listens.IsListening value t
 HasTaskValues value (task.Probes t) = of_probes.HasValues value t
 HasTaskValues value (task.Game t) = games.HasValues value t
 HasTaskValues value (task.Games t) = of_games.HasValues value t
+HasTaskValues value (task.Pgn t) = of_pgn.HasValues value t
 HasTaskValues value (task.Record t) = (value (codes "games") ≡ None) × records.HasValues value t
 HasTaskValues value (task.GameRecord t) = game_records.HasValues value t
 HasTaskValues value (task.Audit t) = game_audits.LacksFolders value × audits.HasValues value t
@@ -169,6 +175,7 @@ named_in (task.Listen t) = listens.named t
 named_in (task.Probes t) = of_probes.named t
 named_in (task.Game t) = games.named t
 named_in (task.Games t) = of_games.named t
+named_in (task.Pgn t) = of_pgn.named t
 named_in (task.Record t) = records.named t
 named_in (task.GameRecord t) = game_records.named
 named_in (task.Audit t) = audits.named t
@@ -201,6 +208,7 @@ tells_progress (task.Listen t) = false
 tells_progress (task.Probes t) = t.progress
 tells_progress (task.Game t) = false
 tells_progress (task.Games t) = t.progress
+tells_progress (task.Pgn t) = false
 tells_progress (task.Record t) = false
 tells_progress (task.GameRecord t) = false
 tells_progress (task.Audit t) = false

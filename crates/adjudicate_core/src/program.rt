@@ -59,7 +59,7 @@ fn answer_given<D: LineDisk, I: Input, H: Host, W: Output, E: Output>(
     err: &mut E,
 ) -> Result<u8, WriteFault>
     ensures quiet { tells_progress task.now ≡ false → TellsIfLost E.facts E.contents err.old err.new task.now result }
-    ensures answered { GivenAt D.Disk.facts I.facts H.facts H.stores H.made H.Port.facts H.File.facts H.Store.facts W.contents E.facts E.contents task.now given.entry history.old history.new out.old out.new err.old err.new result }
+    ensures answered { GivenAt D.facts I.facts H.facts H.stores H.made H.Port.facts H.File.facts H.Store.facts W.contents E.facts E.contents task.now given.entry history.old history.new out.old out.new err.old err.new result }
     ensures made { MakesFor task.now (H.made history.old) (H.made history.new) }
     ensures cause { OnErr result (HasFailed W.facts) }
 {
@@ -101,7 +101,7 @@ fn run_task<D: LineDisk, I: Input, H: Host, W: Output, E: Output>(
     err: &mut E,
 ) -> Result<u8, WriteFault>
     ensures quiet { tells_progress task.now ≡ false → TellsIfLost E.facts E.contents err.old err.new task.now result }
-    ensures answered { TaskAt D.Disk.facts I.facts H.facts H.stores H.made H.Port.facts H.File.facts H.Store.facts W.contents E.facts E.contents task.now system.now history.old history.new out.old out.new err.old err.new result }
+    ensures answered { TaskAt D.facts I.facts H.facts H.stores H.made H.Port.facts H.File.facts H.Store.facts W.contents E.facts E.contents task.now system.now history.old history.new out.old out.new err.old err.new result }
     ensures made { MakesFor task.now (H.made history.old) (H.made history.new) }
     ensures cause { OnErr result (HasFailed W.facts) }
 {
@@ -130,7 +130,7 @@ fn run_by_key<D: LineDisk, I: Input, H: Host, W: Output, E: Output>(
     err: &mut E,
 ) -> Result<u8, WriteFault>
     ensures quiet { tells_progress task.now ≡ false → TellsIfLost E.facts E.contents err.old err.new task.now result }
-    ensures answered { SealedAt D.Disk.facts I.facts H.facts H.stores H.made H.Port.facts H.File.facts H.Store.facts W.contents E.facts E.contents task.now system.now history.old history.new out.old out.new err.old err.new result }
+    ensures answered { SealedAt D.facts I.facts H.facts H.stores H.made H.Port.facts H.File.facts H.Store.facts W.contents E.facts E.contents task.now system.now history.old history.new out.old out.new err.old err.new result }
     ensures made { MakesFor task.now (H.made history.old) (H.made history.new) }
     ensures cause { OnErr result (HasFailed W.facts) }
 {
@@ -185,7 +185,7 @@ pub fn run<D: LineDisk, I: Input, H: Host, W: Output, E: Output>(
     err: &mut E,
 ) -> Result<u8, WriteFault>
     ensures quiet { err.new ≢ err.old → (result ≡ Ok 2) ⊎ ((t : Task) × IsTask (texts words.now) t × IsLoud E.facts E.contents err.old err.new t result) }
-    ensures runs { RunsProgram D.Disk.facts I.facts H.facts H.stores H.made H.Port.facts H.File.facts H.Store.facts W.contents E.facts E.contents words.now system.now history.old history.new out.old out.new err.old err.new result }
+    ensures runs { RunsProgram D.facts I.facts H.facts H.stores H.made H.Port.facts H.File.facts H.Store.facts W.contents E.facts E.contents words.now system.now history.old history.new out.old out.new err.old err.new result }
     ensures made { Makes (texts words.now) (H.made history.old) (H.made history.new) }
     ensures cause { OnErr result (HasFailed W.facts) }
 {
@@ -241,7 +241,7 @@ pub fn run_program<D: LineDisk, I: Input, H: Host, W: Output, E: Output>(
     out: &mut W,
     err: &mut E,
 ) -> Result<u8, WriteFault>
-    ensures runs { Calls D.Disk.facts I.facts H.facts H.stores H.made H.Port.facts H.File.facts H.Store.facts W.contents E.facts E.contents called.now system.now history.old history.new out.old out.new err.old err.new result }
+    ensures runs { Calls D.facts I.facts H.facts H.stores H.made H.Port.facts H.File.facts H.Store.facts W.contents E.facts E.contents called.now system.now history.old history.new out.old out.new err.old err.new result }
     ensures made { MakesCalled (called_by called.now) (H.made history.old) (H.made history.new) }
     ensures cause { OnErr result (HasFailed W.facts) }
 {

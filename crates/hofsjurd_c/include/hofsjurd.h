@@ -91,8 +91,9 @@ enum {
     HOFSJURD_NO_ROOM = 83,         /* the caller's array is too short; the value is the length that is needed */
     HOFSJURD_GAME_OVER = 84,       /* the game has its verdict and takes no move */
     HOFSJURD_BAD_MOVE = 85,        /* the text or the numbers are no move at all */
-    HOFSJURD_ILLEGAL_MOVE = 86,    /* the move isn't legal in the game's position */
-    HOFSJURD_BAD_DELAY = 87        /* a delay above 8 plies */
+    HOFSJURD_ILLEGAL_MOVE = 86,    /* the move isn't legal in the position */
+    HOFSJURD_BAD_DELAY = 87,       /* a delay above 8 plies */
+    HOFSJURD_AMBIGUOUS_MOVE = 88   /* what the text tells is so of two legal moves */
 };
 
 /* WDL values, for the side to move */
@@ -265,6 +266,18 @@ uint32_t hofsjurd_board_after(const hofsjurd_board *board, const hofsjurd_move *
 
 /* How the position stands for its side to move, HOFSJURD_STANDS_OPEN to HOFSJURD_STALEMATED. No tables are needed. */
 hofsjurd_reply hofsjurd_board_state(const hofsjurd_board *board);
+
+/* Writes a move of the position of a FEN text in standard algebraic notation ("Nf3", "exd8=Q+", "O-O-O"), and a 0 after it, at the
+ * front of the caller's room, and tells the length of the text, at most 8. Where `room_length` isn't above that, the status is
+ * HOFSJURD_NO_ROOM with the room that is needed as the value. The other statuses are the first fault of the FEN text,
+ * HOFSJURD_BAD_MOVE, HOFSJURD_ILLEGAL_MOVE, in this order; with each nothing is written. No tables are needed. */
+hofsjurd_reply hofsjurd_move_san(const char *fen, size_t length, const hofsjurd_move *move, char *room, size_t room_length);
+
+/* Reads a move in standard algebraic notation, in the position of a FEN text, and writes it. More of the square that a man leaves may
+ * be told than is needed, castling may be written by zeros, a promotion without "=", and signs of check and glyphs ("+", "#", "!?") are
+ * passed over. Any other status than HOFSJURD_OK writes nothing: the first fault of the FEN text; HOFSJURD_BAD_MOVE, the text is none
+ * of a move; HOFSJURD_ILLEGAL_MOVE, no legal move is as it tells; HOFSJURD_AMBIGUOUS_MOVE, two are. No tables are needed. */
+uint32_t hofsjurd_read_san(const char *fen, size_t length, const char *san, size_t san_length, hofsjurd_move *move);
 
 /* --------------------------------------------------------------------------------------------------------------- games */
 

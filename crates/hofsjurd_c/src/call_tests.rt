@@ -195,6 +195,27 @@ fn check_after(rt: &impl Abort) {
     check(rt, hofsjurd_board_state(&after), 0, 2, "board_state");
 }
 
+/// The queen's mate as text, both ways. One room is too short.
+fn check_san(rt: &impl Abort) {
+    let mate = PlainMove {
+        from: 1,
+        to: 57,
+        promotion: 0,
+    };
+    let mut room = [1u8; 8];
+    let told = hofsjurd_move_san(MATE, &mate, &mut room[..4]);
+    check(rt, told, 83, 5, "move_san");
+    let told = hofsjurd_move_san(MATE, &mate, &mut room);
+    check(rt, told, 0, 4, "move_san");
+    check_text(rt, 4, &room, b"Qb8#", "move_san");
+    let mut read = NO_MOVE;
+    let status = hofsjurd_read_san(MATE, b"Nb8", &mut read);
+    check_status(rt, status, 86, "read_san");
+    let status = hofsjurd_read_san(MATE, b"Qb8", &mut read);
+    check_status(rt, status, 0, "read_san");
+    assert_eq!(rt; (read.from, read.to), (1, 57), "read_san");
+}
+
 /// What the handle holds, and a second one that shares it.
 fn check_holding(rt: &impl Abort, alloc: Global, handle: &mut Handle) {
     let mut room = [1u8; 8];
@@ -299,5 +320,6 @@ fn exports_tell_games_and_moves(rt: HostRuntime) {
     hofsjurd_close(alloc, &mut handle);
     check_moves(&rt, alloc);
     check_after(&rt);
+    check_san(&rt);
     check_names(&rt);
 }

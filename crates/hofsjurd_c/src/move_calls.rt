@@ -1,4 +1,4 @@
-//! Calls about the moves of a position: what each is worth, and the board after one.
+//! Calls about the moves of a position: what each is worth, the board after one, and its text.
 
 ghost use Rattle.std.specs.Prelude.{◌≡◌, None, Some};
 ghost use Rattle.hofsjurd_c.specs.declared.held.Held.{Held};
@@ -7,6 +7,7 @@ ghost use Rattle.probe_api.specs.Afters.{TellsAfter};
 ghost use Rattle.probe_api.specs.Missing.{PutsMissing};
 ghost use Rattle.probe_api.specs.Replies.{refused};
 ghost use Rattle.probe_api.specs.Roots.{PutsRootOfBoard, PutsRootOfText, TellsState};
+ghost use Rattle.probe_api.specs.Sans.{PutsSanOfText, TellsSanOfText};
 
 use crate::asking::{ask_root_of_board, ask_root_of_text};
 use crate::handle::Handle;
@@ -59,6 +60,24 @@ pub extern "C" fn hofsjurd_board_state(board: &Board) -> Reply
     ensures { TellsState board.now result }
 {
     probe_api::state_of_board(board)
+}
+
+/// Puts the text of a legal move of the position that a FEN text spells, in standard algebraic notation, as `Nf3` or `exd8=Q+`, and a
+/// byte 0 after it into the caller's room, where both fit, and tells the length of the text; else how much room is needed.
+#[unsafe(no_mangle)]
+pub extern "C" fn hofsjurd_move_san(fen: &[u8], m: &PlainMove, room: &mut [u8]) -> Reply
+    ensures { PutsSanOfText fen.now m.now room.old result room.new }
+{
+    probe_api::put_san(fen, *m, room)
+}
+
+/// Puts the move that a text in standard algebraic notation tells in the position of a FEN text into the caller's room. A text that is
+/// none, or that no legal move or more than one is as it tells, is refused, and the room stays as it was.
+#[unsafe(no_mangle)]
+pub extern "C" fn hofsjurd_read_san(fen: &[u8], san: &[u8], room: &mut PlainMove) -> u32
+    ensures { TellsSanOfText fen.now san.now room.old result room.new }
+{
+    probe_api::tell_san(fen, san, room)
 }
 
 /// Puts the name of the table that the WDL probe of a board misses, as `KQvK`, and a byte 0 after it into the caller's room, where both

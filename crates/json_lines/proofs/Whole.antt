@@ -68,6 +68,14 @@ followed_written later (member k j ms) others a b c some facts more =
     subst (λ ts. Writes later (begin_object ∷ ts) a c) (sym (open_followed (member k j ms) others))
     (writes_both later (begin_object ∷ open_tokens (member k j ms)) (open_tokens others) a b c facts (subst (λ l. Writes l (open_tokens others) b c) (sym (ended_open k j false ms)) more))
 
+-- members, one member, and then others
+pub around_written : (ms : Members) (k : List ℕ) (j : Json) (others : Members) (a b c d : Option (List ℕ)) → HasMember ms → Writes true (open_tokens ms) a b → Writes true (key k ∷ json_tokens j) b c → Writes true (open_tokens others) c d → Writes true (open_tokens (followed_by ms (member k j others))) a d
+around_written no_members k j others a b c d some facts one more = absurd some
+around_written (member l i ms) k j others a b c d some facts one more =
+    let rest = writes_more true k j (open_tokens others) b c d one more in
+    subst (λ ts. Writes true ts a d) (sym (open_followed (member l i ms) (member k j others)))
+    (writes_both true (open_tokens (member l i ms)) (open_tokens (member k j others)) a b d facts (subst (λ c. Writes c (open_tokens (member k j others)) b d) (sym (ended_open l i true ms)) rest))
+
 -- a member alone
 pub one_open : (later : Bool) (k : List ℕ) (j : Json) (a b : Option (List ℕ)) → Writes later (key k ∷ json_tokens j) a b → Writes later (open_tokens (member k j no_members)) a b
 one_open later k j a b h = subst (λ ts. Writes later (key k ∷ ts) a b) (sym (append-nil (json_tokens j))) h

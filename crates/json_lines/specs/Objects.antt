@@ -101,20 +101,28 @@ position_members p probed verdict =
     (member (codes "insufficient_material") (boolean (has_insufficient_material p)) no_members))))))))
     (error_members probed)
 
--- a legal move: what the probes tell of the position after it, from the view of its side to move
-abbrev pub after_members : MoveTold → Members
-after_members t =
-    followed_by
-    (member (codes "fen") (string (fen_of t.after))
+-- the position after a legal move: what the probes tell of it, from the view of its side to move, and how it ends the game
+abbrev pub value_members : MoveTold → Members
+value_members t =
+    member (codes "fen") (string (fen_of t.after))
     (member (codes "wdl") (number_or_null t.probed.wdl)
     (member (codes "dtz") (number_or_null t.probed.dtz)
     (member (codes "category") (string (category_of t.state t.probed.wdl))
     (member (codes "zeroing") (boolean (zeroes_clock t.effect))
     (member (codes "checkmate") (boolean (is_checkmate t.state))
-    (member (codes "stalemate") (boolean (is_stalemate t.state))
-    (member (codes "check") (boolean (is_in_check t.after.men t.after.side))
-    (member (codes "insufficient_material") (boolean (has_insufficient_material t.after)) no_members)))))))))
-    (error_members t.probed)
+    (member (codes "stalemate") (boolean (is_stalemate t.state)) no_members))))))
+
+-- whether it is check, and whether no mate can come from it
+abbrev pub standing_members : MoveTold → Members
+standing_members t =
+    member (codes "check") (boolean (is_in_check t.after.men t.after.side))
+    (member (codes "insufficient_material") (boolean (has_insufficient_material t.after)) no_members)
+
+-- these, with the move in standard algebraic notation between, and why a value is missing
+abbrev pub after_members : MoveTold → Members
+after_members t =
+    followed_by (value_members t)
+    (member (codes "san") (string t.san.bytes) (followed_by (standing_members t) (error_members t.probed)))
 
 abbrev pub move_members : MoveTold → Members
 move_members t = member (codes "uci") (string (move_text t.played)) (after_members t)

@@ -15,6 +15,7 @@ use Rattle.judge_core.specs.Ruling.{is_out_of_scope, ruling}
 use Rattle.judge_core.specs.Tables.{Tables}
 use Rattle.judge_core.specs.Ask.{IsAnswered, IsRanked, MayLack}
 use Rattle.judge_core.specs.declared.ask.Ask.{Ask}
+use Rattle.san_text.specs.Written.{san_of}
 use Rattle.json_lines.specs.declared.told.JsonLine.{JsonLine}
 use Rattle.json_lines.specs.declared.told.JsonLine.TheVariants as line
 use Rattle.json_lines.specs.declared.told.MoveTold.{MoveTold}
@@ -52,6 +53,7 @@ pub record IsMoveTold (ask : Ask) (tables : Tables) (p : Parts) (m : Move) (t : 
   pub after : position_after p m ≡ Some t.after
   pub state : t.state ≡ state_of t.after
   pub probed : IsProbedAfter ask tables (is_checkmate t.state) t.after t.probed
+  pub san : t.san.bytes ≡ san_of p m
 
 abbrev pub AreMovesTold : Ask → Tables → Parts → List Move → List MoveTold → Type 0
 AreMovesTold ask tables p [] [] = Unit {0}

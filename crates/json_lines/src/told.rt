@@ -8,11 +8,14 @@ ghost use Rattle.judge_core.specs.Root.{is_checkmate};
 ghost use Rattle.json_lines.specs.declared.told.MoveTold.{MoveTold};
 ghost use Rattle.json_lines.specs.Inside.Playing.{IsPlayable};
 ghost use Rattle.judge_core.specs.Ask.{MayLack};
+ghost use Rattle.san_text.specs.Written.{san_of};
 ghost use Rattle.json_lines.specs.Told.{AreMovesTold, AreOrdered, IsLineFor, IsLineOf, IsMoveTold, IsPositionTold, IsProbedAfter, IsRootTold, IsText, MayLackLine, OfText, is_done, played_in};
 
+use arrayvec::ArrayString;
 use board_core::{Move, Position};
 use fen_text::{FenFault, read};
 use judge_core::{Ask, BoardState, Columns, Effect, ProbeResult, RootMove, Set};
+use san_text::write_san;
 use std::alloc::{AllocError, Global};
 
 /// Both probes of a position and the verdict on it.
@@ -37,6 +40,8 @@ pub struct MoveTold {
     pub state: BoardState,
     /// The values of that position, from the view of its side to move. A side that is mated has -2 and -1.
     pub probed: ProbeResult,
+    /// The move in standard algebraic notation.
+    pub san: ArrayString<8>,
 }
 
 /// What one line tells.
@@ -73,6 +78,17 @@ fn probed_after(
     }
 }
 
+/// A legal move in standard algebraic notation.
+fn san_of(position: &Position, m: &Move) -> ArrayString<8>
+    requires { IsPlayable position.now m.now }
+    ensures { result.bytes ≡ san_of position.now m.now }
+{
+    match write_san(position, *m) {
+        Some(san) => san,
+        None => unreachable!(),
+    }
+}
+
 /// A legal move with what is told of the position after it.
 fn told_after(
     ask: Ask,
@@ -88,6 +104,7 @@ fn told_after(
 {
     let effect = Effect::of(position, m);
     let state = BoardState::of(after);
+    let san = san_of(position, m);
     match probed_after(ask, alloc, set, state, after) {
         Ok(probed) => Ok(MoveTold {
             played: *m,
@@ -95,6 +112,7 @@ fn told_after(
             after: *after,
             state,
             probed,
+            san,
         }),
         Err(fault) => Err(fault),
     }

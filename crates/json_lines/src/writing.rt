@@ -9,7 +9,7 @@ ghost use Rattle.json_lines.specs.Inside.Members.{Writes, members_of, open_items
 ghost use Rattle.fen_text.specs.Coordinates.{move_text};
 ghost use Rattle.judge_core.specs.Words.{probe_fault_words};
 ghost use Rattle.place_index.specs.Material.{men_of, name_of};
-ghost use Rattle.json_lines.specs.Objects.{after_members, category, category_of, error_members, fault_json, fen_error, first_probe_fault, followed_by, is_stalemate, json_text, line_json, move_json, move_members, moves_items, number_or_null, position_json, position_members, root_json, verdict_or_null};
+ghost use Rattle.json_lines.specs.Objects.{after_members, category, category_of, error_members, fault_json, fen_error, first_probe_fault, followed_by, is_stalemate, json_text, line_json, move_json, move_members, moves_items, number_or_null, position_json, position_members, root_json, standing_members, value_members, verdict_or_null};
 
 use crate::members::{Member, Value, put_comma, put_key, put_member, put_members};
 use crate::text::put;
@@ -228,9 +228,9 @@ fn put_uci<W: Write>(out: &mut W, told: &MoveTold) -> Result<(), WriteFault>
     put_member(out, false, &member)
 }
 
-/// Writes what is told of the position after a move, behind the move.
-fn put_after<W: Write>(out: &mut W, told: &MoveTold) -> Result<(), WriteFault>
-    ensures { OnOk result (Writes true (open_tokens (after_members told.now)) (W.contents out.old) (W.contents out.new)) }
+/// Writes the position after a move, behind the move, with its values and what the move comes to.
+fn put_values<W: Write>(out: &mut W, told: &MoveTold) -> Result<(), WriteFault>
+    ensures { OnOk result (Writes true (open_tokens (value_members told.now)) (W.contents out.old) (W.contents out.new)) }
 {
     let fen = write(&told.after);
     let state = told.state;
@@ -245,6 +245,26 @@ fn put_after<W: Write>(out: &mut W, told: &MoveTold) -> Result<(), WriteFault>
         member("zeroing", Value::Boolean(told.effect.zeroes_clock())),
         member("checkmate", Value::Boolean(state.is_checkmate())),
         member("stalemate", Value::Boolean(is_stalemate(state))),
+    ];
+    put_members(out, true, &members)
+}
+
+/// Writes the member that has a move in standard algebraic notation.
+fn put_san<W: Write>(out: &mut W, told: &MoveTold) -> Result<(), WriteFault>
+    ensures { OnOk result (Writes true (key (codes "san") ∷ json_tokens (string told.now.san.bytes)) (W.contents out.old) (W.contents out.new)) }
+{
+    let member = Member {
+        name: "san",
+        value: Value::Text(told.san.as_str()),
+    };
+    put_member(out, true, &member)
+}
+
+/// Writes how the position after a move stands on the board, and why a value of it is missing, where one is.
+fn put_standing<W: Write>(out: &mut W, told: &MoveTold) -> Result<(), WriteFault>
+    ensures { OnOk result (Writes true (open_tokens (followed_by (standing_members told.now) (error_members told.now.probed))) (W.contents out.old) (W.contents out.new)) }
+{
+    let members = [
         member("check", Value::Boolean(told.after.in_check())),
         member(
             "insufficient_material",
@@ -252,6 +272,15 @@ fn put_after<W: Write>(out: &mut W, told: &MoveTold) -> Result<(), WriteFault>
         ),
     ];
     put_told(out, true, &members, &told.probed)
+}
+
+/// Writes what is told of a move and of the position after it, behind the move.
+fn put_after<W: Write>(out: &mut W, told: &MoveTold) -> Result<(), WriteFault>
+    ensures { OnOk result (Writes true (open_tokens (after_members told.now)) (W.contents out.old) (W.contents out.new)) }
+{
+    put_values(out, told)?;
+    put_san(out, told)?;
+    put_standing(out, told)
 }
 
 /// Writes the object of a move but for its closing brace.

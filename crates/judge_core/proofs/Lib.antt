@@ -38,3 +38,8 @@ pub mod AskedPawns
 pub mod Completing
 pub mod DeterminedMoves
 pub mod Told
+pub mod Firm
+pub mod FirmDistances
+pub mod MoreTables
+pub mod Opened
+pub mod ByRulings

@@ -18,4 +18,5 @@ pub mod Laws
 pub mod FiveRules
 pub mod RootLaws
 pub mod DeterminedLaws
+pub mod MoreTables
 pub mod Inside

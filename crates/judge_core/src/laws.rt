@@ -1,6 +1,7 @@
 //! Laws over the definitions of specs/, for proofs above: each function carries one law and does nothing.
 
 ghost use Rattle.judge_core.specs.FiveRules.{DistanceByFiveRules};
+ghost use Rattle.judge_core.specs.MoreTables.{AddingKeepsTheRest, AskingAgainEnds, FinalStaysFinal, GamesDependOnRulings, MoreTablesAnswerTheSame, WhatIsMissingStaysMissing, WhatIsNotFinalCanBeOpened};
 ghost use Rattle.judge_core.specs.DeterminedLaws.{CompletionsExist, DeterminedAnswersAreOne, DeterminedDistanceIsOne, DeterminedMoveIsAsProbed, DeterminedValueIsOne, FirstDeterminedMoveIsBest, FirstDeterminedMoveWinsWithinRule};
 ghost use Rattle.judge_core.specs.RootLaws.{FirstMoveIsBest, FirstMoveWinsWithinRule, FirstMoveKeepsTheValue, NearestWinIsTheDistance, NoCaptureIsBetter};
 ghost use Rattle.judge_core.specs.Laws.{WdlMeetsItsRule, DtzMeetsItsRules, GameHasOneOutcome, NoDelayIsTheRuling, FirstVerdictInWords, FirstVerdictLooksBack, IllegalStaysIllegal, OneMoveMore};
@@ -118,4 +119,40 @@ pub fn first_determined_move_is_best()
 /// greater number.
 pub fn first_determined_move_wins_within_rule()
     ensures { FirstDeterminedMoveWinsWithinRule }
+{}
+
+/// A set that has more tables answers the same, but where the first set misses a table that it has.
+pub fn more_tables_answer_the_same()
+    ensures { MoreTablesAnswerTheSame }
+{}
+
+/// The table that an answer names as missing is missing, and the answer stays until it is there.
+pub fn what_is_missing_stays_missing()
+    ensures { WhatIsMissingStaysMissing }
+{}
+
+/// An answer is final for a set that has more tables, or this has a table of the material that the answer names.
+pub fn what_is_not_final_can_be_opened()
+    ensures { WhatIsNotFinalCanBeOpened }
+{}
+
+/// Whoever opens a table that an answer misses, and asks again, comes to an answer that is final, after no more rounds than
+/// tables were opened.
+pub fn asking_again_ends()
+    ensures { AskingAgainEnds }
+{}
+
+/// A table that is added where there was none changes nothing else: all others are kept.
+pub fn adding_keeps_the_rest()
+    ensures { AddingKeepsTheRest }
+{}
+
+/// An answer that is final for the whole set is final for each set between, and stays final there.
+pub fn final_stays_final()
+    ensures { FinalStaysFinal }
+{}
+
+/// The outcome of a game, and where it stands, depend on the tables by the rulings alone of the plies up to there.
+pub fn games_depend_on_rulings()
+    ensures { GamesDependOnRulings }
 {}

@@ -64,6 +64,12 @@
 //!   that the probes tell. The first has a value wherever one has, and none a better one; where one wins within the rule of fifty
 //!   moves, so does the first, at no greater distance.
 //! - CLAIM: `Set::share`, clauses `shared`, `unchanged`: a second set with the tables of the first and a cache of its own.
+//! - CLAIM: `laws::more_tables_answer_the_same`; `laws::what_is_missing_stays_missing`; `laws::what_is_not_final_can_be_opened`;
+//!   `laws::adding_keeps_the_rest`; `laws::final_stays_final`; `laws::asking_again_ends`; `laws::games_depend_on_rulings`: a set that
+//!   has more tables gives the same values, distances, verdicts and root moves, but where the first set misses a table that it has.
+//!   What is named as missing is missing, and the answer stays until it is there. So whoever opens it, where there is one, and asks
+//!   again, comes to the answer of the whole set, after no more rounds than tables were opened. A game depends on the tables by the
+//!   rulings of its plies alone. Of determined answers these laws say nothing.
 //! - CLAIM: `Ask::of`; `Ask::answers`, clauses `told`, `verdict`, `memory`, `unchanged`; `Ask::root`, clauses `moves`, `memory`,
 //!   `unchanged`: the calls above, strict or determined.
 //! - CLAIM: `verdict_or_open`; `ProbeFault::name`; `Columns`, clause `output`; `Outcome`, clause `output`: as text.

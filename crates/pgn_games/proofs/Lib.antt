@@ -2,3 +2,10 @@ pub mod RunLaws
 pub mod QuoteLaws
 pub mod EscapeLaws
 pub mod CourseLaws
+pub mod TokenLaws
+pub mod CommentLaws
+pub mod GameLaws
+pub mod StepLaws
+pub mod LineLaws
+pub mod ReadLaws
+pub mod UsualLaws

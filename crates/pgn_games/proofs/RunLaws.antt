@@ -1,5 +1,5 @@
 -- Places of bytes.
-use Rattle.std.proofs.Common.{◌≡◌, ◌∙◌, ℕ, suc, ◌+◌, ◌-◌, ◌<◌, take, drop, get_or, add-one, drop-cons, ◌≤◌, Bool, true, false, List, [], ◌∷◌, length, Option, Some, None, cond, refl, sym, ap, arith, ltb}
+use Rattle.std.proofs.Common.{◌≡◌, ◌∙◌, ℕ, suc, ◌+◌, ◌-◌, ◌<◌, take, drop, get_or, add-one, drop-cons, take_all, length-drop, ◌≤◌, Bool, true, false, List, [], ◌∷◌, length, Option, Some, None, cond, refl, sym, ap, arith, ltb}
 use Rattle.std.specs.Prelude.{not, nat_lt, position, unwrap_or}
 use Rattle.std.specs.List.{position_or_len}
 use Rattle.std.proofs.lemmas.Bool.Decides.{nat_tests}
@@ -26,3 +26,7 @@ slice_from s i n h =
     let e : i + (1 + n) - i ≡ suc n = omega arith in
     let cut : drop i s ≡ get_or s i 0 ∷ drop (i + 1) s = rw (add-one, drop-cons s i 0) refl in
     rw (e, cut) refl
+
+-- a part to the end of a text
+pub rest_of : (d s : List ℕ) (i : ℕ) → d ≡ s → take (length d - i) (drop i d) ≡ drop i s
+rest_of d s i e = take_all (length d - i) (drop i d) (omega (arith, length-drop i d)) ∙ ap (drop i) e

@@ -6,6 +6,7 @@ use Rattle.board_core.specs.Position.{IsPosition}
 use Rattle.board_core.specs.Moves.{Legal}
 use Rattle.fen_text.specs.declared.fault.FenFault.{FenFault}
 use Rattle.fen_text.specs.Fen.{SpellsPosition, IsFirstFenFault}
+use Rattle.fen_text.specs.Written.{fen_of}
 use Rattle.san_text.specs.declared.fault.SanFault.{SanFault}
 use Rattle.san_text.specs.San.{ReadsSan, IsFirstSanFault}
 use Rattle.pgn_games.specs.declared.game.GameResult.{GameResult}
@@ -213,7 +214,7 @@ usual_start = codes "rnbqkbnr/pppppppp/8/8/8/8/PPPPPPPP/RNBQKBNR w KQkq - 0 1"
 -- the next game of these tokens, or none, and the tokens behind it
 pub record ReadsGame (tokens : List Token) (told : Option ReadingTold) (behind : List Token) : Type 0 where
   pub usual : Parts
-  pub spelled : SpellsPosition usual_start usual
+  pub spelled : usual_start ≡ fen_of usual
   pub tells : Tells (no_course usual) (of_game Tags tokens) told
   pub rest : behind ≡ behind_game Tags tokens
 

@@ -4,5 +4,7 @@ pub mod Tags
 pub mod Lexemes
 pub mod Tokens
 pub mod Games
+pub mod Shown
+pub mod Reading
 pub mod Laws
 pub mod Inside

@@ -1,5 +1,5 @@
 -- The lines of a text (PGN standard, sections 4 and 6).
-use Rattle.std.specs.Prelude.{◌+◌, ◌==◌, ℕ, List, [], ◌∷◌, length, nat_lt, if◌then◌else◌}
+use Rattle.std.specs.Prelude.{◌+◌, ◌==◌, ℕ, Bool, false, List, [], ◌∷◌, length, nat_lt, if◌then◌else◌}
 use Rattle.std.specs.List.{flat_map}
 
 -- a byte before the first line
@@ -12,12 +12,16 @@ unfoldable pub lines_of : List ℕ → List (List ℕ)
 lines_of [] = []
 lines_of (byte ∷ bytes) = if byte == 10 then [] ∷ lines_of bytes else onto_first_line byte (lines_of bytes)
 
+-- a line with a percent sign in its first column
+abbrev pub is_escaped : List ℕ → Bool
+is_escaped [] = false
+is_escaped (byte ∷ bytes) = byte == 37
+
 -- a line with a percent sign in its first column is passed over (section 6). One of more than 65,535 bytes isn't read: 256, which
 -- is no byte, stands for it
 abbrev pub text_of_line : List ℕ → List ℕ
-text_of_line [] = []
-text_of_line (byte ∷ bytes) =
-    if byte == 37 then [] else if nat_lt 65535 (length (byte ∷ bytes)) then 256 ∷ [] else byte ∷ bytes
+text_of_line line =
+    if is_escaped line then [] else if nat_lt 65535 (length line) then 256 ∷ [] else line
 
 -- a text as it is read: a line feed before each line
 unfoldable pub read_text : List ℕ → List ℕ

@@ -51,7 +51,8 @@ impl Course {
     ghost use Rattle.pgn_games.specs.Tokens.{token};
     ghost use Rattle.pgn_games.specs.Games.{Passes, Plays, SetsStart, SetsTag, Takes, TakesMove, TakesTag, depth_of, fault_of, no_course, passed, told_of};
     ghost use Rattle.pgn_games.specs.Inside.Scan.{IsPlain, lexeme_of, pair_of};
-    ghost use Rattle.pgn_games.specs.Inside.Owned.{Steps, TakesFirst, course_of, reading_of};
+    ghost use Rattle.pgn_games.specs.Inside.Owned.{Steps, TakesFirst, course_of};
+    ghost use Rattle.pgn_games.specs.Shown.{reading_of};
 
     /// Nothing yet.
     pub(crate) fn new(alloc: Global, usual: &Position) -> Course

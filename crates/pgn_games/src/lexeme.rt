@@ -78,6 +78,7 @@ pub(crate) fn lex(line: &[u8], place: usize) -> (Lexeme<'_>, usize)
     ensures is { (first : Bool) → lexeme_of first result.0 ≡ (lexed_in_line first (slice_index line.now place) (drop (place + 1) line.now)).tells }
     ensures size { (first : Bool) → result.1 ≡ (lexed_in_line first (slice_index line.now place) (drop (place + 1) line.now)).more + 1 }
     ensures within { place + result.1 ≤ length line.now }
+    ensures byte { slice_index line.now place < 256 }
 {
     let rest = &line[place + 1..];
     match kind_of(line[place]) {

@@ -3,13 +3,17 @@
 
 mod bytes;
 mod course;
+mod cursor;
 mod fault;
 mod game;
 mod lexeme;
+mod lines;
 mod phase;
 mod reader;
 mod tag_pair;
 mod tags;
+mod telling;
+mod usual;
 
 
 

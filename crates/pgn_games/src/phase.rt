@@ -1,8 +1,9 @@
 //! How far a game has come.
 
-ghost use Rattle.std.specs.Prelude.{◌≡◌, Bool, MatchOption};
+ghost use Rattle.std.specs.Prelude.{◌≡◌, ◌&&◌, Bool, Some, MatchOption};
 ghost use Rattle.pgn_games.specs.Lines.{one_more};
-ghost use Rattle.pgn_games.specs.Games.{after, depth_of, over_at};
+ghost use Rattle.pgn_games.specs.Lexemes.{Telling};
+ghost use Rattle.pgn_games.specs.Games.{after, depth_of, goes_on, is_tag_in_first_column, over_at};
 ghost use Rattle.pgn_games.specs.Inside.Scan.{lexeme_of};
 
 use crate::lexeme::Lexeme;
@@ -57,5 +58,26 @@ pub(crate) fn after(phase: Phase, lexeme: Lexeme<'_>) -> Phase
         Lexeme::Ends => Phase::Moves(depth.saturating_sub(1)),
         Lexeme::Told(_) => over_at(depth),
         _ => phase,
+    }
+}
+
+fn is_tag(lexeme: Lexeme<'_>) -> bool
+    ensures { (first : Bool) (told : Telling) → lexeme_of first lexeme.entry ≡ Some told → (first && result) ≡ is_tag_in_first_column told }
+{
+    match lexeme {
+        Lexeme::Tag(_) => true,
+        Lexeme::BadTag => true,
+        _ => false,
+    }
+}
+
+/// Whether a token, in the first column or not, still belongs to a game.
+pub(crate) fn goes_on(phase: Phase, first: bool, lexeme: Lexeme<'_>) -> bool
+    ensures { (told : Telling) → lexeme_of first lexeme.entry ≡ Some told → result ≡ goes_on phase told }
+{
+    match phase {
+        Phase::Tags => true,
+        Phase::Moves(_) => !(first && is_tag(lexeme)),
+        Phase::Over => false,
     }
 }

@@ -2,7 +2,7 @@
 
 ghost use Rattle.std.specs.Prelude.{◌≡◌, IfOk, false};
 ghost use Rattle.pgn_games.specs.Tags.{name_of, value_of, no_tags, unescaped, with_tag};
-ghost use Rattle.pgn_games.specs.Inside.Owned.{texts_of};
+ghost use Rattle.pgn_games.specs.Shown.{texts_of};
 
 use std::alloc::{AllocError, Global};
 

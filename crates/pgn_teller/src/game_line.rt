@@ -1,6 +1,6 @@
 //! The lines of games as words.
 
-ghost use Rattle.std.specs.Prelude.{◌≡◌, ◌≤◌, ◌++◌, length};
+ghost use Rattle.std.specs.Prelude.{◌≡◌, ◌≤◌, ◌+◌, ◌++◌, length};
 ghost use Rattle.pgn_teller.specs.GameLines.{cause_words, fault_words, fen_words, game_words, ruled_words, sums_words};
 
 use crate::finding::{Finding, result_word};

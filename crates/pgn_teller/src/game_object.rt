@@ -5,13 +5,14 @@ ghost use Rattle.std.specs.Io.KnownBytes.{Appends};
 ghost use Rattle.json.specs.Json.{object, string};
 ghost use Rattle.json_lines.specs.Members.{value_json};
 ghost use Rattle.json_lines.specs.Objects.{json_text};
-ghost use Rattle.pgn_games.specs.Owned.{game_of, texts_of};
+ghost use Rattle.pgn_games.specs.Shown.{game_of, texts_of};
 ghost use Rattle.pgn_teller.specs.GameObjects.{cause_json, fault_members, finding_or_null, game_members, lossy, moves_text, ply_or_null, result_or_null, sums_members, text_or_null, verdict_or_null, with_move};
 ghost use Rattle.pgn_teller.specs.Inside.Texts.{AreTextsOf};
 
 use crate::finding::{Finding, result_word};
 use crate::rating::Ruled;
 use crate::sums::Sums;
+use arrayvec::ArrayString;
 use board_core::Move;
 use fen_text::{FenFault, write, write_move};
 use json_lines::{Member, Value, put_object};
@@ -20,9 +21,10 @@ use std::alloc::{AllocError, Global};
 use std::io::Write;
 use system_io::WriteFault;
 
-/// The texts of a game's object that take memory.
+/// The texts of a game's object.
 #[derive(Drop)]
 pub(crate) struct Texts {
+    start: ArrayString<96>,
     event: Option<String>,
     white: Option<String>,
     black: Option<String>,
@@ -68,6 +70,7 @@ impl Texts {
         ensures { IfOk result (AreTextsOf (game_of game.now)) }
     {
         Ok(Texts {
+            start: write(&game.start),
             event: tag_text(alloc, &game.tags.event)?,
             white: tag_text(alloc, &game.tags.white)?,
             black: tag_text(alloc, &game.tags.black)?,
@@ -139,7 +142,6 @@ pub(crate) fn put_game<W: Write>(
     requires { AreTextsOf (game_of game.now) texts.now }
     ensures { OnOk result (Appends (W.contents out.old) (W.contents out.new) (json_text (object (game_members number (game_of game.now) ruled)))) }
 {
-    let start = write(&game.start);
     let members = [
         member("game", Value::Count(number)),
         member("line", Value::Count(game.line)),
@@ -148,7 +150,7 @@ pub(crate) fn put_game<W: Write>(
         member("black", text_or_null(&texts.black)),
         member("round", text_or_null(&texts.round)),
         member("result_tag", text_or_null(&texts.result)),
-        member("start", Value::Text(start.as_str())),
+        member("start", Value::Text(texts.start.as_str())),
         member("moves", Value::Text(texts.moves.as_str())),
         member("ply", ply_or_null(ruled)),
         member("verdict", verdict_or_null(ruled)),

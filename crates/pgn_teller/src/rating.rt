@@ -1,7 +1,7 @@
 //! What tables say of a game of a file.
 
 ghost use Rattle.std.specs.Prelude.{◌≡◌, IfOk};
-ghost use Rattle.pgn_games.specs.Readings.{game_told};
+ghost use Rattle.pgn_games.specs.Shown.{game_of};
 ghost use Rattle.pgn_teller.specs.Ratings.{IsRuled, ruled_by};
 
 use board_core::{Delay, Verdict};
@@ -36,7 +36,7 @@ pub fn rule(
     delay: Delay,
     game: &Game,
 ) -> Result<Option<Ruled>, AllocError>
-    ensures ruled { IfOk result (IsRuled delay set.old.tables (game_told game.now)) }
+    ensures ruled { IfOk result (IsRuled delay set.old.tables (game_of game.now)) }
     ensures unchanged { set.new ≡ set.old }
 {
     let outcome = set.judge_game(alloc, &game.start, &game.moves, delay.plies())?;

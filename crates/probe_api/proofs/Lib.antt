@@ -1,3 +1,4 @@
+pub mod SanTexts
 pub mod Batching
 pub mod Placing
 pub mod Playing

@@ -10,5 +10,6 @@ pub mod Names
 pub mod Plays
 pub mod Replies
 pub mod Roots
+pub mod Sans
 pub mod Texts
 pub mod Version

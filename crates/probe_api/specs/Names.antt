@@ -20,7 +20,7 @@ abbrev pub refusal_names : List (ℕ × List ℕ)
 refusal_names =
     (64, table_fault_name BadName) ∷ (65, table_fault_name BadSize) ∷ (66, table_fault_name BadMagic) ∷ (67, table_fault_name BadFlags) ∷ (68, table_fault_name BadPieces) ∷ (69, table_fault_name BadOrder) ∷
     (70, table_fault_name Truncated) ∷ (71, table_fault_name BadExponent) ∷ (72, table_fault_name BadCode) ∷ (73, table_fault_name BadSymbol) ∷ (74, table_fault_name BadSparse) ∷
-    (80, codes "Duplicate") ∷ (81, codes "BadCache") ∷ (82, codes "LengthsDiffer") ∷ (83, codes "NoRoom") ∷ (84, codes "GameOver") ∷ (85, codes "BadMove") ∷ (86, codes "IllegalMove") ∷ (87, codes "BadDelay") ∷ []
+    (80, codes "Duplicate") ∷ (81, codes "BadCache") ∷ (82, codes "LengthsDiffer") ∷ (83, codes "NoRoom") ∷ (84, codes "GameOver") ∷ (85, codes "BadMove") ∷ (86, codes "IllegalMove") ∷ (87, codes "BadDelay") ∷ (88, codes "AmbiguousMove") ∷ []
 
 -- an answer and why there is none; the faults of a text and of the position that it spells; and those
 abbrev pub status_names : List (ℕ × List ℕ)

@@ -1,7 +1,8 @@
 -- What a caller is told, as a status and a number. Status 0 is an answer. Of the others, 1 is a closed handle, 2 a position out of
 -- scope, 3 a table that is missing, 4 one that is damaged, 5 memory that was refused, 6 no game; 16 to 21 a text that is no FEN text,
 -- 32 to 38 one that spells no position, 64 to 74 a file that is no table; 80 a table that is there already, 81 a cache of no or too many
--- blocks, 82 two lengths that differ, 83 no room; 84 a game that has a verdict, 85 no move, 86 a move that isn't legal, 87 a delay above 8.
+-- blocks, 82 two lengths that differ, 83 no room; 84 a game that has a verdict, 85 no move, 86 a move that isn't legal, 87 a delay above 8,
+-- 88 a text that is so of two legal moves.
 use Rattle.std.specs.Prelude.{◌≡◌, ◌≢◌, ◌⊎◌, ℕ, ℤ, List, pos, Option, Some, None, Result, Ok, Err}
 use Rattle.board_core.specs.declared.parts.Parts.{Parts}
 use Rattle.board_core.specs.declared.position.PositionFault.{PositionFault}

@@ -7,10 +7,10 @@
 //! Inside: `reply` and `naming` (statuses, their names, the version), `adding` (a table more), `asking` (values and verdicts),
 //! `batch` (of many boards), `board` (a position by `Position::from_sets`), `listing` and `plain_move` (legal moves), `game`
 //! (move by move, over `Standing`), `root` (legal moves by value), `after` (the board after a move), `missing` (a table's name),
-//! `holding` (which tables a set has), `text` (a text and a byte 0 into a caller's array).
+//! `holding` (which tables a set has), `san` (moves in standard algebraic notation), `text` (a text and a byte 0 into a caller's array).
 //!
 //! Definitions, in reading order: `Replies`, `Boards`, `Batches`, `Adding`, `Moves`, `Plays`, `Roots`, `Afters`, `Missing`, `Holds`,
-//! `Texts`, `Names`, `Version`. Its tests are those of the C library: `tools/c_harness/run` tries it beside libfathom.
+//! `Sans`, `Texts`, `Names`, `Version`. Its tests are those of the C library: `tools/c_harness/run` tries it beside libfathom.
 //!
 //! - CLAIM: `answer_text`, clauses `is`, `kept`; `answer_board`, clauses `is`, `kept`: of the position that a text spells or a
 //!   board shows, the WDL value, the DTZ value or the verdict of `judge_core`, or else the first fault. Lack of memory is never
@@ -32,6 +32,8 @@
 //!   best first, where all fit into the caller's array; else it stays as it was. Status 5 comes only at a position in scope.
 //! - CLAIM: `board_after`; `board_shows_its_position`; `state_of_board`; `put_missing`, clauses `is`, `kept`: the board after a legal
 //!   move, which shows the position after it, how a board stands, and the name of the first table that its value lacks.
+//! - CLAIM: `put_san`; `tell_san`: the text of a legal move in standard algebraic notation, and the one legal move that such a text
+//!   tells. Otherwise the first fault is told, and the caller's room stays as it was.
 //! - CLAIM: `has`; `largest`: whether a set has the table of a kind for a material that a text names, and the largest number of men
 //!   of a table in it.
 //! - CLAIM: `status_name`; `verdict_name`; `version`; `put_text`: names, the version, and a text in the caller's array.
@@ -50,6 +52,7 @@ mod naming;
 mod plain_move;
 mod reply;
 mod root;
+mod san;
 mod text;
 
 pub use adding::add;
@@ -65,4 +68,5 @@ pub use naming::{status_name, verdict_name, version};
 pub use plain_move::PlainMove;
 pub use reply::Reply;
 pub use root::{PlainRootMove, root_of_board, root_of_text, state_of_board};
+pub use san::{put_san, tell_san};
 pub use text::put_text;

@@ -28,6 +28,7 @@ fn refusal_name(status: u32) -> &'static str
         85 => "BadMove",
         86 => "IllegalMove",
         87 => "BadDelay",
+        88 => "AmbiguousMove",
         _ => "",
     }
 }

@@ -11,16 +11,16 @@ use Rattle.san_text.specs.Told.{SpellsTold}
 use Rattle.san_text.specs.San.{IsMeant, ReadsSan, IsFirstSanFault}
 use Rattle.san_text.specs.Written.{san_of}
 use Rattle.san_text.specs.Inside.Movers.{IsToldFault}
-use Rattle.san_text.specs.Inside.Scan.{told_of}
+use Rattle.san_text.specs.Inside.Scan.{told_by_text}
 use Rattle.san_text.proofs.ReadingLaws.{spelled_read}
 use Rattle.san_text.proofs.WrittenLaws.{one_reading, read_back}
 
 -- ---- a text that tells nothing
 
-pub bad_text : (t : List ℕ) → told_of t ≡ None → (told : Told) → SpellsTold t told → ⊥
+pub bad_text : (t : List ℕ) → told_by_text t ≡ None → (told : Told) → SpellsTold t told → ⊥
 bad_text t none told h = let e = sym none ∙ spelled_read t told h in cc
 
-pub bad_fault : (p : Parts) (t : List ℕ) → told_of t ≡ None → (fault : SanFault) → IsFirstSanFault p t fault → BadText ≡ fault
+pub bad_fault : (p : Parts) (t : List ℕ) → told_by_text t ≡ None → (fault : SanFault) → IsFirstSanFault p t fault → BadText ≡ fault
 bad_fault p t none BadText h = refl
 bad_fault p t none NoMove h = absurd (bad_text t none h.0 h.1)
 bad_fault p t none Ambiguous h = absurd (bad_text t none h.0 h.1)

@@ -15,7 +15,7 @@ use Rattle.board_core.proofs.Computed.{Decides-in_check}
 use Rattle.board_core.proofs.ComputedMoves.{legal_position}
 use Rattle.board_core.proofs.ComputedLists.{HasLegal-moves}
 use Rattle.san_text.specs.Told.{told_text}
-use Rattle.san_text.specs.Written.{san_told, mark_of, mark_after, san_of}
+use Rattle.san_text.specs.Written.{san_told, check_mark, mark_after, san_of}
 
 none_listed : (p : Parts) (moves : List Move) → legal_moves p ≡ moves → Decides (has_no_move moves) (HasNoMove p)
 none_listed p [] e = (λ _ m l. absurd (let c = (HasLegal-moves p).complete m l in let lt = rw e at c.1 in omega arith), λ _. refl)
@@ -45,8 +45,8 @@ check_only true check e = absurd (let f : 35 ≡ 43 = ap first e in omega (arith
 check_only false true e = (refl, refl)
 check_only false false e = absurd (let f : 0 ≡ 43 = ap first e in omega (arith, f))
 
-mark_is : (q : Parts) → mark_of q ≡ mark_by (is_checkmate q) (is_in_check q.men q.side)
-unfolding mark_of
+mark_is : (q : Parts) → check_mark q ≡ mark_by (is_checkmate q) (is_in_check q.men q.side)
+unfolding check_mark
 mark_is q = refl
 
 -- the text is what is told, and the mark of the position after the move

@@ -13,14 +13,14 @@ use Rattle.board_core.specs.Square.{file_of, rank_of}
 use Rattle.san_text.specs.declared.told.ManTold.{ManTold}
 use Rattle.san_text.specs.declared.told.Told.{Told}
 use Rattle.san_text.specs.declared.told.Told.TheVariants.{Castles, Goes}
-use Rattle.san_text.specs.Told.{kind_texts, file_text, rank_text, square_text, IsOneOf, castling_texts, promotion_texts, between_texts, en_passant_text, check_texts, glyph_texts, AreMarks, IsBelowEight, SpellsMan, SpellsTold}
-use Rattle.san_text.specs.Inside.Scan.{is_file, is_rank, past_between, square_at, promotion_by, promotion_at, past_promotion, passes_at, past_passing, are_marks, is_short, is_longer, with_tail, man_at_square, after_kind, told_of}
+use Rattle.san_text.specs.Told.{kind_texts, file_letter, rank_digit, square_text, IsAmongTexts, castles_texts, promoted_texts, between_texts, passing_text, check_texts, glyph_texts, AreMarks, IsBelowEight, SpellsMan, SpellsTold}
+use Rattle.san_text.specs.Inside.Scan.{is_file, is_rank, past_between, square_in_front, promotion_by, promotion_in_front, past_promotion, passes_in_front, past_passing, are_marks, is_short, is_longer, with_tail, man_at_square, after_kind, told_by_text}
 use Rattle.san_text.proofs.Bytes.{IsInner, IsFileByte, IsRankByte, file_byte, rank_byte}
 
 -- ---- marks
 
 -- what passes for each of some texts passes for one of them
-each_passes : (test : List ℕ → Bool) (xs : List (List ℕ)) → list_all test xs ≡ true → (t : List ℕ) → IsOneOf xs t → test t ≡ true
+each_passes : (test : List ℕ → Bool) (xs : List (List ℕ)) → list_all test xs ≡ true → (t : List ℕ) → IsAmongTexts xs t → test t ≡ true
 each_passes test [] e t h = absurd h
 each_passes test (x ∷ xs) e t (inl same) = rw same (and_parts (test x) (list_all test xs) e).0
 each_passes test (x ∷ xs) e t (inr later) = each_passes test xs (and_parts (test x) (list_all test xs) e).1 t later
@@ -42,13 +42,13 @@ marks_end t h =
 -- what follows from it, as equations
 pub record Ends (t : List ℕ) : Type 0 where
   pub marks : are_marks t ≡ true
-  pub promotion : promotion_at t ≡ None
+  pub promotion : promotion_in_front t ≡ None
   pub past : past_promotion t ≡ t
-  pub passes : passes_at t ≡ false
+  pub passes : passes_in_front t ≡ false
   pub past_passes : past_passing t ≡ t
   pub longer : (sign : ℕ) → is_longer sign t ≡ false
   pub between : (whole : Bool) → past_between whole t ≡ t
-  pub square : square_at t ≡ None
+  pub square : square_in_front t ≡ None
 
 pub record First (c : ℕ) : Type 0 where
   pub no_equals : (c == 61) ≡ false
@@ -144,16 +144,16 @@ marks_ends t h = let e = and_parts (are_marks t) (tells_nothing t) (marks_end t 
 
 -- how such a text is read: no promotion stands at its front, and no square
 pub record Passing (t : List ℕ) (passes : Bool) : Type 0 where
-  pub promotion : promotion_at t ≡ None
+  pub promotion : promotion_in_front t ≡ None
   pub past : past_promotion t ≡ t
-  pub told : passes_at t ≡ passes
+  pub told : passes_in_front t ≡ passes
   pub marks : are_marks (past_passing t) ≡ true
   pub between : (whole : Bool) → past_between whole t ≡ t
-  pub square : square_at t ≡ None
+  pub square : square_in_front t ≡ None
   -- nor does it go on with a rank
-  pub after_file : (c : ℕ) → square_at (c ∷ t) ≡ None
+  pub after_file : (c : ℕ) → square_in_front (c ∷ t) ≡ None
 
-after_file_end : (t : List ℕ) → tells_nothing t ≡ true → (c : ℕ) → square_at (c ∷ t) ≡ None
+after_file_end : (t : List ℕ) → tells_nothing t ≡ true → (c : ℕ) → square_in_front (c ∷ t) ≡ None
 after_file_end [] e c = refl
 after_file_end (d ∷ t) e c = let f = first_of_end d t e in rw (f.no_rank) (cond_none (is_file c))
   where
@@ -161,7 +161,7 @@ after_file_end (d ∷ t) e c = let f = first_of_end d t e in rw (f.no_rank) (con
     cond_none true = refl
     cond_none false = refl
 
-passing : (passes : Bool) (marks : List ℕ) → AreMarks marks → Passing (en_passant_text passes ++ marks) passes
+passing : (passes : Bool) (marks : List ℕ) → AreMarks marks → Passing (passing_text passes ++ marks) passes
 passing false marks h =
     let e = marks_ends marks h in
     let n = and_parts (are_marks marks) (tells_nothing marks) (marks_end marks h) in
@@ -191,11 +191,11 @@ passing true marks h = record {
 -- ---- the promotion before it
 
 pub record Tail (t : List ℕ) (promotion : Option Promotion) (passes : Bool) : Type 0 where
-  pub promotes : promotion_at t ≡ promotion
-  pub told : passes_at (past_promotion t) ≡ passes
+  pub promotes : promotion_in_front t ≡ promotion
+  pub told : passes_in_front (past_promotion t) ≡ passes
   pub marks : are_marks (past_passing (past_promotion t)) ≡ true
   pub between : past_between true t ≡ t
-  pub square : square_at t ≡ None
+  pub square : square_in_front t ≡ None
 
 tail_none : (t : List ℕ) (passes : Bool) → Passing t passes → Tail t None passes
 tail_none t passes h = record {
@@ -232,7 +232,7 @@ tail_equals c what t passes k h = record {
   square = refl;
 }
 
-tail_of : (what : Option Promotion) (promotion t : List ℕ) (passes : Bool) → IsOneOf (promotion_texts what) promotion → Passing t passes → Tail (promotion ++ t) what passes
+tail_of : (what : Option Promotion) (promotion t : List ℕ) (passes : Bool) → IsAmongTexts (promoted_texts what) promotion → Passing t passes → Tail (promotion ++ t) what passes
 tail_of None promotion t passes (inl e) h = rw e (tail_none t passes h)
 tail_of None promotion t passes (inr e) h = absurd e
 tail_of (Some ToQueen) promotion t passes (inl e) h = rw e (tail_equals 81 ToQueen t passes refl h)
@@ -266,11 +266,11 @@ tail_read what file rank takes passes to promotion t h = rw (h.marks, h.promotes
 square_sum : (to c d : ℕ) → c - 97 ≡ file_of to → d - 49 ≡ rank_of to → 8 * (d - 49) + (c - 97) ≡ to
 square_sum to c d f r = omega (arith, f, r)
 
-square_read : (to c d : ℕ) (t : List ℕ) → IsFileByte c (file_of to) → IsRankByte d (rank_of to) → square_at (c ∷ d ∷ t) ≡ Some to
+square_read : (to c d : ℕ) (t : List ℕ) → IsFileByte c (file_of to) → IsRankByte d (rank_of to) → square_in_front (c ∷ d ∷ t) ≡ Some to
 square_read to c d t f r = rw (f.file, r.rank) (ap (λ (n : ℕ). Some n) (square_sum to c d f.number r.number))
 
 -- the file and the rank of the square are read first where nothing is told of the origin
-alone_read : (what : Kind) (to c d : ℕ) (t : List ℕ) → IsFileByte c (file_of to) → IsRankByte d (rank_of to) → past_between true t ≡ t → square_at t ≡ None
+alone_read : (what : Kind) (to c d : ℕ) (t : List ℕ) → IsFileByte c (file_of to) → IsRankByte d (rank_of to) → past_between true t ≡ t → square_in_front t ≡ None
     → after_kind what (c ∷ d ∷ t) ≡ with_tail (man_at_square what None None false to) t
 alone_read what to c d t f r between square =
     rw (f.file, r.rank, between, square) (ap (λ n. with_tail (man_at_square what None None false n) t) (square_sum to c d f.number r.number))
@@ -320,22 +320,22 @@ not_short : (sign c d : ℕ) (t : List ℕ) → (c == sign) ≡ false → is_sho
 not_short sign c d [] e = refl
 not_short sign c d (g ∷ t) e = rw e refl
 
-kind_read : (what : Kind) (letter t : List ℕ) (told : Option Told) → IsOneOf (kind_texts what) letter → Behind what t told → told_of (letter ++ t) ≡ told
-unfolding told_of
+kind_read : (what : Kind) (letter t : List ℕ) (told : Option Told) → IsAmongTexts (kind_texts what) letter → Behind what t told → told_by_text (letter ++ t) ≡ told
+unfolding told_by_text
 kind_read Pawn letter t told (inl e) h =
-    rw e (ap told_of h.is
+    rw e (ap told_by_text h.is
     ∙ rw (not_short 79 h.first h.second h.others h.inner.no_letter, not_short 48 h.first h.second h.others h.inner.no_zero, h.inner.no_kind) (ap (after_kind Pawn) (sym h.is) ∙ h.reads))
-kind_read Pawn letter t told (inr (inl e)) h = rw e (ap (λ s. told_of (80 ∷ s)) h.is ∙ ap (after_kind Pawn) (sym h.is) ∙ h.reads)
+kind_read Pawn letter t told (inr (inl e)) h = rw e (ap (λ s. told_by_text (80 ∷ s)) h.is ∙ ap (after_kind Pawn) (sym h.is) ∙ h.reads)
 kind_read Pawn letter t told (inr (inr e)) h = absurd e
-kind_read Knight letter t told (inl e) h = rw e (ap (λ s. told_of (78 ∷ s)) h.is ∙ ap (after_kind Knight) (sym h.is) ∙ h.reads)
+kind_read Knight letter t told (inl e) h = rw e (ap (λ s. told_by_text (78 ∷ s)) h.is ∙ ap (after_kind Knight) (sym h.is) ∙ h.reads)
 kind_read Knight letter t told (inr e) h = absurd e
-kind_read Bishop letter t told (inl e) h = rw e (ap (λ s. told_of (66 ∷ s)) h.is ∙ ap (after_kind Bishop) (sym h.is) ∙ h.reads)
+kind_read Bishop letter t told (inl e) h = rw e (ap (λ s. told_by_text (66 ∷ s)) h.is ∙ ap (after_kind Bishop) (sym h.is) ∙ h.reads)
 kind_read Bishop letter t told (inr e) h = absurd e
-kind_read Rook letter t told (inl e) h = rw e (ap (λ s. told_of (82 ∷ s)) h.is ∙ ap (after_kind Rook) (sym h.is) ∙ h.reads)
+kind_read Rook letter t told (inl e) h = rw e (ap (λ s. told_by_text (82 ∷ s)) h.is ∙ ap (after_kind Rook) (sym h.is) ∙ h.reads)
 kind_read Rook letter t told (inr e) h = absurd e
-kind_read Queen letter t told (inl e) h = rw e (ap (λ s. told_of (81 ∷ s)) h.is ∙ ap (after_kind Queen) (sym h.is) ∙ h.reads)
+kind_read Queen letter t told (inl e) h = rw e (ap (λ s. told_by_text (81 ∷ s)) h.is ∙ ap (after_kind Queen) (sym h.is) ∙ h.reads)
 kind_read Queen letter t told (inr e) h = absurd e
-kind_read King letter t told (inl e) h = rw e (ap (λ s. told_of (75 ∷ s)) h.is ∙ ap (after_kind King) (sym h.is) ∙ h.reads)
+kind_read King letter t told (inl e) h = rw e (ap (λ s. told_by_text (75 ∷ s)) h.is ∙ ap (after_kind King) (sym h.is) ∙ h.reads)
 kind_read King letter t told (inr e) h = absurd e
 
 x_inner : IsInner 120
@@ -343,8 +343,8 @@ x_inner = record { no_kind = refl; no_letter = refl; no_zero = refl }
 
 -- each form of what stands before the square
 origin_read : (what : Kind) (file rank : Option ℕ) (takes : Bool) (between : List ℕ) (to : ℕ) (t : List ℕ)
-    → IsBelowEight file → IsBelowEight rank → to < 64 → IsOneOf (between_texts file rank takes) between → past_between true t ≡ t → square_at t ≡ None
-    → Behind what (file_text file ++ (rank_text rank ++ (between ++ (square_text to ++ t)))) (with_tail (man_at_square what file rank takes to) t)
+    → IsBelowEight file → IsBelowEight rank → to < 64 → IsAmongTexts (between_texts file rank takes) between → past_between true t ≡ t → square_in_front t ≡ None
+    → Behind what (file_letter file ++ (rank_digit rank ++ (between ++ (square_text to ++ t)))) (with_tail (man_at_square what file rank takes to) t)
 origin_read what None None false between to t fb rb lt (inl e) whole square =
     let f = file_byte (file_of to) (omega arith) in
     let r = rank_byte (rank_of to) (omega arith) in
@@ -403,18 +403,18 @@ origin_read what (Some file) (Some rank) true between to t fb rb lt (inr e) whol
 regroup : (a b c d e f g h : List ℕ) → a ++ b ++ c ++ d ++ e ++ f ++ g ++ h ≡ a ++ (b ++ (c ++ (d ++ (e ++ (f ++ (g ++ h))))))
 regroup a b c d e f g h = simp append_assoc
 
-pub man_read : (t : List ℕ) (man : ManTold) → SpellsMan t man → told_of t ≡ Some (Goes man)
+pub man_read : (t : List ℕ) (man : ManTold) → SpellsMan t man → told_by_text t ≡ Some (Goes man)
 man_read t man h =
-    let tail = tail_of man.promotion h.promotion (en_passant_text man.en_passant ++ h.marks) man.en_passant h.promotes (passing man.en_passant h.marks h.are_marks) in
-    let origin = origin_read man.kind man.file man.rank man.takes h.between man.to (h.promotion ++ (en_passant_text man.en_passant ++ h.marks)) h.file h.rank h.square h.is_between tail.between tail.square in
-    ap told_of (h.text ∙ regroup h.letter (file_text man.file) (rank_text man.rank) h.between (square_text man.to) h.promotion (en_passant_text man.en_passant) h.marks)
+    let tail = tail_of man.promotion h.promotion (passing_text man.en_passant ++ h.marks) man.en_passant h.promotes (passing man.en_passant h.marks h.are_marks) in
+    let origin = origin_read man.kind man.file man.rank man.takes h.between man.to (h.promotion ++ (passing_text man.en_passant ++ h.marks)) h.file h.rank h.square h.is_between tail.between tail.square in
+    ap told_by_text (h.text ∙ regroup h.letter (file_letter man.file) (rank_digit man.rank) h.between (square_text man.to) h.promotion (passing_text man.en_passant) h.marks)
     ∙ kind_read man.kind h.letter _ _ h.is_letter origin
     ∙ tail_read man.kind man.file man.rank man.takes man.en_passant man.to man.promotion _ tail
 
 -- ---- castling
 
-castling_read : (wing : Wing) (castling t : List ℕ) → IsOneOf (castling_texts wing) castling → Ends t → told_of (castling ++ t) ≡ Some (Castles wing)
-unfolding told_of
+castling_read : (wing : Wing) (castling t : List ℕ) → IsAmongTexts (castles_texts wing) castling → Ends t → told_by_text (castling ++ t) ≡ Some (Castles wing)
+unfolding told_by_text
 castling_read KingSide castling t (inl e) h = rw (e, h.longer 79, h.marks) refl
 castling_read KingSide castling t (inr (inl e)) h = rw (e, h.longer 48, h.marks) refl
 castling_read KingSide castling t (inr (inr e)) h = absurd e
@@ -423,6 +423,6 @@ castling_read QueenSide castling t (inr (inl e)) h = rw (e, h.marks) refl
 castling_read QueenSide castling t (inr (inr e)) h = absurd e
 
 -- what a text spells is read
-pub spelled_read : (t : List ℕ) (told : Told) → SpellsTold t told → told_of t ≡ Some told
-spelled_read t (Castles wing) h = ap told_of h.text ∙ castling_read wing h.castling h.marks h.castles (marks_ends h.marks h.are_marks)
+pub spelled_read : (t : List ℕ) (told : Told) → SpellsTold t told → told_by_text t ≡ Some told
+spelled_read t (Castles wing) h = ap told_by_text h.text ∙ castling_read wing h.castling h.marks h.castles (marks_ends h.marks h.are_marks)
 spelled_read t (Goes man) h = man_read t man h

@@ -11,7 +11,7 @@ use Rattle.board_core.proofs.ComputedLists.{HasLegal-moves}
 use Rattle.board_core.proofs.Listing.{IsLegal-stands}
 use Rattle.board_core.proofs.Sweep.{Rests, none_left}
 use Rattle.san_text.specs.Written.{is_rival, has_rival}
-use Rattle.san_text.specs.Inside.Movers.{Rivals}
+use Rattle.san_text.specs.Inside.Written.{Rivals}
 
 -- there is a rival from a square that passes the test
 pub Decides-rival : (p : Parts) (m : Move) (test : ℕ → Bool) → Decides (has_rival p m test) ((s : ℕ) × Rivals p m s × (test s ≡ true))

@@ -11,8 +11,8 @@ use Rattle.board_core.specs.declared.piece.Wing.TheVariants.{KingSide, QueenSide
 use Rattle.board_core.specs.Square.{file_of, rank_of}
 use Rattle.san_text.specs.declared.told.Told.{Told}
 use Rattle.san_text.specs.declared.told.Told.TheVariants.{Castles}
-use Rattle.san_text.specs.Told.{kind_texts, file_text, rank_text, square_text, IsOneOf, castling_texts, promotion_texts, between_texts, en_passant_text, check_texts, glyph_texts, AreMarks, IsBelowEight, SpellsTold}
-use Rattle.san_text.specs.Inside.Scan.{is_file, is_rank, kind_by, kind_at, past_kind, file_at, past_file, rank_at, past_rank, takes_at, past_between, square_at, past_two, promotion_by, past_letter, promotion_at, past_promotion, passes_at, past_passing, past_plus, past_check, is_glyph, are_glyphs, are_marks, is_short, past_three, is_longer, castles_before, castling_by, with_tail, whole_square, man_at_square, square_alone, after_between, after_origin, after_kind, told_of}
+use Rattle.san_text.specs.Told.{kind_texts, file_letter, rank_digit, square_text, IsAmongTexts, castles_texts, promoted_texts, between_texts, passing_text, check_texts, glyph_texts, AreMarks, IsBelowEight, SpellsTold}
+use Rattle.san_text.specs.Inside.Scan.{is_file, is_rank, kind_by, kind_in_front, past_kind, file_in_front, past_file, rank_in_front, past_rank, takes_in_front, past_between, square_in_front, past_two, promotion_by, past_promotion_letter, promotion_in_front, past_promotion, passes_in_front, past_passing, past_plus, past_check, is_glyph, are_glyphs, are_marks, is_short, past_three, is_longer, castles_before, castling_by, with_tail, whole_square, man_at_square, square_alone, after_between, after_origin, after_kind, told_by_text}
 use Rattle.san_text.proofs.Bytes.{file_bounds, rank_bounds}
 
 -- a chosen value, or one of the others
@@ -28,7 +28,7 @@ pub record Split (t : List ℕ) (Form : List ℕ → Type 0) (rest : List ℕ) :
 
 -- ---- the letter of the man
 
-letter_form : (c : ℕ) (what : Kind) → kind_by c ≡ Some what → IsOneOf (kind_texts what) (c ∷ [])
+letter_form : (c : ℕ) (what : Kind) → kind_by c ≡ Some what → IsAmongTexts (kind_texts what) (c ∷ [])
 letter_form c what e =
     pick (c == 78) Knight what _ _ (same Knight 78 (inl refl)) (
     pick (c == 66) Bishop what _ _ (same Bishop 66 (inl refl)) (
@@ -37,23 +37,23 @@ letter_form c what e =
     pick (c == 75) King what _ _ (same King 75 (inl refl)) (
     pick (c == 80) Pawn what None _ (same Pawn 80 (inr (inl refl))) (λ f. absurd (let g = f in cc))))))) e
   where
-    same : (of : Kind) (letter : ℕ) → IsOneOf (kind_texts of) (letter ∷ []) → (c == letter) ≡ true → of ≡ what → IsOneOf (kind_texts what) (c ∷ [])
+    same : (of : Kind) (letter : ℕ) → IsAmongTexts (kind_texts of) (letter ∷ []) → (c == letter) ≡ true → of ≡ what → IsAmongTexts (kind_texts what) (c ∷ [])
     same of letter form l k =
-        subst (λ x. IsOneOf (kind_texts x) (c ∷ [])) k (subst (λ (n : ℕ). IsOneOf (kind_texts of) (n ∷ [])) (sym (eqb-true c letter l)) form)
+        subst (λ x. IsAmongTexts (kind_texts x) (c ∷ [])) k (subst (λ (n : ℕ). IsAmongTexts (kind_texts of) (n ∷ [])) (sym (eqb-true c letter l)) form)
 
-kind_split : (t : List ℕ) → Split t (IsOneOf (kind_texts (kind_at t))) (past_kind t)
+kind_split : (t : List ℕ) → Split t (IsAmongTexts (kind_texts (kind_in_front t))) (past_kind t)
 kind_split [] = record { piece = []; form = inl refl; text = refl }
 kind_split (c ∷ cs) = by_kind (kind_by c) refl
   where
-    by_kind : (o : Option Kind) → kind_by c ≡ o → Split (c ∷ cs) (IsOneOf (kind_texts (kind_at (c ∷ cs)))) (past_kind (c ∷ cs))
+    by_kind : (o : Option Kind) → kind_by c ≡ o → Split (c ∷ cs) (IsAmongTexts (kind_texts (kind_in_front (c ∷ cs)))) (past_kind (c ∷ cs))
     by_kind None e = rw e (record { piece = []; form = inl refl; text = refl })
     by_kind (Some what) e = rw e (record { piece = c ∷ []; form = letter_form c what e; text = refl })
 
 -- ---- files, ranks and squares
 
 pub record FileSplit (t : List ℕ) : Type 0 where
-  pub text : t ≡ file_text (file_at t) ++ past_file t
-  pub below : IsBelowEight (file_at t)
+  pub text : t ≡ file_letter (file_in_front t) ++ past_file t
+  pub below : IsBelowEight (file_in_front t)
 
 file_split : (t : List ℕ) → FileSplit t
 file_split [] = record { text = refl; below = tt }
@@ -67,8 +67,8 @@ file_split (c ∷ cs) = elim (cases_Bool (is_file c)) [
 ]
 
 pub record RankSplit (t : List ℕ) : Type 0 where
-  pub text : t ≡ rank_text (rank_at t) ++ past_rank t
-  pub below : IsBelowEight (rank_at t)
+  pub text : t ≡ rank_digit (rank_in_front t) ++ past_rank t
+  pub below : IsBelowEight (rank_in_front t)
 
 rank_split : (t : List ℕ) → RankSplit t
 rank_split [] = record { text = refl; below = tt }
@@ -91,7 +91,7 @@ square_of_bytes c d s f r e =
     let b = rank_bounds d r in
     (omega (arith, a.0, a.1, b.0, b.1, e), omega (arith, a.0, a.1, b.0, b.1, e), omega (arith, a.0, a.1, b.0, b.1, e))
 
-square_split : (t : List ℕ) (s : ℕ) → square_at t ≡ Some s → SquareSplit t s
+square_split : (t : List ℕ) (s : ℕ) → square_in_front t ≡ Some s → SquareSplit t s
 square_split [] s e = absurd (let f = e in cc)
 square_split (c ∷ []) s e = absurd (let f = e in cc)
 square_split (c ∷ d ∷ cs) s e =
@@ -104,17 +104,17 @@ square_split (c ∷ d ∷ cs) s e =
 
 -- ---- the sign between
 
-pub no_sign : (file rank : Option ℕ) → IsOneOf (between_texts file rank false) []
+pub no_sign : (file rank : Option ℕ) → IsAmongTexts (between_texts file rank false) []
 no_sign None rank = inl refl
 no_sign (Some file) None = inl refl
 no_sign (Some file) (Some rank) = inl refl
 
-dash_sign : (file rank : Option ℕ) → whole_square file rank ≡ true → IsOneOf (between_texts file rank false) (45 ∷ [])
+dash_sign : (file rank : Option ℕ) → whole_square file rank ≡ true → IsAmongTexts (between_texts file rank false) (45 ∷ [])
 dash_sign None rank e = absurd (let f = e in cc)
 dash_sign (Some file) None e = absurd (let f = e in cc)
 dash_sign (Some file) (Some rank) e = inr (inl refl)
 
-between_split : (file rank : Option ℕ) (t : List ℕ) → Split t (IsOneOf (between_texts file rank (takes_at t))) (past_between (whole_square file rank) t)
+between_split : (file rank : Option ℕ) (t : List ℕ) → Split t (IsAmongTexts (between_texts file rank (takes_in_front t))) (past_between (whole_square file rank) t)
 between_split file rank [] = record { piece = []; form = no_sign file rank; text = refl }
 between_split file rank (c ∷ cs) = elim (cases_Bool (c == 120)) [
   | inl x ↦ record { piece = 120 ∷ []; form = rw x (inl refl); text = rw x (ap (λ (n : ℕ). n ∷ cs) (eqb-true c 120 x)) }
@@ -129,8 +129,8 @@ between_split file rank (c ∷ cs) = elim (cases_Bool (c == 120)) [
 -- ---- promotions
 
 pub record Forms (c : ℕ) (what : Promotion) : Type 0 where
-  pub alone : IsOneOf (promotion_texts (Some what)) (c ∷ [])
-  pub behind : IsOneOf (promotion_texts (Some what)) (61 ∷ c ∷ [])
+  pub alone : IsAmongTexts (promoted_texts (Some what)) (c ∷ [])
+  pub behind : IsAmongTexts (promoted_texts (Some what)) (61 ∷ c ∷ [])
 
 queen_forms : (c : ℕ) → ((c ≡ 81) ⊎ (c ≡ 113)) → Forms c ToQueen
 queen_forms c (inl e) = rw e (record { alone = inr (inl refl); behind = inl refl })
@@ -158,14 +158,14 @@ promotion_forms c what e =
     pick ((c == 66) || (c == 98)) ToBishop what _ _ (λ t k. subst (Forms c) k (bishop_forms c (either c 66 98 t))) (
     pick ((c == 78) || (c == 110)) ToKnight what None _ (λ t k. subst (Forms c) k (knight_forms c (either c 78 110 t))) (λ f. absurd (let g = f in cc))))) e
 
-letter_split : (c : ℕ) (cs : List ℕ) → Split (c ∷ cs) (IsOneOf (promotion_texts (promotion_by c))) (past_letter (c ∷ cs))
+letter_split : (c : ℕ) (cs : List ℕ) → Split (c ∷ cs) (IsAmongTexts (promoted_texts (promotion_by c))) (past_promotion_letter (c ∷ cs))
 letter_split c cs = by_letter (promotion_by c) refl
   where
-    by_letter : (o : Option Promotion) → promotion_by c ≡ o → Split (c ∷ cs) (IsOneOf (promotion_texts (promotion_by c))) (past_letter (c ∷ cs))
+    by_letter : (o : Option Promotion) → promotion_by c ≡ o → Split (c ∷ cs) (IsAmongTexts (promoted_texts (promotion_by c))) (past_promotion_letter (c ∷ cs))
     by_letter None e = rw e (record { piece = []; form = inl refl; text = refl })
     by_letter (Some what) e = rw e (record { piece = c ∷ []; form = (promotion_forms c what e).alone; text = refl })
 
-promotion_split : (t : List ℕ) → Split t (IsOneOf (promotion_texts (promotion_at t))) (past_promotion t)
+promotion_split : (t : List ℕ) → Split t (IsAmongTexts (promoted_texts (promotion_in_front t))) (past_promotion t)
 promotion_split [] = record { piece = []; form = inl refl; text = refl }
 promotion_split (c ∷ []) = letter_split c []
 promotion_split (c ∷ d ∷ cs) = elim (cases_Bool ((c == 61) && is_some (promotion_by d))) [
@@ -173,13 +173,13 @@ promotion_split (c ∷ d ∷ cs) = elim (cases_Bool ((c == 61) && is_some (promo
   | inr e ↦ rw e (letter_split c (d ∷ cs))
 ]
   where
-    by_letter : (o : Option Promotion) → promotion_by d ≡ o → c ≡ 61 → is_some o ≡ true → Split (c ∷ d ∷ cs) (IsOneOf (promotion_texts (promotion_by d))) (past_letter (d ∷ cs))
+    by_letter : (o : Option Promotion) → promotion_by d ≡ o → c ≡ 61 → is_some o ≡ true → Split (c ∷ d ∷ cs) (IsAmongTexts (promoted_texts (promotion_by d))) (past_promotion_letter (d ∷ cs))
     by_letter None e equals some = absurd (let f = some in cc)
     by_letter (Some what) e equals some = rw e (record { piece = 61 ∷ d ∷ []; form = (promotion_forms d what e).behind; text = ap (λ (n : ℕ). n ∷ d ∷ cs) equals })
 
 -- ---- e.p. and the marks
 
-passing_split : (t : List ℕ) → t ≡ en_passant_text (passes_at t) ++ past_passing t
+passing_split : (t : List ℕ) → t ≡ passing_text (passes_in_front t) ++ past_passing t
 passing_split [] = refl
 passing_split (a ∷ []) = refl
 passing_split (a ∷ b ∷ []) = refl
@@ -193,30 +193,30 @@ passing_split (a ∷ b ∷ c ∷ d ∷ cs) = elim (cases_Bool ((a == 101) && (b 
   | inr e ↦ rw e refl
 ]
 
-plus_split : (t : List ℕ) → Split (43 ∷ t) (IsOneOf check_texts) (past_plus t)
+plus_split : (t : List ℕ) → Split (43 ∷ t) (IsAmongTexts check_texts) (past_plus t)
 plus_split [] = record { piece = 43 ∷ []; form = inr (inl refl); text = refl }
 plus_split (c ∷ cs) = elim (cases_Bool (c == 43)) [
   | inl e ↦ rw e (record { piece = 43 ∷ 43 ∷ []; form = inr (inr (inl refl)); text = ap (λ (n : ℕ). 43 ∷ n ∷ cs) (eqb-true c 43 e) })
   | inr e ↦ rw e (record { piece = 43 ∷ []; form = inr (inl refl); text = refl })
 ]
 
-check_split : (t : List ℕ) → Split t (IsOneOf check_texts) (past_check t)
+check_split : (t : List ℕ) → Split t (IsAmongTexts check_texts) (past_check t)
 check_split [] = record { piece = []; form = inl refl; text = refl }
 check_split (c ∷ cs) = elim (cases_Bool (c == 35)) [
   | inl e ↦ rw e (record { piece = 35 ∷ []; form = inr (inr (inr (inl refl))); text = ap (λ (n : ℕ). n ∷ cs) (eqb-true c 35 e) })
   | inr n ↦ elim (cases_Bool (c == 43)) [
-    | inl e ↦ rw (n, e) (subst (λ k. Split (k ∷ cs) (IsOneOf check_texts) (past_plus cs)) (sym (eqb-true c 43 e)) (plus_split cs))
+    | inl e ↦ rw (n, e) (subst (λ k. Split (k ∷ cs) (IsAmongTexts check_texts) (past_plus cs)) (sym (eqb-true c 43 e)) (plus_split cs))
     | inr e ↦ rw (n, e) (record { piece = []; form = inl refl; text = refl })
   ]
 ]
 
-glyph_form : (c : ℕ) → is_glyph c ≡ true → IsOneOf glyph_texts (c ∷ [])
+glyph_form : (c : ℕ) → is_glyph c ≡ true → IsAmongTexts glyph_texts (c ∷ [])
 glyph_form c e = elim (either c 33 63 e) [
   | inl x ↦ rw x (inr (inl refl))
   | inr y ↦ rw y (inr (inr (inl refl)))
 ]
 
-glyphs_form : (t : List ℕ) → are_glyphs t ≡ true → IsOneOf glyph_texts t
+glyphs_form : (t : List ℕ) → are_glyphs t ≡ true → IsAmongTexts glyph_texts t
 glyphs_form [] e = inl refl
 glyphs_form (c ∷ []) e = glyph_form c e
 glyphs_form (c ∷ d ∷ []) e =
@@ -243,17 +243,17 @@ marks_spelled t e =
 regroup : (a b c d e f g h : List ℕ) → a ++ (b ++ (c ++ (d ++ (e ++ (f ++ (g ++ h)))))) ≡ a ++ b ++ c ++ d ++ e ++ f ++ g ++ h
 regroup a b c d e f g h = sym (simp append_assoc)
 
-tail_spelled : (what : Kind) (letter : List ℕ) → IsOneOf (kind_texts what) letter → (file rank : Option ℕ) (takes : Bool) (to : ℕ) (between t : List ℕ) (told : Told)
-    → IsBelowEight file → IsBelowEight rank → to < 64 → IsOneOf (between_texts file rank takes) between → with_tail (man_at_square what file rank takes to) t ≡ Some told
-    → SpellsTold (letter ++ (file_text file ++ (rank_text rank ++ (between ++ (square_text to ++ t))))) told
+tail_spelled : (what : Kind) (letter : List ℕ) → IsAmongTexts (kind_texts what) letter → (file rank : Option ℕ) (takes : Bool) (to : ℕ) (between t : List ℕ) (told : Told)
+    → IsBelowEight file → IsBelowEight rank → to < 64 → IsAmongTexts (between_texts file rank takes) between → with_tail (man_at_square what file rank takes to) t ≡ Some told
+    → SpellsTold (letter ++ (file_letter file ++ (rank_digit rank ++ (between ++ (square_text to ++ t))))) told
 tail_spelled what letter is file rank takes to between t told fb rb lt form e =
     pick (are_marks (past_passing (past_promotion t))) _ told None _
     (λ m same.
     let p = promotion_split t in
     let q = passing_split (past_promotion t) in
-    let whole : t ≡ p.piece ++ (en_passant_text (passes_at (past_promotion t)) ++ past_passing (past_promotion t)) =
+    let whole : t ≡ p.piece ++ (passing_text (passes_in_front (past_promotion t)) ++ past_passing (past_promotion t)) =
     p.text ∙ ap (λ (s : List ℕ). p.piece ++ s) q in
-    subst (λ x. SpellsTold (letter ++ (file_text file ++ (rank_text rank ++ (between ++ (square_text to ++ t))))) x) same
+    subst (λ x. SpellsTold (letter ++ (file_letter file ++ (rank_digit rank ++ (between ++ (square_text to ++ t))))) x) same
     (record {
       file = fb;
       rank = rb;
@@ -266,8 +266,8 @@ tail_spelled what letter is file rank takes to between t told fb rb lt form e =
       is_between = form;
       promotes = p.form;
       are_marks = marks_spelled (past_passing (past_promotion t)) m;
-      text = ap (λ (s : List ℕ). letter ++ (file_text file ++ (rank_text rank ++ (between ++ (square_text to ++ s))))) whole
-          ∙ regroup letter (file_text file) (rank_text rank) between (square_text to) p.piece (en_passant_text (passes_at (past_promotion t))) (past_passing (past_promotion t));
+      text = ap (λ (s : List ℕ). letter ++ (file_letter file ++ (rank_digit rank ++ (between ++ (square_text to ++ s))))) whole
+          ∙ regroup letter (file_letter file) (rank_digit rank) between (square_text to) p.piece (passing_text (passes_in_front (past_promotion t))) (past_passing (past_promotion t));
     }))
     (λ f. absurd (let g = f in cc)) e
 
@@ -277,35 +277,35 @@ square_of file rank lt =
     let r : rank_of (8 * rank + file) ≡ rank = omega arith in
     ap₂ (λ (x y : ℕ). (97 + x) ∷ (49 + y) ∷ []) f r
 
-alone_spelled : (what : Kind) (letter : List ℕ) → IsOneOf (kind_texts what) letter → (file rank : Option ℕ) (t : List ℕ) (told : Told) → IsBelowEight file → IsBelowEight rank → square_alone what file rank t ≡ Some told
-    → SpellsTold (letter ++ (file_text file ++ (rank_text rank ++ t))) told
+alone_spelled : (what : Kind) (letter : List ℕ) → IsAmongTexts (kind_texts what) letter → (file rank : Option ℕ) (t : List ℕ) (told : Told) → IsBelowEight file → IsBelowEight rank → square_alone what file rank t ≡ Some told
+    → SpellsTold (letter ++ (file_letter file ++ (rank_digit rank ++ t))) told
 alone_spelled what letter is None rank t told fb rb e = absurd (let f = e in cc)
 alone_spelled what letter is (Some file) None t told fb rb e = absurd (let f = e in cc)
 alone_spelled what letter is (Some file) (Some rank) t told fb rb e =
     subst (λ (s : List ℕ). SpellsTold (letter ++ (s ++ t)) told) (square_of file rank fb)
     (tail_spelled what letter is None None false (8 * rank + file) [] t told tt tt (omega arith) (inl refl) e)
 
-between_spelled : (what : Kind) (letter : List ℕ) → IsOneOf (kind_texts what) letter → (file rank : Option ℕ) (t : List ℕ) (told : Told) → IsBelowEight file → IsBelowEight rank → after_origin what file rank t ≡ Some told
-    → SpellsTold (letter ++ (file_text file ++ (rank_text rank ++ t))) told
-between_spelled what letter is file rank t told fb rb e = by_square (square_at (past_between (whole_square file rank) t)) refl e
+between_spelled : (what : Kind) (letter : List ℕ) → IsAmongTexts (kind_texts what) letter → (file rank : Option ℕ) (t : List ℕ) (told : Told) → IsBelowEight file → IsBelowEight rank → after_origin what file rank t ≡ Some told
+    → SpellsTold (letter ++ (file_letter file ++ (rank_digit rank ++ t))) told
+between_spelled what letter is file rank t told fb rb e = by_square (square_in_front (past_between (whole_square file rank) t)) refl e
   where
-    by_square : (o : Option ℕ) → square_at (past_between (whole_square file rank) t) ≡ o → after_between what file rank t o (past_between (whole_square file rank) t) ≡ Some told
-        → SpellsTold (letter ++ (file_text file ++ (rank_text rank ++ t))) told
+    by_square : (o : Option ℕ) → square_in_front (past_between (whole_square file rank) t) ≡ o → after_between what file rank t o (past_between (whole_square file rank) t) ≡ Some told
+        → SpellsTold (letter ++ (file_letter file ++ (rank_digit rank ++ t))) told
     by_square None at f = alone_spelled what letter is file rank t told fb rb f
     by_square (Some to) at f =
         let s = between_split file rank t in
         let q = square_split (past_between (whole_square file rank) t) to at in
         let whole : t ≡ s.piece ++ (square_text to ++ past_two (past_between (whole_square file rank) t)) = s.text ∙ ap (λ (r : List ℕ). s.piece ++ r) q.text in
-        subst (λ (r : List ℕ). SpellsTold (letter ++ (file_text file ++ (rank_text rank ++ r))) told) (sym whole)
-        (tail_spelled what letter is file rank (takes_at t) to s.piece (past_two (past_between (whole_square file rank) t)) told fb rb q.below s.form f)
+        subst (λ (r : List ℕ). SpellsTold (letter ++ (file_letter file ++ (rank_digit rank ++ r))) told) (sym whole)
+        (tail_spelled what letter is file rank (takes_in_front t) to s.piece (past_two (past_between (whole_square file rank) t)) told fb rb q.below s.form f)
 
-kind_spelled : (what : Kind) (letter : List ℕ) → IsOneOf (kind_texts what) letter → (t : List ℕ) (told : Told) → after_kind what t ≡ Some told → SpellsTold (letter ++ t) told
+kind_spelled : (what : Kind) (letter : List ℕ) → IsAmongTexts (kind_texts what) letter → (t : List ℕ) (told : Told) → after_kind what t ≡ Some told → SpellsTold (letter ++ t) told
 kind_spelled what letter is t told e =
     let f = file_split t in
     let r = rank_split (past_file t) in
-    let whole : t ≡ file_text (file_at t) ++ (rank_text (rank_at (past_file t)) ++ past_rank (past_file t)) = f.text ∙ ap (λ (s : List ℕ). file_text (file_at t) ++ s) r.text in
+    let whole : t ≡ file_letter (file_in_front t) ++ (rank_digit (rank_in_front (past_file t)) ++ past_rank (past_file t)) = f.text ∙ ap (λ (s : List ℕ). file_letter (file_in_front t) ++ s) r.text in
     subst (λ (s : List ℕ). SpellsTold (letter ++ s) told) (sym whole)
-    (between_spelled what letter is (file_at t) (rank_at (past_file t)) (past_rank (past_file t)) told f.below r.below e)
+    (between_spelled what letter is (file_in_front t) (rank_in_front (past_file t)) (past_rank (past_file t)) told f.below r.below e)
 
 -- ---- castling
 
@@ -325,13 +325,13 @@ longer_split sign (a ∷ b ∷ cs) e =
     let x = and_parts (a == 45) (b == sign) e in
     ap₂ (λ (m n : ℕ). m ∷ n ∷ cs) (eqb-true a 45 x.0) (eqb-true b sign x.1)
 
-castles_spelled : (wing : Wing) (castling t : List ℕ) (told : Told) → IsOneOf (castling_texts wing) castling → castles_before wing t ≡ Some told → SpellsTold (castling ++ t) told
+castles_spelled : (wing : Wing) (castling t : List ℕ) (told : Told) → IsAmongTexts (castles_texts wing) castling → castles_before wing t ≡ Some told → SpellsTold (castling ++ t) told
 castles_spelled wing castling t told form e =
     pick (are_marks t) (Castles wing) told None _
     (λ m same. subst (SpellsTold (castling ++ t)) same (record { castling = castling; marks = t; castles = form; are_marks = marks_spelled t m; text = refl }))
     (λ f. absurd (let g = f in cc)) e
 
-castling_spelled : (sign : ℕ) (t : List ℕ) (told : Told) → IsOneOf (castling_texts KingSide) (sign ∷ 45 ∷ sign ∷ []) → IsOneOf (castling_texts QueenSide) (sign ∷ 45 ∷ sign ∷ 45 ∷ sign ∷ [])
+castling_spelled : (sign : ℕ) (t : List ℕ) (told : Told) → IsAmongTexts (castles_texts KingSide) (sign ∷ 45 ∷ sign ∷ []) → IsAmongTexts (castles_texts QueenSide) (sign ∷ 45 ∷ sign ∷ 45 ∷ sign ∷ [])
     → is_short sign t ≡ true → castling_by sign t ≡ Some told → SpellsTold t told
 castling_spelled sign t told king queen short e = elim (cases_Bool (is_longer sign (past_three t))) [
   | inl l ↦
@@ -342,12 +342,12 @@ castling_spelled sign t told king queen short e = elim (cases_Bool (is_longer si
 ]
 
 -- what is read is spelled
-pub read_spelled : (t : List ℕ) (told : Told) → told_of t ≡ Some told → SpellsTold t told
-unfolding told_of
+pub read_spelled : (t : List ℕ) (told : Told) → told_by_text t ≡ Some told → SpellsTold t told
+unfolding told_by_text
 read_spelled t told e = elim (cases_Bool (is_short 79 t)) [
   | inl s ↦ castling_spelled 79 t told (inl refl) (inl refl) s (rw s at e)
   | inr n ↦ elim (cases_Bool (is_short 48 t)) [
     | inl s ↦ castling_spelled 48 t told (inr (inl refl)) (inr (inl refl)) s (rw (n, s) at e)
-    | inr m ↦ let k = kind_split t in subst (λ (s : List ℕ). SpellsTold s told) (sym k.text) (kind_spelled (kind_at t) k.piece k.form (past_kind t) told (rw (n, m) at e))
+    | inr m ↦ let k = kind_split t in subst (λ (s : List ℕ). SpellsTold s told) (sym k.text) (kind_spelled (kind_in_front t) k.piece k.form (past_kind t) told (rw (n, m) at e))
   ]
 ]

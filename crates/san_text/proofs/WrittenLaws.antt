@@ -19,10 +19,10 @@ use Rattle.san_text.specs.declared.told.ManTold.{ManTold}
 use Rattle.san_text.specs.declared.told.Told.TheVariants.{Castles, Goes}
 use Rattle.san_text.specs.declared.origin.Apart.{Apart}
 use Rattle.san_text.specs.declared.origin.Apart.TheVariants.{Nothing, ByFile, ByRank, BySquare}
-use Rattle.san_text.specs.Told.{kind_text, kind_texts, takes_text, promotion_text, IsOneOf, promotion_texts, between_texts, castling_texts, castling_text, AreMarks, IsBelowEight, SpellsMan, told_text}
+use Rattle.san_text.specs.Told.{kind_text, kind_texts, takes_text, promoted_text, IsAmongTexts, promoted_texts, between_texts, castles_texts, castles_text, AreMarks, IsBelowEight, SpellsMan, told_text}
 use Rattle.board_core.specs.Ends.{is_checkmate}
-use Rattle.san_text.specs.Agrees.{castling, IsAsTold, file_told, AgreesMan}
-use Rattle.san_text.specs.Written.{kind_letter, kind_there, kind_moved, is_rival, has_rival, anywhere, on_file_of, on_rank_of, told_apart, pawn_apart, origin_told, file_by, rank_by, man_told, told_by, san_told, mark_of, mark_after, san_of}
+use Rattle.san_text.specs.Agrees.{castling, IsNumberTold, file_told, AgreesMan}
+use Rattle.san_text.specs.Written.{kind_letter, kind_there, kind_moved, is_rival, has_rival, anywhere, on_file_of, on_rank_of, told_apart, pawn_apart, origin_told, file_by, rank_by, man_told, castling_or_man, san_told, check_mark, mark_after, san_of}
 use Rattle.san_text.specs.San.{IsMeant, ReadsSan}
 use Rattle.san_text.proofs.LegalMoves.{castles_by}
 use Rattle.san_text.proofs.PawnLaws.{one_square, one_pawn, pawn_stays}
@@ -32,14 +32,14 @@ use Rattle.san_text.proofs.SpellingLaws.{no_sign}
 
 -- ---- the standard's text of what is told spells it
 
-own_promotion : (o : Option Promotion) → IsOneOf (promotion_texts o) (promotion_text o)
+own_promotion : (o : Option Promotion) → IsAmongTexts (promoted_texts o) (promoted_text o)
 own_promotion None = inl refl
 own_promotion (Some ToQueen) = inl refl
 own_promotion (Some ToRook) = inl refl
 own_promotion (Some ToBishop) = inl refl
 own_promotion (Some ToKnight) = inl refl
 
-own_letter : (what : Kind) → IsOneOf (kind_texts what) (kind_text what)
+own_letter : (what : Kind) → IsAmongTexts (kind_texts what) (kind_text what)
 own_letter Pawn = inl refl
 own_letter Knight = inl refl
 own_letter Bishop = inl refl
@@ -47,11 +47,11 @@ own_letter Rook = inl refl
 own_letter Queen = inl refl
 own_letter King = inl refl
 
-own_sign : (file rank : Option ℕ) (takes : Bool) → IsOneOf (between_texts file rank takes) (takes_text takes)
+own_sign : (file rank : Option ℕ) (takes : Bool) → IsAmongTexts (between_texts file rank takes) (takes_text takes)
 own_sign file rank true = inl refl
 own_sign file rank false = no_sign file rank
 
-own_castling : (wing : Wing) → IsOneOf (castling_texts wing) (castling_text wing)
+own_castling : (wing : Wing) → IsAmongTexts (castles_texts wing) (castles_text wing)
 own_castling KingSide = inl refl
 own_castling QueenSide = inl refl
 
@@ -62,7 +62,7 @@ man_spelled man mark none file rank square marks = record {
   square = square;
   letter = kind_text man.kind;
   between = takes_text man.takes;
-  promotion = promotion_text man.promotion;
+  promotion = promoted_text man.promotion;
   marks = mark;
   is_letter = own_letter man.kind;
   is_between = own_sign man.file man.rank man.takes;
@@ -80,7 +80,7 @@ some_mark false true = record { check = codes "+"; glyph = []; is_check = inr (i
 some_mark false false = record { check = []; glyph = []; is_check = inl refl; is_glyph = inl refl; text = refl }
 
 own_mark : (o : Option Parts) → AreMarks (mark_after o)
-unfolding mark_of
+unfolding check_mark
 own_mark None = record { check = []; glyph = []; is_check = inl refl; is_glyph = inl refl; text = refl }
 own_mark (Some q) = some_mark (is_checkmate q) (is_in_check q.men q.side)
 
@@ -105,13 +105,13 @@ moved p m l =
     let what : kind_moved p m ≡ st.0 = ap kind_there st.1 in
     subst (Stands p.men m.from p.side) (sym what) st.1
 
-rank_so : (apart : Apart) (from : ℕ) → IsAsTold (rank_by apart from) (rank_of from)
+rank_so : (apart : Apart) (from : ℕ) → IsNumberTold (rank_by apart from) (rank_of from)
 rank_so Nothing from = tt
 rank_so ByFile from = tt
 rank_so ByRank from = refl
 rank_so BySquare from = refl
 
-file_so : (what : Kind) (apart : Apart) (from to : ℕ) → (what ≡ Pawn → file_by apart from ≡ None → file_of from ≡ file_of to) → IsAsTold (file_told what (file_by apart from) to) (file_of from)
+file_so : (what : Kind) (apart : Apart) (from to : ℕ) → (what ≡ Pawn → file_by apart from ≡ None → file_of from ≡ file_of to) → IsNumberTold (file_told what (file_by apart from) to) (file_of from)
 file_so what ByFile from to pawn = refl
 file_so what BySquare from to pawn = refl
 file_so Pawn Nothing from to pawn = pawn refl refl
@@ -167,7 +167,7 @@ FromThere ByFile from other = file_of other ≡ file_of from
 FromThere ByRank from other = rank_of other ≡ rank_of from
 FromThere BySquare from other = (file_of other ≡ file_of from) × (rank_of other ≡ rank_of from)
 
-from_told : (what : Kind) (apart : Apart) (from other to : ℕ) → IsAsTold (file_told what (file_by apart from) to) (file_of other) → IsAsTold (rank_by apart from) (rank_of other) → FromThere apart from other
+from_told : (what : Kind) (apart : Apart) (from other to : ℕ) → IsNumberTold (file_told what (file_by apart from) to) (file_of other) → IsNumberTold (rank_by apart from) (rank_of other) → FromThere apart from other
 from_told what Nothing from other to f r = tt
 from_told what ByFile from other to f r = f
 from_told what ByRank from other to f r = r
@@ -199,12 +199,12 @@ piece_from p m n l what to h = elim (cases_eq n.from m.from) [
 ]
 
 pawn_from_file : (p : Parts) (m n : Move) (takes : Bool) → IsLegal p m → IsLegal p n → is_capture p m ≡ takes → Stands p.men m.from p.side Pawn → Stands p.men n.from p.side Pawn → n.to ≡ m.to
-    → IsAsTold (file_told Pawn (file_by (pawn_apart takes) m.from) m.to) (file_of n.from) → n.from ≡ m.from
+    → IsNumberTold (file_told Pawn (file_by (pawn_apart takes) m.from) m.to) (file_of n.from) → n.from ≡ m.from
 pawn_from_file p m n true l k c a b to f = one_pawn p n m k l b a to f
 pawn_from_file p m n false l k c a b to f = one_pawn p n m k l b a to (f ∙ sym (pawn_stays p m l a c))
 
 from_kind : (p : Parts) (m n : Move) (what : Kind) → kind_moved p m ≡ what → IsLegal p m → IsLegal p n → Stands p.men m.from p.side what → Stands p.men n.from p.side what → n.to ≡ m.to
-    → IsAsTold (file_told what (file_by (origin_told what p m) m.from) m.to) (file_of n.from) → IsAsTold (rank_by (origin_told what p m) m.from) (rank_of n.from) → n.from ≡ m.from
+    → IsNumberTold (file_told what (file_by (origin_told what p m) m.from) m.to) (file_of n.from) → IsNumberTold (rank_by (origin_told what p m) m.from) (rank_of n.from) → n.from ≡ m.from
 from_kind p m n Pawn e l k a b to f r = pawn_from_file p m n (is_capture p m) l k refl a b to f
 from_kind p m n Knight e l k a b to f r = piece_from p m n k (ap kind_there b ∙ sym e) to (from_told Knight (told_apart p m) m.from n.from m.to f r)
 from_kind p m n Bishop e l k a b to f r = piece_from p m n k (ap kind_there b ∙ sym e) to (from_told Bishop (told_apart p m) m.from n.from m.to f r)
@@ -221,10 +221,10 @@ man_only p m n l k h =
 
 -- ---- reading back
 
-read_back_by : (p : Parts) (m : Move) (o : Option Wing) → castling p m ≡ o → IsLegal p m → ReadsSan p (told_text (told_by o (man_told p m)) ++ mark_after (position_after p m)) m
+read_back_by : (p : Parts) (m : Move) (o : Option Wing) → castling p m ≡ o → IsLegal p m → ReadsSan p (told_text (castling_or_man o (man_told p m)) ++ mark_after (position_after p m)) m
 read_back_by p m (Some wing) e l = record {
   told = Castles wing;
-  spells = record { castling = castling_text wing; marks = mark_after (position_after p m); castles = own_castling wing; are_marks = own_mark (position_after p m); text = refl };
+  spells = record { castling = castles_text wing; marks = mark_after (position_after p m); castles = own_castling wing; are_marks = own_mark (position_after p m); text = refl };
   meant = (l, e);
   only = λ n h. castles_by p n wing h.0 h.1 ∙ sym (castles_by p m wing l e);
 }

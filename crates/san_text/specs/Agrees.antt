@@ -23,9 +23,9 @@ abbrev pub castling : Parts → Move → Option Wing
 castling p m = if is_king_of p.side (man_at p.men m.from) then wing_by_files (file_of m.from) (file_of m.to) else None
 
 -- a number that is told is this one
-abbrev pub IsAsTold : Option ℕ → ℕ → Type 0
-IsAsTold None n = Unit {0}
-IsAsTold (Some told) n = n ≡ told
+abbrev pub IsNumberTold : Option ℕ → ℕ → Type 0
+IsNumberTold None n = Unit {0}
+IsNumberTold (Some told) n = n ≡ told
 
 -- the file that is told of the square that a man leaves: a pawn's text that has none tells that of its square
 abbrev pub file_told : Kind → Option ℕ → ℕ → Option ℕ
@@ -40,8 +40,8 @@ file_told King None to = None
 -- each thing that is told is so: the man, where he comes from, that he takes, his square, the promotion, en passant. It is no castling
 pub record AgreesMan (p : Parts) (told : ManTold) (m : Move) : Type 0 where
   pub stands : Stands p.men m.from p.side told.kind
-  pub file : IsAsTold (file_told told.kind told.file told.to) (file_of m.from)
-  pub rank : IsAsTold told.rank (rank_of m.from)
+  pub file : IsNumberTold (file_told told.kind told.file told.to) (file_of m.from)
+  pub rank : IsNumberTold told.rank (rank_of m.from)
   pub takes : IsTrue told.takes → IsTrue (is_capture p m)
   pub square : m.to ≡ told.to
   pub promotion : m.promotion ≡ told.promotion

@@ -18,8 +18,8 @@ abbrev pub IsReadBack : Type 0
 IsReadBack = (p : Parts) (m : Move) → IsPosition p → IsLegal p m → ReadsSan p (san_of p m) m
 
 -- two legal moves of a position have two texts
-abbrev pub HasOneMove : Type 0
-HasOneMove =
+abbrev pub MovesDifferInText : Type 0
+MovesDifferInText =
     (p : Parts) (m n : Move) → IsPosition p → IsLegal p m → IsLegal p n → san_of p m ≡ san_of p n → m ≡ n
 
 -- a text tells one thing at most

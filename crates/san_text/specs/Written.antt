@@ -101,21 +101,21 @@ man_told p m = record {
 }
 
 -- castling, or the move of a man
-abbrev pub told_by : Option Wing → ManTold → Told
-told_by None man = Goes man
-told_by (Some wing) man = Castles wing
+abbrev pub castling_or_man : Option Wing → ManTold → Told
+castling_or_man None man = Goes man
+castling_or_man (Some wing) man = Castles wing
 
 -- what the text of a move tells
 unfoldable pub san_told : Parts → Move → Told
-san_told p m = told_by (castling p m) (man_told p m)
+san_told p m = castling_or_man (castling p m) (man_told p m)
 
 -- # for checkmate (FIDE article 5.1.1), + for another check (section 8.2.3.5)
-unfoldable pub mark_of : Parts → List ℕ
-mark_of q = if is_checkmate q then codes "#" else (if is_in_check q.men q.side then codes "+" else [])
+unfoldable pub check_mark : Parts → List ℕ
+check_mark q = if is_checkmate q then codes "#" else (if is_in_check q.men q.side then codes "+" else [])
 
 abbrev pub mark_after : Option Parts → List ℕ
 mark_after None = []
-mark_after (Some q) = mark_of q
+mark_after (Some q) = check_mark q
 
 -- what the text tells, and the mark of the position after the move
 unfoldable pub san_of : Parts → Move → List ℕ

@@ -5,8 +5,8 @@ ghost use Rattle.board_core.specs.Square.{file_of, rank_of};
 ghost use Rattle.board_core.specs.Moves.{IsLegal, Stands};
 ghost use Rattle.board_core.specs.ComputedMoves.{is_capture, is_en_passant};
 ghost use Rattle.std.specs.Int.{bit_at};
-ghost use Rattle.san_text.specs.Agrees.{wing_by_files, castling, IsAsTold, file_told, AgreesMan};
-ghost use Rattle.san_text.specs.Inside.Movers.{told_move, MayBeMeant, IsMoverFault};
+ghost use Rattle.san_text.specs.Agrees.{wing_by_files, castling, IsNumberTold, file_told, AgreesMan};
+ghost use Rattle.san_text.specs.Inside.Movers.{told_move, IsToldFrom, IsToldSo, MayBeMeant, IsMoverFault};
 
 use crate::fault::SanFault;
 use crate::told::ManTold;
@@ -78,8 +78,8 @@ fn is_en_passant(position: &Position, m: &Move) -> bool
 }
 
 /// Whether a number that is told is this one.
-fn is_as_told(told: Option<u8>, n: u8) -> bool
-    ensures { IsTrue result ↔ IsAsTold told n }
+fn is_number_told(told: Option<u8>, n: u8) -> bool
+    ensures { IsTrue result ↔ IsNumberTold told n }
 {
     match told {
         Some(told) => n == told,
@@ -99,21 +99,17 @@ fn file_told(man: &ManTold) -> Option<u8>
 
 /// Whether the man on this square is told, and the square that he leaves.
 fn is_told_from(position: &Position, man: &ManTold, from: Square) -> bool
-    ensures { IsTrue result ↔ (Stands position.now.men from position.now.side man.now.kind
-        × IsAsTold (file_told man.now.kind man.now.file man.now.to) (file_of from)
-        × IsAsTold man.now.rank (rank_of from)) }
+    ensures { IsTrue result ↔ IsToldFrom position.now man.now from }
 {
     stands(position, from, man.kind)
-        && is_as_told(file_told(man), from.file())
-        && is_as_told(man.rank, from.rank())
+        && is_number_told(file_told(man), from.file())
+        && is_number_told(man.rank, from.rank())
 }
 
 /// Whether what else is told of a legal move is so.
 fn is_told_so(position: &Position, man: &ManTold, m: &Move) -> bool
     requires { IsLegal position.now m.now }
-    ensures { IsTrue result ↔ ((IsTrue man.now.takes → IsTrue (is_capture position.now m.now))
-        × (IsTrue man.now.en_passant → IsTrue (is_en_passant position.now m.now))
-        × (castling position.now m.now ≡ None)) }
+    ensures { IsTrue result ↔ IsToldSo position.now man.now m.now }
 {
     (!man.takes || is_capture(position, m))
         && (!man.en_passant || is_en_passant(position, m))

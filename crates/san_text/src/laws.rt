@@ -1,6 +1,6 @@
 //! Laws over the definitions alone, for the layers above.
 
-ghost use Rattle.san_text.specs.Laws.{IsReadBack, HasOneMove, TellsOneThing, CastlingIsTold, MarksMate, MarksCheck};
+ghost use Rattle.san_text.specs.Laws.{IsReadBack, MovesDifferInText, TellsOneThing, CastlingIsTold, MarksMate, MarksCheck};
 
 /// What is written for a legal move is read as this move.
 pub fn is_read_back()
@@ -9,7 +9,7 @@ pub fn is_read_back()
 
 /// Two legal moves of a position have two texts.
 pub fn one_move()
-    ensures { HasOneMove }
+    ensures { MovesDifferInText }
 {}
 
 /// A text tells one thing at most.

@@ -1,7 +1,7 @@
 //! What stands behind the square: a promotion, e.p., signs of check, and glyphs.
 
 ghost use Rattle.std.specs.Prelude.{◌≡◌};
-ghost use Rattle.san_text.specs.Inside.Scan.{promotion_by, past_equals, promotion_at, past_promotion, letter_at, past_letter, passes_at, past_passing, past_plus, past_check, is_glyph, are_glyphs, are_marks, with_tail};
+ghost use Rattle.san_text.specs.Inside.Scan.{promotion_by, past_equals, promotion_in_front, past_promotion, letter_in_front, past_promotion_letter, passes_in_front, past_passing, past_plus, past_check, is_glyph, are_glyphs, are_marks, with_tail};
 
 use crate::told::{ManTold, Told};
 use board_core::Promotion;
@@ -31,7 +31,7 @@ fn past_equals(text: &[u8]) -> &[u8]
 
 /// The promotion at the front, and the text behind it.
 fn take_promotion(text: &[u8]) -> (Option<Promotion>, &[u8])
-    ensures promotion { result.0 ≡ promotion_at text.now }
+    ensures promotion { result.0 ≡ promotion_in_front text.now }
     ensures rest { result.1.now ≡ past_promotion text.now }
 {
     let text = past_equals(text);
@@ -46,7 +46,7 @@ fn take_promotion(text: &[u8]) -> (Option<Promotion>, &[u8])
 
 /// Whether e.p. stands at the front, and the text behind it.
 fn take_passing(text: &[u8]) -> (bool, &[u8])
-    ensures passes { result.0 ≡ passes_at text.now }
+    ensures passes { result.0 ≡ passes_in_front text.now }
     ensures rest { result.1.now ≡ past_passing text.now }
 {
     match text {

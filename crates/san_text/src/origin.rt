@@ -5,7 +5,7 @@ ghost use Rattle.std.specs.Int.{bit_at};
 ghost use Rattle.board_core.specs.Moves.{IsLegal};
 ghost use Rattle.board_core.specs.ComputedMoves.{is_capture};
 ghost use Rattle.san_text.specs.Written.{kind_moved, has_rival, told_apart, origin_told, file_by, rank_by};
-ghost use Rattle.san_text.specs.Inside.Movers.{Rivals, is_among};
+ghost use Rattle.san_text.specs.Inside.Written.{Rivals, is_among};
 
 use crate::agreeing::stands;
 use board_core::{Kind, Move, Position, Square};

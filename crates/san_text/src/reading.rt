@@ -13,7 +13,7 @@ ghost use Rattle.san_text.specs.Written.{san_of};
 
 use crate::agreeing::{castling, only_mover};
 use crate::fault::SanFault;
-use crate::spelling::told_of;
+use crate::spelling::told_by_text;
 use crate::told::{ManTold, Told};
 use board_core::{Move, Position, Side, Square, Wing};
 
@@ -111,7 +111,7 @@ pub fn read_san(position: &Position, text: &[u8]) -> Result<Move, SanFault>
     // What `write_san` writes for a legal move reads as this move.
     ensures written { (m : Move) → IsLegal position.now m → text.now ≡ san_of position.now m → result ≡ Ok m }
 {
-    let Some(told) = told_of(text) else {
+    let Some(told) = told_by_text(text) else {
         return Err(SanFault::BadText);
     };
     meant(position, &told)

@@ -2,7 +2,7 @@
 
 ghost use Rattle.std.specs.Prelude.{◌≡◌, ◌<◌, Some, None, Option, ℕ};
 ghost use Rattle.san_text.specs.Told.{IsBelowEight};
-ghost use Rattle.san_text.specs.Inside.Scan.{kind_by, kind_at, past_kind, is_file, is_rank, file_at, past_file, rank_at, past_rank, takes_at, past_between, square_at, past_two};
+ghost use Rattle.san_text.specs.Inside.Scan.{kind_by, kind_in_front, past_kind, is_file, is_rank, file_in_front, past_file, rank_in_front, past_rank, takes_in_front, past_between, square_in_front, past_two};
 
 use board_core::{Kind, Square};
 
@@ -37,7 +37,7 @@ fn kind_by(c: u8) -> Option<Kind>
 
 /// The kind of man by the letter at the front, a pawn where there is none; and the text behind it.
 pub(crate) fn take_kind(text: &[u8]) -> (Kind, &[u8])
-    ensures kind { result.0 ≡ kind_at text.now }
+    ensures kind { result.0 ≡ kind_in_front text.now }
     ensures rest { result.1.now ≡ past_kind text.now }
 {
     match text {
@@ -51,7 +51,7 @@ pub(crate) fn take_kind(text: &[u8]) -> (Kind, &[u8])
 
 /// The file at the front, and the text behind it.
 pub(crate) fn take_file(text: &[u8]) -> (Option<u8>, &[u8])
-    ensures file { result.0 ≡ file_at text.now }
+    ensures file { result.0 ≡ file_in_front text.now }
     ensures rest { result.1.now ≡ past_file text.now }
     ensures below { IsBelowEight result.0 }
 {
@@ -63,7 +63,7 @@ pub(crate) fn take_file(text: &[u8]) -> (Option<u8>, &[u8])
 
 /// The rank at the front, and the text behind it.
 pub(crate) fn take_rank(text: &[u8]) -> (Option<u8>, &[u8])
-    ensures rank { result.0 ≡ rank_at text.now }
+    ensures rank { result.0 ≡ rank_in_front text.now }
     ensures rest { result.1.now ≡ past_rank text.now }
     ensures below { IsBelowEight result.0 }
 {
@@ -75,7 +75,7 @@ pub(crate) fn take_rank(text: &[u8]) -> (Option<u8>, &[u8])
 
 /// Whether an x stands at the front, and the text behind it, or behind a dash where the origin is a whole square.
 pub(crate) fn take_between(text: &[u8], whole: bool) -> (bool, &[u8])
-    ensures takes { result.0 ≡ takes_at text.now }
+    ensures takes { result.0 ≡ takes_in_front text.now }
     ensures rest { result.1.now ≡ past_between whole text.now }
 {
     match text {
@@ -86,8 +86,8 @@ pub(crate) fn take_between(text: &[u8], whole: bool) -> (bool, &[u8])
 }
 
 /// The square at the front.
-pub(crate) fn square_at(text: &[u8]) -> Option<Square>
-    ensures { result ≡ square_at text.now }
+pub(crate) fn square_in_front(text: &[u8]) -> Option<Square>
+    ensures { result ≡ square_in_front text.now }
 {
     match text {
         [c, d, ..] if is_file(*c) && is_rank(*d) => {

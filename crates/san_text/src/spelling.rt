@@ -2,10 +2,10 @@
 
 ghost use Rattle.std.specs.Prelude.{◌≡◌};
 ghost use Rattle.san_text.specs.Told.{IsBelowEight};
-ghost use Rattle.san_text.specs.Inside.Scan.{is_short, past_three, is_longer, castles_before, castling_by, square_alone, after_origin, after_kind, told_of};
+ghost use Rattle.san_text.specs.Inside.Scan.{is_short, past_three, is_longer, castles_before, castling_by, square_alone, after_origin, after_kind, told_by_text};
 
 use crate::marks::{are_marks, with_tail};
-use crate::scan::{past_two, square_at, take_between, take_file, take_kind, take_rank};
+use crate::scan::{past_two, square_in_front, take_between, take_file, take_kind, take_rank};
 use crate::told::{ManTold, Told};
 use board_core::{Kind, Square, Wing};
 
@@ -93,7 +93,7 @@ fn after_origin(kind: Kind, file: Option<u8>, rank: Option<u8>, text: &[u8]) -> 
     ensures { result ≡ after_origin kind file rank text.now }
 {
     let (takes, rest) = take_between(text, file.is_some() && rank.is_some());
-    match square_at(rest) {
+    match square_in_front(rest) {
         Some(to) => {
             let man = ManTold {
                 kind,
@@ -120,9 +120,9 @@ fn after_kind(kind: Kind, text: &[u8]) -> Option<Told>
 }
 
 /// What a text tells; none where it has no form of the notation.
-#[tactic(auto, unfolding(crate::specs::Inside::Scan::told_of))]
-pub(crate) fn told_of(text: &[u8]) -> Option<Told>
-    ensures { result ≡ told_of text.now }
+#[tactic(auto, unfolding(crate::specs::Inside::Scan::told_by_text))]
+pub(crate) fn told_by_text(text: &[u8]) -> Option<Told>
+    ensures { result ≡ told_by_text text.now }
 {
     if is_short(text, b'O') {
         return castling_by(text, b'O');

@@ -4,9 +4,9 @@ ghost use Rattle.std.specs.Prelude.{◌≡◌, ◌≤◌, ◌<◌, ◌+◌, ◌+
 ghost use Rattle.arrayvec.specs.ArrayString.{array_string_len};
 ghost use Rattle.board_core.specs.Moves.{IsLegal};
 ghost use Rattle.san_text.specs.declared.told.Told.{Told};
-ghost use Rattle.san_text.specs.Inside.Movers.{IsShort};
-ghost use Rattle.san_text.specs.Told.{IsBelowEight, kind_text, file_text, rank_text, takes_text, square_text, promotion_text, castling_text, told_text};
-ghost use Rattle.san_text.specs.Written.{kind_moved, man_told, san_told, mark_of, san_of};
+ghost use Rattle.san_text.specs.Inside.Written.{IsWithinSeven};
+ghost use Rattle.san_text.specs.Told.{IsBelowEight, kind_text, file_letter, rank_digit, takes_text, square_text, promoted_text, castles_text, told_text};
+ghost use Rattle.san_text.specs.Written.{kind_moved, man_told, san_told, check_mark, san_of};
 
 use crate::agreeing::{castling, is_capture};
 use crate::origin::{file_by, origin_told, rank_by};
@@ -48,7 +48,7 @@ fn man_told(position: &Position, m: &Move) -> ManTold
 fn san_told(position: &Position, m: &Move) -> Told
     requires { IsLegal position.now m.now }
     ensures value { result ≡ san_told position.now m.now }
-    ensures short { IsShort result }
+    ensures short { IsWithinSeven result }
 {
     match castling(position, m) {
         Some(wing) => Told::Castles(wing),
@@ -72,7 +72,7 @@ fn kind_letter(kind: Kind) -> &'static str
 
 /// A promotion behind a sign of equality, and nothing where there is none.
 fn promotion_sign(promotion: Option<Promotion>) -> &'static str
-    ensures { result.now ≡ promotion_text promotion }
+    ensures { result.now ≡ promoted_text promotion }
 {
     match promotion {
         None => "",
@@ -85,7 +85,7 @@ fn promotion_sign(promotion: Option<Promotion>) -> &'static str
 
 /// The letter O for each square that the king's way has, with dashes between.
 fn castling_sign(wing: Wing) -> &'static str
-    ensures { result.now ≡ castling_text wing }
+    ensures { result.now ≡ castles_text wing }
 {
     match wing {
         Wing::KingSide => "O-O",
@@ -97,7 +97,7 @@ fn castling_sign(wing: Wing) -> &'static str
 fn push_file(file: Option<u8>, out: &mut ArrayString<8>)
     requires below { IsBelowEight file }
     requires room { array_string_len out.old < 8 }
-    ensures { out.new.bytes ≡ out.old.bytes ++ file_text file }
+    ensures { out.new.bytes ≡ out.old.bytes ++ file_letter file }
 {
     if let Some(file) = file {
         out.push((b'a' + file) as char);
@@ -108,7 +108,7 @@ fn push_file(file: Option<u8>, out: &mut ArrayString<8>)
 fn push_rank(rank: Option<u8>, out: &mut ArrayString<8>)
     requires below { IsBelowEight rank }
     requires room { array_string_len out.old < 8 }
-    ensures { out.new.bytes ≡ out.old.bytes ++ rank_text rank }
+    ensures { out.new.bytes ≡ out.old.bytes ++ rank_digit rank }
 {
     if let Some(rank) = rank {
         out.push((b'1' + rank) as char);
@@ -136,7 +136,7 @@ fn push_origin(man: &ManTold, out: &mut ArrayString<8>)
     requires file { IsBelowEight man.now.file }
     requires rank { IsBelowEight man.now.rank }
     requires empty { array_string_len out.old ≡ 0 }
-    ensures text { out.new.bytes ≡ kind_text man.now.kind ++ file_text man.now.file ++ rank_text man.now.rank }
+    ensures text { out.new.bytes ≡ kind_text man.now.kind ++ file_letter man.now.file ++ rank_digit man.now.rank }
 {
     out.push_str(kind_letter(man.kind));
     push_file(man.file, out);
@@ -159,7 +159,7 @@ fn push_man(man: &ManTold, out: &mut ArrayString<8>)
 
 /// Writes what is told.
 fn push_told(told: &Told, out: &mut ArrayString<8>)
-    requires told { IsShort told.now }
+    requires told { IsWithinSeven told.now }
     requires empty { array_string_len out.old ≡ 0 }
     ensures text { out.new.bytes ≡ told_text told.now }
     ensures len { array_string_len out.new ≤ 7 }
@@ -171,9 +171,9 @@ fn push_told(told: &Told, out: &mut ArrayString<8>)
 }
 
 /// The mark behind the text: `#` for checkmate, `+` for another check.
-#[tactic(auto, unfolding(crate::specs::Written::mark_of))]
+#[tactic(auto, unfolding(crate::specs::Written::check_mark))]
 fn mark(after: &Position) -> &'static str
-    ensures mark { result.now ≡ mark_of after.now }
+    ensures mark { result.now ≡ check_mark after.now }
     ensures len { length result.now ≤ 1 }
 {
     if !after.in_check() {

@@ -1,5 +1,20 @@
 -- `pgn --tables DIR [--manifest FILE] [--delay N] [--json] [--differ] [FILE]`: what tables say of the games of a PGN file (this project's own).
-use Rattle.std.specs.Prelude.{◌≡◌, Bool, true, false, List, [], ◌∷◌, Option, Some, None, codes, option_map}
+use Rattle.std.specs.Prelude.{◌≡◌, ℕ, Bool, true, false, List, [], ◌∷◌, Option, Some, None, IfSome, Result, Ok, Err, codes, option_map}
+use Rattle.judge_core.specs.Tables.{Tables}
+use Rattle.line_teller.specs.ToldLines.{refused_files, refused_memory}
+use Rattle.pgn_games.specs.Tokens.{tokens_of}
+use Rattle.pgn_teller.specs.declared.sums.Sums.{Sums}
+use Rattle.pgn_teller.specs.declared.telling.Telling.TheVariants.{CutShort, Whole}
+use Rattle.pgn_teller.specs.Tellings.{CutsGames, CutsSums, TellsGames, TellsSums, Terms, no_sums}
+use Rattle.system_io.specs.declared.output.WriteFault.{WriteFault}
+use Rattle.system_io.specs.declared.reading.ReadFault.{ReadFault}
+use Rattle.system_io.specs.declared.reading.ReadFault.TheVariants as read
+use Rattle.system_io.specs.Disks.{AtFile, DiskFacts}
+use Rattle.system_io.specs.Inputs.{InputFacts}
+use Rattle.task_files.specs.Given.{Given}
+use Rattle.adjudicate_core.specs.Looks.{gathered}
+use Rattle.adjudicate_core.specs.Reply.{status_if}
+use Rattle.adjudicate_core.specs.Telling.{TellsOne}
 use Rattle.clap.specs.Words.{Rule, Text}
 use Rattle.pgn_teller.specs.declared.game_line.Form.{Form}
 use Rattle.pgn_teller.specs.declared.game_line.Form.TheVariants.{Words, Json}
@@ -38,3 +53,45 @@ named t = record { folder = Some t.tables.now; manifest = option_map (λ s. s.no
 abbrev pub form_by : Bool → Form
 form_by true = Json
 form_by false = Words
+
+-- by what its games are told
+abbrev pub terms_by : JudgePgn → Tables → Terms
+terms_by t tables = record { tables = tables; delay = t.delay; form = form_by t.json; only_differing = t.differ }
+
+-- why a file isn't read
+abbrev pub unread : ReadFault → List ℕ
+unread read.Unreadable = refused_files
+unread read.OutOfMemory = refused_memory
+
+-- Of bytes, where they are known, the games were told and then the sums; or the games until no more could be read or told; or the writer failed
+-- at a game, or at the sums.
+pub data PutsGames (terms : Terms) (s : Sums) (bytes old new : Option (List ℕ)) (r : Result ℕ WriteFault) : Type 0 where
+  PutsAll : (now : Sums) (mid : Option (List ℕ)) (well : Bool) → IfSome bytes (λ known. TellsGames terms s (tokens_of known) now old mid Whole) → TellsSums terms.form now mid new well → r ≡ Ok (status_if well) → PutsGames terms s bytes old new r
+  PutsSome : (now : Sums) → IfSome bytes (λ known. TellsGames terms s (tokens_of known) now old new CutShort) → r ≡ Ok 1 → PutsGames terms s bytes old new r
+  FailsAtGame : (fault : WriteFault) → IfSome bytes (λ known. CutsGames terms s (tokens_of known) old new) → r ≡ Err fault → PutsGames terms s bytes old new r
+  FailsAtSums : (now : Sums) (mid : Option (List ℕ)) (fault : WriteFault) → IfSome bytes (λ known. TellsGames terms s (tokens_of known) now old mid Whole) → CutsSums terms.form now mid new → r ≡ Err fault → PutsGames terms s bytes old new r
+
+-- so it is of the bytes of a file; or it can't be read; or memory for reading it was refused, or no descriptor was left
+pub data PutsFile (terms : Terms) (s : Sums) (disk : DiskFacts) (path : List ℕ) (old new : Option (List ℕ)) (r : Result ℕ WriteFault) : Type 0 where
+  OfFile : (bytes : Option (List ℕ)) → IfSome bytes (disk.holds path) → PutsGames terms s bytes old new r → PutsFile terms s disk path old new r
+  OfNone : disk.fails (AtFile path) → TellsOne refused_files old new r → PutsFile terms s disk path old new r
+  NoRoomForFile : TellsOne refused_memory old new r → PutsFile terms s disk path old new r
+
+-- so it is of the bytes of the input; or memory for reading it was refused
+pub data PutsInput (terms : Terms) (s : Sums) (source : InputFacts) (old new : Option (List ℕ)) (r : Result ℕ WriteFault) : Type 0 where
+  OfInput : (bytes : Option (List ℕ)) → IfSome bytes source.gives → PutsGames terms s bytes old new r → PutsInput terms s source old new r
+  NoRoomForInput : source.takes_memory → TellsOne refused_memory old new r → PutsInput terms s source old new r
+
+-- the games of the file that is named, or else of the input
+abbrev pub PutsFrom : DiskFacts → InputFacts → Terms → Option (List ℕ) → Option (List ℕ) → Option (List ℕ) → Result ℕ WriteFault → Type 0
+PutsFrom disk source terms None old new r = PutsInput terms no_sums source old new r
+PutsFrom disk source terms (Some path) old new r = PutsFile terms no_sums disk path old new r
+
+abbrev pub PutsOf : DiskFacts → InputFacts → JudgePgn → Tables → Option (List ℕ) → Option (List ℕ) → Result ℕ WriteFault → Type 0
+PutsOf disk source t tables old new r = PutsFrom disk source (terms_by t tables) (option_map (λ s. s.now) t.file) old new r
+
+-- the refusal of the tables; or the games by them; or memory for the tables was refused
+pub data Puts (disk : DiskFacts) (source : InputFacts) (t : JudgePgn) (given : Given) (old new : Option (List ℕ)) (r : Result ℕ WriteFault) : Type 0 where
+  BadTables : (words : List ℕ) → gathered given ≡ Err words → TellsOne words old new r → Puts disk source t given old new r
+  ByTables : (tables : Tables) → gathered given ≡ Ok tables → PutsOf disk source t tables old new r → Puts disk source t given old new r
+  NoRoom : TellsOne refused_memory old new r → Puts disk source t given old new r

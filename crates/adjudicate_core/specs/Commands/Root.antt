@@ -1,6 +1,6 @@
 -- `root --tables DIR [--manifest FILE] [--json] [--determined] [FEN]`: what tables tell of the legal moves of a position, or of the positions of the input
 -- (this project's own).
-use Rattle.std.specs.Prelude.{◌≡◌, ◌++◌, ◌&&◌, ◌==◌, ℕ, Bool, true, false, List, [], ◌∷◌, map, Option, Some, None, Result, codes, option_map}
+use Rattle.std.specs.Prelude.{◌≡◌, ◌⊎◌, ◌++◌, ◌&&◌, ◌==◌, ℕ, Bool, true, false, List, [], ◌∷◌, map, Option, Some, None, Result, codes, option_map}
 use Rattle.std.specs.Borrow.{Bor}
 use Rattle.std.specs.List.{list_all}
 use Rattle.system_io.specs.Inputs.{InputFacts}
@@ -9,7 +9,7 @@ use Rattle.board_core.specs.declared.parts.Parts.{Parts}
 use Rattle.judge_core.specs.declared.probe_result.ProbeResult.{ProbeResult}
 use Rattle.judge_core.specs.declared.root_move.RootMove.{RootMove}
 use Rattle.judge_core.specs.ProbeResult.{has_both}
-use Rattle.judge_core.specs.Ruling.{ruling}
+use Rattle.judge_core.specs.Ruling.{is_out_of_scope, ruling}
 use Rattle.judge_core.specs.Tables.{Tables}
 use Rattle.judge_core.specs.Words.{columns_words}
 use Rattle.move_msg.specs.TextLines.{text_of}
@@ -25,8 +25,7 @@ use Rattle.adjudicate_core.specs.Looks.{gathered}
 use Rattle.adjudicate_core.specs.Numbers.{is_set}
 use Rattle.adjudicate_core.specs.Reply.{AnswersOnce, ByTables, IsForText, IsText, Reply, status_if}
 use Rattle.adjudicate_core.specs.TableAnswers.{PutsByTables}
-use Rattle.judge_core.specs.Ask.{IsAnswered}
-use Rattle.json_lines.specs.Told.{AreRootMoves}
+use Rattle.judge_core.specs.Ask.{IsAnswered, IsRanked}
 use Rattle.judge_core.specs.declared.ask.Ask.{Ask}
 use Rattle.line_teller.specs.ToldLines.{LineTold}
 use Rattle.adjudicate_core.specs.declared.commands.root.Root.{Root}
@@ -60,6 +59,10 @@ root_reply moves probed columns = record {
   text = text_of (map root_words moves ++ columns ∷ []);
   status = status_if (has_both probed && list_all (λ m. has_both (probed_of m)) moves);
 }
+
+-- the legal moves by value, none where the position is out of scope
+abbrev pub AreRootMoves : Ask → Tables → Parts → List RootMove → Type 0
+AreRootMoves ask tables p moves = ((is_out_of_scope p ≡ true) × (moves ≡ [])) ⊎ ((is_out_of_scope p ≡ false) × IsRanked ask tables p moves)
 
 abbrev pub IsRootReply : Ask → Tables → Parts → Reply → Type 0
 IsRootReply ask tables p r =

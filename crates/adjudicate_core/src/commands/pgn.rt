@@ -3,8 +3,10 @@
 ghost use Rattle.std.specs.Prelude.{◌≡◌, IfErr, IfOk, OnErr};
 ghost use Rattle.clap.specs.Words.{first_value, found_of};
 ghost use Rattle.line_teller.specs.ToldLines.{HasFailed};
+ghost use Rattle.pgn_teller.specs.Tellings.{no_sums, terms_of};
 ghost use Rattle.task_files.specs.Sources.{named_by};
-ghost use Rattle.adjudicate_core.specs.Commands.Pgn.{HasValues, faults, form_by, named};
+ghost use Rattle.adjudicate_core.specs.Commands.Pgn.{HasValues, Puts, PutsFile, PutsGames, PutsInput, PutsOf, faults, form_by, named, terms_by, unread};
+ghost use Rattle.adjudicate_core.specs.Lines.{refusal_words};
 ghost use Rattle.adjudicate_core.specs.Misuses.{IsFirstMisuse, fault_words};
 
 use super::{Form, Value};
@@ -17,7 +19,6 @@ use crate::words::usage::ValueFault;
 use crate::words::values::{delay_in, option_in};
 use board_core::Delay;
 use clap::ArgMatches;
-use fen_text::read;
 use judge_core::Set;
 use pgn_games::PgnReader;
 use pgn_teller::{Form as LineForm, GameTeller, Sums, Telling};
@@ -71,7 +72,9 @@ pub(crate) const VALUES: [Value; 6] = [
 ];
 
 /// How lines are written.
-fn form_by(json: bool) -> LineForm {
+fn form_by(json: bool) -> LineForm
+    ensures { result ≡ form_by json }
+{
     if json {
         LineForm::Json
     } else {
@@ -79,25 +82,31 @@ fn form_by(json: bool) -> LineForm {
     }
 }
 
-/// Tells the games of an input, and their sums.
+/// Tells the games of lines that are read as they come, and then the sums. Returns the status.
 fn tell_games<L: LineReader + Drop, W: Output>(
     alloc: Global,
     teller: &mut GameTeller<'_>,
     lines: L,
     out: &mut W,
-) -> Result<u8, WriteFault> {
-    let Ok(usual) = read(b"rnbqkbnr/pppppppp/8/8/8/8/PPPPPPPP/RNBQKBNR w KQkq - 0 1") else {
-        unreachable!();
-    };
-    let mut reader = PgnReader::new(alloc, lines, usual);
-    match teller.tell_games(&mut reader, out)? {
-        Telling::Whole => Ok(status_if(teller.tell_sums(out)?)),
-        Telling::CutShort => Ok(1),
+) -> Result<u8, WriteFault>
+    ensures told { PutsGames (terms_of teller.old) teller.old.sums (L.LineReader.facts lines).left (W.contents out.old) (W.contents out.new) result }
+    ensures cause { OnErr result (HasFailed W.facts) }
+{
+    let mut reader = PgnReader::new(alloc, lines);
+    match teller.tell_games(&mut reader, out) {
+        Ok(Telling::Whole) => match teller.tell_sums(out) {
+            Ok(well) => Ok(status_if(well)),
+            Err(fault) => Err(fault),
+        },
+        Ok(Telling::CutShort) => Ok(1),
+        Err(fault) => Err(fault),
     }
 }
 
-/// Why an input isn't read.
-fn unread(fault: ReadFault) -> Refusal {
+/// Why a file isn't read.
+fn unread(fault: ReadFault) -> Refusal
+    ensures { refusal_words result ≡ unread fault }
+{
     match fault {
         ReadFault::Unreadable => Refusal::Files,
         ReadFault::OutOfMemory => Refusal::Memory,
@@ -133,6 +142,54 @@ impl<'a> JudgePgn<'a> {
         }
     }
 
+    /// By these tables, with no game told yet.
+    fn teller<'s>(&self, alloc: Global, set: Set<'s>) -> GameTeller<'s>
+        ensures terms { terms_of result ≡ terms_by self.now set.entry.tables }
+        ensures sums { result.sums ≡ no_sums }
+    {
+        GameTeller {
+            alloc,
+            set,
+            delay: self.delay,
+            form: form_by(self.json),
+            only_differing: self.differ,
+            sums: Sums::none(),
+        }
+    }
+
+    /// Tells the games of the file at a path.
+    fn tell_file<D: LineDisk, W: Output>(
+        alloc: Global,
+        teller: &mut GameTeller<'_>,
+        disk: &D,
+        path: &str,
+        out: &mut W,
+    ) -> Result<u8, WriteFault>
+        ensures told { PutsFile (terms_of teller.old) teller.old.sums (D.facts disk.now) path.now (W.contents out.old) (W.contents out.new) result }
+        ensures cause { OnErr result (HasFailed W.facts) }
+    {
+        match disk.lines(alloc, path) {
+            Ok(lines) => tell_games(alloc, teller, lines, out),
+            Err(fault) => put_refusal(out, unread(fault)),
+        }
+    }
+
+    /// Tells the games of the input.
+    fn tell_input<I: Input, W: Output>(
+        alloc: Global,
+        teller: &mut GameTeller<'_>,
+        input: &I,
+        out: &mut W,
+    ) -> Result<u8, WriteFault>
+        ensures told { PutsInput (terms_of teller.old) teller.old.sums (I.facts input.now) (W.contents out.old) (W.contents out.new) result }
+        ensures cause { OnErr result (HasFailed W.facts) }
+    {
+        match input.lines(alloc) {
+            Ok(lines) => tell_games(alloc, teller, lines, out),
+            Err(_) => put_refusal(out, Refusal::Memory),
+        }
+    }
+
     /// Tells the games of the file, or of the input, by these tables.
     fn tell<D: LineDisk, I: Input, W: Output>(
         &self,
@@ -141,28 +198,24 @@ impl<'a> JudgePgn<'a> {
         disk: &D,
         input: &I,
         out: &mut W,
-    ) -> Result<u8, WriteFault> {
-        let mut teller = GameTeller {
-            alloc,
-            set,
-            delay: self.delay,
-            form: form_by(self.json),
-            only_differing: self.differ,
-            sums: Sums::none(),
-        };
+    ) -> Result<u8, WriteFault>
+        ensures told { PutsOf (D.facts disk.now) (I.facts input.now) self.now set.entry.tables (W.contents out.old) (W.contents out.new) result }
+        ensures cause { OnErr result (HasFailed W.facts) }
+    {
+        let mut teller = self.teller(alloc, set);
         match self.file {
-            Some(path) => match disk.lines(alloc, path) {
-                Ok(lines) => tell_games(alloc, &mut teller, lines, out),
-                Err(fault) => put_refusal(out, unread(fault)),
-            },
-            None => match input.lines(alloc) {
-                Ok(lines) => tell_games(alloc, &mut teller, lines, out),
-                Err(_) => put_refusal(out, Refusal::Memory),
-            },
+            Some(path) => JudgePgn::tell_file(alloc, &mut teller, disk, path, out),
+            None => JudgePgn::tell_input(alloc, &mut teller, input, out),
         }
     }
 
-    /// Tells the games of the file, or of the input, by the tables of files, or the refusal of the tables.
+    /// Writes a line for each game of the file, or of the input, as it is read, and last the sums; or the refusal of the tables. Returns the
+    /// status, 0 where no game was at fault, else 1.
+    ///
+    /// A game's line is its number, its plies, the ply of its first verdict or `-`, the verdict or `open`, the result that stands in the
+    /// file, and `agree`, `differ` or `-`; with `--json` an object (RFC 8259). A game at fault is told by its line and its plies, and the
+    /// next one goes on. With `--differ` only the lines of games are written that differ. Memory is that of one game. Where it is refused,
+    /// `refused memory` is the last line, and where the file or the input can't be read on, `refused files`.
     pub(crate) fn answer<D: LineDisk, I: Input, W: Output>(
         &self,
         alloc: Global,
@@ -170,7 +223,10 @@ impl<'a> JudgePgn<'a> {
         disk: &D,
         input: &I,
         out: &mut W,
-    ) -> Result<u8, WriteFault> {
+    ) -> Result<u8, WriteFault>
+        ensures told { Puts (D.facts disk.now) (I.facts input.now) self.now sources.now (W.contents out.old) (W.contents out.new) result }
+        ensures cause { OnErr result (HasFailed W.facts) }
+    {
         match gather(alloc, sources, CacheSize::usual()) {
             Ok(Ok(set)) => self.tell(alloc, set, disk, input, out),
             Ok(Err(refusal)) => put_refusal(out, refusal),

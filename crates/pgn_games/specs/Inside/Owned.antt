@@ -1,32 +1,10 @@
 -- What values that own memory show. Only private contracts cite these words.
-use Rattle.std.specs.Prelude.{◌≡◌, ℕ, List, Option, Some, None, option_map, Result, Ok, Err, MatchOption}
-use Rattle.pgn_games.specs.declared.tags.Tags.{Tags}
-use Rattle.pgn_games.specs.declared.game.Game.{Game}
-use Rattle.pgn_games.specs.declared.game.Reading.{Reading}
-use Rattle.pgn_games.specs.declared.game.Reading.TheVariants as reading
+use Rattle.std.specs.Prelude.{◌≡◌, ℕ, List, Option, Some, None, Result, Ok, Err, MatchOption}
 use Rattle.pgn_games.specs.declared.course.Course.{Course as ReadCourse}
 use Rattle.pgn_games.specs.declared.fault.Cause.{Cause}
-use Rattle.pgn_games.specs.Tags.{TagTexts}
+use Rattle.pgn_games.specs.Shown.{texts_of}
 use Rattle.pgn_games.specs.Lexemes.{Telling}
-use Rattle.pgn_games.specs.Games.{Course, GameTold, ReadingTold, GameRead, FaultRead, Takes, taken}
-
-abbrev pub texts_of : Tags → TagTexts
-texts_of tags = record {
-  event = option_map (λ v. v.items) tags.event;
-  white = option_map (λ v. v.items) tags.white;
-  black = option_map (λ v. v.items) tags.black;
-  round = option_map (λ v. v.items) tags.round;
-  result = option_map (λ v. v.items) tags.result;
-  fen = option_map (λ v. v.items) tags.fen;
-}
-
--- what a game tells
-abbrev pub game_of : Game → GameTold
-game_of game = record { line = game.line; tags = texts_of game.tags; start = game.start; moves = game.moves.items; result = game.result }
-
-abbrev pub reading_of : Reading → ReadingTold
-reading_of (reading.Game game) = GameRead (game_of game)
-reading_of (reading.Fault fault) = FaultRead fault
+use Rattle.pgn_games.specs.Games.{Course, Takes, taken}
 
 -- what the tokens of a game tell so far
 abbrev pub course_of : ReadCourse → Course

@@ -26,44 +26,44 @@ abbrev pub kind_or_pawn : Option Kind → Kind
 kind_or_pawn None = Pawn
 kind_or_pawn (Some kind) = kind
 
-abbrev pub kind_at : List ℕ → Kind
-kind_at [] = Pawn
-kind_at (c ∷ cs) = kind_or_pawn (kind_by c)
+abbrev pub kind_in_front : List ℕ → Kind
+kind_in_front [] = Pawn
+kind_in_front (c ∷ cs) = kind_or_pawn (kind_by c)
 
 abbrev pub past_kind : List ℕ → List ℕ
 past_kind [] = []
 past_kind (c ∷ cs) = if is_some (kind_by c) then cs else c ∷ cs
 
 -- a file or a rank at the front, and the text behind it
-abbrev pub file_at : List ℕ → Option ℕ
-file_at [] = None
-file_at (c ∷ cs) = if is_file c then Some (c - 97) else None
+abbrev pub file_in_front : List ℕ → Option ℕ
+file_in_front [] = None
+file_in_front (c ∷ cs) = if is_file c then Some (c - 97) else None
 
 abbrev pub past_file : List ℕ → List ℕ
 past_file [] = []
 past_file (c ∷ cs) = if is_file c then cs else c ∷ cs
 
-abbrev pub rank_at : List ℕ → Option ℕ
-rank_at [] = None
-rank_at (c ∷ cs) = if is_rank c then Some (c - 49) else None
+abbrev pub rank_in_front : List ℕ → Option ℕ
+rank_in_front [] = None
+rank_in_front (c ∷ cs) = if is_rank c then Some (c - 49) else None
 
 abbrev pub past_rank : List ℕ → List ℕ
 past_rank [] = []
 past_rank (c ∷ cs) = if is_rank c then cs else c ∷ cs
 
 -- x, or a dash where one may stand
-abbrev pub takes_at : List ℕ → Bool
-takes_at [] = false
-takes_at (c ∷ cs) = c == 120
+abbrev pub takes_in_front : List ℕ → Bool
+takes_in_front [] = false
+takes_in_front (c ∷ cs) = c == 120
 
 abbrev pub past_between : Bool → List ℕ → List ℕ
 past_between whole [] = []
 past_between whole (c ∷ cs) = if (c == 120) || (whole && (c == 45)) then cs else c ∷ cs
 
-abbrev pub square_at : List ℕ → Option ℕ
-square_at [] = None
-square_at (c ∷ []) = None
-square_at (c ∷ d ∷ cs) = if is_file c && is_rank d then Some (8 * (d - 49) + (c - 97)) else None
+abbrev pub square_in_front : List ℕ → Option ℕ
+square_in_front [] = None
+square_in_front (c ∷ []) = None
+square_in_front (c ∷ d ∷ cs) = if is_file c && is_rank d then Some (8 * (d - 49) + (c - 97)) else None
 
 abbrev pub past_two : List ℕ → List ℕ
 past_two [] = []
@@ -81,27 +81,27 @@ past_equals [] = []
 past_equals (c ∷ []) = c ∷ []
 past_equals (c ∷ d ∷ cs) = if (c == 61) && is_some (promotion_by d) then d ∷ cs else c ∷ d ∷ cs
 
-abbrev pub letter_at : List ℕ → Option Promotion
-letter_at [] = None
-letter_at (c ∷ cs) = promotion_by c
+abbrev pub letter_in_front : List ℕ → Option Promotion
+letter_in_front [] = None
+letter_in_front (c ∷ cs) = promotion_by c
 
-abbrev pub past_letter : List ℕ → List ℕ
-past_letter [] = []
-past_letter (c ∷ cs) = if is_some (promotion_by c) then cs else c ∷ cs
+abbrev pub past_promotion_letter : List ℕ → List ℕ
+past_promotion_letter [] = []
+past_promotion_letter (c ∷ cs) = if is_some (promotion_by c) then cs else c ∷ cs
 
-abbrev pub promotion_at : List ℕ → Option Promotion
-promotion_at t = letter_at (past_equals t)
+abbrev pub promotion_in_front : List ℕ → Option Promotion
+promotion_in_front t = letter_in_front (past_equals t)
 
 abbrev pub past_promotion : List ℕ → List ℕ
-past_promotion t = past_letter (past_equals t)
+past_promotion t = past_promotion_letter (past_equals t)
 
 -- e.p.
-abbrev pub passes_at : List ℕ → Bool
-passes_at [] = false
-passes_at (a ∷ []) = false
-passes_at (a ∷ b ∷ []) = false
-passes_at (a ∷ b ∷ c ∷ []) = false
-passes_at (a ∷ b ∷ c ∷ d ∷ cs) = (a == 101) && (b == 46) && (c == 112) && (d == 46)
+abbrev pub passes_in_front : List ℕ → Bool
+passes_in_front [] = false
+passes_in_front (a ∷ []) = false
+passes_in_front (a ∷ b ∷ []) = false
+passes_in_front (a ∷ b ∷ c ∷ []) = false
+passes_in_front (a ∷ b ∷ c ∷ d ∷ cs) = (a == 101) && (b == 46) && (c == 112) && (d == 46)
 
 abbrev pub past_passing : List ℕ → List ℕ
 past_passing [] = []
@@ -160,7 +160,7 @@ castling_by sign t =
 abbrev pub with_tail : ManTold → List ℕ → Option Told
 with_tail man t =
     if are_marks (past_passing (past_promotion t))
-    then Some (Goes (record man { promotion = promotion_at t; en_passant = passes_at (past_promotion t) }))
+    then Some (Goes (record man { promotion = promotion_in_front t; en_passant = passes_in_front (past_promotion t) }))
     else None
 
 abbrev pub whole_square : Option ℕ → Option ℕ → Bool
@@ -178,18 +178,18 @@ square_alone kind (Some file) (Some rank) t = with_tail (man_at_square kind None
 -- the text from the sign between on, then the text behind it
 abbrev pub after_between : Kind → Option ℕ → Option ℕ → List ℕ → Option ℕ → List ℕ → Option Told
 after_between kind file rank t None after = square_alone kind file rank t
-after_between kind file rank t (Some to) after = with_tail (man_at_square kind file rank (takes_at t) to) (past_two after)
+after_between kind file rank t (Some to) after = with_tail (man_at_square kind file rank (takes_in_front t) to) (past_two after)
 
 abbrev pub after_origin : Kind → Option ℕ → Option ℕ → List ℕ → Option Told
 after_origin kind file rank t =
-    after_between kind file rank t (square_at (past_between (whole_square file rank) t)) (past_between (whole_square file rank) t)
+    after_between kind file rank t (square_in_front (past_between (whole_square file rank) t)) (past_between (whole_square file rank) t)
 
 abbrev pub after_kind : Kind → List ℕ → Option Told
-after_kind kind t = after_origin kind (file_at t) (rank_at (past_file t)) (past_rank (past_file t))
+after_kind kind t = after_origin kind (file_in_front t) (rank_in_front (past_file t)) (past_rank (past_file t))
 
 -- what a text tells
-unfoldable pub told_of : List ℕ → Option Told
-told_of t =
+unfoldable pub told_by_text : List ℕ → Option Told
+told_by_text t =
     if is_short 79 t then castling_by 79 t
     else (if is_short 48 t then castling_by 48 t
-    else after_kind (kind_at t) (past_kind t))
+    else after_kind (kind_in_front t) (past_kind t))

@@ -32,6 +32,9 @@ returns-in-Game g c = record { answered = rw c.in-Game.is (once c.answer-in-Game
 pub returns-in-Games : goal.returns-in-Games
 returns-in-Games g c = record { answered = rw c.in-Games.is c.answer-in-Games.ensures.written; quiet = λ unasked. inl (c.answer-in-Games.ensures.quiet (ap tells_progress (sym c.in-Games.is) ∙ unasked)); made = makes_nothing _ _; cause = c.answer-in-Games.ensures.cause }
 
+pub returns-in-Pgn : goal.returns-in-Pgn
+returns-in-Pgn g c = record { answered = rw c.in-Pgn.is c.answer-in-Pgn.ensures.told; quiet = λ unasked. inl refl; made = makes_nothing _ _; cause = c.answer-in-Pgn.ensures.cause }
+
 pub returns-in-List : goal.returns-in-List
 returns-in-List g c = record { answered = rw c.in-List.is (after_reading c.answer-in-List.result _ _ c.answer-in-List.ensures.ok c.answer-in-List.ensures.cause c.put_read.result _ _ c.put_read.ensures.told); quiet = λ unasked. inl (c.answer-in-List.ensures.quiet (ap tells_progress (sym c.in-List.is) ∙ unasked)); made = makes_nothing _ _; cause = c.put_read.ensures.cause }
 

@@ -1,21 +1,12 @@
-use Rattle.std.proofs.Common.{◌∙◌, ap, refl, subst, true}
-use Rattle.std.specs.Prelude.{OnOk}
-use Rattle.json.specs.Json.{boolean, no_members, string}
-use Rattle.json_lines.specs.Inside.Members.{Writes, open_tokens}
-use Rattle.json_lines.specs.Objects.{error_members, followed_by}
-use Rattle.json_lines.proofs.Whole.{one_same}
+use Rattle.std.specs.Prelude.{codes}
+use Rattle.std.proofs.lemmas.Result.{on_ok_weaker}
+use Rattle.json.specs.Json.{string}
+use Rattle.json_lines.specs.Objects.{error_members, followed_by, standing_members, value_members}
+use Rattle.json_lines.proofs.Whole.{around_written}
 use Rattle.json_lines.proofs.writing.put_after.Goals as goal
 
 pub returns : goal.returns
 returns g c =
-    let same =
-        one_same _ _ _ _ _ c.member.ensures (ap string (c.as_str.ensures.value ∙ c.write-fen.ensures.text))
-        (one_same _ _ _ _ _ c.member-2.ensures c.number_or_null.ensures
-        (one_same _ _ _ _ _ c.member-3.ensures c.number_or_null-2.ensures
-        (one_same _ _ _ _ _ c.member-4.ensures (ap string c.category_of.ensures)
-        (one_same _ _ _ _ _ c.member-5.ensures (ap boolean c.zeroes_clock.ensures)
-        (one_same _ _ _ _ _ c.member-6.ensures (ap boolean c.is_checkmate.ensures)
-        (one_same _ _ _ _ _ c.member-7.ensures (ap boolean c.is_stalemate.ensures)
-        (one_same _ _ _ _ _ c.member-8.ensures (ap boolean c.in_check.ensures.computed)
-        (one_same _ _ _ no_members no_members c.member-9.ensures (ap boolean c.has_insufficient_material.ensures) refl)))))))) in
-    subst (λ ms. OnOk c.put_told.result (Writes true (open_tokens (followed_by ms (error_members c.args.told.now.probed))) (g.W.Write.contents c.args.out.now) (g.W.Write.contents c.put_told.new.out))) same c.put_told.ensures
+    on_ok_weaker c.put_standing.result
+    (λ h. around_written (value_members c.args.told.now) (codes "san") (string c.args.told.now.san.bytes) (followed_by (standing_members c.args.told.now) (error_members c.args.told.now.probed)) _ _ _ _ tt c.in_ok-put_values.ensures c.in_ok-put_san.ensures h)
+    c.put_standing.ensures

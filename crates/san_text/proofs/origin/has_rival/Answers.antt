@@ -1,6 +1,6 @@
 use Rattle.std.proofs.Common.{arith, sym, ◌∙◌}
 use Rattle.board_core.proofs.Sweep.{Rests-without, none_on}
-use Rattle.san_text.specs.Inside.Movers.{is_among}
+use Rattle.san_text.specs.Inside.Written.{is_among}
 use Rattle.san_text.proofs.Rivals.{RivalAmong, Decides-found, none_found}
 use Rattle.san_text.proofs.origin.has_rival.Goals as goal
 use Rattle.san_text.proofs.origin.has_rival.Goals.{else-is_among-via-then-is_among+else-is_rival, else-is_among-via-else-is_among}

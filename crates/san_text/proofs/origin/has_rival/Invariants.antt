@@ -1,6 +1,6 @@
 use Rattle.std.proofs.Common.{ℕ, ◌<◌, ◌-◌}
 use Rattle.board_core.proofs.Sweep.{Rests}
-use Rattle.san_text.specs.Inside.Movers.{is_among}
+use Rattle.san_text.specs.Inside.Written.{is_among}
 use Rattle.san_text.proofs.Rivals.{RivalAmong}
 use Rattle.san_text.proofs.origin.has_rival.Given as goal
 

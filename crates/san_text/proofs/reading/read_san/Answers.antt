@@ -1,12 +1,12 @@
 use Rattle.std.proofs.Common.{◌≡◌, None, Err, sym, ap, ◌∙◌}
 use Rattle.san_text.specs.declared.fault.SanFault.{SanFault}
-use Rattle.san_text.specs.Inside.Scan.{told_of}
+use Rattle.san_text.specs.Inside.Scan.{told_by_text}
 use Rattle.san_text.proofs.SpellingLaws.{read_spelled}
 use Rattle.san_text.proofs.Answered.{Answered, bad_text, bad_fault, ok_clause, err_clause, only_clause, only_fault_clause, written_reads}
 use Rattle.san_text.proofs.reading.read_san.Goals as goal
 
-nothing : (c : goal.In_default) → told_of c.args.text.now ≡ None
-nothing c = sym c.told_of.ensures ∙ c.in_default.is
+nothing : (c : goal.In_default) → told_by_text c.args.text.now ≡ None
+nothing c = sym c.told_by_text.ensures ∙ c.in_default.is
 
 pub returns-in_default-clause-err : goal.returns-in_default-clause-err
 returns-in_default-clause-err c = bad_text c.args.text.now (nothing c)
@@ -23,7 +23,7 @@ returns-in_default-clause-written c = λ m l e.
 
 answered : (c : goal.After-meant) → Answered c.args.position.now c.args.text.now c.in-Some.told c.meant.result
 answered c = record {
-  spells = read_spelled c.args.text.now c.in-Some.told (sym c.told_of.ensures ∙ c.in-Some.is);
+  spells = read_spelled c.args.text.now c.in-Some.told (sym c.told_by_text.ensures ∙ c.in-Some.is);
   ok = c.meant.ensures.ok;
   only = c.meant.ensures.only;
   err = c.meant.ensures.err;

@@ -33,6 +33,9 @@ returns-in-Game c = rw c.in-Game.is c.places-in-Game.ensures
 pub returns-in-Games : goal.returns-in-Games
 returns-in-Games c = rw c.in-Games.is c.places-in-Games.ensures
 
+pub returns-in-Pgn : goal.returns-in-Pgn
+returns-in-Pgn c = rw c.in-Pgn.is c.places-in-Pgn.ensures
+
 pub returns-in-Record : goal.returns-in-Record
 returns-in-Record c = rw c.in-Record.is c.places-in-Record.ensures
 

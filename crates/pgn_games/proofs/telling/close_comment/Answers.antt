@@ -1,0 +1,43 @@
+use Rattle.std.proofs.Common.{◌≡◌, ◌≤◌, ◌∙◌, ◌++◌, Bool, Global, List, Vec, ℕ, false, true, ap, arith, length, refl, sym, subst, vec_len}
+use Rattle.pgn_games.specs.declared.cursor.Cursor.{Cursor}
+use Rattle.pgn_games.specs.declared.lines.Taken.{Taken}
+use Rattle.pgn_games.specs.Lines.{read_text}
+use Rattle.pgn_games.specs.Tokens.{Token}
+use Rattle.pgn_games.specs.Reading.{IfKnown, tokens_with}
+use Rattle.pgn_games.specs.Inside.Lines.{OneLine}
+use Rattle.pgn_games.specs.Inside.Steps.{StandsAt, TakesText, comment_left, rest_with}
+use Rattle.pgn_games.proofs.ReadLaws.{comment_at_end, comment_line, comment_long_line, joined, known_map, known_then, not_closed}
+use Rattle.pgn_games.proofs.telling.close_comment.Goals as goal
+use Rattle.pgn_games.proofs.telling.close_comment.Goals.{in-LongLine, in-Line+else-close_comment}
+
+pub returns-in-Nothing-clause-closes : goal.returns-in-Nothing-clause-closes
+returns-in-Nothing-clause-closes g c =
+    let text = subst (λ (t : Taken). IfKnown (g.L.LineReader.facts c.loop.lines).left (g.L.LineReader.facts c.take_line.new.lines).left (TakesText c.loop.cursor c.take_line.new.cursor t)) c.in-Nothing.is c.in_ok-take_line.ensures.text in
+    λ from. known_then _ _ _ _ _ _ (λ x y z p q. p ∙ comment_at_end from c.loop.long c.loop.cursor c.take_line.new.cursor y z q) (c.loop.invariant.left from) text
+
+pub returns-then-close_comment-clause-closes : goal.returns-then-close_comment-clause-closes
+returns-then-close_comment-clause-closes g c =
+    let text = subst (λ (t : Taken). IfKnown (g.L.LineReader.facts c.loop.lines).left (g.L.LineReader.facts c.take_line.new.lines).left (TakesText c.loop.cursor c.take_line.new.cursor t)) c.in-Line.is c.in_ok-take_line.ensures.text in
+    λ from.
+    known_then _ _ _ _ _ _ (λ x y z p q. p ∙ comment_line from c.loop.long c.loop.cursor c.take_line.new.cursor y z q ∙ c.if-close_comment.ensures.closes from c.loop.long (read_text z) ∙ ap (λ (ts : List Token). ts ++ tokens_with c.close_comment.new.self (read_text z)) (sym (c.closed_with.ensures from))) (c.loop.invariant.left from) text
+
+pub loop-preserved : goal.loop-preserved
+loop-preserved g c =
+    let left = λ (from : ℕ) (cursor : Cursor) (long : Bool). IfKnown (g.L.LineReader.facts c.args.lines.now).left (g.L.LineReader.facts c.take_line.new.lines).left (λ x y. comment_left from false c.args.cursor.now.number (rest_with c.args.cursor.now (read_text x)) ≡ comment_left from long cursor.number (rest_with cursor (read_text y))) in
+    let text = λ (t : Taken). IfKnown (g.L.LineReader.facts c.loop.lines).left (g.L.LineReader.facts c.take_line.new.lines).left (TakesText c.loop.cursor c.take_line.new.cursor t) in
+    elim c.match-branch-2.branch [
+      in-LongLine w ↦ record {
+        left = λ from.
+        joined _ _ _ _ (left from) w.cursor-is w.long-is (known_then _ _ _ _ _ _ (λ x y z p q. p ∙ comment_long_line from c.loop.long c.loop.cursor c.take_line.new.cursor y z q) (c.loop.invariant.left from) (subst text w.in-LongLine.is c.in_ok-take_line.ensures.text));
+        past = subst (λ (x : Cursor). vec_len x.line ≤ x.place) (sym w.cursor-is) (omega (arith, subst (StandsAt c.take_line.new.cursor) w.in-LongLine.is c.in_ok-take_line.ensures.place, c.take_line.new.cursor.line.ok.0));
+        one = subst (λ (x : Cursor). OneLine x.line.items) (sym w.cursor-is) c.in_ok-take_line.ensures.one;
+        fails = λ h. c.loop.invariant.fails (c.in_ok-take_line.ensures.same h);
+      }
+    | in-Line+else-close_comment w ↦ record {
+        left = λ from.
+        joined _ _ _ _ (left from) w.cursor-is w.long-is (known_then _ _ _ _ _ _ (λ x y z p q. p ∙ comment_line from c.loop.long c.loop.cursor c.take_line.new.cursor y z q ∙ not_closed from c.loop.long c.take_line.new.cursor w.close_comment.new.self (read_text z) (omega (arith, w.close_comment.ensures.end w.if-close_comment.false, w.close_comment.new.self.line.ok.0)) (w.if-close_comment.ensures.closes from c.loop.long (read_text z))) (c.loop.invariant.left from) (subst text w.in-Line.is c.in_ok-take_line.ensures.text));
+        past = subst (λ (x : Cursor). vec_len x.line ≤ x.place) (sym w.cursor-is) (w.close_comment.ensures.end w.if-close_comment.false);
+        one = subst (λ (x : Cursor). OneLine x.line.items) (sym w.cursor-is) (subst (λ (v : Vec ℕ Global). OneLine v.items) (sym w.close_comment.ensures.line) c.in_ok-take_line.ensures.one);
+        fails = λ h. c.loop.invariant.fails (c.in_ok-take_line.ensures.same h);
+      }
+    ]

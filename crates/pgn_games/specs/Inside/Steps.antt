@@ -1,0 +1,112 @@
+-- How the code goes on over the text of a game. Only private contracts cite these words.
+use Rattle.std.specs.Prelude.{◌≡◌, ◌≤◌, ◌<◌, ◌==◌, ◌||◌, ◌++◌, ℕ, Bool, true, false, List, [], ◌∷◌, length, drop, Option, Some, None, MatchBool, if◌then◌else◌}
+use Rattle.pgn_games.specs.declared.cursor.Cursor.{Cursor}
+use Rattle.pgn_games.specs.declared.cursor.Next.{Next}
+use Rattle.pgn_games.specs.declared.cursor.Next.TheVariants.{GoesOn, Stops}
+use Rattle.pgn_games.specs.declared.cursor.Left.{Left}
+use Rattle.pgn_games.specs.declared.cursor.Left.TheVariants.{AtEnd, InComment, GameOver}
+use Rattle.pgn_games.specs.declared.telling.Closing.{Closing}
+use Rattle.pgn_games.specs.declared.telling.Closing.TheVariants.{Whole, WithLongLine, Never}
+use Rattle.pgn_games.specs.declared.lines.Taken.{Taken}
+use Rattle.pgn_games.specs.declared.lines.Taken.TheVariants.{Line, LongLine, Nothing}
+use Rattle.pgn_games.specs.Lines.{one_more, read_text, text_of_line}
+use Rattle.pgn_games.specs.declared.phase.Phase.{Phase}
+use Rattle.pgn_games.specs.declared.phase.Phase.TheVariants.{Tags, Moves, Over}
+use Rattle.pgn_games.specs.Lexemes.{Endless, TooLong}
+use Rattle.pgn_games.specs.Tokens.{Token, line_after, token, token_if, tokens_from}
+use Rattle.pgn_games.specs.Games.{Course, ReadingTold, Tells, behind_game, of_game}
+use Rattle.pgn_games.specs.Reading.{tokens_with}
+
+-- a text that begins with a line feed, or is empty
+abbrev pub BeginsLine : List ℕ → Type 0
+BeginsLine [] = Unit {0}
+BeginsLine (b ∷ t) = b ≡ 10
+
+-- a comment that began on a line and comes to a line that is too long, or not, tells this when it is closed
+abbrev pub closed : ℕ → Bool → List Token
+closed from long = token_if from (if long then Some TooLong else None)
+
+-- the tokens of a text within such a comment
+unfoldable pub comment_left : ℕ → Bool → ℕ → List ℕ → List Token
+comment_left from long line [] = token from Endless ∷ []
+comment_left from long line (b ∷ t) =
+    if b == 125 then closed from long ++ tokens_from 0 line false t else comment_left from (long || b == 256) (line_after line b) t
+
+-- a game isn't over
+abbrev pub IsOn : Phase → Type 0
+IsOn Tags = Unit {0}
+IsOn (Moves depth) = Unit {0}
+IsOn Over = ⊥
+
+-- what tokens tell of a game goes on with what others tell of it, and behind it stands the same
+pub record Continues (c : Course) (ts : List Token) (d : Course) (us : List Token) : Type 0 where
+  pub told : (x : Option ReadingTold) → Tells d (of_game d.phase us) x → Tells c (of_game c.phase ts) x
+  pub rest : behind_game d.phase us ≡ behind_game c.phase ts
+
+-- no token belongs to the game any more
+pub record IsOver (c : Course) (ts : List Token) : Type 0 where
+  pub none : of_game c.phase ts ≡ []
+  pub all : behind_game c.phase ts ≡ ts
+
+-- the rest of a line, and the text behind it
+abbrev pub rest_with : Cursor → List ℕ → List ℕ
+rest_with cursor more = drop cursor.place cursor.line.items ++ more
+
+-- the rest of the line closes a comment, or none of it does
+abbrev pub ClosesComment : Cursor → Cursor → Bool → Type 0
+ClosesComment old new result =
+    (from : ℕ) (long : Bool) (more : List ℕ) → MatchBool result (comment_left from long old.number (rest_with old more) ≡ closed from long ++ tokens_with new more) (comment_left from long old.number (rest_with old more) ≡ comment_left from long new.number more)
+
+-- a lexeme is passed, or the game is over
+abbrev pub StepsOn : Course → Cursor → Course → Cursor → Next → Type 0
+StepsOn c old d new GoesOn =
+    (more : List ℕ) → BeginsLine more → Continues c (tokens_with old more) d (tokens_with new more)
+StepsOn c old d new Stops =
+    (more : List ℕ) → BeginsLine more → Continues c (tokens_with old more) d (tokens_with new more) × IsOver d (tokens_with new more)
+
+-- a line is passed to its end, to a comment that isn't closed on it, or to where the game is over
+abbrev pub LeavesLine : Course → Cursor → Course → Cursor → Left → Type 0
+LeavesLine c old d new AtEnd =
+    (length new.line.items ≤ new.place) × ((more : List ℕ) → BeginsLine more → Continues c (tokens_with old more) d (tokens_with new more))
+LeavesLine c old d new InComment =
+    (length new.line.items ≤ new.place) × ((more : List ℕ) → BeginsLine more → Continues c (tokens_with old more) d (comment_left new.number false new.number more))
+LeavesLine c old d new GameOver =
+    (more : List ℕ) → BeginsLine more → Continues c (tokens_with old more) d (tokens_with new more) × IsOver d (tokens_with new more)
+
+-- a line that was read is begun, behind the one of this number
+abbrev pub BeginsAs : List ℕ → ℕ → Cursor → Taken → Type 0
+BeginsAs line number new Line =
+    (new.line.items ≡ text_of_line line) × (new.number ≡ one_more number) × (new.place ≡ 0)
+BeginsAs line number new LongLine =
+    (text_of_line line ≡ 256 ∷ []) × (new.line.items ≡ []) × (new.number ≡ one_more number) × (new.place ≡ 1)
+BeginsAs line number new Nothing = ⊥
+
+-- the next line, in front of which stands a line feed; one that is too long; or the end of the text
+abbrev pub TakesText : Cursor → Cursor → Taken → List ℕ → List ℕ → Type 0
+TakesText old new Line left behind =
+    (rest_with old (read_text left) ≡ 10 ∷ rest_with new (read_text behind)) × (new.number ≡ one_more old.number) × (new.place ≡ 0)
+TakesText old new LongLine left behind =
+    (rest_with old (read_text left) ≡ 10 ∷ 256 ∷ rest_with new (read_text behind)) × (new.number ≡ one_more old.number) × (new.place ≡ 1)
+TakesText old new Nothing left behind =
+    (rest_with old (read_text left) ≡ []) × (rest_with new (read_text behind) ≡ [])
+
+-- the next line is read from its first column; otherwise nothing is left of it
+abbrev pub StandsAt : Cursor → Taken → Type 0
+StandsAt new Line = new.place ≡ 0
+StandsAt new LongLine = length new.line.items ≤ new.place
+StandsAt new Nothing = length new.line.items ≤ new.place
+
+-- a game is told to its end
+abbrev pub TellsGame : Course → List Token → Course → List Token → Type 0
+TellsGame c ts d us = Continues c ts d us × IsOver d us
+
+-- a game goes on, or is told to its end
+abbrev pub TellsOn : Next → Course → List Token → Course → List Token → Type 0
+TellsOn GoesOn c ts d us = Continues c ts d us
+TellsOn Stops c ts d us = TellsGame c ts d us
+
+-- what a comment tells that began on a line
+abbrev pub closing_tokens : ℕ → Closing → List Token
+closing_tokens from Whole = []
+closing_tokens from WithLongLine = token from TooLong ∷ []
+closing_tokens from Never = token from Endless ∷ []

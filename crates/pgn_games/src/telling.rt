@@ -1,0 +1,175 @@
+//! Telling a game from an input.
+
+ghost use Rattle.std.specs.Prelude.{◌≡◌, ◌≤◌, ◌++◌, IfOk, IsErrOf, OnOk, List, ℕ, option_map, vec_len, false};
+ghost use Rattle.pgn_games.specs.Lines.{read_text};
+ghost use Rattle.pgn_games.specs.Tokens.{Token};
+ghost use Rattle.pgn_games.specs.Reading.{IfKnown, tokens_with};
+ghost use Rattle.pgn_games.specs.Inside.Owned.{course_of};
+ghost use Rattle.pgn_games.specs.Inside.Lines.{OneLine};
+ghost use Rattle.pgn_games.specs.Inside.Steps.{Continues, IsOn, TellsGame, TellsOn, closed, closing_tokens, comment_left, rest_with};
+
+use crate::course::Course;
+use crate::cursor::{Cursor, Left, Next};
+use crate::lexeme::Lexeme;
+use crate::lines::{Taken, take_line};
+use std::alloc::AllocError;
+use system_io::{LineReader, ReadFault};
+
+/// How a comment ends.
+#[derive(Clone, Copy)]
+pub(crate) enum Closing {
+    /// It is closed.
+    Whole,
+    /// It is closed, and came to a line that is too long.
+    WithLongLine,
+    /// The input ends in it.
+    Never,
+}
+
+/// How a comment ends that is closed.
+fn closed_with(long: bool) -> Closing
+    ensures { (from : ℕ) → closing_tokens from result ≡ closed from long }
+{
+    if long {
+        Closing::WithLongLine
+    } else {
+        Closing::Whole
+    }
+}
+
+/// Passes over the rest of a comment, from the end of a line on.
+fn close_comment<L: LineReader>(lines: &mut L, cursor: &mut Cursor) -> Result<Closing, ReadFault>
+    requires past { vec_len cursor.old.line ≤ cursor.old.place }
+    requires one { OneLine cursor.old.line.items }
+    ensures closes { IfOk result (λ closing. (from : ℕ) → IfKnown (L.facts lines.old).left (L.facts lines.new).left (λ left behind. comment_left from false cursor.old.number (rest_with cursor.old (read_text left)) ≡ closing_tokens from closing ++ tokens_with cursor.new (read_text behind))) }
+    ensures one { OneLine cursor.new.line.items }
+    ensures cause { IsErrOf result ReadFault.Unreadable → (L.facts lines.old).fails }
+    ensures same { (L.facts lines.new).fails → (L.facts lines.old).fails }
+{
+    let mut long = false;
+    for _ in 0..u64::MAX {
+        match take_line(lines, cursor)? {
+            Taken::Nothing => return Ok(Closing::Never),
+            Taken::LongLine => long = true,
+            Taken::Line => {
+                if cursor.close_comment() {
+                    return Ok(closed_with(long));
+                }
+            }
+        }
+    }
+    Err(ReadFault::OutOfMemory)
+}
+
+/// Puts what a comment tells that began on a line.
+fn put_closing(course: &mut Course, from: u64, closing: Closing) -> Result<(), AllocError>
+    requires { IsOn course.old.phase }
+    ensures told { OnOk result ((us : List Token) → Continues (course_of course.old) (closing_tokens from closing ++ us) (course_of course.new) us) }
+    ensures on { OnOk result (IsOn course.new.phase) }
+{
+    match closing {
+        Closing::Whole => Ok(()),
+        Closing::WithLongLine => {
+            course.put(from, Lexeme::TooLong)?;
+            Ok(())
+        }
+        Closing::Never => {
+            course.put(from, Lexeme::Endless)?;
+            Ok(())
+        }
+    }
+}
+
+/// Tells the rest of a comment, from the end of a line on.
+fn pass_comment<L: LineReader>(
+    lines: &mut L,
+    cursor: &mut Cursor,
+    course: &mut Course,
+) -> Result<(), ReadFault>
+    requires past { vec_len cursor.old.line ≤ cursor.old.place }
+    requires one { OneLine cursor.old.line.items }
+    requires on { IsOn course.old.phase }
+    ensures told { OnOk result (IfKnown (L.facts lines.old).left (L.facts lines.new).left (λ left behind. Continues (course_of course.old) (comment_left cursor.old.number false cursor.old.number (rest_with cursor.old (read_text left))) (course_of course.new) (tokens_with cursor.new (read_text behind)))) }
+    ensures on { OnOk result (IsOn course.new.phase) }
+    ensures one { OneLine cursor.new.line.items }
+    ensures cause { IsErrOf result ReadFault.Unreadable → (L.facts lines.old).fails }
+    ensures same { (L.facts lines.new).fails → (L.facts lines.old).fails }
+{
+    let from = cursor.number;
+    let closing = close_comment(lines, cursor)?;
+    put_closing(course, from, closing)?;
+    Ok(())
+}
+
+/// Takes the next line behind one that is told.
+fn tell_next<L: LineReader>(
+    lines: &mut L,
+    cursor: &mut Cursor,
+    course: &mut Course,
+) -> Result<Next, ReadFault>
+    requires past { vec_len cursor.old.line ≤ cursor.old.place }
+    requires on { IsOn course.old.phase }
+    ensures told { IfOk result (λ next. IfKnown (L.facts lines.old).left (L.facts lines.new).left (λ left behind. TellsOn next (course_of course.old) (tokens_with cursor.old (read_text left)) (course_of course.new) (tokens_with cursor.new (read_text behind)))) }
+    ensures on { IfOk result (λ next. IsOn course.new.phase) }
+    ensures one { OneLine cursor.new.line.items }
+    ensures cause { IsErrOf result ReadFault.Unreadable → (L.facts lines.old).fails }
+    ensures same { (L.facts lines.new).fails → (L.facts lines.old).fails }
+{
+    match take_line(lines, cursor)? {
+        Taken::Nothing => Ok(Next::Stops),
+        Taken::LongLine => {
+            course.put(cursor.number, Lexeme::TooLong)?;
+            Ok(Next::GoesOn)
+        }
+        Taken::Line => Ok(Next::GoesOn),
+    }
+}
+
+/// Tells the rest of a line, and takes the next one unless the game is over.
+fn tell_on<L: LineReader>(
+    lines: &mut L,
+    cursor: &mut Cursor,
+    course: &mut Course,
+) -> Result<Next, ReadFault>
+    requires one { OneLine cursor.old.line.items }
+    requires on { IsOn course.old.phase }
+    ensures told { IfOk result (λ next. IfKnown (L.facts lines.old).left (L.facts lines.new).left (λ left behind. TellsOn next (course_of course.old) (tokens_with cursor.old (read_text left)) (course_of course.new) (tokens_with cursor.new (read_text behind)))) }
+    ensures on { IfOk result (λ next. next ≡ Next.GoesOn → IsOn course.new.phase) }
+    ensures one { OneLine cursor.new.line.items }
+    ensures cause { IsErrOf result ReadFault.Unreadable → (L.facts lines.old).fails }
+    ensures same { (L.facts lines.new).fails → (L.facts lines.old).fails }
+{
+    match cursor.tell_line(course)? {
+        Left::GameOver => Ok(Next::Stops),
+        Left::InComment => {
+            pass_comment(lines, cursor, course)?;
+            Ok(Next::GoesOn)
+        }
+        Left::AtEnd => {
+            let next = tell_next(lines, cursor, course)?;
+            Ok(next)
+        }
+    }
+}
+
+/// Tells the tokens of a game to its end.
+pub(crate) fn tell_game<L: LineReader>(
+    lines: &mut L,
+    cursor: &mut Cursor,
+    course: &mut Course,
+) -> Result<(), ReadFault>
+    requires one { OneLine cursor.old.line.items }
+    requires on { IsOn course.old.phase }
+    ensures told { OnOk result (IfKnown (L.facts lines.old).left (L.facts lines.new).left (λ left behind. TellsGame (course_of course.old) (tokens_with cursor.old (read_text left)) (course_of course.new) (tokens_with cursor.new (read_text behind)))) }
+    ensures one { OneLine cursor.new.line.items }
+    ensures cause { IsErrOf result ReadFault.Unreadable → (L.facts lines.old).fails }
+    ensures same { (L.facts lines.new).fails → (L.facts lines.old).fails }
+{
+    for _ in 0..u64::MAX {
+        match tell_on(lines, cursor, course)? {
+            Next::GoesOn => {}
+            Next::Stops => return Ok(()),
+        }
+    }
+    Err(ReadFault::OutOfMemory)
+}
