@@ -1,6 +1,6 @@
 -- Words that are read in turn.
 use Rattle.std.proofs.Common.{◌≡◌, ◌≢◌, ℕ, List, [], ◌∷◌, ◌++◌, length, refl, sym, ap, ◌∙◌, subst, append_assoc}
-use Rattle.std.specs.Prelude.{Option, Some, None, Result, Ok, Err, suc, OnErr}
+use Rattle.std.specs.Prelude.{Some, Result, Ok, Err, suc, OnErr}
 use Rattle.board_core.specs.declared.parts.Parts.{Parts}
 use Rattle.board_core.specs.declared.moves.Move.{Move as Moves}
 use Rattle.board_core.specs.ComputedMoves.{position_after}
@@ -9,7 +9,6 @@ use Rattle.fen_text.specs.Laws.{HasOneMove}
 use Rattle.san_text.specs.San.{IsMeant, ReadsSan}
 use Rattle.san_text.specs.Laws.{TellsOneThing}
 use Rattle.san_text.specs.declared.told.Told.{Told}
-use Rattle.move_notation.specs.declared.notation.Notation.{Notation}
 use Rattle.move_notation.specs.declared.notation.Notation.TheVariants.{Coordinates, San}
 use Rattle.move_notation.specs.Laws.{NamesOneMove}
 use Rattle.move_notation.specs.Notations.{AreSanMoves, IsFirstUnread, LeadsTo}

@@ -1,6 +1,6 @@
 use Rattle.std.proofs.Common.{refl, subst}
 use Rattle.move_msg.specs.GameTexts.{words_in}
-use Rattle.move_notation.specs.Notations.{AreMovesIn, IsBadWordIn}
+use Rattle.move_notation.specs.Notations.{IsBadWordIn}
 use Rattle.adjudicate_core.specs.Commands.Game.{BadWord}
 use Rattle.adjudicate_core.proofs.commands.game.answer_from.Goals as goal
 
