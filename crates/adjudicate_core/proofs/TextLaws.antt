@@ -1,18 +1,17 @@
 -- What is answered to a text of a position.
 use Rattle.std.proofs.Common.{◌≡◌, ℕ, ◌≤◌, List, length, map, take, ap, ◌∙◌, refl, subst}
-use Rattle.std.specs.Prelude.{Result, Ok, Err, IfOk, OnErr}
+use Rattle.std.specs.Prelude.{Bool, Result, Ok, Err, IfOk, OnErr}
 use Rattle.std.proofs.lemmas.List.{take_all}
 use Rattle.board_core.specs.declared.parts.Parts.{Parts}
 use Rattle.board_core.specs.declared.moves.Move.{Move}
 use Rattle.board_core.specs.ComputedMoves.{legal_moves}
 use Rattle.board_core.specs.Position.{IsPosition}
 use Rattle.fen_text.specs.declared.fault.FenFault.{FenFault}
-use Rattle.fen_text.specs.Coordinates.{move_text}
 use Rattle.fen_text.specs.Fen.{IsFirstFenFault, SpellsPosition}
 use Rattle.move_msg.specs.TextLines.{text_of}
 use Rattle.adjudicate_core.specs.Lines.{refused_fen}
 use Rattle.adjudicate_core.specs.Reply.{ForNone, ForPosition, IsForText, IsText, Reply, refusal_reply}
-use Rattle.adjudicate_core.specs.Commands.Moves.{IsMoves, moves_at}
+use Rattle.adjudicate_core.specs.Commands.Moves.{IsMoves, move_line, moves_at}
 
 -- that of a text that is none, by its bytes
 pub for_none : (bytes text : List ℕ) (IsAnswer : Parts → Reply → Type 0) (fault : FenFault) → bytes ≡ text → IsFirstFenFault bytes fault → IsForText text IsAnswer (refusal_reply (refused_fen fault))
@@ -44,6 +43,6 @@ anyhow (Ok a) x = tt
 anyhow (Err e) x = x
 
 -- the reply that lists the legal moves
-pub moves_listed : (p : Parts) (ms : List Move) (i : ℕ) (lines : List (List ℕ)) → length ms ≤ i → ms ≡ legal_moves p → lines ≡ map move_text (take i ms) → IsMoves p (record { text = text_of lines; status = 0 })
+pub moves_listed : (san : Bool) (p : Parts) (ms : List Move) (i : ℕ) (lines : List (List ℕ)) → length ms ≤ i → ms ≡ legal_moves p → lines ≡ map (move_line san p) (take i ms) → IsMoves san p (record { text = text_of lines; status = 0 })
 unfolding moves_at
-moves_listed p ms i lines all legal ls = ap (λ (x : List (List ℕ)). record { text = text_of x; status = 0 }) (ls ∙ ap (map move_text) (take_all i ms all ∙ legal))
+moves_listed san p ms i lines all legal ls = ap (λ (x : List (List ℕ)). record { text = text_of x; status = 0 }) (ls ∙ ap (map (move_line san p)) (take_all i ms all ∙ legal))

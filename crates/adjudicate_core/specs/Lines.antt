@@ -1,5 +1,5 @@
 -- The lines that the program writes (this project's own).
-use Rattle.std.specs.Prelude.{ℕ, ℤ, List, ◌++◌, Option, Some, None, Result, Ok, Err, codes, if◌then◌else◌}
+use Rattle.std.specs.Prelude.{ℕ, ℤ, List, ◌++◌, Option, Some, None, Result, Ok, Err, codes, if◌then◌else◌, ◌∷◌}
 use Rattle.std.specs.Net.Text.{socket_text}
 use Rattle.std.specs.declared.net.socket_addr.SocketAddr.{SocketAddr}
 use Rattle.std.specs.Fmt.{decimal}
@@ -192,6 +192,7 @@ abbrev pub words_of : Line → List ℕ
 words_of (line.Ruling verdict) = verdict_words verdict
 words_of (line.Refused why) = refusal_words why
 words_of (line.Move m) = move_text m
+words_of (line.SanMove m text) = move_text m ++ 9 ∷ text.bytes
 words_of (line.Look name fault) = look_words name.bytes fault
 words_of (line.Wdl told) = told_words (codes "wdl") told.0
 words_of (line.Dtz told) = told_words (codes "dtz") told.0

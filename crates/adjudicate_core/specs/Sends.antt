@@ -10,6 +10,7 @@ use Rattle.fen_text.specs.Written.{fen_of}
 use Rattle.move_msg.specs.declared.stamp.Stamp.{Stamp}
 use Rattle.move_msg.specs.Stamps.{stamp_of}
 use Rattle.move_msg.specs.TextLines.{ended}
+use Rattle.move_notation.specs.Notations.{notation_by}
 use Rattle.system_io.specs.declared.output.WriteFault.{WriteFault}
 use Rattle.system_io.specs.Disks.{AtFile, DiskFacts, HasMore}
 use Rattle.system_io.specs.declared.host.BindFault.TheVariants as bind
@@ -86,10 +87,11 @@ LacksSent disk t (sent.InFile f) words = LacksFile disk f words
 
 -- ---- all of it
 
--- the terms on which the moves of a game with this stamp are sent: the words tell how often, and how many milliseconds the first try
+-- the terms on which the moves of a game with this stamp are sent: the words tell how they are written, how often, and how many milliseconds the first try
 -- of a move waits
 pub record IsOnTerms (t : Send) (stamp : Stamp) (terms : SendConfig) : Type 0 where
   pub is : terms.stamp ≡ stamp
+  pub notation : terms.notation ≡ notation_by t.san
   pub tries : terms.tries ≡ t.tries
   pub wait : as_nanos terms.wait ≡ t.wait * 1_000_000
 

@@ -9,6 +9,7 @@ ghost use Rattle.adjudicate_core.specs.Outsides.{outside_of};
 ghost use Rattle.adjudicate_core.specs.Inside.SendingParts.{BindsFrom};
 ghost use Rattle.adjudicate_core.specs.Sends.{EndsOnce, IsFiled, IsSent, IsStamped, LacksFile, LacksSent, LacksTold, SendsGame, SendsOver};
 ghost use Rattle.line_teller.specs.ToldLines.{HasFailed};
+ghost use Rattle.move_notation.specs.Notations.{notation_by};
 
 use crate::answers::lines::put_refusal;
 use crate::answers::refusals::Refusal;
@@ -20,6 +21,7 @@ use arbiter_server::{MOST_GAME_BYTES, read_game};
 use board_core::Position;
 use fen_text::read;
 use move_msg::Stamp;
+use move_notation::Notation;
 use source_core::{Ended, SendConfig, send_game};
 use std::alloc::Global;
 use std::time::Duration;
@@ -116,11 +118,13 @@ fn refuse<W: Output>(out: &mut W, refusal: Refusal) -> Result<Ended, WriteFault>
 /// The terms on which the moves are sent.
 fn terms_of(task: &Send<'_>, stamp: Stamp) -> SendConfig
     ensures stamp { result.stamp ≡ stamp }
+    ensures notation { result.notation ≡ notation_by task.now.san }
     ensures tries { result.tries ≡ task.now.tries }
     ensures wait { as_nanos result.wait ≡ task.now.wait * 1_000_000 }
 {
     SendConfig {
         stamp,
+        notation: Notation::by_flag(task.san),
         tries: u32::from(task.tries),
         wait: Duration::from_millis(u64::from(task.wait)),
     }

@@ -2,11 +2,11 @@
 use Rattle.std.proofs.Common.{◌≡◌, ◌∙◌, sym, ap, subst, refl, inl, inr, ℕ, zero, suc, ◌+◌, ◌<◌, Bool, List, [], ◌∷◌, ◌++◌, length, take, Option, Some, None, IsSome, append-nil, append_assoc, ◌⊎◌, arith}
 use Rattle.std.specs.Prelude.{slice_get, Result, Ok, Err, IfOk}
 use Rattle.std.specs.Io.KnownBytes.{Appends}
+use Rattle.std.proofs.lemmas.Option.{same_Some}
 use Rattle.std.proofs.lemmas.List.{length-append, length-take, length-take-le, take_all, take-append-le, take-take}
 use Rattle.board_core.specs.declared.moves.Move.{Move as Moves}
+use Rattle.board_core.specs.declared.parts.Parts.{Parts}
 use Rattle.board_core.specs.declared.verdict.Verdict.{Verdict}
-use Rattle.fen_text.specs.Coordinates.{AreMoves, SpellsMove}
-use Rattle.fen_text.specs.Laws.{HasOneMove}
 use Rattle.judge_core.specs.declared.game.GameOutcome.{GameOutcome}
 use Rattle.judge_core.specs.declared.game.GameOutcome.TheVariants as outcome
 use Rattle.judge_core.specs.Games.{IsIllegalAt, IsOutcome, Rules, position_after_all, verdict_after}
@@ -15,6 +15,9 @@ use Rattle.judge_core.proofs.InWords.{looks_back}
 use Rattle.judge_core.proofs.OneOutcome.{one_outcome}
 use Rattle.line_teller.proofs.TellLaws.{read_front, read_one, reads_the_text}
 use Rattle.move_msg.specs.TextLines.{ended, lines_in, text_of}
+use Rattle.move_notation.specs.declared.notation.Notation.{Notation}
+use Rattle.move_notation.specs.Laws.{NamesOneMove}
+use Rattle.move_notation.specs.Notations.{AreMovesIn, Spells}
 use Rattle.system_io.specs.declared.output.WriteFault.{WriteFault}
 use Rattle.system_io.specs.declared.reading.ReadFault.{ReadFault}
 use Rattle.system_io.specs.LineReaders.{ReadsLine}
@@ -23,6 +26,7 @@ use Rattle.game_teller.specs.declared.lines.Stop.TheVariants as stop
 use Rattle.game_teller.specs.Plies.{ply_words, stop_words}
 use Rattle.game_teller.specs.Followings.{Follows, FollowsTo, NotBegun, Open, Ruled, Stopped, StopsAfter, TellsPlies, TellsPly}
 use Rattle.game_teller.specs.Agreements.{AgreesIfKnown, AgreesWithGame, EndsWithLine, IsCutShort, IsLastLine}
+use Rattle.game_teller.proofs.NotationLaws.{first_move, same_moves, split_moves}
 
 -- the last of some lines
 last_of : (told : List (List ℕ)) (n : ℕ) → length told ≡ n + 1 → (front : List (List ℕ)) × (words : List ℕ) × (told ≡ front ++ words ∷ []) × (slice_get told n ≡ Some words)
@@ -48,39 +52,16 @@ illegal_back r moves others k same h =
     longer : (ms : List Moves) → length (take (k + 1) ms) ≡ k + 1 → k < length ms
     longer ms e = omega (arith, e, length-take k ms, length-take (k + 1) ms)
 
-module _ (one : HasOneMove) where
-  -- moves of which the first ones are known
-  split_moves : (ls rs : List (List ℕ)) (ms all : List Moves) → AreMoves ls ms → AreMoves (ls ++ rs) all → (more : List Moves) × (all ≡ ms ++ more) × AreMoves rs more
-  split_moves [] rs [] all a b = (all, refl, b)
-  split_moves [] rs (m ∷ ms) all a b = absurd a
-  split_moves (l ∷ ls) rs [] all a b = absurd a
-  split_moves (l ∷ ls) rs (m ∷ ms) [] a b = absurd b
-  split_moves (l ∷ ls) rs (m ∷ ms) (n ∷ all) a b =
-      let r = split_moves ls rs ms all a.1 b.1 in
-      let same : n ≡ m = one l n m b.0 a.0 in
-      (r.0, subst (λ x. x ∷ all ≡ m ∷ (ms ++ r.0)) (sym same) (ap (λ x. m ∷ x) r.1), r.2)
-
+module _ (one : NamesOneMove) where
   -- the moves of the lines that were read are the first moves of the text
-  fronts : (text : List ℕ) (lines : List (List ℕ)) (rest : List ℕ) (moves all : List Moves) → lines_in text ≡ lines ++ lines_in rest → AreMoves lines moves → AreMoves (lines_in text) all → (more : List Moves) × (all ≡ moves ++ more) × AreMoves (lines_in rest) more
-  fronts text lines rest moves all is a b = split_moves lines (lines_in rest) moves all a (subst (λ ls. AreMoves ls all) is b)
-
-  same_moves : (ls : List (List ℕ)) (ms all : List Moves) → AreMoves ls ms → AreMoves ls all → all ≡ ms
-  same_moves [] [] [] a b = refl
-  same_moves [] [] (n ∷ all) a b = absurd b
-  same_moves [] (m ∷ ms) all a b = absurd a
-  same_moves (l ∷ ls) [] all a b = absurd a
-  same_moves (l ∷ ls) (m ∷ ms) [] a b = absurd b
-  same_moves (l ∷ ls) (m ∷ ms) (n ∷ all) a b =
-      let r = same_moves ls ms all a.1 b.1 in
-      let same : n ≡ m = one l n m b.0 a.0 in
-      subst (λ x. x ∷ all ≡ m ∷ ms) (sym same) (ap (λ x. m ∷ x) r)
+  fronts : (notation : Notation) (start at : Parts) (text : List ℕ) (lines : List (List ℕ)) (rest : List ℕ) (moves all : List Moves) → lines_in text ≡ lines ++ lines_in rest → position_after_all start moves ≡ Some at → AreMovesIn notation start lines moves → AreMovesIn notation start (lines_in text) all → (more : List Moves) × (all ≡ moves ++ more) × AreMovesIn notation at (lines_in rest) more
+  fronts notation start at text lines rest moves all is there a b = split_moves one notation start at lines (lines_in rest) moves all there a (subst (λ ls. AreMovesIn notation start ls all) is b)
 
   -- of a line that is read next the move is the next of the text
-  next_move : (rest line after : List ℕ) (more : List Moves) → lines_in rest ≡ line ∷ lines_in after → AreMoves (lines_in rest) more → (m : Moves) × (others : List Moves) × (more ≡ m ∷ others) × SpellsMove line m
-  next_move rest line after [] is h = absurd (subst (λ ls. AreMoves ls []) is h)
-  next_move rest line after (m ∷ others) is h = (m, others, refl, (subst (λ ls. AreMoves ls (m ∷ others)) is h).0)
+  next_move : (notation : Notation) (at : Parts) (rest line after : List ℕ) (more : List Moves) → lines_in rest ≡ line ∷ lines_in after → AreMovesIn notation at (lines_in rest) more → (m : Moves) × (others : List Moves) × (more ≡ m ∷ others) × Spells notation at line m
+  next_move notation at rest line after more is h = first_move notation at line (lines_in after) more (subst (λ ls. AreMovesIn notation at ls more) is h)
 
-  module _ (rules : Rules) (Stops : ReadFault → Type 0) (text : List ℕ) (old new : Option (List ℕ)) where
+  module _ (notation : Notation) (rules : Rules) (Stops : ReadFault → Type 0) (text : List ℕ) (old new : Option (List ℕ)) where
     -- the last ply of some moves that is told
     last_ply : (moves : List Moves) (told : List (List ℕ)) → TellsPlies rules moves told → (front : List (List ℕ)) × (words : List ℕ) × (told ≡ front ++ words ∷ []) × TellsPly rules moves words
     last_ply moves told h =
@@ -123,39 +104,45 @@ module _ (one : HasOneMove) where
         let one_out : o ≡ outcome.Illegal place = one_outcome rules all o (outcome.Illegal place) h there in
         (told, stop_words (stop.Illegal place), wrote, subst (λ x. IsLastLine rules all x (stop_words (stop.Illegal place))) (sym one_out) (illegal_line all place))
 
-    by_stop : (now after : Option (List ℕ)) (moves all : List Moves) (told : List (List ℕ)) (o : GameOutcome) (why : Stop) (rest : List ℕ) (more : List Moves) → now ≡ Some rest → AreMoves (lines_in rest) more → all ≡ moves ++ more → StopsAfter rules Stops now after moves why
+    by_stop : (now after : Option (List ℕ)) (at : Parts) (moves all : List Moves) (told : List (List ℕ)) (o : GameOutcome) (why : Stop) (rest : List ℕ) (more : List Moves) → now ≡ Some rest → position_after_all rules.start moves ≡ Some at → AreMovesIn notation at (lines_in rest) more → all ≡ moves ++ more → StopsAfter notation rules Stops now after moves why
         → Appends old new (text_of (told ++ stop_words why ∷ [])) → IsOutcome rules all o → EndsWithLine old new (IsLastLine rules all o) ⊎ EndsWithLine old new IsCutShort
-    by_stop now after moves all told o (stop.NotAMove place) rest more here left is (at, (line, read, bad)) wrote h =
-        let next = read_one rest after line (subst (λ x. ReadsLine x after line) here read) in
-        let m = next_move rest line next.0 more next.2 left in
-        absurd (bad m.0 m.3)
-    by_stop now after moves all told o (stop.Illegal place) rest more here left is (at, (line, m, read, spelled, out)) wrote h =
-        let next = read_one rest after line (subst (λ x. ReadsLine x after line) here read) in
-        let n = next_move rest line next.0 more next.2 left in
-        let same : n.0 ≡ m = one line n.0 m n.3 spelled in
+    by_stop now after at moves all told o (stop.NotAMove place) rest more here there left is (count, (line, p, read, bad)) wrote h =
+        let next = read_one rest after line (subst (λ x. ReadsLine x after line) here read.0) in
+        let n = next_move notation at rest line next.0 more next.2 left in
+        let same : at ≡ p = same_Some at p (sym there ∙ read.1) in
+        absurd (bad n.0 (subst (λ q. Spells notation q line n.0) same n.3))
+    by_stop now after at moves all told o (stop.Illegal place) rest more here there left is (count, (line, p, m, read, spelled, out)) wrote h =
+        let next = read_one rest after line (subst (λ x. ReadsLine x after line) here read.0) in
+        let n = next_move notation at rest line next.0 more next.2 left in
+        let place_is : at ≡ p = same_Some at p (sym there ∙ read.1) in
+        let same : n.0 ≡ m = one notation p line n.0 m (subst (λ q. Spells notation q line n.0) place_is n.3) spelled in
         let whole : all ≡ moves ++ m ∷ n.1 = is ∙ ap (λ x. moves ++ x) n.2 ∙ ap (λ x. moves ++ x ∷ n.1) same in
-        inl (by_illegal moves all told o m n.1 place at out wrote whole h)
-    by_stop now after moves all told o stop.Unread rest more here left is why wrote h = inr (told, stop_words stop.Unread, wrote, inl refl)
-    by_stop now after moves all told o stop.OutOfMemory rest more here left is why wrote h = inr (told, stop_words stop.OutOfMemory, wrote, inr refl)
+        inl (by_illegal moves all told o m n.1 place count out wrote whole h)
+    by_stop now after at moves all told o stop.Unread rest more here there left is why wrote h = inr (told, stop_words stop.Unread, wrote, inl refl)
+    by_stop now after at moves all told o stop.OutOfMemory rest more here there left is why wrote h = inr (told, stop_words stop.OutOfMemory, wrote, inr refl)
 
-    agrees : (done : Bool) → Follows rules Stops (Some text) old new done → AgreesWithGame rules text old new
+    agrees : (done : Bool) → Follows notation rules Stops (Some text) old new done → AgreesWithGame notation rules text old new
     agrees done (Ruled now moves told has v out wrote is) all o spelled h =
         let front = read_front text has.lines now has.read in
-        let parts = fronts text has.lines front.0 moves all front.2 has.spelled spelled in
+        let last = last_ply moves told has.plies in
+        let parts = fronts notation rules.start last.3.0 text has.lines front.0 moves all front.2 last.3.1 has.spelled spelled in
         inl (by_ruled moves all told o parts.0 v has.plies out wrote parts.1 h)
     agrees done (Open now moves told has out end wrote is) all o spelled h =
-        let same : all ≡ moves = same_moves has.lines moves all has.spelled (subst (λ ls. AreMoves ls all) (sym (reads_the_text text has.lines now has.read end)) spelled) in
+        let last = last_ply moves told has.plies in
+        let lines = subst (λ ls. AreMovesIn notation rules.start ls all) (sym (reads_the_text text has.lines now has.read end)) spelled in
+        let same : all ≡ moves = same_moves one notation rules.start last.3.0 has.lines moves all last.3.1 has.spelled lines in
         inl (subst (λ (ms : List Moves). EndsWithLine old new (IsLastLine rules ms o)) (sym same) (by_end moves told o has.plies out wrote (subst (λ (ms : List Moves). IsOutcome rules ms o) same h)))
     agrees done (Stopped now after moves told has out why stops wrote is) all o spelled h =
         let front = read_front text has.lines now has.read in
-        let parts = fronts text has.lines front.0 moves all front.2 has.spelled spelled in
-        by_stop now after moves all told o why front.0 parts.0 front.1 parts.2 parts.1 stops wrote h
+        let last = last_ply moves told has.plies in
+        let parts = fronts notation rules.start last.3.0 text has.lines front.0 moves all front.2 last.3.1 has.spelled spelled in
+        by_stop now after last.3.0 moves all told o why front.0 parts.0 front.1 last.3.1 parts.2 parts.1 stops wrote h
     agrees done (NotBegun lists wrote is) all o spelled h = inr ([], stop_words stop.OutOfMemory, subst (Appends old new) (sym (append-nil (ended (stop_words stop.OutOfMemory)))) wrote, inr refl)
 
-  pub agrees_if_known : (rules : Rules) (Stops : ReadFault → Type 0) (left old new : Option (List ℕ)) (done : Bool) → Follows rules Stops left old new done → AgreesIfKnown rules left old new
-  agrees_if_known rules Stops None old new done h = tt
-  agrees_if_known rules Stops (Some text) old new done h = agrees rules Stops text old new done h
+  pub agrees_if_known : (notation : Notation) (rules : Rules) (Stops : ReadFault → Type 0) (left old new : Option (List ℕ)) (done : Bool) → Follows notation rules Stops left old new done → AgreesIfKnown notation rules left old new
+  agrees_if_known notation rules Stops None old new done h = tt
+  agrees_if_known notation rules Stops (Some text) old new done h = agrees notation rules Stops text old new done h
 
-  pub agrees_to : (rules : Rules) (Stops : ReadFault → Type 0) (left old new : Option (List ℕ)) (r : Result Bool WriteFault) → FollowsTo rules Stops left old new r → IfOk r (λ done. AgreesIfKnown rules left old new)
-  agrees_to rules Stops left old new (Ok done) h = agrees_if_known rules Stops left old new done h
-  agrees_to rules Stops left old new (Err fault) h = tt
+  pub agrees_to : (notation : Notation) (rules : Rules) (Stops : ReadFault → Type 0) (left old new : Option (List ℕ)) (r : Result Bool WriteFault) → FollowsTo notation rules Stops left old new r → IfOk r (λ done. AgreesIfKnown notation rules left old new)
+  agrees_to notation rules Stops left old new (Ok done) h = agrees_if_known notation rules Stops left old new done h
+  agrees_to notation rules Stops left old new (Err fault) h = tt

@@ -1,3 +1,4 @@
+pub mod NotationLaws
 pub mod FollowLaws
 pub mod AgreeLaws
 pub mod LineLaws

@@ -3,12 +3,13 @@ use Rattle.std.specs.Prelude.{◌≡◌, ◌⊎◌, ◌++◌, ℕ, List, [], ◌
 use Rattle.std.specs.Io.KnownBytes.{Appends}
 use Rattle.board_core.specs.declared.parts.Parts.{Parts}
 use Rattle.board_core.specs.declared.moves.Move.{Move as Moves}
-use Rattle.fen_text.specs.Coordinates.{AreMoves}
 use Rattle.judge_core.specs.declared.game.GameOutcome.{GameOutcome}
 use Rattle.judge_core.specs.declared.game.GameOutcome.TheVariants.{Ruled, Illegal, Going}
 use Rattle.judge_core.specs.Games.{IsOutcome, Rules, position_after_all}
 use Rattle.judge_core.specs.Words.{outcome_words}
 use Rattle.move_msg.specs.TextLines.{lines_in, text_of}
+use Rattle.move_notation.specs.declared.notation.Notation.{Notation}
+use Rattle.move_notation.specs.Notations.{AreMovesIn}
 use Rattle.game_teller.specs.declared.lines.Stop.TheVariants.{OutOfMemory, Unread}
 use Rattle.game_teller.specs.Plies.{ply_words, stop_words}
 
@@ -27,12 +28,12 @@ EndsWithLine old new IsLine = (told : List (List ℕ)) × (words : List ℕ) × 
 abbrev pub IsCutShort : List ℕ → Type 0
 IsCutShort words = (words ≡ stop_words Unread) ⊎ (words ≡ stop_words OutOfMemory)
 
--- of an input whose lines are all moves the last line is that of the outcome of all of its moves, unless it is cut short
-abbrev pub AgreesWithGame : Rules → List ℕ → Option (List ℕ) → Option (List ℕ) → Type 0
-AgreesWithGame rules text old new =
-    (moves : List Moves) (outcome : GameOutcome) → AreMoves (lines_in text) moves → IsOutcome rules moves outcome
+-- of an input whose lines all name moves in turn the last line is that of the outcome of all of its moves, unless it is cut short
+abbrev pub AgreesWithGame : Notation → Rules → List ℕ → Option (List ℕ) → Option (List ℕ) → Type 0
+AgreesWithGame notation rules text old new =
+    (moves : List Moves) (outcome : GameOutcome) → AreMovesIn notation rules.start (lines_in text) moves → IsOutcome rules moves outcome
     → EndsWithLine old new (IsLastLine rules moves outcome) ⊎ EndsWithLine old new IsCutShort
 
 -- so it is where the input tells its bytes
-abbrev pub AgreesIfKnown : Rules → Option (List ℕ) → Option (List ℕ) → Option (List ℕ) → Type 0
-AgreesIfKnown rules left old new = IfSome left (λ text. AgreesWithGame rules text old new)
+abbrev pub AgreesIfKnown : Notation → Rules → Option (List ℕ) → Option (List ℕ) → Option (List ℕ) → Type 0
+AgreesIfKnown notation rules left old new = IfSome left (λ text. AgreesWithGame notation rules text old new)

@@ -4,13 +4,14 @@ use Rattle.std.specs.Io.KnownBytes.{Appends, IsAtEnd}
 use Rattle.board_core.specs.declared.parts.Parts.{Parts}
 use Rattle.board_core.specs.declared.moves.Move.{Move as Moves}
 use Rattle.board_core.specs.declared.verdict.Verdict.{Verdict}
-use Rattle.fen_text.specs.Coordinates.{AreMoves, SpellsMove}
 use Rattle.judge_core.specs.Answers.{ListsMovesForVerdict}
 use Rattle.judge_core.specs.declared.game.GameOutcome.TheVariants as outcome
 use Rattle.judge_core.specs.Games.{IsOutcome, IsUnruled, Rules, position_after_all, verdict_after}
 use Rattle.judge_core.specs.Tables.{Tables}
 use Rattle.line_teller.specs.ToldLines.{AreRead, CutsAfter, HasFront, TellsInTurn}
 use Rattle.move_msg.specs.TextLines.{ended, text_of}
+use Rattle.move_notation.specs.declared.notation.Notation.{Notation}
+use Rattle.move_notation.specs.Notations.{AreMovesIn, Spells}
 use Rattle.system_io.specs.declared.output.WriteFault.{WriteFault}
 use Rattle.system_io.specs.declared.reading.ReadFault.{ReadFault}
 use Rattle.system_io.specs.declared.reading.ReadFault.TheVariants as read
@@ -35,44 +36,50 @@ pub record TellsPlies (rules : Rules) (moves : List Moves) (told : List (List �
   pub count : length told ≡ length moves + 1
   pub each : (ply : ℕ) (words : List ℕ) → slice_get told ply ≡ Some words → TellsPly rules (take ply moves) words
 
--- lines were read that spell these moves, one a line, and all plies to the last of them are told
-pub record HasFollowed (rules : Rules) (left now : Option (List ℕ)) (moves : List Moves) (told : List (List ℕ)) : Type 0 where
+-- lines were read that name these moves in turn, one a line, and all plies to the last of them are told
+pub record HasFollowed (notation : Notation) (rules : Rules) (left now : Option (List ℕ)) (moves : List Moves) (told : List (List ℕ)) : Type 0 where
   pub lines : List (List ℕ)
   pub read : AreRead left lines now
-  pub spelled : AreMoves lines moves
+  pub spelled : AreMovesIn notation rules.start lines moves
   pub plies : TellsPlies rules moves told
 
 -- ---- the end
 
--- why no more is told after these moves: the next line is no move; or its move isn't legal; or the input fails, or 2^64 - 1 moves were
--- read; or memory was refused, for reading or for the verdict after the next move
-abbrev pub StopsAfter : Rules → (ReadFault → Type 0) → Option (List ℕ) → Option (List ℕ) → List Moves → Stop → Type 0
-StopsAfter rules Stops now after moves (stop.NotAMove place) = (place ≡ length moves) × ((line : List ℕ) × ReadsLine now after line × ((m : Moves) → SpellsMove line m → ⊥))
-StopsAfter rules Stops now after moves (stop.Illegal place) = (place ≡ length moves) × ((line : List ℕ) × (m : Moves) × ReadsLine now after line × SpellsMove line m × IsOutcome rules (moves ++ m ∷ []) (outcome.Illegal place))
-StopsAfter rules Stops now after moves stop.Unread = Stops read.Unreadable ⊎ (2 ^ 64 - 1 ≤ length moves)
-StopsAfter rules Stops now after moves stop.OutOfMemory =
-    Stops read.OutOfMemory ⊎ ((line : List ℕ) × (m : Moves) × (p : Parts) × ReadsLine now after line × SpellsMove line m × (position_after_all rules.start (moves ++ m ∷ []) ≡ Some p) × ListsMovesForVerdict rules.tables p)
+-- a line is read next, in this position after the moves
+abbrev pub ReadsNext : Rules → Option (List ℕ) → Option (List ℕ) → List Moves → List ℕ → Parts → Type 0
+ReadsNext rules now after moves line p = ReadsLine now after line × (position_after_all rules.start moves ≡ Some p)
+
+-- why no more is told after these moves: the next line names no move there; or its move isn't legal; or the input fails, or 2^64 - 1 moves
+-- were read; or memory was refused, for reading or for the verdict after the next move
+abbrev pub StopsAfter : Notation → Rules → (ReadFault → Type 0) → Option (List ℕ) → Option (List ℕ) → List Moves → Stop → Type 0
+StopsAfter notation rules Stops now after moves (stop.NotAMove place) = (place ≡ length moves) × ((line : List ℕ) × (p : Parts) × ReadsNext rules now after moves line p × ((m : Moves) → Spells notation p line m → ⊥))
+StopsAfter notation rules Stops now after moves (stop.Illegal place) =
+    (place ≡ length moves) × ((line : List ℕ) × (p : Parts) × (m : Moves) × ReadsNext rules now after moves line p × Spells notation p line m × IsOutcome rules (moves ++ m ∷ []) (outcome.Illegal place))
+StopsAfter notation rules Stops now after moves stop.Unread = Stops read.Unreadable ⊎ (2 ^ 64 - 1 ≤ length moves)
+StopsAfter notation rules Stops now after moves stop.OutOfMemory =
+    Stops read.OutOfMemory
+    ⊎ ((line : List ℕ) × (p : Parts) × (m : Moves) × (q : Parts) × ReadsNext rules now after moves line p × Spells notation p line m × (position_after_all rules.start (moves ++ m ∷ []) ≡ Some q) × ListsMovesForVerdict rules.tables q)
 
 -- The moves that were read come to a verdict, and no more is read; or the input has ended, and they come to none; or no more is told of
 -- them, which come to none either; or memory was refused for the start. What they come to is as `game` tells it.
-pub data Follows (rules : Rules) (Stops : ReadFault → Type 0) (left old new : Option (List ℕ)) (done : Bool) : Type 0 where
-  Ruled : (now : Option (List ℕ)) (moves : List Moves) (told : List (List ℕ)) → HasFollowed rules left now moves told → (verdict : Verdict) → IsOutcome rules moves (outcome.Ruled (length moves) verdict) → Appends old new (text_of told) → done ≡ true → Follows rules Stops left old new done
-  Open : (now : Option (List ℕ)) (moves : List Moves) (told : List (List ℕ)) → HasFollowed rules left now moves told → IsOutcome rules moves outcome.Going → IsAtEnd now → Appends old new (text_of told) → done ≡ true → Follows rules Stops left old new done
-  Stopped : (now after : Option (List ℕ)) (moves : List Moves) (told : List (List ℕ)) → HasFollowed rules left now moves told → IsOutcome rules moves outcome.Going → (why : Stop) → StopsAfter rules Stops now after moves why → Appends old new (text_of (told ++ stop_words why ∷ [])) → done ≡ false → Follows rules Stops left old new done
-  NotBegun : ListsMovesForVerdict rules.tables rules.start → Appends old new (ended (stop_words stop.OutOfMemory)) → done ≡ false → Follows rules Stops left old new done
+pub data Follows (notation : Notation) (rules : Rules) (Stops : ReadFault → Type 0) (left old new : Option (List ℕ)) (done : Bool) : Type 0 where
+  Ruled : (now : Option (List ℕ)) (moves : List Moves) (told : List (List ℕ)) → HasFollowed notation rules left now moves told → (verdict : Verdict) → IsOutcome rules moves (outcome.Ruled (length moves) verdict) → Appends old new (text_of told) → done ≡ true → Follows notation rules Stops left old new done
+  Open : (now : Option (List ℕ)) (moves : List Moves) (told : List (List ℕ)) → HasFollowed notation rules left now moves told → IsOutcome rules moves outcome.Going → IsAtEnd now → Appends old new (text_of told) → done ≡ true → Follows notation rules Stops left old new done
+  Stopped : (now after : Option (List ℕ)) (moves : List Moves) (told : List (List ℕ)) → HasFollowed notation rules left now moves told → IsOutcome rules moves outcome.Going → (why : Stop) → StopsAfter notation rules Stops now after moves why → Appends old new (text_of (told ++ stop_words why ∷ [])) → done ≡ false → Follows notation rules Stops left old new done
+  NotBegun : ListsMovesForVerdict rules.tables rules.start → Appends old new (ended (stop_words stop.OutOfMemory)) → done ≡ false → Follows notation rules Stops left old new done
 
 -- What a writer that failed leaves: the lines of the plies so far, of the last of which a front, where no ply before it has a verdict; or
 -- these whole, where none has one, and a front of the line that says why no more is told; or a front of that line alone, where memory was
 -- refused for the start.
-pub data CutsGame (rules : Rules) (Stops : ReadFault → Type 0) (left old new : Option (List ℕ)) : Type 0 where
-  AtPly : (now : Option (List ℕ)) (moves : List Moves) (told : List (List ℕ)) (last : List ℕ) → HasFollowed rules left now moves (told ++ last ∷ []) → IsUnruled rules moves (length moves) → CutsAfter told last old new → CutsGame rules Stops left old new
-  AtStop : (now after : Option (List ℕ)) (moves : List Moves) (told : List (List ℕ)) → HasFollowed rules left now moves told → IsOutcome rules moves outcome.Going → (why : Stop) → StopsAfter rules Stops now after moves why → CutsAfter told (stop_words why) old new → CutsGame rules Stops left old new
-  AtBegin : ListsMovesForVerdict rules.tables rules.start → HasFront old new (ended (stop_words stop.OutOfMemory)) → CutsGame rules Stops left old new
+pub data CutsGame (notation : Notation) (rules : Rules) (Stops : ReadFault → Type 0) (left old new : Option (List ℕ)) : Type 0 where
+  AtPly : (now : Option (List ℕ)) (moves : List Moves) (told : List (List ℕ)) (last : List ℕ) → HasFollowed notation rules left now moves (told ++ last ∷ []) → IsUnruled rules moves (length moves) → CutsAfter told last old new → CutsGame notation rules Stops left old new
+  AtStop : (now after : Option (List ℕ)) (moves : List Moves) (told : List (List ℕ)) → HasFollowed notation rules left now moves told → IsOutcome rules moves outcome.Going → (why : Stop) → StopsAfter notation rules Stops now after moves why → CutsAfter told (stop_words why) old new → CutsGame notation rules Stops left old new
+  AtBegin : ListsMovesForVerdict rules.tables rules.start → HasFront old new (ended (stop_words stop.OutOfMemory)) → CutsGame notation rules Stops left old new
 
 -- the game is told; or the writer failed on the way
-abbrev pub FollowsTo : Rules → (ReadFault → Type 0) → Option (List ℕ) → Option (List ℕ) → Option (List ℕ) → Result Bool WriteFault → Type 0
-FollowsTo rules Stops left old new (Ok done) = Follows rules Stops left old new done
-FollowsTo rules Stops left old new (Err fault) = CutsGame rules Stops left old new
+abbrev pub FollowsTo : Notation → Rules → (ReadFault → Type 0) → Option (List ℕ) → Option (List ℕ) → Option (List ℕ) → Result Bool WriteFault → Type 0
+FollowsTo notation rules Stops left old new (Ok done) = Follows notation rules Stops left old new done
+FollowsTo notation rules Stops left old new (Err fault) = CutsGame notation rules Stops left old new
 
 -- ---- in turn
 

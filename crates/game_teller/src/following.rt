@@ -3,8 +3,8 @@
 ghost use Rattle.std.specs.Prelude.{◌≡◌, ◌<◌, ◌^◌, ◌-◌, IfErr, IfOk, List, OnErr, OnOk, Option, Some, ℕ};
 ghost use Rattle.board_core.specs.ComputedMoves.{position_after};
 ghost use Rattle.board_core.specs.declared.moves.Move.{Move as Moves};
-ghost use Rattle.fen_text.specs.Coordinates.{SpellsMove};
 ghost use Rattle.line_teller.specs.ToldLines.{HasFailed, TellsInTurn, stops_by};
+ghost use Rattle.move_notation.specs.Notations.{Spells};
 ghost use Rattle.system_io.specs.declared.reading.ReadFault.{ReadFault};
 ghost use Rattle.game_teller.specs.Agreements.{AgreesIfKnown};
 ghost use Rattle.game_teller.specs.Followings.{FollowsInTurn, FollowsTo, rules_by};
@@ -12,9 +12,9 @@ ghost use Rattle.game_teller.specs.Inside.Steps.{CutsPly, FollowsFrom, IsNoNext,
 
 use crate::lines::{Stop, put_ply_now, put_stop};
 use board_core::{Delay, Position, Verdict};
-use fen_text::laws::one_move;
-use fen_text::read_move;
 use judge_core::{Set, Standing};
+use move_notation::Notation;
+use move_notation::laws::one_move;
 use std::alloc::Global;
 use system_io::{LineReader, Output, ReadFault, WriteFault};
 
@@ -23,6 +23,8 @@ use system_io::{LineReader, Output, ReadFault, WriteFault};
 pub(crate) struct FollowState<'a> {
     /// The allocator.
     alloc: Global,
+    /// How its moves are written.
+    notation: Notation,
     /// The tables.
     set: Set<'a>,
     /// For how many further plies a verdict by tables must hold.
@@ -43,11 +45,16 @@ pub(crate) enum Step {
 }
 
 /// The position after the move of a line.
-fn next_position(line: &[u8], position: &Position, number: usize) -> Result<Position, Stop>
-    ensures ok { IfOk result (λ q. (m : Moves) × SpellsMove line.now m × (position_after position.now m ≡ Some q)) }
-    ensures err { IfErr result (IsNoNext position.now number line.now) }
+fn next_position(
+    notation: Notation,
+    line: &[u8],
+    position: &Position,
+    number: usize,
+) -> Result<Position, Stop>
+    ensures ok { IfOk result (λ q. (m : Moves) × Spells notation position.now line.now m × (position_after position.now m ≡ Some q)) }
+    ensures err { IfErr result (IsNoNext notation position.now number line.now) }
 {
-    let read = read_move(line);
+    let read = notation.read(position, line);
     let Some(m) = &read else {
         return Err(Stop::NotAMove(number));
     };
@@ -70,11 +77,12 @@ fn stop_by(fault: ReadFault) -> Stop
 impl<'a> FollowState<'a> {
     /// Plays the move of a line, and judges the ply that it leads to.
     fn turn(&mut self, number: usize, line: &[u8]) -> Result<(), Stop>
-        ensures turns { TurnsByLine self.old.set.tables number self.old.standing line.now self.new.standing result }
+        ensures turns { TurnsByLine self.old.notation self.old.set.tables number self.old.standing line.now self.new.standing result }
         ensures set { self.new.set ≡ self.old.set }
         ensures delay { self.new.delay ≡ self.old.delay }
+        ensures notation { self.new.notation ≡ self.old.notation }
     {
-        let position = match next_position(line, self.standing.position(), number) {
+        let position = match next_position(self.notation, line, self.standing.position(), number) {
             Ok(position) => position,
             Err(stop) => return Err(stop),
         };
@@ -113,12 +121,13 @@ impl<'a> FollowState<'a> {
         out: &mut W,
     ) -> Result<Step, WriteFault>
         requires { number < 2 ^ 64 - 1 }
-        ensures steps { IfOk result (LineSteps self.old.set.tables self.old.delay number self.old.standing line.now self.new.standing (W.contents out.old) (W.contents out.new)) }
-        ensures front { OnErr result (LineCuts self.old.set.tables self.old.delay number self.old.standing line.now self.new.standing (W.contents out.old) (W.contents out.new)) }
+        ensures steps { IfOk result (LineSteps self.old.notation self.old.set.tables self.old.delay number self.old.standing line.now self.new.standing (W.contents out.old) (W.contents out.new)) }
+        ensures front { OnErr result (LineCuts self.old.notation self.old.set.tables self.old.delay number self.old.standing line.now self.new.standing (W.contents out.old) (W.contents out.new)) }
         ensures cause { OnErr result (HasFailed W.facts) }
         ensures gone { IfOk result (λ step. (v : Option Verdict) → step ≡ Step.Told v → (W.facts out.new).gone) }
         ensures set { self.new.set ≡ self.old.set }
         ensures delay { self.new.delay ≡ self.old.delay }
+        ensures notation { self.new.notation ≡ self.old.notation }
     {
         match self.turn(number, line) {
             Ok(()) => match self.put_standing(number + 1, out) {
@@ -150,6 +159,7 @@ impl<'a> FollowState<'a> {
         ensures reader { (fault : ReadFault) → stops_by (L.facts reader.new) fault → stops_by (L.facts reader.old) fault }
         ensures set { self.new.set ≡ self.old.set }
         ensures delay { self.new.delay ≡ self.old.delay }
+        ensures notation { self.new.notation ≡ self.old.notation }
     {
         match reader.next_line(line) {
             Ok(true) => self.tell_line(number, line, out),
@@ -193,13 +203,14 @@ impl<'a> FollowState<'a> {
 /// Tells a game ply by ply: its start, and then the ply after each move of an input.
 fn follow_moves<L: LineReader, W: Output>(
     alloc: Global,
+    notation: Notation,
     mut set: Set<'_>,
     start: &Position,
     delay: Delay,
     reader: &mut L,
     out: &mut W,
 ) -> Result<bool, WriteFault>
-    ensures follows { FollowsTo (rules_by start.now set.entry.tables delay) (stops_by (L.facts reader.old)) (L.facts reader.old).left (W.contents out.old) (W.contents out.new) result }
+    ensures follows { FollowsTo notation (rules_by start.now set.entry.tables delay) (stops_by (L.facts reader.old)) (L.facts reader.old).left (W.contents out.old) (W.contents out.new) result }
     ensures cause { OnErr result (HasFailed W.facts) }
     ensures turns { OnOk result (FollowsInTurn L.facts W.facts W.contents reader.old out.old out.new) }
 {
@@ -214,6 +225,7 @@ fn follow_moves<L: LineReader, W: Output>(
     };
     let mut course = FollowState {
         alloc,
+        notation,
         set,
         delay,
         standing,
@@ -228,13 +240,15 @@ fn follow_moves<L: LineReader, W: Output>(
 /// Tells a game ply by ply: at once the start, and then, as each move of the input comes, the position after it. Returns whether
 /// the game came to a verdict or to the input's end.
 ///
-/// A line is the number of the ply, its verdict or `open`, and the position's FEN text. Moves are in coordinates, one a line. Nothing
+/// A line is the number of the ply, its verdict or `open`, and the position's FEN text. Moves are in the notation, one a line. Nothing
 /// is read after the line of a verdict. Each line has gone out before the next move is awaited. The result is false after one of
-/// these last lines. `refused move 2`: the line at this place, counted from 0, is no move. `illegal 2`: its move isn't legal.
+/// these last lines. `refused move 2`: the line at this place, counted from 0, is no move; in algebraic notation also one whose move
+/// isn't legal, or is one of two. `illegal 2`: its move in coordinates isn't legal.
 /// `refused files`: the input can't be read, or has more than 2^64 - 1 moves. `refused memory`. The error comes only where the
 /// writer failed.
 pub fn follow_game<L: LineReader, W: Output>(
     alloc: Global,
+    notation: Notation,
     set: Set<'_>,
     start: &Position,
     delay: Delay,
@@ -243,17 +257,17 @@ pub fn follow_game<L: LineReader, W: Output>(
 ) -> Result<bool, WriteFault>
     // Each ply is told up to the first verdict. Where the writer fails, the lines before are written whole, none of which tells a verdict,
     // and a front of the last.
-    ensures follows { FollowsTo (rules_by start.now set.entry.tables delay) (stops_by (L.facts reader.old)) (L.facts reader.old).left (W.contents out.old) (W.contents out.new) result }
+    ensures follows { FollowsTo notation (rules_by start.now set.entry.tables delay) (stops_by (L.facts reader.old)) (L.facts reader.old).left (W.contents out.old) (W.contents out.new) result }
 
     // An error comes only of a type of writer that may refuse a write, or from which what was written can't go out.
     ensures cause { OnErr result (HasFailed W.facts) }
 
     // The last line is that of the outcome of the whole game.
-    ensures as_game { IfOk result (λ done. AgreesIfKnown (rules_by start.now set.entry.tables delay) (L.facts reader.old).left (W.contents out.old) (W.contents out.new)) }
+    ensures as_game { IfOk result (λ done. AgreesIfKnown notation (rules_by start.now set.entry.tables delay) (L.facts reader.old).left (W.contents out.old) (W.contents out.new)) }
 
     // Each line has gone out between the moves that came.
     ensures turns { OnOk result (FollowsInTurn L.facts W.facts W.contents reader.old out.old out.new) }
 {
     one_move();
-    follow_moves(alloc, set, start, delay, reader, out)
+    follow_moves(alloc, notation, set, start, delay, reader, out)
 }

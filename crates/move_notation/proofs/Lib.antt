@@ -1,1 +1,1 @@
-mod TurnLaws
+pub mod TurnLaws

@@ -1,15 +1,27 @@
 -- Words that are read in turn.
 use Rattle.std.proofs.Common.{◌≡◌, ◌≢◌, ℕ, List, [], ◌∷◌, ◌++◌, length, refl, sym, ap, ◌∙◌, subst, append_assoc}
-use Rattle.std.specs.Prelude.{Option, Some, None, Result, Ok, Err, suc, OnErr}
+use Rattle.std.specs.Prelude.{Some, Result, Ok, Err, suc, OnErr}
 use Rattle.board_core.specs.declared.parts.Parts.{Parts}
 use Rattle.board_core.specs.declared.moves.Move.{Move as Moves}
 use Rattle.board_core.specs.ComputedMoves.{position_after}
-use Rattle.move_msg.specs.GameTexts.{words_in}
-use Rattle.san_text.specs.San.{ReadsSan}
+use Rattle.move_msg.specs.GameTexts.{HasMove, words_in}
+use Rattle.fen_text.specs.Laws.{HasOneMove}
+use Rattle.san_text.specs.San.{IsMeant, ReadsSan}
+use Rattle.san_text.specs.Laws.{TellsOneThing}
+use Rattle.san_text.specs.declared.told.Told.{Told}
+use Rattle.move_notation.specs.declared.notation.Notation.TheVariants.{Coordinates, San}
+use Rattle.move_notation.specs.Laws.{NamesOneMove}
 use Rattle.move_notation.specs.Notations.{AreSanMoves, IsFirstUnread, LeadsTo}
 
+-- a text names one move at most
+pub names_one : HasOneMove → TellsOneThing → NamesOneMove
+names_one one thing Coordinates p t m n a b = one t m n a b
+names_one one thing San p t m n a b =
+    let same : a.told ≡ b.told = thing t a.told b.told a.spells b.spells in
+    b.only m (subst (λ (told : Told). IsMeant p told m) same a.meant)
+
 -- one more word is read
-leads_more : (p q next : Parts) (texts : List (List ℕ)) (moves : List Moves) (text : List ℕ) (m : Moves) → LeadsTo p texts moves q → ReadsSan q text m → position_after q m ≡ Some next → LeadsTo p (texts ++ text ∷ []) (moves ++ m ∷ []) next
+pub leads_more : (p q next : Parts) (texts : List (List ℕ)) (moves : List Moves) (text : List ℕ) (m : Moves) → LeadsTo p texts moves q → ReadsSan q text m → position_after q m ≡ Some next → LeadsTo p (texts ++ text ∷ []) (moves ++ m ∷ []) next
 unfolding LeadsTo
 leads_more p q next [] [] text m leads reads played =
     (next, subst (λ p. ReadsSan p text m) leads reads, subst (λ (p : Parts). position_after p m ≡ Some next) leads played, refl)
@@ -57,7 +69,7 @@ read_bad start there text rest word tail moves r cut none = record {
   text = word;
   behind = words_in tail;
   are = r.is ∙ ap (λ ws. r.front ++ ws) cut;
-  place = leads_length start there r.front moves r.leads;
+  counted = leads_length start there r.front moves r.leads;
   moves = moves;
   there = there;
   leads = r.leads;
@@ -72,3 +84,11 @@ has_some (w ∷ front) behind word e = let f = e in absurd cc
 pub has_words : (start there : Parts) (text rest word tail : List ℕ) (moves : List Moves) → AreReadTo start text rest moves there → words_in rest ≡ word ∷ words_in tail → words_in text ≢ []
 has_words start there text rest word tail moves r cut none =
     has_some r.front (words_in tail) word (sym (r.is ∙ ap (λ ws. r.front ++ ws) cut) ∙ none)
+
+pub has_move : (text : List ℕ) → HasMove text → words_in text ≢ []
+has_move text (before, word, behind, is, move) none = has_some before behind word (sym is ∙ none)
+
+-- whatever the error is
+pub anyhow : {T E : Type 0} {P : Type 0} → (r : Result T E) → P → OnErr r P
+anyhow (Ok x) h = tt
+anyhow (Err e) h = h

@@ -1,1 +1,2 @@
 pub mod Notations
+pub mod Laws

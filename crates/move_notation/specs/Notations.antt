@@ -1,5 +1,5 @@
 -- Moves as people write them, in coordinates or in standard algebraic notation (this project's own).
-use Rattle.std.specs.Prelude.{◌≡◌, ◌++◌, ℕ, List, [], ◌∷◌, length, Some}
+use Rattle.std.specs.Prelude.{◌≡◌, ◌++◌, ℕ, Bool, true, false, List, [], ◌∷◌, length, Some}
 use Rattle.board_core.specs.declared.parts.Parts.{Parts}
 use Rattle.board_core.specs.declared.moves.Move.{Move as Moves}
 use Rattle.board_core.specs.ComputedMoves.{position_after}
@@ -8,6 +8,11 @@ use Rattle.san_text.specs.San.{ReadsSan}
 use Rattle.move_msg.specs.GameTexts.{IsBadWordAt}
 use Rattle.move_notation.specs.declared.notation.Notation.{Notation}
 use Rattle.move_notation.specs.declared.notation.Notation.TheVariants.{Coordinates, San}
+
+-- algebraic notation where a flag asks for it
+abbrev pub notation_by : Bool → Notation
+notation_by true = San
+notation_by false = Coordinates
 
 -- a text names this move in a position: in coordinates by its two squares, whether or not the position has it; in algebraic notation as one of
 -- its legal moves
@@ -37,7 +42,7 @@ pub record IsFirstUnread (p : Parts) (texts : List (List ℕ)) (place : ℕ) : T
   pub text : List ℕ
   pub behind : List (List ℕ)
   pub are : texts ≡ before ++ text ∷ behind
-  pub place : length before ≡ place
+  pub counted : length before ≡ place
   pub moves : List Moves
   pub there : Parts
   pub leads : LeadsTo p before moves there

@@ -2,7 +2,7 @@
 
 ghost use Rattle.std.specs.Prelude.{◌≡◌, IfSome, Some};
 ghost use Rattle.board_core.specs.declared.moves.Move.{Move as Moves};
-ghost use Rattle.move_notation.specs.Notations.{Spells};
+ghost use Rattle.move_notation.specs.Notations.{Spells, notation_by};
 
 use board_core::{Move, Position};
 use fen_text::read_move;
@@ -18,6 +18,17 @@ pub enum Notation {
 }
 
 impl Notation {
+    /// Algebraic notation where a flag asks for it, and else coordinates.
+    pub fn by_flag(san: bool) -> Notation
+        ensures { result ≡ notation_by san }
+    {
+        if san {
+            Notation::San
+        } else {
+            Notation::Coordinates
+        }
+    }
+
     /// The move that a text names in a position; none where it names none.
     ///
     /// In coordinates any two squares are a move here, whether or not the position has it. In algebraic notation the move is legal.

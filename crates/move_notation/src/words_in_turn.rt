@@ -18,11 +18,12 @@ fn played(position: &Position, word: &[u8]) -> Option<(Move, Position)>
     ensures some { IfSome result (λ x. ReadsSan position.now word.now x.0 × (position_after position.now x.0 ≡ Some x.1)) }
     ensures none { IfNone result ((m : Moves) → ReadsSan position.now word.now m → ⊥) }
 {
-    let Ok(m) = read_san(position, word) else {
+    let read = read_san(position, word);
+    let Ok(m) = &read else {
         return None;
     };
-    match position.play(m) {
-        Some(next) => Some((m, next)),
+    match position.play(*m) {
+        Some(next) => Some((*m, next)),
         None => unreachable!(),
     }
 }

@@ -16,6 +16,7 @@ use Rattle.move_msg.specs.Messages.{SpellsMessage, message_text}
 use Rattle.move_msg.specs.Numbers.{most_moves}
 use Rattle.move_msg.specs.TextLines.{ended, text_of}
 use Rattle.move_msg.proofs.LineLaws.{more_lines}
+use Rattle.move_notation.specs.declared.notation.Notation.{Notation}
 use Rattle.source_core.specs.declared.known.Known.{Known}
 use Rattle.source_core.specs.declared.lines.End.{End}
 use Rattle.source_core.specs.declared.sending.SendState.{SendState}
@@ -48,7 +49,7 @@ use Rattle.source_core.proofs.TurnLaws.{again_reports_nothing, all_more}
 -- ---- one step
 
 -- where the number is that of the moves before it
-last_move : (g : SendingGame) (at : SendingState) (input : Option (List ℕ)) (line : List ℕ) (after : Parts) (m : Moves) (known known' : Known) (port port' : PortFacts) (turn : Turn) (tries : List (List Passing)) → Knows g.terms.stamp at.passed known → ReadsLine at.input input line → IsPlayedLine at.position (length at.moves) line m after → IsTurn g.terms (length at.moves) m (length at.moves + 1) after port port' known known' turn tries → port.addresses ≡ g.addresses → IsLastMove g at input (m ∷ []) (sent_in g at.moves m tries)
+last_move : (g : SendingGame) (at : SendingState) (input : Option (List ℕ)) (line : List ℕ) (after : Parts) (m : Moves) (known known' : Known) (port port' : PortFacts) (turn : Turn) (tries : List (List Passing)) → Knows g.terms.stamp at.passed known → ReadsLine at.input input line → IsPlayedLine g.terms.notation at.position (length at.moves) line m after → IsTurn g.terms (length at.moves) m (length at.moves + 1) after port port' known known' turn tries → port.addresses ≡ g.addresses → IsLastMove g at input (m ∷ []) (sent_in g at.moves m tries)
 last_move g at input line after m known known' port port' turn tries k read r t e = record { line = line; move = m; tries = tries; after = after; read = read; spelled = r.spelled; legal = r.legal; room = r.room; spelling = t.spelling; are = record { few = t.few; received = t.received; again = t.again; waited = subst (λ n. EachWaitsSoLong g.terms (length at.moves) n (text_in g at.moves m) at.passed tries) e (t.waited at.passed k) }; only = refl; passed = refl }
 
 -- the course after the move was played
@@ -57,7 +58,7 @@ course_at after known m = record { position = after; known = known; last = Some 
 
 -- a turn ends the run, or the run goes on
 turned : (cause : ReadFault → Type 0) (terms : SendConfig) (input input' : Option (List ℕ)) (line : List ℕ) (position after : Parts) (m : Moves) (known known' : Known) (port port' : PortFacts) (turn : Turn) (tries : List (List Passing)) (before : List Passing) (moves : List Moves)
-    → ReadsLine input input' line → IsPlayedLine position (length moves) line m after → IsTurn terms (length moves) m (length moves + 1) after port port' known known' turn tries → Knows terms.stamp before known
+    → ReadsLine input input' line → IsPlayedLine terms.notation position (length moves) line m after → IsTurn terms (length moves) m (length moves + 1) after port port' known known' turn tries → Knows terms.stamp before known
     → StepsSo cause (game_at_port terms port) (record { input = input; position = position; moves = moves; passed = before }) input' (course_at after known' m) port port' (end_by turn)
 unfolding StepsSo last_move
 turned cause terms input input' line position after m known known' port port' at_turn.Acked tries before moves read r t k =
@@ -83,26 +84,26 @@ turned cause terms input input' line position after m known known' port port' at
     (m ∷ [], _, Sent (last_move _ _ input' line after m known known' port port' at_turn.PortLost tries k read r t refl) (t.ends before k) (λ e. absurd (let x : at_end.PortLost ≡ at_end.Lost = e in cc)), t.passed, λ e. absurd (let x : at_end.PortLost ≡ at_end.Lost = e in cc))
 
 pub steps_on : (terms : SendConfig) (number : ℕ) (line : List ℕ) (course course' : SendState) (after : Parts) (m : Moves) (known' : Known) (port port' : PortFacts) (turn : Turn) (o : Option End)
-    → course' ≡ course_at after known' m → IsPlayedLine course.position number line m after → (tries : List (List Passing)) × IsTurn terms number m (number + 1) after port port' course.known known' turn tries → o ≡ end_by turn
+    → course' ≡ course_at after known' m → IsPlayedLine terms.notation course.position number line m after → (tries : List (List Passing)) × IsTurn terms number m (number + 1) after port port' course.known known' turn tries → o ≡ end_by turn
     → StepsOn terms number line course course' port port' o
 steps_on terms number line course course' after m known' port port' turn o at_new r (tries, t) is input input' read before moves k e last =
     let g : SendingGame = game_at_port terms port in
     let at : SendingState = record { input = input; position = course.position; moves = moves; passed = before } in
     subst (λ c. StepsSo no_cause g at input' c port port' o) (sym at_new)
     (subst (StepsSo no_cause g at input' (course_at after known' m) port port') (sym is)
-    (turned no_cause terms input input' line course.position after m course.known known' port port' turn tries before moves read (subst (λ n. IsPlayedLine course.position n line m after) e r) (subst (λ n. IsTurn terms n m (n + 1) after port port' course.known known' turn tries) e t) k))
+    (turned no_cause terms input input' line course.position after m course.known known' port port' turn tries before moves read (subst (λ n. IsPlayedLine terms.notation course.position n line m after) e r) (subst (λ n. IsTurn terms n m (n + 1) after port port' course.known known' turn tries) e t) k))
 
 -- no line is refused, and no read fails, as an arbiter that doesn't answer
-not_refused : (position : Parts) (number : ℕ) (line : List ℕ) (end : End) → IsRefusedLine position number line end → end ≡ at_end.Lost → ⊥
-not_refused position number line end h is = subst (IsRefusedLine position number line) is h
+not_refused : (notation : Notation) (position : Parts) (number : ℕ) (line : List ℕ) (end : End) → IsRefusedLine notation position number line end → end ≡ at_end.Lost → ⊥
+not_refused notation position number line end h is = subst (IsRefusedLine notation position number line) is h
 
 not_unread : (cause : ReadFault → Type 0) (end : End) → IsUnread cause end → end ≡ at_end.Lost → ⊥
 not_unread cause end h is = subst (IsUnread cause) is h
 
-pub steps_refused : (terms : SendConfig) (number : ℕ) (line : List ℕ) (course : SendState) (port : PortFacts) (end : End) → IsRefusedLine course.position number line end → StepsOn terms number line course course port port (Some end)
+pub steps_refused : (terms : SendConfig) (number : ℕ) (line : List ℕ) (course : SendState) (port : PortFacts) (end : End) → IsRefusedLine terms.notation course.position number line end → StepsOn terms number line course course port port (Some end)
 unfolding StepsSo
 steps_refused terms number line course port end h input input' read before moves k e last =
-    ([], [], Refused line refl refl read (subst (λ n. IsRefusedLine course.position n line end) e h), Passed-nil port, λ is. absurd (not_refused course.position number line end h is))
+    ([], [], Refused line refl refl read (subst (λ n. IsRefusedLine terms.notation course.position n line end) e h), Passed-nil port, λ is. absurd (not_refused terms.notation course.position number line end h is))
 
 pub steps_unread : (cause : ReadFault → Type 0) (terms : SendConfig) (number : ℕ) (input input' : Option (List ℕ)) (course : SendState) (port : PortFacts) (end : End) → IsUnread cause end → SendingSteps cause terms number input input' course course port port (Some end)
 unfolding StepsSo

@@ -5,11 +5,12 @@ use Rattle.std.specs.Io.KnownBytes.{Appends, IsAtEnd}
 use Rattle.board_core.specs.declared.moves.Move.{Move as Moves}
 use Rattle.board_core.specs.declared.parts.Parts.{Parts}
 use Rattle.board_core.specs.Moves.{Legal, IsLegal}
-use Rattle.fen_text.specs.Coordinates.{SpellsMove}
 use Rattle.move_msg.specs.declared.stamp.Stamp.{Stamp}
 use Rattle.move_msg.specs.Messages.{SpellsMessage, message_text}
 use Rattle.move_msg.specs.Numbers.{most_moves}
 use Rattle.move_msg.specs.TextLines.{ended, text_of}
+use Rattle.move_notation.specs.declared.notation.Notation.{Notation}
+use Rattle.move_notation.specs.Notations.{Spells}
 use Rattle.system_io.specs.declared.output.WriteFault.{WriteFault}
 use Rattle.system_io.specs.declared.reading.ReadFault.{ReadFault}
 use Rattle.system_io.specs.declared.reading.ReadFault.TheVariants as fault
@@ -69,7 +70,7 @@ pub record AreTries (g : SendingGame) (moves : List Moves) (m : Moves) (before :
 -- the next line spells a legal move, which is sent as the move with its number until both have acknowledged it
 pub record IsAckedTurn (g : SendingGame) (old : SendingState) (t : AckedMove) : Type 0 where
   pub read : ReadsLine old.input t.after.input t.line
-  pub spelled : SpellsMove t.line t.move
+  pub spelled : Spells g.terms.notation old.position t.line t.move
   pub legal : Legal old.position t.move t.after.position
   pub room : length old.moves < most_moves
   pub spelling : HasSpelling g.terms.stamp (length old.moves) t.move
@@ -92,7 +93,7 @@ pub record IsLastMove (g : SendingGame) (at : SendingState) (input : Option (Lis
   pub tries : List (List Passing)
   pub after : Parts
   pub read : ReadsLine at.input input line
-  pub spelled : SpellsMove line move
+  pub spelled : Spells g.terms.notation at.position line move
   pub legal : Legal at.position move after
   pub room : length at.moves < most_moves
   pub spelling : HasSpelling g.terms.stamp (length at.moves) move
@@ -115,18 +116,18 @@ IsSentLast stamp number after all at_end.Unread = ⊥
 IsSentLast stamp number after all at_end.OutOfMemory = ⊥
 
 -- why the move of a line isn't sent: the line is none, or no legal one, or there are as many as a game may have
-abbrev pub IsRefusedLine : Parts → ℕ → List ℕ → End → Type 0
-IsRefusedLine position number line (at_end.Open count) = ⊥
-IsRefusedLine position number line (at_end.Ruled r) = ⊥
-IsRefusedLine position number line (at_end.Clashed c) = ⊥
-IsRefusedLine position number line (at_end.Belied r) = ⊥
-IsRefusedLine position number line (at_end.NotAMove place) = (place ≡ number) × (number < most_moves) × ((m : Moves) → SpellsMove line m → ⊥)
-IsRefusedLine position number line (at_end.Illegal place) = (place ≡ number) × (number < most_moves) × ((m : Moves) × SpellsMove line m × (IsLegal position m → ⊥))
-IsRefusedLine position number line at_end.TooLong = number ≡ most_moves
-IsRefusedLine position number line at_end.Lost = ⊥
-IsRefusedLine position number line at_end.PortLost = ⊥
-IsRefusedLine position number line at_end.Unread = ⊥
-IsRefusedLine position number line at_end.OutOfMemory = ⊥
+abbrev pub IsRefusedLine : Notation → Parts → ℕ → List ℕ → End → Type 0
+IsRefusedLine notation position number line (at_end.Open count) = ⊥
+IsRefusedLine notation position number line (at_end.Ruled r) = ⊥
+IsRefusedLine notation position number line (at_end.Clashed c) = ⊥
+IsRefusedLine notation position number line (at_end.Belied r) = ⊥
+IsRefusedLine notation position number line (at_end.NotAMove place) = (place ≡ number) × (number < most_moves) × ((m : Moves) → Spells notation position line m → ⊥)
+IsRefusedLine notation position number line (at_end.Illegal place) = (place ≡ number) × (number < most_moves) × ((m : Moves) × Spells notation position line m × (IsLegal position m → ⊥))
+IsRefusedLine notation position number line at_end.TooLong = number ≡ most_moves
+IsRefusedLine notation position number line at_end.Lost = ⊥
+IsRefusedLine notation position number line at_end.PortLost = ⊥
+IsRefusedLine notation position number line at_end.Unread = ⊥
+IsRefusedLine notation position number line at_end.OutOfMemory = ⊥
 
 -- what an input tells of why a read fails: it can't be read to its end; or reading on takes memory, which may be refused
 abbrev pub causes : Type 0 → Type 0 → ReadFault → Type 0
@@ -191,7 +192,7 @@ pub data SendingEndsWith (cause : ReadFault → Type 0) (g : SendingGame) (at : 
   -- no further line is read
   Unread : sent ≡ [] → more ≡ [] → IsUnread cause end → SendingEndsWith cause g at input sent more end
   -- a line is read, and its move isn't sent
-  Refused : (line : List ℕ) → sent ≡ [] → more ≡ [] → ReadsLine at.input input line → IsRefusedLine at.position (length at.moves) line end → SendingEndsWith cause g at input sent more end
+  Refused : (line : List ℕ) → sent ≡ [] → more ≡ [] → ReadsLine at.input input line → IsRefusedLine g.terms.notation at.position (length at.moves) line end → SendingEndsWith cause g at input sent more end
   -- the input has ended
   Closed : sent ≡ [] → IsAtEnd at.input → IsClosed g at.position at.moves at.passed more end → SendingEndsWith cause g at input sent more end
   -- one more move is sent; an arbiter counts as silent only when all tries are used up

@@ -1,9 +1,9 @@
 //! The source of a live game: it sends the game's moves to the two arbiters as they are played.
 //!
-//! Lines go in, a move each; datagrams go out to each address of a port until both arbiters have acknowledged the move, and a
-//! line is written for each. `Known` keeps what the arbiters have reported, a count and a verdict for each; `Report` is what a
-//! datagram of the game reports. After the input's end the last move is sent once more. What it sends is the list of moves with
-//! which a world begins (`theorems::sends_the_log`).
+//! Lines go in, a move each in the notation of the terms; datagrams go out to each address of a port until both arbiters have
+//! acknowledged the move, and a line is written for each. `Known` keeps what the arbiters have reported, a count and a verdict for
+//! each; `Report` is what a datagram of the game reports. After the input's end the last move is sent once more. What it sends is the
+//! list of moves with which a world begins (`theorems::sends_the_log`).
 //!
 //! Inside: `sending` (a run), `turn` (one move), `board` (the source's own), `known`, `report`, `lines`, `laws`.
 //!

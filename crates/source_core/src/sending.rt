@@ -13,8 +13,8 @@ use crate::known::{Known, Standing};
 use crate::lines::{End, Ended, Line, put_now};
 use crate::turn::{Next, SendConfig, Turn, receive_all, send_again, take_turn};
 use board_core::{Move, Position};
-use fen_text::read_move;
 use move_msg::{Count, MOST_MOVES};
+use move_notation::Notation;
 use std::alloc::Global;
 use system_io::{LineReader, Output, Port, ReadFault, WriteFault};
 
@@ -41,15 +41,20 @@ fn begun_at(start: Position) -> SendState
 }
 
 /// A line as a legal move of a position, and the position after it. The error is the end of the run.
-fn move_of(line: &[u8], position: &Position, number: Count) -> Result<(Move, Position), End>
-    ensures ok { IfOk result (λ t. IsPlayedLine position.now number line.now t.0 t.1) }
-    ensures err { IfErr result (IsRefusedLine position.now number line.now) }
+fn move_of(
+    notation: Notation,
+    line: &[u8],
+    position: &Position,
+    number: Count,
+) -> Result<(Move, Position), End>
+    ensures ok { IfOk result (λ t. IsPlayedLine notation position.now number line.now t.0 t.1) }
+    ensures err { IfErr result (IsRefusedLine notation position.now number line.now) }
 {
     let number = number.number();
     if number >= MOST_MOVES {
         return Err(End::TooLong);
     }
-    let read = read_move(line);
+    let read = notation.read(position, line);
     let Some(m) = &read else {
         return Err(End::NotAMove(number));
     };
@@ -83,7 +88,7 @@ fn send_line<P: Port>(
 ) -> Option<End>
     ensures { StepsOn terms.now number line.now course.old course.new (P.facts port.old) (P.facts port.new) result }
 {
-    match &move_of(line, &course.position, number) {
+    match &move_of(terms.notation, line, &course.position, number) {
         Err(end) => Some(*end),
         Ok((m, next)) => {
             course.position = *next;
@@ -176,8 +181,8 @@ fn finish<W: Output>(out: &mut W, end: End, known: &Known) -> Result<Ended, Writ
 /// it. Then the line `2 acked` follows, with how many moves are acknowledged, and when it has gone out the next line is read. Once both
 /// have reported the verdict the last line is `verdict 4 BlackMates`, with status 0. At the input's end the last
 /// acknowledged move is sent once more, and the last line is `open 2`, with status 0, unless the verdict comes in time.
-/// With status 1 it is one of these. `refused move 2`: a line that is no move, counted from 0. `illegal 2`: a move that
-/// isn't legal, which isn't sent. `refused TooLong`: a 4097th move. `refused lost`: an arbiter doesn't answer. `refused
+/// With status 1 it is one of these. `refused move 2`: a line that is no move in the notation of the terms, counted from 0; in
+/// algebraic notation also one whose move isn't legal, or is one of two. `illegal 2`: a move in coordinates that isn't legal, which isn't sent. `refused TooLong`: a 4097th move. `refused lost`: an arbiter doesn't answer. `refused
 /// port`, `refused memory`, and `refused files`: the input can't be read. `disagree 2 BlackMates 2 Stalemate`: two
 /// verdicts that differ. `disagree 2 BlackMates`: a mate or a stalemate that is reported and that the source's own board doesn't
 /// show at that ply. The error comes only where the writer failed.

@@ -14,6 +14,7 @@ use crate::known::{Clash, Known, Standing};
 use crate::report::{Ruling, report_of};
 use board_core::Move;
 use move_msg::{Message, Sender, Stamp};
+use move_notation::Notation;
 use std::time::Duration;
 use system_io::Port;
 
@@ -26,6 +27,8 @@ const MOST_ANSWERS: u64 = u64::MAX;
 pub struct SendConfig {
     /// The stamp of the game, which each of its messages carries.
     pub stamp: Stamp,
+    /// How the moves are written that are read.
+    pub notation: Notation,
     /// How often a turn sends its move at most, each time to all addresses: 1 to 2^32 - 1 times. The last acknowledged move is sent
     /// once more at the input's end. With 0 nothing is sent, and a move that isn't acknowledged already is lost.
     pub tries: u32,

@@ -1,9 +1,11 @@
--- `game [--tables DIR] [--manifest FILE] [--delay N] FEN`: what the game of the input comes to (this project's own).
+-- `game [--tables DIR] [--manifest FILE] [--delay N] [--san] FEN`: what the game of the input comes to (this project's own).
 use Rattle.std.specs.Prelude.{◌≡◌, ℕ, Bool, true, false, List, [], ◌∷◌, length, Option, Some, None, Result, Ok, Err, codes, option_map}
 use Rattle.board_core.specs.declared.parts.Parts.{Parts}
 use Rattle.board_core.specs.declared.moves.Move.{Move}
-use Rattle.move_msg.specs.GameTexts.{IsBadWordAt, TellsMoves, words_in}
+use Rattle.move_msg.specs.GameTexts.{words_in}
 use Rattle.move_msg.specs.TextLines.{ended}
+use Rattle.move_notation.specs.declared.notation.Notation.{Notation}
+use Rattle.move_notation.specs.Notations.{AreMovesIn, IsBadWordIn, notation_by}
 use Rattle.judge_core.specs.declared.game.GameOutcome.{GameOutcome}
 use Rattle.judge_core.specs.declared.game.GameOutcome.TheVariants.{Ruled, Illegal, Going}
 use Rattle.judge_core.specs.Games.{IsOutcome}
@@ -18,7 +20,7 @@ use Rattle.task_files.specs.Sources.{Named}
 use Rattle.task_files.specs.Given.{Given}
 use Rattle.adjudicate_core.specs.Lines.{refused_move}
 use Rattle.adjudicate_core.specs.Looks.{gathered}
-use Rattle.adjudicate_core.specs.Numbers.{IsDelay}
+use Rattle.adjudicate_core.specs.Numbers.{IsDelay, is_set}
 use Rattle.adjudicate_core.specs.Reply.{IsForText, Reply, refusal_reply, status_if}
 use Rattle.adjudicate_core.specs.declared.commands.game.FollowGame.{FollowGame}
 
@@ -27,11 +29,12 @@ rules =
     rule_of_form form.Option (codes "tables")
     ∷ rule_of_form form.Option (codes "manifest")
     ∷ rule_of_form form.Option (codes "delay")
+    ∷ rule_of_form form.Flag (codes "san")
     ∷ rule_of_form form.Word (codes "FEN") ∷ []
 
 -- the values of its arguments
 abbrev pub HasValues : (Text → Option Text) → FollowGame → Type 0
-HasValues value t = (option_map (λ s. s.now) t.tables ≡ value (codes "tables")) × (option_map (λ s. s.now) t.manifest ≡ value (codes "manifest")) × IsDelay (value (codes "delay")) t.delay × (Some t.fen.now ≡ value (codes "FEN"))
+HasValues value t = (option_map (λ s. s.now) t.tables ≡ value (codes "tables")) × (option_map (λ s. s.now) t.manifest ≡ value (codes "manifest")) × IsDelay (value (codes "delay")) t.delay × (t.san ≡ is_set (value (codes "san"))) × (Some t.fen.now ≡ value (codes "FEN"))
 
 -- what may be wrong with its values, in the order in which it is told
 abbrev pub faults : List Fault
@@ -50,11 +53,11 @@ are_all_legal Going = true
 abbrev pub outcome_reply : GameOutcome → List Move → Reply
 outcome_reply outcome moves = record { text = ended (outcome_words outcome (length moves)); status = status_if (are_all_legal outcome) }
 
--- the refusal of the first word that is no move; or else that of the tables; or else what the game comes to
-pub data IsPlayedReply (text : List ℕ) (found : Result Tables (List ℕ)) (delay : ℕ) (start : Parts) (r : Reply) : Type 0 where
-  BadWord : (place : ℕ) → IsBadWordAt (words_in text) place → r ≡ refusal_reply (refused_move place) → IsPlayedReply text found delay start r
-  BadTables : (moves : List Move) → TellsMoves text moves → (words : List ℕ) → found ≡ Err words → r ≡ refusal_reply words → IsPlayedReply text found delay start r
-  Played : (moves : List Move) → TellsMoves text moves → (tables : Tables) → found ≡ Ok tables → (outcome : GameOutcome) → IsOutcome (record { start = start; tables = tables; delay = delay }) moves outcome → r ≡ outcome_reply outcome moves → IsPlayedReply text found delay start r
+-- the refusal of the first word that is no move, in algebraic notation no legal one in its turn; or else that of the tables; or else what the game comes to
+pub data IsPlayedReply (notation : Notation) (text : List ℕ) (found : Result Tables (List ℕ)) (delay : ℕ) (start : Parts) (r : Reply) : Type 0 where
+  BadWord : (place : ℕ) → IsBadWordIn notation start (words_in text) place → r ≡ refusal_reply (refused_move place) → IsPlayedReply notation text found delay start r
+  BadTables : (moves : List Move) → AreMovesIn notation start (words_in text) moves → (words : List ℕ) → found ≡ Err words → r ≡ refusal_reply words → IsPlayedReply notation text found delay start r
+  Played : (moves : List Move) → AreMovesIn notation start (words_in text) moves → (tables : Tables) → found ≡ Ok tables → (outcome : GameOutcome) → IsOutcome (record { start = start; tables = tables; delay = delay }) moves outcome → r ≡ outcome_reply outcome moves → IsPlayedReply notation text found delay start r
 
 abbrev pub IsReply : FollowGame → Given → Reply → Type 0
-IsReply t given r = IsForText t.fen.now (IsPlayedReply given.input (gathered given) t.delay) r
+IsReply t given r = IsForText t.fen.now (IsPlayedReply (notation_by t.san) given.input (gathered given) t.delay) r

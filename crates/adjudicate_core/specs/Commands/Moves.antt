@@ -1,24 +1,28 @@
--- `moves FEN`: the legal moves of a position (this project's own).
-use Rattle.std.specs.Prelude.{◌≡◌, List, [], ◌∷◌, map, Option, Some, codes}
+-- `moves [--san] FEN`: the legal moves of a position (this project's own).
+use Rattle.std.specs.Prelude.{◌≡◌, ◌++◌, ℕ, Bool, true, false, List, [], ◌∷◌, map, Option, Some, codes}
+use Rattle.board_core.specs.declared.moves.Move.{Move}
 use Rattle.board_core.specs.declared.parts.Parts.{Parts}
 use Rattle.board_core.specs.ComputedMoves.{legal_moves}
 use Rattle.fen_text.specs.Coordinates.{move_text}
 use Rattle.move_msg.specs.TextLines.{text_of}
+use Rattle.san_text.specs.Written.{san_of}
 use Rattle.clap.specs.Words.{Rule, Text}
 use Rattle.adjudicate_core.specs.Rules.{rule_of_form}
 use Rattle.adjudicate_core.specs.declared.commands.Form.TheVariants as form
 use Rattle.adjudicate_core.specs.Misuses.{Fault, NoWord}
 use Rattle.task_files.specs.Sources.{Named, nothing}
+use Rattle.adjudicate_core.specs.Numbers.{is_set}
 use Rattle.adjudicate_core.specs.Reply.{IsForText, Reply}
 use Rattle.adjudicate_core.specs.declared.commands.moves.Moves.{Moves}
 
 abbrev pub rules : List Rule
 rules =
-    rule_of_form form.Word (codes "FEN") ∷ []
+    rule_of_form form.Flag (codes "san")
+    ∷ rule_of_form form.Word (codes "FEN") ∷ []
 
 -- the values of its arguments
 abbrev pub HasValues : (Text → Option Text) → Moves → Type 0
-HasValues value t = Some t.fen.now ≡ value (codes "FEN")
+HasValues value t = (t.san ≡ is_set (value (codes "san"))) × (Some t.fen.now ≡ value (codes "FEN"))
 
 -- what may be wrong with its values, in the order in which it is told
 abbrev pub faults : List Fault
@@ -28,12 +32,17 @@ faults = NoWord (codes "FEN") ∷ []
 abbrev pub named : Moves → Named
 named t = nothing
 
--- the legal moves in coordinates, one a line
-unfoldable pub moves_at : Parts → Reply
-moves_at p = record { text = text_of (map move_text (legal_moves p)); status = 0 }
+-- a move in coordinates; with the flag its text in algebraic notation stands behind a tab
+abbrev pub move_line : Bool → Parts → Move → List ℕ
+move_line false p m = move_text m
+move_line true p m = move_text m ++ 9 ∷ san_of p m
 
-abbrev pub IsMoves : Parts → Reply → Type 0
-IsMoves p r = r ≡ moves_at p
+-- the legal moves, one a line
+unfoldable pub moves_at : Bool → Parts → Reply
+moves_at san p = record { text = text_of (map (move_line san p) (legal_moves p)); status = 0 }
+
+abbrev pub IsMoves : Bool → Parts → Reply → Type 0
+IsMoves san p r = r ≡ moves_at san p
 
 abbrev pub IsReply : Moves → Reply → Type 0
-IsReply t r = IsForText t.fen.now IsMoves r
+IsReply t r = IsForText t.fen.now (IsMoves t.san) r

@@ -1,5 +1,5 @@
 -- `send --name N --start FEN --tables DIR [--manifest FILE] [--delay N] --to ADDR[,ADDR] [--bind ADDR] [--wait MS] [--tries N]
--- [--key FILE]`, or with `--game FILE` in place of what is before `--to`: the source of a game at a port; specs/Sends.antt has what it
+-- [--key FILE] [--san]`, or with `--game FILE` in place of what is before `--to`: the source of a game at a port; specs/Sends.antt has what it
 -- makes of its input (this project's own).
 use Rattle.std.specs.Prelude.{◌≡◌, ◌++◌, ℕ, List, [], ◌∷◌, map, Option, Some, None, codes, option_map}
 use Rattle.clap.specs.Words.{Rule, Text}
@@ -10,7 +10,7 @@ use Rattle.adjudicate_core.specs.GamePaths.{NamesGame}
 use Rattle.adjudicate_core.specs.Misuses.{AreGameWords, Beside, Fault, Unfit, Untold, game_faults, to_faults}
 use Rattle.adjudicate_core.specs.declared.words.usage.Wanted.TheVariants as wanted
 use Rattle.task_files.specs.Sources.{Named, nothing}
-use Rattle.adjudicate_core.specs.Numbers.{IsDelay, IsHundredOr}
+use Rattle.adjudicate_core.specs.Numbers.{IsDelay, IsHundredOr, is_set}
 use Rattle.adjudicate_core.specs.declared.commands.send.Send.{Send}
 use Rattle.adjudicate_core.specs.declared.commands.send.ToldGame.{ToldGame}
 use Rattle.adjudicate_core.specs.declared.commands.send.GameFile.{GameFile}
@@ -29,7 +29,8 @@ rules =
     ∷ rule_of_form form.Option (codes "to")
     ∷ rule_of_form form.Option (codes "wait")
     ∷ rule_of_form form.Option (codes "tries")
-    ∷ rule_of_form form.Option (codes "key") ∷ []
+    ∷ rule_of_form form.Option (codes "key")
+    ∷ rule_of_form form.Flag (codes "san") ∷ []
 
 -- the words that tell a game
 abbrev pub IsToldGame : (Text → Option Text) → ToldGame → Type 0
@@ -60,6 +61,7 @@ pub record HasValues (value : Text → Option Text) (t : Send) : Type 0 where
   pub wait : IsHundredOr (value (codes "wait")) t.wait
   pub tries : IsHundredOr (value (codes "tries")) t.tries
   pub key : option_map (λ s. s.now) t.key ≡ value (codes "key")
+  pub san : t.san ≡ is_set (value (codes "san"))
 
 -- what may be wrong with its values, in the order in which it is told: without `--game` the words on a game; with it its path, and
 -- what stands beside it

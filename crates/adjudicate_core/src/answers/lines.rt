@@ -1,8 +1,9 @@
 //! The lines that the program writes.
 
-ghost use Rattle.std.specs.Prelude.{◌≡◌, ◌≤◌, ◌++◌, OnErr, codes, length};
+ghost use Rattle.std.specs.Prelude.{◌≡◌, ◌≤◌, ◌++◌, ◌∷◌, OnErr, codes, length};
 ghost use Rattle.std.specs.Fmt.{decimal};
 ghost use Rattle.board_core.specs.Verdicts.{verdict_name};
+ghost use Rattle.fen_text.specs.Coordinates.{move_text};
 ghost use Rattle.judge_core.specs.Words.{columns_words, outcome_words};
 ghost use Rattle.line_teller.specs.ToldLines.{HasFailed};
 ghost use Rattle.move_msg.specs.MessageWords.{message_words};
@@ -110,6 +111,8 @@ pub(crate) enum Line {
     Refused(Refusal),
     /// A move in coordinates.
     Move(Move),
+    /// A move in coordinates, and its text in algebraic notation.
+    SanMove(Move, ArrayString<8>),
     /// Whether the file of this name is the table that it should be.
     Look(ArrayString<16>, Option<FileFault>),
     /// The value in the tables, or why there is none.
@@ -263,6 +266,16 @@ fn arbiter_line(who: ArbiterId, state: State, kept: Option<KeptCount>) -> LineWo
     }
 }
 
+/// The line of a move in coordinates, with its text in algebraic notation behind a tab.
+fn san_line(m: &Move, text: &ArrayString<8>) -> LineWords
+    ensures { result ≡ move_text m.now ++ 9 ∷ text.now.bytes }
+{
+    let mut line = LineWords::of(write_move(m).as_str());
+    line.add("\t");
+    line.add(text.as_str());
+    line
+}
+
 /// The line of a finding.
 fn finding_line(finding: Finding) -> LineWords
     ensures { result ≡ finding_words finding }
@@ -315,6 +328,7 @@ impl Line {
             Line::Ruling(verdict) => LineWords::of(verdict_word(*verdict)),
             Line::Refused(refusal) => refusal.words(),
             Line::Move(m) => LineWords::of(write_move(m).as_str()),
+            Line::SanMove(m, text) => san_line(m, text),
             Line::Look(name, fault) => look_line(name, *fault),
             Line::Wdl(told) => told_line("wdl", told.0),
             Line::Dtz(told) => told_line("dtz", told.0),

@@ -14,7 +14,7 @@ use crate::answers::lines::put_refusal;
 use crate::answers::refusals::Refusal;
 use crate::answers::status_told;
 use crate::tables::gather;
-use crate::words::numbers::CacheSize;
+use crate::words::numbers::{CacheSize, is_set};
 use crate::words::usage::ValueFault;
 use crate::words::values::{delay_in, word_in};
 use board_core::{Delay, Position};
@@ -22,6 +22,7 @@ use clap::ArgMatches;
 use fen_text::read;
 use game_teller::follow_game;
 use judge_core::Set;
+use move_notation::Notation;
 use std::alloc::Global;
 use system_io::{Input, Output, WriteFault};
 use task_files::{InputPaths, Inputs};
@@ -35,12 +36,14 @@ pub struct Follow<'a> {
     pub manifest: Option<&'a str>,
     /// For how many further plies a verdict by tables must hold.
     pub delay: Delay,
+    /// Whether the moves are written in standard algebraic notation.
+    pub san: bool,
     /// The FEN text of the position before the first move.
     pub fen: &'a str,
 }
 
 /// The values of `follow`.
-pub(crate) const VALUES: [Value; 4] = [
+pub(crate) const VALUES: [Value; 5] = [
     Value {
         name: "tables",
         form: Form::Option,
@@ -54,6 +57,10 @@ pub(crate) const VALUES: [Value; 4] = [
         form: Form::Option,
     },
     Value {
+        name: "san",
+        form: Form::Flag,
+    },
+    Value {
         name: "FEN",
         form: Form::Word,
     },
@@ -62,19 +69,20 @@ pub(crate) const VALUES: [Value; 4] = [
 /// Tells the game of the input from a position by these tables, and returns the status.
 fn put_game<I: Input, W: Output>(
     alloc: Global,
+    notation: Notation,
     set: Set<'_>,
     start: &Position,
     delay: Delay,
     input: &I,
     out: &mut W,
 ) -> Result<u8, WriteFault>
-    ensures told { PutsFollowed (I.facts input.now) delay start.now set.entry.tables (W.contents out.old) (W.contents out.new) result }
+    ensures told { PutsFollowed (I.facts input.now) notation delay start.now set.entry.tables (W.contents out.old) (W.contents out.new) result }
     ensures cause { OnErr result (HasFailed W.facts) }
 {
     let Ok(mut lines) = input.lines(alloc) else {
         return put_refusal(out, Refusal::Memory);
     };
-    status_told(follow_game(alloc, set, start, delay, &mut lines, out))
+    status_told(follow_game(alloc, notation, set, start, delay, &mut lines, out))
 }
 
 impl<'a> Follow<'a> {
@@ -87,6 +95,7 @@ impl<'a> Follow<'a> {
             tables: matches.get_str("tables"),
             manifest: matches.get_str("manifest"),
             delay: delay_in(matches)?,
+            san: is_set(matches.get_str("san")),
             fen: word_in(matches, "FEN")?,
         })
     }
@@ -119,7 +128,15 @@ impl<'a> Follow<'a> {
         ensures cause { OnErr result (HasFailed W.facts) }
     {
         match gather(alloc, sources, CacheSize::usual()) {
-            Ok(Ok(set)) => put_game(alloc, set, start, self.delay, input, out),
+            Ok(Ok(set)) => put_game(
+                alloc,
+                Notation::by_flag(self.san),
+                set,
+                start,
+                self.delay,
+                input,
+                out,
+            ),
             Ok(Err(refusal)) => put_refusal(out, refusal),
             Err(_) => put_refusal(out, Refusal::Memory),
         }

@@ -2,7 +2,8 @@
 
 ghost use Rattle.std.specs.Prelude.{◌≡◌, IfOk, OnErr, IfErr};
 ghost use Rattle.clap.specs.Words.{first_value, found_of};
-ghost use Rattle.move_msg.specs.GameTexts.{TellsMoves};
+ghost use Rattle.move_msg.specs.GameTexts.{words_in};
+ghost use Rattle.move_notation.specs.Notations.{AreMovesIn};
 ghost use Rattle.adjudicate_core.specs.Inside.Asked.{reply_of};
 ghost use Rattle.adjudicate_core.specs.Looks.{gathered};
 ghost use Rattle.adjudicate_core.specs.Reply.{IsText};
@@ -15,14 +16,14 @@ use crate::answers::Answer;
 use crate::answers::lines::Line;
 use crate::answers::refusals::Refusal;
 use crate::tables::gather;
-use crate::words::numbers::CacheSize;
+use crate::words::numbers::{CacheSize, is_set};
 use crate::words::usage::ValueFault;
 use crate::words::values::{delay_in, word_in};
 use board_core::{Delay, Move, Position};
 use clap::ArgMatches;
 use fen_text::read;
 use judge_core::{GameOutcome, Outcome};
-use move_msg::read_moves;
+use move_notation::{Notation, read_moves_in};
 use std::alloc::{AllocError, Global};
 use task_files::{InputPaths, Inputs};
 
@@ -35,12 +36,14 @@ pub struct FollowGame<'a> {
     pub manifest: Option<&'a str>,
     /// For how many further plies a verdict by tables must hold.
     pub delay: Delay,
+    /// Whether the moves are written in standard algebraic notation.
+    pub san: bool,
     /// The FEN text of the position before the first move.
     pub fen: &'a str,
 }
 
 /// The values of `game`.
-pub(crate) const VALUES: [Value; 4] = [
+pub(crate) const VALUES: [Value; 5] = [
     Value {
         name: "tables",
         form: Form::Option,
@@ -54,6 +57,10 @@ pub(crate) const VALUES: [Value; 4] = [
         form: Form::Option,
     },
     Value {
+        name: "san",
+        form: Form::Flag,
+    },
+    Value {
         name: "FEN",
         form: Form::Word,
     },
@@ -63,12 +70,13 @@ pub(crate) const VALUES: [Value; 4] = [
 fn answer_moves(
     alloc: Global,
     sources: &Inputs,
+    notation: Notation,
     delay: Delay,
     start: &Position,
     moves: &[Move],
 ) -> Result<Answer, AllocError>
-    requires { TellsMoves sources.now.input moves.now }
-    ensures { IfOk result (λ a. IsPlayedReply sources.now.input (gathered sources.now) delay start.now (reply_of a)) }
+    requires { AreMovesIn notation start.now (words_in sources.now.input) moves.now }
+    ensures { IfOk result (λ a. IsPlayedReply notation sources.now.input (gathered sources.now) delay start.now (reply_of a)) }
 {
     let mut set = match gather(alloc, sources, CacheSize::usual())? {
         Ok(set) => set,
@@ -92,18 +100,19 @@ pub(crate) fn are_all_legal(outcome: GameOutcome) -> bool
     }
 }
 
-/// The outcome of the game of the input from a position. The first word that is no move is refused, then a malformed
-/// manifest, then the first file at fault.
+/// The outcome of the game of the input from a position. The first word that is no move is refused, in algebraic notation one that names
+/// no legal move in its turn; then a malformed manifest, then the first file at fault.
 fn answer_from(
     alloc: Global,
     sources: &Inputs,
+    notation: Notation,
     delay: Delay,
     start: &Position,
 ) -> Result<Answer, AllocError>
-    ensures { IfOk result (λ a. IsPlayedReply sources.now.input (gathered sources.now) delay start.now (reply_of a)) }
+    ensures { IfOk result (λ a. IsPlayedReply notation sources.now.input (gathered sources.now) delay start.now (reply_of a)) }
 {
-    match read_moves(alloc, sources.input())? {
-        Ok(moves) => answer_moves(alloc, sources, delay, start, &moves),
+    match read_moves_in(alloc, notation, start, sources.input())? {
+        Ok(moves) => answer_moves(alloc, sources, notation, delay, start, &moves),
         Err(place) => Ok(Answer::Refused(Refusal::Move(place))),
     }
 }
@@ -118,6 +127,7 @@ impl<'a> FollowGame<'a> {
             tables: matches.get_str("tables"),
             manifest: matches.get_str("manifest"),
             delay: delay_in(matches)?,
+            san: is_set(matches.get_str("san")),
             fen: word_in(matches, "FEN")?,
         })
     }
@@ -142,7 +152,13 @@ impl<'a> FollowGame<'a> {
     {
         match read(self.fen.as_bytes()) {
             Err(fault) => Ok(Answer::Refused(Refusal::Fen(fault))),
-            Ok(position) => answer_from(alloc, sources, self.delay, &position),
+            Ok(position) => answer_from(
+                alloc,
+                sources,
+                Notation::by_flag(self.san),
+                self.delay,
+                &position,
+            ),
         }
     }
 }

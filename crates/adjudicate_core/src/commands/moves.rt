@@ -1,9 +1,11 @@
 //! `moves`: the legal moves of a position.
 
 ghost use Rattle.std.specs.Prelude.{◌≡◌, IfOk, OnErr, IfErr};
+ghost use Rattle.board_core.specs.Moves.{IsLegal};
 ghost use Rattle.clap.specs.Words.{first_value, found_of};
-ghost use Rattle.adjudicate_core.specs.Commands.Moves.{HasValues, IsMoves, IsReply, faults, named};
+ghost use Rattle.adjudicate_core.specs.Commands.Moves.{HasValues, IsMoves, IsReply, faults, move_line, named};
 ghost use Rattle.adjudicate_core.specs.Inside.Asked.{reply_of};
+ghost use Rattle.adjudicate_core.specs.Lines.{words_of};
 ghost use Rattle.adjudicate_core.specs.Reply.{IsText};
 ghost use Rattle.adjudicate_core.specs.Misuses.{IsFirstMisuse, fault_words};
 ghost use Rattle.task_files.specs.Sources.{named_by};
@@ -12,36 +14,60 @@ use super::{Form, Value};
 use crate::answers::Answer;
 use crate::answers::lines::Line;
 use crate::answers::refusals::Refusal;
+use crate::words::numbers::is_set;
 use crate::words::usage::ValueFault;
 use crate::words::values::word_in;
-use board_core::Position;
+use board_core::{Move, Position};
 use clap::ArgMatches;
 use fen_text::read;
+use san_text::write_san;
 use std::alloc::{AllocError, Global};
 use task_files::InputPaths;
 
 /// The legal moves of a position.
 #[derive(Clone, Copy)]
 pub struct Moves<'a> {
+    /// Whether they are written in standard algebraic notation too.
+    pub san: bool,
     /// The position's FEN text.
     pub fen: &'a str,
 }
 
 /// The values of `moves`.
-pub(crate) const VALUES: [Value; 1] = [Value {
-    name: "FEN",
-    form: Form::Word,
-}];
+pub(crate) const VALUES: [Value; 2] = [
+    Value {
+        name: "san",
+        form: Form::Flag,
+    },
+    Value {
+        name: "FEN",
+        form: Form::Word,
+    },
+];
+
+/// The line of a legal move.
+fn move_line(position: &Position, m: &Move, san: bool) -> Line
+    requires { IsLegal position.now m.now }
+    ensures { words_of result ≡ move_line san position.now m.now }
+{
+    if !san {
+        return Line::Move(*m);
+    }
+    match write_san(position, *m) {
+        Some(text) => Line::SanMove(*m, text),
+        None => unreachable!(),
+    }
+}
 
 /// The legal moves of a position, one a line.
-#[tactic(auto, unfolding(crate::specs::Commands::Moves::moves_at))]
-fn answer_moves(alloc: Global, position: &Position) -> Result<Answer, AllocError>
-    ensures { IfOk result (λ a. IsMoves position.now (reply_of a)) }
+fn answer_moves(alloc: Global, position: &Position, san: bool) -> Result<Answer, AllocError>
+    ensures { IfOk result (λ a. IsMoves san position.now (reply_of a)) }
 {
     let moves = position.legal(alloc)?;
     let mut lines = Vec::new(alloc);
     for m in &moves {
-        lines.push(Line::Move(*m))?;
+        let line = move_line(position, m, san);
+        lines.push(line)?;
     }
     Ok(Answer::Lines(lines, true))
 }
@@ -53,6 +79,7 @@ impl<'a> Moves<'a> {
         ensures err { IfErr result (λ fault. IsFirstMisuse (first_value (found_of matches.now)) faults (fault_words fault)) }
     {
         Ok(Moves {
+            san: is_set(matches.get_str("san")),
             fen: word_in(matches, "FEN")?,
         })
     }
@@ -71,7 +98,7 @@ impl<'a> Moves<'a> {
     {
         match read(self.fen.as_bytes()) {
             Err(fault) => Ok(Answer::Refused(Refusal::Fen(fault))),
-            Ok(position) => answer_moves(alloc, &position),
+            Ok(position) => answer_moves(alloc, &position, self.san),
         }
     }
 }

@@ -8,6 +8,7 @@ ghost use Rattle.adjudicate_core.specs.Misuses.{AreWell, Beside, IsFirstMisuse, 
 
 use super::{Form, Value};
 use crate::words::game_paths::stamp_in;
+use crate::words::numbers::is_set;
 use crate::words::usage::{ValueFault, Wanted};
 use crate::words::values::{check_bind, delay_in, game_words_in, to_in, tries_in, wait_in};
 use board_core::Delay;
@@ -63,10 +64,12 @@ pub struct Send<'a> {
     pub tries: u16,
     /// The file of the keys by which datagrams are sealed, if they are.
     pub key: Option<&'a str>,
+    /// Whether the moves of the input are written in standard algebraic notation.
+    pub san: bool,
 }
 
 /// The values of `send`.
-pub(crate) const VALUES: [Value; 11] = [
+pub(crate) const VALUES: [Value; 12] = [
     Value {
         name: "name",
         form: Form::Option,
@@ -110,6 +113,10 @@ pub(crate) const VALUES: [Value; 11] = [
     Value {
         name: "key",
         form: Form::Option,
+    },
+    Value {
+        name: "san",
+        form: Form::Flag,
     },
 ];
 
@@ -234,6 +241,7 @@ impl<'a> Send<'a> {
             wait: terms.wait,
             tries: terms.tries,
             key: matches.get_str("key"),
+            san: is_set(matches.get_str("san")),
         })
     }
 

@@ -13,17 +13,17 @@ use system_io::{Output, WriteFault};
 
 /// The usage: all command lines.
 const USAGE: &str = "usage: adjudicate judge [--tables DIR] [--manifest FILE] FEN
-       adjudicate moves FEN
+       adjudicate moves [--san] FEN
        adjudicate probe --tables DIR [--manifest FILE] FEN
        adjudicate list [--progress] DIR
        adjudicate check --manifest FILE [--progress] DIR
        adjudicate show
        adjudicate probes --tables DIR [--manifest FILE] [--json] [--determined] [--progress]
        adjudicate root --tables DIR [--manifest FILE] [--json] [--determined] [FEN]
-       adjudicate game [--tables DIR] [--manifest FILE] [--delay N] FEN
+       adjudicate game [--tables DIR] [--manifest FILE] [--delay N] [--san] FEN
        adjudicate games --tables DIR [--manifest FILE] [--delay N] [--progress]
        adjudicate pgn --tables DIR [--manifest FILE] [--delay N] [--json] [--differ] [FILE]
-       adjudicate follow [--tables DIR] [--manifest FILE] [--delay N] FEN
+       adjudicate follow [--tables DIR] [--manifest FILE] [--delay N] [--san] FEN
        adjudicate run [--tables DIR] [--cache N] [--delay N]
        adjudicate listen --name N --start FEN --tables DIR --me M --bind ADDR --to ADDR[,ADDR] --kept FILE
                          [--datagrams N] [--delay N] [--fetch] [--ready] [--key FILE]
@@ -33,8 +33,9 @@ const USAGE: &str = "usage: adjudicate judge [--tables DIR] [--manifest FILE] FE
        adjudicate audit --games DIR [--other DIR] --tables DIR [--manifest FILE]
        adjudicate status --games DIR [--other DIR]
        adjudicate send --name N --start FEN --tables DIR [--manifest FILE] [--delay N] --to ADDR[,ADDR]
-                       [--bind ADDR] [--wait MS] [--tries N] [--key FILE]
+                       [--bind ADDR] [--wait MS] [--tries N] [--key FILE] [--san]
        adjudicate send --game FILE --to ADDR[,ADDR] [--bind ADDR] [--wait MS] [--tries N] [--key FILE]
+                       [--san]
        adjudicate enter --name N --start FEN --tables DIR [--manifest FILE] [--delay N] --games DIR
        adjudicate enter --from FILE --tables DIR [--manifest FILE] --games DIR
        adjudicate host --games DIR --tables DIR [--manifest FILE] --me M --bind ADDR --to ADDR[,ADDR]

@@ -5,6 +5,7 @@ use crate::tests::source_port::{After, Coming, Given, STAMP, Timed};
 use board_core::Position;
 use check_helpers::{Failing, START};
 use fen_text::read;
+use move_notation::Notation;
 use source_core::{SendConfig, send_game};
 use std::alloc::Global;
 use std::io::BufReader;
@@ -32,6 +33,7 @@ struct Row {
 fn terms(tries: u32) -> SendConfig {
     SendConfig {
         stamp: STAMP,
+        notation: Notation::Coordinates,
         tries,
         wait: Duration::from_millis(1),
     }

@@ -5,13 +5,14 @@ use Rattle.board_core.specs.declared.parts.Parts.{Parts}
 use Rattle.board_core.specs.declared.moves.Move.{Move as Moves}
 use Rattle.board_core.specs.ComputedMoves.{position_after}
 use Rattle.board_core.specs.declared.verdict.Verdict.{Verdict}
-use Rattle.fen_text.specs.Coordinates.{SpellsMove}
 use Rattle.judge_core.specs.Answers.{ListsMovesForVerdict}
 use Rattle.judge_core.specs.Games.{Rules, verdict_after}
 use Rattle.judge_core.specs.Standings.{IsAt, Reached}
 use Rattle.judge_core.specs.Tables.{Tables}
 use Rattle.line_teller.specs.ToldLines.{HasFront, stops_by}
 use Rattle.move_msg.specs.TextLines.{ended}
+use Rattle.move_notation.specs.declared.notation.Notation.{Notation}
+use Rattle.move_notation.specs.Notations.{Spells}
 use Rattle.system_io.specs.declared.output.WriteFault.{WriteFault}
 use Rattle.system_io.specs.declared.reading.ReadFault.{ReadFault}
 use Rattle.system_io.specs.declared.reading.ReadFault.TheVariants as read
@@ -25,28 +26,28 @@ use Rattle.game_teller.specs.Followings.{FollowsTo}
 use Rattle.game_teller.specs.Plies.{ply_words, stop_words}
 
 -- why a line gives no position: it is no move, or no legal one
-abbrev pub IsNoNext : Parts → ℕ → List ℕ → Stop → Type 0
-IsNoNext p number line (stop.NotAMove place) = (place ≡ number) × ((m : Moves) → SpellsMove line m → ⊥)
-IsNoNext p number line (stop.Illegal place) = (place ≡ number) × ((m : Moves) × SpellsMove line m × (position_after p m ≡ None))
-IsNoNext p number line stop.Unread = ⊥
-IsNoNext p number line stop.OutOfMemory = ⊥
+abbrev pub IsNoNext : Notation → Parts → ℕ → List ℕ → Stop → Type 0
+IsNoNext notation p number line (stop.NotAMove place) = (place ≡ number) × ((m : Moves) → Spells notation p line m → ⊥)
+IsNoNext notation p number line (stop.Illegal place) = (place ≡ number) × ((m : Moves) × Spells notation p line m × (position_after p m ≡ None))
+IsNoNext notation p number line stop.Unread = ⊥
+IsNoNext notation p number line stop.OutOfMemory = ⊥
 
 -- the same, or memory for the verdict after its move was refused
-abbrev pub IsNoTurn : Tables → Parts → ℕ → List ℕ → Stop → Type 0
-IsNoTurn tables p number line (stop.NotAMove place) = IsNoNext p number line (stop.NotAMove place)
-IsNoTurn tables p number line (stop.Illegal place) = IsNoNext p number line (stop.Illegal place)
-IsNoTurn tables p number line stop.Unread = ⊥
-IsNoTurn tables p number line stop.OutOfMemory = (m : Moves) × (q : Parts) × SpellsMove line m × (position_after p m ≡ Some q) × ListsMovesForVerdict tables q
+abbrev pub IsNoTurn : Notation → Tables → Parts → ℕ → List ℕ → Stop → Type 0
+IsNoTurn notation tables p number line (stop.NotAMove place) = IsNoNext notation p number line (stop.NotAMove place)
+IsNoTurn notation tables p number line (stop.Illegal place) = IsNoNext notation p number line (stop.Illegal place)
+IsNoTurn notation tables p number line stop.Unread = ⊥
+IsNoTurn notation tables p number line stop.OutOfMemory = (m : Moves) × (q : Parts) × Spells notation p line m × (position_after p m ≡ Some q) × ListsMovesForVerdict tables q
 
 -- the line spells a legal move, and after it the game stands so
-abbrev pub HasTurned : Tables → Reached → List ℕ → Reached → Type 0
-HasTurned tables old line new =
-    (m : Moves) × (p : Parts) × SpellsMove line m × (position_after old.position m ≡ Some p)
+abbrev pub HasTurned : Notation → Tables → Reached → List ℕ → Reached → Type 0
+HasTurned notation tables old line new =
+    (m : Moves) × (p : Parts) × Spells notation old.position line m × (position_after old.position m ≡ Some p)
     × ((rules : Rules) (moves : List Moves) → rules.tables ≡ tables → IsAt rules moves old → IsAt rules (moves ++ m ∷ []) new)
 
-abbrev pub TurnsByLine : {T : Type 0} → Tables → ℕ → Reached → List ℕ → Reached → Result T Stop → Type 0
-TurnsByLine tables number old line new (Ok x) = HasTurned tables old line new
-TurnsByLine tables number old line new (Err why) = IsNoTurn tables old.position number line why
+abbrev pub TurnsByLine : {T : Type 0} → Notation → Tables → ℕ → Reached → List ℕ → Reached → Result T Stop → Type 0
+TurnsByLine notation tables number old line new (Ok x) = HasTurned notation tables old line new
+TurnsByLine notation tables number old line new (Err why) = IsNoTurn notation tables old.position number line why
 
 -- a verdict stands there by this delay
 abbrev pub HasVerdict : ℕ → Reached → Option Verdict → Type 0
@@ -61,10 +62,10 @@ abbrev pub CutsPly : ℕ → ℕ → Reached → Option (List ℕ) → Option (L
 CutsPly delay number s old new = (v : Option Verdict) × HasVerdict delay s v × HasFront old new (ended (ply_words number v s.position))
 
 -- what came of a line that was read
-abbrev pub LineSteps : Tables → ℕ → ℕ → Reached → List ℕ → Reached → Option (List ℕ) → Option (List ℕ) → Step → Type 0
-LineSteps tables delay number old line new out out' (step.Told verdict) = HasTurned tables old line new × PutsPly delay (number + 1) new out out' verdict
-LineSteps tables delay number old line new out out' step.Ended = ⊥
-LineSteps tables delay number old line new out out' step.Stopped = (why : Stop) × IsNoTurn tables old.position number line why × Appends out out' (ended (stop_words why))
+abbrev pub LineSteps : Notation → Tables → ℕ → ℕ → Reached → List ℕ → Reached → Option (List ℕ) → Option (List ℕ) → Step → Type 0
+LineSteps notation tables delay number old line new out out' (step.Told verdict) = HasTurned notation tables old line new × PutsPly delay (number + 1) new out out' verdict
+LineSteps notation tables delay number old line new out out' step.Ended = ⊥
+LineSteps notation tables delay number old line new out out' step.Stopped = (why : Stop) × IsNoTurn notation tables old.position number line why × Appends out out' (ended (stop_words why))
 
 -- what an input tells of why no line is read
 abbrev pub stop_by : ReadFault → Stop
@@ -73,21 +74,21 @@ stop_by read.OutOfMemory = stop.OutOfMemory
 
 -- what came of the next line of an input, by the tables and the delay of the game that is followed
 abbrev pub StepsByLine : LineFacts → Option (List ℕ) → FollowState → ℕ → Reached → Option (List ℕ) → Option (List ℕ) → Step → Type 0
-StepsByLine input now old number new out out' (step.Told verdict) = (line : List ℕ) × ReadsLine input.left now line × HasTurned old.set.tables old.standing line new × PutsPly old.delay (number + 1) new out out' verdict
+StepsByLine input now old number new out out' (step.Told verdict) = (line : List ℕ) × ReadsLine input.left now line × HasTurned old.notation old.set.tables old.standing line new × PutsPly old.delay (number + 1) new out out' verdict
 StepsByLine input now old number new out out' step.Ended = IsAtEnd input.left × (out' ≡ out)
 StepsByLine input now old number new out out' step.Stopped =
-    ((line : List ℕ) × (why : Stop) × ReadsLine input.left now line × IsNoTurn old.set.tables old.standing.position number line why × Appends out out' (ended (stop_words why)))
+    ((line : List ℕ) × (why : Stop) × ReadsLine input.left now line × IsNoTurn old.notation old.set.tables old.standing.position number line why × Appends out out' (ended (stop_words why)))
     ⊎ ((fault : ReadFault) × stops_by input fault × Appends out out' (ended (stop_words (stop_by fault))))
 
 -- of what came of a line that was read a front was written
-abbrev pub LineCuts : Tables → ℕ → ℕ → Reached → List ℕ → Reached → Option (List ℕ) → Option (List ℕ) → Type 0
-LineCuts tables delay number old line new out out' =
-    (HasTurned tables old line new × CutsPly delay (number + 1) new out out') ⊎ ((why : Stop) × IsNoTurn tables old.position number line why × HasFront out out' (ended (stop_words why)))
+abbrev pub LineCuts : Notation → Tables → ℕ → ℕ → Reached → List ℕ → Reached → Option (List ℕ) → Option (List ℕ) → Type 0
+LineCuts notation tables delay number old line new out out' =
+    (HasTurned notation tables old line new × CutsPly delay (number + 1) new out out') ⊎ ((why : Stop) × IsNoTurn notation tables old.position number line why × HasFront out out' (ended (stop_words why)))
 
 -- of what came of the next line
 abbrev pub StepCuts : LineFacts → Option (List ℕ) → FollowState → ℕ → Reached → Option (List ℕ) → Option (List ℕ) → Type 0
 StepCuts input now old number new out out' =
-    ((line : List ℕ) × ReadsLine input.left now line × LineCuts old.set.tables old.delay number old.standing line new out out')
+    ((line : List ℕ) × ReadsLine input.left now line × LineCuts old.notation old.set.tables old.delay number old.standing line new out out')
     ⊎ ((fault : ReadFault) × stops_by input fault × HasFront out out' (ended (stop_words (stop_by fault))))
 
 -- the start is told, which has no verdict
@@ -97,4 +98,4 @@ HasBegun rules s before out = IsAt rules [] s × (verdict_after rules [] ≡ Non
 -- by whatever rules a game has begun to be told so, from then on it is followed, whatever was written before
 abbrev pub FollowsFrom : FollowState → LineFacts → Option (List ℕ) → Option (List ℕ) → Result Bool WriteFault → Type 0
 FollowsFrom course input out out' r =
-    (rules : Rules) (before : Option (List ℕ)) → rules.tables ≡ course.set.tables → rules.delay ≡ course.delay → HasBegun rules course.standing before out → FollowsTo rules (stops_by input) input.left before out' r
+    (rules : Rules) (before : Option (List ℕ)) → rules.tables ≡ course.set.tables → rules.delay ≡ course.delay → HasBegun rules course.standing before out → FollowsTo course.notation rules (stops_by input) input.left before out' r

@@ -13,8 +13,9 @@ use Rattle.source_core.specs.declared.turn.Turn.TheVariants as at_turn
 use Rattle.board_core.specs.declared.moves.Move.{Move as Moves}
 use Rattle.board_core.specs.declared.parts.Parts.{Parts}
 use Rattle.board_core.specs.Moves.{Legal}
-use Rattle.fen_text.specs.Coordinates.{SpellsMove}
 use Rattle.move_msg.specs.Numbers.{most_moves}
+use Rattle.move_notation.specs.declared.notation.Notation.{Notation}
+use Rattle.move_notation.specs.Notations.{Spells}
 use Rattle.source_core.specs.declared.lines.End.{End}
 use Rattle.source_core.specs.declared.lines.End.TheVariants as at_end
 use Rattle.system_io.specs.declared.reading.ReadFault.{ReadFault}
@@ -102,8 +103,8 @@ end_by at_turn.Lost = Some at_end.Lost
 end_by at_turn.PortLost = Some at_end.PortLost
 
 -- a line spells a legal move, after which the position is so, and there is room for it
-pub record IsPlayedLine (position : Parts) (number : ℕ) (line : List ℕ) (m : Moves) (after : Parts) : Type 0 where
-  pub spelled : SpellsMove line m
+pub record IsPlayedLine (notation : Notation) (position : Parts) (number : ℕ) (line : List ℕ) (m : Moves) (after : Parts) : Type 0 where
+  pub spelled : Spells notation position line m
   pub legal : Legal position m after
   pub room : number < most_moves
 

@@ -29,7 +29,7 @@ returns-in-Ok-Some-clause-follows g c =
     let rules : Rules = record { start = c.args.start.now; tables = c.args.set.tables; delay = c.args.delay } in
     let at = c.in-Ok.ensures.at rules refl refl in
     let ply = c.in-Ok-Some.ensures.ply in
-    ruled rules _ _ _ _ _ _ _ _ _ c.in-Ok-Some.field-0-is (start_told rules _ _ _ _ _ at (ply.0 rules [] refl at) ply.1)
+    ruled _ rules _ _ _ _ _ _ _ _ _ c.in-Ok-Some.field-0-is (start_told _ rules _ _ _ _ _ at (ply.0 rules [] refl at) ply.1)
 
 pub returns-in-Ok-Some-clause-turns : goal.returns-in-Ok-Some-clause-turns
 returns-in-Ok-Some-clause-turns g c = record { first = c.put_standing.new.out; words = _; wrote = c.in-Ok-Some.ensures.ply.1; turns = asked_all g.L.LineReader.facts g.W.Output.facts g.W.Write.contents _ _ _ _ _ (AsksNone _ _ refl refl) refl }
@@ -39,4 +39,4 @@ returns-clause-follows g c =
     let rules : Rules = record { start = c.args.start.now; tables = c.args.set.tables; delay = c.args.delay } in
     let at = c.in-Ok.ensures.at rules refl refl in
     let cut = c.in-Err-put_standing.ensures.front in
-    start_cut rules _ _ _ _ _ at (cut.0, cut.1 rules [] refl at, cut.2)
+    start_cut _ rules _ _ _ _ _ at (cut.0, cut.1 rules [] refl at, cut.2)

@@ -9,10 +9,11 @@ use Rattle.game_teller.proofs.following.FollowState.follow.Given as goal
 abbrev pub invariant-loop-number : goal.invariant-loop-number
 invariant-loop-number g l = record {
   far : (rules : Rules) (before : Option (List ℕ)) → rules.tables ≡ l.initial.self.set.tables → rules.delay ≡ l.initial.self.delay → HasBegun rules l.initial.self.standing before (g.W.Write.contents l.initial.out)
-      → FollowedSoFar rules l.number (g.L.LineReader.facts l.initial.reader).left (g.L.LineReader.facts l.reader).left before (g.W.Write.contents l.out) l.self.standing;
+      → FollowedSoFar l.initial.self.notation rules l.number (g.L.LineReader.facts l.initial.reader).left (g.L.LineReader.facts l.reader).left before (g.W.Write.contents l.out) l.self.standing;
   fails : (fault : ReadFault) → stops_by (g.L.LineReader.facts l.reader) fault → stops_by (g.L.LineReader.facts l.initial.reader) fault;
   turns : AsksInTurn g.L.LineReader.facts g.W.Output.facts g.W.Write.contents l.initial.reader l.initial.out l.reader l.out;
   gone : (g.W.Output.facts l.out).gone;
   set : l.self.set ≡ l.initial.self.set;
   delay : l.self.delay ≡ l.initial.self.delay;
+  notation : l.self.notation ≡ l.initial.self.notation;
 }

@@ -1,5 +1,5 @@
 use Rattle.std.proofs.Common.{◌≡◌}
-use Rattle.std.specs.Prelude.{Option, Some, None, Result, Ok, Err}
+use Rattle.std.specs.Prelude.{Option, Some, Result, Ok, Err}
 use Rattle.board_core.specs.declared.moves.Move.{Move as Moves}
 use Rattle.san_text.specs.declared.fault.SanFault.{SanFault}
 use Rattle.move_notation.proofs.notation.Notation.read.Goals as goal

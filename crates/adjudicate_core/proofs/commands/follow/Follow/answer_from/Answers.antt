@@ -6,7 +6,7 @@ use Rattle.adjudicate_core.proofs.commands.follow.Follow.answer_from.Goals as go
 pub returns-in-Ok-Ok-clause-told : goal.returns-in-Ok-Ok-clause-told
 returns-in-Ok-Ok-clause-told g c =
     let is = sym (rw c.in-Ok-Ok.field-0-is at c.in-Ok-Ok.ensures.tables) in
-    Followed c.args.start.now c.requires.spelled c.requires.position c.in-Ok-Ok.set.tables is c.put_game.ensures.told
+    Followed c.args.start.now c.requires.spelled c.requires.position c.in-Ok-Ok.set.tables is (rw c.by_flag.ensures at c.put_game.ensures.told)
 
 pub returns-in-Ok-Err-clause-told : goal.returns-in-Ok-Err-clause-told
 returns-in-Ok-Err-clause-told g c =

@@ -7,7 +7,7 @@ returns-in-Err-clause-ok c = for_none _ _ _ c.in-Err.fault c.as_bytes.ensures.va
 
 pub returns-in-Ok-clause-ok : goal.returns-in-Ok-clause-ok
 returns-in-Ok-clause-ok c =
-    for_position reply_of c.answer_from.result _ _ c.in-Ok.position c.as_bytes.ensures.value c.in-Ok.ensures.ok c.in-Ok.ensures.position _ c.answer_from.ensures
+    for_position reply_of c.answer_from.result _ _ c.in-Ok.position c.as_bytes.ensures.value c.in-Ok.ensures.ok c.in-Ok.ensures.position _ (rw c.by_flag.ensures at c.answer_from.ensures)
 
 pub returns-in-Ok-clause-memory : goal.returns-in-Ok-clause-memory
 returns-in-Ok-clause-memory c =
