@@ -1,6 +1,6 @@
 -- The lexemes of PGN text (PGN standard, sections 5, 7, 8.1 and 8.2). Each begins where the last one ended. What it tells and where it
 -- ends goes by its first byte.
-use Rattle.std.specs.Prelude.{◌+◌, ◌-◌, ◌==◌, not, nat_lt, ℕ, Bool, List, ◌∷◌, length, take, Option, Some, None, if◌then◌else◌, codes, bytes_eq}
+use Rattle.std.specs.Prelude.{◌&&◌, ◌+◌, ◌-◌, ◌==◌, not, nat_lt, ℕ, Bool, List, ◌∷◌, length, take, Option, Some, None, if◌then◌else◌, codes, bytes_eq}
 use Rattle.std.specs.List.{list_any, position_or_len}
 use Rattle.pgn_games.specs.declared.bytes.ByteKind.{ByteKind}
 use Rattle.pgn_games.specs.declared.bytes.ByteKind.TheVariants.{Blank, Opens, Closes, Bracket, Semicolon, Star, Dollar, Symbol, Other}
@@ -45,9 +45,13 @@ abbrev pub result_or_move : List ℕ → Option GameResult → Telling
 result_or_move t None = MoveText t
 result_or_move t (Some result) = Told result
 
--- a symbol of digits alone is a move's number, and tells nothing
+-- digits alone are a move's number; but 0000 is how engines write a null move
+abbrev pub is_number : List ℕ → Bool
+is_number t = (run_len is_digit t == length t) && not (bytes_eq t (codes "0000"))
+
+-- a move's number tells nothing
 abbrev pub symbol_tells : List ℕ → Option Telling
-symbol_tells t = if run_len is_digit t == length t then None else Some (result_or_move t (result_of t))
+symbol_tells t = if is_number t then None else Some (result_or_move t (result_of t))
 
 -- a tag that isn't well formed goes to the end of its line
 abbrev pub lexed_tag : Bool → List ℕ → Option TagAndRest → Lexed

@@ -1,7 +1,7 @@
 //! The lexemes of a line (PGN standard, sections 7 and 8).
 
 ghost use Rattle.std.specs.Prelude.{◌≡◌, ◌≤◌, ◌<◌, ◌+◌, ◌∷◌, Bool, length, take, drop, slice_index};
-ghost use Rattle.pgn_games.specs.Lexemes.{lexed_in_line, lexed_tag, result_of, symbol_tells};
+ghost use Rattle.pgn_games.specs.Lexemes.{is_number, lexed_in_line, lexed_tag, result_of, symbol_tells};
 ghost use Rattle.pgn_games.specs.Tags.{tag_pair};
 ghost use Rattle.pgn_games.specs.Inside.Scan.{lexeme_of};
 
@@ -47,11 +47,18 @@ fn result_of(text: &[u8]) -> Option<GameResult>
     (text == b"1/2-1/2".as_slice()).then_some(GameResult::Draw)
 }
 
+/// Whether a symbol is the number of a move: digits alone, but for `0000`, as engines write a null move.
+fn is_number(text: &[u8]) -> bool
+    ensures { result ≡ is_number text.now }
+{
+    run_len(text, Class::Digit) == text.len() && text != b"0000".as_slice()
+}
+
 /// What a symbol tells.
 fn symbol_tells(text: &[u8]) -> Lexeme<'_>
     ensures { (first : Bool) → lexeme_of first result ≡ symbol_tells text.now }
 {
-    if run_len(text, Class::Digit) == text.len() {
+    if is_number(text) {
         return Lexeme::Nothing;
     }
     match result_of(text) {

@@ -1,7 +1,7 @@
 -- Games that are told in turn.
 use Rattle.std.proofs.Common.{◌≡◌, ◌∙◌, ap, sym, refl, subst, ◌⊎◌, inl, inr, ℕ, Bool, List, [], ◌∷◌, ◌++◌, take, append-nil, append_assoc}
 use Rattle.std.specs.Prelude.{Option, Some, None, Result, Ok, Err, IfOk, IfSome, OnErr, option_map, if◌then◌else◌}
-use Rattle.std.specs.Io.KnownBytes.{Appends}
+use Rattle.std.specs.Io.KnownBytes.{Appends, Keeps}
 use Rattle.std.proofs.KnownBytes.{Appends-nil, Appends-trans}
 use Rattle.judge_core.specs.Tables.{Tables}
 use Rattle.line_teller.specs.ToldLines.{HasFront, cut_words, refused_files, refused_memory}
@@ -241,3 +241,44 @@ module _ (F : Type 0) where
   pub many_front : (t : Terms) (s now : Sums) (first was : Option (List Token)) (old mid new : Option (List ℕ)) → IfSome first (λ tokens. ToldSoFar t s now tokens was old mid) → HasFront mid new (ended refused_memory) → IfSome first (λ tokens. CutsPgn t s F tokens old new)
   many_front t s now None was old mid new h front = tt
   many_front t s now (Some tokens) was old mid new h front = cut_in t s now tokens was old mid new h (ended refused_memory, inr (refused_memory, NoMemory, refl), front)
+
+-- what was written before stays where a flush keeps it
+kept_before : (a b c : Option (List ℕ)) (bs : List ℕ) → Keeps a b → Appends b c bs → Appends a c bs
+kept_before None b c bs kept wrote = tt
+kept_before (Some x) None c bs kept wrote = absurd kept
+kept_before (Some x) (Some y) None bs kept wrote = absurd wrote
+kept_before (Some x) (Some y) (Some z) bs kept wrote = wrote ∙ ap (λ l. l ++ bs) kept
+
+pgn_kept : (F : Type 0) (t : Terms) (s now : Sums) (tokens : List Token) (a b c : Option (List ℕ)) (how : Telling) → Keeps a b → TellsPgn t s F tokens now b c how → TellsPgn t s F tokens now a c how
+pgn_kept F t s now tokens a b c how kept (ToldAll behind rest text has none wrote is) = ToldAll behind rest text has none (kept_before a b c text kept wrote) is
+pgn_kept F t s now tokens a b c how kept (ToldSome behind text words has cut wrote is) = ToldSome behind text words has cut (kept_before a b c (text ++ ended words) kept wrote) is
+
+pub told_kept : (F : Type 0) (t : Terms) (s now : Sums) (was : Option (List Token)) (a b c : Option (List ℕ)) (r : Result Telling WriteFault) → Keeps a b → IfOk r (λ how. IfSome was (λ tokens. TellsPgn t s F tokens now b c how)) → IfOk r (λ how. IfSome was (λ tokens. TellsPgn t s F tokens now a c how))
+told_kept F t s now None a b c (Ok how) kept told = tt
+told_kept F t s now (Some tokens) a b c (Ok how) kept told = pgn_kept F t s now tokens a b c how kept told
+told_kept F t s now was a b c (Err fault) kept told = tt
+
+pub cut_kept : (F : Type 0) (t : Terms) (s : Sums) (was : Option (List Token)) (a b c : Option (List ℕ)) (r : Result Telling WriteFault) → Keeps a b → OnErr r (IfSome was (λ tokens. CutsPgn t s F tokens b c)) → OnErr r (IfSome was (λ tokens. CutsPgn t s F tokens a c))
+cut_kept F t s was a b c (Ok how) kept cut = tt
+cut_kept F t s None a b c (Err fault) kept cut = tt
+cut_kept F t s (Some tokens) a b c (Err fault) kept cut = record { new = cut.new; behind = cut.behind; text = cut.text; last = cut.last; count = cut.count; has = cut.has; is_last = cut.is_last; wrote = kept_before a b c (cut.text ++ take cut.count cut.last) kept cut.wrote }
+
+-- a flush that failed leaves nothing more
+kept_nothing : (a b : Option (List ℕ)) → Keeps a b → Appends a b []
+kept_nothing None b kept = tt
+kept_nothing (Some x) None kept = absurd kept
+kept_nothing (Some x) (Some y) kept = kept ∙ sym (append-nil x)
+
+pub none_kept : (F : Type 0) (t : Terms) (s : Sums) (was : Option (List Token)) (a b : Option (List ℕ)) → Keeps a b → IfSome was (λ tokens. CutsPgn t s F tokens a b)
+unfolding TellsPgnGames ReadsFront
+none_kept F t s None a b kept = tt
+none_kept F t s (Some tokens) a b kept = record {
+  new = s;
+  behind = tokens;
+  text = [];
+  last = ended refused_memory;
+  count = 0;
+  has = record { readings = []; read = refl; told = (refl, refl) };
+  is_last = inr (refused_memory, NoMemory, refl);
+  wrote = kept_nothing a b kept;
+}

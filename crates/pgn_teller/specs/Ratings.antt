@@ -55,9 +55,19 @@ agrees verdict Draw = finding_by (is_drawn verdict)
 agrees verdict Unknown = Uncompared
 agrees verdict Missing = Uncompared
 
+-- a verdict by whole tables; a game that a damaged table has stopped isn't compared
+abbrev pub is_sound : Verdict → Bool
+is_sound WhiteMates = true
+is_sound BlackMates = true
+is_sound Stalemate = true
+is_sound TableDraw = true
+is_sound TableWhite = true
+is_sound TableBlack = true
+is_sound Stopped = false
+
 abbrev pub finding_of : Option Ruled → GameResult → Finding
 finding_of None stands = Uncompared
-finding_of (Some ruled) stands = agrees ruled.verdict stands
+finding_of (Some ruled) stands = if is_sound ruled.verdict then agrees ruled.verdict stands else Uncompared
 
 -- the first verdict of a game and its ply, if it has one
 abbrev pub ruled_by : GameOutcome → Option Ruled

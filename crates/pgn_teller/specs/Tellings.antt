@@ -24,7 +24,7 @@ use Rattle.pgn_teller.specs.declared.telling.Telling.TheVariants.{CutShort, Whol
 use Rattle.pgn_teller.specs.declared.telling.GameTeller.{GameTeller}
 use Rattle.pgn_teller.specs.GameLines.{unread_game_words, game_words, pgn_sums_words}
 use Rattle.pgn_teller.specs.GameObjects.{unread_game_members, game_members, sums_members}
-use Rattle.pgn_teller.specs.Ratings.{IsFirstRuled, agrees}
+use Rattle.pgn_teller.specs.Ratings.{IsFirstRuled, finding_of}
 
 -- ---- sums
 
@@ -55,7 +55,7 @@ terms_of teller = record { tables = teller.set.tables; delay = teller.delay; for
 -- what counts of a game
 abbrev pub counted_as : Option Ruled → GameResult → Mark
 counted_as None stands = mark.Open
-counted_as (Some ruled) stands = mark.Ruled (agrees ruled.verdict stands)
+counted_as (Some ruled) stands = mark.Ruled (finding_of (Some ruled) stands)
 
 -- the line of a game with this number, and of one that isn't read
 abbrev pub pgn_line : Form → ℕ → GameTold → Option Ruled → List ℕ

@@ -1,7 +1,7 @@
 //! What the result that stands in a file is beside the verdict on its game.
 
 ghost use Rattle.std.specs.Prelude.{◌≡◌, ◌≤◌, length};
-ghost use Rattle.pgn_teller.specs.Ratings.{agrees, finding_by, finding_of, finding_word, gives_black, gives_white, is_drawn, result_word};
+ghost use Rattle.pgn_teller.specs.Ratings.{agrees, finding_by, finding_of, finding_word, gives_black, gives_white, is_drawn, is_sound, result_word};
 
 use crate::rating::Ruled;
 use board_core::Verdict;
@@ -14,7 +14,7 @@ pub enum Finding {
     Agrees,
     /// It is another one.
     Differs,
-    /// There is no verdict, or no result.
+    /// There is no verdict, or no result, or a damaged table has stopped the game.
     Uncompared,
 }
 
@@ -48,6 +48,16 @@ fn is_drawn(verdict: Verdict) -> bool
     }
 }
 
+/// Whether a verdict is by whole tables.
+fn is_sound(verdict: Verdict) -> bool
+    ensures { result ≡ is_sound verdict }
+{
+    match verdict {
+        Verdict::Stopped => false,
+        _ => true,
+    }
+}
+
 impl Finding {
     /// By whether the result is the verdict's.
     fn by(agrees: bool) -> Finding
@@ -61,7 +71,7 @@ impl Finding {
     }
 
     /// What a result is beside a verdict.
-    pub(crate) fn beside(verdict: Verdict, stands: GameResult) -> Finding
+    fn beside(verdict: Verdict, stands: GameResult) -> Finding
         ensures { result ≡ agrees verdict stands }
     {
         match stands {
@@ -77,7 +87,13 @@ impl Finding {
         ensures { result ≡ finding_of ruled stands }
     {
         match ruled {
-            Some(ruled) => Finding::beside(ruled.verdict, stands),
+            Some(ruled) => {
+                if is_sound(ruled.verdict) {
+                    Finding::beside(ruled.verdict, stands)
+                } else {
+                    Finding::Uncompared
+                }
+            }
             None => Finding::Uncompared,
         }
     }

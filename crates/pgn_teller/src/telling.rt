@@ -1,6 +1,6 @@
 //! The games of an input that are told as they are read.
 
-ghost use Rattle.std.specs.Prelude.{◌≡◌, ◌++◌, IfOk, IfSome, OnErr, [], if◌then◌else◌};
+ghost use Rattle.std.specs.Prelude.{◌≡◌, ◌++◌, IfOk, IfSome, OnErr, OnOk, [], if◌then◌else◌};
 ghost use Rattle.std.specs.Io.KnownBytes.{Appends};
 ghost use Rattle.line_teller.specs.ToldLines.{HasFailed, HasFront, cut_words};
 ghost use Rattle.move_msg.specs.TextLines.{ended};
@@ -129,7 +129,7 @@ fn counted_as(ruled: Option<Ruled>, stands: GameResult) -> Mark
     ensures { result ≡ counted_as ruled stands }
 {
     match ruled {
-        Some(ruled) => Mark::Ruled(Finding::beside(ruled.verdict, stands)),
+        Some(_) => Mark::Ruled(Finding::of(ruled, stands)),
         None => Mark::Open,
     }
 }
@@ -212,6 +212,7 @@ impl<'a> GameTeller<'a> {
     fn put_line<W: Output>(&self, line: &GameText, out: &mut W) -> Result<(), WriteFault>
         ensures front { WritesFront (W.contents out.old) (W.contents out.new) (if is_written self.now.only_differing line.now.mark then line.now.text.items else []) result }
         ensures cause { OnErr result (HasFailed W.facts) }
+        ensures gone { (W.facts out.old).gone → OnOk result (W.facts out.new).gone }
     {
         if !self.writes(line.mark) {
             return Ok(());
@@ -230,6 +231,7 @@ impl<'a> GameTeller<'a> {
         ensures front { OnErr result (CutsReading (terms_of self.old) self.old.sums (reading_of reading.now) (W.contents out.old) (W.contents out.new)) }
         ensures cause { OnErr result (HasFailed W.facts) }
         ensures same { terms_of self.new ≡ terms_of self.old }
+        ensures gone { IfOk result (λ step. step ≡ Step.Told → (W.facts out.old).gone → (W.facts out.new).gone) }
     {
         let number = one_more(self.sums.games);
         let Ok(line) = self.text_of_reading(number, reading) else {
@@ -246,16 +248,45 @@ impl<'a> GameTeller<'a> {
         reader: &mut PgnReader<L>,
         out: &mut W,
     ) -> Result<Step, WriteFault>
+        // No line is awaited before what was told has gone out.
+        requires { (W.facts out.old).gone }
         ensures told { IfOk result (λ step. IfSome (tokens_left (λ l. (L.LineReader.facts l).left) reader.old) (λ tokens. TellsNext (terms_of self.old) self.old.sums (L.LineReader.facts (input_of reader.old)).fails tokens self.new.sums (tokens_left (λ l. (L.LineReader.facts l).left) reader.new) (W.contents out.old) (W.contents out.new) step)) }
         ensures front { OnErr result (IfSome (tokens_left (λ l. (L.LineReader.facts l).left) reader.old) (λ tokens. CutsNext (terms_of self.old) self.old.sums (L.LineReader.facts (input_of reader.old)).fails tokens (W.contents out.old) (W.contents out.new))) }
         ensures cause { OnErr result (HasFailed W.facts) }
         ensures same { terms_of self.new ≡ terms_of self.old }
+        ensures gone { IfOk result (λ step. step ≡ Step.Told → (W.facts out.new).gone) }
         ensures reader { (L.LineReader.facts (input_of reader.new)).fails → (L.LineReader.facts (input_of reader.old)).fails }
     {
         match reader.next_game() {
             Ok(Some(reading)) => self.tell_reading(&reading, out),
             Ok(None) => Ok(Step::Ended),
             Err(fault) => put_cut(out, fault),
+        }
+    }
+
+    /// Tells the games of an input in turn, where all that was written has gone out.
+    fn tell_each<L: LineReader + Drop, W: Output>(
+        &mut self,
+        reader: &mut PgnReader<L>,
+        out: &mut W,
+    ) -> Result<Telling, WriteFault>
+        requires { (W.facts out.old).gone }
+        ensures told { IfOk result (λ how. IfSome (tokens_left (λ l. (L.LineReader.facts l).left) reader.old) (λ tokens. TellsPgn (terms_of self.old) self.old.sums (L.LineReader.facts (input_of reader.old)).fails tokens self.new.sums (W.contents out.old) (W.contents out.new) how)) }
+        ensures front { OnErr result (IfSome (tokens_left (λ l. (L.LineReader.facts l).left) reader.old) (λ tokens. CutsPgn (terms_of self.old) self.old.sums (L.LineReader.facts (input_of reader.old)).fails tokens (W.contents out.old) (W.contents out.new))) }
+        ensures cause { OnErr result (HasFailed W.facts) }
+        ensures same { terms_of self.new ≡ terms_of self.old }
+    {
+        for _ in 0..u64::MAX {
+            match self.tell_next(reader, out) {
+                Ok(Step::Told) => {}
+                Ok(Step::Ended) => return Ok(Telling::Whole),
+                Ok(Step::Cut) => return Ok(Telling::CutShort),
+                Err(fault) => return Err(fault),
+            }
+        }
+        match put_cut(out, ReadFault::OutOfMemory) {
+            Ok(_) => Ok(Telling::CutShort),
+            Err(fault) => Err(fault),
         }
     }
 
@@ -274,16 +305,8 @@ impl<'a> GameTeller<'a> {
         ensures cause { OnErr result (HasFailed W.facts) }
         ensures same { terms_of self.new ≡ terms_of self.old }
     {
-        for _ in 0..u64::MAX {
-            match self.tell_next(reader, out) {
-                Ok(Step::Told) => {}
-                Ok(Step::Ended) => return Ok(Telling::Whole),
-                Ok(Step::Cut) => return Ok(Telling::CutShort),
-                Err(fault) => return Err(fault),
-            }
-        }
-        match put_cut(out, ReadFault::OutOfMemory) {
-            Ok(_) => Ok(Telling::CutShort),
+        match out.flush_all() {
+            Ok(()) => self.tell_each(reader, out),
             Err(fault) => Err(fault),
         }
     }
