@@ -36,7 +36,8 @@ impl<L: LineReader + Drop> PgnReader<L> {
 
     /// A reader of an input of which nothing is read yet.
     pub fn new(alloc: Global, lines: L) -> PgnReader<L>
-        ensures { tokens_left (λ l. (L.facts l).left) result ≡ option_map tokens_of (L.facts lines).left }
+        ensures tokens { tokens_left (λ l. (L.facts l).left) result ≡ option_map tokens_of (L.facts lines).left }
+        ensures input { input_of result ≡ lines }
     {
         PgnReader {
             alloc,
@@ -58,7 +59,8 @@ impl<L: LineReader + Drop> PgnReader<L> {
     ///
     /// Nothing is read behind the line of its result. A game without one ends before a tag pair in the first column of a line
     /// behind its movetext, or at the end of the input. Behind its first fault the tokens of a game are passed over to its end, which is
-    /// found in the same way: so no other game is lost. After an error a part of a game may be lost. `OutOfMemory` is also the error
+    /// found in the same way: so no other game is lost, but for one that stands behind a comment that closes in a line of more than
+    /// 65,535 bytes. After an error a part of a game may be lost. `OutOfMemory` is also the error
     /// where memory is refused for the game.
     pub fn next_game(&mut self) -> Result<Option<Reading>, ReadFault>
         ensures game { IfOk result (λ told. IfKnown (tokens_left (λ l. (L.facts l).left) self.old) (tokens_left (λ l. (L.facts l).left) self.new) (λ tokens behind. ReadsGame tokens (option_map reading_of told) behind)) }

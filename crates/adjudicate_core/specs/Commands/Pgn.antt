@@ -1,5 +1,5 @@
 -- `pgn --tables DIR [--manifest FILE] [--delay N] [--json] [--differ] [FILE]`: what tables say of the games of a PGN file (this project's own).
-use Rattle.std.specs.Prelude.{◌≡◌, ℕ, Bool, true, false, List, [], ◌∷◌, Option, Some, None, IfSome, Result, Ok, Err, codes, option_map}
+use Rattle.std.specs.Prelude.{◌≡◌, ◌⊎◌, ℕ, Bool, true, false, List, [], ◌∷◌, Option, Some, None, IfSome, IsSome, Result, Ok, Err, codes, option_map}
 use Rattle.judge_core.specs.Tables.{Tables}
 use Rattle.line_teller.specs.ToldLines.{refused_files, refused_memory}
 use Rattle.pgn_games.specs.Tokens.{tokens_of}
@@ -63,23 +63,24 @@ abbrev pub unread_words : ReadFault → List ℕ
 unread_words read.Unreadable = refused_files
 unread_words read.OutOfMemory = refused_memory
 
--- Of bytes, where they are known, the games were told and then the sums; or the games until no more could be read or told; or the writer failed
--- at a game, or at the sums.
-pub data PutsPgn (terms : Terms) (s : Sums) (bytes old new : Option (List ℕ)) (r : Result ℕ WriteFault) : Type 0 where
-  PutsAll : (now : Sums) (mid : Option (List ℕ)) (well : Bool) → IfSome bytes (λ known. TellsPgn terms s (tokens_of known) now old mid Whole) → TellsSums terms.form now mid new well → r ≡ Ok (status_if well) → PutsPgn terms s bytes old new r
-  PutsSome : (now : Sums) → IfSome bytes (λ known. TellsPgn terms s (tokens_of known) now old new CutShort) → r ≡ Ok 1 → PutsPgn terms s bytes old new r
-  FailsAtGame : (fault : WriteFault) → IfSome bytes (λ known. CutsPgn terms s (tokens_of known) old new) → r ≡ Err fault → PutsPgn terms s bytes old new r
-  FailsAtSums : (now : Sums) (mid : Option (List ℕ)) (fault : WriteFault) → IfSome bytes (λ known. TellsPgn terms s (tokens_of known) now old mid Whole) → CutsSums terms.form now mid new → r ≡ Err fault → PutsPgn terms s bytes old new r
+-- Of bytes, where they are known, the games were told and then the sums; or the games until no more could be read, which may be where reading
+-- fails, or told; or the writer failed at a game, or at the sums.
+pub data PutsPgn (terms : Terms) (s : Sums) (Fails : Type 0) (bytes old new : Option (List ℕ)) (r : Result ℕ WriteFault) : Type 0 where
+  PutsAll : (now : Sums) (mid : Option (List ℕ)) (well : Bool) → IfSome bytes (λ known. TellsPgn terms s Fails (tokens_of known) now old mid Whole) → TellsSums terms.form now mid new well → r ≡ Ok (status_if well) → PutsPgn terms s Fails bytes old new r
+  PutsSome : (now : Sums) → IfSome bytes (λ known. TellsPgn terms s Fails (tokens_of known) now old new CutShort) → r ≡ Ok 1 → PutsPgn terms s Fails bytes old new r
+  FailsAtGame : (fault : WriteFault) → IfSome bytes (λ known. CutsPgn terms s Fails (tokens_of known) old new) → r ≡ Err fault → PutsPgn terms s Fails bytes old new r
+  FailsAtSums : (now : Sums) (mid : Option (List ℕ)) (fault : WriteFault) → IfSome bytes (λ known. TellsPgn terms s Fails (tokens_of known) now old mid Whole) → CutsSums terms.form now mid new → r ≡ Err fault → PutsPgn terms s Fails bytes old new r
 
--- so it is of the bytes of a file; or it can't be read; or memory for reading it was refused, or no descriptor was left
+-- so it is of the bytes of a file, which are known of a disk whose contents are stated; or it can't be read; or memory for reading it was
+-- refused, or no descriptor was left
 pub data PutsFile (terms : Terms) (s : Sums) (disk : DiskFacts) (path : List ℕ) (old new : Option (List ℕ)) (r : Result ℕ WriteFault) : Type 0 where
-  OfFile : (bytes : Option (List ℕ)) → IfSome bytes (disk.holds path) → PutsPgn terms s bytes old new r → PutsFile terms s disk path old new r
+  OfFile : (bytes : Option (List ℕ)) → IfSome bytes (disk.holds path) → (disk.is_told ≡ true → IsSome bytes) → PutsPgn terms s (disk.fails (AtFile path)) bytes old new r → PutsFile terms s disk path old new r
   OfNone : disk.fails (AtFile path) → TellsOne refused_files old new r → PutsFile terms s disk path old new r
   NoRoomForFile : TellsOne refused_memory old new r → PutsFile terms s disk path old new r
 
--- so it is of the bytes of the input; or memory for reading it was refused
+-- so it is of the bytes of the input, which are known of one whose bytes are stated and that doesn't fail; or memory for reading it was refused
 pub data PutsInput (terms : Terms) (s : Sums) (source : InputFacts) (old new : Option (List ℕ)) (r : Result ℕ WriteFault) : Type 0 where
-  OfInput : (bytes : Option (List ℕ)) → IfSome bytes source.gives → PutsPgn terms s bytes old new r → PutsInput terms s source old new r
+  OfInput : (bytes : Option (List ℕ)) → IfSome bytes source.gives → (source.is_told ≡ true → source.fails ⊎ IsSome bytes) → PutsPgn terms s source.fails bytes old new r → PutsInput terms s source old new r
   NoRoomForInput : source.takes_memory → TellsOne refused_memory old new r → PutsInput terms s source old new r
 
 -- the games of the file that is named, or else of the input

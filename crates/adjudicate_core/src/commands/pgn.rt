@@ -89,7 +89,7 @@ fn tell_games<L: LineReader + Drop, W: Output>(
     lines: L,
     out: &mut W,
 ) -> Result<u8, WriteFault>
-    ensures told { PutsPgn (terms_of teller.old) teller.old.sums (L.LineReader.facts lines).left (W.contents out.old) (W.contents out.new) result }
+    ensures told { PutsPgn (terms_of teller.old) teller.old.sums (L.LineReader.facts lines).fails (L.LineReader.facts lines).left (W.contents out.old) (W.contents out.new) result }
     ensures cause { OnErr result (HasFailed W.facts) }
 {
     let mut reader = PgnReader::new(alloc, lines);
