@@ -1,0 +1,12 @@
+use Rattle.std.proofs.Common.{ap}
+use Rattle.std.specs.Prelude.{option_map}
+use Rattle.adjudicate_core.proofs.PgnLaws.{from_file, from_input}
+use Rattle.adjudicate_core.proofs.commands.pgn.JudgePgn.tell.Goals as goal
+
+pub returns-in-Some-clause-told : goal.returns-in-Some-clause-told
+returns-in-Some-clause-told g c =
+    from_file _ _ _ _ _ _ _ _ _ c.tell_file.result c.teller.ensures.terms c.teller.ensures.sums (ap (option_map (λ s. s.now)) c.in-Some.is) c.tell_file.ensures.told
+
+pub returns-in-None-clause-told : goal.returns-in-None-clause-told
+returns-in-None-clause-told g c =
+    from_input _ _ _ _ _ _ _ _ c.tell_input.result c.teller.ensures.terms c.teller.ensures.sums (ap (option_map (λ s. s.now)) c.in-None.is) c.tell_input.ensures.told
