@@ -19,6 +19,10 @@ pub by_bytes : (P : List Token → Type 0) (left : Option (List ℕ)) (tokens : 
 by_bytes P None tokens is h = tt
 by_bytes P (Some bytes) tokens is h = subst (λ o. IfSome o P) is h
 
+-- so it is of the lines that are read
+pub by_reader : {L : Type 0} (P : L → List Token → Type 0) (from lines : L) (left : Option (List ℕ)) (tokens : Option (List Token)) → from ≡ lines → tokens ≡ option_map tokens_of left → IfSome tokens (P from) → IfSome left (λ known. P lines (tokens_of known))
+by_reader P from lines left tokens same is h = by_bytes (P lines) left tokens is (subst (λ l. IfSome tokens (P l)) same h)
+
 -- sums by terms that stay
 pub sums_by : (t u : Terms) (s : Sums) (old new : Option (List ℕ)) (well : _) → u ≡ t → TellsSums u.form s old new well → TellsSums t.form s old new well
 sums_by t u s old new well same told = subst (λ (v : Terms). TellsSums v.form s old new well) same told
