@@ -5,8 +5,8 @@ use Rattle.adjudicate_core.proofs.commands.pgn.JudgePgn.tell.Goals as goal
 
 pub returns-in-Some-clause-told : goal.returns-in-Some-clause-told
 returns-in-Some-clause-told g c =
-    from_file _ _ _ _ _ _ _ _ _ c.tell_file.result c.teller.ensures.terms c.teller.ensures.sums (ap (option_map (λ s. s.now)) c.in-Some.is) c.tell_file.ensures.told
+    from_file _ _ _ _ _ _ _ _ _ c.tell_file.result c.teller-teller.ensures.terms c.teller-teller.ensures.sums (ap (option_map (λ s. s.now)) c.in-Some.is) c.tell_file.ensures.told
 
-pub returns-in-None-clause-told : goal.returns-in-None-clause-told
-returns-in-None-clause-told g c =
-    from_input _ _ _ _ _ _ _ _ c.tell_input.result c.teller.ensures.terms c.teller.ensures.sums (ap (option_map (λ s. s.now)) c.in-None.is) c.tell_input.ensures.told
+pub returns-clause-told : goal.returns-clause-told
+returns-clause-told g c =
+    from_input _ _ _ _ _ _ _ _ c.tell_input.result c.teller-teller.ensures.terms c.teller-teller.ensures.sums (ap (option_map (λ s. s.now)) c.in-None.is) c.tell_input.ensures.told

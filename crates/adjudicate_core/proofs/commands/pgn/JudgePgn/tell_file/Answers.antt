@@ -1,3 +1,5 @@
+use Rattle.std.proofs.Common.{ap}
+use Rattle.std.specs.Prelude.{Err}
 use Rattle.adjudicate_core.specs.Commands.Pgn.{OfFile}
 use Rattle.adjudicate_core.proofs.PgnLaws.{puts_back, unread_file}
 use Rattle.adjudicate_core.proofs.commands.pgn.JudgePgn.tell_file.Goals as goal
@@ -8,4 +10,4 @@ returns-in-Ok-clause-told g c =
 
 pub returns-in-Err-clause-told : goal.returns-in-Err-clause-told
 returns-in-Err-clause-told g c =
-    unread_file _ _ _ _ _ _ _ c.put_refusal.result c.in-Err.fault c.unread.ensures c.in-Err.ensures.cause c.put_refusal.ensures.told
+    unread_file _ _ _ _ _ _ _ c.put_refusal.result c.in-Err.fault c.unread.ensures (λ is. c.in-Err.ensures.cause (ap Err is)) c.put_refusal.ensures.told
