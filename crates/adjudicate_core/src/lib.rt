@@ -41,6 +41,8 @@
 //! - CLAIM: `run`, clause `runs`: `listen` refuses its start, its tables, its address and its kept file in this order, and
 //!   nothing passes at the port before an arbiter is opened; with `--ready` the line `ready ADDR` is written first. That each
 //!   line has gone out before the next is in the contract of the private `listen` alone.
+//! - CLAIM: `run`, clause `runs`: `pgn` refuses its tables first; then it tells the games of its file or of the input as
+//!   `GameTeller::tell_games` of pgn_teller has them, and last the sums. `games` answers each line of the input as `game` answers its words.
 //! - CLAIM: `run`, clause `runs`: `host` refuses its tables, its folder of games where it can't be listed, and its address in this
 //!   order; then the line `ready ADDR` is written, and the games of its folder are hosted by acts as `Server::serve` has them, by a set
 //!   of the tables whose cache is of `--cache` blocks. That each line has gone out before the next is in the contract of the private
@@ -84,9 +86,9 @@ mod words;
 
 pub use commands::{
     Audit, AuditGames, Check, Enter, Entries, Follow, FollowGame, FollowGames, Form, GameFile,
-    GameRecord, HostGames, Judge, JudgePgn, List, Listen, Moves, Name, OneGame, Probe, Probes, Root,
-    RunSchedule, Send, SentGame, Show, ShowRecord, ShowStatus, Task, ToldGame, Value, Version,
-    parse,
+    GameRecord, HostGames, Judge, JudgePgn, List, Listen, Moves, Name, OneGame, Probe, Probes,
+    Root, RunSchedule, Send, SentGame, Show, ShowRecord, ShowStatus, Task, ToldGame, Value,
+    Version, parse,
 };
 pub use program::{refuse_memory, run, run_program};
 pub use system::System;

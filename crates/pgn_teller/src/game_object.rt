@@ -173,7 +173,10 @@ fn cause_of<'a>(cause: Cause) -> Value<'a>
 {
     match cause {
         Cause::BadTag => Value::Text("BadTag"),
-        Cause::BadFen(FenFault::BadPosition(fault)) => Value::Words("BadFen BadPosition ", fault.name()),
+        Cause::BadFen(FenFault::BadPosition(fault)) => Value::Words(
+            "BadFen BadPosition ",
+            fault.name(),
+        ),
         Cause::BadFen(fault) => Value::Words("BadFen ", fault.name()),
         Cause::BadMove(fault) => Value::Words("BadMove ", fault.name()),
         Cause::TooManyMoves => Value::Text("TooManyMoves"),

@@ -8,6 +8,13 @@
 //!
 //! Definitions, in reading order: `Ratings` (`IsFirstRuled`, `finding_of`), `GameLines`, `GameObjects`, `Tellings` (`TellsPgn`). Its cases stand
 //! in `pgn.txt` of `rows`.
+//!
+//! - CLAIM: `rule`: the first verdict of a game by tables and a delay, or none.
+//! - CLAIM: `GameTeller::tell_games`, clauses `told`, `front`, `cause`, `same`: where the bytes of an input are known, a line is written for
+//!   each game of its tokens in turn, and counted, until the input ends, or until it can't be read or memory is refused, which is written last.
+//!   After an error of the writer whole lines stand there, and of the next a front.
+//! - CLAIM: `GameTeller::tell_sums`, clauses `told`, `front`, `cause`: the sums are one line; the result is false where a game was at fault, or
+//!   where memory for the line is refused, which is written in its place.
 #![tactic(auto)]
 
 mod finding;

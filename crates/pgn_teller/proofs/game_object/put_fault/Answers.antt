@@ -9,9 +9,9 @@ use Rattle.pgn_teller.proofs.game_object.put_fault.Goals as goal
 pub returns : goal.returns
 returns g c =
     let same =
-        one_same _ _ _ _ _ c.member.ensures refl
-        (one_same _ _ _ _ _ c.member-2.ensures refl
-        (one_same _ _ _ _ _ c.member-3.ensures c.cause_of.ensures
-        (one_same _ _ _ _ _ c.member-4.ensures refl
-        (one_same _ _ _ no_members no_members c.member-5.ensures refl refl)))) in
+    one_same _ _ _ _ _ c.member.ensures refl
+    (one_same _ _ _ _ _ c.member-2.ensures refl
+    (one_same _ _ _ _ _ c.member-3.ensures c.cause_of.ensures
+    (one_same _ _ _ _ _ c.member-4.ensures refl
+    (one_same _ _ _ no_members no_members c.member-5.ensures refl refl)))) in
     subst (λ ms. OnOk c.put_object.result (Appends (g.W.Write.contents c.args.out.now) (g.W.Write.contents c.put_object.new.out) (json_text (object ms)))) same c.put_object.ensures
