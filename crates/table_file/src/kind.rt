@@ -1,12 +1,13 @@
 //! Kinds of table files, and their names.
 
-ghost use Rattle.std.specs.Prelude.{◌≡◌, ◌≢◌, IfErr, IfSome, IfNone};
+ghost use Rattle.std.specs.Prelude.{◌≡◌, ◌≢◌, IfErr, IfSome, IfNone, Ok};
 ghost use Rattle.table_file.specs.declared.fault.TableFault.TheVariants.{OutOfMemory};
 ghost use Rattle.table_file.specs.declared.kind.TableKind.{TableKind};
-ghost use Rattle.table_file.specs.Names.{ending, title_of};
+ghost use Rattle.table_file.specs.Names.{ending, file_name, title_of};
 ghost use Rattle.table_file.specs.Reading.{Gives};
 
 use crate::fault::TableFault;
+use arrayvec::ArrayString;
 use place_index::{Material, tables_are_numbered};
 
 /// What the values of a table file mean.
@@ -51,4 +52,29 @@ pub(crate) fn title(name: &[u8]) -> Result<(TableKind, Material), TableFault>
     };
     let _ = material.key();
     Ok((kind, material))
+}
+
+/// The ending of the file names of a kind: `.rtbw` or `.rtbz`.
+fn ending_of(kind: TableKind) -> &'static str
+    ensures { result.now ≡ ending kind }
+{
+    match kind {
+        TableKind::Wdl => ".rtbw",
+        TableKind::Dtz => ".rtbz",
+    }
+}
+
+/// The name of the file of a kind for a material, as `KQvK.rtbw`: the name of the men, and the ending. It has 9 to 11 bytes.
+/// `open` takes a file of that name for the table of this kind and this material.
+pub fn file_name(kind: TableKind, material: &Material) -> ArrayString<16>
+    ensures is { result.bytes ≡ file_name kind material.now }
+    ensures title { title_of result.bytes ≡ Ok (kind, material.now) }
+{
+    tables_are_numbered();
+    let _key = material.key();
+    let men = material.name();
+    let mut name = ArrayString::<16>::new();
+    name.push_str(men.as_str());
+    name.push_str(ending_of(kind));
+    name
 }

@@ -63,7 +63,7 @@ mod table_part;
 
 pub use fault::TableFault;
 pub use forging::{ForgeFault, forge};
-pub use kind::TableKind;
+pub use kind::{TableKind, file_name};
 pub use laws::{a_side_is_stored, reads_what_is_laid_out, tells_first_fault};
 pub use outcome::Outcome;
 pub use pair_dict::Damaged;
