@@ -1,13 +1,14 @@
 -- File names, and what materials say.
-use Rattle.std.proofs.Common.{◌≡◌, ℕ, zero, suc, ◌+◌, ◌-◌, ◌<◌, ◌≤◌, Bool, true, false, eqb, leb, List, [], ◌∷◌, ◌++◌, length, take, drop, slice_index, Ok, Err, refl, sym, ap, ◌∙◌, inl, inr, arith, length-append}
+use Rattle.std.proofs.Common.{◌≡◌, ℕ, zero, suc, ◌+◌, ◌-◌, ◌<◌, ◌≤◌, Bool, true, false, eqb, leb, List, [], ◌∷◌, ◌++◌, length, take, drop, slice_index, Result, Ok, Err, refl, sym, ap, ◌∙◌, inl, inr, arith, length-append}
 use Rattle.std.specs.Prelude.{◌&&◌}
 use Rattle.std.proofs.lemmas.Bool.{cases_Bool, cases_eq, false≢true, eqb-true, eq-eqb, ne_eqb, and_parts, and_from, leb-true, agree_below_at}
 use Rattle.place_index.specs.Material.{TablesAreNumbered, men_of, name_at, pieces_of, count_of}
 use Rattle.place_index.specs.Shape.{both_have_pawns}
+use Rattle.table_file.specs.declared.fault.TableFault.{TableFault}
 use Rattle.table_file.specs.declared.fault.TableFault.TheVariants.{BadName}
 use Rattle.table_file.specs.declared.kind.TableKind.{TableKind}
 use Rattle.table_file.specs.declared.kind.TableKind.TheVariants.{Wdl, Dtz}
-use Rattle.table_file.specs.Names.{equal, ending, file_name, title_among, title_of}
+use Rattle.table_file.specs.Names.{NamesDiffer, equal, ending, file_name, title_among, title_of}
 
 -- ---- equal lists
 
@@ -130,6 +131,18 @@ title_is law kind m name lt e = title_found law 145 kind m name lt (omega arith)
 pub no_title : (name : List ℕ) → ((kind : TableKind) (m : ℕ) → m < 145 → name ≡ file_name kind m → ⊥) → title_of name ≡ Err BadName
 unfolding title_of
 no_title name none = title_none 145 name none
+
+title_or : TableKind × ℕ → Result (TableKind × ℕ) TableFault → TableKind × ℕ
+title_or other (Ok title) = title
+title_or other (Err fault) = other
+
+same_title : (title other : TableKind × ℕ) (r : Result (TableKind × ℕ) TableFault) → r ≡ Ok title → r ≡ Ok other → (title.0 ≡ other.0) × (title.1 ≡ other.1)
+unfolding title_or
+same_title title other r x y = (ap (λ t. (title_or title t).0) (sym x ∙ y), ap (λ t. (title_or title t).1) (sym x ∙ y))
+
+pub names_of_two : TablesAreNumbered → NamesDiffer
+names_of_two law kind other j k jj kk e =
+    same_title (kind, j) (other, k) (title_of (file_name kind j)) (title_is law kind j (file_name kind j) jj refl) (title_is law other k (file_name kind j) kk e)
 
 -- a name from its two pieces
 pub joined_name : (kind : TableKind) (m k : ℕ) (name : List ℕ) → take k name ≡ name_at m → drop k name ≡ ending kind → name ≡ file_name kind m

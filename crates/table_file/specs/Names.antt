@@ -1,5 +1,5 @@
 -- File names of tables: the name of the men, and an ending for the kind of table.
-use Rattle.std.specs.Prelude.{ℕ, zero, suc, Bool, true, false, List, [], ◌∷◌, ◌++◌, Result, Ok, Err, ◌==◌, ◌&&◌, if◌then◌else◌}
+use Rattle.std.specs.Prelude.{◌≡◌, ◌<◌, ℕ, zero, suc, Bool, true, false, List, [], ◌∷◌, ◌++◌, Result, Ok, Err, ◌==◌, ◌&&◌, if◌then◌else◌}
 use Rattle.place_index.specs.Material.{name_at}
 use Rattle.table_file.specs.declared.fault.TableFault.{TableFault}
 use Rattle.table_file.specs.declared.fault.TableFault.TheVariants.{BadName}
@@ -32,3 +32,7 @@ title_among (suc material) name =
 
 unfoldable pub title_of : List ℕ → Result (TableKind × ℕ) TableFault
 title_of name = title_among 145 name
+
+-- Two tables have two file names.
+abbrev pub NamesDiffer : Type 0
+NamesDiffer = (kind other : TableKind) (j k : ℕ) → j < 145 → k < 145 → file_name kind j ≡ file_name other k → (kind ≡ other) × (j ≡ k)

@@ -1,6 +1,6 @@
 //! Kinds of table files, and their names.
 
-ghost use Rattle.std.specs.Prelude.{◌≡◌, ◌≢◌, IfErr, IfSome, IfNone, Ok};
+ghost use Rattle.std.specs.Prelude.{◌≡◌, ◌≢◌, IfErr, IfSome, IfNone};
 ghost use Rattle.table_file.specs.declared.fault.TableFault.TheVariants.{OutOfMemory};
 ghost use Rattle.table_file.specs.declared.kind.TableKind.{TableKind};
 ghost use Rattle.table_file.specs.Names.{ending, file_name, title_of};
@@ -67,11 +67,8 @@ fn ending_of(kind: TableKind) -> &'static str
 /// The name of the file of a kind for a material, as `KQvK.rtbw`: the name of the men, and the ending. It has 9 to 11 bytes.
 /// `open` takes a file of that name for the table of this kind and this material.
 pub fn file_name(kind: TableKind, material: &Material) -> ArrayString<16>
-    ensures is { result.bytes ≡ file_name kind material.now }
-    ensures title { title_of result.bytes ≡ Ok (kind, material.now) }
+    ensures { result.bytes ≡ file_name kind material.now }
 {
-    tables_are_numbered();
-    let _key = material.key();
     let men = material.name();
     let mut name = ArrayString::<16>::new();
     name.push_str(men.as_str());

@@ -3,6 +3,7 @@
 ghost use Rattle.table_file.specs.Layouts.{ReadsWhatIsLaidOut};
 ghost use Rattle.table_file.specs.FirstFaults.{TellsFirstFault};
 ghost use Rattle.table_file.specs.Distances.{ASideIsStored};
+ghost use Rattle.table_file.specs.Names.{NamesDiffer};
 
 use pair_dict::reads_what_is_spelled;
 use place_index::tables_are_numbered;
@@ -28,3 +29,10 @@ pub fn tells_first_fault()
 pub fn a_side_is_stored()
     ensures { ASideIsStored }
 {}
+
+/// Two tables, of two kinds or of two materials, have two file names.
+pub fn names_differ()
+    ensures { NamesDiffer }
+{
+    tables_are_numbered();
+}

@@ -38,6 +38,7 @@
 //! - CLAIM: `forge`, clauses `good`, `io`, `bad`, `untouched`: a plan that breaks a rule of `specs/Plan.antt` is never written;
 //!   `BadPlan` comes only for a plan that can't be forged, `Io` only for one that can. `BadPlan` and `OutOfMemory` leave the
 //!   writer as it was.
+//! - CLAIM: `file_name`; `laws::names_differ`: the name of the file of a kind and a material; two tables have two names.
 //! - CLAIM: `TableFault::name`: the name of a fault.
 #![tactic(auto)]
 
@@ -64,7 +65,7 @@ mod table_part;
 pub use fault::TableFault;
 pub use forging::{ForgeFault, forge};
 pub use kind::{TableKind, file_name};
-pub use laws::{a_side_is_stored, reads_what_is_laid_out, tells_first_fault};
+pub use laws::{a_side_is_stored, names_differ, reads_what_is_laid_out, tells_first_fault};
 pub use outcome::Outcome;
 pub use pair_dict::Damaged;
 pub use plan::{Content, MapsPlan, PairsPlan, PartPlan, Plan};

@@ -1,0 +1,4 @@
+pub mod Faults
+pub mod Folders
+pub mod Settled
+pub mod Laws

@@ -1,0 +1,49 @@
+-- Positions at which no table of a folder is missing, and what is refused (this project's own).
+use Rattle.std.specs.Prelude.{◌≡◌, ◌<◌, ◌⊎◌, ℕ, false, List, Option, Some, None, Err}
+use Rattle.board_core.specs.declared.parts.Parts.{Parts}
+use Rattle.system_io.specs.Disks.{DiskFacts}
+use Rattle.table_file.specs.declared.kind.TableKind.{TableKind}
+use Rattle.table_file.specs.declared.kind.TableKind.TheVariants.{Wdl}
+use Rattle.table_file.specs.Names.{file_name}
+use Rattle.judge_core.specs.declared.fault.ValueFault.TheVariants.{NotCovered}
+use Rattle.judge_core.specs.Distances.{dtz_of}
+use Rattle.judge_core.specs.Probing.{wdl_of}
+use Rattle.judge_core.specs.Ruling.{is_out_of_scope}
+use Rattle.judge_core.specs.Tables.{Tables, table_at}
+use Rattle.table_folder.specs.declared.fault.FileRefusal.{FileRefusal}
+use Rattle.table_folder.specs.Folders.{AreOf, Folder, HasTable, Says}
+
+-- at a position in scope the value misses this table, or the distance does
+abbrev pub Misses : Tables → Parts → TableKind → ℕ → Type 0
+Misses tables p kind key =
+    (is_out_of_scope p ≡ false) × (table_at tables kind key ≡ None)
+    × ((kind ≡ Wdl) × (wdl_of tables p ≡ Err (NotCovered key)) ⊎ (dtz_of tables p ≡ Err (NotCovered key)))
+
+-- of the tables that a position misses the folder has none
+abbrev pub IsSettled : Folder → Tables → Parts → Type 0
+IsSettled folder tables p = (kind : TableKind) (key : ℕ) → Misses tables p kind key → HasTable folder kind key → ⊥
+
+-- a position misses a table of the folder, by tables of this, whose file says why it is none
+pub record IsRefusedAt (disk : DiskFacts) (folder : Folder) (p : Parts) (refusal : FileRefusal) : Type 0 where
+  pub tables : Tables
+  pub opened : AreOf disk folder tables
+  pub kind : TableKind
+  pub key : ℕ
+  pub known : key < 145
+  pub misses : Misses tables p kind key
+  pub has : HasTable folder kind key
+  pub name : refusal.name.bytes ≡ file_name kind key
+  pub says : Says disk folder (file_name kind key) (Err refusal.fault)
+
+-- answers by tables of the folder, of which none is missing at the positions that are needed
+pub record AnswersBy (disk : DiskFacts) (folder : Folder) (IsNeeded : Parts → Type 0) (Answers : Tables → Type 0) : Type 0 where
+  pub tables : Tables
+  pub opened : AreOf disk folder tables
+  pub settled : (p : Parts) → IsNeeded p → IsSettled folder tables p
+  pub answers : Answers tables
+
+-- a needed position is refused
+pub record IsRefusedFor (disk : DiskFacts) (folder : Folder) (IsNeeded : Parts → Type 0) (refusal : FileRefusal) : Type 0 where
+  pub position : Parts
+  pub needed : IsNeeded position
+  pub refused : IsRefusedAt disk folder position refusal

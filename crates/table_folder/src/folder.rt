@@ -1,0 +1,129 @@
+//! Folders of tables.
+
+ghost use Rattle.std.specs.Prelude.{◌≡◌, ◌⊎◌, ◌↔◌, ℕ, List, map, Option, option_map, IfOk, IfSome, IfNone, IsErrOf, IsTrue, Ok};
+ghost use Rattle.std.specs.List.{Contains};
+ghost use Rattle.move_msg.specs.ToldBy.{told_by};
+ghost use Rattle.task_files.specs.Outside.{FolderFails};
+ghost use Rattle.table_file.specs.Names.{file_name};
+ghost use Rattle.table_folder.specs.Folders.{HasTable, IsFolderAt, Says, digest_in};
+
+use crate::fault::FileFault;
+use bumpalo::Bump;
+use move_msg::{Manifest, file_digest};
+use place_index::Material;
+use std::alloc::{AllocError, Global};
+use std::marker::Model;
+use system_io::{Disk, ReadFault};
+use table_file::{Table, TableFault, TableKind, file_name, open};
+use task_files::{FileName, names_in, read_file};
+
+/// A folder of tables whose files are read when they are asked for.
+///
+/// Contracts see the disk and the folder: its path, the names of the files that it lists, and the manifest. The bytes of files that
+/// are opened stay in the arena until that is dropped.
+#[derive(Drop)]
+pub struct TableFolder<'r, D> {
+    disk: &'r D,
+    path: &'r str,
+    manifest: &'r Manifest,
+    names: Vec<FileName>,
+    arena: &'r Bump,
+}
+
+impl<'r, D> Model for TableFolder<'r, D> {
+    ghost use Rattle.move_msg.specs.ToldBy.{told_by};
+    ghost use Rattle.table_folder.specs.Folders.{FolderOn};
+
+    ghost Value = { FolderOn D };
+
+    ghost view = { λ f. record { disk = f.disk.now; folder = record { path = f.path.now; names = f.names.items; manifest = told_by f.manifest.now } } };
+}
+
+/// The digest that the lines of a manifest have for a name.
+fn digest_of(lines: &[Line], name: &str) -> Option<[u8; 32]>
+    ensures { result ≡ digest_in (Some (Ok (map entry_of lines.now))) name.now }
+{
+    for line in lines {
+        if line.name.as_str() == name {
+            return Some(line.digest);
+        }
+    }
+    None
+}
+
+impl<'r, D: Disk> TableFolder<'r, D> {
+    /// The folder at a path: its names are listed, and no file is read. With a manifest the tables are those that it names, and their
+    /// files are held to its digests.
+    ///
+    /// `Unreadable` where the folder can't be read, or lists a name twice that is wanted. `OutOfMemory` where memory is refused.
+    pub fn open(
+        alloc: Global,
+        disk: &'r D,
+        path: &'r str,
+        manifest: &'r Manifest,
+        arena: &'r Bump,
+    ) -> Result<TableFolder<'r, D>, ReadFault>
+        ensures disk { IfOk result (λ f. f.disk ≡ disk.now) }
+        ensures folder { IfOk result (λ f. IsFolderAt (D.facts disk.now) path.now (told_by manifest.now) f.folder) }
+        ensures cause { IsErrOf result ReadFault.Unreadable → FolderFails (D.facts disk.now) path.now (told_by manifest.now) }
+    {
+        match names_in(alloc, disk, path, manifest) {
+            Ok(names) => Ok(TableFolder {
+                disk,
+                path,
+                manifest,
+                names,
+                arena,
+            }),
+            Err(fault) => Err(fault),
+        }
+    }
+
+    /// The name of a file that the folder lists.
+    fn listed(&self, name: &str) -> Option<&FileName>
+        ensures some { IfSome result (λ listed. (listed.now ≡ name.now) × Contains self.now.folder.names name.now) }
+        ensures none { IfNone result (Contains self.now.folder.names name.now → ⊥) }
+    {
+        for listed in &self.names {
+            if listed.as_str() == name {
+                return Some(listed);
+            }
+        }
+        None
+    }
+
+    /// The digest that the manifest has for a name; none without a manifest.
+    fn digest(&self, name: &str) -> Option<[u8; 32]>
+        ensures { result ≡ digest_in self.now.folder.manifest name.now }
+    {
+        match self.manifest {
+            Manifest::Lines(lines) => digest_of(lines, name),
+            Manifest::Unnamed | Manifest::BadLine(_) => None,
+        }
+    }
+
+    /// Whether the folder has a table of this kind for the material: its manifest names the file, or without one the folder lists it.
+    pub fn has(&self, kind: TableKind, material: &Material) -> bool
+        ensures { IsTrue result ↔ HasTable self.now.folder kind material.now }
+    {
+        let name = file_name(kind, material);
+        match self.manifest {
+            Manifest::Unnamed => self.listed(name.as_str()).is_some(),
+            _ => self.digest(name.as_str()).is_some(),
+        }
+    }
+
+    /// The bytes of a listed file that agree with the manifest; and why they aren't the table's.
+    fn bytes_of(&self, alloc: Global, listed: &FileName) -> Result<Result<Vec<u8>, FileFault>, AllocError>
+    {
+        let file = match read_file(alloc, self.disk, self.path, listed) {
+            Ok(file) => file,
+            Err(ReadFault::Unreadable) => return Ok(Err(FileFault::Unreadable)),
+            Err(ReadFault::OutOfMemory) => return Err(AllocError),
+        };
+        match self.digest(listed.as_str()) {
+            Some(digest) if file_digest(&file.bytes) != digest => Ok(Err(FileFault::Changed)),
+            _ => Ok(Ok(file.bytes)),
+        }
+    }
+}
