@@ -23,6 +23,12 @@ pub record AreWantedOf (told : Option ToldManifest) (names wanted : List (List �
   pub only : (name : List ℕ) → Contains wanted name → Contains names name × IsFileName name × IsWanted told name
   pub rising : AreRisingNames wanted
 
+-- these are the names of the wanted files of a folder, in rising order
+pub record AreNamesIn (disk : DiskFacts) (folder : List ℕ) (told : Option ToldManifest) (wanted : List (List ℕ)) : Type 0 where
+  pub names : List (List ℕ)
+  pub listed : disk.lists folder names
+  pub are : AreWantedOf told names wanted
+
 -- the name of a wanted file is listed twice
 pub record ListsTwice (told : Option ToldManifest) (names : List (List ℕ)) : Type 0 where
   pub before : List (List ℕ)

@@ -10,7 +10,7 @@ ghost use Rattle.move_msg.specs.TextLines.{ended};
 ghost use Rattle.task_files.specs.FileNames.{AreRisingNames};
 ghost use Rattle.move_msg.specs.ToldBy.{told_by};
 ghost use Rattle.system_io.specs.Disks.{AtFile};
-ghost use Rattle.task_files.specs.Outside.{AreFilesIn, AreWantedOf, FolderFails, IsAtItsPath, IsWanted, ListsTwice, path_in};
+ghost use Rattle.task_files.specs.Outside.{AreFilesIn, AreNamesIn, AreWantedOf, FolderFails, IsAtItsPath, IsWanted, ListsTwice, path_in};
 ghost use Rattle.task_files.specs.Made.{AreMadeOf};
 ghost use Rattle.task_files.specs.Inside.Reading.{AreLooksAt, read_words};
 ghost use Rattle.task_files.specs.Inside.Placing.{IsNamePlace, AddsName};
@@ -144,8 +144,10 @@ impl TableRequest for Line {
     }
 }
 
-/// A folder's file.
-fn read_file<D: Disk>(
+/// The file of this name in a folder, with the bytes at its path.
+///
+/// `Unreadable` where it can't be read or has more than 2^30 bytes, `OutOfMemory` where memory is refused.
+pub fn read_file<D: Disk>(
     alloc: Global,
     disk: &D,
     folder: &str,
@@ -228,6 +230,25 @@ fn look_at_files<D: Disk, L: TableRequest, E: Write>(
     Ok(looks)
 }
 
+/// The names of the wanted table files of a folder, in rising order. Wanted are those with names of table files, and with a
+/// manifest only those that its lines name. No file is read.
+///
+/// `Unreadable` where the folder can't be read or lists one of them twice, `OutOfMemory` where memory is refused.
+pub fn names_in<D: Disk>(
+    alloc: Global,
+    disk: &D,
+    folder: &str,
+    manifest: &Manifest,
+) -> Result<Vec<FileName>, ReadFault>
+    ensures ok { IfOk result (λ wanted. AreNamesIn (D.facts disk.now) folder.now (told_by manifest.now) wanted.items) }
+    ensures cause { IsErrOf result ReadFault.Unreadable → FolderFails (D.facts disk.now) folder.now (told_by manifest.now) }
+{
+    match disk.names(alloc, folder) {
+        Ok(names) => wanted_names(alloc, &names, manifest),
+        Err(fault) => Err(fault),
+    }
+}
+
 /// The looks at the wanted table files of a folder, in rising order of names. Wanted are those with names of table
 /// files, and with a manifest only those that its lines name. One file at a time is held.
 ///
@@ -246,11 +267,7 @@ pub fn looks_in<D: Disk, L: TableRequest, E: Write>(
     ensures cause { IsErrOf result ReadFault.Unreadable → FolderFails (D.facts disk.now) folder.now (told_by manifest.now) }
     ensures quiet { progress ≡ false → errors.new ≡ errors.old }
 {
-    let names = match disk.names(alloc, folder) {
-        Ok(names) => names,
-        Err(fault) => return Err(fault),
-    };
-    let wanted = match wanted_names(alloc, &names, manifest) {
+    let wanted = match names_in(alloc, disk, folder, manifest) {
         Ok(wanted) => wanted,
         Err(fault) => return Err(fault),
     };

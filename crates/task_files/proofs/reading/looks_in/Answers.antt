@@ -7,19 +7,17 @@ use Rattle.task_files.proofs.reading.looks_in.Goals as goal
 
 pub returns-clause-ok : goal.returns-clause-ok
 returns-clause-ok g c =
-    let wanted = rw c.deref.ensures.value at c.in-Ok-wanted_names.ensures.ok in
-    let looks = rw c.deref-2.ensures.value at c.look_at_files.ensures.looks in
+    let looks = rw c.deref.ensures.value at c.look_at_files.ensures.looks in
     IfOk-weaker c.look_at_files.result _ _ (λ ls h.
-    let them = subst (AreWantedOf (told_by c.args.manifest.now) _) (sym h.named) wanted in (
+    let them = subst (AreWantedOf (told_by c.args.manifest.now) _) (sym h.named) c.in-Ok.ensures.ok.are in (
       h.files,
-      record { names = _; listed = c.in-Ok.ensures.listed; wanted = them; bytes = h.bytes },
+      record { names = _; listed = c.in-Ok.ensures.ok.listed; wanted = them; bytes = h.bytes },
       are_files _ _ _ them,
       h.made,
     )) looks
 
 pub returns-clause-cause : goal.returns-clause-cause
 returns-clause-cause g c = λ is.
-    let wanted = rw c.deref.ensures.value at c.in-Ok-wanted_names.ensures.ok in
-    let failed = rw c.deref-2.ensures.value at c.look_at_files.ensures.cause is in
-    let only = wanted.only failed.0 failed.1 in
-    inr (_, c.in-Ok.ensures.listed, inr (record { name = failed.0; listed = only.0; file = only.1; wanted = only.2; unread = failed.2 }))
+    let failed = rw c.deref.ensures.value at c.look_at_files.ensures.cause is in
+    let only = c.in-Ok.ensures.ok.are.only failed.0 failed.1 in
+    inr (_, c.in-Ok.ensures.ok.listed, inr (record { name = failed.0; listed = only.0; file = only.1; wanted = only.2; unread = failed.2 }))
