@@ -1,6 +1,6 @@
 //! Sets of tables.
 
-ghost use Rattle.std.specs.Prelude.{◌≡◌, ◌≢◌, ◌↔◌, ◌≤◌, IfOk, IsSome, is_some, OnOk, OnErr, None, Some, Err, replicate, slice_set};
+ghost use Rattle.std.specs.Prelude.{◌≡◌, ◌≢◌, ◌↔◌, ◌≤◌, length, IfOk, IsSome, is_some, OnOk, OnErr, None, Some, Err, replicate, slice_set};
 ghost use Rattle.judge_core.specs.declared.fault.SetFault.TheVariants.{Duplicate, OutOfMemory};
 ghost use Rattle.judge_core.specs.Tables.{AreFiled, largest_of, slot, table_at};
 
@@ -51,12 +51,13 @@ impl<'a> Set<'a> {
         })
     }
 
-    /// How many decoded blocks the set may keep, 1 to 4096. Its contract also says that each table is in the slot of its kind
-    /// and its material.
+    /// How many decoded blocks the set may keep, 1 to 4096. Its contract also says that there are 290 slots, and that each table is
+    /// in the slot of its kind and its material.
     pub fn cache(&self) -> usize
         ensures is { result ≡ self.now.cache }
         ensures some { 1 ≤ result }
         ensures most { result ≤ 4096 }
+        ensures slots { length self.now.tables ≡ 290 }
         ensures filed { AreFiled self.now.tables }
     {
         self.table_slots.cache()

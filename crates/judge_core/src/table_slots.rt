@@ -1,6 +1,6 @@
 //! Tables in their slots.
 
-ghost use Rattle.std.specs.Prelude.{◌≡◌, ◌≢◌, ◌↔◌, ◌<◌, ◌≤◌, IfNone, IfOk, IfSome, IsSome, is_some, OnOk, OnErr, None, Some, Err, replicate, get_or, slice_set};
+ghost use Rattle.std.specs.Prelude.{◌≡◌, ◌≢◌, ◌↔◌, ◌<◌, ◌≤◌, length, IfNone, IfOk, IfSome, IsSome, is_some, OnOk, OnErr, None, Some, Err, replicate, get_or, slice_set};
 ghost use Rattle.judge_core.specs.declared.fault.SetFault.TheVariants.{Duplicate, OutOfMemory};
 ghost use Rattle.judge_core.specs.Inside.Kept.{table_in};
 ghost use Rattle.judge_core.specs.Inside.Placing.{IsPartFor};
@@ -87,12 +87,13 @@ impl<'a> TableSlots<'a> {
         Ok(TableSlots { tables, cache })
     }
 
-    /// How many decoded blocks may be kept, 1 to 4096. Its contract also says that each table is in the slot of its kind and its
-    /// material.
+    /// How many decoded blocks may be kept, 1 to 4096. Its contract also says that there are 290 slots, and that each table is in the
+    /// slot of its kind and its material.
     pub(crate) fn cache(&self) -> usize
         ensures is { result ≡ self.now.cache }
         ensures some { 1 ≤ result }
         ensures most { result ≤ 4096 }
+        ensures slots { length self.now.tables ≡ 290 }
         ensures filed { AreFiled self.now.tables }
     {
         self.cache

@@ -11,7 +11,7 @@ use Rattle.table_file.specs.declared.kind.TableKind.{TableKind}
 use Rattle.table_file.specs.Names.{file_name}
 use Rattle.table_file.specs.Tables.{Contents, contents_at}
 use Rattle.judge_core.specs.Tables.{Tables, table_at}
-use Rattle.task_files.specs.Outside.{AreWantedOf, path_in}
+use Rattle.task_files.specs.Outside.{AreNamesIn, path_in}
 use Rattle.table_folder.specs.declared.fault.FileFault.{FileFault}
 use Rattle.table_folder.specs.declared.fault.FileFault.TheVariants.{Missing, Changed, Bad, Unreadable}
 
@@ -38,11 +38,14 @@ pub record Folder : Type 0 where
   pub names : List (List ℕ)
   pub manifest : Option ToldManifest
 
+-- a folder on a disk
+pub record FolderOn (D : Type 0) : Type 0 where
+  pub disk : D
+  pub folder : Folder
+
 -- the folder at a path, held to a manifest where there is one
 pub record IsFolderAt (disk : DiskFacts) (path : List ℕ) (manifest : Option ToldManifest) (folder : Folder) : Type 0 where
-  pub listed : List (List ℕ)
-  pub lists : disk.lists path listed
-  pub names : AreWantedOf manifest listed folder.names
+  pub names : AreNamesIn disk path manifest folder.names
   pub path_is : folder.path ≡ path
   pub manifest_is : folder.manifest ≡ manifest
 

@@ -1,15 +1,17 @@
 //! Folders of tables.
 
-ghost use Rattle.std.specs.Prelude.{◌≡◌, ◌⊎◌, ◌↔◌, ℕ, List, map, Option, option_map, IfOk, IfSome, IfNone, IsErrOf, IsTrue, Ok};
+ghost use Rattle.std.specs.Prelude.{◌≡◌, ◌↔◌, ℕ, List, map, Some, None, IfOk, IfErr, IfSome, IfNone, IsErrOf, IsTrue, Ok, Err};
 ghost use Rattle.std.specs.List.{Contains};
+ghost use Rattle.move_msg.specs.Manifests.{entry_of};
 ghost use Rattle.move_msg.specs.ToldBy.{told_by};
-ghost use Rattle.task_files.specs.Outside.{FolderFails};
+ghost use Rattle.task_files.specs.Outside.{FolderFails, path_in};
 ghost use Rattle.table_file.specs.Names.{file_name};
-ghost use Rattle.table_folder.specs.Folders.{HasTable, IsFolderAt, Says, digest_in};
+ghost use Rattle.table_file.specs.Tables.{contents_at};
+ghost use Rattle.table_folder.specs.Folders.{HasTable, IsFolderAt, Says, digest_in, found_in, found_table};
 
 use crate::fault::FileFault;
 use bumpalo::Bump;
-use move_msg::{Manifest, file_digest};
+use move_msg::{Line, Manifest, file_digest};
 use place_index::Material;
 use std::alloc::{AllocError, Global};
 use std::marker::Model;
@@ -19,8 +21,8 @@ use task_files::{FileName, names_in, read_file};
 
 /// A folder of tables whose files are read when they are asked for.
 ///
-/// Contracts see the disk and the folder: its path, the names of the files that it lists, and the manifest. The bytes of files that
-/// are opened stay in the arena until that is dropped.
+/// Contracts see the disk and the folder: its path, the names of the files that it lists, and the manifest. The bytes of the tables
+/// that are opened stay in the arena until that is dropped.
 #[derive(Drop)]
 pub struct TableFolder<'r, D> {
     disk: &'r D,
@@ -37,6 +39,21 @@ impl<'r, D> Model for TableFolder<'r, D> {
     ghost Value = { FolderOn D };
 
     ghost view = { λ f. record { disk = f.disk.now; folder = record { path = f.path.now; names = f.names.items; manifest = told_by f.manifest.now } } };
+}
+
+/// The table of a file.
+pub fn open_file<'f>(
+    alloc: Global,
+    name: &str,
+    bytes: &'f [u8],
+) -> Result<Result<Table<'f>, FileFault>, AllocError>
+    ensures { IfOk result (λ found. found ≡ found_table (contents_at name.now bytes.now)) }
+{
+    match open(alloc, name.as_bytes(), bytes) {
+        Ok(table) => Ok(Ok(table)),
+        Err(TableFault::OutOfMemory) => Err(AllocError),
+        Err(fault) => Ok(Err(FileFault::Bad(fault))),
+    }
 }
 
 /// The digest that the lines of a manifest have for a name.
@@ -113,8 +130,15 @@ impl<'r, D: Disk> TableFolder<'r, D> {
         }
     }
 
-    /// The bytes of a listed file that agree with the manifest; and why they aren't the table's.
-    fn bytes_of(&self, alloc: Global, listed: &FileName) -> Result<Result<Vec<u8>, FileFault>, AllocError>
+    /// The bytes of a listed file, where they agree with the manifest.
+    fn bytes_of(
+        &self,
+        alloc: Global,
+        listed: &FileName,
+    ) -> Result<Result<Vec<u8>, FileFault>, AllocError>
+        ensures held { IfOk result (λ found. IfOk found (λ bytes. (D.facts self.now.disk).holds (path_in self.now.folder.path listed.now) bytes.items)) }
+        ensures found { IfOk result (λ found. IfOk found (λ bytes. found_in (digest_in self.now.folder.manifest listed.now) listed.now bytes.items ≡ found_table (contents_at listed.now bytes.items))) }
+        ensures fault { IfOk result (λ found. IfErr found (λ fault. Says (D.facts self.now.disk) self.now.folder listed.now (Err fault))) }
     {
         let file = match read_file(alloc, self.disk, self.path, listed) {
             Ok(file) => file,
@@ -122,8 +146,60 @@ impl<'r, D: Disk> TableFolder<'r, D> {
             Err(ReadFault::OutOfMemory) => return Err(AllocError),
         };
         match self.digest(listed.as_str()) {
-            Some(digest) if file_digest(&file.bytes) != digest => Ok(Err(FileFault::Changed)),
-            _ => Ok(Ok(file.bytes)),
+            None => Ok(Ok(file.bytes)),
+            Some(digest) => {
+                if file_digest(&file.bytes) == digest {
+                    Ok(Ok(file.bytes))
+                } else {
+                    Ok(Err(FileFault::Changed))
+                }
+            }
+        }
+    }
+
+    /// The table of bytes that are kept in the arena, but for those of no table.
+    fn keep(
+        &self,
+        alloc: Global,
+        name: &str,
+        bytes: &[u8],
+    ) -> Result<Result<Table<'r>, FileFault>, AllocError>
+        ensures { IfOk result (λ found. found ≡ found_table (contents_at name.now bytes.now)) }
+    {
+        // Bytes in the arena stay, so those at fault aren't put there, however often they are asked for.
+        if let Err(fault) = open_file(alloc, name, bytes)? {
+            return Ok(Err(fault));
+        }
+        let kept = self.arena.try_alloc_slice_copy(bytes)?;
+        open_file(alloc, name, kept)
+    }
+
+    /// The table of a listed file.
+    fn table_of(
+        &self,
+        alloc: Global,
+        listed: &FileName,
+    ) -> Result<Result<Table<'r>, FileFault>, AllocError>
+        ensures { IfOk result (Says (D.facts self.now.disk) self.now.folder listed.now) }
+    {
+        match self.bytes_of(alloc, listed)? {
+            Ok(bytes) => self.keep(alloc, listed.as_str(), &bytes),
+            Err(fault) => Ok(Err(fault)),
+        }
+    }
+
+    /// The table of a kind for a material, as the folder's file of its name has it.
+    pub(crate) fn table(
+        &self,
+        alloc: Global,
+        kind: TableKind,
+        material: &Material,
+    ) -> Result<Result<Table<'r>, FileFault>, AllocError>
+        ensures { IfOk result (Says (D.facts self.now.disk) self.now.folder (file_name kind material.now)) }
+    {
+        match self.listed(file_name(kind, material).as_str()) {
+            Some(listed) => self.table_of(alloc, listed),
+            None => Ok(Err(FileFault::Missing)),
         }
     }
 }
