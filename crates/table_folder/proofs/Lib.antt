@@ -1,2 +1,4 @@
 pub mod Naming
 pub mod Saying
+pub mod Probed
+pub mod Adding

@@ -11,6 +11,7 @@ use Rattle.judge_core.specs.declared.probe_result.ProbeResult.{ProbeResult}
 use Rattle.judge_core.specs.MoreTables.{HasAll, table_count}
 use Rattle.judge_core.specs.ProbeResult.{IsProbed}
 use Rattle.judge_core.specs.Tables.{Tables, slot, table_at}
+use Rattle.table_folder.specs.declared.fault.FileRefusal.{FileRefusal}
 use Rattle.table_folder.specs.declared.settling.Look.{Look}
 use Rattle.table_folder.specs.declared.settling.Look.TheVariants.{Settled, Opened, Refused}
 use Rattle.table_folder.specs.Folders.{AreOf, Folder, Says}
@@ -26,6 +27,11 @@ pub record AddsTable (disk : DiskFacts) (folder : Folder) (old new : Tables) (ki
   pub table : Contents
   pub says : Says disk folder (file_name kind key) (Ok table)
   pub put : new ≡ slice_set old (slot kind key) (Some table)
+
+-- the file of a table is refused for what it says
+pub record IsRefusalOf (disk : DiskFacts) (folder : Folder) (kind : TableKind) (key : ℕ) (refusal : FileRefusal) : Type 0 where
+  pub name : refusal.name.bytes ≡ file_name kind key
+  pub says : Says disk folder (file_name kind key) (Err refusal.fault)
 
 -- one table more of the folder is open
 pub record IsOneMoreOf (disk : DiskFacts) (folder : Folder) (old new : Tables) : Type 0 where

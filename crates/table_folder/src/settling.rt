@@ -1,17 +1,18 @@
 //! Until no table of a folder is missing at a position.
 
-ghost use Rattle.std.specs.Prelude.{◌≡◌, ◌<◌, ◌↔◌, None, Some, IfOk, IfErr, IfSome, IfNone, IsTrue, Ok, Err};
+ghost use Rattle.std.specs.Prelude.{◌≡◌, ◌↔◌, ◌<◌, ℕ, OnErr, None, Some, IfOk, IfErr, IfSome, IfNone, IsTrue, Ok, Err};
 ghost use Rattle.judge_core.specs.ProbeResult.{IsProbed};
 ghost use Rattle.judge_core.specs.MoreTables.{HasAll};
 ghost use Rattle.judge_core.specs.Tables.{table_at};
-ghost use Rattle.table_file.specs.Names.{file_name};
-ghost use Rattle.table_folder.specs.Folders.{AreOf, HasTable, Says};
+ghost use Rattle.table_file.specs.declared.kind.TableKind.{TableKind};
+ghost use Rattle.table_folder.specs.Folders.{AreOf, HasTable};
 ghost use Rattle.table_folder.specs.Settled.{IsRefusedAt, IsSettled};
-ghost use Rattle.table_folder.specs.Inside.{AddsTable, IsLook, MissesBy};
+ghost use Rattle.table_folder.specs.Inside.{AddsTable, IsLook, IsRefusalOf, MissesBy};
 
 use crate::fault::FileRefusal;
 use crate::folder::TableFolder;
 use board_core::Position;
+use judge_core::laws::adding_keeps_the_rest;
 use judge_core::{ProbeFault, ProbeResult, Set};
 use place_index::Material;
 use std::alloc::{AllocError, Global};
@@ -26,6 +27,13 @@ enum Look {
     Opened,
     /// The file of a table that is missing is refused.
     Refused(FileRefusal),
+}
+
+/// A table that is missing.
+#[derive(Clone, Copy)]
+struct MissingTable {
+    kind: TableKind,
+    material: Material,
 }
 
 impl<'r, D: Disk> TableFolder<'r, D> {
@@ -48,5 +56,107 @@ impl<'r, D: Disk> TableFolder<'r, D> {
             return Some(TableKind::Dtz);
         }
         None
+    }
+
+    /// The table that both probes miss by what they tell, where the folder has it and the set lacks it.
+    fn missing(&self, set: &Set<'_>, probed: &ProbeResult) -> Option<MissingTable>
+        ensures some { IfSome result (λ found. MissesBy set.now.tables probed.now found.kind found.material × HasTable self.now.folder found.kind found.material) }
+        ensures none { IfNone result ((kind : TableKind) (key : ℕ) → MissesBy set.now.tables probed.now kind key → HasTable self.now.folder kind key → ⊥) }
+    {
+        if let Err(ProbeFault::NotCovered(material)) = probed.wdl {
+            if self.lacks(set, TableKind::Wdl, &material) {
+                let kind = TableKind::Wdl;
+                return Some(MissingTable { kind, material });
+            }
+        }
+        let Err(ProbeFault::NotCovered(material)) = probed.dtz else {
+            return None;
+        };
+        match self.missing_kind(set, &material) {
+            Some(kind) => Some(MissingTable { kind, material }),
+            None => None,
+        }
+    }
+
+    /// Adds a table to a set that lacks it; a file at fault is refused.
+    fn add(
+        &self,
+        alloc: Global,
+        set: &mut Set<'r>,
+        missing: MissingTable,
+    ) -> Result<Result<(), FileRefusal>, AllocError>
+        requires { table_at set.old.tables missing.kind missing.material ≡ None }
+        ensures known { missing.material < 145 }
+        ensures added { IfOk result (λ added. IfOk added (λ _. AddsTable (D.facts self.now.disk) self.now.folder set.old.tables set.new.tables missing.kind missing.material)) }
+        ensures refused { IfOk result (λ added. IfErr added (IsRefusalOf (D.facts self.now.disk) self.now.folder missing.kind missing.material)) }
+        ensures unchanged { IfOk result (λ added. IfErr added (λ _. set.new ≡ set.old)) }
+        ensures memory { OnErr result (set.new ≡ set.old) }
+        ensures cache { set.new.cache ≡ set.old.cache }
+    {
+        names_differ();
+        reads_what_is_laid_out();
+        let MissingTable { kind, material } = missing;
+        let _key = material.key();
+        let table = match self.table(alloc, kind, &material)? {
+            Ok(table) => table,
+            Err(fault) => {
+                let name = file_name(kind, &material);
+                return Ok(Err(FileRefusal { name, fault }));
+            }
+        };
+        // The set lacks the table, so it isn't refused.
+        let _ = set.add(table);
+        Ok(Ok(()))
+    }
+
+    /// Looks at a position: opens the table of the folder that is missing, if one is.
+    fn look(
+        &self,
+        alloc: Global,
+        set: &mut Set<'r>,
+        position: &Position,
+    ) -> Result<Look, AllocError>
+        requires { AreOf (D.facts self.now.disk) self.now.folder set.old.tables }
+        ensures look { IfOk result (IsLook (D.facts self.now.disk) self.now.folder set.old.tables set.new.tables position.now) }
+        ensures memory { OnErr result (set.new ≡ set.old) }
+        ensures cache { set.new.cache ≡ set.old.cache }
+    {
+        adding_keeps_the_rest();
+        let _slots = set.cache();
+        let probed = set.probe(alloc, position)?;
+        let Some(missing) = self.missing(set, &probed) else {
+            return Ok(Look::Settled(probed));
+        };
+        match self.add(alloc, set, missing)? {
+            Ok(()) => Ok(Look::Opened),
+            Err(refusal) => Ok(Look::Refused(refusal)),
+        }
+    }
+
+    /// Opens the tables that a position misses and the folder has, one after another, until none is missing. The result is what the
+    /// set's probes tell then, or the refusal of the first file at fault: the next call looks at that file anew.
+    ///
+    /// The error comes where memory is refused. Tables that are open stay open whatever the result is.
+    pub fn settle(
+        &self,
+        alloc: Global,
+        set: &mut Set<'r>,
+        position: &Position,
+    ) -> Result<Result<ProbeResult, FileRefusal>, AllocError>
+        requires { AreOf (D.facts self.now.disk) self.now.folder set.old.tables }
+        ensures opened { AreOf (D.facts self.now.disk) self.now.folder set.new.tables }
+        ensures kept { HasAll set.old.tables set.new.tables }
+        ensures probed { IfOk result (λ settled. IfOk settled (IsProbed set.new.tables position.now)) }
+        ensures settled { IfOk result (λ settled. IfOk settled (λ _. IsSettled self.now.folder set.new.tables position.now)) }
+        ensures refused { IfOk result (λ settled. IfErr settled (IsRefusedAt (D.facts self.now.disk) self.now.folder position.now)) }
+        ensures cache { set.new.cache ≡ set.old.cache }
+    {
+        loop {
+            match self.look(alloc, set, position)? {
+                Look::Settled(probed) => return Ok(Ok(probed)),
+                Look::Refused(refusal) => return Ok(Err(refusal)),
+                Look::Opened => {}
+            }
+        }
     }
 }
