@@ -14,12 +14,12 @@ use Rattle.pgn_games.specs.Games.{Course, GameRead, ReadingTold, ReadsGame, Tell
 use Rattle.pgn_games.specs.Laws.{MovesAreReadBack, ReadsInTurn, movetext}
 use Rattle.pgn_games.proofs.CourseLaws.{move_read}
 
-none_behind : (ts : List Token) → of_game Over ts ≡ []
+pub none_behind : (ts : List Token) → of_game Over ts ≡ []
 unfolding of_game
 none_behind [] = refl
 none_behind (t ∷ ts) = refl
 
-all_behind : (ts : List Token) → behind_game Over ts ≡ ts
+pub all_behind : (ts : List Token) → behind_game Over ts ≡ ts
 unfolding behind_game
 all_behind [] = refl
 all_behind (t ∷ ts) = refl

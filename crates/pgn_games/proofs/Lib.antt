@@ -13,3 +13,7 @@ pub mod SoundLaws
 pub mod EndLaws
 pub mod WorkedRows
 pub mod BackLaws
+pub mod ScoreBytes
+pub mod ScoreTokens
+pub mod ScoreMoves
+pub mod ScoreLaws

@@ -7,4 +7,5 @@ pub mod Games
 pub mod Shown
 pub mod Reading
 pub mod Laws
+pub mod Scores
 pub mod Inside

@@ -1,6 +1,7 @@
 //! Laws over the definitions alone, for the layers above.
 
 ghost use Rattle.pgn_games.specs.Laws.{GamesAreOfChess, MovesAreReadBack, NoneIsTheEnd};
+ghost use Rattle.pgn_games.specs.Scores.{ScoresAreReadBack};
 
 /// A game that is read begins at the position of its FEN tag or at the usual one, and its moves, at most 4,096, are legal in turn.
 pub fn games_are_of_chess()
@@ -15,4 +16,9 @@ pub fn none_is_the_end()
 /// The tokens of moves that are read in turn, and of a result, are read as the game of these moves.
 pub fn moves_are_read_back()
     ensures { MovesAreReadBack }
+{}
+
+/// Of the texts of scores, one after another, the games of these scores are read, and no others.
+pub fn scores_are_read_back()
+    ensures { ScoresAreReadBack }
 {}
