@@ -17,3 +17,4 @@ pub mod ScoreBytes
 pub mod ScoreTokens
 pub mod ScoreMoves
 pub mod ScoreLaws
+pub mod ExportLaws

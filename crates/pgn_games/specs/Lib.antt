@@ -8,4 +8,5 @@ pub mod Shown
 pub mod Reading
 pub mod Laws
 pub mod Scores
+pub mod ExportFormat
 pub mod Inside

@@ -2,6 +2,10 @@
 
 ghost use Rattle.pgn_games.specs.Laws.{GamesAreOfChess, MovesAreReadBack, NoneIsTheEnd};
 ghost use Rattle.pgn_games.specs.Scores.{ScoresAreReadBack};
+ghost use Rattle.pgn_games.specs.ExportFormat.{ExportIsReadBack, ExportSpellsScores};
+
+use board_core::laws::{position_after_is_a_position, position_after_is_computed};
+use san_text::laws::is_read_back;
 
 /// A game that is read begins at the position of its FEN tag or at the usual one, and its moves, at most 4,096, are legal in turn.
 pub fn games_are_of_chess()
@@ -22,3 +26,20 @@ pub fn moves_are_read_back()
 pub fn scores_are_read_back()
     ensures { ScoresAreReadBack }
 {}
+
+/// Export format spells the score that is written.
+pub fn export_spells_scores()
+    ensures { ExportSpellsScores }
+{
+    is_read_back();
+    position_after_is_computed();
+    position_after_is_a_position();
+}
+
+/// Of a file in export format the games that were written are read, and no others.
+pub fn export_is_read_back()
+    ensures { ExportIsReadBack }
+{
+    export_spells_scores();
+    scores_are_read_back();
+}
