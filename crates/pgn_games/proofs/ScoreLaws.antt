@@ -210,7 +210,7 @@ move_line number text white rest bytes p m n spells is =
     ∙ ap (λ (k : ℕ). line_behind k (white ++ rest)) (line_kept text at (on_line_by is_score_symbol text refl spells.symbol)) ∙ line_append white rest at
 
 -- what stands behind three parts of a text
-three_then : (a b c d more : List ℕ) → (a ++ (b ++ (c ++ d))) ++ more ≡ a ++ (b ++ (c ++ (d ++ more)))
+pub three_then : (a b c d more : List ℕ) → (a ++ (b ++ (c ++ d))) ++ more ≡ a ++ (b ++ (c ++ (d ++ more)))
 three_then a b c d more =
     append_assoc a (b ++ (c ++ d)) more ∙ ap (λ (u : List ℕ). a ++ u) (append_assoc b (c ++ d) more ∙ ap (λ (u : List ℕ). b ++ u) (append_assoc c d more))
 
