@@ -96,9 +96,10 @@ tells_all line usual (m ∷ moves) (text ∷ texts) result h few =
     (at_moves (Some line) line usual h.0 (m ∷ []) (Moves 0), (Ok (at_moves None 0 usual h.0 (m ∷ []) Tags), move_read (no_course usual) text 0 (Ok (at_moves None 0 usual h.0 (m ∷ []) Tags)) below (m, h.1, (h.0, h.2, refl)), refl), tells_moves line line usual h.0 (m ∷ []) moves texts result h.3 fits)
 
 pub moves_are_read_back : MovesAreReadBack
-moves_are_read_back usual line texts moves result behind spelled h few = record {
+moves_are_read_back usual line texts moves result behind spelled position h few = record {
   usual = usual;
   spelled = spelled;
+  position = position;
   tells = subst (λ (ts : List Token). Tells (no_course usual) ts (read_as line usual moves result)) (sym (of_first line texts result behind)) (tells_all line usual moves texts result h few);
   rest = sym (behind_first line texts result behind);
 }

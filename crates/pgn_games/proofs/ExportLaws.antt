@@ -332,6 +332,7 @@ export_spells_scores read computed position score h =
       white = end.0;
       usual = h.usual;
       spelled = h.spelled;
+      position = h.is_position;
       start = h.start;
       few = h.few;
       ended = h.ended;

@@ -13,6 +13,7 @@ pub mod SoundLaws
 pub mod EndLaws
 pub mod WorkedRows
 pub mod BackLaws
+pub mod OneLaws
 pub mod ScoreBytes
 pub mod ScoreTokens
 pub mod ScoreMoves

@@ -4,6 +4,7 @@ use Rattle.std.specs.Prelude.{nat_lt, unwrap_or}
 use Rattle.std.specs.List.{AllByRecursion, AllZip, flat_map}
 use Rattle.board_core.specs.declared.parts.Parts.{Parts}
 use Rattle.board_core.specs.declared.moves.Move.{Move}
+use Rattle.board_core.specs.Position.{IsPosition}
 use Rattle.board_core.specs.Moves.{Legal}
 use Rattle.fen_text.specs.Written.{fen_of}
 use Rattle.pgn_games.specs.declared.game.GameResult.{GameResult}
@@ -267,15 +268,16 @@ result_is_on false r = refl
 result_is_on true r = refl
 
 -- a game that is over is read
-pub read_over : (c d : Course) (usual : Parts) (ts us : List Token) (x : ReadingTold) → c ≡ no_course usual → usual_start ≡ fen_of usual → Continues c ts d us → d.phase ≡ Over → told_of d ≡ Some x → ReadsGame ts (Some x) us
+pub read_over : (c d : Course) (usual : Parts) (ts us : List Token) (x : ReadingTold) → c ≡ no_course usual → usual_start ≡ fen_of usual → IsPosition usual → Continues c ts d us → d.phase ≡ Over → told_of d ≡ Some x → ReadsGame ts (Some x) us
 unfolding Tells
-read_over c d usual ts us x first spelled goes over told =
+read_over c d usual ts us x first spelled position goes over told =
     let from = subst (λ (k : Course). Continues k ts d us) first goes in
     let none : of_game d.phase us ≡ [] = ap (λ (p : Phase). of_game p us) over ∙ none_behind us in
     let all : behind_game d.phase us ≡ us = ap (λ (p : Phase). behind_game p us) over ∙ all_behind us in
     record {
       usual = usual;
       spelled = spelled;
+      position = position;
       tells = from.told (Some x) (subst (λ (l : List Token). Tells d l (Some x)) (sym none) (sym told));
       rest = sym all ∙ from.rest;
     }
@@ -334,7 +336,7 @@ score_goes bytes more score n f h =
       at = at;
       at_tag = λ some. some_line b.line_then n n2 (b.keeps n (tags.at_tag some));
       first_then = first_behind false h.white;
-      reads = read_over c over h.usual _ _ (score_read at score) refl h.spelled (same_tokens c over ts _ us _ begin behind all) refl refl;
+      reads = read_over c over h.usual _ _ (score_read at score) (refl {a = c}) h.spelled h.position (same_tokens c over ts _ us _ begin behind all) (refl {a = Over}) (refl {a = told_of over});
     }
   where
     few : {n : ℕ} → n ≤ 4096 → 0 + n ≤ 4096

@@ -63,6 +63,7 @@ pub record IsWritable (score : GameScore) : Type 0 where
   pub tags : AllByRecursion IsWritableTag score.tags
   pub usual : Parts
   pub spelled : usual_start ≡ fen_of usual
+  pub is_position : IsPosition usual
   pub start : TagsLeadToStart score.tags usual score.start
   pub position : IsPosition score.start
   pub moves : (q : Parts) × PlaysInTurn score.start score.moves q

@@ -136,6 +136,7 @@ pub record SpellsScore (bytes : List ℕ) (score : GameScore) : Type 0 where
   pub white : List ℕ
   pub usual : Parts
   pub spelled : usual_start ≡ fen_of usual
+  pub position : IsPosition usual
   pub start : TagsLeadToStart score.tags usual score.start
   pub few : length score.moves ≤ 4096
   pub ended : score.result ≢ Missing
