@@ -35,9 +35,9 @@ use Rattle.san_text.specs.Laws.{IsReadBack}
 use Rattle.pgn_games.specs.Bytes.{is_digit}
 use Rattle.pgn_games.specs.Lines.{lines_of}
 use Rattle.pgn_games.specs.Games.{SpellsGames}
-use Rattle.pgn_games.specs.Laws.{PlaysInTurn}
-use Rattle.pgn_games.specs.Scores.{EachByte, GameScore, IsReadLine, PartsTokens, ScoreTag, ScoresAreReadBack, SpellsMoveNumber, SpellsMoves, SpellsScore, SpellsSymbol, SpellsTagPair, SpellsTags, escaped_value, is_score_symbol, joined, result_text}
-use Rattle.pgn_games.specs.ExportFormat.{ExportIsReadBack, ExportSpellsScores, IsWritable, IsWritableTag, lines_of_words, move_words, number_words, tag_line, tag_section, words_on_lines, written_score}
+use Rattle.pgn_games.specs.Laws.{OneListIsSpelled, PlaysInTurn}
+use Rattle.pgn_games.specs.Scores.{AreScoresRead, EachByte, GameScore, IsReadLine, PartsTokens, ScoreTag, ScoresAreReadBack, SpellsMoveNumber, SpellsMoves, SpellsScore, SpellsSymbol, SpellsTagPair, SpellsTags, escaped_value, is_score_symbol, joined, result_text}
+use Rattle.pgn_games.specs.ExportFormat.{ExportIsReadBack, ExportSpellsScores, IsWritable, IsWritableTag, OnlyExportIsRead, lines_of_words, move_words, number_words, tag_line, tag_section, words_on_lines, written_score}
 use Rattle.pgn_games.proofs.ScoreLaws.{three_then}
 use Rattle.pgn_games.proofs.ScoreTokens.{each_append}
 
@@ -355,3 +355,8 @@ export_is_read_back spells read scores h short =
     let same = joined_is scores in
     let w = read (map written_score scores) scores (each_spelled spells scores h) (subst (λ (t : List ℕ). AllByRecursion IsReadLine (lines_of t)) (sym same) short) in
     (w.0, subst (λ (t : List ℕ). SpellsGames t w.0) same w.1, w.2)
+
+pub only_export_is_read : ExportIsReadBack → OneListIsSpelled → OnlyExportIsRead
+only_export_is_read read one scores h short readings spelled =
+    let w = read scores h short in
+    subst (AreScoresRead 1 (map written_score scores) scores) (one (flat_map written_score scores) w.0 readings w.1 spelled) w.2

@@ -20,7 +20,8 @@ use Rattle.pgn_games.specs.Tags.{TagPair, TagTexts, name_of, no_tags, value_of, 
 use Rattle.pgn_games.specs.Lexemes.{MoveText, Tag, Telling, Told}
 use Rattle.pgn_games.specs.Tokens.{Token, token, token_if, tokens_from}
 use Rattle.pgn_games.specs.Games.{Course, GameRead, Passes, ReadingTold, ReadsGame, ReadsGames, SetsTag, Tells, behind_game, goes_on, no_course, of_game, told_of, usual_start}
-use Rattle.pgn_games.specs.Scores.{AreScoresRead, EachByte, GameScore, IsReadLine, IsScoreRead, LeadsToStart, PartsTokens, ScoreTag, ScoresAreReadBack, SpellsMoveNumber, SpellsMoves, SpellsScore, SpellsSymbol, SpellsTagPair, SpellsTags, TagsLeadToStart, escaped_value, is_score_symbol, is_white, joined, kept_value, line_behind, result_text, score_read, values_kept, with_value}
+use Rattle.pgn_games.specs.Laws.{OneListIsSpelled}
+use Rattle.pgn_games.specs.Scores.{AreScoresRead, EachByte, GameScore, IsReadLine, IsScoreRead, LeadsToStart, OnlyScoresAreRead, PartsTokens, ScoreTag, ScoresAreReadBack, SpellsMoveNumber, SpellsMoves, SpellsScore, SpellsSymbol, SpellsTagPair, SpellsTags, TagsLeadToStart, escaped_value, is_score_symbol, is_white, joined, kept_value, line_behind, result_text, score_read, values_kept, with_value}
 use Rattle.pgn_games.specs.Inside.Steps.{Continues}
 use Rattle.pgn_games.proofs.BackLaws.{all_behind, none_behind}
 use Rattle.pgn_games.proofs.CourseLaws.{move_read}
@@ -399,3 +400,8 @@ pub scores_are_read_back : ScoresAreReadBack
 scores_are_read_back texts scores h short =
     let w = scores_go texts scores 1 true h in
     (w.readings, subst (λ (ts : List Token). ReadsGames ts w.readings) (sym (tokens_begin (joined texts) (scores_calm texts scores h) short)) w.reads, w.are)
+
+pub only_scores_are_read : OneListIsSpelled → OnlyScoresAreRead
+only_scores_are_read one texts scores h short readings spelled =
+    let w = scores_are_read_back texts scores h short in
+    subst (AreScoresRead 1 texts scores) (one (joined texts) w.0 readings w.1 spelled) w.2

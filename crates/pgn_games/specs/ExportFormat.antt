@@ -78,3 +78,8 @@ ExportSpellsScores = (score : GameScore) → IsWritable score → SpellsScore (w
 abbrev pub ExportIsReadBack : Type 0
 ExportIsReadBack =
     (scores : List GameScore) → AllByRecursion IsWritable scores → AllByRecursion IsReadLine (lines_of (flat_map written_score scores)) → (readings : List ReadingTold) × SpellsGames (flat_map written_score scores) readings × AreScoresRead 1 (map written_score scores) scores readings
+
+-- whatever games are read of such a file, they are those that were written
+abbrev pub OnlyExportIsRead : Type 0
+OnlyExportIsRead =
+    (scores : List GameScore) → AllByRecursion IsWritable scores → AllByRecursion IsReadLine (lines_of (flat_map written_score scores)) → (readings : List ReadingTold) → SpellsGames (flat_map written_score scores) readings → AreScoresRead 1 (map written_score scores) scores readings

@@ -186,3 +186,8 @@ joined texts = flat_map (λ text. text) texts
 abbrev pub ScoresAreReadBack : Type 0
 ScoresAreReadBack =
     (texts : List (List ℕ)) (scores : List GameScore) → AllZip SpellsScore texts scores → AllByRecursion IsReadLine (lines_of (joined texts)) → (readings : List ReadingTold) × SpellsGames (joined texts) readings × AreScoresRead 1 texts scores readings
+
+-- whatever games are read of such a file, they are those of these scores
+abbrev pub OnlyScoresAreRead : Type 0
+OnlyScoresAreRead =
+    (texts : List (List ℕ)) (scores : List GameScore) → AllZip SpellsScore texts scores → AllByRecursion IsReadLine (lines_of (joined texts)) → (readings : List ReadingTold) → SpellsGames (joined texts) readings → AreScoresRead 1 texts scores readings

@@ -1,8 +1,8 @@
 //! Laws over the definitions alone, for the layers above.
 
 ghost use Rattle.pgn_games.specs.Laws.{GamesAreOfChess, MovesAreReadBack, NoneIsTheEnd, OneGameIsRead, OneListIsSpelled};
-ghost use Rattle.pgn_games.specs.Scores.{ScoresAreReadBack};
-ghost use Rattle.pgn_games.specs.ExportFormat.{ExportIsReadBack, ExportSpellsScores};
+ghost use Rattle.pgn_games.specs.Scores.{OnlyScoresAreRead, ScoresAreReadBack};
+ghost use Rattle.pgn_games.specs.ExportFormat.{ExportIsReadBack, ExportSpellsScores, OnlyExportIsRead};
 
 use board_core::laws::{position_after_is_a_position, position_after_is_computed};
 use fen_text::laws::{one_position, one_text};
@@ -43,8 +43,11 @@ pub fn moves_are_read_back()
 
 /// Of the texts of scores, one after another, the games of these scores are read, and no others.
 pub fn scores_are_read_back()
-    ensures { ScoresAreReadBack }
-{}
+    ensures read { ScoresAreReadBack }
+    ensures only { OnlyScoresAreRead }
+{
+    one_list_is_spelled();
+}
 
 /// Export format spells the score that is written.
 pub fn export_spells_scores()
@@ -57,8 +60,10 @@ pub fn export_spells_scores()
 
 /// Of a file in export format the games that were written are read, and no others.
 pub fn export_is_read_back()
-    ensures { ExportIsReadBack }
+    ensures read { ExportIsReadBack }
+    ensures only { OnlyExportIsRead }
 {
     export_spells_scores();
     scores_are_read_back();
+    one_list_is_spelled();
 }
