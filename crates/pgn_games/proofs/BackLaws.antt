@@ -1,6 +1,5 @@
 -- A game is read from the tokens of its moves and its result.
-use Rattle.std.proofs.Common.{◌≡◌, ◌∙◌, ℕ, zero, suc, ◌+◌, ◌<◌, ◌≤◌, ◌++◌, Bool, true, false, List, [], ◌∷◌, length, Option, Some, None, Result, Ok, Err, refl, sym, ap, subst, arith, append_assoc, append-nil, length-append, lit<}
-use Rattle.std.specs.Prelude.{nat_lt}
+use Rattle.std.proofs.Common.{◌≡◌, ℕ, ◌+◌, ◌<◌, ◌≤◌, ◌++◌, List, [], ◌∷◌, length, Option, Some, None, Ok, refl, sym, ap, subst, arith, append_assoc, append-nil, length-append, lit<}
 use Rattle.board_core.specs.declared.parts.Parts.{Parts}
 use Rattle.board_core.specs.declared.moves.Move.{Move}
 use Rattle.pgn_games.specs.declared.game.GameResult.{GameResult}
@@ -10,7 +9,7 @@ use Rattle.pgn_games.specs.declared.phase.Phase.TheVariants.{Tags, Moves, Over}
 use Rattle.pgn_games.specs.Tags.{no_tags}
 use Rattle.pgn_games.specs.Lexemes.{MoveText, Told}
 use Rattle.pgn_games.specs.Tokens.{Token, token}
-use Rattle.pgn_games.specs.Games.{Course, GameRead, ReadingTold, ReadsGame, Tells, behind_game, no_course, of_game}
+use Rattle.pgn_games.specs.Games.{Course, GameRead, ReadingTold, Tells, behind_game, no_course, of_game}
 use Rattle.pgn_games.specs.Laws.{MovesAreReadBack, ReadsInTurn, movetext}
 use Rattle.pgn_games.proofs.CourseLaws.{move_read}
 

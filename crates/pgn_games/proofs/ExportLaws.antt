@@ -1,6 +1,6 @@
 -- Export format spells the scores that are written.
-use Rattle.std.proofs.Common.{◌≡◌, ◌≢◌, ◌∙◌, ℕ, zero, suc, ◌+◌, ◌<◌, ◌≤◌, ◌^◌, ◌/◌, ◌%◌, ◌++◌, ◌⊎◌, Bool, true, false, List, [], ◌∷◌, Option, Some, None, length, map, cond, refl, sym, ap, subst, arith, inl, inr, append_assoc, append-nil, length-append, lit<}
-use Rattle.std.specs.Prelude.{◌==◌, ◌||◌, nat_lt, codes, unwrap_or, option_map}
+use Rattle.std.proofs.Common.{◌≡◌, ◌≢◌, ◌∙◌, ℕ, ◌+◌, ◌<◌, ◌≤◌, ◌^◌, ◌%◌, ◌++◌, ◌⊎◌, Bool, true, false, List, [], ◌∷◌, Option, Some, None, length, map, cond, refl, sym, ap, subst, arith, inl, inr, append_assoc, append-nil, length-append, lit<}
+use Rattle.std.specs.Prelude.{nat_lt, codes, unwrap_or, option_map}
 use Rattle.std.specs.Fmt.{decimal}
 use Rattle.std.specs.List.{AllByRecursion, AllZip, flat_map}
 use Rattle.std.specs.Str.Parse.{digits_value}
@@ -25,9 +25,6 @@ use Rattle.board_core.specs.Ends.{is_checkmate}
 use Rattle.board_core.specs.Laws.{PositionAfterIsAPosition, PositionAfterIsComputed}
 use Rattle.san_text.specs.declared.origin.Apart.{Apart}
 use Rattle.san_text.specs.declared.origin.Apart.TheVariants.{Nothing, ByFile, ByRank, BySquare}
-use Rattle.san_text.specs.declared.told.ManTold.{ManTold}
-use Rattle.san_text.specs.declared.told.Told.{Told}
-use Rattle.san_text.specs.declared.told.Told.TheVariants.{Castles, Goes}
 use Rattle.san_text.specs.Agrees.{castling}
 use Rattle.san_text.specs.Told.{file_letter, kind_text, promoted_text, rank_digit, square_text, takes_text, told_text}
 use Rattle.san_text.specs.Written.{castling_or_man, check_mark, file_by, man_told, mark_after, rank_by, san_of, san_told}
@@ -36,8 +33,8 @@ use Rattle.pgn_games.specs.Bytes.{is_digit}
 use Rattle.pgn_games.specs.Lines.{lines_of}
 use Rattle.pgn_games.specs.Games.{SpellsGames}
 use Rattle.pgn_games.specs.Laws.{OneListIsSpelled, PlaysInTurn}
-use Rattle.pgn_games.specs.Scores.{AreScoresRead, EachByte, GameScore, IsReadLine, PartsTokens, ScoreTag, ScoresAreReadBack, SpellsMoveNumber, SpellsMoves, SpellsScore, SpellsSymbol, SpellsTagPair, SpellsTags, escaped_value, is_score_symbol, joined, result_text}
-use Rattle.pgn_games.specs.ExportFormat.{ExportIsReadBack, ExportSpellsScores, IsWritable, IsWritableTag, OnlyExportIsRead, lines_of_words, move_words, number_words, tag_line, tag_section, words_on_lines, written_score}
+use Rattle.pgn_games.specs.Scores.{AreScoresRead, EachByte, GameScore, IsReadLine, PartsTokens, ScoreTag, ScoresAreReadBack, SpellsMoveNumber, SpellsMovetext, SpellsScore, SpellsSymbol, SpellsTagPair, SpellsTags, escaped_value, is_score_symbol, joined_texts, result_text}
+use Rattle.pgn_games.specs.ExportFormat.{ExportIsReadBack, ExportSpellsScores, IsWritable, IsWritableTag, OnlyExportIsRead, lines_of_words, movetext_words, number_words, tag_line, tag_section, words_on_lines, written_score}
 use Rattle.pgn_games.proofs.ScoreLaws.{three_then}
 use Rattle.pgn_games.proofs.ScoreTokens.{each_append}
 
@@ -198,7 +195,7 @@ words_parted (word ∷ words) =
 record SpellsThen (p : Parts) (moves : List Move) (tail : List (List ℕ)) (t : List ℕ) : Type 0 where
   movetext : List ℕ
   rest : List ℕ
-  spells : SpellsMoves p moves movetext
+  spells : SpellsMovetext p moves movetext
   parted : AreParted tail rest
   text : t ≡ movetext ++ rest
 
@@ -246,13 +243,13 @@ san_spelled : (facts : MoveFacts) (p r : Parts) (m : Move) → IsPosition p → 
 san_spelled facts p r m is legal =
     record { read = facts.read p m is (r, legal); symbol = san_symbols p m r legal }
 
-words_after : (p r : Parts) (m : Move) (moves : List Move) (begins : Bool) → position_after p m ≡ Some r → move_words begins p (m ∷ moves) ≡ number_words begins p.side p.fullmove ++ (san_of p m ∷ move_words false r moves)
-unfolding move_words
+words_after : (p r : Parts) (m : Move) (moves : List Move) (begins : Bool) → position_after p m ≡ Some r → movetext_words begins p (m ∷ moves) ≡ number_words begins p.side p.fullmove ++ (san_of p m ∷ movetext_words false r moves)
+unfolding movetext_words
 words_after p r m moves begins e =
-    ap (λ (o : Option Parts). number_words begins p.side p.fullmove ++ (san_of p m ∷ unwrap_or (option_map (λ q. move_words false q moves) o) [])) e
+    ap (λ (o : Option Parts). number_words begins p.side p.fullmove ++ (san_of p m ∷ unwrap_or (option_map (λ q. movetext_words false q moves) o) [])) e
 
-no_words : (begins : Bool) (p : Parts) → move_words begins p [] ≡ []
-unfolding move_words
+no_words : (begins : Bool) (p : Parts) → movetext_words begins p [] ≡ []
+unfolding movetext_words
 no_words begins p = refl
 
 -- the words of a number and of a move, before those of others
@@ -268,7 +265,7 @@ number_and_move facts begins p r m moves tail more t is legal (inr number) next 
     w.4 ∙ ap (λ (u : List ℕ). (decimal p.fullmove ++ number.periods) ++ (w.0 ++ u)) v.4 ∙ sym (append_assoc (decimal p.fullmove ++ number.periods) w.0 (san_of p m ++ (v.0 ++ v.1))) in
     move_spelled p r m moves ((decimal p.fullmove ++ number.periods) ++ w.0) (san_of p m) v.0 v.1 t tail (inr (number_spelled number.periods w.0 p.fullmove small number.dots number.some w.2)) (san_spelled facts p r m is legal) v.2 legal (next v.1 v.3) text
 
-moves_spelled : (facts : MoveFacts) (moves : List Move) (begins : Bool) (p q : Parts) (tail : List (List ℕ)) (t : List ℕ) → IsPosition p → PlaysInTurn p moves q → AreParted (move_words begins p moves ++ tail) t → SpellsThen p moves tail t
+moves_spelled : (facts : MoveFacts) (moves : List Move) (begins : Bool) (p q : Parts) (tail : List (List ℕ)) (t : List ℕ) → IsPosition p → PlaysInTurn p moves q → AreParted (movetext_words begins p moves ++ tail) t → SpellsThen p moves tail t
 moves_spelled facts [] begins p q tail t is h parted = record {
   movetext = [];
   rest = t;
@@ -280,9 +277,9 @@ moves_spelled facts (m ∷ moves) begins p q tail t is h parted =
     let r = h.0 in
     let after : position_after p m ≡ Some r = (facts.computed p m r).1 h.1 in
     let numbers = number_words begins p.side p.fullmove in
-    let words : move_words begins p (m ∷ moves) ++ tail ≡ numbers ++ (san_of p m ∷ (move_words false r moves ++ tail)) =
-    ap (λ (w : List (List ℕ)). w ++ tail) (words_after p r m moves begins after) ∙ append_assoc numbers (san_of p m ∷ move_words false r moves) tail in
-    number_and_move facts begins p r m moves tail (move_words false r moves ++ tail) t is h.1 (number_or_none begins p.side p.fullmove) (λ rest g. moves_spelled facts moves false r q tail rest (facts.position p m r is after) h.2 g) (subst (λ (w : List (List ℕ)). AreParted w t) words parted)
+    let words : movetext_words begins p (m ∷ moves) ++ tail ≡ numbers ++ (san_of p m ∷ (movetext_words false r moves ++ tail)) =
+    ap (λ (w : List (List ℕ)). w ++ tail) (words_after p r m moves begins after) ∙ append_assoc numbers (san_of p m ∷ movetext_words false r moves) tail in
+    number_and_move facts begins p r m moves tail (movetext_words false r moves ++ tail) t is h.1 (number_or_none begins p.side p.fullmove) (λ rest g. moves_spelled facts moves false r q tail rest (facts.position p m r is after) h.2 g) (subst (λ (w : List (List ℕ)). AreParted w t) words parted)
 
 -- ---- tag pairs
 
@@ -314,7 +311,7 @@ tags_spelled (tag ∷ tags) h = section_spelled tag tags h
 
 -- ---- scores
 
-written_is : (score : GameScore) → written_score score ≡ tag_section score.tags ++ lines_of_words (move_words true score.start score.moves ++ result_text score.result ∷ [])
+written_is : (score : GameScore) → written_score score ≡ tag_section score.tags ++ lines_of_words (movetext_words true score.start score.moves ++ result_text score.result ∷ [])
 unfolding written_score
 written_is score = refl
 
@@ -322,7 +319,7 @@ pub export_spells_scores : IsReadBack → PositionAfterIsComputed → PositionAf
 export_spells_scores read computed position score h =
     let facts : MoveFacts = record { read = read; computed = computed; position = position } in
     let result = result_text score.result in
-    let words = move_words true score.start score.moves ++ result ∷ [] in
+    let words = movetext_words true score.start score.moves ++ result ∷ [] in
     let w = moves_spelled facts score.moves true score.start h.moves.0 (result ∷ []) (lines_of_words words) h.position h.moves.1 (words_parted words) in
     let end = w.parted in
     let end_is : w.rest ≡ result ++ end.0 = end.4 ∙ ap (λ (u : List ℕ). result ++ (end.0 ++ u)) end.3 ∙ ap (λ (u : List ℕ). result ++ u) (append-nil end.0) in
@@ -346,7 +343,7 @@ each_spelled : ExportSpellsScores → (scores : List GameScore) → AllByRecursi
 each_spelled spells [] h = tt
 each_spelled spells (score ∷ scores) h = (spells score h.0, each_spelled spells scores h.1)
 
-joined_is : (scores : List GameScore) → joined (map written_score scores) ≡ flat_map written_score scores
+joined_is : (scores : List GameScore) → joined_texts (map written_score scores) ≡ flat_map written_score scores
 joined_is [] = refl
 joined_is (score ∷ scores) = ap (λ (t : List ℕ). written_score score ++ t) (joined_is scores)
 

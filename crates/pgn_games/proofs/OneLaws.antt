@@ -8,7 +8,6 @@ use Rattle.board_core.specs.Moves.{Legal}
 use Rattle.board_core.specs.ComputedMoves.{position_after}
 use Rattle.board_core.specs.Laws.{PositionAfterIsComputed}
 use Rattle.fen_text.specs.declared.fault.FenFault.{FenFault}
-use Rattle.fen_text.specs.Fen.{SpellsPosition}
 use Rattle.fen_text.specs.Laws.{HasOnePosition, HasOneText}
 use Rattle.fen_text.specs.Written.{fen_of}
 use Rattle.fen_text.proofs.FaultLaws.{fault_one}
@@ -27,7 +26,7 @@ use Rattle.pgn_games.specs.declared.tags.TagName.TheVariants as name
 use Rattle.pgn_games.specs.Tags.{TagPair, name_of, value_of, with_tag}
 use Rattle.pgn_games.specs.Lexemes.{Telling, Tag, MoveText, Begins, Ends, Told, Stray, Endless, TooLong}
 use Rattle.pgn_games.specs.Tokens.{Token, tokens_of}
-use Rattle.pgn_games.specs.Games.{Closes, Course, Passes, ReadingTold, ReadsGame, ReadsGames, ReadsMove, SetsStart, SetsTag, Takes, TakesIfMain, TakesMove, TakesTag, Tells, depth_of, no_course, of_game, passed, taken}
+use Rattle.pgn_games.specs.Games.{Closes, Course, ReadingTold, ReadsGames, ReadsMove, SetsStart, SetsTag, Takes, TakesIfMain, TakesMove, TakesTag, Tells, depth_of, no_course, of_game, passed, taken}
 use Rattle.pgn_games.specs.Laws.{NoneIsTheEnd, OneGameIsRead, OneListIsSpelled}
 
 -- what is known of texts and moves

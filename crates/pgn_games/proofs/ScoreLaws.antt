@@ -1,7 +1,7 @@
 -- The games of scores are read from their bytes.
-use Rattle.std.proofs.Common.{◌≡◌, ◌≢◌, ◌∙◌, ℕ, zero, suc, ◌+◌, ◌<◌, ◌≤◌, ◌++◌, ◌⊎◌, Bool, true, false, List, [], ◌∷◌, Option, Some, None, Result, Ok, Err, length, take, cond, refl, sym, ap, subst, arith, inl, inr, append_assoc, append-nil, length-append, lit<}
-use Rattle.std.specs.Prelude.{nat_lt, unwrap_or}
-use Rattle.std.specs.List.{AllByRecursion, AllZip, flat_map}
+use Rattle.std.proofs.Common.{◌≡◌, ◌≢◌, ◌∙◌, ℕ, ◌+◌, ◌<◌, ◌≤◌, ◌++◌, ◌⊎◌, Bool, true, false, List, [], ◌∷◌, Option, Some, None, Ok, length, take, refl, sym, ap, subst, arith, inl, inr, append_assoc, append-nil, length-append}
+use Rattle.std.specs.Prelude.{unwrap_or}
+use Rattle.std.specs.List.{AllByRecursion, AllZip}
 use Rattle.board_core.specs.declared.parts.Parts.{Parts}
 use Rattle.board_core.specs.declared.moves.Move.{Move}
 use Rattle.board_core.specs.Position.{IsPosition}
@@ -9,19 +9,17 @@ use Rattle.board_core.specs.Moves.{Legal}
 use Rattle.fen_text.specs.Written.{fen_of}
 use Rattle.pgn_games.specs.declared.game.GameResult.{GameResult}
 use Rattle.pgn_games.specs.declared.game.GameResult.TheVariants.{Missing}
-use Rattle.pgn_games.specs.declared.fault.Cause.{Cause}
 use Rattle.pgn_games.specs.declared.phase.Phase.{Phase}
 use Rattle.pgn_games.specs.declared.phase.Phase.TheVariants.{Tags, Moves, Over}
 use Rattle.pgn_games.specs.declared.tags.TagName.{TagName}
 use Rattle.pgn_games.specs.declared.tags.TagName.TheVariants as name
-use Rattle.pgn_games.specs.Bytes.{is_digit, is_symbol}
-use Rattle.pgn_games.specs.Lines.{lines_of}
+use Rattle.pgn_games.specs.Bytes.{is_digit}
 use Rattle.pgn_games.specs.Tags.{TagPair, TagTexts, name_of, no_tags, value_of, with_tag}
 use Rattle.pgn_games.specs.Lexemes.{MoveText, Tag, Telling, Told}
 use Rattle.pgn_games.specs.Tokens.{Token, token, token_if, tokens_from}
-use Rattle.pgn_games.specs.Games.{Course, GameRead, Passes, ReadingTold, ReadsGame, ReadsGames, SetsTag, Tells, behind_game, goes_on, no_course, of_game, told_of, usual_start}
+use Rattle.pgn_games.specs.Games.{Course, Passes, ReadingTold, ReadsGame, ReadsGames, SetsTag, Tells, behind_game, goes_on, no_course, of_game, told_of, usual_start}
 use Rattle.pgn_games.specs.Laws.{OneListIsSpelled}
-use Rattle.pgn_games.specs.Scores.{AreScoresRead, EachByte, GameScore, IsReadLine, IsScoreRead, LeadsToStart, OnlyScoresAreRead, PartsTokens, ScoreTag, ScoresAreReadBack, SpellsMoveNumber, SpellsMoves, SpellsScore, SpellsSymbol, SpellsTagPair, SpellsTags, TagsLeadToStart, escaped_value, is_score_symbol, is_white, joined, kept_value, line_behind, result_text, score_read, values_kept, with_value}
+use Rattle.pgn_games.specs.Scores.{AreScoresRead, EachByte, GameScore, LeadsToStart, OnlyScoresAreRead, PartsTokens, ScoreTag, ScoresAreReadBack, SpellsMoveNumber, SpellsMovetext, SpellsScore, SpellsSymbol, SpellsTagPair, SpellsTags, TagsLeadToStart, escaped_value, is_score_symbol, is_white, joined_texts, kept_value, line_behind, result_text, score_read, values_kept, with_value}
 use Rattle.pgn_games.specs.Inside.Steps.{Continues}
 use Rattle.pgn_games.proofs.BackLaws.{all_behind, none_behind}
 use Rattle.pgn_games.proofs.CourseLaws.{move_read}
@@ -243,7 +241,7 @@ pub record MovesGo (bytes more : List ℕ) (n : ℕ) (f begun : Bool) (line : Op
   after : Parts
   goes : GoesOver (scored line last kept start p before (main begun)) n f bytes more (after_moves kept start after (before ++ moves))
 
-pub moves_go : (moves : List Move) (bytes more : List ℕ) (n : ℕ) (f begun : Bool) (line : Option ℕ) (last : ℕ) (kept : TagTexts) (start p : Parts) (before : List Move) → SpellsMoves p moves bytes → length before + length moves ≤ 4096 → MovesGo bytes more n f begun line last kept start p before moves
+pub moves_go : (moves : List Move) (bytes more : List ℕ) (n : ℕ) (f begun : Bool) (line : Option ℕ) (last : ℕ) (kept : TagTexts) (start p : Parts) (before : List Move) → SpellsMovetext p moves bytes → length before + length moves ≤ 4096 → MovesGo bytes more n f begun line last kept start p before moves
 moves_go [] bytes more n f begun line last kept start p before h few =
     record { after = p; goes = no_moves_go bytes more n f begun line last kept start p before h }
 moves_go (m ∷ moves) bytes more n f begun line last kept start p before h few =
@@ -347,7 +345,7 @@ score_goes bytes more score n f h =
 
 record ScoresGo (texts : List (List ℕ)) (scores : List GameScore) (n : ℕ) (f : Bool) : Type 0 where
   readings : List ReadingTold
-  reads : ReadsGames (tokens_from 0 n f (joined texts)) readings
+  reads : ReadsGames (tokens_from 0 n f (joined_texts texts)) readings
   are : AreScoresRead n texts scores readings
 
 scores_go : (texts : List (List ℕ)) (scores : List GameScore) (n : ℕ) (f : Bool) → AllZip SpellsScore texts scores → ScoresGo texts scores n f
@@ -356,11 +354,11 @@ scores_go [] [] n f h = record { readings = []; reads = none_left 0 n f; are = t
 scores_go [] (score ∷ scores) n f h = absurd h
 scores_go (text ∷ texts) [] n f h = absurd h
 scores_go (text ∷ texts) (score ∷ scores) n f h =
-    let first = score_goes text (joined texts) score n f h.0 in
+    let first = score_goes text (joined_texts texts) score n f h.0 in
     let rest = scores_go texts scores (line_behind n text) first.first_then h.1 in
     record {
       readings = score_read first.at score ∷ rest.readings;
-      reads = (tokens_from 0 (line_behind n text) first.first_then (joined texts), first.reads, rest.reads);
+      reads = (tokens_from 0 (line_behind n text) first.first_then (joined_texts texts), first.reads, rest.reads);
       are = (record { at = first.at; at_tag = first.at_tag; is = refl }, rest.are);
     }
 
@@ -379,7 +377,7 @@ numbering_calm number (inl none) = subst Calm (sym none) calm_nil
 numbering_calm number (inr h) =
     subst Calm (sym h.text) (calm_append h.digits (h.periods ++ h.white) (calm_by is_digit h.digits refl h.number.0) (calm_append h.periods h.white (periods_calm h.periods h.dots) (calm_by is_white h.white refl h.spaces)))
 
-moves_calm : (moves : List Move) (p : Parts) (bytes : List ℕ) → SpellsMoves p moves bytes → Calm bytes
+moves_calm : (moves : List Move) (p : Parts) (bytes : List ℕ) → SpellsMovetext p moves bytes → Calm bytes
 moves_calm [] p bytes h = subst Calm (sym h) calm_nil
 moves_calm (m ∷ moves) p bytes h =
     let rest = calm_append h.2 h.3 (calm_by is_white h.2 refl h.7.0) (moves_calm moves h.4 h.3 h.9) in
@@ -390,18 +388,18 @@ score_calm bytes score h =
     let end = calm_append (result_text score.result) h.white (result_calm score.result) (calm_by is_white h.white refl h.apart.0) in
     subst Calm (sym h.text) (calm_append h.tags (h.movetext ++ (result_text score.result ++ h.white)) (tags_calm score.tags h.tags h.spells_tags) (calm_append h.movetext (result_text score.result ++ h.white) (moves_calm score.moves score.start h.movetext h.spells_moves) end))
 
-scores_calm : (texts : List (List ℕ)) (scores : List GameScore) → AllZip SpellsScore texts scores → Calm (joined texts)
+scores_calm : (texts : List (List ℕ)) (scores : List GameScore) → AllZip SpellsScore texts scores → Calm (joined_texts texts)
 scores_calm [] [] h = calm_nil
 scores_calm [] (score ∷ scores) h = absurd h
 scores_calm (text ∷ texts) [] h = absurd h
-scores_calm (text ∷ texts) (score ∷ scores) h = calm_append text (joined texts) (score_calm text score h.0) (scores_calm texts scores h.1)
+scores_calm (text ∷ texts) (score ∷ scores) h = calm_append text (joined_texts texts) (score_calm text score h.0) (scores_calm texts scores h.1)
 
 pub scores_are_read_back : ScoresAreReadBack
 scores_are_read_back texts scores h short =
     let w = scores_go texts scores 1 true h in
-    (w.readings, subst (λ (ts : List Token). ReadsGames ts w.readings) (sym (tokens_begin (joined texts) (scores_calm texts scores h) short)) w.reads, w.are)
+    (w.readings, subst (λ (ts : List Token). ReadsGames ts w.readings) (sym (tokens_begin (joined_texts texts) (scores_calm texts scores h) short)) w.reads, w.are)
 
 pub only_scores_are_read : OneListIsSpelled → OnlyScoresAreRead
 only_scores_are_read one texts scores h short readings spelled =
     let w = scores_are_read_back texts scores h short in
-    subst (AreScoresRead 1 texts scores) (one (joined texts) w.0 readings w.1 spelled) w.2
+    subst (AreScoresRead 1 texts scores) (one (joined_texts texts) w.0 readings w.1 spelled) w.2

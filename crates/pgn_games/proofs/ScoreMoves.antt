@@ -1,12 +1,11 @@
 -- A text that is read as a move is no number and no result.
-use Rattle.std.proofs.Common.{◌≡◌, ◌≢◌, ◌∙◌, ℕ, zero, suc, ◌+◌, ◌<◌, ◌≤◌, ◌++◌, ◌⊎◌, Bool, true, false, List, [], ◌∷◌, Option, Some, None, length, cond, refl, sym, ap, subst, arith, inl, inr, lit<}
-use Rattle.std.specs.Prelude.{◌==◌, ◌&&◌, not, nat_lt, codes, bytes_eq}
+use Rattle.std.proofs.Common.{◌≡◌, ◌∙◌, ℕ, suc, ◌+◌, ◌<◌, ◌≤◌, ◌++◌, Bool, true, false, List, [], ◌∷◌, Some, length, refl, sym, ap, subst, arith, inl, inr, lit<}
+use Rattle.std.specs.Prelude.{◌==◌, ◌&&◌, nat_lt, codes, bytes_eq}
 use Rattle.std.specs.List.{list_all}
 use Rattle.std.proofs.lemmas.Bool.{false_from_ne_true}
 use Rattle.std.proofs.lemmas.Bool.Decides.{nat_tests}
 use Rattle.std.proofs.lemmas.Slice.Eq.{bytes_eq-Decides}
 use Rattle.std.proofs.lemmas.List.Folds.{list_all-append}
-use Rattle.std.proofs.lemmas.List.{length-append}
 use Rattle.board_core.specs.declared.parts.Parts.{Parts}
 use Rattle.board_core.specs.declared.moves.Move.{Move}
 use Rattle.board_core.specs.declared.piece.Wing.{Wing}
@@ -15,11 +14,9 @@ use Rattle.board_core.specs.Square.{file_of, rank_of}
 use Rattle.san_text.specs.declared.told.ManTold.{ManTold}
 use Rattle.san_text.specs.declared.told.Told.{Told}
 use Rattle.san_text.specs.declared.told.Told.TheVariants.{Castles, Goes}
-use Rattle.san_text.specs.Told.{IsAmongTexts, SpellsCastles, SpellsMan, SpellsTold, castles_texts, file_letter, kind_text, passing_text, rank_digit, square_text}
-use Rattle.san_text.specs.San.{ReadsSan}
-use Rattle.pgn_games.specs.declared.game.GameResult.{GameResult}
+use Rattle.san_text.specs.Told.{IsAmongTexts, SpellsCastles, SpellsMan, SpellsTold, castles_texts, file_letter, passing_text, rank_digit, square_text}
 use Rattle.pgn_games.specs.Bytes.{is_digit, run_len}
-use Rattle.pgn_games.specs.Lexemes.{MoveText, Telling, is_number, result_of, symbol_tells}
+use Rattle.pgn_games.specs.Lexemes.{MoveText, symbol_tells}
 use Rattle.pgn_games.specs.Scores.{SpellsSymbol}
 
 -- a byte below the small letters

@@ -1,19 +1,18 @@
 -- The tokens of the parts of a score: white space, numbers of moves, symbols, results and tag pairs.
-use Rattle.std.proofs.Common.{◌≡◌, ◌≢◌, ◌∙◌, ℕ, zero, suc, ◌+◌, ◌-◌, ◌<◌, ◌≤◌, ◌++◌, ◌⊎◌, Bool, true, false, List, [], ◌∷◌, Option, Some, None, length, take, drop, cond, refl, sym, ap, subst, arith, inl, inr, append_assoc, append-nil, lit<}
-use Rattle.std.specs.Prelude.{◌==◌, ◌||◌, ◌&&◌, not, nat_lt, nat_le, codes, bytes_eq, option_map}
-use Rattle.std.specs.List.{AllByRecursion, list_all, position_or_len}
+use Rattle.std.proofs.Common.{◌≡◌, ◌≢◌, ◌∙◌, ℕ, suc, ◌+◌, ◌-◌, ◌<◌, ◌++◌, Bool, true, false, List, [], ◌∷◌, Option, Some, None, length, take, drop, cond, refl, sym, ap, subst, arith, append_assoc, append-nil, lit<}
+use Rattle.std.specs.Prelude.{◌==◌, ◌||◌, codes, bytes_eq, option_map}
+use Rattle.std.specs.List.{AllByRecursion}
 use Rattle.std.proofs.lemmas.Bool.{false_from_ne_true}
 use Rattle.std.proofs.lemmas.Bool.Decides.{nat_tests}
 use Rattle.std.proofs.lemmas.Slice.Eq.{bytes_eq-Decides}
 use Rattle.std.proofs.lemmas.List.{drop_at, length-append, take_at}
-use Rattle.pgn_games.specs.declared.bytes.ByteKind.{ByteKind}
 use Rattle.pgn_games.specs.declared.bytes.ByteKind.TheVariants as kind
 use Rattle.pgn_games.specs.declared.game.GameResult.{GameResult}
 use Rattle.pgn_games.specs.declared.game.GameResult.TheVariants.{WhiteWins, BlackWins, Draw, Unknown, Missing}
-use Rattle.pgn_games.specs.Bytes.{is_blank, is_digit, is_letter, is_name, is_space, is_symbol, kind_of, mark_of, run_len}
+use Rattle.pgn_games.specs.Bytes.{is_blank, is_digit, is_name, is_space, is_symbol, mark_of, run_len}
 use Rattle.pgn_games.specs.Lines.{one_more}
-use Rattle.pgn_games.specs.Lexemes.{Lexed, MoveText, Tag, Telling, Told, lexed, lexed_at, lexed_by, lexed_in_line, lexed_tag, rest_of_line, symbol_tells}
-use Rattle.pgn_games.specs.Tags.{TagAndRest, TagPair, after_byte, after_spaces, closes_at, pair_from_name, pair_from_quote, pair_to_bracket, pair_to_quote, tag_pair, unescaped}
+use Rattle.pgn_games.specs.Lexemes.{Lexed, Tag, Telling, Told, lexed, lexed_at, lexed_by, lexed_in_line, lexed_tag, rest_of_line, symbol_tells}
+use Rattle.pgn_games.specs.Tags.{TagPair, after_byte, after_spaces, closes_at, pair_from_name, pair_from_quote, pair_to_bracket, pair_to_quote, tag_pair, unescaped}
 use Rattle.pgn_games.specs.Tokens.{Token, line_after, token, token_if, tokens_from}
 use Rattle.pgn_games.specs.Scores.{EachByte, ScoreTag, SpellsMoveNumber, SpellsTagPair, escaped_value, is_score_symbol, is_white, line_behind, result_text}
 use Rattle.pgn_games.proofs.TokenLaws.{differs, feed_passed, begun}

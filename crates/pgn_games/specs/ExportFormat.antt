@@ -33,10 +33,10 @@ number_words true Black n = (decimal n ++ codes "...") ∷ []
 number_words false Black n = []
 
 -- the numbers and the texts of moves that are legal in turn
-unfoldable pub move_words : Bool → Parts → List Move → List (List ℕ)
-move_words begins p [] = []
-move_words begins p (m ∷ moves) =
-    number_words begins p.side p.fullmove ++ (san_of p m ∷ unwrap_or (option_map (λ q. move_words false q moves) (position_after p m)) [])
+unfoldable pub movetext_words : Bool → Parts → List Move → List (List ℕ)
+movetext_words begins p [] = []
+movetext_words begins p (m ∷ moves) =
+    number_words begins p.side p.fullmove ++ (san_of p m ∷ unwrap_or (option_map (λ q. movetext_words false q moves) (position_after p m)) [])
 
 -- words behind so many bytes of a line, on lines of at most 79 bytes, and an empty line behind the last one
 unfoldable pub words_on_lines : ℕ → List (List ℕ) → List ℕ
@@ -51,7 +51,7 @@ lines_of_words (word ∷ words) = word ++ words_on_lines (length word) words
 -- the text of a score
 unfoldable pub written_score : GameScore → List ℕ
 written_score score =
-    tag_section score.tags ++ lines_of_words (move_words true score.start score.moves ++ result_text score.result ∷ [])
+    tag_section score.tags ++ lines_of_words (movetext_words true score.start score.moves ++ result_text score.result ∷ [])
 
 -- what has such a text: names of letters, digits and underscores; values on one line; moves that are legal in turn, at most 4,096, from
 -- the position of the FEN tag or that of a new game; and a result

@@ -113,10 +113,10 @@ pub record SpellsSymbol (p : Parts) (m : Move) (text : List ℕ) : Type 0 where
   pub symbol : EachByte is_score_symbol text
 
 -- moves that are legal in turn, each with its number before it or without, and parted from what follows
-abbrev pub SpellsMoves : Parts → List Move → List ℕ → Type 0
-SpellsMoves p [] bytes = bytes ≡ []
-SpellsMoves p (m ∷ moves) bytes =
-    (number : List ℕ) × (text : List ℕ) × (white : List ℕ) × (rest : List ℕ) × (q : Parts) × ((number ≡ []) ⊎ SpellsMoveNumber number) × SpellsSymbol p m text × PartsTokens white × Legal p m q × SpellsMoves q moves rest × (bytes ≡ number ++ (text ++ (white ++ rest)))
+abbrev pub SpellsMovetext : Parts → List Move → List ℕ → Type 0
+SpellsMovetext p [] bytes = bytes ≡ []
+SpellsMovetext p (m ∷ moves) bytes =
+    (number : List ℕ) × (text : List ℕ) × (white : List ℕ) × (rest : List ℕ) × (q : Parts) × ((number ≡ []) ⊎ SpellsMoveNumber number) × SpellsSymbol p m text × PartsTokens white × Legal p m q × SpellsMovetext q moves rest × (bytes ≡ number ++ (text ++ (white ++ rest)))
 
 -- the results (section 8.2.6)
 abbrev pub result_text : GameResult → List ℕ
@@ -141,7 +141,7 @@ pub record SpellsScore (bytes : List ℕ) (score : GameScore) : Type 0 where
   pub few : length score.moves ≤ 4096
   pub ended : score.result ≢ Missing
   pub spells_tags : SpellsTags score.tags tags
-  pub spells_moves : SpellsMoves score.start score.moves movetext
+  pub spells_moves : SpellsMovetext score.start score.moves movetext
   pub apart : PartsTokens white
   pub text : bytes ≡ tags ++ (movetext ++ (result_text score.result ++ white))
 
@@ -179,15 +179,15 @@ abbrev pub IsReadLine : List ℕ → Type 0
 IsReadLine line = length line ≤ 65535
 
 -- the texts of scores one after another
-abbrev pub joined : List (List ℕ) → List ℕ
-joined texts = flat_map (λ text. text) texts
+abbrev pub joined_texts : List (List ℕ) → List ℕ
+joined_texts texts = flat_map (λ text. text) texts
 
 -- a file of scores is read as the games of these scores, to its end
 abbrev pub ScoresAreReadBack : Type 0
 ScoresAreReadBack =
-    (texts : List (List ℕ)) (scores : List GameScore) → AllZip SpellsScore texts scores → AllByRecursion IsReadLine (lines_of (joined texts)) → (readings : List ReadingTold) × SpellsGames (joined texts) readings × AreScoresRead 1 texts scores readings
+    (texts : List (List ℕ)) (scores : List GameScore) → AllZip SpellsScore texts scores → AllByRecursion IsReadLine (lines_of (joined_texts texts)) → (readings : List ReadingTold) × SpellsGames (joined_texts texts) readings × AreScoresRead 1 texts scores readings
 
 -- whatever games are read of such a file, they are those of these scores
 abbrev pub OnlyScoresAreRead : Type 0
 OnlyScoresAreRead =
-    (texts : List (List ℕ)) (scores : List GameScore) → AllZip SpellsScore texts scores → AllByRecursion IsReadLine (lines_of (joined texts)) → (readings : List ReadingTold) → SpellsGames (joined texts) readings → AreScoresRead 1 texts scores readings
+    (texts : List (List ℕ)) (scores : List GameScore) → AllZip SpellsScore texts scores → AllByRecursion IsReadLine (lines_of (joined_texts texts)) → (readings : List ReadingTold) → SpellsGames (joined_texts texts) readings → AreScoresRead 1 texts scores readings
