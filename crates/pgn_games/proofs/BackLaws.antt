@@ -1,6 +1,5 @@
 -- A game is read from the tokens of its moves and its result.
-use Rattle.std.proofs.Common.{◌≡◌, ◌∙◌, ℕ, zero, suc, ◌+◌, ◌<◌, ◌≤◌, ◌++◌, Bool, true, false, List, [], ◌∷◌, length, Option, Some, None, Result, Ok, Err, refl, sym, ap, subst, arith, append_assoc, append-nil, length-append, lit<}
-use Rattle.std.specs.Prelude.{nat_lt}
+use Rattle.std.proofs.Common.{◌≡◌, ℕ, ◌+◌, ◌<◌, ◌≤◌, ◌++◌, List, [], ◌∷◌, length, Option, Some, None, Ok, refl, sym, ap, subst, arith, append_assoc, append-nil, length-append, lit<}
 use Rattle.board_core.specs.declared.parts.Parts.{Parts}
 use Rattle.board_core.specs.declared.moves.Move.{Move}
 use Rattle.pgn_games.specs.declared.game.GameResult.{GameResult}
@@ -10,16 +9,16 @@ use Rattle.pgn_games.specs.declared.phase.Phase.TheVariants.{Tags, Moves, Over}
 use Rattle.pgn_games.specs.Tags.{no_tags}
 use Rattle.pgn_games.specs.Lexemes.{MoveText, Told}
 use Rattle.pgn_games.specs.Tokens.{Token, token}
-use Rattle.pgn_games.specs.Games.{Course, GameRead, ReadingTold, ReadsGame, Tells, behind_game, no_course, of_game}
+use Rattle.pgn_games.specs.Games.{Course, GameRead, ReadingTold, Tells, behind_game, no_course, of_game}
 use Rattle.pgn_games.specs.Laws.{MovesAreReadBack, ReadsInTurn, movetext}
 use Rattle.pgn_games.proofs.CourseLaws.{move_read}
 
-none_behind : (ts : List Token) → of_game Over ts ≡ []
+pub none_behind : (ts : List Token) → of_game Over ts ≡ []
 unfolding of_game
 none_behind [] = refl
 none_behind (t ∷ ts) = refl
 
-all_behind : (ts : List Token) → behind_game Over ts ≡ ts
+pub all_behind : (ts : List Token) → behind_game Over ts ≡ ts
 unfolding behind_game
 all_behind [] = refl
 all_behind (t ∷ ts) = refl
@@ -96,9 +95,10 @@ tells_all line usual (m ∷ moves) (text ∷ texts) result h few =
     (at_moves (Some line) line usual h.0 (m ∷ []) (Moves 0), (Ok (at_moves None 0 usual h.0 (m ∷ []) Tags), move_read (no_course usual) text 0 (Ok (at_moves None 0 usual h.0 (m ∷ []) Tags)) below (m, h.1, (h.0, h.2, refl)), refl), tells_moves line line usual h.0 (m ∷ []) moves texts result h.3 fits)
 
 pub moves_are_read_back : MovesAreReadBack
-moves_are_read_back usual line texts moves result behind spelled h few = record {
+moves_are_read_back usual line texts moves result behind spelled position h few = record {
   usual = usual;
   spelled = spelled;
+  position = position;
   tells = subst (λ (ts : List Token). Tells (no_course usual) ts (read_as line usual moves result)) (sym (of_first line texts result behind)) (tells_all line usual moves texts result h few);
   rest = sym (behind_first line texts result behind);
 }

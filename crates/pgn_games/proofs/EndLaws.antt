@@ -1,11 +1,11 @@
 -- Where no game is told.
-use Rattle.std.proofs.Common.{◌≡◌, ◌∙◌, ℕ, List, [], ◌∷◌, Option, Some, None, Result, refl, sym, ap, subst}
+use Rattle.std.proofs.Common.{◌≡◌, ◌∙◌, ℕ, List, [], ◌∷◌, Option, Some, None, Result, refl, ap, subst}
 use Rattle.std.specs.Prelude.{MatchOption}
 use Rattle.pgn_games.specs.declared.fault.Cause.{Cause}
 use Rattle.pgn_games.specs.declared.fault.GameFault.{GameFault}
 use Rattle.pgn_games.specs.declared.phase.Phase.TheVariants.{Tags}
 use Rattle.pgn_games.specs.Tokens.{Token}
-use Rattle.pgn_games.specs.Games.{Course, Passes, ReadingTold, ReadsGame, Takes, Tells, after, no_course, of_game, passed, taken, told_at, told_of}
+use Rattle.pgn_games.specs.Games.{Course, ReadingTold, Takes, Tells, after, no_course, of_game, passed, taken, told_at, told_of}
 use Rattle.pgn_games.specs.Laws.{NoneIsTheEnd}
 
 abbrev HasLine : Course → Type 0

@@ -13,3 +13,9 @@ pub mod SoundLaws
 pub mod EndLaws
 pub mod WorkedRows
 pub mod BackLaws
+pub mod OneLaws
+pub mod ScoreBytes
+pub mod ScoreTokens
+pub mod ScoreMoves
+pub mod ScoreLaws
+pub mod ExportLaws

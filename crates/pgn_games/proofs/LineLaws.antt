@@ -15,15 +15,15 @@ use Rattle.pgn_games.specs.Inside.Lines.{OneLine}
 use Rattle.pgn_games.specs.Inside.Steps.{BeginsAs, BeginsLine, TakesText, rest_with}
 use Rattle.pgn_games.proofs.TokenLaws.{differs}
 
-lines_by : (x : ℕ) (t : List ℕ) → x ≢ 10 → lines_of (x ∷ t) ≡ onto_first_line x (lines_of t)
+pub lines_by : (x : ℕ) (t : List ℕ) → x ≢ 10 → lines_of (x ∷ t) ≡ onto_first_line x (lines_of t)
 unfolding lines_of
 lines_by x t other = ap (λ (b : Bool). cond b ([] ∷ lines_of t) (onto_first_line x (lines_of t))) (differs x 10 other)
 
-lines_feed : (t : List ℕ) → lines_of (10 ∷ t) ≡ [] ∷ lines_of t
+pub lines_feed : (t : List ℕ) → lines_of (10 ∷ t) ≡ [] ∷ lines_of t
 unfolding lines_of
 lines_feed t = refl
 
-lines_nil : lines_of [] ≡ []
+pub lines_nil : lines_of [] ≡ []
 unfolding lines_of
 lines_nil = refl
 
@@ -39,16 +39,20 @@ last_line x [] one = lines_by x [] (All-head (λ b. b ≢ 10) x [] one) ∙ ap (
 last_line x (y ∷ line) one =
     lines_by x (y ∷ line) (All-head (λ b. b ≢ 10) x (y ∷ line) one) ∙ ap (onto_first_line x) (last_line y line (All-tail (λ b. b ≢ 10) x (y ∷ line) one))
 
-text_of_lines : List (List ℕ) → List ℕ
+pub text_of_lines : List (List ℕ) → List ℕ
 text_of_lines lines = flat_map (λ line. 10 ∷ text_of_line line) lines
 
-text_is : (bytes : List ℕ) → read_text bytes ≡ text_of_lines (lines_of bytes)
+pub text_is : (bytes : List ℕ) → read_text bytes ≡ text_of_lines (lines_of bytes)
 unfolding read_text text_of_lines
 text_is bytes = refl
 
-text_cons : (line : List ℕ) (lines : List (List ℕ)) → text_of_lines (line ∷ lines) ≡ 10 ∷ (text_of_line line ++ text_of_lines lines)
+pub text_cons : (line : List ℕ) (lines : List (List ℕ)) → text_of_lines (line ∷ lines) ≡ 10 ∷ (text_of_line line ++ text_of_lines lines)
 unfolding text_of_lines
 text_cons line lines = refl
+
+pub text_none : text_of_lines [] ≡ []
+unfolding text_of_lines
+text_none = refl
 
 pub text_nil : read_text [] ≡ []
 unfolding read_text lines_of

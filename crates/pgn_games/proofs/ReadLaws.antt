@@ -10,6 +10,7 @@ use Rattle.pgn_games.specs.declared.lines.Taken.TheVariants.{Line, LongLine, Not
 use Rattle.pgn_games.specs.Lines.{read_text}
 use Rattle.pgn_games.specs.Lexemes.{Endless, TooLong, lexed_at}
 use Rattle.pgn_games.specs.Tokens.{Token, token, tokens_from}
+use Rattle.board_core.specs.Position.{IsPosition}
 use Rattle.pgn_games.specs.Games.{Course, Passes, ReadingTold, ReadsGame, Tells, no_course, of_game, told_of, usual_start}
 use Rattle.pgn_games.specs.Reading.{IfKnown, tokens_with}
 use Rattle.pgn_games.specs.Inside.Steps.{Continues, IsOn, IsOver, TakesText, TellsGame, TellsOn, comment_left, rest_with}
@@ -98,10 +99,11 @@ tells_nothing : (c : Course) (ts : List Token) → ts ≡ [] → Tells c ts (tol
 tells_nothing c ts e = subst (λ (l : List Token). Tells c l (told_of c)) (sym e) (tells_nil c)
 
 -- a game that is over is read
-pub game_read : (usual : Parts) (c : Course) (ts us : List Token) → usual_start ≡ fen_of usual → Continues (no_course usual) ts c us → IsOver c us → ReadsGame ts (told_of c) us
-game_read usual c ts us spelled h over = record {
+pub game_read : (usual : Parts) (c : Course) (ts us : List Token) → usual_start ≡ fen_of usual → IsPosition usual → Continues (no_course usual) ts c us → IsOver c us → ReadsGame ts (told_of c) us
+game_read usual c ts us spelled position h over = record {
   usual = usual;
   spelled = spelled;
+  position = position;
   tells = h.told (told_of c) (tells_nothing c (of_game c.phase us) over.none);
   rest = sym over.all ∙ h.rest;
 }
@@ -125,6 +127,6 @@ known_of f g None b P Q h k = tt
 known_of f g (Some x) None P Q h k = k
 known_of f g (Some x) (Some y) P Q h k = h x y k
 
-pub reading_told : (usual : Parts) (first c : Course) (ts us : List Token) (told : Option ReadingTold) → usual_start ≡ fen_of usual → first ≡ no_course usual → told ≡ told_of c → TellsGame first ts c us → ReadsGame ts told us
-reading_told usual first c ts us told spelled begun is h =
-    subst (λ (t : Option ReadingTold). ReadsGame ts t us) (sym is) (game_read usual c ts us spelled (subst (λ (f : Course). Continues f ts c us) begun h.0) h.1)
+pub reading_told : (usual : Parts) (first c : Course) (ts us : List Token) (told : Option ReadingTold) → usual_start ≡ fen_of usual → IsPosition usual → first ≡ no_course usual → told ≡ told_of c → TellsGame first ts c us → ReadsGame ts told us
+reading_told usual first c ts us told spelled position begun is h =
+    subst (λ (t : Option ReadingTold). ReadsGame ts t us) (sym is) (game_read usual c ts us spelled position (subst (λ (f : Course). Continues f ts c us) begun h.0) h.1)

@@ -1,5 +1,5 @@
 -- A game that is told is one of chess.
-use Rattle.std.proofs.Common.{◌≡◌, ◌∙◌, ℕ, zero, suc, ◌+◌, ◌<◌, ◌≤◌, ◌++◌, Bool, true, false, List, [], ◌∷◌, length, Option, Some, None, Result, Ok, Err, refl, sym, ap, subst, arith, length-append, lit≤}
+use Rattle.std.proofs.Common.{◌≡◌, ◌∙◌, ℕ, zero, suc, ◌<◌, ◌≤◌, ◌++◌, Bool, true, false, List, [], ◌∷◌, length, Option, Some, None, Result, Ok, Err, refl, sym, ap, subst, arith, length-append, lit≤}
 use Rattle.std.specs.Prelude.{nat_lt, MatchOption}
 use Rattle.std.proofs.lemmas.Bool.{ltb-true}
 use Rattle.pgn_games.specs.declared.game.GameResult.{GameResult}
@@ -16,7 +16,7 @@ use Rattle.pgn_games.specs.declared.tags.TagName.TheVariants as name
 use Rattle.pgn_games.specs.Tags.{TagPair, name_of, value_of}
 use Rattle.pgn_games.specs.Lexemes.{Telling, Tag, MoveText, Begins, Ends, Told, Stray, Endless, TooLong}
 use Rattle.pgn_games.specs.Tokens.{Token, token}
-use Rattle.pgn_games.specs.Games.{Course, Closes, FaultRead, GameRead, GameTold, Passes, ReadingTold, ReadsGame, SetsTag, Takes, TakesIfMain, TakesMove, TakesTag, Tells, after, depth_of, fault_of, no_course, of_game, over_at, passed, taken, told_at, told_by, told_in, told_of, usual_start}
+use Rattle.pgn_games.specs.Games.{Course, Closes, GameRead, GameTold, SetsTag, Takes, TakesIfMain, TakesMove, TakesTag, Tells, after, depth_of, fault_of, no_course, of_game, over_at, passed, taken, told_at, told_by, told_in, usual_start}
 use Rattle.pgn_games.proofs.GameLaws.{taken_phase}
 use Rattle.pgn_games.specs.Laws.{BeginsAt, GamesAreOfChess, IsGame, PlaysInTurn}
 

@@ -41,7 +41,7 @@ unfolding lexed_at
 in_line f b s more no_feed no_brace byte none begins =
     rw (differs b 10 no_feed, differs b 123 no_brace, differs b 256 byte) (ap (lexed_in_line f b) (line_rest s more none begins))
 
-begun : (n : ℕ) (f : Bool) (b : ℕ) (t : List ℕ) → tokens_from 0 n f (b ∷ t) ≡ token_if n (lexed_at f b t).tells ++ tokens_from (lexed_at f b t).more (line_after n b) (b == 10) t
+pub begun : (n : ℕ) (f : Bool) (b : ℕ) (t : List ℕ) → tokens_from 0 n f (b ∷ t) ≡ token_if n (lexed_at f b t).tells ++ tokens_from (lexed_at f b t).more (line_after n b) (b == 10) t
 unfolding tokens_from
 begun n f b t = refl
 

@@ -215,6 +215,7 @@ usual_start = codes "rnbqkbnr/pppppppp/8/8/8/8/PPPPPPPP/RNBQKBNR w KQkq - 0 1"
 pub record ReadsGame (tokens : List Token) (told : Option ReadingTold) (behind : List Token) : Type 0 where
   pub usual : Parts
   pub spelled : usual_start ≡ fen_of usual
+  pub position : IsPosition usual
   pub tells : Tells (no_course usual) (of_game Tags tokens) told
   pub rest : behind ≡ behind_game Tags tokens
 

@@ -7,4 +7,6 @@ pub mod Games
 pub mod Shown
 pub mod Reading
 pub mod Laws
+pub mod Scores
+pub mod ExportFormat
 pub mod Inside

@@ -16,7 +16,7 @@
 //! `usual`, `reader`; `game`, `fault`; `laws`.
 //!
 //! Definitions, in reading order: `Lines`, `Bytes`, `Tags`, `Lexemes` (`lexed_at`), `Tokens` (`tokens_of`), `Games` (`ReadsGame`,
-//! `SpellsGames`), `Shown`, `Reading` (`tokens_left`), `Laws`.
+//! `SpellsGames`), `Shown`, `Reading` (`tokens_left`), `Laws`, `Scores` (`SpellsScore`), `ExportFormat` (`written_score`).
 //!
 //! - CLAIM: `PgnReader::new`; `PgnReader::next_game`, clause `game`: where the bytes of an input are known, each call reads the next game of
 //!   their tokens, and leaves those behind it.
@@ -27,6 +27,11 @@
 //! - CLAIM: `laws::moves_are_read_back`: the tokens of texts that are read as moves in turn, and of a result, are read as the game of these
 //!   moves.
 //! - CLAIM: `laws::none_is_the_end`: no game is told exactly where no token is left.
+//! - CLAIM: `laws::one_game_is_read`; `laws::one_list_is_spelled`: tokens are read as one game or fault, and the bytes of a file as one list.
+//! - CLAIM: `laws::scores_are_read_back`, clauses `read`, `only`: of a file of scores, with any tags, any white space between tokens, and
+//!   numbers of moves or none, these games are read, to its end, and no others.
+//! - CLAIM: `laws::export_spells_scores`; `laws::export_is_read_back`, clauses `read`, `only`: so it is with what is written in export
+//!   format of legal games that have a result.
 #![tactic(auto)]
 
 mod bytes;

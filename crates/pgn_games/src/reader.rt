@@ -1,6 +1,7 @@
 //! The games of an input, one at a time.
 
 ghost use Rattle.std.specs.Prelude.{◌≡◌};
+ghost use Rattle.board_core.specs.Position.{IsPosition};
 ghost use Rattle.fen_text.specs.Written.{fen_of};
 ghost use Rattle.pgn_games.specs.Games.{usual_start};
 ghost use Rattle.pgn_games.specs.Inside.Lines.{OneLine};
@@ -24,6 +25,7 @@ pub struct PgnReader<L: Drop> {
     usual: Position,
     ghost one_line: { OneLine cursor.line.items },
     ghost is_usual: { usual_start ≡ fen_of usual },
+    ghost is_position: { IsPosition usual },
 }
 
 impl<L: LineReader + Drop> PgnReader<L> {

@@ -8,7 +8,7 @@ use Rattle.board_core.specs.declared.parts.Parts.{Parts}
 use Rattle.board_core.specs.declared.moves.Move.{Move}
 use Rattle.board_core.specs.Attack.{IsInCheck}
 use Rattle.board_core.specs.Ends.{HasNoMove, has_no_move, IsCheckmate, is_checkmate}
-use Rattle.board_core.specs.Moves.{Legal}
+use Rattle.board_core.specs.Moves.{IsLegal, Legal}
 use Rattle.board_core.specs.Computed.{is_in_check}
 use Rattle.board_core.specs.ComputedMoves.{legal_moves}
 use Rattle.board_core.proofs.Computed.{Decides-in_check}
@@ -83,3 +83,19 @@ marks_check p m q l = (
     shown true check e f = absurd (let g = e in cc)
     shown false true e f = refl
     shown false false e f = absurd (let g = f in cc)
+
+-- ---- the mark that is written
+
+pub mark_of_none : (q : Parts) → is_in_check q.men q.side ≡ false → check_mark q ≡ []
+mark_of_none q quiet =
+    let mate : is_checkmate q ≡ false = rw quiet refl in
+    mark_is q ∙ ap (λ (b : Bool). mark_by b (is_in_check q.men q.side)) mate ∙ ap (mark_by false) quiet
+
+pub mark_of_check : (q : Parts) (m : Move) → is_in_check q.men q.side ≡ true → IsLegal q m → check_mark q ≡ codes "+"
+mark_of_check q m check legal =
+    let mate : is_checkmate q ≡ false = false_from_ne_true (is_checkmate q) (λ is. ((Decides-mate q).0 is).0 m legal) in
+    mark_is q ∙ ap (λ (b : Bool). mark_by b (is_in_check q.men q.side)) mate ∙ ap (mark_by false) check
+
+pub mark_of_mate : (q : Parts) → IsInCheck q.men q.side → HasNoMove q → check_mark q ≡ codes "#"
+mark_of_mate q check none =
+    mark_is q ∙ ap (λ (b : Bool). mark_by b (is_in_check q.men q.side)) ((Decides-mate q).1 (none, check))

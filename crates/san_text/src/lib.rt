@@ -5,7 +5,7 @@
 //! capture is `board_core`'s to say. Reading takes what files have besides the standard's text; `read_san` lists it.
 //!
 //! Inside: `told` (what a text tells), `scan`, `marks`, `spelling` (that, read off the bytes), `agreeing` (the moves that it may
-//! mean), `reading`; `origin` (what tells a man apart), `writing`; `fault`, `laws`.
+//! mean), `reading`; `origin` (what tells a man apart), `answering` (whether check is mate), `writing`; `fault`, `laws`.
 //!
 //! Definitions, in reading order: `Told` (`SpellsTold`, `told_text`), `Agrees`, `San` (`ReadsSan`, `IsFirstSanFault`), `Written`
 //! (`told_apart`, `san_told`, `san_of`), `Laws`.
@@ -23,6 +23,7 @@
 #![tactic(auto)]
 
 mod agreeing;
+mod answering;
 mod fault;
 pub mod laws;
 mod marks;

@@ -9,6 +9,7 @@ ghost use Rattle.san_text.specs.Told.{IsBelowEight, kind_text, file_letter, rank
 ghost use Rattle.san_text.specs.Written.{kind_moved, man_told, san_told, check_mark, san_of};
 
 use crate::agreeing::{castling, is_capture};
+use crate::answering::has_answer;
 use crate::origin::{file_by, origin_told, rank_by};
 use crate::told::{ManTold, Told};
 use arrayvec::ArrayString;
@@ -170,16 +171,15 @@ fn push_told(told: &Told, out: &mut ArrayString<8>)
     }
 }
 
-/// The mark behind the text: `#` for checkmate, `+` for another check.
-#[tactic(auto, unfolding(crate::specs::Written::check_mark))]
-fn mark(after: &Position) -> &'static str
+/// The mark behind the text of a move to this square: `#` for checkmate, `+` for another check.
+fn mark(after: &Position, to: Square) -> &'static str
     ensures mark { result.now ≡ check_mark after.now }
     ensures len { length result.now ≤ 1 }
 {
     if !after.in_check() {
         return "";
     }
-    if after.is_checkmate() { "#" } else { "+" }
+    if has_answer(after, to) { "+" } else { "#" }
 }
 
 /// Writes the text of a move (PGN standard, section 8.2.3), of two to seven bytes; none where the move isn't legal.
@@ -196,6 +196,6 @@ pub fn write_san(position: &Position, m: Move) -> Option<ArrayString<8>>
     };
     let mut text = ArrayString::new();
     push_told(&san_told(position, &m), &mut text);
-    text.push_str(mark(&after));
+    text.push_str(mark(&after, m.to));
     Some(text)
 }
