@@ -10,6 +10,7 @@ use Rattle.judge_core.specs.declared.fault.ProbeFault.TheVariants.{NotCovered}
 use Rattle.judge_core.specs.declared.probe_result.ProbeResult.{ProbeResult}
 use Rattle.judge_core.specs.MoreTables.{HasAll, table_count}
 use Rattle.judge_core.specs.ProbeResult.{IsProbed}
+use Rattle.judge_core.specs.Ruling.{ruling}
 use Rattle.judge_core.specs.Tables.{Tables, slot, table_at}
 use Rattle.table_folder.specs.declared.fault.FileRefusal.{FileRefusal}
 use Rattle.table_folder.specs.declared.settling.Look.{Look}
@@ -42,6 +43,7 @@ pub record IsOneMoreOf (disk : DiskFacts) (folder : Folder) (old new : Tables) :
 
 -- what a look at a position comes to
 abbrev pub IsLook : DiskFacts → Folder → Tables → Tables → Parts → Look → Type 0
-IsLook disk folder old new p (Settled probed) = (new ≡ old) × IsProbed old p probed × IsSettled folder old p
+IsLook disk folder old new p (Settled columns) =
+    (new ≡ old) × IsProbed old p columns.probed × (columns.verdict ≡ ruling old p) × IsSettled folder old p
 IsLook disk folder old new p Opened = IsOneMoreOf disk folder old new
 IsLook disk folder old new p (Refused refusal) = (new ≡ old) × IsRefusedAt disk folder p refusal

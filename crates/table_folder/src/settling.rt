@@ -3,6 +3,7 @@
 ghost use Rattle.std.specs.Prelude.{◌≡◌, ◌↔◌, ◌<◌, ℕ, OnErr, None, Some, IfOk, IfErr, IfSome, IfNone, IsTrue, Ok, Err};
 ghost use Rattle.judge_core.specs.ProbeResult.{IsProbed};
 ghost use Rattle.judge_core.specs.MoreTables.{HasAll};
+ghost use Rattle.judge_core.specs.Ruling.{ruling};
 ghost use Rattle.judge_core.specs.Tables.{table_at};
 ghost use Rattle.table_file.specs.declared.kind.TableKind.{TableKind};
 ghost use Rattle.table_folder.specs.Folders.{AreOf, HasTable};
@@ -13,7 +14,7 @@ use crate::fault::FileRefusal;
 use crate::folder::TableFolder;
 use board_core::Position;
 use judge_core::laws::adding_keeps_the_rest;
-use judge_core::{ProbeFault, ProbeResult, Set};
+use judge_core::{Columns, ProbeFault, ProbeResult, Set};
 use place_index::Material;
 use std::alloc::{AllocError, Global};
 use system_io::Disk;
@@ -21,8 +22,8 @@ use table_file::{TableKind, file_name, names_differ, reads_what_is_laid_out};
 
 /// What a look at a position comes to.
 enum Look {
-    /// No table of the folder is missing: both probes.
-    Settled(ProbeResult),
+    /// No table of the folder is missing: both probes and the verdict.
+    Settled(Columns),
     /// A table was missing and is open now.
     Opened,
     /// The file of a table that is missing is refused.
@@ -123,9 +124,9 @@ impl<'r, D: Disk> TableFolder<'r, D> {
     {
         adding_keeps_the_rest();
         let _slots = set.cache();
-        let probed = set.probe(alloc, position)?;
-        let Some(missing) = self.missing(set, &probed) else {
-            return Ok(Look::Settled(probed));
+        let columns = set.answers(alloc, position)?;
+        let Some(missing) = self.missing(set, &columns.probed) else {
+            return Ok(Look::Settled(columns));
         };
         match self.add(alloc, set, missing)? {
             Ok(()) => Ok(Look::Opened),
@@ -133,8 +134,8 @@ impl<'r, D: Disk> TableFolder<'r, D> {
         }
     }
 
-    /// Opens the tables that a position misses and the folder has, one after another, until none is missing. The result is what the
-    /// set's probes tell then, or the refusal of the first file at fault: the next call looks at that file anew.
+    /// Opens the tables that a position misses and the folder has, one after another, until none is missing. The result is what
+    /// `Set::answers` gives then, or the refusal of the first file at fault: the next call looks at that file anew.
     ///
     /// The error comes where memory is refused. Tables that are open stay open whatever the result is.
     pub fn settle(
@@ -142,18 +143,19 @@ impl<'r, D: Disk> TableFolder<'r, D> {
         alloc: Global,
         set: &mut Set<'r>,
         position: &Position,
-    ) -> Result<Result<ProbeResult, FileRefusal>, AllocError>
+    ) -> Result<Result<Columns, FileRefusal>, AllocError>
         requires { AreOf (D.facts self.now.disk) self.now.folder set.old.tables }
         ensures opened { AreOf (D.facts self.now.disk) self.now.folder set.new.tables }
         ensures kept { HasAll set.old.tables set.new.tables }
-        ensures probed { IfOk result (λ settled. IfOk settled (IsProbed set.new.tables position.now)) }
+        ensures probed { IfOk result (λ settled. IfOk settled (λ columns. IsProbed set.new.tables position.now columns.probed)) }
+        ensures verdict { IfOk result (λ settled. IfOk settled (λ columns. columns.verdict ≡ ruling set.new.tables position.now)) }
         ensures settled { IfOk result (λ settled. IfOk settled (λ _. IsSettled self.now.folder set.new.tables position.now)) }
         ensures refused { IfOk result (λ settled. IfErr settled (IsRefusedAt (D.facts self.now.disk) self.now.folder position.now)) }
         ensures cache { set.new.cache ≡ set.old.cache }
     {
         loop {
             match self.look(alloc, set, position)? {
-                Look::Settled(probed) => return Ok(Ok(probed)),
+                Look::Settled(columns) => return Ok(Ok(columns)),
                 Look::Refused(refusal) => return Ok(Err(refusal)),
                 Look::Opened => {}
             }

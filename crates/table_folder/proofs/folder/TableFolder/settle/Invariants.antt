@@ -3,8 +3,8 @@ use Rattle.judge_core.specs.MoreTables.{HasAll, table_count}
 use Rattle.table_folder.specs.Folders.{AreOf}
 use Rattle.table_folder.proofs.folder.TableFolder.settle.Given as goal
 
-abbrev pub invariant-loop-probed : goal.invariant-loop-probed
-invariant-loop-probed g l = AreOf (g.D.Disk.facts l.self.disk) l.self.folder l.set.tables × HasAll l.fn.set.tables l.set.tables × (l.set.cache ≡ l.fn.set.cache)
+abbrev pub invariant-loop-columns : goal.invariant-loop-columns
+invariant-loop-columns g l = AreOf (g.D.Disk.facts l.self.disk) l.self.folder l.set.tables × HasAll l.fn.set.tables l.set.tables × (l.set.cache ≡ l.fn.set.cache)
 
-abbrev pub decreases-loop-probed : goal.decreases-loop-probed
-decreases-loop-probed g l = length l.set.tables - table_count l.set.tables
+abbrev pub decreases-loop-columns : goal.decreases-loop-columns
+decreases-loop-columns g l = length l.set.tables - table_count l.set.tables
