@@ -63,6 +63,7 @@
 //!   `laws::first_determined_move_is_best`; `laws::first_determined_move_wins_within_rule`: the root moves by these values, those
 //!   that the probes tell. The first has a value wherever one has, and none a better one; where one wins within the rule of fifty
 //!   moves, so does the first, at no greater distance.
+//! - CLAIM: `is_out_of_scope`, clause `is`: whether a position is outside the tables' scope.
 //! - CLAIM: `Set::share`, clauses `shared`, `unchanged`: a second set with the tables of the first and a cache of its own.
 //! - CLAIM: `laws::more_tables_answer_the_same`; `laws::what_is_missing_stays_missing`; `laws::what_is_not_final_can_be_opened`;
 //!   `laws::adding_keeps_the_rest`; `laws::final_stays_final`; `laws::asking_again_ends`; `laws::games_depend_on_rulings`: a set that
@@ -114,4 +115,5 @@ pub use probe_result::ProbeResult;
 pub use root_move::{BoardState, Effect, RootMove};
 pub use set::Set;
 pub use standing::Standing;
+pub use verdict::is_out_of_scope;
 pub use wdl::Wdl;

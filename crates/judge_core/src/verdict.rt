@@ -33,9 +33,10 @@ pub(crate) fn end_of(position: &Position) -> Verdict
     }
 }
 
-/// Whether the position is outside the tables' scope, which excludes castling rights and more than five men.
+/// Whether the position is outside the tables' scope, which excludes castling rights and more than five men. Of such a position no
+/// table is asked.
 #[tactic(auto, unfolding(crate::specs::Ruling::is_out_of_scope))]
-pub(crate) fn is_out_of_scope(position: &Position) -> bool
+pub fn is_out_of_scope(position: &Position) -> bool
     ensures is { result ≡ is_out_of_scope position.now }
     ensures position { IsPosition position.now }
 {

@@ -2,3 +2,5 @@ pub mod Naming
 pub mod Saying
 pub mod Probed
 pub mod Adding
+pub mod Staying
+pub mod Walking

@@ -1,5 +1,8 @@
 -- Positions at which no table of a folder is missing, and what is refused (this project's own).
-use Rattle.std.specs.Prelude.{◌≡◌, ◌<◌, ◌⊎◌, ℕ, false, List, Option, Some, None, Err}
+use Rattle.std.specs.Prelude.{◌≡◌, ◌<◌, ◌⊎◌, ℕ, false, List, [], ◌∷◌, Option, Some, None, Err}
+use Rattle.std.specs.List.{Contains}
+use Rattle.board_core.specs.declared.moves.Move.{Move}
+use Rattle.board_core.specs.ComputedMoves.{legal_moves, position_after}
 use Rattle.board_core.specs.declared.parts.Parts.{Parts}
 use Rattle.system_io.specs.Disks.{DiskFacts}
 use Rattle.table_file.specs.declared.kind.TableKind.{TableKind}
@@ -23,6 +26,18 @@ Misses tables p kind key =
 abbrev pub IsSettled : Folder → Tables → Parts → Type 0
 IsSettled folder tables p = (kind : TableKind) (key : ℕ) → Misses tables p kind key → HasTable folder kind key → ⊥
 
+abbrev pub AreSettled : Folder → Tables → (Parts → Type 0) → Type 0
+AreSettled folder tables IsNeeded = (p : Parts) → IsNeeded p → IsSettled folder tables p
+
+-- the position at some ply of a game: at its start, or after a move that is legal in its turn
+abbrev pub IsPly : Parts → List Move → Parts → Type 0
+IsPly start [] p = p ≡ start
+IsPly start (m ∷ moves) p = (p ≡ start) ⊎ ((next : Parts) × (position_after start m ≡ Some next) × IsPly next moves p)
+
+-- a position, or the one after a legal move of it
+abbrev pub IsWithMoves : Parts → Parts → Type 0
+IsWithMoves position p = (p ≡ position) ⊎ ((m : Move) × Contains (legal_moves position) m × (position_after position m ≡ Some p))
+
 -- a position misses a table of the folder, by tables of this, whose file says why it is none
 pub record IsRefusedAt (disk : DiskFacts) (folder : Folder) (p : Parts) (refusal : FileRefusal) : Type 0 where
   pub tables : Tables
@@ -39,7 +54,7 @@ pub record IsRefusedAt (disk : DiskFacts) (folder : Folder) (p : Parts) (refusal
 pub record AnswersBy (disk : DiskFacts) (folder : Folder) (IsNeeded : Parts → Type 0) (Answers : Tables → Type 0) : Type 0 where
   pub tables : Tables
   pub opened : AreOf disk folder tables
-  pub settled : (p : Parts) → IsNeeded p → IsSettled folder tables p
+  pub settled : AreSettled folder tables IsNeeded
   pub answers : Answers tables
 
 -- a needed position is refused

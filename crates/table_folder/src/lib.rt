@@ -5,13 +5,15 @@
 //! folder has it, and asks again, until nothing is missed that is there. A table stays once it is opened. A file that is at fault is
 //! refused where a position needs it, and looked at anew where the next one does.
 //!
-//! Inside: `folder` (names and files), `settling` (which table is missed, and until when), `fault`, `laws`.
+//! Inside: `folder` (names and files), `settling` (which table is missed, and until when), `needing` (the positions of a game, and after
+//! moves), `fault`, `laws`.
 //!
 //! Definitions, in reading order: `Folders` (`Says`, `AreOf`), `Settled` (`IsSettled`, `AnswersBy`), `Faults`, `Laws`.
 #![tactic(auto)]
 
 mod fault;
 mod folder;
+mod needing;
 mod settling;
 
 pub use fault::{FileFault, FileRefusal};
