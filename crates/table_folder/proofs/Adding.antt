@@ -1,5 +1,5 @@
 -- Tables that are put into empty slots.
-use Rattle.std.proofs.Common.{◌≡◌, ◌≢◌, ◌<◌, ◌≤◌, ◌+◌, ℕ, zero, suc, Bool, true, false, List, [], ◌∷◌, length, get_or, count_by, is_some, set, Option, Some, None, Result, Ok, Err, refl, sym, ap, cond, ◌∙◌, inl, inr, arith, if◌then◌else◌}
+use Rattle.std.proofs.Common.{◌≡◌, ◌≢◌, ◌<◌, ℕ, suc, Bool, true, false, List, length, get_or, count_by, is_some, set, Option, Some, None, Result, Ok, Err, refl, sym, ap, cond, ◌∙◌, inl, inr, arith, if◌then◌else◌}
 use Rattle.std.proofs.lemmas.List.{length-set, get_or-set_same, get_or-set_other}
 use Rattle.std.proofs.lemmas.Bool.{cases_eq}
 use Rattle.std.proofs.lemmas.List.Sums.{sum_by-set}
@@ -12,15 +12,14 @@ use Rattle.table_file.specs.declared.kind.TableKind.TheVariants.{Wdl, Dtz}
 use Rattle.table_file.specs.Layouts.{ReadsWhatIsLaidOut}
 use Rattle.table_file.specs.Names.{NamesDiffer, file_name}
 use Rattle.table_file.specs.Tables.{Contents, contents_at}
-use Rattle.judge_core.specs.MoreTables.{AddingKeepsTheRest, HasAll, table_count}
+use Rattle.judge_core.specs.MoreTables.{AddingKeepsTheRest}
 use Rattle.judge_core.specs.declared.probe_result.ProbeResult.{ProbeResult}
 use Rattle.judge_core.specs.Tables.{Holding, Tables, slot, table_at}
 use Rattle.std.specs.Prelude.{IsSome, OnOk}
 use Rattle.judge_core.specs.declared.fault.SetFault.{SetFault}
 use Rattle.judge_core.specs.declared.fault.SetFault.TheVariants.{Duplicate, OutOfMemory}
-use Rattle.table_folder.specs.declared.fault.FileFault.{FileFault}
 use Rattle.table_folder.specs.declared.fault.FileFault.TheVariants.{Changed}
-use Rattle.table_folder.specs.Folders.{AreOf, Folder, Found, HasTable, IsTableOf, NotListed, NotRead, Read, Says, digest_in, found_in, found_table}
+use Rattle.table_folder.specs.Folders.{AreOf, Folder, HasTable, IsTableOf, NotListed, NotRead, Read, Says, digest_in, found_in, found_table}
 use Rattle.table_folder.specs.Inside.{AddsTable, IsOneMoreOf, IsRefusalOf, MissesBy}
 use Rattle.table_folder.specs.Settled.{IsRefusedAt}
 use Rattle.table_folder.specs.declared.fault.FileRefusal.{FileRefusal}
@@ -72,10 +71,10 @@ one_more_of keeps disk folder old new kind key known slots lacks has are adds =
     let fits : slot kind key < length old = omega (arith, slot_below kind key known, slots) in
     rw adds.put (record {
       opened = λ other k t lt there.
-        elim (cases_eq (slot other k) (slot kind key)) [
-          | inl same ↦ is_new other k t lt same fits there
-          | inr ne ↦ are other k t lt (sym (get_or-set_other old (slot kind key) (slot other k) (Some adds.table) None ne) ∙ there)
-        ];
+          elim (cases_eq (slot other k) (slot kind key)) [
+            | inl same ↦ is_new other k t lt same fits there
+            | inr ne ↦ are other k t lt (sym (get_or-set_other old (slot kind key) (slot other k) (Some adds.table) None ne) ∙ there)
+          ];
       kept = (keeps old kind key adds.table lacks fits).kept;
       slots = length-set old (slot kind key) (Some adds.table);
       more = omega (arith, count_more old (slot kind key) adds.table fits lacks);

@@ -1,5 +1,5 @@
 -- What both probes miss.
-use Rattle.std.proofs.Common.{◌≡◌, ◌≢◌, ◌⊎◌, ℕ, ℤ, Bool, true, false, Result, Ok, Err, refl, sym, ap, ◌∙◌, inl, inr}
+use Rattle.std.proofs.Common.{◌≡◌, ◌≢◌, ℕ, Bool, false, Result, Ok, Err, refl, sym, ap, ◌∙◌, inl, inr}
 use Rattle.board_core.specs.declared.parts.Parts.{Parts}
 use Rattle.table_file.specs.declared.kind.TableKind.{TableKind}
 use Rattle.judge_core.specs.declared.wdl.Wdl.{Wdl as Value}

@@ -1,11 +1,10 @@
 -- Positions that stay settled while more tables are opened.
-use Rattle.std.proofs.Common.{◌≡◌, ◌⊎◌, ◌<◌, ℕ, false, Option, Some, None, Result, Ok, Err, refl, sym, ap, ◌∙◌, inl, inr}
+use Rattle.std.proofs.Common.{◌≡◌, ◌⊎◌, ◌<◌, ℕ, false, Option, Some, None, Result, Ok, Err, refl, sym, ◌∙◌, inl, inr}
 use Rattle.std.specs.Prelude.{IfSome}
 use Rattle.board_core.specs.declared.parts.Parts.{Parts}
 use Rattle.system_io.specs.Disks.{DiskFacts}
 use Rattle.table_file.specs.declared.kind.TableKind.{TableKind}
 use Rattle.table_file.specs.declared.kind.TableKind.TheVariants.{Wdl}
-use Rattle.table_file.specs.Tables.{Contents}
 use Rattle.judge_core.specs.declared.fault.ValueFault.{ValueFault}
 use Rattle.judge_core.specs.declared.fault.ValueFault.TheVariants.{NotCovered, Damaged}
 use Rattle.judge_core.specs.Asked.{not_covered}
@@ -48,17 +47,17 @@ none_more disk folder old new kind key known are lacks none =
 pub final_value : WhatIsMissingStaysMissing → (disk : DiskFacts) (folder : Folder) (old new : Tables) (p : Parts) → is_out_of_scope p ≡ false → AreOf disk folder new → IsSettled folder old p → IsFinalValue old new (not_covered (wdl_of old p))
 final_value missing disk folder old new p in_scope are settled =
     if_missed (wdl_of old p) (λ key e.
-      let lacks = (missing old p key).0 e in
-      none_more disk folder old new Wdl key lacks.known are lacks.lacks (settled Wdl key (in_scope, lacks.lacks, inl (refl, e))))
+    let lacks = (missing old p key).0 e in
+    none_more disk folder old new Wdl key lacks.known are lacks.lacks (settled Wdl key (in_scope, lacks.lacks, inl (refl, e))))
 
 pub final_distance : WhatIsMissingStaysMissing → (disk : DiskFacts) (folder : Folder) (old new : Tables) (p : Parts) → is_out_of_scope p ≡ false → HasAll old new → AreOf disk folder new → IsSettled folder old p → IsFinalDistance old new (not_covered (dtz_of old p))
 final_distance missing disk folder old new p in_scope more are settled =
     if_missed (dtz_of old p) (λ key e kind.
-      let known = ((missing old p key).1 e).1.known in
-      elim (there_or_not (table_at old kind key)) [
-        | inl lacks ↦ none_more disk folder old new kind key known are lacks (settled kind key (in_scope, lacks, inr e))
-        | inr (t, has) ↦ more kind key t has ∙ sym has
-      ])
+    let known = ((missing old p key).1 e).1.known in
+    elim (there_or_not (table_at old kind key)) [
+      | inl lacks ↦ none_more disk folder old new kind key known are lacks (settled kind key (in_scope, lacks, inr e))
+      | inr (t, has) ↦ more kind key t has ∙ sym has
+    ])
 
 -- ---- a settled position stays settled
 

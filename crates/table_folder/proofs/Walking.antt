@@ -1,7 +1,6 @@
 -- The positions of a game, and those after moves, one after another.
-use Rattle.std.proofs.Common.{◌≡◌, ◌⊎◌, ◌<◌, ◌+◌, ℕ, List, [], ◌∷◌, length, take, drop, get_or, ◌++◌, Option, Some, None, refl, sym, ap, ◌∙◌, subst, inl, inr}
+use Rattle.std.proofs.Common.{◌≡◌, ◌⊎◌, List, [], ◌∷◌, ◌++◌, Some, None, refl, sym, ap, ◌∙◌, subst, inl, inr}
 use Rattle.std.specs.List.{Contains}
-use Rattle.std.proofs.lemmas.List.{take_more}
 use Rattle.std.proofs.lemmas.List.Elements.{Contains-push_cases}
 use Rattle.board_core.specs.declared.parts.Parts.{Parts}
 use Rattle.board_core.specs.declared.moves.Move.{Move}
@@ -41,7 +40,7 @@ pub goes_on : MoreTablesAnswerTheSame → WhatIsMissingStaysMissing → (new : T
 goes_on same missing new {folder = folder} {position = position} m rest next is way more are settled plays = record {
   opened = are;
   kept = λ kind key t has. more kind key t (way.kept kind key t has);
-  settled = λ p ply. elim (both_ways same missing new way more are p ply) [ | inl before ↦ inl before | inr left ↦ of_left p (subst (λ ms. IsPly position ms p) is left) ];
+  settled = λ p ply. elim (both_ways same missing new way more are p ply) [ inl before ↦ inl before | inr left ↦ of_left p (subst (λ ms. IsPly position ms p) is left) ];
   plies = λ p ply. way.plies p (subst (λ ms. IsPly position ms p) (sym is) (inr (next, plays, ply)));
 }
   where
@@ -52,7 +51,7 @@ goes_on same missing new {folder = folder} {position = position} m rest next is 
 -- the move isn't legal, so no ply is left
 pub stops : MoreTablesAnswerTheSame → WhatIsMissingStaysMissing → (new : Tables) {disk : DiskFacts} {folder : Folder} {old tables : Tables} {start position : Parts} {moves left : List Move} (m : Move) (rest : List Move) → left ≡ m ∷ rest → IsOnWay disk folder old tables start moves position left → HasAll tables new → AreOf disk folder new → IsSettled folder new position → position_after position m ≡ None → AreSettled folder new (IsPly start moves)
 stops same missing new {folder = folder} {position = position} m rest is way more are settled illegal p ply =
-    elim (both_ways same missing new way more are p ply) [ | inl before ↦ before | inr left ↦ of_left p (subst (λ ms. IsPly position ms p) is left) ]
+    elim (both_ways same missing new way more are p ply) [ inl before ↦ before | inr left ↦ of_left p (subst (λ ms. IsPly position ms p) is left) ]
   where
     of_left : (p : Parts) → IsPly position (m ∷ rest) p → IsSettled folder new p
     of_left p (inl here) = subst (IsSettled folder new) (sym here) settled
@@ -61,7 +60,7 @@ stops same missing new {folder = folder} {position = position} m rest is way mor
 -- no move is left
 pub ends : MoreTablesAnswerTheSame → WhatIsMissingStaysMissing → (new : Tables) {disk : DiskFacts} {folder : Folder} {old tables : Tables} {start position : Parts} {moves left : List Move} → left ≡ [] → IsOnWay disk folder old tables start moves position left → HasAll tables new → AreOf disk folder new → IsSettled folder new position → AreSettled folder new (IsPly start moves)
 ends same missing new {folder = folder} {position = position} is way more are settled p ply =
-    elim (both_ways same missing new way more are p ply) [ | inl before ↦ before | inr left ↦ subst (IsSettled folder new) (sym (subst (λ ms. IsPly position ms p) is left)) settled ]
+    elim (both_ways same missing new way more are p ply) [ inl before ↦ before | inr left ↦ subst (IsSettled folder new) (sym (subst (λ ms. IsPly position ms p) is left)) settled ]
 
 pub is_refused : {disk : DiskFacts} {folder : Folder} {old tables : Tables} {start position : Parts} {moves left : List Move} (refusal : FileRefusal) → IsOnWay disk folder old tables start moves position left → IsRefusedAt disk folder position refusal → IsRefusedFor disk folder (IsPly start moves) refusal
 is_refused {position = position} {left = left} refusal way refused = record { position = position; needed = way.plies position (ply_here position left); refused = refused }

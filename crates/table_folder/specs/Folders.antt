@@ -3,7 +3,6 @@ use Rattle.std.specs.Prelude.{◌≡◌, ◌<◌, ℕ, List, Option, Some, None,
 use Rattle.std.specs.List.{Contains}
 use Rattle.std.specs.Str.{bytes_eq}
 use Rattle.sha2.specs.Sha256.{sha256}
-use Rattle.move_msg.specs.Manifests.{Entry}
 use Rattle.move_msg.specs.ToldManifests.{ToldManifest}
 use Rattle.system_io.specs.Disks.{AtFile, DiskFacts}
 use Rattle.table_file.specs.declared.fault.TableFault.{TableFault}

@@ -1,5 +1,5 @@
 -- Intermediate results of functions. Private clauses alone cite them.
-use Rattle.std.specs.Prelude.{◌≡◌, ◌<◌, ◌≤◌, ◌+◌, ◌⊎◌, ℕ, List, length, count_by, is_some, slice_set, Option, Some, None, Ok, Err}
+use Rattle.std.specs.Prelude.{◌≡◌, ◌≤◌, ◌+◌, ◌⊎◌, ℕ, length, slice_set, Some, None, Ok, Err}
 use Rattle.board_core.specs.declared.parts.Parts.{Parts}
 use Rattle.system_io.specs.Disks.{DiskFacts}
 use Rattle.table_file.specs.declared.kind.TableKind.{TableKind}

@@ -1,0 +1,31 @@
+use Rattle.std.proofs.Common.{◌≡◌, ◌∷◌, ◌++◌, [], take, ap, sym, ◌∙◌, subst}
+use Rattle.std.proofs.lemmas.List.{take_more}
+use Rattle.table_folder.specs.Settled.{IsSettled}
+use Rattle.table_folder.proofs.Walking.{HasDone, one_more_done}
+use Rattle.table_folder.proofs.folder.TableFolder.settle_moves.Goals as goal
+
+pub loop-m-preserved-in_default-play : goal.loop-m-preserved-in_default-play
+loop-m-preserved-in_default-play g c =
+    let m = c.m-item.result in
+    let done = take_more c.deref-m-items.result.now c.loop-m.m-index m c.loop-m-test.true ∙ ap (λ x. take c.loop-m.m-index c.deref-m-items.result.now ++ x ∷ []) (sym c.m-item.is) in
+    let none = sym c.play.ensures.computed ∙ c.in_default-play.is in
+    let has = c.loop-m.invariant.0 in (
+      subst (HasDone _ _ _ _ _) (sym done) (one_more_done c.more_tables_answer_the_same.ensures c.what_is_missing_stays_missing.ensures _ m has (λ kind key t there. there) has.opened (λ p plays. let e = sym none ∙ plays in absurd cc)),
+      c.loop-m.invariant.1,
+    )
+
+pub returns-in_err-refusal-2-clause-kept : goal.returns-in_err-refusal-2-clause-kept
+returns-in_err-refusal-2-clause-kept g c = λ kind key t there. c.settle_one-in-loop-m.ensures.kept kind key t (c.loop-m.invariant.0.kept kind key t there)
+
+pub returns-in-Err-2-clause-kept : goal.returns-in-Err-2-clause-kept
+returns-in-Err-2-clause-kept g c = λ kind key t there. c.settle_one-in-loop-m.ensures.kept kind key t (c.loop-m.invariant.0.kept kind key t there)
+
+pub loop-m-preserved : goal.loop-m-preserved
+loop-m-preserved g c =
+    let m = c.m-item.result in
+    let done = take_more c.deref-m-items.result.now c.loop-m.m-index m c.loop-m-test.true ∙ ap (λ x. take c.loop-m.m-index c.deref-m-items.result.now ++ x ∷ []) (sym c.m-item.is) in
+    let plays = sym c.play.ensures.computed ∙ c.in-Some.is in
+    let settled = rw c.in_default-2.is at c.in_ok-refusal-2.ensures.settled in (
+      subst (HasDone _ _ _ _ _) (sym done) (one_more_done c.more_tables_answer_the_same.ensures c.what_is_missing_stays_missing.ensures _ m c.loop-m.invariant.0 c.settle_one-in-loop-m.ensures.kept c.settle_one-in-loop-m.ensures.opened (λ p other. let same = sym plays ∙ other in let one : c.in-Some.next ≡ p = cc in subst (IsSettled c.args.self.now.folder c.settle_one-in-loop-m.new.set.tables) one settled)),
+      c.settle_one-in-loop-m.ensures.cache ∙ c.loop-m.invariant.1,
+    )
