@@ -184,6 +184,10 @@ typedef struct {
     uint8_t passed;    /* the square that a pawn passed by a double step just now, 0 to 63; 64 and above: none */
 } hofsjurd_board;
 
+/* Writes the board of the position that a FEN text spells, each man in the set of his side and of his kind alone. Any other status than
+ * HOFSJURD_OK, the first fault of the text, writes nothing. No tables are needed. */
+uint32_t hofsjurd_read_fen(const char *fen, size_t length, hofsjurd_board *board);
+
 /* The same of a board. */
 hofsjurd_reply hofsjurd_board_wdl(hofsjurd *handle, const hofsjurd_board *board);
 hofsjurd_reply hofsjurd_board_dtz(hofsjurd *handle, const hofsjurd_board *board);
@@ -325,6 +329,10 @@ size_t hofsjurd_verdict_name(uint32_t verdict, char *room, size_t length);
 /* the name of the first table that the WDL probe of a board needs and the set lacks ("KQvK"), where that tells
  * HOFSJURD_NOT_COVERED; empty otherwise, and nothing written where the handle is closed */
 size_t hofsjurd_board_missing(hofsjurd *handle, const hofsjurd_board *board, char *room, size_t length);
+
+/* the name of the first material of which the DTZ probe of a board needs a table that the set lacks, its WDL table or its DTZ table,
+ * where that tells HOFSJURD_NOT_COVERED; empty otherwise, and where memory is refused, and nothing written where the handle is closed */
+size_t hofsjurd_board_dtz_missing(hofsjurd *handle, const hofsjurd_board *board, char *room, size_t length);
 
 /* the FEN text of the position that a game has reached; empty, and nothing written, where there is no game */
 size_t hofsjurd_game_fen(hofsjurd_game *game, char *room, size_t length);
