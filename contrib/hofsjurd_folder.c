@@ -633,10 +633,11 @@ static uint32_t open_in_reach(hofsjurd_prober *prober, const hofsjurd_board *boa
     return status;
 }
 
-/* Whether an answer of the tables leaves it to what is missing: another table that is there may then count. */
+/* Whether a table is missing or refused: another one that is there may then count. (Of a missing and a damaged table the missing one is
+ * told; so where it is the damaged one, none is missed, and what is missing determines nothing.) */
 static bool is_left_open(uint32_t status)
 {
-    return status == HOFSJURD_NOT_COVERED || status == HOFSJURD_DAMAGED || status >= HOFSJURD_FILE_BAD_NAME;
+    return status == HOFSJURD_NOT_COVERED || status >= HOFSJURD_FILE_BAD_NAME;
 }
 
 /* What the tables answer, and otherwise what all in reach determine. */
