@@ -184,14 +184,14 @@ typedef struct {
     uint8_t passed;    /* the square that a pawn passed by a double step just now, 0 to 63; 64 and above: none */
 } hofsjurd_board;
 
-/* Writes the board of the position that a FEN text spells, each man in the set of his side and of his kind alone. Any other status than
- * HOFSJURD_OK, the first fault of the text, writes nothing. No tables are needed. */
-uint32_t hofsjurd_read_fen(const char *fen, size_t length, hofsjurd_board *board);
-
 /* The same of a board. */
 hofsjurd_reply hofsjurd_board_wdl(hofsjurd *handle, const hofsjurd_board *board);
 hofsjurd_reply hofsjurd_board_dtz(hofsjurd *handle, const hofsjurd_board *board);
 hofsjurd_reply hofsjurd_board_judge(hofsjurd *handle, const hofsjurd_board *board);
+
+/* Writes the board of the position that a FEN text spells, each man in the set of his side and of his kind alone. Any other status than
+ * HOFSJURD_OK, the first fault of the text, writes nothing. No tables are needed. */
+uint32_t hofsjurd_read_fen(const char *fen, size_t length, hofsjurd_board *board);
 
 /* The same of many boards, each reply in its board's place. `room` is the number of replies, and is to be that of the
  * boards: otherwise the status is HOFSJURD_LENGTHS_DIFFER. With any status but HOFSJURD_OK no reply is written. */
