@@ -142,15 +142,17 @@ enum { KINDS = 5 /* of men but kings */, MOST_FILES = 290, MOST_FOLDERS = 290 };
 /* no file is listed under the name, or the prober has the table already */
 enum { NOTHING_TO_OPEN = HOFSJURD_FOLDER_ABSENT };
 
-typedef struct {
+typedef struct listed_file {
     char name[12];
     uint8_t men[2][KINDS]; /* of each side of the name */
+    bool is_open;          /* the table of this name: by this file, or by one that stands in for it */
     const char *path;
     struct stat listed;
     void *bytes; /* where it is mapped; NULL for none */
     size_t length;
-    uint32_t fault;    /* of a file that is no table */
-    uint32_t reported; /* the last status that was */
+    uint32_t fault;             /* of a file that is no table */
+    uint32_t reported;          /* the last status that was */
+    struct listed_file *second; /* the file of this name in the next folder that has one, which counts where this one is refused */
 } listed_file;
 
 struct hofsjurd_listing {
@@ -158,7 +160,7 @@ struct hofsjurd_listing {
     hofsjurd opened;      /* with all tables that are open */
     unsigned long opened_count;
     size_t count, folder_count;
-    listed_file files[MOST_FILES]; /* by name */
+    listed_file files[MOST_FILES]; /* the first of each name, by name */
     char *folders[MOST_FOLDERS];
     hofsjurd_folder_teller *report;
     void *with;
@@ -220,10 +222,9 @@ static bool is_table_name(hofsjurd *set, const char *name)
     return n < sizeof ((listed_file *)0)->name && *name == 'K' && hofsjurd_add(set, name, n, "", 0) != HOFSJURD_FILE_BAD_NAME;
 }
 
-/* Lists a file, where it is a regular one. Otherwise errno tells why. */
-static uint32_t list_file(hofsjurd_listing *listing, int folder, const char *path, const char *name)
+/* Notes a file, where it is a regular one. Otherwise errno tells why. */
+static uint32_t note_file(listed_file *file, int folder, const char *path, const char *name)
 {
-    listed_file *file = &listing->files[listing->count];
     memset(file, 0, sizeof *file);
     if (fstatat(folder, name, &file->listed, 0)) return HOFSJURD_FOLDER_UNREADABLE;
     errno = S_ISREG(file->listed.st_mode) ? 0 : S_ISDIR(file->listed.st_mode) ? EISDIR : EINVAL;
@@ -231,8 +232,28 @@ static uint32_t list_file(hofsjurd_listing *listing, int folder, const char *pat
     strcpy(file->name, name);
     count_men(name, file->men);
     file->path = path;
-    listing->count++;
     return HOFSJURD_OK;
+}
+
+/* Lists a file: in its place among the first `before`, behind the one of its name, or after all. */
+static uint32_t list_file(hofsjurd_listing *listing, size_t before, int folder, const char *path, const char *name)
+{
+    size_t place = place_of(listing, before, name);
+    listed_file *file = &listing->files[listing->count], **last = &file;
+    if (place < before) {
+        for (last = &listing->files[place].second; *last;) last = &(*last)->second;
+        file = (listed_file *)malloc(sizeof *file);
+        if (!file) return HOFSJURD_OUT_OF_MEMORY;
+    }
+    uint32_t status = note_file(file, folder, path, name);
+    if (!status && place < before) *last = file;
+    else if (!status) listing->count++;
+    else if (place < before) {
+        int error = errno;
+        free(file);
+        errno = error;
+    }
+    return status;
 }
 
 static uint32_t list_all(hofsjurd_listing *listing, DIR *all, const char *path, hofsjurd_folder_teller *tell, void *with)
@@ -242,8 +263,8 @@ static uint32_t list_all(hofsjurd_listing *listing, DIR *all, const char *path, 
         errno = 0;
         struct dirent *it = readdir(all);
         if (!it && !errno) return HOFSJURD_OK;
-        if (it && (!is_table_name(&listing->opened, it->d_name) || place_of(listing, before, it->d_name) < before)) continue;
-        uint32_t status = it ? list_file(listing, dirfd(all), path, it->d_name) : (uint32_t)HOFSJURD_FOLDER_UNREADABLE;
+        if (it && !is_table_name(&listing->opened, it->d_name)) continue;
+        uint32_t status = it ? list_file(listing, before, dirfd(all), path, it->d_name) : (uint32_t)HOFSJURD_FOLDER_UNREADABLE;
         if (status && !goes_on(tell, with, path, it ? it->d_name : NULL, status)) return status;
         if (!it) return HOFSJURD_OK;
     }
@@ -318,12 +339,21 @@ size_t hofsjurd_listing_open_count(hofsjurd_listing *listing)
     return count;
 }
 
+/* Unmaps a file and those behind it. */
+static void free_files(listed_file *first)
+{
+    for (listed_file *file = first, *next; file; file = next) {
+        next = file->second;
+        if (file->bytes) munmap(file->bytes, file->length);
+        if (file != first) free(file);
+    }
+}
+
 void hofsjurd_listing_free(hofsjurd_listing *listing)
 {
     if (!listing) return;
     hofsjurd_close(&listing->opened);
-    for (size_t i = 0; i < listing->count; i++)
-        if (listing->files[i].bytes) munmap(listing->files[i].bytes, listing->files[i].length);
+    for (size_t i = 0; i < listing->count; i++) free_files(&listing->files[i]);
     for (size_t i = 0; i < listing->folder_count; i++) free(listing->folders[i]);
     pthread_mutex_destroy(&listing->lock);
     free(listing);
@@ -401,14 +431,42 @@ static uint32_t open_file(hofsjurd_listing *listing, listed_file *file)
     return HOFSJURD_OK;
 }
 
+static void report(hofsjurd_listing *listing, listed_file *file, uint32_t status)
+{
+    int error = errno;
+    if (listing->report && file->reported != status)
+        listing->report(listing->with, file->path, file->name, status, status == HOFSJURD_FOLDER_UNREADABLE ? error : 0);
+    file->reported = status;
+    errno = error;
+}
+
+/* Opens the first file of a name that isn't refused. Otherwise the status, and errno, are those of the first one. */
+static uint32_t open_first(hofsjurd_listing *listing, listed_file *first)
+{
+    uint32_t status = HOFSJURD_OK;
+    int error = 0;
+    for (listed_file *file = first; file && !first->is_open; file = file->second) {
+        uint32_t refused = open_file(listing, file);
+        first->is_open = !refused;
+        if (refused) report(listing, file, refused);
+        if (file == first) error = errno;
+        if (file == first) status = refused;
+    }
+    errno = error;
+    return first->is_open ? (uint32_t)HOFSJURD_OK : status;
+}
+
 uint32_t hofsjurd_listing_open_all(hofsjurd_listing *listing, hofsjurd_folder_teller *tell, void *with)
 {
     uint32_t status = HOFSJURD_OK;
     pthread_mutex_lock(&listing->lock);
     for (size_t i = 0; i < listing->count && !status; i++) {
-        listed_file *file = &listing->files[i];
-        status = open_file(listing, file);
-        if (status && goes_on(tell, with, file->path, file->name, status)) status = HOFSJURD_OK;
+        listed_file *first = &listing->files[i];
+        for (listed_file *file = first; file && !first->is_open && !status; file = file->second) {
+            status = open_file(listing, file);
+            first->is_open = !status;
+            if (status && goes_on(tell, with, file->path, file->name, status)) status = HOFSJURD_OK;
+        }
     }
     int error = errno;
     pthread_mutex_unlock(&listing->lock);
@@ -450,18 +508,14 @@ hofsjurd *hofsjurd_prober_set(hofsjurd_prober *prober)
     return &prober->set;
 }
 
-/* Notes the file that is refused, and reports it, under the lock. */
-static uint32_t refuse(hofsjurd_prober *prober, listed_file *file, uint32_t status)
+/* Notes the file that is refused, under the lock. */
+static void refuse(hofsjurd_prober *prober, const listed_file *file, uint32_t status)
 {
     hofsjurd_refusal *refusal = &prober->refusal;
-    hofsjurd_listing *listing = prober->listing;
     refusal->status = status;
     refusal->error = status == HOFSJURD_FOLDER_UNREADABLE ? errno : 0;
     refusal->path = file->path;
     strcpy(refusal->name, file->name);
-    if (listing->report && file->reported != status) listing->report(listing->with, file->path, file->name, status, refusal->error);
-    file->reported = status;
-    return status;
 }
 
 /* Has the prober see all tables that are open, under the lock. Where memory is refused it keeps those that it has. */
@@ -486,7 +540,7 @@ static uint32_t open_table(hofsjurd_prober *prober, const char *material, char k
     size_t place = listing ? place_of(listing, listing->count, name) : 0;
     if (!listing || place == listing->count) return NOTHING_TO_OPEN;
     pthread_mutex_lock(&listing->lock);
-    uint32_t status = open_file(listing, &listing->files[place]);
+    uint32_t status = open_first(listing, &listing->files[place]);
     if (!status) status = see_all(prober);
     if (status && status != NOTHING_TO_OPEN) refuse(prober, &listing->files[place], status);
     pthread_mutex_unlock(&listing->lock);
@@ -624,8 +678,8 @@ static uint32_t open_in_reach(hofsjurd_prober *prober, const hofsjurd_board *boa
     pthread_mutex_lock(&listing->lock);
     for (size_t i = 0; i < listing->count; i++) {
         listed_file *file = &listing->files[i];
-        if (file->bytes || !is_in_reach((const uint8_t(*)[KINDS])men, file)) continue;
-        uint32_t status = open_file(listing, file);
+        if (file->is_open || !is_in_reach((const uint8_t(*)[KINDS])men, file)) continue;
+        uint32_t status = open_first(listing, file);
         if (status) refuse(prober, file, status);
     }
     uint32_t status = see_all(prober);

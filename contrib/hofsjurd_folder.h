@@ -61,8 +61,8 @@ void hofsjurd_folder_unmap(hofsjurd_folder *folder);
 typedef struct hofsjurd_listing hofsjurd_listing;
 
 /* Lists the files of a folder by their names; of each its size and its times are noted. `*listing` is NULL at first. Further folders may
- * follow, before a prober asks or while none does: of one name the first file that is listed counts. What is no regular file, or isn't
- * there, is told to `tell`, as by hofsjurd_folder_map_telling, and isn't listed. With any status but HOFSJURD_OK what was listed before
+ * follow, before a prober asks or while none does: of one name the first file that isn't refused counts. What is no regular file, or
+ * isn't there, is told to `tell`, as by hofsjurd_folder_map_telling, and isn't listed. With any status but HOFSJURD_OK what was listed before
  * stays listed. */
 uint32_t hofsjurd_listing_add(hofsjurd_listing **listing, const char *path, hofsjurd_folder_teller *tell, void *with);
 
@@ -74,7 +74,7 @@ void hofsjurd_listing_report(hofsjurd_listing *listing, hofsjurd_folder_teller *
 unsigned hofsjurd_listing_largest(const hofsjurd_listing *listing);
 bool hofsjurd_listing_has(const hofsjurd_listing *listing, const char *name);
 
-/* How many files are listed, and how many of them are open. */
+/* How many tables are listed, and how many of them are open. */
 size_t hofsjurd_listing_count(const hofsjurd_listing *listing);
 size_t hofsjurd_listing_open_count(hofsjurd_listing *listing);
 
@@ -97,7 +97,7 @@ void hofsjurd_prober_close(hofsjurd_prober *prober);
  * A table that is needed may be refused: its file can't be opened or mapped (HOFSJURD_FOLDER_UNREADABLE), isn't the one that was listed
  * any more (HOFSJURD_FOLDER_CHANGED), is no good table (HOFSJURD_FILE_BAD_SIZE and the like), or memory is (HOFSJURD_OUT_OF_MEMORY).
  * That is the status then where the call would tell HOFSJURD_NOT_COVERED: of the answer, or of the root move. hofsjurd_prober_refusal
- * names the file. The next call tries again; but a file that is no table is not read twice. */
+ * names the file, the first one of its name. The next call tries again; but a file that is no table is not read twice. */
 hofsjurd_reply hofsjurd_prober_wdl(hofsjurd_prober *prober, const hofsjurd_board *board);
 hofsjurd_reply hofsjurd_prober_dtz(hofsjurd_prober *prober, const hofsjurd_board *board);
 hofsjurd_reply hofsjurd_prober_judge(hofsjurd_prober *prober, const hofsjurd_board *board);
