@@ -366,10 +366,11 @@ static bool is_same_time(const struct timespec *one, const struct timespec *othe
     return one->tv_sec == other->tv_sec && one->tv_nsec == other->tv_nsec;
 }
 
+/* By size and times: each way to write, rename or link a file sets the second time. Numbers of files and devices may change by themselves,
+ * where a folder is mounted anew or lies on another machine. */
 static bool is_same_file(const struct stat *one, const struct stat *other)
 {
-    return one->st_dev == other->st_dev && one->st_ino == other->st_ino && one->st_size == other->st_size
-        && is_same_time(&one->st_mtim, &other->st_mtim) && is_same_time(&one->st_ctim, &other->st_ctim);
+    return one->st_size == other->st_size && is_same_time(&one->st_mtim, &other->st_mtim) && is_same_time(&one->st_ctim, &other->st_ctim);
 }
 
 /* Maps a file that is the one that was listed. The library reads its front, and probes read a few places behind it: the front is

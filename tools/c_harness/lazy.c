@@ -208,6 +208,7 @@ static int files(const char *path)
     copy(path, "KRvK.rtbw", "KRvK.rtbw", 64);
     copy(path, "KBvK.rtbw", "KBvK.rtbw", 0);
     copy(path, "KNvK.rtbw", "KNvK.rtbw", 0);
+    usleep(50000); /* times of files go by a clock that ticks some hundred times a second */
     expect(!hofsjurd_listing_add(&listing, scratch, NULL, NULL) && hofsjurd_listing_count(listing) == 4, "a file isn't listed");
     hofsjurd_listing_report(listing, count_report, &reports);
     expect(hofsjurd_listing_largest(listing) == 3 && hofsjurd_listing_has(listing, "KBvK.rtbw") && !hofsjurd_listing_has(listing, "KBvK.rtbz"), "a name");
