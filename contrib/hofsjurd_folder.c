@@ -137,7 +137,7 @@ void hofsjurd_folder_unmap(hofsjurd_folder *folder)
 
 /* ---------------------------------------------------------------------------- tables that are opened when a position asks for them */
 
-enum { KINDS = 5 /* of men but kings */, MOST_FILES = 290, MOST_FOLDERS = 290 };
+enum { KINDS = 5 /* of men but kings */, MOST_FILES = 290, MOST_FOLDERS = 290, REMEMBERED = 512 };
 
 /* no file is listed under the name, or the prober has the table already */
 enum { NOTHING_TO_OPEN = HOFSJURD_FOLDER_ABSENT };
@@ -159,7 +159,7 @@ struct hofsjurd_listing {
     pthread_mutex_t lock; /* for all but names, men, paths and times */
     hofsjurd opened;      /* with all tables that are open */
     unsigned long opened_count;
-    size_t count, folder_count;
+    size_t count, folder_count; /* a folder more may have files for materials that had all */
     listed_file files[MOST_FILES]; /* the first of each name, by name */
     char *folders[MOST_FOLDERS];
     hofsjurd_folder_teller *report;
@@ -172,6 +172,8 @@ struct hofsjurd_prober {
     size_t cache;
     unsigned long seen; /* how many tables were open when the set was shared */
     hofsjurd_refusal refusal;
+    uint64_t whole[REMEMBERED]; /* some materials of which the set has all listed tables in reach, by their numbers; 0 for none */
+    size_t whole_of;            /* of so many folders; 0 where none is remembered */
 };
 
 /* The men of each side of a name, as KQvK. */
@@ -559,6 +561,70 @@ static hofsjurd_reply reply_of(uint32_t status)
     return reply;
 }
 
+/* There are few men. */
+static uint8_t count_of(uint64_t men)
+{
+    uint8_t count = 0;
+    for (; men; men &= men - 1) count++;
+    return count;
+}
+
+/* The men of each side of a board, each of the first kind whose set has his square, as the library counts them. */
+static void count_men_of_board(const hofsjurd_board *board, uint8_t men[2][KINDS])
+{
+    const uint64_t sets[] = {board->pawns, board->rooks, board->queens, board->bishops, board->knights};
+    static const int kinds[] = {4, 1, 0, 2, 3};
+    uint64_t counted = board->kings;
+    for (int i = 0; i < KINDS; i++) {
+        men[0][kinds[i]] = count_of(sets[i] & board->white & ~counted);
+        men[1][kinds[i]] = count_of(sets[i] & board->black & ~board->white & ~counted);
+        counted |= sets[i];
+    }
+}
+
+/* Whether a side can come to have just these men, by losses and promotions. */
+static bool comes_to(const uint8_t has[KINDS], const uint8_t sought[KINDS])
+{
+    int pawns = sought[KINDS - 1];
+    for (int kind = 0; kind < KINDS - 1; kind++) pawns += sought[kind] > has[kind] ? sought[kind] - has[kind] : 0;
+    return pawns <= has[KINDS - 1];
+}
+
+static bool is_in_reach(const uint8_t men[2][KINDS], const listed_file *file)
+{
+    return (comes_to(men[0], file->men[0]) && comes_to(men[1], file->men[1])) || (comes_to(men[0], file->men[1]) && comes_to(men[1], file->men[0]));
+}
+
+static uint64_t number_of(const uint8_t men[2][KINDS])
+{
+    uint64_t number = 1;
+    for (int kind = 0; kind < KINDS; kind++) number = number << 10 | (uint64_t)men[0][kind] << 5 | men[1][kind];
+    return number;
+}
+
+static uint64_t *place_in_whole(hofsjurd_prober *prober, uint64_t number)
+{
+    return &prober->whole[number * 0x9e3779b97f4a7c15ULL >> 55];
+}
+
+/* Whether it is remembered that the set has all listed tables that a board can come to: then no answer opens another one. */
+static bool has_whole(hofsjurd_prober *prober, const hofsjurd_board *board)
+{
+    uint8_t men[2][KINDS];
+    if (!prober->whole_of || prober->whole_of != prober->listing->folder_count) return false;
+    count_men_of_board(board, men);
+    uint64_t number = number_of((const uint8_t(*)[KINDS])men);
+    return *place_in_whole(prober, number) == number;
+}
+
+static void remember_whole(hofsjurd_prober *prober, const uint8_t men[2][KINDS])
+{
+    uint64_t number = number_of(men);
+    if (prober->whole_of != prober->listing->folder_count) memset(prober->whole, 0, sizeof prober->whole);
+    prober->whole_of = prober->listing->folder_count;
+    *place_in_whole(prober, number) = number;
+}
+
 /* Opens the table that the WDL probe of a board misses. No name: memory was refused. */
 static uint32_t open_missed(hofsjurd_prober *prober, const hofsjurd_board *board)
 {
@@ -584,7 +650,7 @@ static hofsjurd_reply ask(hofsjurd_prober *prober, board_call *call, uint32_t op
 {
     for (;;) {
         hofsjurd_reply reply = call(&prober->set, board);
-        if (reply.status != HOFSJURD_NOT_COVERED) return reply;
+        if (reply.status != HOFSJURD_NOT_COVERED || has_whole(prober, board)) return reply;
         uint32_t status = open_next(prober, board);
         if (status == NOTHING_TO_OPEN) return reply;
         if (status) return reply_of(status);
@@ -631,6 +697,7 @@ static hofsjurd_reply ask_root(hofsjurd_prober *prober, root_call *call, const h
     for (;;) {
         unsigned long seen = prober->seen;
         hofsjurd_reply reply = call(&prober->set, board, moves, room);
+        if (has_whole(prober, board)) return reply;
         for (int i = 0; !reply.status && i < reply.value; i++) open_for_move(prober, board, &moves[i]);
         if (prober->seen == seen) return reply;
     }
@@ -643,37 +710,12 @@ hofsjurd_reply hofsjurd_prober_root(hofsjurd_prober *prober, const hofsjurd_boar
 
 /* ---- asking whatever the missing tables hold */
 
-/* The men of each side of a board, each of the first kind whose set has his square, as the library counts them. */
-static void count_men_of_board(const hofsjurd_board *board, uint8_t men[2][KINDS])
-{
-    const uint64_t sets[] = {board->pawns, board->rooks, board->queens, board->bishops, board->knights};
-    static const int kinds[] = {4, 1, 0, 2, 3};
-    uint64_t counted = board->kings;
-    for (int i = 0; i < KINDS; i++) {
-        men[0][kinds[i]] = (uint8_t)__builtin_popcountll(sets[i] & board->white & ~counted);
-        men[1][kinds[i]] = (uint8_t)__builtin_popcountll(sets[i] & board->black & ~board->white & ~counted);
-        counted |= sets[i];
-    }
-}
-
-/* Whether a side can come to have just these men, by losses and promotions. */
-static bool comes_to(const uint8_t has[KINDS], const uint8_t sought[KINDS])
-{
-    int pawns = sought[KINDS - 1];
-    for (int kind = 0; kind < KINDS - 1; kind++) pawns += sought[kind] > has[kind] ? sought[kind] - has[kind] : 0;
-    return pawns <= has[KINDS - 1];
-}
-
-static bool is_in_reach(const uint8_t men[2][KINDS], const listed_file *file)
-{
-    return (comes_to(men[0], file->men[0]) && comes_to(men[1], file->men[1])) || (comes_to(men[0], file->men[1]) && comes_to(men[1], file->men[0]));
-}
-
 /* Opens all tables of the materials that a game can reach from the board. Those that are refused are as missing ones. */
 static uint32_t open_in_reach(hofsjurd_prober *prober, const hofsjurd_board *board)
 {
     hofsjurd_listing *listing = prober->listing;
     uint8_t men[2][KINDS];
+    bool is_whole = true;
     if (!listing) return NOTHING_TO_OPEN;
     count_men_of_board(board, men);
     pthread_mutex_lock(&listing->lock);
@@ -681,10 +723,13 @@ static uint32_t open_in_reach(hofsjurd_prober *prober, const hofsjurd_board *boa
         listed_file *file = &listing->files[i];
         if (file->is_open || !is_in_reach((const uint8_t(*)[KINDS])men, file)) continue;
         uint32_t status = open_first(listing, file);
-        if (status) refuse(prober, file, status);
+        if (!status) continue;
+        refuse(prober, file, status);
+        is_whole = false;
     }
     uint32_t status = see_all(prober);
     pthread_mutex_unlock(&listing->lock);
+    if (is_whole && (!status || status == NOTHING_TO_OPEN)) remember_whole(prober, (const uint8_t(*)[KINDS])men);
     return status;
 }
 
@@ -696,8 +741,11 @@ static bool is_left_open(uint32_t status)
 }
 
 /* What the tables answer, and otherwise what all in reach determine. */
-static hofsjurd_reply or_determined(hofsjurd_prober *prober, hofsjurd_reply strict, board_call *call, const hofsjurd_board *board)
+static hofsjurd_reply ask_determined(hofsjurd_prober *prober, board_call *strict_call, board_call *call,
+    uint32_t open_next(hofsjurd_prober *, const hofsjurd_board *), const hofsjurd_board *board)
 {
+    if (has_whole(prober, board)) return call(&prober->set, board);
+    hofsjurd_reply strict = ask(prober, strict_call, open_next, board);
     if (!is_left_open(strict.status)) return strict;
     if (open_in_reach(prober, board) == HOFSJURD_OUT_OF_MEMORY) return reply_of(HOFSJURD_OUT_OF_MEMORY);
     hofsjurd_reply reply = call(&prober->set, board);
@@ -706,12 +754,12 @@ static hofsjurd_reply or_determined(hofsjurd_prober *prober, hofsjurd_reply stri
 
 hofsjurd_reply hofsjurd_prober_determined_wdl(hofsjurd_prober *prober, const hofsjurd_board *board)
 {
-    return or_determined(prober, hofsjurd_prober_wdl(prober, board), hofsjurd_board_determined_wdl, board);
+    return ask_determined(prober, hofsjurd_board_wdl, hofsjurd_board_determined_wdl, open_missed, board);
 }
 
 hofsjurd_reply hofsjurd_prober_determined_dtz(hofsjurd_prober *prober, const hofsjurd_board *board)
 {
-    return or_determined(prober, hofsjurd_prober_dtz(prober, board), hofsjurd_board_determined_dtz, board);
+    return ask_determined(prober, hofsjurd_board_dtz, hofsjurd_board_determined_dtz, open_missed_for_distance, board);
 }
 
 static bool has_open_move(const hofsjurd_root_move *moves, int count)
@@ -724,6 +772,7 @@ static bool has_open_move(const hofsjurd_root_move *moves, int count)
 hofsjurd_reply hofsjurd_prober_determined_root(
     hofsjurd_prober *prober, const hofsjurd_board *board, hofsjurd_root_move *moves, size_t room)
 {
+    if (has_whole(prober, board)) return hofsjurd_board_determined_root(&prober->set, board, moves, room);
     hofsjurd_reply strict = hofsjurd_prober_root(prober, board, moves, room);
     if (strict.status || !has_open_move(moves, strict.value)) return strict;
     if (open_in_reach(prober, board) == HOFSJURD_OUT_OF_MEMORY) return reply_of(HOFSJURD_OUT_OF_MEMORY);
