@@ -2,8 +2,8 @@
  *
  * A static library: tools/build_c of the repository makes libhofsjurd_c.a, which needs malloc, realloc, free and the memory
  * functions of the C library and nothing else. It has no state of its own, opens no file, starts no thread, needs no
- * initialisation and never ends the process. docs/C_LIBRARY.md is the guide; contrib/hofsjurd_folder.h maps the files of a
- * folder.
+ * initialisation and never ends the process. docs/C_LIBRARY.md is the guide; contrib/hofsjurd_folder.h lists the files of folders
+ * and maps each when a position asks for it.
  *
  * WHAT THE CALLER OWES, and what nothing checks. docs/C_LIBRARY.md says what is proved beside that, for any bytes and any numbers.
  *
