@@ -16,9 +16,21 @@ import ctypes
 import os
 from pathlib import Path
 
-__all__ = ["MissingTableError", "MoveError", "OutOfScopeError", "ProbeError", "RootMove", "Tablebase", "open_tablebase", "version"]
+__all__ = [
+    "MissingTableError",
+    "MoveError",
+    "OutOfScopeError",
+    "ProbeError",
+    "RefusedTableError",
+    "RootMove",
+    "Tablebase",
+    "open_tablebase",
+    "version",
+]
 
 _OK, _OUT_OF_SCOPE, _NOT_COVERED, _OUT_OF_MEMORY = 0, 2, 3, 5
+_FILE_FAULTS, _FOLDER_STATUSES = range(64, 75), range(1000, 1003)
+_CHANGED = 1002
 _BAD_MOVE, _ILLEGAL_MOVE, _AMBIGUOUS_MOVE = 85, 86, 88
 _MOST_MOVES = 256
 _PROMOTIONS = ("", "q", "r", "b", "n")
@@ -43,12 +55,14 @@ class _RootMove(ctypes.Structure):
     _fields_ += [("wdl", _Reply), ("dtz", _Reply)]
 
 
-class _File(ctypes.Structure):
-    _fields_ = [("name", ctypes.c_char * 12), ("bytes", ctypes.c_void_p), ("length", ctypes.c_size_t)]
+class _Board(ctypes.Structure):
+    _fields_ = [(name, ctypes.c_uint64) for name in ("white", "black", "kings", "queens", "rooks", "bishops", "knights", "pawns")]
+    _fields_ += [(name, ctypes.c_uint16) for name in ("halfmove", "fullmove")]
+    _fields_ += [(name, ctypes.c_uint8) for name in ("side", "rights", "passed")]
 
 
-class _Folder(ctypes.Structure):
-    _fields_ = [("count", ctypes.c_size_t), ("files", _File * 290)]
+class _Refusal(ctypes.Structure):
+    _fields_ = [("status", ctypes.c_uint32), ("error", ctypes.c_int), ("path", ctypes.c_char_p), ("name", ctypes.c_char * 12)]
 
 
 _Teller = ctypes.CFUNCTYPE(ctypes.c_bool, ctypes.c_void_p, ctypes.c_char_p, ctypes.c_char_p, ctypes.c_uint32, ctypes.c_int)
@@ -59,22 +73,27 @@ def _load():
     name = os.environ.get("HOFSJURD_LIBRARY") or (str(beside) if beside.is_file() else "libhofsjurd.so.1")
     library = ctypes.CDLL(name)
     handle, text, size = ctypes.POINTER(_Handle), ctypes.c_char_p, ctypes.c_size_t
-    folder = ctypes.POINTER(_Folder)
+    board, listing, prober = ctypes.POINTER(_Board), ctypes.c_void_p, ctypes.c_void_p
     for call, result, *given in (
-        ("hofsjurd_open", ctypes.c_uint32, handle, size),
-        ("hofsjurd_add", ctypes.c_uint32, handle, text, size, ctypes.c_void_p, size),
-        ("hofsjurd_close", None, handle),
-        ("hofsjurd_wdl", _Reply, handle, text, size),
-        ("hofsjurd_dtz", _Reply, handle, text, size),
-        ("hofsjurd_root", _Reply, handle, text, size, ctypes.POINTER(_RootMove), size),
         ("hofsjurd_has", _Reply, handle, text, size, ctypes.c_uint8),
-        ("hofsjurd_largest", _Reply, handle),
+        ("hofsjurd_read_fen", ctypes.c_uint32, text, size, board),
         ("hofsjurd_move_san", _Reply, text, size, ctypes.POINTER(_Move), text, size),
         ("hofsjurd_read_san", ctypes.c_uint32, text, size, text, size, ctypes.POINTER(_Move)),
         ("hofsjurd_status_name", size, ctypes.c_uint32, text, size),
         ("hofsjurd_version", size, text, size),
-        ("hofsjurd_folder_map_telling", ctypes.c_uint32, folder, text, _Teller, ctypes.c_void_p),
-        ("hofsjurd_folder_unmap", None, folder),
+        ("hofsjurd_listing_add", ctypes.c_uint32, ctypes.POINTER(listing), text, _Teller, ctypes.c_void_p),
+        ("hofsjurd_listing_open_all", ctypes.c_uint32, listing, _Teller, ctypes.c_void_p),
+        ("hofsjurd_listing_has", ctypes.c_bool, listing, text),
+        ("hofsjurd_listing_largest", ctypes.c_uint, listing),
+        ("hofsjurd_listing_count", size, listing),
+        ("hofsjurd_listing_free", None, listing),
+        ("hofsjurd_prober_open", ctypes.c_uint32, ctypes.POINTER(prober), listing, size),
+        ("hofsjurd_prober_close", None, prober),
+        ("hofsjurd_prober_set", handle, prober),
+        ("hofsjurd_prober_refusal", ctypes.POINTER(_Refusal), prober),
+        ("hofsjurd_prober_wdl", _Reply, prober, board),
+        ("hofsjurd_prober_dtz", _Reply, prober, board),
+        ("hofsjurd_prober_root", _Reply, prober, board, ctypes.POINTER(_RootMove), size),
     ):
         function = getattr(library, call)
         function.restype, function.argtypes = result, given
@@ -109,6 +128,17 @@ class ProbeError(Exception):
 
 class MissingTableError(ProbeError, KeyError):
     """A table that the probe needs is missing."""
+
+
+class RefusedTableError(MissingTableError):
+    """A table that the probe needs is missing since its file is refused: it can't be read, isn't the one that was listed any more, or is
+    no good table. `filename` is the file, `errno` the system's number for it or 0."""
+
+    def __init__(self, status, number, filename):
+        super().__init__(status)
+        why = os.strerror(number) if number else "changed since it was listed" if status == _CHANGED else self.args[0]
+        self.args = (f"{filename}: {why}",)
+        self.errno, self.filename = number, filename
 
 
 class OutOfScopeError(ProbeError, KeyError):
@@ -182,51 +212,67 @@ class RootMove:
 
 
 class Tablebase:
-    """Tables of folders, mapped into memory. It is closed by `close`, or at the end of a `with`."""
+    """Tables of folders. Each is opened, and mapped into memory, when a probe needs it first. It is closed by `close`, or at the end of
+    a `with`."""
 
     def __init__(self, cache=64):
-        self._handle, self._folder = _Handle(), _Folder()
-        status = _library.hofsjurd_open(self._handle, cache)
+        self._cache, self._listing, self._prober, self._is_closed = cache, ctypes.c_void_p(), ctypes.c_void_p(), False
+        self._open_prober()
+
+    def _open_prober(self):
+        status = _library.hofsjurd_prober_open(self._prober, self._listing, self._cache)
         if status:
             raise _error(status)
 
     def add_directory(self, directory, *, strict=False):
-        """Adds the tables of a folder and returns how many were new. A folder that can't be read is an OSError. A file that isn't
-        taken is passed over; with `strict` it is an OSError or a ProbeError. Those before it stay added."""
+        """Lists the tables of a folder by their names and returns how many were new. A folder that can't be read is an OSError. What is
+        no regular file is passed over, and a file that turns out to be no table is a RefusedTableError of the probe that needs it.
+        With `strict` all are opened now, and each of these is an OSError or a ProbeError. Those before it stay."""
         refused = []
 
         def tell(_with, path, name, status, error):
             where = os.path.join(os.fsdecode(path), os.fsdecode(name or b""))
-            refused.append(OSError(error, os.strerror(error), where) if error else ProbeError(status))
+            refused.append(OSError(error, os.strerror(error), where) if error else RefusedTableError(status, 0, where))
             return not strict and name is not None
 
-        before = self._folder.count
-        status = _library.hofsjurd_folder_map_telling(self._folder, os.fsencode(directory), _Teller(tell), None)
-        for file in self._folder.files[before : self._folder.count]:
-            added = _library.hofsjurd_add(self._handle, file.name, len(file.name), file.bytes, file.length)
-            if added:
-                raise _error(added)
+        if self._is_closed:
+            raise _error(1)
+        before = self._count()
+        status = _library.hofsjurd_listing_add(self._listing, os.fsencode(directory), _Teller(tell), None)
+        if strict and not status:
+            status = _library.hofsjurd_listing_open_all(self._listing, _Teller(tell), None)
+        _library.hofsjurd_prober_close(self._prober)
+        self._prober = ctypes.c_void_p()
+        self._open_prober()
         if status:
             raise _error(status) if status == _OUT_OF_MEMORY or not refused else refused[-1]  # (the first isn't told)
-        return self._folder.count - before
+        return self._count() - before
+
+    def _count(self):
+        return _library.hofsjurd_listing_count(self._listing) if self._listing else 0
 
     def has(self, material, *, dtz=False):
-        """Whether the WDL table for a material, as "KQvK", is there, or its DTZ table. A ProbeError for a text that names none."""
+        """Whether the WDL table for a material, as "KQvK", is listed, or its DTZ table. A ProbeError for a text that names none."""
         name = material.encode()
-        return _value(_library.hofsjurd_has(self._handle, name, len(name), int(dtz))) == 1
+        if not self._prober:
+            raise _error(1)
+        _value(_library.hofsjurd_has(_library.hofsjurd_prober_set(self._prober), name, len(name), int(dtz)))
+        return bool(self._listing) and _library.hofsjurd_listing_has(self._listing, name + (b".rtbz" if dtz else b".rtbw"))
 
     @property
     def largest(self):
-        """The largest number of men of a table, kings included; 0 without a table."""
-        return _value(_library.hofsjurd_largest(self._handle))
+        """The largest number of men of a WDL table that is listed, kings included; 0 without one."""
+        if not self._prober:
+            raise _error(1)
+        return _library.hofsjurd_listing_largest(self._listing) if self._listing else 0
 
     def probe_wdl(self, board):
         """-2 loss, -1 blessed loss, 0 draw, 1 cursed win, 2 win, for the side to move. A ProbeError where there is no answer."""
-        return _value(self._asked(_library.hofsjurd_wdl, board))
+        return self._asked(_library.hofsjurd_prober_wdl, board)
 
     def probe_dtz(self, board):
         """Plies to the next capture or pawn move, above 0 where the side to move wins. A ProbeError where there is no answer."""
-        return _value(self._asked(_library.hofsjurd_dtz, board))
+        return self._asked(_library.hofsjurd_prober_dtz, board)
 
     def get_wdl(self, board, default=None):
         """As `probe_wdl`, with a default where a table is missing or the position out of scope."""
@@ -245,7 +291,7 @@ class Tablebase:
     def root(self, board):
         """All legal moves as RootMove, the best first. A ProbeError where the position is out of scope or breaks a rule."""
         moves = (_RootMove * _MOST_MOVES)()
-        count = _value(self._asked(_library.hofsjurd_root, board, moves, _MOST_MOVES))
+        count = self._asked(_library.hofsjurd_prober_root, board, moves, _MOST_MOVES)
         return [RootMove(it) for it in moves[:count]]
 
     @staticmethod
@@ -267,13 +313,25 @@ class Tablebase:
         return _square(move.start) + _square(move.end) + _PROMOTIONS[move.promotion]
 
     def _asked(self, call, board, *given):
-        fen = _fen(board)
-        return call(self._handle, fen, len(fen), *given)
+        if not self._prober:
+            raise _error(1)
+        fen, plain = _fen(board), _Board()
+        status = _library.hofsjurd_read_fen(fen, len(fen), plain)
+        if status:
+            raise _error(status)
+        reply = call(self._prober, plain, *given)
+        if reply.status in _FILE_FAULTS or reply.status in _FOLDER_STATUSES:
+            refusal = _library.hofsjurd_prober_refusal(self._prober).contents
+            where = os.path.join(os.fsdecode(refusal.path), os.fsdecode(refusal.name))
+            raise RefusedTableError(reply.status, refusal.error, where)
+        return _value(reply)
 
     def close(self):
         """Frees the set, then unmaps its files. Each probe fails afterwards."""
-        _library.hofsjurd_close(self._handle)
-        _library.hofsjurd_folder_unmap(self._folder)
+        self._is_closed = True
+        _library.hofsjurd_prober_close(self._prober)
+        _library.hofsjurd_listing_free(self._listing)
+        self._prober, self._listing = ctypes.c_void_p(), ctypes.c_void_p()
 
     def __enter__(self):
         return self

@@ -1,6 +1,6 @@
 /* Fathom's interface over libhofsjurd_c. Every WDL value, every distance and every legal move is the library's. What is here is the
  * order, the ranks and the scores in which Fathom tells them, the value of a root move by its distance and the clock (value_by_clock),
- * the sets of squares of the helpers (tb_*_attacks), and the mapped files. */
+ * the sets of squares of the helpers (tb_*_attacks), and who holds the files, which are opened when a probe asks for them. */
 #define _POSIX_C_SOURCE 200809L
 #ifdef TB_IS_LIBRARY
 #define TB_API extern __attribute__((visibility("default")))
@@ -24,82 +24,65 @@ int TB_MaxCardinality = 0, TB_MaxCardinalityDTM = 0;
 
 /* ------------------------------------------------------------------------------------------------------------- tables */
 
-/* The files of a tb_init, a set over them that each thread's set shares its tables with, and who holds both: this module while they
- * are the present ones, and each thread's set. The shared set is used under `guard`, and at last by the last holder. */
+/* The files of a tb_init, and who holds them: this module while they are the present ones, and each thread's prober. */
 typedef struct {
-    hofsjurd_folder files;
-    hofsjurd shared; /* opened by the first thread that probes: */
-    bool is_open;
+    hofsjurd_listing *files;
     unsigned long holders;
-} mapped_tables;
+} listed_tables;
 
-/* a thread's own set over them */
+/* a thread's own prober over them */
 typedef struct {
-    hofsjurd set;
-    mapped_tables *over;
+    hofsjurd_prober *prober;
+    listed_tables *over;
     unsigned long era; /* of the tb_init or tb_free that it was opened after; 0 for none */
-} own_set;
+} own_prober;
 
 static pthread_mutex_t guard = PTHREAD_MUTEX_INITIALIZER; /* for `present` and all `holders` */
-static mapped_tables *present;
+static listed_tables *present;
 static unsigned long era = 1; /* grows with each tb_init and tb_free */
 
 static pthread_once_t once = PTHREAD_ONCE_INIT;
 static pthread_key_t key;
 static bool has_key; /* none where the process has too many of them: then each probe fails */
-static __thread own_set *mine;
+static __thread own_prober *mine;
 
-/* a set that shares the present tables, under `guard` */
-static uint32_t share_present(own_set *own)
-{
-    if (!present) return hofsjurd_open(&own->set, 64);
-    uint32_t status = HOFSJURD_OK;
-    if (!present->is_open) status = hofsjurd_folder_open(&present->files, &present->shared, 1, NULL);
-    if (!status) present->is_open = true;
-    if (!status) status = hofsjurd_share(&present->shared, &own->set, 64);
-    if (status) return status;
-    present->holders++;
-    own->over = present;
-    return HOFSJURD_OK;
-}
-
-static void let_go(mapped_tables *tables)
+static void let_go(listed_tables *tables)
 {
     if (!tables) return;
     pthread_mutex_lock(&guard);
     bool is_last = --tables->holders == 0;
     pthread_mutex_unlock(&guard);
     if (!is_last) return;
-    hofsjurd_close(&tables->shared);
-    hofsjurd_folder_unmap(&tables->files);
+    hofsjurd_listing_free(tables->files);
     free(tables);
 }
 
-static void close_set(own_set *own)
+static void close_prober(own_prober *own)
 {
-    hofsjurd_close(&own->set);
+    hofsjurd_prober_close(own->prober);
     let_go(own->over);
+    own->prober = NULL;
     own->over = NULL;
     own->era = 0;
 }
 
 /* when a thread ends */
-static void drop_set(void *set)
+static void drop_prober(void *own)
 {
-    close_set((own_set *)set);
-    free(set);
+    close_prober((own_prober *)own);
+    free(own);
     mine = NULL;
 }
 
 static void make_key(void)
 {
-    has_key = !pthread_key_create(&key, drop_set);
+    has_key = !pthread_key_create(&key, drop_prober);
 }
 
-static own_set *make_set(void)
+static own_prober *make_own(void)
 {
     pthread_once(&once, make_key);
-    own_set *own = has_key ? (own_set *)calloc(1, sizeof *own) : NULL;
+    own_prober *own = has_key ? (own_prober *)calloc(1, sizeof *own) : NULL;
     if (own && pthread_setspecific(key, own)) {
         free(own);
         own = NULL;
@@ -107,50 +90,69 @@ static own_set *make_set(void)
     return mine = own;
 }
 
-/* this thread's set over the present tables; NULL where memory is refused */
-static hofsjurd *set_here(void)
+/* this thread's prober over the present tables; NULL where memory is refused */
+static hofsjurd_prober *prober_here(void)
 {
-    own_set *own = mine;
-    if (own && own->era == __atomic_load_n(&era, __ATOMIC_ACQUIRE)) return &own->set;
-    if (!own && !(own = make_set())) return NULL;
-    close_set(own);
+    own_prober *own = mine;
+    if (own && own->era == __atomic_load_n(&era, __ATOMIC_ACQUIRE)) return own->prober;
+    if (!own && !(own = make_own())) return NULL;
+    close_prober(own);
     pthread_mutex_lock(&guard);
-    uint32_t status = share_present(own);
-    own->era = status ? 0 : era;
+    own->over = present;
+    own->era = era;
+    if (present) present->holders++;
     pthread_mutex_unlock(&guard);
-    return status ? NULL : &own->set;
+    if (!hofsjurd_prober_open(&own->prober, own->over ? own->over->files : NULL, 64)) return own->prober;
+    close_prober(own);
+    return NULL;
 }
 
-static void replace(mapped_tables *tables)
+static void replace(listed_tables *tables)
 {
     pthread_mutex_lock(&guard);
-    mapped_tables *old = present;
+    listed_tables *old = present;
     present = tables;
     __atomic_add_fetch(&era, 1, __ATOMIC_RELEASE);
-    TB_LARGEST = tables ? hofsjurd_folder_largest(&tables->files) : 0; /* here, so that of two calls at once the later one's stays */
+    TB_LARGEST = tables && tables->files ? hofsjurd_listing_largest(tables->files) : 0; /* here, so that of two calls at once the later one's stays */
     TB_MaxCardinality = (int)TB_LARGEST;
     pthread_mutex_unlock(&guard);
-    if (mine) close_set(mine);
+    if (mine) close_prober(mine);
     let_go(old);
+}
+
+static void print_refused(const char *path, const char *name, uint32_t status, int error)
+{
+    char why[HOFSJURD_TEXT_ROOM] = "";
+    if (error) snprintf(why, sizeof why, "%s", strerror(error));
+    else if (status == HOFSJURD_FOLDER_CHANGED) strcpy(why, "changed since tb_init");
+    else hofsjurd_status_name(status, why, sizeof why);
+    fprintf(stderr, "tbprobe: %s%s%s: %s\n", path, name ? "/" : "", name ? name : "", why);
 }
 
 /* A folder that isn't there is passed over, as by Fathom; anything else that isn't taken is told. */
 static bool tell_skipped(void *is_strict, const char *path, const char *name, uint32_t status, int error)
 {
-    char why[HOFSJURD_TEXT_ROOM] = "";
-    bool is_absent = status == HOFSJURD_FOLDER_ABSENT;
-    if (error) snprintf(why, sizeof why, "%s", strerror(error));
-    else hofsjurd_status_name(status, why, sizeof why);
-    if (!is_absent || *(bool *)is_strict) fprintf(stderr, "tbprobe: %s%s%s: %s\n", path, name ? "/" : "", name ? name : "", why);
+    if (status != HOFSJURD_FOLDER_ABSENT || *(bool *)is_strict) print_refused(path, name, status, error);
     return !*(bool *)is_strict;
 }
 
+/* A file that a probe asked for, and that is as one that isn't there. */
+static bool report_refused(void *with, const char *path, const char *name, uint32_t status, int error)
+{
+    (void)with;
+    print_refused(path, name, status, error);
+    return true;
+}
+
 /* the folders of a path, in its order */
-static bool map_path(mapped_tables *tables, char *path, bool is_strict)
+static bool list_path(listed_tables *tables, char *path, bool is_strict)
 {
     char *rest = path;
     for (char *at = strtok_r(path, ":", &rest); at; at = strtok_r(NULL, ":", &rest))
-        if (hofsjurd_folder_map_telling(&tables->files, at, tell_skipped, &is_strict)) return false;
+        if (hofsjurd_listing_add(&tables->files, at, tell_skipped, &is_strict)) return false;
+    if (!tables->files) return true;
+    if (is_strict && hofsjurd_listing_open_all(tables->files, tell_skipped, &is_strict)) return false;
+    hofsjurd_listing_report(tables->files, report_refused, NULL);
     return true;
 }
 
@@ -161,12 +163,12 @@ bool tb_init(const char *_path)
         replace(NULL);
         return true;
     }
-    mapped_tables *tables = (mapped_tables *)calloc(1, sizeof *tables);
+    listed_tables *tables = (listed_tables *)calloc(1, sizeof *tables);
     char *path = strdup(_path);
-    bool is_good = tables && path && map_path(tables, path, strict && *strict);
+    bool is_good = tables && path && list_path(tables, path, strict && *strict);
     free(path);
     if (!is_good && tables) {
-        hofsjurd_folder_unmap(&tables->files);
+        hofsjurd_listing_free(tables->files);
         free(tables);
     }
     if (is_good) tables->holders = 1;
@@ -195,15 +197,15 @@ static hofsjurd_board board_of(uint64_t white, uint64_t black, uint64_t kings, u
     return board;
 }
 
-typedef hofsjurd_reply question(hofsjurd *, const hofsjurd_board *);
+typedef hofsjurd_reply question(hofsjurd_prober *, const hofsjurd_board *);
 
 /* An en passant square that no pawn passed counts as none. */
-static hofsjurd_reply ask(question *asked, hofsjurd *set, hofsjurd_board *board)
+static hofsjurd_reply ask(question *asked, hofsjurd_prober *prober, hofsjurd_board *board)
 {
-    hofsjurd_reply reply = asked(set, board);
+    hofsjurd_reply reply = asked(prober, board);
     if (reply.status != HOFSJURD_BAD_EN_PASSANT) return reply;
     board->passed = 64;
-    return asked(set, board);
+    return asked(prober, board);
 }
 
 /* ------------------------------------------------------------------------------------------------------- moves in order */
@@ -235,12 +237,12 @@ static void put_in_order(const hofsjurd_board *board, move_list *moves)
     }
 }
 
-static uint32_t list_moves(hofsjurd *set, hofsjurd_board *board, move_list *moves)
+static uint32_t list_moves(hofsjurd_prober *prober, hofsjurd_board *board, move_list *moves)
 {
-    hofsjurd_reply reply = hofsjurd_board_determined_root(set, board, moves->of, HOFSJURD_MOST_MOVES);
+    hofsjurd_reply reply = hofsjurd_prober_determined_root(prober, board, moves->of, HOFSJURD_MOST_MOVES);
     if (reply.status == HOFSJURD_BAD_EN_PASSANT) {
         board->passed = 64;
-        reply = hofsjurd_board_determined_root(set, board, moves->of, HOFSJURD_MOST_MOVES);
+        reply = hofsjurd_prober_determined_root(prober, board, moves->of, HOFSJURD_MOST_MOVES);
     }
     moves->count = reply.status ? 0 : reply.value;
     if (moves->count >= TB_MAX_MOVES) return HOFSJURD_NO_ROOM;
@@ -253,10 +255,10 @@ static uint32_t list_moves(hofsjurd *set, hofsjurd_board *board, move_list *move
 unsigned tb_probe_wdl_impl(uint64_t _white, uint64_t _black, uint64_t _kings, uint64_t _queens, uint64_t _rooks,
     uint64_t _bishops, uint64_t _knights, uint64_t _pawns, unsigned _ep, bool _turn)
 {
-    hofsjurd *set = set_here();
-    if (!set) return TB_RESULT_FAILED;
+    hofsjurd_prober *prober = prober_here();
+    if (!prober) return TB_RESULT_FAILED;
     hofsjurd_board board = board_of(_white, _black, _kings, _queens, _rooks, _bishops, _knights, _pawns, _ep, _turn);
-    hofsjurd_reply reply = ask(hofsjurd_board_determined_wdl, set, &board);
+    hofsjurd_reply reply = ask(hofsjurd_prober_determined_wdl, prober, &board);
     return reply.status ? TB_RESULT_FAILED : (unsigned)(reply.value + 2);
 }
 
@@ -308,11 +310,11 @@ static int suggested(const hofsjurd_board *board, const move_list *moves, int si
     return -1;
 }
 
-static unsigned answer_root(hofsjurd *set, hofsjurd_board *board, unsigned rule50, unsigned *results)
+static unsigned answer_root(hofsjurd_prober *prober, hofsjurd_board *board, unsigned rule50, unsigned *results)
 {
     move_list moves;
-    hofsjurd_reply root = ask(hofsjurd_board_determined_dtz, set, board);
-    if (root.status || list_moves(set, board, &moves)) return TB_RESULT_FAILED;
+    hofsjurd_reply root = ask(hofsjurd_prober_determined_dtz, prober, board);
+    if (root.status || list_moves(prober, board, &moves)) return TB_RESULT_FAILED;
     for (int i = 0; i < moves.count; i++)
         if (moves.of[i].dtz.status) return TB_RESULT_FAILED;
     for (int i = 0; results && i < moves.count; i++) results[i] = result_of(&moves.of[i], moves.of[i].dtz.value, (uint8_t)rule50);
@@ -326,10 +328,10 @@ static unsigned answer_root(hofsjurd *set, hofsjurd_board *board, unsigned rule5
 unsigned tb_probe_root_impl(uint64_t _white, uint64_t _black, uint64_t _kings, uint64_t _queens, uint64_t _rooks,
     uint64_t _bishops, uint64_t _knights, uint64_t _pawns, unsigned _rule50, unsigned _ep, bool _turn, unsigned *_results)
 {
-    hofsjurd *set = set_here();
-    if (!set) return TB_RESULT_FAILED;
+    hofsjurd_prober *prober = prober_here();
+    if (!prober) return TB_RESULT_FAILED;
     hofsjurd_board board = board_of(_white, _black, _kings, _queens, _rooks, _bishops, _knights, _pawns, _ep, _turn);
-    return answer_root(set, &board, _rule50, _results);
+    return answer_root(prober, &board, _rule50, _results);
 }
 
 /* ------------------------------------------------------------------------------------------------------- ranks and scores */
@@ -364,9 +366,9 @@ int tb_probe_root_dtz(uint64_t _white, uint64_t _black, uint64_t _kings, uint64_
     bool hasRepeated, bool useRule50, struct TbRootMoves *_results)
 {
     move_list moves;
-    hofsjurd *set = _castling ? NULL : set_here();
+    hofsjurd_prober *prober = _castling ? NULL : prober_here();
     hofsjurd_board board = board_of(_white, _black, _kings, _queens, _rooks, _bishops, _knights, _pawns, _ep, _turn);
-    if (!set || list_moves(set, &board, &moves)) return 0;
+    if (!prober || list_moves(prober, &board, &moves)) return 0;
     _results->size = (unsigned)moves.count;
     for (int i = 0; i < moves.count; i++) {
         if (moves.of[i].dtz.status) return 0;
@@ -385,9 +387,9 @@ int tb_probe_root_wdl(uint64_t _white, uint64_t _black, uint64_t _kings, uint64_
         TB_VALUE_MATE - TB_MAX_MATE_PLY - 1};
     move_list moves;
     (void)_rule50;
-    hofsjurd *set = _castling ? NULL : set_here();
+    hofsjurd_prober *prober = _castling ? NULL : prober_here();
     hofsjurd_board board = board_of(_white, _black, _kings, _queens, _rooks, _bishops, _knights, _pawns, _ep, _turn);
-    if (!set || list_moves(set, &board, &moves)) return 0;
+    if (!prober || list_moves(prober, &board, &moves)) return 0;
     _results->size = (unsigned)moves.count;
     for (int i = 0; i < moves.count; i++) {
         if (moves.of[i].wdl.status) return 0;

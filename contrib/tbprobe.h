@@ -114,13 +114,14 @@ struct TbRootMoves {
 
 /* ------------------------------------------------------------------------------------------------------------- tables */
 
-/* the greatest number of men of a WDL table that was found: 0, or 3 to 5 */
+/* the greatest number of men of a WDL table by the names that were found: 0, or 3 to 5 */
 TB_API unsigned TB_LARGEST;
 
-/* Maps the tables of the folders of a path, with ':' between, and has the library look at each. NULL, "" and "<empty>" have none. A
- * file that can't be read or isn't taken is told on standard error and is as one that isn't there. Where the environment has
- * HOFSJURD_STRICT, and not empty, it makes the call fail, with no tables. The call fails also where memory is refused. Other
- * threads may probe meanwhile: each keeps the tables that it has until its next probe. */
+/* Lists the tables of the folders of a path, with ':' between. Each is mapped, and looked at once, when a probe needs it. NULL, "" and
+ * "<empty>" have none. A file that can't be read, isn't taken, or was exchanged since is told on standard error, by this call or then, and
+ * is as one that isn't there. Where the environment has HOFSJURD_STRICT, and not empty, this call looks at all, and any such file
+ * makes it fail, with no tables. It fails also where memory is refused. Other threads may probe meanwhile: each keeps the tables that
+ * it has until its next probe. */
 TB_API bool tb_init(const char *_path);
 TB_API bool tb_init_impl(const char *_path);
 

@@ -2,8 +2,8 @@
  *
  * A static library: tools/build_c of the repository makes libhofsjurd_c.a, which needs malloc, realloc, free and the memory
  * functions of the C library and nothing else. It has no state of its own, opens no file, starts no thread, needs no
- * initialisation and never ends the process. docs/C_LIBRARY.md is the guide; contrib/hofsjurd_folder.h maps the files of a
- * folder.
+ * initialisation and never ends the process. docs/C_LIBRARY.md is the guide; contrib/hofsjurd_folder.h lists the files of folders
+ * and maps each when a position asks for it.
  *
  * WHAT THE CALLER OWES, and what nothing checks. docs/C_LIBRARY.md says what is proved beside that, for any bytes and any numbers.
  *
@@ -189,6 +189,10 @@ hofsjurd_reply hofsjurd_board_wdl(hofsjurd *handle, const hofsjurd_board *board)
 hofsjurd_reply hofsjurd_board_dtz(hofsjurd *handle, const hofsjurd_board *board);
 hofsjurd_reply hofsjurd_board_judge(hofsjurd *handle, const hofsjurd_board *board);
 
+/* Writes the board of the position that a FEN text spells, each man in the set of his side and of his kind alone. Any other status than
+ * HOFSJURD_OK, the first fault of the text, writes nothing. No tables are needed. */
+uint32_t hofsjurd_read_fen(const char *fen, size_t length, hofsjurd_board *board);
+
 /* The same of many boards, each reply in its board's place. `room` is the number of replies, and is to be that of the
  * boards: otherwise the status is HOFSJURD_LENGTHS_DIFFER. With any status but HOFSJURD_OK no reply is written. */
 uint32_t hofsjurd_boards_wdl(hofsjurd *handle, const hofsjurd_board *boards, size_t length, hofsjurd_reply *replies, size_t room);
@@ -325,6 +329,10 @@ size_t hofsjurd_verdict_name(uint32_t verdict, char *room, size_t length);
 /* the name of the first table that the WDL probe of a board needs and the set lacks ("KQvK"), where that tells
  * HOFSJURD_NOT_COVERED; empty otherwise, and nothing written where the handle is closed */
 size_t hofsjurd_board_missing(hofsjurd *handle, const hofsjurd_board *board, char *room, size_t length);
+
+/* the name of the first material of which the DTZ probe of a board needs a table that the set lacks, its WDL table or its DTZ table,
+ * where that tells HOFSJURD_NOT_COVERED; empty otherwise, and where memory is refused, and nothing written where the handle is closed */
+size_t hofsjurd_board_dtz_missing(hofsjurd *handle, const hofsjurd_board *board, char *room, size_t length);
 
 /* the FEN text of the position that a game has reached; empty, and nothing written, where there is no game */
 size_t hofsjurd_game_fen(hofsjurd_game *game, char *room, size_t length);

@@ -183,6 +183,21 @@ fn check_moves(rt: &impl Abort, alloc: Global) {
     assert_eq!(rt; (room[0].from, room[0].to), (1, 0), "board_moves");
 }
 
+/// The queen's mate as a board.
+fn check_read_fen(rt: &impl Abort) {
+    let mut read = TAKES_BOARD;
+    let status = hofsjurd_read_fen(b"x", &mut read);
+    check_status(rt, status, 16, "read_fen");
+    let status = hofsjurd_read_fen(MATE, &mut read);
+    check_status(rt, status, 0, "read_fen");
+    assert_eq!(rt;
+        (read.white, read.black),
+        (MATE_BOARD.white, MATE_BOARD.black),
+        "read_fen"
+    );
+    assert_eq!(rt; (read.queens, read.passed), (2, 64), "read_fen");
+}
+
 fn check_after(rt: &impl Abort) {
     let mut after = MATE_BOARD;
     let mate = PlainMove {
@@ -221,6 +236,8 @@ fn check_holding(rt: &impl Abort, alloc: Global, handle: &mut Handle) {
     let mut room = [1u8; 8];
     let length = hofsjurd_board_missing(alloc, handle, &TAKES_BOARD, &mut room);
     check_text(rt, length, &room, b"KQvKN", "board_missing");
+    let length = hofsjurd_board_dtz_missing(alloc, handle, &TAKES_BOARD, &mut room);
+    check_text(rt, length, &room, b"KQvKN", "board_dtz_missing");
     let told = hofsjurd_has(alloc, handle, b"KQvK", 0);
     check(rt, told, 0, 1, "has");
     check(rt, hofsjurd_largest(alloc, handle), 0, 3, "largest");
@@ -319,6 +336,7 @@ fn exports_tell_games_and_moves(rt: HostRuntime) {
     check_played(&rt, alloc, &mut game);
     hofsjurd_close(alloc, &mut handle);
     check_moves(&rt, alloc);
+    check_read_fen(&rt);
     check_after(&rt);
     check_san(&rt);
     check_names(&rt);

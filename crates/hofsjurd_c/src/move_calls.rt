@@ -3,8 +3,8 @@
 ghost use Rattle.std.specs.Prelude.{◌≡◌, None, Some};
 ghost use Rattle.hofsjurd_c.specs.declared.held.Held.{Held};
 ghost use Rattle.judge_core.specs.declared.ask.Ask.TheVariants.{Strict};
-ghost use Rattle.probe_api.specs.Afters.{TellsAfter};
-ghost use Rattle.probe_api.specs.Missing.{PutsMissing};
+ghost use Rattle.probe_api.specs.Afters.{PutsBoardOfText, TellsAfter};
+ghost use Rattle.probe_api.specs.Missing.{PutsDtzMissing, PutsMissing};
 ghost use Rattle.probe_api.specs.Replies.{refused};
 ghost use Rattle.probe_api.specs.Roots.{PutsRootOfBoard, PutsRootOfText, TellsState};
 ghost use Rattle.probe_api.specs.Sans.{PutsSanOfText, TellsSanOfText};
@@ -44,6 +44,15 @@ pub extern "C" fn hofsjurd_board_root(
     ensures kept { handle.new.seat.value ≡ handle.old.seat.value }
 {
     ask_root_of_board(alloc, handle, Ask::Strict, board, room)
+}
+
+/// Puts the board of the position that a FEN text spells into the caller's room. A text with a fault is refused, and the room stays as
+/// it was.
+#[unsafe(no_mangle)]
+pub extern "C" fn hofsjurd_read_fen(fen: &[u8], room: &mut Board) -> u32
+    ensures { PutsBoardOfText fen.now room.old result room.new }
+{
+    probe_api::put_board(fen, room)
 }
 
 /// Puts the board after a move into the caller's room. A move that isn't legal is refused, and the room stays as it was.
@@ -97,6 +106,27 @@ pub extern "C" fn hofsjurd_board_missing(
         return 0;
     };
     let length = probe_api::put_missing(alloc, &mut held.set, board, room);
+    *handle = Handle::open(held);
+    length
+}
+
+/// Puts the name of the material of which the DTZ probe of a board misses a table, its WDL table or its DTZ table, as `KQvK`, and a byte
+/// 0 after it into the caller's room, where both fit; else as `hofsjurd_board_missing`.
+#[unsafe(no_mangle)]
+pub extern "C" fn hofsjurd_board_dtz_missing(
+    alloc: Global,
+    handle: &mut Handle,
+    board: &Board,
+    room: &mut [u8],
+) -> usize
+    ensures closed { handle.old.seat.value ≡ None → (result ≡ 0) × (room.new ≡ room.old) }
+    ensures is { (held : Held) → handle.old.seat.value ≡ Some held → PutsDtzMissing held.set.tables board.now room.old result room.new }
+    ensures kept { handle.new.seat.value ≡ handle.old.seat.value }
+{
+    let Some(mut held) = handle.take(alloc) else {
+        return 0;
+    };
+    let length = probe_api::put_dtz_missing(alloc, &mut held.set, board, room);
     *handle = Handle::open(held);
     length
 }

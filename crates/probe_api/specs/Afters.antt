@@ -1,5 +1,5 @@
--- Boards of positions, and the board after a move.
-use Rattle.std.specs.Prelude.{◌≡◌, ◌≢◌, ◌⊎◌, ◌+◌, ℕ, Bool, true, false, cond, Option, Some, None}
+-- Boards of positions: that of a FEN text, and that after a move.
+use Rattle.std.specs.Prelude.{◌≡◌, ◌≢◌, ◌⊎◌, ◌+◌, ℕ, Bool, true, false, cond, List, Option, Some, None}
 use Rattle.board_core.specs.declared.moves.Move.{Move}
 use Rattle.board_core.specs.declared.parts.Parts.{Parts}
 use Rattle.board_core.specs.declared.parts.Rights.{Rights}
@@ -12,9 +12,11 @@ use Rattle.board_core.specs.declared.position.PositionFault.{PositionFault}
 use Rattle.board_core.specs.ComputedMoves.{position_after}
 use Rattle.board_core.specs.Position.{IsPosition, IsFirstFault, is_of}
 use Rattle.board_core.specs.Sides.{squares_where}
+use Rattle.fen_text.specs.Fen.{SpellsPosition, IsFirstFenFault}
+use Rattle.fen_text.specs.declared.fault.FenFault.{FenFault}
 use Rattle.probe_api.specs.Boards.{shown}
 use Rattle.probe_api.specs.Moves.{IsMoveOf}
-use Rattle.probe_api.specs.Replies.{position_status}
+use Rattle.probe_api.specs.Replies.{fen_status, position_status}
 use Rattle.probe_api.specs.declared.board.Board.{Board}
 use Rattle.probe_api.specs.declared.plain_move.PlainMove.{PlainMove}
 
@@ -66,6 +68,13 @@ board_of p = record {
 -- the board of a position shows that position
 abbrev pub BoardShowsItsPosition : Type 0
 BoardShowsItsPosition = (p : Parts) → IsPosition p → shown (board_of p) ≡ p
+
+-- the board of the position that a text spells is put into the room; or the first fault of the text is the status, and the room stays
+-- as it was
+pub record PutsBoardOfText (text : List ℕ) (old : Board) (status : ℕ) (new : Board) : Type 0 where
+  pub position : (p : Parts) → IsPosition p → SpellsPosition text p → (status ≡ 0) × (new ≡ board_of p)
+  pub fault : (fault : FenFault) → IsFirstFenFault text fault → (status ≡ fen_status fault) × (new ≡ old)
+  pub one : ((p : Parts) × IsPosition p × SpellsPosition text p) ⊎ ((fault : FenFault) × IsFirstFenFault text fault)
 
 -- a move that these numbers are is legal in the position or not
 pub record IsAfterMove (p : Parts) (m : Move) (status : ℕ) (new : Board) : Type 0 where

@@ -1,14 +1,15 @@
-//! The board after a move.
+//! Boards of positions: that of a FEN text, and that after a move.
 
 ghost use Rattle.std.specs.Prelude.{◌≡◌, ◌≢◌};
 ghost use Rattle.board_core.specs.Sides.{squares_where};
-ghost use Rattle.probe_api.specs.Afters.{BoardShowsItsPosition, IsAfterMove, TellsAfter, board_of, passed_number, rights_number, side_number};
+ghost use Rattle.probe_api.specs.Afters.{BoardShowsItsPosition, IsAfterMove, PutsBoardOfText, TellsAfter, board_of, passed_number, rights_number, side_number};
 ghost use Rattle.probe_api.specs.Inside.{shows};
 
 use crate::board::{Board, position_on};
 use crate::plain_move::PlainMove;
-use crate::reply::position_status;
+use crate::reply::{fen_status, position_status};
 use board_core::{Kind, Move, Piece, Position, Rights, Side, Square};
+use fen_text::read;
 
 /// Which men are asked for.
 #[derive(Clone, Copy)]
@@ -91,6 +92,20 @@ impl Board {
             rights: rights_number(position.rights()),
             passed: passed_number(position.en_passant()),
         }
+    }
+}
+
+/// Puts the board of the position that a FEN text spells into the caller's room. The status is 0; or it is the first fault of the text,
+/// and the room stays as it was.
+pub fn put_board(fen: &[u8], room: &mut Board) -> u32
+    ensures { PutsBoardOfText fen.now room.old result room.new }
+{
+    match read(fen) {
+        Ok(position) => {
+            *room = Board::of(&position);
+            0
+        }
+        Err(fault) => fen_status(fault),
     }
 }
 

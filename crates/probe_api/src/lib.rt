@@ -6,7 +6,7 @@
 //!
 //! Inside: `reply` and `naming` (statuses, their names, the version), `adding` (a table more), `asking` (values and verdicts),
 //! `batch` (of many boards), `board` (a position by `Position::from_sets`), `listing` and `plain_move` (legal moves), `game`
-//! (move by move, over `Standing`), `root` (legal moves by value), `after` (the board after a move), `missing` (a table's name),
+//! (move by move, over `Standing`), `root` (legal moves by value), `after` (boards of positions), `missing` (names of tables),
 //! `holding` (which tables a set has), `san` (moves in standard algebraic notation), `text` (a text and a byte 0 into a caller's array).
 //!
 //! Definitions, in reading order: `Replies`, `Boards`, `Batches`, `Adding`, `Moves`, `Plays`, `Roots`, `Afters`, `Missing`, `Holds`,
@@ -30,8 +30,10 @@
 //!   was. Status 5 comes only where a verdict lists moves.
 //! - CLAIM: `root_of_text`, clauses `is`, `kept`; `root_of_board`, clauses `is`, `kept`: the legal moves with value and distance, the
 //!   best first, where all fit into the caller's array; else it stays as it was. Status 5 comes only at a position in scope.
-//! - CLAIM: `board_after`; `board_shows_its_position`; `state_of_board`; `put_missing`, clauses `is`, `kept`: the board after a legal
-//!   move, which shows the position after it, how a board stands, and the name of the first table that its value lacks.
+//! - CLAIM: `put_board`; `board_after`; `board_shows_its_position`; `state_of_board`: the board of the position that a text spells, and
+//!   that after a legal move, each of which shows its position, and how a board stands. A fault leaves the room as it was.
+//! - CLAIM: `put_missing`, clauses `is`, `kept`; `put_dtz_missing`, clauses `is`, `kept`: the name of the first table that the value of a
+//!   board lacks, and of the first material of which its distance lacks a table.
 //! - CLAIM: `put_san`; `tell_san`: the text of a legal move in standard algebraic notation, and the one legal move that such a text
 //!   tells. Otherwise the first fault is told, and the caller's room stays as it was.
 //! - CLAIM: `has`; `largest`: whether a set has the table of a kind for a material that a text names, and the largest number of men
@@ -56,14 +58,14 @@ mod san;
 mod text;
 
 pub use adding::add;
-pub use after::{board_after, board_shows_its_position};
+pub use after::{board_after, board_shows_its_position, put_board};
 pub use asking::{Question, answer_board, answer_text};
 pub use batch::answer_boards;
 pub use board::Board;
 pub use game::{Game, begin_game, tell_numbers, tell_text};
 pub use holding::{has, largest};
 pub use listing::{moves_of_board, moves_of_text};
-pub use missing::put_missing;
+pub use missing::{put_dtz_missing, put_missing};
 pub use naming::{status_name, verdict_name, version};
 pub use plain_move::PlainMove;
 pub use reply::Reply;

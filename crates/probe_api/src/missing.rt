@@ -1,8 +1,8 @@
-//! The table that a probe misses.
+//! The tables that probes miss.
 
 ghost use Rattle.std.specs.Prelude.{◌≡◌};
 ghost use Rattle.place_index.specs.Material.{name_of, men_of};
-ghost use Rattle.probe_api.specs.Missing.{PutsMissing, PutsMissingOf};
+ghost use Rattle.probe_api.specs.Missing.{PutsDtzMissing, PutsDtzMissingOf, PutsMissing, PutsMissingOf};
 ghost use Rattle.probe_api.specs.Texts.{PutsText};
 
 use crate::board::{Board, position_on};
@@ -41,6 +41,37 @@ pub fn put_missing(alloc: Global, set: &mut Set<'_>, board: &Board, room: &mut [
 {
     match position_on(board) {
         Ok(position) => put_missing_of(alloc, set, &position, room),
+        Err(_) => put_text(b"", room),
+    }
+}
+
+/// Puts the name of the material of which the DTZ probe of a position misses a table.
+fn put_dtz_missing_of(
+    alloc: Global,
+    set: &mut Set<'_>,
+    position: &Position,
+    room: &mut [u8],
+) -> usize
+    ensures is { PutsDtzMissingOf set.old.tables position.now room.old result room.new }
+    ensures kept { set.new ≡ set.old }
+{
+    let probed = set.dtz(alloc, position);
+    match &probed {
+        Err(ProbeFault::NotCovered(material)) => put_name(material, room),
+        _ => put_text(b"", room),
+    }
+}
+
+/// Puts the name of the first material of which the DTZ probe of a board needs a table that the set lacks, its WDL table or its DTZ
+/// table, as `KQvK`, and a byte 0 after it at the front of the room, where both fit; otherwise it writes nothing. The result is the
+/// length of the name, at most 6. The name is empty where the probe misses no table, where memory is refused for its moves, or where
+/// the board shows no position. The set stays as it was but for its cache.
+pub fn put_dtz_missing(alloc: Global, set: &mut Set<'_>, board: &Board, room: &mut [u8]) -> usize
+    ensures is { PutsDtzMissing set.old.tables board.now room.old result room.new }
+    ensures kept { set.new ≡ set.old }
+{
+    match position_on(board) {
+        Ok(position) => put_dtz_missing_of(alloc, set, &position, room),
         Err(_) => put_text(b"", room),
     }
 }
