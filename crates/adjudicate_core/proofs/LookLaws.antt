@@ -12,12 +12,13 @@ use Rattle.move_msg.specs.TableNames.{IsFileName}
 use Rattle.move_msg.specs.TextLines.{text_of}
 use Rattle.adjudicate_core.specs.declared.commands.check.FileCheck.{FileCheck}
 use Rattle.adjudicate_core.specs.Commands.Check.{checked}
-use Rattle.adjudicate_core.specs.declared.tables.FileFault.TheVariants.{Changed}
+use Rattle.table_folder.specs.declared.fault.FileFault.TheVariants.{Changed}
 use Rattle.task_files.specs.FileNames.{file_named}
 use Rattle.task_files.specs.Made.{AreMadeOf}
 use Rattle.adjudicate_core.specs.Inside.Looking.{IsSeenOf, Sight, fault_by, fault_seen, reply_seen, sight_at, sight_of}
 use Rattle.adjudicate_core.specs.Lines.{look_words}
-use Rattle.adjudicate_core.specs.Looks.{Found, are_tables, file_found, found_fault, held, look_for, look_line}
+use Rattle.table_folder.specs.Folders.{Found}
+use Rattle.adjudicate_core.specs.Looks.{are_tables, file_found, found_fault, held, look_for, look_line}
 use Rattle.adjudicate_core.specs.Reply.{status_if}
 
 abbrev IsLineOf : Line → File → Type 0

@@ -6,7 +6,8 @@ use Rattle.std.proofs.lemmas.List.{at_drop_more, map-append, take_more}
 use Rattle.std.proofs.lemmas.List.Folds.{list_all-map, list_all_more}
 use Rattle.judge_core.specs.Tables.{Tables}
 use Rattle.move_msg.specs.TextLines.{text_of}
-use Rattle.adjudicate_core.specs.Looks.{Found, Look, ◌>>=◌, are_tables, look_line, tables_from_looks, with_found}
+use Rattle.table_folder.specs.Folders.{Found}
+use Rattle.adjudicate_core.specs.Looks.{Look, ◌>>=◌, are_tables, look_line, tables_from_looks, with_found}
 use Rattle.adjudicate_core.specs.Commands.Check.{checked}
 use Rattle.adjudicate_core.specs.Reply.{status_if}
 

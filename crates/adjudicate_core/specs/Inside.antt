@@ -13,3 +13,4 @@ pub mod Manifesting
 pub mod Refusals
 pub mod SendingParts
 pub mod Putting
+pub mod LookingUp

@@ -12,6 +12,7 @@ pub mod Lines
 pub mod Looks
 pub mod Schedules
 pub mod Reply
+pub mod FolderAnswers
 pub mod Telling
 pub mod Keys
 pub mod Outsides

@@ -8,7 +8,6 @@ use Rattle.fen_text.specs.declared.fault.FenFault.{FenFault}
 use Rattle.fen_text.specs.declared.fault.FenFault.TheVariants as fen
 use Rattle.fen_text.specs.Fen.{fen_fault_name}
 use Rattle.fen_text.specs.Coordinates.{move_text}
-use Rattle.table_file.specs.Faults.{table_fault_name}
 use Rattle.judge_core.specs.declared.fault.ProbeFault.{ProbeFault}
 use Rattle.judge_core.specs.declared.probe_result.ProbeResult.{ProbeResult}
 use Rattle.judge_core.specs.declared.root_move.BoardState.{BoardState}
@@ -29,8 +28,8 @@ use Rattle.relay_world.specs.declared.world.State.{State}
 use Rattle.relay_world.specs.declared.world.State.TheVariants as state
 use Rattle.relay_world.specs.Texts.{who_word}
 use Rattle.arbiter_server.specs.ServedLines.{refused_keeper, refused_port, verdict_or_none, refused_store}
-use Rattle.adjudicate_core.specs.declared.tables.FileFault.{FileFault}
-use Rattle.adjudicate_core.specs.declared.tables.FileFault.TheVariants.{Missing, Changed, Bad}
+use Rattle.table_folder.specs.declared.fault.FileFault.{FileFault}
+use Rattle.table_folder.specs.Faults.{file_fault_name}
 use Rattle.adjudicate_core.specs.declared.answers.lines.KeptCount.{KeptCount}
 use Rattle.adjudicate_core.specs.declared.answers.lines.Line.{Line}
 use Rattle.adjudicate_core.specs.declared.answers.lines.RootLine.{RootLine}
@@ -41,11 +40,6 @@ use Rattle.adjudicate_core.specs.declared.answers.refusals.Refusal.{Refusal}
 use Rattle.adjudicate_core.specs.declared.answers.refusals.Refusal.TheVariants as refusal
 
 -- ---- names
-
-abbrev pub file_fault_name : FileFault → List ℕ
-file_fault_name Missing = codes "missing"
-file_fault_name Changed = codes "changed"
-file_fault_name (Bad fault) = table_fault_name fault
 
 -- the fault of a text, with that of the position after it where the text spells its parts
 abbrev pub fault_text : FenFault → List ℕ

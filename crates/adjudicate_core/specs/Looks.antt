@@ -6,26 +6,20 @@ use Rattle.std.specs.Result.{is_ok}
 use Rattle.sha2.specs.Sha256.{sha256}
 use Rattle.move_msg.specs.Files.{File}
 use Rattle.move_msg.specs.Manifests.{Entry}
-use Rattle.table_file.specs.declared.fault.TableFault.{TableFault}
 use Rattle.table_file.specs.Tables.{Contents, contents_at}
 use Rattle.judge_core.specs.Tables.{Tables, slot, table_at}
-use Rattle.adjudicate_core.specs.declared.tables.FileFault.{FileFault}
-use Rattle.adjudicate_core.specs.declared.tables.FileFault.TheVariants.{Missing, Changed, Bad}
+use Rattle.table_folder.specs.declared.fault.FileFault.{FileFault}
+use Rattle.table_folder.specs.declared.fault.FileFault.TheVariants.{Missing, Changed}
+use Rattle.table_folder.specs.Faults.{file_fault_name}
+use Rattle.table_folder.specs.Folders.{Found, found_table}
 use Rattle.task_files.specs.FileNames.{file_named}
 use Rattle.move_msg.specs.ToldManifests.{ToldManifest}
 use Rattle.task_files.specs.Given.{Given}
-use Rattle.adjudicate_core.specs.Lines.{file_fault_name, look_words, refused_file, refused_manifest}
+use Rattle.adjudicate_core.specs.Lines.{look_words, refused_file, refused_manifest}
 
 -- ---- one file
 
 -- what a file says as a table, or why it is none
-abbrev pub Found : Type 0
-Found = Result Contents FileFault
-
-abbrev pub found_table : Result Contents TableFault → Found
-found_table (Ok t) = Ok t
-found_table (Err fault) = Err (Bad fault)
-
 abbrev pub file_found : File → Found
 file_found f = found_table (contents_at f.name f.bytes)
 

@@ -70,8 +70,8 @@ status_ended (Err fault) = Err fault
 -- what the program answers to a task from what was read for it, where so is told how a source's run ends: `judge`, `probe`, `moves`, `game` and `audit` take memory for a
 -- text that is a position, `record` for what is laid out as a record, `list`, `check` and `run` always, `show` and `version` never
 abbrev pub AnswersFrom : {P F S : Type 0} → OutsideWithStores P F S → (Ended → Type 0) → Task → Given → Option (List ℕ) → Option (List ℕ) → Result ℕ WriteFault → Type 0
-AnswersFrom m Told (task.Judge t) given old new r = AnswersOnce (judges.IsReply t given) (IsText t.fen.now) old new r
-AnswersFrom m Told (task.Probe t) given old new r = AnswersOnce (probes.IsReply t given) (IsText t.fen.now) old new r
+AnswersFrom m Told (task.Judge t) given old new r = AnswersOnce (judges.IsReply m.outside.disk t given) (IsText t.fen.now) old new r
+AnswersFrom m Told (task.Probe t) given old new r = AnswersOnce (probes.IsReply m.outside.disk t given) (IsText t.fen.now) old new r
 AnswersFrom m Told (task.Moves t) given old new r = AnswersOnce (of_moves.IsReply t) (IsText t.fen.now) old new r
 AnswersFrom m Told (task.List t) given old new r = AnswersRead (lists.IsReply m.outside.disk t) (lists.IsListUnread m.outside.disk t) old new r
 AnswersFrom m Told (task.Check t) given old new r = AnswersRead (checks.IsReply m.outside.disk t) (checks.IsCheckUnread m.outside.disk t) old new r

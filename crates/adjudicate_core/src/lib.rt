@@ -81,6 +81,7 @@ mod sending;
 mod silence;
 mod stores;
 mod system;
+mod folders;
 mod tables;
 mod words;
 

@@ -65,8 +65,8 @@ fn answer_given<D: LineDisk, I: Input, H: Host, W: Output, E: Output>(
 {
     let Context { sources, system } = given;
     match task {
-        Task::Judge(task) => put_answered(out, task.answer(alloc, sources)),
-        Task::Probe(task) => put_answered(out, task.answer(alloc, sources)),
+        Task::Judge(task) => put_answered(out, task.answer(alloc, sources, system.disk)),
+        Task::Probe(task) => put_answered(out, task.answer(alloc, sources, system.disk)),
         Task::Moves(task) => put_answered(out, task.answer(alloc)),
         Task::List(task) => put_read(out, task.answer(alloc, system.disk, err)),
         Task::Check(task) => put_read(out, task.answer(alloc, system.disk, err)),

@@ -4,8 +4,7 @@ ghost use Rattle.std.specs.Prelude.{◌≡◌, map, option_map, IfOk, Some, None
 ghost use Rattle.move_msg.specs.Files.{table_file_of};
 ghost use Rattle.move_msg.specs.Manifests.{entry_of};
 ghost use Rattle.task_files.specs.FileNames.{file_named};
-ghost use Rattle.adjudicate_core.specs.Lines.{file_fault_name};
-ghost use Rattle.adjudicate_core.specs.Looks.{file_found, gathered, gathered_by, held, look_at, look_for, tables_from_looks, with_found};
+ghost use Rattle.adjudicate_core.specs.Looks.{gathered, gathered_by, held, look_at, look_for, tables_from_looks, with_found};
 ghost use Rattle.adjudicate_core.specs.Inside.Refusals.{filled_unless_refused, tables_or_refusal};
 
 use crate::answers::refusals::Refusal;
@@ -14,46 +13,9 @@ use arrayvec::ArrayString;
 use judge_core::{Set, SetFault};
 use move_msg::{Line as Entry, Manifest, NamedFile, file_digest};
 use std::alloc::{AllocError, Global};
-use table_file::{Table, TableFault, open};
+use table_file::Table;
+use table_folder::{FileFault, open_file};
 use task_files::Inputs;
-
-/// Why a file isn't the table that it should be.
-#[derive(Clone, Copy)]
-pub enum FileFault {
-    /// No file has the name in the manifest.
-    Missing,
-    /// The SHA-256 digest of the file's bytes isn't the manifest's.
-    Changed,
-    /// The bytes are no table of that name.
-    Bad(TableFault),
-}
-
-impl FileFault {
-    /// The fault's name, as it is printed.
-    pub fn name(self) -> &'static str
-        ensures { result.now ≡ file_fault_name self }
-    {
-        match self {
-            FileFault::Missing => "missing",
-            FileFault::Changed => "changed",
-            FileFault::Bad(fault) => fault.name(),
-        }
-    }
-}
-
-/// The table of a file.
-pub(crate) fn open_file<'f>(
-    alloc: Global,
-    file: &'f NamedFile,
-) -> Result<Result<Table<'f>, FileFault>, AllocError>
-    ensures { IfOk result (λ found. found ≡ file_found (table_file_of file.now)) }
-{
-    match open(alloc, file.name.as_str().as_bytes(), &file.bytes) {
-        Ok(table) => Ok(Ok(table)),
-        Err(TableFault::OutOfMemory) => Err(AllocError),
-        Err(fault) => Ok(Err(FileFault::Bad(fault))),
-    }
-}
 
 /// The file of this name.
 fn file_named<'f>(files: &'f [NamedFile], name: &str) -> Option<&'f NamedFile>
@@ -81,7 +43,7 @@ fn open_line<'f>(
     if file_digest(&file.bytes) != line.digest {
         return Ok(Err(FileFault::Changed));
     }
-    open_file(alloc, file)
+    open_file(alloc, file.name.as_str(), &file.bytes)
 }
 
 /// Adds a table that was found; of two tables of one kind and material the first stays.
@@ -112,7 +74,7 @@ fn add_files<'f>(
     ensures cache { IfOk result (λ _. set.new.cache ≡ set.old.cache) }
 {
     for file in files {
-        let found = open_file(alloc, file)?;
+        let found = open_file(alloc, file.name.as_str(), &file.bytes)?;
         match add_found(set, &file.name, found)? {
             Ok(()) => {}
             Err(refusal) => return Ok(Err(refusal)),

@@ -1,4 +1,4 @@
--- `judge [--tables DIR] [--manifest FILE] FEN`: the verdict on a position (this project's own).
+-- `judge [--tables DIR] [--manifest FILE] [--lazy] FEN`: the verdict on a position (this project's own).
 use Rattle.std.specs.Prelude.{◌≡◌, false, List, [], ◌∷◌, Option, Some, None, codes, option_map}
 use Rattle.board_core.specs.declared.parts.Parts.{Parts}
 use Rattle.judge_core.specs.Ruling.{ruling}
@@ -11,7 +11,11 @@ use Rattle.adjudicate_core.specs.declared.commands.Form.TheVariants as form
 use Rattle.adjudicate_core.specs.Misuses.{Fault, NoWord}
 use Rattle.task_files.specs.Sources.{Named}
 use Rattle.task_files.specs.Given.{Given}
+use Rattle.std.specs.Borrow.{Bor}
+use Rattle.system_io.specs.Disks.{DiskFacts}
+use Rattle.adjudicate_core.specs.FolderAnswers.{ByFolder, read_at_once, read_when_asked}
 use Rattle.adjudicate_core.specs.Looks.{gathered}
+use Rattle.adjudicate_core.specs.Numbers.{is_set}
 use Rattle.adjudicate_core.specs.Reply.{ByTables, IsForText, Reply}
 use Rattle.adjudicate_core.specs.declared.commands.judge.Judge.{Judge}
 
@@ -19,19 +23,22 @@ abbrev pub rules : List Rule
 rules =
     rule_of_form form.Option (codes "tables")
     ∷ rule_of_form form.Option (codes "manifest")
+    ∷ rule_of_form form.Flag (codes "lazy")
     ∷ rule_of_form form.Word (codes "FEN") ∷ []
 
 -- the values of its arguments
 abbrev pub HasValues : (Text → Option Text) → Judge → Type 0
-HasValues value t = (option_map (λ s. s.now) t.tables ≡ value (codes "tables")) × (option_map (λ s. s.now) t.manifest ≡ value (codes "manifest")) × (Some t.fen.now ≡ value (codes "FEN"))
+HasValues value t =
+    (option_map (λ s. s.now) t.tables ≡ value (codes "tables")) × (option_map (λ s. s.now) t.manifest ≡ value (codes "manifest"))
+    × (t.lazy ≡ is_set (value (codes "lazy"))) × (Some t.fen.now ≡ value (codes "FEN"))
 
 -- what may be wrong with its values, in the order in which it is told
 abbrev pub faults : List Fault
 faults = NoWord (codes "FEN") ∷ []
 
--- what is read for it
+-- what is read for it before it answers
 abbrev pub named : Judge → Named
-named t = record { folder = option_map (λ s. s.now) t.tables; manifest = option_map (λ s. s.now) t.manifest; input = false; kept = None; other_kept = None }
+named t = record { folder = option_map (λ s. s.now) (read_at_once t.lazy t.tables); manifest = option_map (λ s. s.now) t.manifest; input = false; kept = None; other_kept = None }
 
 -- the verdict's name, or that the game goes on
 unfoldable pub judged : Tables → Parts → Reply
@@ -40,5 +47,10 @@ judged tables p = record { text = ended (verdict_words (ruling tables p)); statu
 abbrev pub IsJudged : Tables → Parts → Reply → Type 0
 IsJudged tables p r = r ≡ judged tables p
 
-abbrev pub IsReply : Judge → Given → Reply → Type 0
-IsReply t given r = IsForText t.fen.now (ByTables (gathered given) IsJudged) r
+-- by the tables of a folder that are read when the position asks for them, or by those that were given
+abbrev pub IsJudgedBy : DiskFacts → Given → Option (Bor (List ℕ)) → Parts → Reply → Type 0
+IsJudgedBy disk given (Some path) = ByFolder disk path.now given.told IsJudged
+IsJudgedBy disk given None = ByTables (gathered given) IsJudged
+
+abbrev pub IsReply : DiskFacts → Judge → Given → Reply → Type 0
+IsReply disk t given r = IsForText t.fen.now (IsJudgedBy disk given (read_when_asked t.lazy t.tables)) r

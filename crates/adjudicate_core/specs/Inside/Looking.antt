@@ -6,8 +6,8 @@ use Rattle.move_msg.specs.Files.{File, entry_for}
 use Rattle.move_msg.specs.Manifests.{Entry, entry_of}
 use Rattle.move_msg.specs.TextLines.{text_of}
 use Rattle.adjudicate_core.specs.declared.commands.check.FileCheck.{FileCheck}
-use Rattle.adjudicate_core.specs.declared.tables.FileFault.{FileFault}
-use Rattle.adjudicate_core.specs.declared.tables.FileFault.TheVariants.{Changed, Missing}
+use Rattle.table_folder.specs.declared.fault.FileFault.{FileFault}
+use Rattle.table_folder.specs.declared.fault.FileFault.TheVariants.{Changed, Missing}
 use Rattle.adjudicate_core.specs.Lines.{look_words}
 use Rattle.adjudicate_core.specs.Looks.{file_found, found_fault}
 use Rattle.adjudicate_core.specs.Reply.{Reply, status_if}

@@ -16,7 +16,6 @@ ghost use Rattle.system_io.specs.Outputs.{WritesFront};
 
 use crate::answers::line_parts::{add_column, add_word, numbered, verdict_word};
 use crate::answers::refusals::Refusal;
-use crate::tables::FileFault;
 use arrayvec::ArrayString;
 use board_core::{Move, Verdict};
 use fen_text::write_move;
@@ -29,6 +28,7 @@ use move_msg::{ArbiterId, Message};
 use record_audit::Finding;
 use relay_world::State;
 use system_io::{Output, WriteFault};
+use table_folder::FileFault;
 
 /// What an arbiter keeps.
 #[derive(Clone, Copy)]

@@ -1,17 +1,18 @@
 //! Refusals and their lines.
 
 ghost use Rattle.std.specs.Prelude.{◌≡◌, ◌≤◌, ◌++◌, length};
-ghost use Rattle.adjudicate_core.specs.Lines.{entry_fault_words, fault_text, file_fault_name, message_fault, refusal_words, refused_entry, refused_fen, refused_file, refused_message};
+ghost use Rattle.adjudicate_core.specs.Lines.{entry_fault_words, fault_text, message_fault, refusal_words, refused_entry, refused_fen, refused_file, refused_message};
+ghost use Rattle.table_folder.specs.Faults.{file_fault_name};
 ghost use Rattle.record_audit.specs.Findings.{refused_record};
 
 use crate::answers::line_parts::{add_word, numbered};
 use crate::entries::EntryFault;
-use crate::tables::FileFault;
 use arrayvec::ArrayString;
 use fen_text::FenFault;
 use game_status::add_refused_record;
 use line_teller::LineWords;
 use move_msg::{MessageFault, RecordFault};
+use table_folder::FileFault;
 
 /// Why something is refused.
 #[derive(Clone, Copy)]

@@ -16,7 +16,6 @@ use super::{Form, Value};
 use crate::answers::Answer;
 use crate::answers::lines::Line;
 use crate::answers::refusals::Refusal;
-use crate::tables::{FileFault, open_file};
 use crate::words::numbers::is_set;
 use crate::words::usage::ValueFault;
 use crate::words::values::{option_in, word_in};
@@ -25,6 +24,7 @@ use move_msg::{Line as Entry, Manifest, NamedFile};
 use std::alloc::{AllocError, Global};
 use std::io::Write;
 use system_io::{Disk, ReadFault};
+use table_folder::{FileFault, open_file};
 use task_files::{InputPaths, TableRequest, looks_in, read_manifest};
 
 /// Whether the tables in a folder are those of a manifest.
@@ -69,7 +69,7 @@ impl TableRequest for FileCheck {
     ghost made_of = { IsSeenOf };
 
     fn of(alloc: Global, file: NamedFile) -> Result<FileCheck, AllocError> {
-        let found = open_file(alloc, &file)?;
+        let found = open_file(alloc, file.name.as_str(), &file.bytes)?;
         Ok(FileCheck {
             entry: Entry::of(file.name, &file.bytes),
             fault: found.err(),

@@ -31,12 +31,14 @@ pub struct Probe<'a> {
     pub tables: &'a str,
     /// The file of the manifest that the tables are held to, if one is named.
     pub manifest: Option<&'a str>,
+    /// Whether a table is read when the position asks for it, and no other one.
+    pub lazy: bool,
     /// The position's FEN text.
     pub fen: &'a str,
 }
 
 /// The values of `probe`.
-pub(crate) const VALUES: [Value; 3] = [
+pub(crate) const VALUES: [Value; 4] = [
     Value {
         name: "tables",
         form: Form::Option,
@@ -44,6 +46,10 @@ pub(crate) const VALUES: [Value; 3] = [
     Value {
         name: "manifest",
         form: Form::Option,
+    },
+    Value {
+        name: "lazy",
+        form: Form::Flag,
     },
     Value {
         name: "FEN",
@@ -82,6 +88,22 @@ fn told_of(alloc: Global, sources: &Inputs, position: &Position) -> Result<Answe
     }
 }
 
+/// The same by the tables of a folder, of which those are read that the position asks for.
+fn told_in<D: Disk>(
+    alloc: Global,
+    disk: &D,
+    path: &str,
+    manifest: &Manifest,
+    position: &Position,
+) -> Result<Answer, AllocError>
+    ensures { IfOk result (λ a. ByFolder (D.facts disk.now) path.now (told_by manifest.now) IsProbeReply position.now (reply_of a)) }
+{
+    match columns_in(alloc, disk, path, manifest, position)? {
+        Ok(columns) => tell(alloc, columns.probed),
+        Err(refusal) => Ok(Answer::Refused(refusal)),
+    }
+}
+
 impl<'a> Probe<'a> {
     /// The task with these values, or the first thing that is wrong with them.
     pub(crate) fn of(matches: &ArgMatches<'a>) -> Result<Probe<'a>, ValueFault<'a>>
@@ -91,16 +113,17 @@ impl<'a> Probe<'a> {
         Ok(Probe {
             tables: option_in(matches, "tables")?,
             manifest: matches.get_str("manifest"),
+            lazy: is_set(matches.get_str("lazy")),
             fen: word_in(matches, "FEN")?,
         })
     }
 
-    /// What is read for it.
+    /// What is read for it before it answers.
     pub(crate) fn places(&self) -> InputPaths<'a>
         ensures { named_by result ≡ named self.now }
     {
         InputPaths {
-            folder: Some(self.tables),
+            folder: read_at_once(self.lazy, Some(self.tables)),
             manifest: self.manifest,
             reads_input: false,
             kept: None,
@@ -108,14 +131,36 @@ impl<'a> Probe<'a> {
         }
     }
 
-    /// The values of the position of the text. A text that is no position is refused first.
-    pub(crate) fn answer(&self, alloc: Global, sources: &Inputs) -> Result<Answer, AllocError>
-        ensures ok { IfOk result (λ a. IsReply self.now sources.now (reply_of a)) }
+    /// The values of a position in the tables that were read, or in those that it asks for.
+    fn answer_position<D: Disk>(
+        &self,
+        alloc: Global,
+        sources: &Inputs,
+        disk: &D,
+        position: &Position,
+    ) -> Result<Answer, AllocError>
+        ensures { IfOk result (λ a. IsProbedBy (D.facts disk.now) sources.now (read_when_asked self.now.lazy (Some self.now.tables)) position.now (reply_of a)) }
+    {
+        match read_when_asked(self.lazy, Some(self.tables)) {
+            Some(path) => told_in(alloc, disk, path, sources.manifest(), position),
+            None => told_of(alloc, sources, position),
+        }
+    }
+
+    /// The values of the position of the text. A text that is no position is refused first. With `--lazy` a table is read when the
+    /// position asks for it, and what is at fault in another one isn't told.
+    pub(crate) fn answer<D: Disk>(
+        &self,
+        alloc: Global,
+        sources: &Inputs,
+        disk: &D,
+    ) -> Result<Answer, AllocError>
+        ensures ok { IfOk result (λ a. IsReply (D.facts disk.now) self.now sources.now (reply_of a)) }
         ensures memory { OnErr result (IsText self.now.fen.now) }
     {
         match read(self.fen.as_bytes()) {
             Err(fault) => Ok(Answer::Refused(Refusal::Fen(fault))),
-            Ok(position) => told_of(alloc, sources, &position),
+            Ok(position) => self.answer_position(alloc, sources, disk, &position),
         }
     }
 }

@@ -22,7 +22,6 @@ use super::{Form, Value};
 use crate::answers::Answer;
 use crate::answers::lines::{KeptCount, Line};
 use crate::answers::refusals::Refusal;
-use crate::tables::FileFault;
 use crate::words::numbers::CacheSize;
 use crate::words::usage::ValueFault;
 use crate::words::values::{cache_in, delay_in};
@@ -34,6 +33,7 @@ use relay_world::{Event, Game, World, WorldFault, run};
 use std::alloc::{AllocError, Global};
 use table_file::{TableFault, reads_what_is_laid_out};
 use task_files::{InputPaths, Inputs};
+use table_folder::FileFault;
 
 /// Two arbiters under the schedule of the input.
 #[derive(Clone, Copy)]

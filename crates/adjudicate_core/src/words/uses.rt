@@ -12,9 +12,9 @@ use std::alloc::{AllocError, Global};
 use system_io::{Output, WriteFault};
 
 /// The usage: all command lines.
-const USAGE: &str = "usage: adjudicate judge [--tables DIR] [--manifest FILE] FEN
+const USAGE: &str = "usage: adjudicate judge [--tables DIR] [--manifest FILE] [--lazy] FEN
        adjudicate moves [--san] FEN
-       adjudicate probe --tables DIR [--manifest FILE] FEN
+       adjudicate probe --tables DIR [--manifest FILE] [--lazy] FEN
        adjudicate list [--progress] DIR
        adjudicate check --manifest FILE [--progress] DIR
        adjudicate show

@@ -1,0 +1,26 @@
+-- What is looked up in a folder whose tables are read when a position asks for them; cited by private functions alone.
+use Rattle.std.specs.Prelude.{◌≡◌, ℕ, List, Option, Some, None, Result, Ok, Err}
+use Rattle.board_core.specs.declared.parts.Parts.{Parts}
+use Rattle.judge_core.specs.declared.display.Columns.{Columns}
+use Rattle.judge_core.specs.ProbeResult.{IsProbed}
+use Rattle.judge_core.specs.Ruling.{ruling}
+use Rattle.judge_core.specs.Tables.{Tables}
+use Rattle.move_msg.specs.ToldManifests.{ToldManifest}
+use Rattle.system_io.specs.Disks.{DiskFacts}
+use Rattle.table_folder.specs.declared.fault.FileRefusal.{FileRefusal}
+use Rattle.table_folder.specs.Folders.{Folder, IsFolderAt}
+use Rattle.table_folder.specs.Settled.{AnswersBy, IsRefusedAt}
+use Rattle.task_files.specs.Outside.{FolderFails}
+use Rattle.adjudicate_core.specs.declared.answers.refusals.Refusal.{Refusal}
+use Rattle.adjudicate_core.specs.declared.answers.refusals.Refusal.TheVariants as refusal
+
+-- what tables say of a position
+abbrev pub AreColumns : Parts → Columns → Tables → Type 0
+AreColumns p columns tables = IsProbed tables p columns.probed × (columns.verdict ≡ ruling tables p)
+
+-- what a folder's tables say of a position, or why they say nothing
+pub data FindsColumns (disk : DiskFacts) (path : List ℕ) (manifest : Option ToldManifest) (p : Parts) (found : Result Columns Refusal) : Type 0 where
+  FindsBadLine : (line : ℕ) → manifest ≡ Some (Err line) → found ≡ Err (refusal.Manifest line) → FindsColumns disk path manifest p found
+  FindsNoFolder : FolderFails disk path manifest → found ≡ Err refusal.Files → FindsColumns disk path manifest p found
+  FindsBadFile : (folder : Folder) → IsFolderAt disk path manifest folder → (file : FileRefusal) → IsRefusedAt disk folder p file → found ≡ Err (refusal.File file.name file.fault) → FindsColumns disk path manifest p found
+  FindsAll : (folder : Folder) → IsFolderAt disk path manifest folder → (columns : Columns) → AnswersBy disk folder (λ q. q ≡ p) (AreColumns p columns) → found ≡ Ok columns → FindsColumns disk path manifest p found
