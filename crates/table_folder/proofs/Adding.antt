@@ -1,6 +1,6 @@
 -- Tables that are put into empty slots.
-use Rattle.std.proofs.Common.{◌≡◌, ◌≢◌, ◌<◌, ℕ, suc, Bool, true, false, List, length, get_or, count_by, is_some, set, Option, Some, None, Result, Ok, Err, refl, sym, ap, cond, ◌∙◌, inl, inr, arith, if◌then◌else◌}
-use Rattle.std.proofs.lemmas.List.{length-set, get_or-set_same, get_or-set_other}
+use Rattle.std.proofs.Common.{◌≡◌, ◌≢◌, ◌<◌, ℕ, suc, Bool, true, false, List, length, replicate, get_or, count_by, is_some, set, Option, Some, None, Result, Ok, Err, refl, sym, ap, cond, ◌∙◌, inl, inr, arith, if◌then◌else◌}
+use Rattle.std.proofs.lemmas.List.{get_or-replicate, length-replicate, length-set, get_or-set_same, get_or-set_other}
 use Rattle.std.proofs.lemmas.Bool.{cases_eq}
 use Rattle.std.proofs.lemmas.List.Sums.{sum_by-set}
 use Rattle.std.specs.Str.{bytes_eq}
@@ -65,16 +65,26 @@ slot_below Dtz key lt = omega (arith, lt)
 count_more : (xs : Tables) (i : ℕ) (t : Contents) → i < length xs → get_or xs i None ≡ None → count_by is_some (set xs i (Some t)) ≡ suc (count_by is_some xs)
 count_more xs i t lt none = omega (arith, sum_by-set (λ (x : Option Contents). cond (is_some x) 1 0) xs i (Some t) None lt, ap {B = ℕ} (λ (x : Option Contents). cond (is_some x) 1 0) none)
 
+-- no table is in an empty set
+pub none_of : (disk : DiskFacts) (folder : Folder) → AreOf disk folder (replicate 290 None)
+none_of disk folder = record {
+  slots = length-replicate {A = Option Contents} 290 None;
+  each = λ kind key t known there. let none = sym there ∙ get_or-replicate 290 (slot kind key) None None (slot_below kind key known) in absurd cc;
+}
+
 -- one table more of the folder
-pub one_more_of : AddingKeepsTheRest → (disk : DiskFacts) (folder : Folder) (old new : Tables) (kind : TableKind) (key : ℕ) → key < 145 → length old ≡ 290 → table_at old kind key ≡ None → HasTable folder kind key → AreOf disk folder old → AddsTable disk folder old new kind key → IsOneMoreOf disk folder old new
-one_more_of keeps disk folder old new kind key known slots lacks has are adds =
-    let fits : slot kind key < length old = omega (arith, slot_below kind key known, slots) in
+pub one_more_of : AddingKeepsTheRest → (disk : DiskFacts) (folder : Folder) (old new : Tables) (kind : TableKind) (key : ℕ) → key < 145 → table_at old kind key ≡ None → HasTable folder kind key → AreOf disk folder old → AddsTable disk folder old new kind key → IsOneMoreOf disk folder old new
+one_more_of keeps disk folder old new kind key known lacks has are adds =
+    let fits : slot kind key < length old = omega (arith, slot_below kind key known, are.slots) in
     rw adds.put (record {
-      opened = λ other k t lt there.
-          elim (cases_eq (slot other k) (slot kind key)) [
-            | inl same ↦ is_new other k t lt same fits there
-            | inr ne ↦ are other k t lt (sym (get_or-set_other old (slot kind key) (slot other k) (Some adds.table) None ne) ∙ there)
-          ];
+      opened = record {
+        slots = length-set old (slot kind key) (Some adds.table) ∙ are.slots;
+        each = λ other k t lt there.
+            elim (cases_eq (slot other k) (slot kind key)) [
+              | inl same ↦ is_new other k t lt same fits there
+              | inr ne ↦ are.each other k t lt (sym (get_or-set_other old (slot kind key) (slot other k) (Some adds.table) None ne) ∙ there)
+            ];
+      };
       kept = (keeps old kind key adds.table lacks fits).kept;
       slots = length-set old (slot kind key) (Some adds.table);
       more = omega (arith, count_more old (slot kind key) adds.table fits lacks);
@@ -100,10 +110,10 @@ taken (Err Duplicate) tables kind other key k a b lacks twice memory added =
 taken (Err OutOfMemory) tables kind other key k a b lacks twice memory added = absurd (memory refl)
 
 -- a table more after a look at a set that stayed
-pub one_more_after : AddingKeepsTheRest → (disk : DiskFacts) (folder : Folder) (old mid : Holding) (new : Tables) (probed : ProbeResult) (kind : TableKind) (key : ℕ) → key < 145 → length old.tables ≡ 290 → mid ≡ old → MissesBy mid.tables probed kind key → HasTable folder kind key → AreOf disk folder old.tables → AddsTable disk folder mid.tables new kind key → IsOneMoreOf disk folder old.tables new
-one_more_after keeps disk folder old mid new probed kind key known slots same missing has are adds =
+pub one_more_after : AddingKeepsTheRest → (disk : DiskFacts) (folder : Folder) (old mid : Holding) (new : Tables) (probed : ProbeResult) (kind : TableKind) (key : ℕ) → key < 145 → mid ≡ old → MissesBy mid.tables probed kind key → HasTable folder kind key → AreOf disk folder old.tables → AddsTable disk folder mid.tables new kind key → IsOneMoreOf disk folder old.tables new
+one_more_after keeps disk folder old mid new probed kind key known same missing has are adds =
     let before = ap (λ s. s.tables) same in
-    one_more_of keeps disk folder old.tables new kind key known slots (rw before at missing).0 has are (rw before at adds)
+    one_more_of keeps disk folder old.tables new kind key known (rw before at missing).0 has are (rw before at adds)
 
 -- a refusal after a look at a set that stayed
 pub refused_after : (disk : DiskFacts) (folder : Folder) (old mid new : Holding) (p : Parts) (probed : ProbeResult) (kind : TableKind) {key : ℕ} (refusal : FileRefusal) → key < 145 → mid ≡ old → new ≡ mid → IsProbed old.tables p probed → MissesBy mid.tables probed kind key → HasTable folder kind key → AreOf disk folder old.tables → IsRefusalOf disk folder kind key refusal → (new.tables ≡ old.tables) × IsRefusedAt disk folder p refusal

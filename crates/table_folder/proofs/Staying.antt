@@ -39,7 +39,7 @@ none_more : (disk : DiskFacts) (folder : Folder) (old new : Tables) (kind : Tabl
 none_more disk folder old new kind key known are lacks none =
     elim (there_or_not (table_at new kind key)) [
       | inl without ↦ without ∙ sym lacks
-      | inr (t, has) ↦ absurd (none (are kind key t known has).has)
+      | inr (t, has) ↦ absurd (none (are.each kind key t known has).has)
     ]
 
 -- ---- what a settled position misses is final

@@ -1,5 +1,5 @@
 -- Folders of tables whose files are read when they are asked for (this project's own).
-use Rattle.std.specs.Prelude.{◌≡◌, ◌<◌, ℕ, List, Option, Some, None, IsSome, Result, Ok, Err, find, option_map, if◌then◌else◌}
+use Rattle.std.specs.Prelude.{◌≡◌, ◌<◌, ℕ, List, length, Option, Some, None, IsSome, Result, Ok, Err, find, option_map, if◌then◌else◌}
 use Rattle.std.specs.List.{Contains}
 use Rattle.std.specs.Str.{bytes_eq}
 use Rattle.sha2.specs.Sha256.{sha256}
@@ -74,6 +74,7 @@ pub record IsTableOf (disk : DiskFacts) (folder : Folder) (kind : TableKind) (ke
   pub has : HasTable folder kind key
   pub says : Says disk folder (file_name kind key) (Ok t)
 
--- each table is one of the folder
-abbrev pub AreOf : DiskFacts → Folder → Tables → Type 0
-AreOf disk folder tables = (kind : TableKind) (key : ℕ) (t : Contents) → key < 145 → table_at tables kind key ≡ Some t → IsTableOf disk folder kind key t
+-- a set of 290 slots each of whose tables is one of the folder
+pub record AreOf (disk : DiskFacts) (folder : Folder) (tables : Tables) : Type 0 where
+  pub slots : length tables ≡ 290
+  pub each : (kind : TableKind) (key : ℕ) (t : Contents) → key < 145 → table_at tables kind key ≡ Some t → IsTableOf disk folder kind key t

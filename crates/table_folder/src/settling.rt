@@ -1,6 +1,6 @@
 //! Until no table of a folder is missing at a position.
 
-ghost use Rattle.std.specs.Prelude.{◌≡◌, ◌↔◌, ◌<◌, ℕ, OnErr, None, Some, IfOk, IfErr, IfSome, IfNone, IsTrue, Ok, Err};
+ghost use Rattle.std.specs.Prelude.{◌≡◌, ◌↔◌, ◌<◌, ◌≤◌, ℕ, replicate, OnErr, None, Some, IfOk, IfErr, IfSome, IfNone, IsTrue, Ok, Err};
 ghost use Rattle.judge_core.specs.ProbeResult.{IsProbed};
 ghost use Rattle.judge_core.specs.MoreTables.{HasAll};
 ghost use Rattle.judge_core.specs.Ruling.{ruling};
@@ -38,6 +38,18 @@ struct MissingTable {
 }
 
 impl<'r, D: Disk> TableFolder<'r, D> {
+    /// An empty set for the folder's tables that may keep this many decoded blocks, 1 to 4096. No file is read. The error comes where
+    /// memory is refused.
+    pub fn new_set(&self, alloc: Global, cache: usize) -> Result<Set<'r>, AllocError>
+        requires some { 1 ≤ cache }
+        requires most { cache ≤ 4096 }
+        ensures opened { IfOk result (λ set. AreOf (D.facts self.now.disk) self.now.folder set.tables) }
+        ensures empty { IfOk result (λ set. set.tables ≡ replicate 290 None) }
+        ensures cache { IfOk result (λ set. set.cache ≡ cache) }
+    {
+        Set::new(alloc, cache)
+    }
+
     /// Whether a set lacks a table that the folder has.
     fn lacks(&self, set: &Set<'_>, kind: TableKind, material: &Material) -> bool
         ensures { IsTrue result ↔ ((table_at set.now.tables kind material.now ≡ None) × HasTable self.now.folder kind material.now) }
@@ -123,7 +135,6 @@ impl<'r, D: Disk> TableFolder<'r, D> {
         ensures cache { set.new.cache ≡ set.old.cache }
     {
         adding_keeps_the_rest();
-        let _slots = set.cache();
         let columns = set.answers(alloc, position)?;
         let Some(missing) = self.missing(set, &columns.probed) else {
             return Ok(Look::Settled(columns));
