@@ -101,11 +101,6 @@ module _ (F : Type 0) where
   next_told t s now (Some tokens) (Some behind) reading old new (Ok step) reads told = step_told t s now tokens behind (Some behind) reading old new step refl reads told
   next_told t s now was left reading old new (Err fault) reads told = tt
 
-  pub next_ended : (t : Terms) (s : Sums) (was left : Option (List Token)) (old : Option (List ℕ)) → IfKnown was left (λ tokens behind. ReadsGame tokens None behind) → IfSome was (λ tokens. TellsNext t s F tokens s left old old step.Ended)
-  next_ended t s None left old reads = tt
-  next_ended t s (Some tokens) None old reads = absurd reads
-  next_ended t s (Some tokens) (Some behind) old reads = (behind, reads, refl, refl)
-
   cuts : (t : Terms) (s : Sums) (tokens behind : List Token) (reading : ReadingTold) (old new : Option (List ℕ)) → ReadsGame tokens (Some reading) behind → CutsReading t s reading old new → CutsNext t s F tokens old new
   cuts t s tokens behind reading old new reads (inl (l, is, front)) = (written_line t.only_differing l, inl (reading, behind, l, reads, is, refl), front)
   cuts t s tokens behind reading old new reads (inr front) = (ended refused_memory, inr (refused_memory, NoMemory, refl), front)

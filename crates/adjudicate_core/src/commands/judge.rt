@@ -2,25 +2,30 @@
 
 ghost use Rattle.std.specs.Prelude.{◌≡◌, IfOk, OnErr, IfErr};
 ghost use Rattle.clap.specs.Words.{first_value, found_of};
-ghost use Rattle.adjudicate_core.specs.Commands.Judge.{HasValues, IsJudged, IsReply, faults, named};
+ghost use Rattle.adjudicate_core.specs.Commands.Judge.{HasValues, IsJudged, IsJudgedBy, IsReply, faults, named};
+ghost use Rattle.adjudicate_core.specs.FolderAnswers.{ByFolder, read_when_asked};
 ghost use Rattle.adjudicate_core.specs.Inside.Asked.{reply_of};
 ghost use Rattle.adjudicate_core.specs.Looks.{gathered};
 ghost use Rattle.adjudicate_core.specs.Reply.{ByTables, IsText};
 ghost use Rattle.adjudicate_core.specs.Misuses.{IsFirstMisuse, fault_words};
+ghost use Rattle.move_msg.specs.ToldBy.{told_by};
 ghost use Rattle.task_files.specs.Sources.{named_by};
 
 use super::{Form, Value};
 use crate::answers::Answer;
 use crate::answers::lines::Line;
 use crate::answers::refusals::Refusal;
+use crate::folders::{columns_in, read_at_once, read_when_asked};
 use crate::tables::gather;
-use crate::words::numbers::CacheSize;
+use crate::words::numbers::{CacheSize, is_set};
 use crate::words::usage::ValueFault;
 use crate::words::values::word_in;
 use board_core::Position;
 use clap::ArgMatches;
 use fen_text::read;
+use move_msg::Manifest;
 use std::alloc::{AllocError, Global};
+use system_io::Disk;
 use task_files::{InputPaths, Inputs};
 
 /// The verdict on a position.
