@@ -30,7 +30,7 @@ use Rattle.san_text.specs.Told.{file_letter, kind_text, promoted_text, rank_digi
 use Rattle.san_text.specs.Written.{castling_or_man, check_mark, file_by, man_told, mark_after, rank_by, san_of, san_told}
 use Rattle.san_text.specs.Laws.{IsReadBack}
 use Rattle.pgn_games.specs.Bytes.{is_digit}
-use Rattle.pgn_games.specs.Lines.{lines_of}
+use Rattle.pgn_games.specs.Lines.{lines_of_text}
 use Rattle.pgn_games.specs.Games.{SpellsGames}
 use Rattle.pgn_games.specs.Laws.{OneListIsSpelled, PlaysInTurn}
 use Rattle.pgn_games.specs.Scores.{AreScoresRead, EachByte, GameScore, IsReadLine, PartsTokens, ScoreTag, ScoresAreReadBack, SpellsMoveNumber, SpellsMovetext, SpellsScore, SpellsSymbol, SpellsTagPair, SpellsTags, escaped_value, is_score_symbol, joined_texts, result_text}
@@ -350,7 +350,7 @@ joined_is (score ∷ scores) = ap (λ (t : List ℕ). written_score score ++ t) 
 pub export_is_read_back : ExportSpellsScores → ScoresAreReadBack → ExportIsReadBack
 export_is_read_back spells read scores h short =
     let same = joined_is scores in
-    let w = read (map written_score scores) scores (each_spelled spells scores h) (subst (λ (t : List ℕ). AllByRecursion IsReadLine (lines_of t)) (sym same) short) in
+    let w = read (map written_score scores) scores (each_spelled spells scores h) (subst (λ (t : List ℕ). AllByRecursion IsReadLine (lines_of_text t)) (sym same) short) in
     (w.0, subst (λ (t : List ℕ). SpellsGames t w.0) same w.1, w.2)
 
 pub only_export_is_read : ExportIsReadBack → OneListIsSpelled → OnlyExportIsRead

@@ -12,7 +12,7 @@ use Rattle.fen_text.specs.Written.{fen_of}
 use Rattle.san_text.specs.Written.{san_of}
 use Rattle.pgn_games.specs.declared.game.GameResult.TheVariants.{Missing}
 use Rattle.pgn_games.specs.Bytes.{is_name}
-use Rattle.pgn_games.specs.Lines.{lines_of}
+use Rattle.pgn_games.specs.Lines.{lines_of_text}
 use Rattle.pgn_games.specs.Games.{ReadingTold, SpellsGames, usual_start}
 use Rattle.pgn_games.specs.Laws.{PlaysInTurn}
 use Rattle.pgn_games.specs.Scores.{AreScoresRead, EachByte, GameScore, IsReadLine, ScoreTag, SpellsScore, TagsLeadToStart, escaped_value, result_text}
@@ -77,9 +77,9 @@ ExportSpellsScores = (score : GameScore) → IsWritable score → SpellsScore (w
 -- a file in export format is read as the games that were written, to its end
 abbrev pub ExportIsReadBack : Type 0
 ExportIsReadBack =
-    (scores : List GameScore) → AllByRecursion IsWritable scores → AllByRecursion IsReadLine (lines_of (flat_map written_score scores)) → (readings : List ReadingTold) × SpellsGames (flat_map written_score scores) readings × AreScoresRead 1 (map written_score scores) scores readings
+    (scores : List GameScore) → AllByRecursion IsWritable scores → AllByRecursion IsReadLine (lines_of_text (flat_map written_score scores)) → (readings : List ReadingTold) × SpellsGames (flat_map written_score scores) readings × AreScoresRead 1 (map written_score scores) scores readings
 
 -- whatever games are read of such a file, they are those that were written
 abbrev pub OnlyExportIsRead : Type 0
 OnlyExportIsRead =
-    (scores : List GameScore) → AllByRecursion IsWritable scores → AllByRecursion IsReadLine (lines_of (flat_map written_score scores)) → (readings : List ReadingTold) → SpellsGames (flat_map written_score scores) readings → AreScoresRead 1 (map written_score scores) scores readings
+    (scores : List GameScore) → AllByRecursion IsWritable scores → AllByRecursion IsReadLine (lines_of_text (flat_map written_score scores)) → (readings : List ReadingTold) → SpellsGames (flat_map written_score scores) readings → AreScoresRead 1 (map written_score scores) scores readings

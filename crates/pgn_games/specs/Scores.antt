@@ -14,8 +14,8 @@ use Rattle.pgn_games.specs.declared.game.GameResult.TheVariants.{WhiteWins, Blac
 use Rattle.pgn_games.specs.declared.tags.TagName.{TagName}
 use Rattle.pgn_games.specs.declared.tags.TagName.TheVariants.{Fen}
 use Rattle.pgn_games.specs.Bytes.{is_digit, is_letter, is_name, is_space}
-use Rattle.pgn_games.specs.Lines.{lines_of}
-use Rattle.pgn_games.specs.Tags.{TagTexts, name_of, no_tags, with_tag}
+use Rattle.pgn_games.specs.Lines.{lines_of_text}
+use Rattle.pgn_games.specs.Tags.{TagTexts, tag_by_name, no_tags, with_tag}
 use Rattle.pgn_games.specs.Tokens.{line_after}
 use Rattle.pgn_games.specs.Games.{GameRead, ReadingTold, SpellsGames, usual_start}
 
@@ -77,7 +77,7 @@ with_value (Some name) value tags = with_tag name value tags
 
 abbrev pub values_kept : TagTexts → List ScoreTag → TagTexts
 values_kept kept [] = kept
-values_kept kept (tag ∷ tags) = values_kept (with_value (name_of tag.name) (kept_value tag) kept) tags
+values_kept kept (tag ∷ tags) = values_kept (with_value (tag_by_name tag.name) (kept_value tag) kept) tags
 
 -- a FEN tag sets the start (section 9.7.2), and other tags leave it
 abbrev pub LeadsToStart : Option TagName → List ℕ → Parts → Parts → Type 0
@@ -88,7 +88,7 @@ LeadsToStart (Some name) value old new = new ≡ old
 abbrev pub TagsLeadToStart : List ScoreTag → Parts → Parts → Type 0
 TagsLeadToStart [] old new = new ≡ old
 TagsLeadToStart (tag ∷ tags) old new =
-    (p : Parts) × LeadsToStart (name_of tag.name) (kept_value tag) old p × TagsLeadToStart tags p new
+    (p : Parts) × LeadsToStart (tag_by_name tag.name) (kept_value tag) old p × TagsLeadToStart tags p new
 
 -- ---- movetext (section 8.2)
 
@@ -185,9 +185,9 @@ joined_texts texts = flat_map (λ text. text) texts
 -- a file of scores is read as the games of these scores, to its end
 abbrev pub ScoresAreReadBack : Type 0
 ScoresAreReadBack =
-    (texts : List (List ℕ)) (scores : List GameScore) → AllZip SpellsScore texts scores → AllByRecursion IsReadLine (lines_of (joined_texts texts)) → (readings : List ReadingTold) × SpellsGames (joined_texts texts) readings × AreScoresRead 1 texts scores readings
+    (texts : List (List ℕ)) (scores : List GameScore) → AllZip SpellsScore texts scores → AllByRecursion IsReadLine (lines_of_text (joined_texts texts)) → (readings : List ReadingTold) × SpellsGames (joined_texts texts) readings × AreScoresRead 1 texts scores readings
 
 -- whatever games are read of such a file, they are those of these scores
 abbrev pub OnlyScoresAreRead : Type 0
 OnlyScoresAreRead =
-    (texts : List (List ℕ)) (scores : List GameScore) → AllZip SpellsScore texts scores → AllByRecursion IsReadLine (lines_of (joined_texts texts)) → (readings : List ReadingTold) → SpellsGames (joined_texts texts) readings → AreScoresRead 1 texts scores readings
+    (texts : List (List ℕ)) (scores : List GameScore) → AllZip SpellsScore texts scores → AllByRecursion IsReadLine (lines_of_text (joined_texts texts)) → (readings : List ReadingTold) → SpellsGames (joined_texts texts) readings → AreScoresRead 1 texts scores readings
