@@ -12,6 +12,7 @@ use Rattle.pgn_games.specs.Tokens.{Token, token}
 use Rattle.pgn_games.specs.Games.{Course, GameRead, ReadingTold, ReadsTokens, behind_game, no_course, of_game}
 use Rattle.pgn_games.specs.Laws.{MovesAreReadBack, ReadsInTurn, movetext}
 use Rattle.pgn_games.proofs.CourseLaws.{move_read}
+use Rattle.pgn_games.proofs.StartLaws.{is_usual_start}
 
 pub none_behind : (ts : List Token) → of_game Over ts ≡ []
 unfolding of_game
@@ -97,8 +98,7 @@ tells_all line usual (m ∷ moves) (text ∷ texts) result h few =
 pub moves_are_read_back : MovesAreReadBack
 moves_are_read_back usual line texts moves result behind spelled position h few = record {
   usual = usual;
-  spelled = spelled;
-  position = position;
+  is_usual = is_usual_start usual spelled position;
   tells = subst (λ (ts : List Token). ReadsTokens (no_course usual) ts (read_as line usual moves result)) (sym (of_first line texts result behind)) (tells_all line usual moves texts result h few);
   rest = sym (behind_first line texts result behind);
 }

@@ -1,3 +1,4 @@
+pub mod StartLaws
 pub mod RunLaws
 pub mod QuoteLaws
 pub mod EscapeLaws

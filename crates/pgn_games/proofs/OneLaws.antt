@@ -28,6 +28,7 @@ use Rattle.pgn_games.specs.Lexemes.{Telling, Tag, MoveText, Begins, Ends, Told, 
 use Rattle.pgn_games.specs.Tokens.{Token, tokens_of}
 use Rattle.pgn_games.specs.Games.{ClosesVariation, Course, ReadingTold, ReadsGamesInTurn, ReadsMove, SetsStart, SetsTag, TakesToken, TakesIfMain, TakesMove, TakesTag, ReadsTokens, depth_of, no_course, of_game, passed, course_after_token}
 use Rattle.pgn_games.specs.Laws.{NoneIsTheEnd, OneGameIsRead, OneListIsSpelled}
+use Rattle.pgn_games.proofs.StartLaws.{usual_is_position, usual_spelled_so}
 
 -- what is known of texts and moves
 record TextFacts : Type 0 where
@@ -152,7 +153,7 @@ one_usual facts t p q h g a b = facts.position t p q ((facts.text t p a).1 h) ((
 
 one_game : TextFacts → OneGameIsRead
 one_game facts tokens behind others a b h g =
-    let usual = one_usual facts _ g.usual h.usual g.spelled h.spelled g.position h.position in
+    let usual = one_usual facts _ g.usual h.usual (usual_spelled_so g.usual g.is_usual) (usual_spelled_so h.usual h.is_usual) (usual_is_position g.usual g.is_usual) (usual_is_position h.usual h.is_usual) in
     (one_tells facts (no_course h.usual) (of_game Tags tokens) a b h.tells (subst (λ (p : Parts). ReadsTokens (no_course p) (of_game Tags tokens) b) usual g.tells), h.rest ∙ sym g.rest)
 
 one_list : OneGameIsRead → NoneIsTheEnd → (a b : List ReadingTold) (tokens : List Token) → ReadsGamesInTurn tokens a → ReadsGamesInTurn tokens b → a ≡ b

@@ -18,6 +18,7 @@ use Rattle.pgn_games.proofs.TokenLaws.{feed_passed, none_left}
 use Rattle.pgn_games.proofs.CommentLaws.{comment_endless, comment_feed, comment_too_long}
 use Rattle.pgn_games.proofs.GameLaws.{continues_one, continues_then, goes_on_by, over_at_end, still_on}
 use Rattle.std.proofs.lemmas.List.{drop_all}
+use Rattle.pgn_games.proofs.StartLaws.{is_usual_start}
 
 pub known_same : {A : Type 0} (a : Option A) (P : A → A → Type 0) → ((x : A) → P x x) → IfKnown a a P
 known_same None P h = tt
@@ -102,8 +103,7 @@ tells_nothing c ts e = subst (λ (l : List Token). ReadsTokens c l (reading_at_e
 pub game_read : (usual : Parts) (c : Course) (ts us : List Token) → usual_start ≡ fen_of usual → IsPosition usual → Continues (no_course usual) ts c us → IsGameOver c us → ReadsGame ts (reading_at_end c) us
 game_read usual c ts us spelled position h over = record {
   usual = usual;
-  spelled = spelled;
-  position = position;
+  is_usual = is_usual_start usual spelled position;
   tells = h.told (reading_at_end c) (tells_nothing c (of_game c.phase us) over.none);
   rest = sym over.all ∙ h.rest;
 }

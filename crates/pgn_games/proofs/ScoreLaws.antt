@@ -17,7 +17,7 @@ use Rattle.pgn_games.specs.Bytes.{is_digit}
 use Rattle.pgn_games.specs.Tags.{TagPair, TagTexts, tag_by_name, no_tags, tag_value, with_tag}
 use Rattle.pgn_games.specs.Lexemes.{MoveText, Tag, Telling, Told}
 use Rattle.pgn_games.specs.Tokens.{Token, token, token_if, tokens_from}
-use Rattle.pgn_games.specs.Games.{Course, PassesToken, ReadingTold, ReadsGame, ReadsGamesInTurn, SetsTag, ReadsTokens, behind_game, goes_on, no_course, of_game, reading_at_end, usual_start}
+use Rattle.pgn_games.specs.Games.{IsUsualStart, Course, PassesToken, ReadingTold, ReadsGame, ReadsGamesInTurn, SetsTag, ReadsTokens, behind_game, goes_on, no_course, of_game, reading_at_end}
 use Rattle.pgn_games.specs.Laws.{OneListIsSpelled}
 use Rattle.pgn_games.specs.Scores.{AreScoresRead, EachByte, GameScore, LeadsToStart, OnlyScoresAreRead, PartsTokens, ScoreTag, ScoresAreReadBack, SpellsMoveNumber, SpellsMovetext, SpellsScore, SpellsSymbol, SpellsTagPair, SpellsTags, TagsLeadToStart, escaped_value, is_score_symbol, is_white, joined_texts, kept_value, line_behind, result_text, score_read, values_kept, with_value}
 use Rattle.pgn_games.specs.Inside.Steps.{Continues}
@@ -267,16 +267,15 @@ result_is_on false r = refl
 result_is_on true r = refl
 
 -- a game that is over is read
-pub read_over : (c d : Course) (usual : Parts) (ts us : List Token) (x : ReadingTold) → c ≡ no_course usual → usual_start ≡ fen_of usual → IsPosition usual → Continues c ts d us → d.phase ≡ Over → reading_at_end d ≡ Some x → ReadsGame ts (Some x) us
+pub read_over : (c d : Course) (usual : Parts) (ts us : List Token) (x : ReadingTold) → c ≡ no_course usual → IsUsualStart usual → Continues c ts d us → d.phase ≡ Over → reading_at_end d ≡ Some x → ReadsGame ts (Some x) us
 unfolding ReadsTokens
-read_over c d usual ts us x first spelled position goes over told =
+read_over c d usual ts us x first is_usual goes over told =
     let from = subst (λ (k : Course). Continues k ts d us) first goes in
     let none : of_game d.phase us ≡ [] = ap (λ (p : Phase). of_game p us) over ∙ none_behind us in
     let all : behind_game d.phase us ≡ us = ap (λ (p : Phase). behind_game p us) over ∙ all_behind us in
     record {
       usual = usual;
-      spelled = spelled;
-      position = position;
+      is_usual = is_usual;
       tells = from.told (Some x) (subst (λ (l : List Token). ReadsTokens d l (Some x)) (sym none) (sym told));
       rest = sym all ∙ from.rest;
     }
@@ -335,7 +334,7 @@ score_goes bytes more score n f h =
       at = at;
       at_tag = λ some. some_line b.line_then n n2 (b.keeps n (tags.at_tag some));
       first_then = first_behind false h.white;
-      reads = read_over c over h.usual _ _ (score_read at score) (refl {a = c}) h.spelled h.position (same_tokens c over ts _ us _ begin behind all) (refl {a = Over}) (refl {a = reading_at_end over});
+      reads = read_over c over h.usual _ _ (score_read at score) (refl {a = c}) h.is_usual (same_tokens c over ts _ us _ begin behind all) (refl {a = Over}) (refl {a = reading_at_end over});
     }
   where
     few : {n : ℕ} → n ≤ 4096 → 0 + n ≤ 4096

@@ -19,6 +19,7 @@ use Rattle.pgn_games.specs.Tokens.{Token, token}
 use Rattle.pgn_games.specs.Games.{Course, ClosesVariation, GameRead, GameTold, SetsTag, TakesToken, TakesIfMain, TakesMove, TakesTag, ReadsTokens, phase_after_token, depth_of, fault_of, no_course, of_game, over_at, passed, course_after_token, told_at, reading_unless_fault, told_in, usual_start}
 use Rattle.pgn_games.proofs.GameLaws.{taken_phase}
 use Rattle.pgn_games.specs.Laws.{BeginsAt, GamesAreOfChess, IsChessGame, PlaysInTurn}
+use Rattle.pgn_games.proofs.StartLaws.{usual_spelled_so}
 
 -- what holds of a game so far
 record IsSound (c : Course) : Type 0 where
@@ -188,4 +189,4 @@ first_sound usual spelled = record { start = spelled; moves = refl; few = lit≤
 
 pub games_are_of_chess : GamesAreOfChess
 games_are_of_chess tokens behind game h =
-    game_told (no_course h.usual) (of_game Tags tokens) game (first_sound h.usual h.spelled) h.tells
+    game_told (no_course h.usual) (of_game Tags tokens) game (first_sound h.usual (usual_spelled_so h.usual h.is_usual)) h.tells

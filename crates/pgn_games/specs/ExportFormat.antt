@@ -8,12 +8,11 @@ use Rattle.board_core.specs.declared.parts.Parts.{Parts}
 use Rattle.board_core.specs.declared.moves.Move.{Move}
 use Rattle.board_core.specs.Position.{IsPosition}
 use Rattle.board_core.specs.ComputedMoves.{position_after}
-use Rattle.fen_text.specs.Written.{fen_of}
 use Rattle.san_text.specs.Written.{san_of}
 use Rattle.pgn_games.specs.declared.game.GameResult.TheVariants.{Missing}
 use Rattle.pgn_games.specs.Bytes.{is_name}
 use Rattle.pgn_games.specs.Lines.{lines_of_text}
-use Rattle.pgn_games.specs.Games.{ReadingTold, SpellsGames, usual_start}
+use Rattle.pgn_games.specs.Games.{IsUsualStart, ReadingTold, SpellsGames}
 use Rattle.pgn_games.specs.Laws.{PlaysInTurn}
 use Rattle.pgn_games.specs.Scores.{AreScoresRead, EachByte, GameScore, IsReadLine, ScoreTag, SpellsScore, TagsLeadToStart, escaped_value, result_text}
 
@@ -62,8 +61,7 @@ pub record IsWritableTag (tag : ScoreTag) : Type 0 where
 pub record IsWritable (score : GameScore) : Type 0 where
   pub tags : AllByRecursion IsWritableTag score.tags
   pub usual : Parts
-  pub spelled : usual_start ≡ fen_of usual
-  pub is_position : IsPosition usual
+  pub is_usual : IsUsualStart usual
   pub start : TagsLeadToStart score.tags usual score.start
   pub position : IsPosition score.start
   pub moves : (q : Parts) × PlaysInTurn score.start score.moves q

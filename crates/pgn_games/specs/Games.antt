@@ -211,11 +211,14 @@ ReadsTokens c (t ∷ ts) told = (d : Course) × PassesToken c t d × ReadsTokens
 abbrev pub usual_start : List ℕ
 usual_start = codes "rnbqkbnr/pppppppp/8/8/8/8/PPPPPPPP/RNBQKBNR w KQkq - 0 1"
 
+-- a position is that of a new game
+unfoldable pub IsUsualStart : Parts → Type 0
+IsUsualStart p = (usual_start ≡ fen_of p) × IsPosition p
+
 -- the next game of these tokens, or none, and the tokens behind it
 pub record ReadsGame (tokens : List Token) (told : Option ReadingTold) (behind : List Token) : Type 0 where
   pub usual : Parts
-  pub spelled : usual_start ≡ fen_of usual
-  pub position : IsPosition usual
+  pub is_usual : IsUsualStart usual
   pub tells : ReadsTokens (no_course usual) (of_game Tags tokens) told
   pub rest : behind ≡ behind_game Tags tokens
 

@@ -7,7 +7,6 @@ use Rattle.board_core.specs.declared.moves.Move.{Move}
 use Rattle.board_core.specs.Position.{IsPosition}
 use Rattle.board_core.specs.Moves.{Legal}
 use Rattle.fen_text.specs.Fen.{SpellsPosition}
-use Rattle.fen_text.specs.Written.{fen_of}
 use Rattle.san_text.specs.San.{ReadsSan}
 use Rattle.pgn_games.specs.declared.game.GameResult.{GameResult}
 use Rattle.pgn_games.specs.declared.game.GameResult.TheVariants.{WhiteWins, BlackWins, Draw, Unknown, Missing}
@@ -17,7 +16,7 @@ use Rattle.pgn_games.specs.Bytes.{is_digit, is_letter, is_name, is_space}
 use Rattle.pgn_games.specs.Lines.{lines_of_text}
 use Rattle.pgn_games.specs.Tags.{TagTexts, tag_by_name, no_tags, with_tag}
 use Rattle.pgn_games.specs.Tokens.{line_after}
-use Rattle.pgn_games.specs.Games.{GameRead, ReadingTold, SpellsGames, usual_start}
+use Rattle.pgn_games.specs.Games.{GameRead, ReadingTold, IsUsualStart, SpellsGames}
 
 -- a tag of a score: its name, and its value without escapes
 pub record ScoreTag : Type 0 where
@@ -135,8 +134,7 @@ pub record SpellsScore (bytes : List ℕ) (score : GameScore) : Type 0 where
   pub movetext : List ℕ
   pub white : List ℕ
   pub usual : Parts
-  pub spelled : usual_start ≡ fen_of usual
-  pub position : IsPosition usual
+  pub is_usual : IsUsualStart usual
   pub start : TagsLeadToStart score.tags usual score.start
   pub few : length score.moves ≤ 4096
   pub ended : score.result ≢ Missing
