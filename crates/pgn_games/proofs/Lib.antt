@@ -20,3 +20,4 @@ pub mod ScoreTokens
 pub mod ScoreMoves
 pub mod ScoreLaws
 pub mod ExportLaws
+pub mod ExportLines

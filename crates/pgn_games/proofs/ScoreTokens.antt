@@ -430,3 +430,8 @@ pair_calm pair tag h =
     let well = escaped_well tag.value h.value in
     let on = pair_on_line h.before tag.name h.between (escaped_value tag.value) h.behind tag.value h.spaces h.name.0 well in
     subst Calm (sym h.text) (calm_line 91 (pair_before h.before tag.name h.between (escaped_value tag.value) h.behind []) (λ e. absurd (omega (arith, e))) (λ e. absurd (omega (arith, e))) on)
+
+pub pair_is_on_line : (pair : List ℕ) (tag : ScoreTag) → SpellsTagPair pair tag → IsOnLine pair
+pair_is_on_line pair tag h =
+    let well = escaped_well tag.value h.value in
+    subst IsOnLine (sym h.text) (λ e. absurd (omega (arith, e)), pair_on_line h.before tag.name h.between (escaped_value tag.value) h.behind tag.value h.spaces h.name.0 well)

@@ -101,7 +101,7 @@ other_byte b h e = absurd (grind (arith, nat_tests))
 
 stepped_is_writable : CheckIsComputed → IsWritable stepped
 stepped_is_writable computed = record {
-  tags = (record { name = ((refl, (refl, (refl, (refl, (refl, tt))))), lit< tt); value = (other_byte 97 refl, (other_byte 34 refl, (other_byte 92 refl, tt))) }, tt);
+  tags = (record { name = ((refl, (refl, (refl, (refl, (refl, tt))))), lit< tt); value = (other_byte 97 refl, (other_byte 34 refl, (other_byte 92 refl, tt))); short = lit≤ tt }, tt);
   usual = usual;
   is_usual = is_usual_start usual usual_spelled (usual_position computed);
   start = (usual, refl, refl);
