@@ -30,11 +30,9 @@ use Rattle.san_text.specs.Told.{file_letter, kind_text, promoted_text, rank_digi
 use Rattle.san_text.specs.Written.{castling_or_man, check_mark, file_by, man_told, mark_after, rank_by, san_of, san_told}
 use Rattle.san_text.specs.Laws.{IsReadBack}
 use Rattle.pgn_games.specs.Bytes.{is_digit}
-use Rattle.pgn_games.specs.Lines.{lines_of_text}
-use Rattle.pgn_games.specs.Games.{SpellsGames}
-use Rattle.pgn_games.specs.Laws.{OneListIsSpelled, PlaysInTurn}
-use Rattle.pgn_games.specs.Scores.{AreScoresRead, EachByte, GameScore, IsReadLine, PartsTokens, ScoreTag, ScoresAreReadBack, SpellsMoveNumber, SpellsMovetext, SpellsScore, SpellsSymbol, SpellsTagPair, SpellsTags, escaped_value, is_score_symbol, joined_texts, result_text}
-use Rattle.pgn_games.specs.ExportFormat.{ExportIsReadBack, ExportSpellsScores, IsWritable, IsWritableTag, OnlyExportIsRead, lines_of_words, movetext_words, number_words, tag_line, tag_section, words_on_lines, written_score}
+use Rattle.pgn_games.specs.Laws.{PlaysInTurn}
+use Rattle.pgn_games.specs.Scores.{EachByte, GameScore, PartsTokens, ScoreTag, SpellsMoveNumber, SpellsMovetext, SpellsScore, SpellsSymbol, SpellsTagPair, SpellsTags, escaped_value, is_score_symbol, joined_texts, result_text}
+use Rattle.pgn_games.specs.ExportFormat.{ExportSpellsScores, IsWritable, IsWritableTag, lines_of_words, movetext_words, number_words, tag_line, tag_section, words_on_lines, written_score}
 use Rattle.pgn_games.proofs.ScoreLaws.{three_then}
 use Rattle.pgn_games.proofs.ScoreTokens.{each_append}
 

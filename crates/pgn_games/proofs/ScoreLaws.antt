@@ -4,9 +4,7 @@ use Rattle.std.specs.Prelude.{unwrap_or}
 use Rattle.std.specs.List.{AllByRecursion, AllZip}
 use Rattle.board_core.specs.declared.parts.Parts.{Parts}
 use Rattle.board_core.specs.declared.moves.Move.{Move}
-use Rattle.board_core.specs.Position.{IsPosition}
 use Rattle.board_core.specs.Moves.{Legal}
-use Rattle.fen_text.specs.Written.{fen_of}
 use Rattle.pgn_games.specs.declared.game.GameResult.{GameResult}
 use Rattle.pgn_games.specs.declared.game.GameResult.TheVariants.{Missing}
 use Rattle.pgn_games.specs.declared.phase.Phase.{Phase}

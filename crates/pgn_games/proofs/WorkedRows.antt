@@ -100,6 +100,7 @@ other_byte : (b : ℕ) → (b == 10) ≡ false → b ≢ 10
 other_byte b h e = absurd (grind (arith, nat_tests))
 
 stepped_is_writable : CheckIsComputed → IsWritable stepped
+unfolding escaped_value
 stepped_is_writable computed = record {
   tags = (record { name = ((refl, (refl, (refl, (refl, (refl, tt))))), lit< tt); value = (other_byte 97 refl, (other_byte 34 refl, (other_byte 92 refl, tt))); short = lit≤ tt }, tt);
   usual = usual;

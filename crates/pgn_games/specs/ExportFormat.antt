@@ -1,5 +1,5 @@
 -- Export format (PGN standard, sections 8.1, 8.2.1 and 8.2.2.2): the one text that a writer writes of a score, as a computable definition.
-use Rattle.std.specs.Prelude.{◌≡◌, ◌≢◌, ◌+◌, ◌<◌, ◌≤◌, ◌++◌, nat_lt, ℕ, Bool, true, false, List, [], ◌∷◌, length, map, unwrap_or, option_map, codes, if◌then◌else◌}
+use Rattle.std.specs.Prelude.{◌≢◌, ◌+◌, ◌<◌, ◌≤◌, ◌++◌, nat_lt, ℕ, Bool, true, false, List, [], ◌∷◌, length, map, unwrap_or, option_map, codes, if◌then◌else◌}
 use Rattle.std.specs.Fmt.{decimal}
 use Rattle.std.specs.List.{AllByRecursion, flat_map}
 use Rattle.board_core.specs.declared.piece.Side.{Side}
@@ -51,13 +51,15 @@ unfoldable pub written_score : GameScore → List ℕ
 written_score score =
     tag_section score.tags ++ lines_of_words (movetext_words true score.start score.moves ++ result_text score.result ∷ [])
 
--- what has such a text: names of letters, digits and underscores; values on one line; at most 65,536 bytes of each tag's line; moves that are legal in turn, at most 4,096, from
--- the position of the FEN tag or that of a new game; and a result
+-- a tag that has such a line: its name is of letters, digits and underscores, its value has no line feed, and the line at most 65,536
+-- bytes with the line feed behind it
 pub record IsWritableTag (tag : ScoreTag) : Type 0 where
   pub name : EachByte is_name tag.name × (0 < length tag.name)
   pub value : AllByRecursion (λ b. b ≢ 10) tag.value
   pub short : length (tag_line tag) ≤ 65536
 
+-- a score that has such a text: moves that are legal in turn, at most 4,096, from the position of the FEN tag or that of a new game, and
+-- a result
 pub record IsWritable (score : GameScore) : Type 0 where
   pub tags : AllByRecursion IsWritableTag score.tags
   pub usual : Parts
