@@ -9,9 +9,10 @@ use Rattle.pgn_games.specs.declared.phase.Phase.TheVariants.{Tags, Moves, Over}
 use Rattle.pgn_games.specs.Tags.{no_tags}
 use Rattle.pgn_games.specs.Lexemes.{MoveText, Told}
 use Rattle.pgn_games.specs.Tokens.{Token, token}
-use Rattle.pgn_games.specs.Games.{Course, GameRead, ReadingTold, Tells, behind_game, no_course, of_game}
+use Rattle.pgn_games.specs.Games.{Course, GameRead, ReadingTold, ReadsTokens, behind_game, no_course, of_game}
 use Rattle.pgn_games.specs.Laws.{MovesAreReadBack, ReadsInTurn, movetext}
 use Rattle.pgn_games.proofs.CourseLaws.{move_read}
+use Rattle.pgn_games.proofs.StartLaws.{is_usual_start}
 
 pub none_behind : (ts : List Token) → of_game Over ts ≡ []
 unfolding of_game
@@ -63,18 +64,18 @@ abbrev read_as : ℕ → Parts → List Move → GameResult → Option ReadingTo
 read_as line start moves result =
     Some (GameRead (record { line = line; tags = no_tags; start = start; moves = moves; result = result }))
 
-tells_end : (line last : ℕ) (start position : Parts) (moves : List Move) (result : GameResult) → Tells (at_moves (Some line) last start position moves (Moves 0)) (token line (Told result) ∷ []) (read_as line start moves result)
-unfolding Tells
+tells_end : (line last : ℕ) (start position : Parts) (moves : List Move) (result : GameResult) → ReadsTokens (at_moves (Some line) last start position moves (Moves 0)) (token line (Told result) ∷ []) (read_as line start moves result)
+unfolding ReadsTokens
 tells_end line last start position moves result = (_, (Ok _, refl, refl), refl)
 
-tells_at_once : (line last : ℕ) (start position : Parts) (result : GameResult) → Tells (at_moves None last start position [] Tags) (token line (Told result) ∷ []) (read_as line start [] result)
-unfolding Tells
+tells_at_once : (line last : ℕ) (start position : Parts) (result : GameResult) → ReadsTokens (at_moves None last start position [] Tags) (token line (Told result) ∷ []) (read_as line start [] result)
+unfolding ReadsTokens
 tells_at_once line last start position result = (_, (Ok _, refl, refl), refl)
 
-tells_moves : (line last : ℕ) (start position : Parts) (before moves : List Move) (texts : List (List ℕ)) (result : GameResult) → ReadsInTurn position texts moves → length before + length moves ≤ 4096 → Tells (at_moves (Some line) last start position before (Moves 0)) (movetext line texts (token line (Told result) ∷ [])) (read_as line start (before ++ moves) result)
-unfolding Tells
+tells_moves : (line last : ℕ) (start position : Parts) (before moves : List Move) (texts : List (List ℕ)) (result : GameResult) → ReadsInTurn position texts moves → length before + length moves ≤ 4096 → ReadsTokens (at_moves (Some line) last start position before (Moves 0)) (movetext line texts (token line (Told result) ∷ [])) (read_as line start (before ++ moves) result)
+unfolding ReadsTokens
 tells_moves line last start position before [] [] result h few =
-    subst (λ (l : List Move). Tells (at_moves (Some line) last start position before (Moves 0)) (token line (Told result) ∷ []) (read_as line start l result)) (sym (append-nil before)) (tells_end line last start position before result)
+    subst (λ (l : List Move). ReadsTokens (at_moves (Some line) last start position before (Moves 0)) (token line (Told result) ∷ []) (read_as line start l result)) (sym (append-nil before)) (tells_end line last start position before result)
 tells_moves line last start position before (m ∷ moves) [] result h few = absurd h
 tells_moves line last start position before [] (text ∷ texts) result h few = absurd h
 tells_moves line last start position before (m ∷ moves) (text ∷ texts) result h few =
@@ -82,10 +83,10 @@ tells_moves line last start position before (m ∷ moves) (text ∷ texts) resul
     let below : length before < 4096 = omega arith in
     let fits : length (before ++ m ∷ []) + length moves ≤ 4096 = omega (arith, length-append before (m ∷ [])) in
     let rest = tells_moves line line start h.0 (before ++ m ∷ []) moves texts result h.3 fits in
-    (at_moves (Some line) line start h.0 (before ++ m ∷ []) (Moves 0), (Ok (at_moves (Some line) last start h.0 (before ++ m ∷ []) (Moves 0)), move_read now text (length before) (Ok (at_moves (Some line) last start h.0 (before ++ m ∷ []) (Moves 0))) below (m, h.1, (h.0, h.2, refl)), refl), subst (λ (l : List Move). Tells (at_moves (Some line) line start h.0 (before ++ m ∷ []) (Moves 0)) (movetext line texts (token line (Told result) ∷ [])) (read_as line start l result)) (append_assoc before (m ∷ []) moves) rest)
+    (at_moves (Some line) line start h.0 (before ++ m ∷ []) (Moves 0), (Ok (at_moves (Some line) last start h.0 (before ++ m ∷ []) (Moves 0)), move_read now text (length before) (Ok (at_moves (Some line) last start h.0 (before ++ m ∷ []) (Moves 0))) below (m, h.1, (h.0, h.2, refl)), refl), subst (λ (l : List Move). ReadsTokens (at_moves (Some line) line start h.0 (before ++ m ∷ []) (Moves 0)) (movetext line texts (token line (Told result) ∷ [])) (read_as line start l result)) (append_assoc before (m ∷ []) moves) rest)
 
-tells_all : (line : ℕ) (usual : Parts) (moves : List Move) (texts : List (List ℕ)) (result : GameResult) → ReadsInTurn usual texts moves → length moves ≤ 4096 → Tells (no_course usual) (movetext line texts (token line (Told result) ∷ [])) (read_as line usual moves result)
-unfolding Tells
+tells_all : (line : ℕ) (usual : Parts) (moves : List Move) (texts : List (List ℕ)) (result : GameResult) → ReadsInTurn usual texts moves → length moves ≤ 4096 → ReadsTokens (no_course usual) (movetext line texts (token line (Told result) ∷ [])) (read_as line usual moves result)
+unfolding ReadsTokens
 tells_all line usual [] [] result h few = tells_at_once line 0 usual usual result
 tells_all line usual (m ∷ moves) [] result h few = absurd h
 tells_all line usual [] (text ∷ texts) result h few = absurd h
@@ -97,8 +98,7 @@ tells_all line usual (m ∷ moves) (text ∷ texts) result h few =
 pub moves_are_read_back : MovesAreReadBack
 moves_are_read_back usual line texts moves result behind spelled position h few = record {
   usual = usual;
-  spelled = spelled;
-  position = position;
-  tells = subst (λ (ts : List Token). Tells (no_course usual) ts (read_as line usual moves result)) (sym (of_first line texts result behind)) (tells_all line usual moves texts result h few);
+  is_usual = is_usual_start usual spelled position;
+  tells = subst (λ (ts : List Token). ReadsTokens (no_course usual) ts (read_as line usual moves result)) (sym (of_first line texts result behind)) (tells_all line usual moves texts result h few);
   rest = sym (behind_first line texts result behind);
 }

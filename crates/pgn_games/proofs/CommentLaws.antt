@@ -11,7 +11,7 @@ use Rattle.pgn_games.specs.Lines.{one_more}
 use Rattle.pgn_games.specs.Lexemes.{Telling, Endless, TooLong, lexed_at}
 use Rattle.pgn_games.specs.Tokens.{Token, line_after, token_if, tokens_from}
 use Rattle.pgn_games.specs.Inside.Lines.{OneLine}
-use Rattle.pgn_games.specs.Inside.Steps.{closed, comment_left}
+use Rattle.pgn_games.specs.Inside.Steps.{comment_closed, comment_left}
 use Rattle.pgn_games.proofs.TokenLaws.{differs}
 
 or_none : (a : Bool) → (a || false) ≡ a
@@ -69,7 +69,7 @@ no_brace b t other = ap (λ (x : Bool). cond (not x) (1 + brace t) 0) other
 left_more : (from : ℕ) (long : Bool) (line b : ℕ) (t : List ℕ) → (b == 125) ≡ false → comment_left from long line (b ∷ t) ≡ comment_left from (long || b == 256) (line_after line b) t
 unfolding comment_left
 left_more from long line b t other =
-    ap (λ (x : Bool). cond x (closed from long ++ tokens_from 0 line false t) (comment_left from (long || b == 256) (line_after line b) t)) other
+    ap (λ (x : Bool). cond x (comment_closed from long ++ tokens_from 0 line false t) (comment_left from (long || b == 256) (line_after line b) t)) other
 
 before_brace : (from : ℕ) (long : Bool) (line : ℕ) (f : Bool) (b : ℕ) (t : List ℕ) → (b == 125) ≡ false → token_if from (tells_in (long || b == 256) (brace t) t) ++ tokens_from (suc (brace t)) (line_after line b) (b == 10) t ≡ comment_left from (long || b == 256) (line_after line b) t → token_if from (tells_in long (brace (b ∷ t)) (b ∷ t)) ++ tokens_from (suc (brace (b ∷ t))) line f (b ∷ t) ≡ comment_left from long line (b ∷ t)
 before_brace from long line f b t other next =
@@ -121,7 +121,7 @@ comment_bytes from long line (x ∷ s) t a b c =
     ∙ comment_bytes from long line s t (All-tail (λ b. b ≢ 10) x s a) (All-tail (λ b. b ≢ 125) x s b) (All-tail (λ b. b ≢ 256) x s c)
 
 -- the brace that closes it
-pub comment_ends : (from : ℕ) (long : Bool) (line : ℕ) (t : List ℕ) → comment_left from long line (125 ∷ t) ≡ closed from long ++ tokens_from 0 line false t
+pub comment_ends : (from : ℕ) (long : Bool) (line : ℕ) (t : List ℕ) → comment_left from long line (125 ∷ t) ≡ comment_closed from long ++ tokens_from 0 line false t
 unfolding comment_left
 comment_ends from long line t = refl
 
@@ -168,7 +168,7 @@ none_closes from long line s more one small none =
     comment_bytes from long line s more one (subst (All (λ b. b ≢ 125)) (take_all (length s) s (omega arith)) all) (bytes_not_long s small)
 
 -- a line that closes it
-pub some_closes : (from : ℕ) (long : Bool) (line : ℕ) (s more : List ℕ) (n : ℕ) → OneLine s → All (λ b. b < 256) s → position (λ b. b == 125) s ≡ Some n → comment_left from long line (s ++ more) ≡ closed from long ++ tokens_from 0 line false (drop (n + 1) s ++ more)
+pub some_closes : (from : ℕ) (long : Bool) (line : ℕ) (s more : List ℕ) (n : ℕ) → OneLine s → All (λ b. b < 256) s → position (λ b. b == 125) s ≡ Some n → comment_left from long line (s ++ more) ≡ comment_closed from long ++ tokens_from 0 line false (drop (n + 1) s ++ more)
 some_closes from long line s more n one small some =
     let found = some_place (nat_lt (brace s) (length s)) (brace s) n some in
     let below : brace s < length s = grind (arith, nat_tests) in

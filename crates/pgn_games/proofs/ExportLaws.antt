@@ -1,5 +1,5 @@
 -- Export format spells the scores that are written.
-use Rattle.std.proofs.Common.{◌≡◌, ◌≢◌, ◌∙◌, ℕ, ◌+◌, ◌<◌, ◌≤◌, ◌^◌, ◌%◌, ◌++◌, ◌⊎◌, Bool, true, false, List, [], ◌∷◌, Option, Some, None, length, map, cond, refl, sym, ap, subst, arith, inl, inr, append_assoc, append-nil, length-append, lit<}
+use Rattle.std.proofs.Common.{◌≡◌, ◌≢◌, ◌∙◌, ℕ, ◌+◌, ◌<◌, ◌≤◌, ◌^◌, ◌%◌, ◌++◌, ◌⊎◌, Bool, true, false, List, [], ◌∷◌, Option, Some, None, length, map, cond, refl, sym, ap, subst, arith, inl, inr, append_assoc, append-nil, length-append, lit<, lit≤}
 use Rattle.std.specs.Prelude.{nat_lt, codes, unwrap_or, option_map}
 use Rattle.std.specs.Fmt.{decimal}
 use Rattle.std.specs.List.{AllByRecursion, AllZip, flat_map}
@@ -30,11 +30,9 @@ use Rattle.san_text.specs.Told.{file_letter, kind_text, promoted_text, rank_digi
 use Rattle.san_text.specs.Written.{castling_or_man, check_mark, file_by, man_told, mark_after, rank_by, san_of, san_told}
 use Rattle.san_text.specs.Laws.{IsReadBack}
 use Rattle.pgn_games.specs.Bytes.{is_digit}
-use Rattle.pgn_games.specs.Lines.{lines_of}
-use Rattle.pgn_games.specs.Games.{SpellsGames}
-use Rattle.pgn_games.specs.Laws.{OneListIsSpelled, PlaysInTurn}
-use Rattle.pgn_games.specs.Scores.{AreScoresRead, EachByte, GameScore, IsReadLine, PartsTokens, ScoreTag, ScoresAreReadBack, SpellsMoveNumber, SpellsMovetext, SpellsScore, SpellsSymbol, SpellsTagPair, SpellsTags, escaped_value, is_score_symbol, joined_texts, result_text}
-use Rattle.pgn_games.specs.ExportFormat.{ExportIsReadBack, ExportSpellsScores, IsWritable, IsWritableTag, OnlyExportIsRead, lines_of_words, movetext_words, number_words, tag_line, tag_section, words_on_lines, written_score}
+use Rattle.pgn_games.specs.Laws.{PlaysInTurn}
+use Rattle.pgn_games.specs.Scores.{EachByte, GameScore, PartsTokens, ScoreTag, SpellsMoveNumber, SpellsMovetext, SpellsScore, SpellsSymbol, SpellsTagPair, SpellsTags, escaped_value, is_score_symbol, joined_texts, result_text}
+use Rattle.pgn_games.specs.ExportFormat.{ExportSpellsScores, IsWritable, IsWritableTag, lines_of_words, movetext_words, number_words, tag_line, tag_section, words_on_lines, written_score}
 use Rattle.pgn_games.proofs.ScoreLaws.{three_then}
 use Rattle.pgn_games.proofs.ScoreTokens.{each_append}
 
@@ -120,8 +118,8 @@ san_symbols p m q legal =
 -- ---- the number of a move
 
 pub record IsDigits (digits : List ℕ) : Type 0 where
-  each : EachByte is_digit digits
-  some : 0 < length digits
+  pub each : EachByte is_digit digits
+  pub some : 0 < length digits
 
 digit_byte : (n : ℕ) → n < 10 → is_digit (48 + n) ≡ true
 digit_byte n h = grind (arith, nat_tests)
@@ -200,16 +198,17 @@ record SpellsThen (p : Parts) (moves : List Move) (tail : List (List ℕ)) (t : 
   text : t ≡ movetext ++ rest
 
 -- the words of a number: none, or one
-record IsNumberWord (words : List (List ℕ)) (n : ℕ) : Type 0 where
-  periods : List ℕ
-  dots : AllByRecursion (λ b. b ≡ 46) periods
-  some : 0 < length periods
-  is : words ≡ (decimal n ++ periods) ∷ []
+pub record IsNumberWord (words : List (List ℕ)) (n : ℕ) : Type 0 where
+  pub periods : List ℕ
+  pub dots : AllByRecursion (λ b. b ≡ 46) periods
+  pub some : 0 < length periods
+  pub fewer : length periods ≤ 3
+  pub is : words ≡ (decimal n ++ periods) ∷ []
 
-number_or_none : (begins : Bool) (side : Side) (n : ℕ) → (number_words begins side n ≡ []) ⊎ IsNumberWord (number_words begins side n) n
-number_or_none begins White n = inr (record { periods = codes "."; dots = (refl, tt); some = lit< tt; is = refl })
+pub number_or_none : (begins : Bool) (side : Side) (n : ℕ) → (number_words begins side n ≡ []) ⊎ IsNumberWord (number_words begins side n) n
+number_or_none begins White n = inr (record { periods = codes "."; dots = (refl, tt); some = lit< tt; fewer = lit≤ tt; is = refl })
 number_or_none true Black n =
-    inr (record { periods = codes "..."; dots = (refl, (refl, (refl, tt))); some = lit< tt; is = refl })
+    inr (record { periods = codes "..."; dots = (refl, (refl, (refl, tt))); some = lit< tt; fewer = lit≤ tt; is = refl })
 number_or_none false Black n = inl refl
 
 number_spelled : (periods white : List ℕ) (n : ℕ) → n < 2 ^ 64 → AllByRecursion (λ b. b ≡ 46) periods → 0 < length periods → PartsTokens white → SpellsMoveNumber ((decimal n ++ periods) ++ white)
@@ -243,12 +242,12 @@ san_spelled : (facts : MoveFacts) (p r : Parts) (m : Move) → IsPosition p → 
 san_spelled facts p r m is legal =
     record { read = facts.read p m is (r, legal); symbol = san_symbols p m r legal }
 
-words_after : (p r : Parts) (m : Move) (moves : List Move) (begins : Bool) → position_after p m ≡ Some r → movetext_words begins p (m ∷ moves) ≡ number_words begins p.side p.fullmove ++ (san_of p m ∷ movetext_words false r moves)
+pub words_after : (p r : Parts) (m : Move) (moves : List Move) (begins : Bool) → position_after p m ≡ Some r → movetext_words begins p (m ∷ moves) ≡ number_words begins p.side p.fullmove ++ (san_of p m ∷ movetext_words false r moves)
 unfolding movetext_words
 words_after p r m moves begins e =
     ap (λ (o : Option Parts). number_words begins p.side p.fullmove ++ (san_of p m ∷ unwrap_or (option_map (λ q. movetext_words false q moves) o) [])) e
 
-no_words : (begins : Bool) (p : Parts) → movetext_words begins p [] ≡ []
+pub no_words : (begins : Bool) (p : Parts) → movetext_words begins p [] ≡ []
 unfolding movetext_words
 no_words begins p = refl
 
@@ -283,17 +282,17 @@ moves_spelled facts (m ∷ moves) begins p q tail t is h parted =
 
 -- ---- tag pairs
 
-pair_written : (tag : ScoreTag) → List ℕ
+pub pair_written : (tag : ScoreTag) → List ℕ
 pair_written tag = 91 ∷ (tag.name ++ 32 ∷ 34 ∷ (escaped_value tag.value ++ 34 ∷ 93 ∷ []))
 
-line_is : (tag : ScoreTag) → tag_line tag ≡ pair_written tag ++ 10 ∷ []
+pub line_is : (tag : ScoreTag) → tag_line tag ≡ pair_written tag ++ 10 ∷ []
 unfolding pair_written
 line_is tag =
     let end = 34 ∷ 93 ∷ [] in
     let value = escaped_value tag.value in
     sym (ap (λ (u : List ℕ). 91 ∷ u) (append_assoc tag.name (32 ∷ 34 ∷ (value ++ end)) (10 ∷ []) ∙ ap (λ (u : List ℕ). tag.name ++ 32 ∷ 34 ∷ u) (append_assoc value end (10 ∷ []))))
 
-pair_spelled : (tag : ScoreTag) → IsWritableTag tag → SpellsTagPair (pair_written tag) tag
+pub pair_spelled : (tag : ScoreTag) → IsWritableTag tag → SpellsTagPair (pair_written tag) tag
 unfolding pair_written
 pair_spelled tag h =
     record { before = []; between = 32 ∷ []; behind = []; spaces = (tt, (refl, tt), tt); name = h.name; value = h.value; text = refl }
@@ -311,7 +310,7 @@ tags_spelled (tag ∷ tags) h = section_spelled tag tags h
 
 -- ---- scores
 
-written_is : (score : GameScore) → written_score score ≡ tag_section score.tags ++ lines_of_words (movetext_words true score.start score.moves ++ result_text score.result ∷ [])
+pub written_is : (score : GameScore) → written_score score ≡ tag_section score.tags ++ lines_of_words (movetext_words true score.start score.moves ++ result_text score.result ∷ [])
 unfolding written_score
 written_is score = refl
 
@@ -328,8 +327,7 @@ export_spells_scores read computed position score h =
       movetext = w.movetext;
       white = end.0;
       usual = h.usual;
-      spelled = h.spelled;
-      position = h.is_position;
+      is_usual = h.is_usual;
       start = h.start;
       few = h.few;
       ended = h.ended;
@@ -339,21 +337,10 @@ export_spells_scores read computed position score h =
       text = written_is score ∙ ap (λ (u : List ℕ). tag_section score.tags ++ u) (w.text ∙ ap (λ (u : List ℕ). w.movetext ++ u) end_is);
     }
 
-each_spelled : ExportSpellsScores → (scores : List GameScore) → AllByRecursion IsWritable scores → AllZip SpellsScore (map written_score scores) scores
+pub each_spelled : ExportSpellsScores → (scores : List GameScore) → AllByRecursion IsWritable scores → AllZip SpellsScore (map written_score scores) scores
 each_spelled spells [] h = tt
 each_spelled spells (score ∷ scores) h = (spells score h.0, each_spelled spells scores h.1)
 
-joined_is : (scores : List GameScore) → joined_texts (map written_score scores) ≡ flat_map written_score scores
+pub joined_is : (scores : List GameScore) → joined_texts (map written_score scores) ≡ flat_map written_score scores
 joined_is [] = refl
 joined_is (score ∷ scores) = ap (λ (t : List ℕ). written_score score ++ t) (joined_is scores)
-
-pub export_is_read_back : ExportSpellsScores → ScoresAreReadBack → ExportIsReadBack
-export_is_read_back spells read scores h short =
-    let same = joined_is scores in
-    let w = read (map written_score scores) scores (each_spelled spells scores h) (subst (λ (t : List ℕ). AllByRecursion IsReadLine (lines_of t)) (sym same) short) in
-    (w.0, subst (λ (t : List ℕ). SpellsGames t w.0) same w.1, w.2)
-
-pub only_export_is_read : ExportIsReadBack → OneListIsSpelled → OnlyExportIsRead
-only_export_is_read read one scores h short readings spelled =
-    let w = read scores h short in
-    subst (AreScoresRead 1 (map written_score scores) scores) (one (flat_map written_score scores) w.0 readings w.1 spelled) w.2

@@ -1,3 +1,4 @@
+pub mod StartLaws
 pub mod RunLaws
 pub mod QuoteLaws
 pub mod EscapeLaws
@@ -19,3 +20,4 @@ pub mod ScoreTokens
 pub mod ScoreMoves
 pub mod ScoreLaws
 pub mod ExportLaws
+pub mod ExportLines

@@ -9,32 +9,32 @@ use Rattle.system_io.specs.LineReaders.{ReadsIfAny, ReadsLine}
 use Rattle.pgn_games.specs.declared.cursor.Cursor.{Cursor}
 use Rattle.pgn_games.specs.declared.lines.Taken.{Taken}
 use Rattle.pgn_games.specs.declared.lines.Taken.TheVariants.{Line, LongLine, Nothing}
-use Rattle.pgn_games.specs.Lines.{lines_of, onto_first_line, read_text, text_of_line}
+use Rattle.pgn_games.specs.Lines.{lines_of_text, onto_first_line, read_text, text_of_line}
 use Rattle.pgn_games.specs.Reading.{IfKnown}
 use Rattle.pgn_games.specs.Inside.Lines.{OneLine}
 use Rattle.pgn_games.specs.Inside.Steps.{BeginsAs, BeginsLine, TakesText, rest_with}
 use Rattle.pgn_games.proofs.TokenLaws.{differs}
 
-pub lines_by : (x : ℕ) (t : List ℕ) → x ≢ 10 → lines_of (x ∷ t) ≡ onto_first_line x (lines_of t)
-unfolding lines_of
-lines_by x t other = ap (λ (b : Bool). cond b ([] ∷ lines_of t) (onto_first_line x (lines_of t))) (differs x 10 other)
+pub lines_by : (x : ℕ) (t : List ℕ) → x ≢ 10 → lines_of_text (x ∷ t) ≡ onto_first_line x (lines_of_text t)
+unfolding lines_of_text
+lines_by x t other = ap (λ (b : Bool). cond b ([] ∷ lines_of_text t) (onto_first_line x (lines_of_text t))) (differs x 10 other)
 
-pub lines_feed : (t : List ℕ) → lines_of (10 ∷ t) ≡ [] ∷ lines_of t
-unfolding lines_of
+pub lines_feed : (t : List ℕ) → lines_of_text (10 ∷ t) ≡ [] ∷ lines_of_text t
+unfolding lines_of_text
 lines_feed t = refl
 
-pub lines_nil : lines_of [] ≡ []
-unfolding lines_of
+pub lines_nil : lines_of_text [] ≡ []
+unfolding lines_of_text
 lines_nil = refl
 
 -- a line and the lines behind it
-line_then : (line ys : List ℕ) → OneLine line → lines_of (line ++ 10 ∷ ys) ≡ line ∷ lines_of ys
+line_then : (line ys : List ℕ) → OneLine line → lines_of_text (line ++ 10 ∷ ys) ≡ line ∷ lines_of_text ys
 line_then [] ys one = lines_feed ys
 line_then (x ∷ line) ys one =
     lines_by x (line ++ 10 ∷ ys) (All-head (λ b. b ≢ 10) x line one) ∙ ap (onto_first_line x) (line_then line ys (All-tail (λ b. b ≢ 10) x line one))
 
 -- a last line without a line feed
-last_line : (x : ℕ) (line : List ℕ) → OneLine (x ∷ line) → lines_of (x ∷ line) ≡ (x ∷ line) ∷ []
+last_line : (x : ℕ) (line : List ℕ) → OneLine (x ∷ line) → lines_of_text (x ∷ line) ≡ (x ∷ line) ∷ []
 last_line x [] one = lines_by x [] (All-head (λ b. b ≢ 10) x [] one) ∙ ap (onto_first_line x) lines_nil
 last_line x (y ∷ line) one =
     lines_by x (y ∷ line) (All-head (λ b. b ≢ 10) x (y ∷ line) one) ∙ ap (onto_first_line x) (last_line y line (All-tail (λ b. b ≢ 10) x (y ∷ line) one))
@@ -42,7 +42,7 @@ last_line x (y ∷ line) one =
 pub text_of_lines : List (List ℕ) → List ℕ
 text_of_lines lines = flat_map (λ line. 10 ∷ text_of_line line) lines
 
-pub text_is : (bytes : List ℕ) → read_text bytes ≡ text_of_lines (lines_of bytes)
+pub text_is : (bytes : List ℕ) → read_text bytes ≡ text_of_lines (lines_of_text bytes)
 unfolding read_text text_of_lines
 text_is bytes = refl
 
@@ -55,12 +55,12 @@ unfolding text_of_lines
 text_none = refl
 
 pub text_nil : read_text [] ≡ []
-unfolding read_text lines_of
+unfolding read_text lines_of_text
 text_nil = refl
 
 text_then : (line ys : List ℕ) → OneLine line → read_text (line ++ 10 ∷ ys) ≡ 10 ∷ (text_of_line line ++ read_text ys)
 text_then line ys one =
-    text_is (line ++ 10 ∷ ys) ∙ ap text_of_lines (line_then line ys one) ∙ text_cons line (lines_of ys) ∙ ap (λ (t : List ℕ). 10 ∷ (text_of_line line ++ t)) (sym (text_is ys))
+    text_is (line ++ 10 ∷ ys) ∙ ap text_of_lines (line_then line ys one) ∙ text_cons line (lines_of_text ys) ∙ ap (λ (t : List ℕ). 10 ∷ (text_of_line line ++ t)) (sym (text_is ys))
 
 text_last : (line : List ℕ) → OneLine line → 0 < length line → read_text line ≡ 10 ∷ (text_of_line line ++ read_text [])
 text_last [] one some = absurd (omega arith)
@@ -74,7 +74,7 @@ begins_text (line ∷ lines) = refl
 
 -- a text begins with a line feed, or is empty
 pub begins : (bytes : List ℕ) → BeginsLine (read_text bytes)
-begins bytes = subst BeginsLine (sym (text_is bytes)) (begins_text (lines_of bytes))
+begins bytes = subst BeginsLine (sym (text_is bytes)) (begins_text (lines_of_text bytes))
 
 taken_by : (o n line piece : List ℕ) → o ≡ piece ++ n → OneLine line → (piece ≡ line ++ 10 ∷ []) ⊎ ((piece ≡ line) × (0 < length line) × (n ≡ [])) → read_text o ≡ 10 ∷ (text_of_line line ++ read_text n)
 taken_by o n line piece e one (inl p) =

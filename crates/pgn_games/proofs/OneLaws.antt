@@ -23,11 +23,12 @@ use Rattle.pgn_games.specs.declared.phase.Phase.{Phase}
 use Rattle.pgn_games.specs.declared.phase.Phase.TheVariants.{Tags, Moves, Over}
 use Rattle.pgn_games.specs.declared.tags.TagName.{TagName}
 use Rattle.pgn_games.specs.declared.tags.TagName.TheVariants as name
-use Rattle.pgn_games.specs.Tags.{TagPair, name_of, value_of, with_tag}
+use Rattle.pgn_games.specs.Tags.{TagPair, tag_by_name, tag_value, with_tag}
 use Rattle.pgn_games.specs.Lexemes.{Telling, Tag, MoveText, Begins, Ends, Told, Stray, Endless, TooLong}
 use Rattle.pgn_games.specs.Tokens.{Token, tokens_of}
-use Rattle.pgn_games.specs.Games.{Closes, Course, ReadingTold, ReadsGames, ReadsMove, SetsStart, SetsTag, Takes, TakesIfMain, TakesMove, TakesTag, Tells, depth_of, no_course, of_game, passed, taken}
+use Rattle.pgn_games.specs.Games.{ClosesVariation, Course, ReadingTold, ReadsGamesInTurn, ReadsMove, SetsStart, SetsTag, TakesToken, TakesIfMain, TakesMove, TakesTag, ReadsTokens, depth_of, no_course, of_game, passed, course_after_token}
 use Rattle.pgn_games.specs.Laws.{NoneIsTheEnd, OneGameIsRead, OneListIsSpelled}
+use Rattle.pgn_games.proofs.StartLaws.{usual_is_position, usual_spelled_so}
 
 -- what is known of texts and moves
 record TextFacts : Type 0 where
@@ -107,7 +108,7 @@ one_sets_tag facts c v (Some name.Result) r s h g = h ∙ sym g
 one_takes_tag : (facts : TextFacts) (c : Course) (phase : Phase) (pair : Option TagPair) (r s : Result Course Cause) → TakesTag c phase pair r → TakesTag c phase pair s → r ≡ s
 one_takes_tag facts c Tags None r s h g = h ∙ sym g
 one_takes_tag facts c Tags (Some pair) r s h g =
-    one_sets_tag facts c (value_of pair.quoted) (name_of pair.name) r s h g
+    one_sets_tag facts c (tag_value pair.quoted) (tag_by_name pair.name) r s h g
 one_takes_tag facts c (Moves depth) pair r s h g = h ∙ sym g
 one_takes_tag facts c Over pair r s h g = h ∙ sym g
 
@@ -119,11 +120,11 @@ one_if_main : (depth : ℕ) (c : Course) (r s : Result Course Cause) (P Q : Type
 one_if_main zero c r s P Q h g one = one h g
 one_if_main (suc depth) c r s P Q h g one = h ∙ sym g
 
-one_closes : (depth : ℕ) (c : Course) (r s : Result Course Cause) → Closes depth c r → Closes depth c s → r ≡ s
+one_closes : (depth : ℕ) (c : Course) (r s : Result Course Cause) → ClosesVariation depth c r → ClosesVariation depth c s → r ≡ s
 one_closes zero c r s h g = h ∙ sym g
 one_closes (suc depth) c r s h g = h ∙ sym g
 
-one_takes : (facts : TextFacts) (c : Course) (told : Telling) (r s : Result Course Cause) → Takes c told r → Takes c told s → r ≡ s
+one_takes : (facts : TextFacts) (c : Course) (told : Telling) (r s : Result Course Cause) → TakesToken c told r → TakesToken c told s → r ≡ s
 one_takes facts c (Tag first pair) r s h g = one_takes_tag facts c c.phase pair r s h g
 one_takes facts c (MoveText t) r s h g =
     one_if_main (depth_of c.phase) c r s _ _ h g (one_takes_move facts c t (nat_lt (length c.moves) 4096) r s)
@@ -134,36 +135,36 @@ one_takes facts c Stray r s h g = one_if_main (depth_of c.phase) c r s _ _ h g (
 one_takes facts c Endless r s h g = h ∙ sym g
 one_takes facts c TooLong r s h g = h ∙ sym g
 
-one_passes_at : (facts : TextFacts) (fault : Option GameFault) (c d e : Course) (t : Token) → MatchOption fault ((r : Result Course Cause) × Takes c t.is r × (d ≡ passed (taken c t.line r) t)) (λ f. d ≡ passed c t) → MatchOption fault ((r : Result Course Cause) × Takes c t.is r × (e ≡ passed (taken c t.line r) t)) (λ f. e ≡ passed c t) → d ≡ e
+one_passes_at : (facts : TextFacts) (fault : Option GameFault) (c d e : Course) (t : Token) → MatchOption fault ((r : Result Course Cause) × TakesToken c t.is r × (d ≡ passed (course_after_token c t.line r) t)) (λ f. d ≡ passed c t) → MatchOption fault ((r : Result Course Cause) × TakesToken c t.is r × (e ≡ passed (course_after_token c t.line r) t)) (λ f. e ≡ passed c t) → d ≡ e
 one_passes_at facts None c d e t h g =
-    h.2 ∙ ap (λ (r : Result Course Cause). passed (taken c t.line r) t) (one_takes facts c t.is h.0 g.0 h.1 g.1) ∙ sym g.2
+    h.2 ∙ ap (λ (r : Result Course Cause). passed (course_after_token c t.line r) t) (one_takes facts c t.is h.0 g.0 h.1 g.1) ∙ sym g.2
 one_passes_at facts (Some fault) c d e t h g = h ∙ sym g
 
 -- ---- games
 
-one_tells : (facts : TextFacts) (c : Course) (ts : List Token) (a b : Option ReadingTold) → Tells c ts a → Tells c ts b → a ≡ b
-unfolding Tells
+one_tells : (facts : TextFacts) (c : Course) (ts : List Token) (a b : Option ReadingTold) → ReadsTokens c ts a → ReadsTokens c ts b → a ≡ b
+unfolding ReadsTokens
 one_tells facts c [] a b h g = h ∙ sym g
 one_tells facts c (t ∷ ts) a b h g =
-    one_tells facts h.0 ts a b h.2 (subst (λ (d : Course). Tells d ts b) (sym (one_passes_at facts c.fault c h.0 g.0 t h.1 g.1)) g.2)
+    one_tells facts h.0 ts a b h.2 (subst (λ (d : Course). ReadsTokens d ts b) (sym (one_passes_at facts c.fault c h.0 g.0 t h.1 g.1)) g.2)
 
 one_usual : (facts : TextFacts) (t : List ℕ) (p q : Parts) → t ≡ fen_of p → t ≡ fen_of q → IsPosition p → IsPosition q → p ≡ q
 one_usual facts t p q h g a b = facts.position t p q ((facts.text t p a).1 h) ((facts.text t q b).1 g)
 
 one_game : TextFacts → OneGameIsRead
 one_game facts tokens behind others a b h g =
-    let usual = one_usual facts _ g.usual h.usual g.spelled h.spelled g.position h.position in
-    (one_tells facts (no_course h.usual) (of_game Tags tokens) a b h.tells (subst (λ (p : Parts). Tells (no_course p) (of_game Tags tokens) b) usual g.tells), h.rest ∙ sym g.rest)
+    let usual = one_usual facts _ g.usual h.usual (usual_spelled_so g.usual g.is_usual) (usual_spelled_so h.usual h.is_usual) (usual_is_position g.usual g.is_usual) (usual_is_position h.usual h.is_usual) in
+    (one_tells facts (no_course h.usual) (of_game Tags tokens) a b h.tells (subst (λ (p : Parts). ReadsTokens (no_course p) (of_game Tags tokens) b) usual g.tells), h.rest ∙ sym g.rest)
 
-one_list : OneGameIsRead → NoneIsTheEnd → (a b : List ReadingTold) (tokens : List Token) → ReadsGames tokens a → ReadsGames tokens b → a ≡ b
-unfolding ReadsGames
+one_list : OneGameIsRead → NoneIsTheEnd → (a b : List ReadingTold) (tokens : List Token) → ReadsGamesInTurn tokens a → ReadsGamesInTurn tokens b → a ≡ b
+unfolding ReadsGamesInTurn
 one_list one end [] [] tokens h g = refl
 one_list one end [] (y ∷ b) tokens h g = absurd (let none = (end tokens g.0 (Some y) g.1).1 h in cc)
 one_list one end (x ∷ a) [] tokens h g = absurd (let none = (end tokens h.0 (Some x) h.1).1 g in cc)
 one_list one end (x ∷ a) (y ∷ b) tokens h g =
     let same = one tokens h.0 g.0 (Some x) (Some y) h.1 g.1 in
     let first : x ≡ y = let s = same.0 in cc in
-    let others = one_list one end a b h.0 h.2 (subst (λ (ts : List Token). ReadsGames ts b) (sym same.1) g.2) in
+    let others = one_list one end a b h.0 h.2 (subst (λ (ts : List Token). ReadsGamesInTurn ts b) (sym same.1) g.2) in
     ap (λ (k : ReadingTold). k ∷ a) first ∙ ap (λ (l : List ReadingTold). y ∷ l) others
 
 pub one_game_is_read : HasOneText → HasOnePosition → TellsOneThing → PositionAfterIsComputed → OneGameIsRead

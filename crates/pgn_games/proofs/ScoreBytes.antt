@@ -3,11 +3,11 @@ use Rattle.std.proofs.Common.{◌≡◌, ◌≢◌, ◌∙◌, ℕ, zero, suc, �
 use Rattle.std.specs.Prelude.{◌==◌, ◌||◌, nat_lt}
 use Rattle.std.specs.List.{AllByRecursion, flat_map, position_or_len}
 use Rattle.std.proofs.lemmas.Bool.Decides.{nat_tests}
-use Rattle.pgn_games.specs.Lines.{is_escaped, lines_of, onto_first_line, read_text, text_of_line}
+use Rattle.pgn_games.specs.Lines.{is_escaped, lines_of_text, onto_first_line, read_text, text_of_line}
 use Rattle.pgn_games.specs.Lexemes.{Lexed, TooLong, lexed, lexed_at, lexed_in_line, rest_of_line}
 use Rattle.pgn_games.specs.Tokens.{Token, line_after, token_if, tokens_from, tokens_of}
 use Rattle.pgn_games.specs.Scores.{EachByte, IsReadLine}
-use Rattle.pgn_games.specs.Inside.Steps.{closed, comment_left}
+use Rattle.pgn_games.specs.Inside.Steps.{comment_closed, comment_left}
 use Rattle.pgn_games.proofs.LineLaws.{lines_by, lines_feed, lines_nil, text_cons, text_is, text_none, text_of_lines}
 use Rattle.pgn_games.proofs.TokenLaws.{differs, feed_passed, none_left, begun}
 use Rattle.pgn_games.proofs.CommentLaws.{comment_begins}
@@ -45,15 +45,15 @@ unfolding fed
 fed_feed t lines (inl h) = inl (ap (λ (u : List ℕ). 10 ∷ u) h)
 fed_feed t lines (inr h) = inr (ap (λ (u : List ℕ). 10 ∷ u) h)
 
-lines_fed_by : (b : Bool) (x : ℕ) (t : List ℕ) → (x == 10) ≡ b → IsFed (fed (lines_of t)) t → IsFed (fed (lines_of (x ∷ t))) (x ∷ t)
+lines_fed_by : (b : Bool) (x : ℕ) (t : List ℕ) → (x == 10) ≡ b → IsFed (fed (lines_of_text t)) t → IsFed (fed (lines_of_text (x ∷ t))) (x ∷ t)
 lines_fed_by true x t is h =
     let e : 10 ≡ x = grind (arith, nat_tests) in
-    subst (λ (y : ℕ). IsFed (fed (lines_of (y ∷ t))) (y ∷ t)) e (subst (λ (l : List (List ℕ)). IsFed (fed l) (10 ∷ t)) (sym (lines_feed t)) (fed_feed t (lines_of t) h))
+    subst (λ (y : ℕ). IsFed (fed (lines_of_text (y ∷ t))) (y ∷ t)) e (subst (λ (l : List (List ℕ)). IsFed (fed l) (10 ∷ t)) (sym (lines_feed t)) (fed_feed t (lines_of_text t) h))
 lines_fed_by false x t is h =
     let other : x ≢ 10 = λ e. absurd (grind (arith, nat_tests)) in
-    subst (λ (l : List (List ℕ)). IsFed (fed l) (x ∷ t)) (sym (lines_by x t other)) (fed_onto x t (lines_of t) h)
+    subst (λ (l : List (List ℕ)). IsFed (fed l) (x ∷ t)) (sym (lines_by x t other)) (fed_onto x t (lines_of_text t) h)
 
-lines_fed : (bytes : List ℕ) → IsFed (fed (lines_of bytes)) bytes
+lines_fed : (bytes : List ℕ) → IsFed (fed (lines_of_text bytes)) bytes
 lines_fed [] = inr (ap (λ (l : List (List ℕ)). fed l ++ 10 ∷ []) lines_nil ∙ ap (λ (u : List ℕ). u ++ 10 ∷ []) fed_nil)
 lines_fed (x ∷ t) = lines_fed_by (x == 10) x t refl (lines_fed t)
 
@@ -122,15 +122,15 @@ unescaped_onto true x (line ∷ lines) other h = (differs x 37 (other refl), h)
 unescaped_onto false x [] other h = tt
 unescaped_onto false x (line ∷ lines) other h = h
 
-unescaped_by : (b : Bool) (first : Bool) (x : ℕ) (t : List ℕ) → (x == 10) ≡ b → (first ≡ true → x ≢ 37) → AreUnescaped b (lines_of t) → AreUnescaped first (lines_of (x ∷ t))
+unescaped_by : (b : Bool) (first : Bool) (x : ℕ) (t : List ℕ) → (x == 10) ≡ b → (first ≡ true → x ≢ 37) → AreUnescaped b (lines_of_text t) → AreUnescaped first (lines_of_text (x ∷ t))
 unescaped_by true first x t is other h =
     let e : 10 ≡ x = grind (arith, nat_tests) in
-    subst (λ (y : ℕ). AreUnescaped first (lines_of (y ∷ t))) e (subst (AreUnescaped first) (sym (lines_feed t)) (unescaped_feed first (lines_of t) h))
+    subst (λ (y : ℕ). AreUnescaped first (lines_of_text (y ∷ t))) e (subst (AreUnescaped first) (sym (lines_feed t)) (unescaped_feed first (lines_of_text t) h))
 unescaped_by false first x t is other h =
     let feed : x ≢ 10 = λ e. absurd (grind (arith, nat_tests)) in
-    subst (AreUnescaped first) (sym (lines_by x t feed)) (unescaped_onto first x (lines_of t) other h)
+    subst (AreUnescaped first) (sym (lines_by x t feed)) (unescaped_onto first x (lines_of_text t) other h)
 
-unescaped_lines : (first : Bool) (bytes : List ℕ) → NoPercent first bytes → AreUnescaped first (lines_of bytes)
+unescaped_lines : (first : Bool) (bytes : List ℕ) → NoPercent first bytes → AreUnescaped first (lines_of_text bytes)
 unfolding NoPercent
 unescaped_lines first [] h = subst (AreUnescaped first) (sym lines_nil) tt
 unescaped_lines first (x ∷ t) h = unescaped_by (x == 10) first x t refl h.0 (unescaped_lines (x == 10) t h.1)
@@ -152,9 +152,9 @@ lines_read [] plain short = text_none ∙ sym fed_nil
 lines_read (line ∷ lines) plain short =
     text_cons line lines ∙ ap (λ (t : List ℕ). 10 ∷ (t ++ text_of_lines lines)) (line_read line plain.0 short.0) ∙ ap (λ (t : List ℕ). 10 ∷ (line ++ t)) (lines_read lines plain.1 short.1) ∙ sym (fed_cons line lines)
 
-text_fed : (bytes : List ℕ) → Calm bytes → AllByRecursion IsReadLine (lines_of bytes) → read_text bytes ≡ fed (lines_of bytes)
+text_fed : (bytes : List ℕ) → Calm bytes → AllByRecursion IsReadLine (lines_of_text bytes) → read_text bytes ≡ fed (lines_of_text bytes)
 text_fed bytes calm short =
-    text_is bytes ∙ lines_read (lines_of bytes) (each_unescaped (lines_of bytes) (unescaped_lines true bytes (calm true))) short
+    text_is bytes ∙ lines_read (lines_of_text bytes) (each_unescaped (lines_of_text bytes) (unescaped_lines true bytes (calm true))) short
 
 -- ---- the line feed at the end tells nothing
 
@@ -209,8 +209,8 @@ next_alike zero n f x t h = at (x == 123) refl
 next_in_comment : (from : ℕ) (long : Bool) (n x : ℕ) (t : List ℕ) → EndsAlike t → comment_left from long n ((x ∷ t) ++ 10 ∷ []) ≡ comment_left from long n (x ∷ t)
 unfolding comment_left
 next_in_comment from long n x t h =
-    ap (λ (ts : List Token). cond (x == 125) (closed from long ++ ts) (comment_left from (long || x == 256) (line_after n x) (t ++ 10 ∷ []))) (h.text 0 n false)
-    ∙ ap (λ (ts : List Token). cond (x == 125) (closed from long ++ tokens_from 0 n false t) ts) (h.comment from (long || x == 256) (line_after n x))
+    ap (λ (ts : List Token). cond (x == 125) (comment_closed from long ++ ts) (comment_left from (long || x == 256) (line_after n x) (t ++ 10 ∷ []))) (h.text 0 n false)
+    ∙ ap (λ (ts : List Token). cond (x == 125) (comment_closed from long ++ tokens_from 0 n false t) ts) (h.comment from (long || x == 256) (line_after n x))
 
 ends_alike : (t : List ℕ) → EndsAlike t
 ends_alike [] = record { text = feed_alone; comment = feed_in_comment }
@@ -223,6 +223,6 @@ tokens_fed lines bytes (inl h) = ap (tokens_from 0 0 true) h
 tokens_fed lines bytes (inr h) = sym ((ends_alike lines).text 0 0 true) ∙ ap (tokens_from 0 0 true) h
 
 -- the tokens of a file whose lines are all read, from its first byte on
-pub tokens_begin : (bytes : List ℕ) → Calm bytes → AllByRecursion IsReadLine (lines_of bytes) → tokens_of bytes ≡ tokens_from 0 1 true bytes
+pub tokens_begin : (bytes : List ℕ) → Calm bytes → AllByRecursion IsReadLine (lines_of_text bytes) → tokens_of bytes ≡ tokens_from 0 1 true bytes
 tokens_begin bytes calm short =
-    ap (tokens_from 0 0 true) (text_fed bytes calm short) ∙ tokens_fed (fed (lines_of bytes)) bytes (lines_fed bytes) ∙ feed_passed 0 true bytes
+    ap (tokens_from 0 0 true) (text_fed bytes calm short) ∙ tokens_fed (fed (lines_of_text bytes)) bytes (lines_fed bytes) ∙ feed_passed 0 true bytes

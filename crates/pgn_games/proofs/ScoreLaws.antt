@@ -4,9 +4,7 @@ use Rattle.std.specs.Prelude.{unwrap_or}
 use Rattle.std.specs.List.{AllByRecursion, AllZip}
 use Rattle.board_core.specs.declared.parts.Parts.{Parts}
 use Rattle.board_core.specs.declared.moves.Move.{Move}
-use Rattle.board_core.specs.Position.{IsPosition}
 use Rattle.board_core.specs.Moves.{Legal}
-use Rattle.fen_text.specs.Written.{fen_of}
 use Rattle.pgn_games.specs.declared.game.GameResult.{GameResult}
 use Rattle.pgn_games.specs.declared.game.GameResult.TheVariants.{Missing}
 use Rattle.pgn_games.specs.declared.phase.Phase.{Phase}
@@ -14,10 +12,10 @@ use Rattle.pgn_games.specs.declared.phase.Phase.TheVariants.{Tags, Moves, Over}
 use Rattle.pgn_games.specs.declared.tags.TagName.{TagName}
 use Rattle.pgn_games.specs.declared.tags.TagName.TheVariants as name
 use Rattle.pgn_games.specs.Bytes.{is_digit}
-use Rattle.pgn_games.specs.Tags.{TagPair, TagTexts, name_of, no_tags, value_of, with_tag}
+use Rattle.pgn_games.specs.Tags.{TagPair, TagTexts, tag_by_name, no_tags, tag_value, with_tag}
 use Rattle.pgn_games.specs.Lexemes.{MoveText, Tag, Telling, Told}
 use Rattle.pgn_games.specs.Tokens.{Token, token, token_if, tokens_from}
-use Rattle.pgn_games.specs.Games.{Course, Passes, ReadingTold, ReadsGame, ReadsGames, SetsTag, Tells, behind_game, goes_on, no_course, of_game, told_of, usual_start}
+use Rattle.pgn_games.specs.Games.{IsUsualStart, Course, PassesToken, ReadingTold, ReadsGame, ReadsGamesInTurn, SetsTag, ReadsTokens, behind_game, goes_on, no_course, of_game, reading_at_end}
 use Rattle.pgn_games.specs.Laws.{OneListIsSpelled}
 use Rattle.pgn_games.specs.Scores.{AreScoresRead, EachByte, GameScore, LeadsToStart, OnlyScoresAreRead, PartsTokens, ScoreTag, ScoresAreReadBack, SpellsMoveNumber, SpellsMovetext, SpellsScore, SpellsSymbol, SpellsTagPair, SpellsTags, TagsLeadToStart, escaped_value, is_score_symbol, is_white, joined_texts, kept_value, line_behind, result_text, score_read, values_kept, with_value}
 use Rattle.pgn_games.specs.Inside.Steps.{Continues}
@@ -57,10 +55,10 @@ tag_set (Some name.Result) value line last kept p q h = ap (λ (x : Parts). Ok (
 abbrev pair_of_tag : ScoreTag → TagPair
 pair_of_tag tag = record { name = tag.name; quoted = escaped_value tag.value }
 
-tag_takes : (tag : ScoreTag) (line : Option ℕ) (last n : ℕ) (f : Bool) (kept : TagTexts) (p q : Parts) → value_of (escaped_value tag.value) ≡ kept_value tag → LeadsToStart (name_of tag.name) (kept_value tag) p q → Passes (scored line last kept p p [] Tags) (token n (Tag f (Some (pair_of_tag tag)))) (scored (Some (unwrap_or line n)) n (with_value (name_of tag.name) (kept_value tag) kept) q q [] Tags)
+tag_takes : (tag : ScoreTag) (line : Option ℕ) (last n : ℕ) (f : Bool) (kept : TagTexts) (p q : Parts) → tag_value (escaped_value tag.value) ≡ kept_value tag → LeadsToStart (tag_by_name tag.name) (kept_value tag) p q → PassesToken (scored line last kept p p [] Tags) (token n (Tag f (Some (pair_of_tag tag)))) (scored (Some (unwrap_or line n)) n (with_value (tag_by_name tag.name) (kept_value tag) kept) q q [] Tags)
 tag_takes tag line last n f kept p q value h =
-    let d = scored line last (with_value (name_of tag.name) (kept_value tag) kept) q q [] Tags in
-    (Ok d, subst (λ (v : List ℕ). SetsTag (scored line last kept p p [] Tags) v (name_of tag.name) (Ok d)) (sym value) (tag_set (name_of tag.name) (kept_value tag) line last kept p q h), refl)
+    let d = scored line last (with_value (tag_by_name tag.name) (kept_value tag) kept) q q [] Tags in
+    (Ok d, subst (λ (v : List ℕ). SetsTag (scored line last kept p p [] Tags) v (tag_by_name tag.name) (Ok d)) (sym value) (tag_set (tag_by_name tag.name) (kept_value tag) line last kept p q h), refl)
 
 -- ---- what goes on over bytes
 
@@ -111,14 +109,14 @@ no_tags_go bytes more n f line last kept p q none same =
       goes = subst (λ (x : Parts). Continues c ts (scored line last kept x x [] Tags) us) (sym same) (continues_same c ts us (no_bytes bytes more n f none));
     }
 
-tag_goes : (pair white rest bytes more : List ℕ) (tag : ScoreTag) (n : ℕ) (f : Bool) (line : Option ℕ) (last : ℕ) (kept : TagTexts) (p q start : Parts) (after : TagTexts) → SpellsTagPair pair tag → EachByte is_white white → bytes ≡ pair ++ (white ++ rest) → LeadsToStart (name_of tag.name) (kept_value tag) p q → GoesOver (scored (Some (unwrap_or line n)) n (with_value (name_of tag.name) (kept_value tag) kept) q q [] Tags) (line_behind n white) (first_behind false white) rest more (after_tags after start) → GoesOver (scored line last kept p p [] Tags) n f bytes more (after_tags after start)
+tag_goes : (pair white rest bytes more : List ℕ) (tag : ScoreTag) (n : ℕ) (f : Bool) (line : Option ℕ) (last : ℕ) (kept : TagTexts) (p q start : Parts) (after : TagTexts) → SpellsTagPair pair tag → EachByte is_white white → bytes ≡ pair ++ (white ++ rest) → LeadsToStart (tag_by_name tag.name) (kept_value tag) p q → GoesOver (scored (Some (unwrap_or line n)) n (with_value (tag_by_name tag.name) (kept_value tag) kept) q q [] Tags) (line_behind n white) (first_behind false white) rest more (after_tags after start) → GoesOver (scored line last kept p p [] Tags) n f bytes more (after_tags after start)
 tag_goes pair white rest bytes more tag n f line last kept p q start after spells white_is text leads w =
     let c = scored line last kept p p [] Tags in
-    let d = scored (Some (unwrap_or line n)) n (with_value (name_of tag.name) (kept_value tag) kept) q q [] Tags in
+    let d = scored (Some (unwrap_or line n)) n (with_value (tag_by_name tag.name) (kept_value tag) kept) q q [] Tags in
     let e = scored w.line_then w.last_then after start start [] Tags in
     let t = token n (Tag f (Some (pair_of_tag tag))) in
     let us = tokens_from 0 (line_behind n white) (first_behind false white) (rest ++ more) in
-    let value : value_of (escaped_value tag.value) ≡ kept_value tag = ap (take 255) (escaped_well tag.value spells.value).says in
+    let value : tag_value (escaped_value tag.value) ≡ kept_value tag = ap (take 255) (escaped_well tag.value spells.value).says in
     let begin : tokens_from 0 n f (bytes ++ more) ≡ t ∷ us =
     ap (λ (b : List ℕ). tokens_from 0 n f (b ++ more)) text
     ∙ ap (tokens_from 0 n f) (append_assoc pair (white ++ rest) more ∙ ap (λ (u : List ℕ). pair ++ u) (append_assoc white rest more))
@@ -138,7 +136,7 @@ tag_goes pair white rest bytes more tag n f line last kept p q start after spell
 tags_go_on : (tags : List ScoreTag) (bytes more : List ℕ) (n : ℕ) (f : Bool) (line : Option ℕ) (last : ℕ) (kept : TagTexts) (p q : Parts) → SpellsTags tags bytes → TagsLeadToStart tags p q → GoesOver (scored line last kept p p [] Tags) n f bytes more (after_tags (values_kept kept tags) q)
 tags_go_on [] bytes more n f line last kept p q h same = no_tags_go bytes more n f line last kept p q h same
 tags_go_on (tag ∷ tags) bytes more n f line last kept p q h leads =
-    tag_goes h.0 h.1 h.2 bytes more tag n f line last kept p leads.0 q (values_kept kept (tag ∷ tags)) h.3 h.4 h.6 leads.1 (tags_go_on tags h.2 more (line_behind n h.1) (first_behind false h.1) (Some (unwrap_or line n)) n (with_value (name_of tag.name) (kept_value tag) kept) leads.0 q h.5 leads.2)
+    tag_goes h.0 h.1 h.2 bytes more tag n f line last kept p leads.0 q (values_kept kept (tag ∷ tags)) h.3 h.4 h.6 leads.1 (tags_go_on tags h.2 more (line_behind n h.1) (first_behind false h.1) (Some (unwrap_or line n)) n (with_value (tag_by_name tag.name) (kept_value tag) kept) leads.0 q h.5 leads.2)
 
 -- the tags of a game, on whose first line stands the first of them
 pub record TagsGo (tags : List ScoreTag) (bytes more : List ℕ) (n : ℕ) (f : Bool) (p q : Parts) : Type 0 where
@@ -150,7 +148,7 @@ unfolding tag_goes
 tags_go [] bytes more n f p q h leads =
     record { goes = tags_go_on [] bytes more n f None 0 no_tags p q h leads; at_tag = λ some. absurd (some refl) }
 tags_go (tag ∷ tags) bytes more n f p q h leads =
-    let rest = tags_go_on tags h.2 more (line_behind n h.1) (first_behind false h.1) (Some n) n (with_value (name_of tag.name) (kept_value tag) no_tags) leads.0 q h.5 leads.2 in
+    let rest = tags_go_on tags h.2 more (line_behind n h.1) (first_behind false h.1) (Some n) n (with_value (tag_by_name tag.name) (kept_value tag) no_tags) leads.0 q h.5 leads.2 in
     record {
       goes = tag_goes h.0 h.1 h.2 bytes more tag n f None 0 no_tags p leads.0 q (values_kept no_tags (tag ∷ tags)) h.3 h.4 h.6 leads.1 rest;
       at_tag = λ some. rest.keeps n refl;
@@ -158,7 +156,7 @@ tags_go (tag ∷ tags) bytes more n f p q h leads =
 
 -- ---- moves
 
-pub move_takes : (begun : Bool) (line : Option ℕ) (last n : ℕ) (kept : TagTexts) (start p q : Parts) (before : List Move) (m : Move) (text : List ℕ) → SpellsSymbol p m text → Legal p m q → length before < 4096 → Passes (scored line last kept start p before (main begun)) (token n (MoveText text)) (scored (Some (unwrap_or line n)) n kept start q (before ++ m ∷ []) (Moves 0))
+pub move_takes : (begun : Bool) (line : Option ℕ) (last n : ℕ) (kept : TagTexts) (start p q : Parts) (before : List Move) (m : Move) (text : List ℕ) → SpellsSymbol p m text → Legal p m q → length before < 4096 → PassesToken (scored line last kept start p before (main begun)) (token n (MoveText text)) (scored (Some (unwrap_or line n)) n kept start q (before ++ m ∷ []) (Moves 0))
 move_takes false line last n kept start p q before m text spells legal few =
     let d = scored line last kept start q (before ++ m ∷ []) Tags in
     (Ok d, move_read (scored line last kept start p before Tags) text (length before) (Ok d) few (m, spells.read, (q, legal, refl)), refl)
@@ -256,7 +254,7 @@ moves_go (m ∷ moves) bytes more n f begun line last kept start p before h few 
 
 -- ---- results
 
-result_takes : (begun : Bool) (line : Option ℕ) (last n : ℕ) (kept : TagTexts) (start p : Parts) (moves : List Move) (r : GameResult) → Passes (scored line last kept start p moves (main begun)) (token n (Told r)) (record (scored (Some (unwrap_or line n)) n kept start p moves Over) { result = r })
+result_takes : (begun : Bool) (line : Option ℕ) (last n : ℕ) (kept : TagTexts) (start p : Parts) (moves : List Move) (r : GameResult) → PassesToken (scored line last kept start p moves (main begun)) (token n (Told r)) (record (scored (Some (unwrap_or line n)) n kept start p moves Over) { result = r })
 result_takes false line last n kept start p moves r =
     (Ok (record (scored line last kept start p moves Tags) { result = r }), refl, refl)
 result_takes true line last n kept start p moves r =
@@ -267,17 +265,16 @@ result_is_on false r = refl
 result_is_on true r = refl
 
 -- a game that is over is read
-pub read_over : (c d : Course) (usual : Parts) (ts us : List Token) (x : ReadingTold) → c ≡ no_course usual → usual_start ≡ fen_of usual → IsPosition usual → Continues c ts d us → d.phase ≡ Over → told_of d ≡ Some x → ReadsGame ts (Some x) us
-unfolding Tells
-read_over c d usual ts us x first spelled position goes over told =
+pub read_over : (c d : Course) (usual : Parts) (ts us : List Token) (x : ReadingTold) → c ≡ no_course usual → IsUsualStart usual → Continues c ts d us → d.phase ≡ Over → reading_at_end d ≡ Some x → ReadsGame ts (Some x) us
+unfolding ReadsTokens
+read_over c d usual ts us x first is_usual goes over told =
     let from = subst (λ (k : Course). Continues k ts d us) first goes in
     let none : of_game d.phase us ≡ [] = ap (λ (p : Phase). of_game p us) over ∙ none_behind us in
     let all : behind_game d.phase us ≡ us = ap (λ (p : Phase). behind_game p us) over ∙ all_behind us in
     record {
       usual = usual;
-      spelled = spelled;
-      position = position;
-      tells = from.told (Some x) (subst (λ (l : List Token). Tells d l (Some x)) (sym none) (sym told));
+      is_usual = is_usual;
+      tells = from.told (Some x) (subst (λ (l : List Token). ReadsTokens d l (Some x)) (sym none) (sym told));
       rest = sym all ∙ from.rest;
     }
 
@@ -335,7 +332,7 @@ score_goes bytes more score n f h =
       at = at;
       at_tag = λ some. some_line b.line_then n n2 (b.keeps n (tags.at_tag some));
       first_then = first_behind false h.white;
-      reads = read_over c over h.usual _ _ (score_read at score) (refl {a = c}) h.spelled h.position (same_tokens c over ts _ us _ begin behind all) (refl {a = Over}) (refl {a = told_of over});
+      reads = read_over c over h.usual _ _ (score_read at score) (refl {a = c}) h.is_usual (same_tokens c over ts _ us _ begin behind all) (refl {a = Over}) (refl {a = reading_at_end over});
     }
   where
     few : {n : ℕ} → n ≤ 4096 → 0 + n ≤ 4096
@@ -345,11 +342,11 @@ score_goes bytes more score n f h =
 
 record ScoresGo (texts : List (List ℕ)) (scores : List GameScore) (n : ℕ) (f : Bool) : Type 0 where
   readings : List ReadingTold
-  reads : ReadsGames (tokens_from 0 n f (joined_texts texts)) readings
+  reads : ReadsGamesInTurn (tokens_from 0 n f (joined_texts texts)) readings
   are : AreScoresRead n texts scores readings
 
 scores_go : (texts : List (List ℕ)) (scores : List GameScore) (n : ℕ) (f : Bool) → AllZip SpellsScore texts scores → ScoresGo texts scores n f
-unfolding ReadsGames
+unfolding ReadsGamesInTurn
 scores_go [] [] n f h = record { readings = []; reads = none_left 0 n f; are = tt }
 scores_go [] (score ∷ scores) n f h = absurd h
 scores_go (text ∷ texts) [] n f h = absurd h
@@ -397,7 +394,7 @@ scores_calm (text ∷ texts) (score ∷ scores) h = calm_append text (joined_tex
 pub scores_are_read_back : ScoresAreReadBack
 scores_are_read_back texts scores h short =
     let w = scores_go texts scores 1 true h in
-    (w.readings, subst (λ (ts : List Token). ReadsGames ts w.readings) (sym (tokens_begin (joined_texts texts) (scores_calm texts scores h) short)) w.reads, w.are)
+    (w.readings, subst (λ (ts : List Token). ReadsGamesInTurn ts w.readings) (sym (tokens_begin (joined_texts texts) (scores_calm texts scores h) short)) w.reads, w.are)
 
 pub only_scores_are_read : OneListIsSpelled → OnlyScoresAreRead
 only_scores_are_read one texts scores h short readings spelled =

@@ -9,7 +9,7 @@ use Rattle.std.proofs.lemmas.List.{drop_at, length-append, take_at}
 use Rattle.pgn_games.specs.declared.bytes.ByteKind.TheVariants as kind
 use Rattle.pgn_games.specs.declared.game.GameResult.{GameResult}
 use Rattle.pgn_games.specs.declared.game.GameResult.TheVariants.{WhiteWins, BlackWins, Draw, Unknown, Missing}
-use Rattle.pgn_games.specs.Bytes.{is_blank, is_digit, is_name, is_space, is_symbol, mark_of, run_len}
+use Rattle.pgn_games.specs.Bytes.{is_blank, is_digit, is_name, is_space, is_symbol, kind_of_mark, run_len}
 use Rattle.pgn_games.specs.Lines.{one_more}
 use Rattle.pgn_games.specs.Lexemes.{Lexed, Tag, Telling, Told, lexed, lexed_at, lexed_by, lexed_in_line, lexed_tag, rest_of_line, symbol_tells}
 use Rattle.pgn_games.specs.Tags.{TagPair, after_byte, after_spaces, closes_at, pair_from_name, pair_from_quote, pair_to_bracket, pair_to_quote, tag_pair, unescaped}
@@ -76,7 +76,7 @@ Excludes has lacks = (b : ℕ) → has b ≡ true → lacks b ≡ false
 
 blank_begins : (f : Bool) (b : ℕ) (t : List ℕ) → is_blank b ≡ true → b ≢ 10 → b ≢ 123 → b ≢ 256 → lexed_at f b t ≡ lexed None (run_len is_blank (rest_of_line t))
 blank_begins f b t blank feed brace byte =
-    plain_byte f b t feed brace byte ∙ ap (λ (k : Bool). lexed_by (cond k kind.Blank (cond (is_symbol b) kind.Symbol (mark_of b))) f b (rest_of_line t)) blank
+    plain_byte f b t feed brace byte ∙ ap (λ (k : Bool). lexed_by (cond k kind.Blank (cond (is_symbol b) kind.Symbol (kind_of_mark b))) f b (rest_of_line t)) blank
 
 blanks_by : (feed blank : Bool) (c : ℕ) (t : List ℕ) (n : ℕ) → (c == 10) ≡ feed → is_blank c ≡ blank → tokens_from (run_len is_blank (rest_of_line (c ∷ t))) n false (c ∷ t) ≡ tokens_from 0 n false (c ∷ t)
 unfolding tokens_from
@@ -168,8 +168,8 @@ symbol_begins f x s more plain h stops =
     let line : rest_of_line (s ++ more) ≡ s ++ rest_of_line more = rest_append s more (on_line_by is_symbol s refl h.1) in
     let run : run_len is_symbol (s ++ rest_of_line more) ≡ length s = run_append is_symbol s (rest_of_line more) h.1 (stops_rest is_symbol more stops) in
     plain_byte f x (s ++ more) (fails_other is_symbol x 10 h.0 refl) (fails_other is_symbol x 123 h.0 refl) (fails_other is_symbol x 256 h.0 refl)
-    ∙ ap (λ (k : Bool). lexed_by (cond k kind.Blank (cond (is_symbol x) kind.Symbol (mark_of x))) f x (rest_of_line (s ++ more))) plain
-    ∙ ap (λ (k : Bool). lexed_by (cond k kind.Symbol (mark_of x)) f x (rest_of_line (s ++ more))) h.0
+    ∙ ap (λ (k : Bool). lexed_by (cond k kind.Blank (cond (is_symbol x) kind.Symbol (kind_of_mark x))) f x (rest_of_line (s ++ more))) plain
+    ∙ ap (λ (k : Bool). lexed_by (cond k kind.Symbol (kind_of_mark x)) f x (rest_of_line (s ++ more))) h.0
     ∙ ap (lexed_by kind.Symbol f x) line
     ∙ ap (λ (k : ℕ). lexed (symbol_tells (x ∷ take k (s ++ rest_of_line more))) k) run
     ∙ ap (λ (u : List ℕ). lexed (symbol_tells (x ∷ u)) (length s)) (take_at s (rest_of_line more) (length s) refl)
@@ -430,3 +430,8 @@ pair_calm pair tag h =
     let well = escaped_well tag.value h.value in
     let on = pair_on_line h.before tag.name h.between (escaped_value tag.value) h.behind tag.value h.spaces h.name.0 well in
     subst Calm (sym h.text) (calm_line 91 (pair_before h.before tag.name h.between (escaped_value tag.value) h.behind []) (λ e. absurd (omega (arith, e))) (λ e. absurd (omega (arith, e))) on)
+
+pub pair_is_on_line : (pair : List ℕ) (tag : ScoreTag) → SpellsTagPair pair tag → IsOnLine pair
+pair_is_on_line pair tag h =
+    let well = escaped_well tag.value h.value in
+    subst IsOnLine (sym h.text) (λ e. absurd (omega (arith, e)), pair_on_line h.before tag.name h.between (escaped_value tag.value) h.behind tag.value h.spaces h.name.0 well)

@@ -13,12 +13,13 @@ use Rattle.pgn_games.specs.declared.phase.Phase.{Phase}
 use Rattle.pgn_games.specs.declared.phase.Phase.TheVariants.{Tags, Moves, Over}
 use Rattle.pgn_games.specs.declared.tags.TagName.{TagName}
 use Rattle.pgn_games.specs.declared.tags.TagName.TheVariants as name
-use Rattle.pgn_games.specs.Tags.{TagPair, name_of, value_of}
+use Rattle.pgn_games.specs.Tags.{TagPair, tag_by_name, tag_value}
 use Rattle.pgn_games.specs.Lexemes.{Telling, Tag, MoveText, Begins, Ends, Told, Stray, Endless, TooLong}
 use Rattle.pgn_games.specs.Tokens.{Token, token}
-use Rattle.pgn_games.specs.Games.{Course, Closes, GameRead, GameTold, SetsTag, Takes, TakesIfMain, TakesMove, TakesTag, Tells, after, depth_of, fault_of, no_course, of_game, over_at, passed, taken, told_at, told_by, told_in, usual_start}
+use Rattle.pgn_games.specs.Games.{Course, ClosesVariation, GameRead, GameTold, SetsTag, TakesToken, TakesIfMain, TakesMove, TakesTag, ReadsTokens, phase_after_token, depth_of, fault_of, no_course, of_game, over_at, passed, course_after_token, told_at, reading_unless_fault, told_in, usual_start}
 use Rattle.pgn_games.proofs.GameLaws.{taken_phase}
-use Rattle.pgn_games.specs.Laws.{BeginsAt, GamesAreOfChess, IsGame, PlaysInTurn}
+use Rattle.pgn_games.specs.Laws.{BeginsAt, GamesAreOfChess, IsChessGame, PlaysInTurn}
+use Rattle.pgn_games.proofs.StartLaws.{usual_spelled_so}
 
 -- what holds of a game so far
 record IsSound (c : Course) : Type 0 where
@@ -76,15 +77,15 @@ tag_set c d value (Some name.Fen) h tags e =
 
 pair_set : (phase : Phase) (c d : Course) (pair : Option TagPair) → IsSound c → c.phase ≡ phase → TakesTag c phase pair (Ok d) → IsSoundFrom c d
 pair_set Tags c d None h is e = not_err c d _ e
-pair_set Tags c d (Some pair) h is e = tag_set c d (value_of pair.quoted) (name_of pair.name) h is e
+pair_set Tags c d (Some pair) h is e = tag_set c d (tag_value pair.quoted) (tag_by_name pair.name) h is e
 pair_set (Moves depth) c d pair h is e = not_err c d _ e
 pair_set Over c d pair h is e = not_err c d _ e
 
 if_main : (depth : ℕ) (c d : Course) (IsTaken : Type 0) → IsSound c → TakesIfMain depth c (Ok d) IsTaken → (IsTaken → IsSoundFrom c d) → IsSoundFrom c d
-if_main zero c d IsTaken h e taken = taken e
-if_main (suc depth) c d IsTaken h e taken = kept_as c d h (ok_is c d e)
+if_main zero c d IsTaken h e course_after_token = course_after_token e
+if_main (suc depth) c d IsTaken h e course_after_token = kept_as c d h (ok_is c d e)
 
-closed : (depth : ℕ) (c d : Course) → IsSound c → Closes depth c (Ok d) → IsSoundFrom c d
+closed : (depth : ℕ) (c d : Course) → IsSound c → ClosesVariation depth c (Ok d) → IsSoundFrom c d
 closed zero c d h e = not_err c d _ e
 closed (suc depth) c d h e = kept_as c d h (ok_is c d e)
 
@@ -109,7 +110,7 @@ result_over zero p e = absurd (cc)
 result_over (suc depth) p e = absurd (cc)
 
 -- no movetext came before a phase of tags
-tags_before : (p : Phase) (told : Telling) → after p told ≡ Tags → p ≡ Tags
+tags_before : (p : Phase) (told : Telling) → phase_after_token p told ≡ Tags → p ≡ Tags
 tags_before p (Tag first pair) e = e
 tags_before p (MoveText text) e = absurd (cc)
 tags_before p Begins e = absurd (cc)
@@ -137,7 +138,7 @@ move_ok (suc depth) c d line text h e =
 result_set : (c d : Course) (result : GameResult) → IsSound c → ◌≡◌ {A = Result Course Cause} (Ok d) (Ok (record c { result = result })) → IsSoundFrom c d
 result_set c d result h e = other_tag c d _ h e refl refl refl refl
 
-sound_ok : (c d : Course) (line : ℕ) (told : Telling) → IsSound c → Takes c told (Ok d) → IsSound (passed d (token line told))
+sound_ok : (c d : Course) (line : ℕ) (told : Telling) → IsSound c → TakesToken c told (Ok d) → IsSound (passed d (token line told))
 sound_ok c d line (Tag first pair) h e =
     sound_passed c d (token line (Tag first pair)) (pair_set c.phase c d pair h refl e) (taken_phase c d (Tag first pair) e)
 sound_ok c d line (MoveText text) h e = move_ok (depth_of c.phase) c d line text h e
@@ -154,32 +155,32 @@ sound_ok c d line Endless h e =
 sound_ok c d line TooLong h e =
     sound_passed c d (token line TooLong) (not_err c d _ e) (taken_phase c d TooLong e)
 
-sound_taken : (c : Course) (line : ℕ) (told : Telling) (r : Result Course Cause) → IsSound c → Takes c told r → IsSound (passed (taken c line r) (token line told))
+sound_taken : (c : Course) (line : ℕ) (told : Telling) (r : Result Course Cause) → IsSound c → TakesToken c told r → IsSound (passed (course_after_token c line r) (token line told))
 sound_taken c line told (Ok d) h e = sound_ok c d line told h e
 sound_taken c line told (Err cause) h e =
     sound_passed c (record c { fault = Some (fault_of c line cause) }) (token line told) (record { start = h.start; moves = h.moves; few = h.few; before = h.before }) refl
 
-sound_at : (fault : Option GameFault) (c d : Course) (t : Token) → IsSound c → MatchOption fault ((r : Result Course Cause) × Takes c t.is r × (d ≡ passed (taken c t.line r) t)) (λ f. d ≡ passed c t) → IsSound d
+sound_at : (fault : Option GameFault) (c d : Course) (t : Token) → IsSound c → MatchOption fault ((r : Result Course Cause) × TakesToken c t.is r × (d ≡ passed (course_after_token c t.line r) t)) (λ f. d ≡ passed c t) → IsSound d
 sound_at None c d t h e = subst IsSound (sym e.2) (sound_taken c t.line t.is e.0 h e.1)
 sound_at (Some f) c d t h e = subst IsSound (sym e) (sound_passed c c t (kept c h) refl)
 
-game_in : (depth line : ℕ) (c : Course) (g : GameTold) → IsSound c → GameRead g ≡ told_in depth line c → IsGame g
+game_in : (depth line : ℕ) (c : Course) (g : GameTold) → IsSound c → GameRead g ≡ told_in depth line c → IsChessGame g
 game_in zero line c g h e =
     let told : GameTold = record { line = line; tags = c.tags; start = c.start; moves = c.moves; result = c.result } in
     let same : g ≡ told = cc in
-    subst IsGame (sym same) (record { start = h.start; moves = (c.position, h.moves); few = h.few })
+    subst IsChessGame (sym same) (record { start = h.start; moves = (c.position, h.moves); few = h.few })
 game_in (suc depth) line c g h e = absurd (cc)
 
-game_by : (fault : Option GameFault) (line : ℕ) (c : Course) (g : GameTold) → IsSound c → GameRead g ≡ told_by fault line c → IsGame g
+game_by : (fault : Option GameFault) (line : ℕ) (c : Course) (g : GameTold) → IsSound c → GameRead g ≡ reading_unless_fault fault line c → IsChessGame g
 game_by None line c g h e = game_in (depth_of c.phase) line c g h e
 game_by (Some fault) line c g h e = absurd (cc)
 
-game_at : (line : Option ℕ) (c : Course) (g : GameTold) → IsSound c → Some (GameRead g) ≡ told_at line c → IsGame g
+game_at : (line : Option ℕ) (c : Course) (g : GameTold) → IsSound c → Some (GameRead g) ≡ told_at line c → IsChessGame g
 game_at None c g h e = absurd (cc)
-game_at (Some line) c g h e = let same : GameRead g ≡ told_by c.fault line c = cc in game_by c.fault line c g h same
+game_at (Some line) c g h e = let same : GameRead g ≡ reading_unless_fault c.fault line c = cc in game_by c.fault line c g h same
 
-game_told : (c : Course) (ts : List Token) (g : GameTold) → IsSound c → Tells c ts (Some (GameRead g)) → IsGame g
-unfolding Tells
+game_told : (c : Course) (ts : List Token) (g : GameTold) → IsSound c → ReadsTokens c ts (Some (GameRead g)) → IsChessGame g
+unfolding ReadsTokens
 game_told c [] g h e = game_at c.line c g h e
 game_told c (t ∷ ts) g h e = game_told e.0 ts g (sound_at c.fault c e.0 t h e.1) e.2
 
@@ -188,4 +189,4 @@ first_sound usual spelled = record { start = spelled; moves = refl; few = lit≤
 
 pub games_are_of_chess : GamesAreOfChess
 games_are_of_chess tokens behind game h =
-    game_told (no_course h.usual) (of_game Tags tokens) game (first_sound h.usual h.spelled) h.tells
+    game_told (no_course h.usual) (of_game Tags tokens) game (first_sound h.usual (usual_spelled_so h.usual h.is_usual)) h.tells

@@ -5,12 +5,12 @@ use Rattle.pgn_games.specs.declared.lexeme.Lexeme.{Lexeme}
 use Rattle.pgn_games.specs.declared.lexeme.Lexeme.TheVariants as read
 use Rattle.pgn_games.specs.Lexemes.{Telling, lexed_in_line}
 use Rattle.pgn_games.specs.Tokens.{Token, token, token_if, tokens_from}
-use Rattle.pgn_games.specs.Games.{Course, Passes, goes_on}
+use Rattle.pgn_games.specs.Games.{Course, PassesToken, goes_on}
 use Rattle.pgn_games.specs.declared.phase.Phase.{Phase}
 use Rattle.pgn_games.specs.declared.phase.Phase.TheVariants.{Over}
 use Rattle.pgn_games.specs.Inside.Scan.{lexeme_of}
 use Rattle.pgn_games.specs.Inside.Lines.{OneLine}
-use Rattle.pgn_games.specs.Inside.Steps.{BeginsLine, Continues, IsOver, comment_left}
+use Rattle.pgn_games.specs.Inside.Steps.{BeginsLine, Continues, IsGameOver, comment_left}
 use Rattle.std.proofs.lemmas.List.{at_drop_more}
 use Rattle.pgn_games.proofs.CommentLaws.{comment_begins}
 use Rattle.pgn_games.proofs.TokenLaws.{lexeme_at}
@@ -45,15 +45,15 @@ lexed_one n place len d s more tells e one begins within plain h =
     let l = subst (λ (x : List ℕ). Lexes x place len tells) e h in
     lexeme_at n place len s more one begins within plain l.byte l.size l.within ∙ ap (λ (o : Option Telling). token_if n o ++ from_place n (place + len) s more) (sym l.is)
 
-pub steps_on : (c d : Course) (n : ℕ) (told : Telling) (ts us : List Token) → ts ≡ token n told ∷ us → Passes c (token n told) d → (phase : Phase) → phase ≡ c.phase → (on : Bool) → on ≡ true → on ≡ goes_on phase told → Continues c ts d us
+pub steps_on : (c d : Course) (n : ℕ) (told : Telling) (ts us : List Token) → ts ≡ token n told ∷ us → PassesToken c (token n told) d → (phase : Phase) → phase ≡ c.phase → (on : Bool) → on ≡ true → on ≡ goes_on phase told → Continues c ts d us
 steps_on c d n told ts us e h phase same on goes is =
     subst (λ (l : List Token). Continues c l d us) (sym e) (continues_one c d (token n told) us h (sym (ap (λ (p : Phase). goes_on p told) same) ∙ sym is ∙ goes))
 
-pub stops_before : (c : Course) (n : ℕ) (told : Telling) (ts us : List Token) → ts ≡ token n told ∷ us → (phase : Phase) → phase ≡ c.phase → (on : Bool) → on ≡ false → on ≡ goes_on phase told → Continues c ts c ts × IsOver c ts
+pub stops_before : (c : Course) (n : ℕ) (told : Telling) (ts us : List Token) → ts ≡ token n told ∷ us → (phase : Phase) → phase ≡ c.phase → (on : Bool) → on ≡ false → on ≡ goes_on phase told → Continues c ts c ts × IsGameOver c ts
 stops_before c n told ts us e phase same on stops is =
-    (continues_same c ts ts refl, subst (IsOver c) (sym e) (over_before c (token n told) us (sym (ap (λ (p : Phase). goes_on p told) same) ∙ sym is ∙ stops)))
+    (continues_same c ts ts refl, subst (IsGameOver c) (sym e) (over_before c (token n told) us (sym (ap (λ (p : Phase). goes_on p told) same) ∙ sym is ∙ stops)))
 
-pub over_then : (c : Course) (phase : Phase) (ts : List Token) → phase ≡ c.phase → phase ≡ Over → IsOver c ts
+pub over_then : (c : Course) (phase : Phase) (ts : List Token) → phase ≡ c.phase → phase ≡ Over → IsGameOver c ts
 over_then c phase ts same over = over_by_result c ts (sym same ∙ over)
 
 -- the brace of a comment at a place of a line

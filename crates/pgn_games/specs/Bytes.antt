@@ -48,10 +48,10 @@ abbrev pub run_len : (ℕ → Bool) → List ℕ → ℕ
 run_len pass = position_or_len (λ b. not (pass b))
 
 -- ( ) [ ; * $
-abbrev pub mark_of : ℕ → ByteKind
-mark_of b =
+abbrev pub kind_of_mark : ℕ → ByteKind
+kind_of_mark b =
     if b == 40 then Opens else if b == 41 then Closes else if b == 91 then Bracket else if b == 59 then Semicolon else if b == 42 then Star else if b == 36 then Dollar else Other
 
 -- what begins at a byte, other than a brace and a line feed
 abbrev pub kind_of : ℕ → ByteKind
-kind_of b = if is_blank b then Blank else if is_symbol b then Symbol else mark_of b
+kind_of b = if is_blank b then Blank else if is_symbol b then Symbol else kind_of_mark b

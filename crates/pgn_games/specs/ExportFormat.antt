@@ -1,5 +1,5 @@
 -- Export format (PGN standard, sections 8.1, 8.2.1 and 8.2.2.2): the one text that a writer writes of a score, as a computable definition.
-use Rattle.std.specs.Prelude.{◌≡◌, ◌≢◌, ◌+◌, ◌<◌, ◌≤◌, ◌++◌, nat_lt, ℕ, Bool, true, false, List, [], ◌∷◌, length, map, unwrap_or, option_map, codes, if◌then◌else◌}
+use Rattle.std.specs.Prelude.{◌≢◌, ◌+◌, ◌<◌, ◌≤◌, ◌++◌, nat_lt, ℕ, Bool, true, false, List, [], ◌∷◌, length, map, unwrap_or, option_map, codes, if◌then◌else◌}
 use Rattle.std.specs.Fmt.{decimal}
 use Rattle.std.specs.List.{AllByRecursion, flat_map}
 use Rattle.board_core.specs.declared.piece.Side.{Side}
@@ -8,14 +8,12 @@ use Rattle.board_core.specs.declared.parts.Parts.{Parts}
 use Rattle.board_core.specs.declared.moves.Move.{Move}
 use Rattle.board_core.specs.Position.{IsPosition}
 use Rattle.board_core.specs.ComputedMoves.{position_after}
-use Rattle.fen_text.specs.Written.{fen_of}
 use Rattle.san_text.specs.Written.{san_of}
 use Rattle.pgn_games.specs.declared.game.GameResult.TheVariants.{Missing}
 use Rattle.pgn_games.specs.Bytes.{is_name}
-use Rattle.pgn_games.specs.Lines.{lines_of}
-use Rattle.pgn_games.specs.Games.{ReadingTold, SpellsGames, usual_start}
+use Rattle.pgn_games.specs.Games.{IsUsualStart, ReadingTold, SpellsGames}
 use Rattle.pgn_games.specs.Laws.{PlaysInTurn}
-use Rattle.pgn_games.specs.Scores.{AreScoresRead, EachByte, GameScore, IsReadLine, ScoreTag, SpellsScore, TagsLeadToStart, escaped_value, result_text}
+use Rattle.pgn_games.specs.Scores.{AreScoresRead, EachByte, GameScore, ScoreTag, SpellsScore, TagsLeadToStart, escaped_value, result_text}
 
 -- a tag pair on a line of its own, with one space between its name and its value
 abbrev pub tag_line : ScoreTag → List ℕ
@@ -53,17 +51,19 @@ unfoldable pub written_score : GameScore → List ℕ
 written_score score =
     tag_section score.tags ++ lines_of_words (movetext_words true score.start score.moves ++ result_text score.result ∷ [])
 
--- what has such a text: names of letters, digits and underscores; values on one line; moves that are legal in turn, at most 4,096, from
--- the position of the FEN tag or that of a new game; and a result
+-- a tag that has such a line: its name is of letters, digits and underscores, its value has no line feed, and the line at most 65,536
+-- bytes with the line feed behind it
 pub record IsWritableTag (tag : ScoreTag) : Type 0 where
   pub name : EachByte is_name tag.name × (0 < length tag.name)
   pub value : AllByRecursion (λ b. b ≢ 10) tag.value
+  pub short : length (tag_line tag) ≤ 65536
 
+-- a score that has such a text: moves that are legal in turn, at most 4,096, from the position of the FEN tag or that of a new game, and
+-- a result
 pub record IsWritable (score : GameScore) : Type 0 where
   pub tags : AllByRecursion IsWritableTag score.tags
   pub usual : Parts
-  pub spelled : usual_start ≡ fen_of usual
-  pub is_position : IsPosition usual
+  pub is_usual : IsUsualStart usual
   pub start : TagsLeadToStart score.tags usual score.start
   pub position : IsPosition score.start
   pub moves : (q : Parts) × PlaysInTurn score.start score.moves q
@@ -77,9 +77,9 @@ ExportSpellsScores = (score : GameScore) → IsWritable score → SpellsScore (w
 -- a file in export format is read as the games that were written, to its end
 abbrev pub ExportIsReadBack : Type 0
 ExportIsReadBack =
-    (scores : List GameScore) → AllByRecursion IsWritable scores → AllByRecursion IsReadLine (lines_of (flat_map written_score scores)) → (readings : List ReadingTold) × SpellsGames (flat_map written_score scores) readings × AreScoresRead 1 (map written_score scores) scores readings
+    (scores : List GameScore) → AllByRecursion IsWritable scores → (readings : List ReadingTold) × SpellsGames (flat_map written_score scores) readings × AreScoresRead 1 (map written_score scores) scores readings
 
 -- whatever games are read of such a file, they are those that were written
 abbrev pub OnlyExportIsRead : Type 0
 OnlyExportIsRead =
-    (scores : List GameScore) → AllByRecursion IsWritable scores → AllByRecursion IsReadLine (lines_of (flat_map written_score scores)) → (readings : List ReadingTold) → SpellsGames (flat_map written_score scores) readings → AreScoresRead 1 (map written_score scores) scores readings
+    (scores : List GameScore) → AllByRecursion IsWritable scores → (readings : List ReadingTold) → SpellsGames (flat_map written_score scores) readings → AreScoresRead 1 (map written_score scores) scores readings

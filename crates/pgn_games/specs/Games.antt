@@ -19,7 +19,7 @@ use Rattle.pgn_games.specs.declared.phase.Phase.TheVariants.{Tags, Moves, Over}
 use Rattle.pgn_games.specs.declared.tags.TagName.{TagName}
 use Rattle.pgn_games.specs.declared.tags.TagName.TheVariants.{Fen}
 use Rattle.pgn_games.specs.Lines.{one_more}
-use Rattle.pgn_games.specs.Tags.{TagPair, TagTexts, no_tags, with_tag, name_of, value_of}
+use Rattle.pgn_games.specs.Tags.{TagPair, TagTexts, no_tags, with_tag, tag_by_name, tag_value}
 use Rattle.pgn_games.specs.Lexemes.{Telling, Tag, MoveText, Begins, Ends, Told, Stray, Endless, TooLong}
 use Rattle.pgn_games.specs.Tokens.{Token, tokens_of}
 
@@ -35,15 +35,15 @@ over_at zero = Over
 over_at (suc depth) = Moves (suc depth)
 
 -- how far a game has come after a token: the movetext begins with a move, a variation or its end
-abbrev pub after : Phase → Telling → Phase
-after phase (Tag first pair) = phase
-after phase (MoveText text) = Moves (depth_of phase)
-after phase Begins = Moves (one_more (depth_of phase))
-after phase Ends = Moves (depth_of phase - 1)
-after phase (Told result) = over_at (depth_of phase)
-after phase Stray = phase
-after phase Endless = phase
-after phase TooLong = phase
+abbrev pub phase_after_token : Phase → Telling → Phase
+phase_after_token phase (Tag first pair) = phase
+phase_after_token phase (MoveText text) = Moves (depth_of phase)
+phase_after_token phase Begins = Moves (one_more (depth_of phase))
+phase_after_token phase Ends = Moves (depth_of phase - 1)
+phase_after_token phase (Told result) = over_at (depth_of phase)
+phase_after_token phase Stray = phase
+phase_after_token phase Endless = phase
+phase_after_token phase TooLong = phase
 
 abbrev pub is_tag_in_first_column : Telling → Bool
 is_tag_in_first_column (Tag first pair) = first
@@ -64,11 +64,11 @@ goes_on Over lexeme = false
 -- the tokens of a game that has come so far, and those behind it
 unfoldable pub of_game : Phase → List Token → List Token
 of_game phase [] = []
-of_game phase (t ∷ ts) = if goes_on phase t.is then t ∷ of_game (after phase t.is) ts else []
+of_game phase (t ∷ ts) = if goes_on phase t.is then t ∷ of_game (phase_after_token phase t.is) ts else []
 
 unfoldable pub behind_game : Phase → List Token → List Token
 behind_game phase [] = []
-behind_game phase (t ∷ ts) = if goes_on phase t.is then behind_game (after phase t.is) ts else t ∷ ts
+behind_game phase (t ∷ ts) = if goes_on phase t.is then behind_game (phase_after_token phase t.is) ts else t ∷ ts
 
 -- what the tokens of a game tell so far
 pub record Course : Type 0 where
@@ -114,7 +114,7 @@ SetsTag c value (Some name) r = r ≡ Ok (record c { tags = with_tag name value 
 -- a tag pair stands before the movetext
 abbrev pub TakesTag : Course → Phase → Option TagPair → Result Course Cause → Type 0
 TakesTag c Tags None r = r ≡ Err BadTag
-TakesTag c Tags (Some pair) r = SetsTag c (value_of pair.quoted) (name_of pair.name) r
+TakesTag c Tags (Some pair) r = SetsTag c (tag_value pair.quoted) (tag_by_name pair.name) r
 TakesTag c (Moves depth) pair r = r ≡ Err StrayToken
 TakesTag c Over pair r = r ≡ Err StrayToken
 
@@ -134,24 +134,24 @@ TakesMove c text false r = r ≡ Err TooManyMoves
 
 -- what stands in a variation is passed over
 abbrev pub TakesIfMain : ℕ → Course → Result Course Cause → Type 0 → Type 0
-TakesIfMain zero c r Takes = Takes
-TakesIfMain (suc depth) c r Takes = r ≡ Ok c
+TakesIfMain zero c r IsTaken = IsTaken
+TakesIfMain (suc depth) c r IsTaken = r ≡ Ok c
 
 -- a variation that closes is open
-abbrev pub Closes : ℕ → Course → Result Course Cause → Type 0
-Closes zero c r = r ≡ Err StrayToken
-Closes (suc depth) c r = r ≡ Ok c
+abbrev pub ClosesVariation : ℕ → Course → Result Course Cause → Type 0
+ClosesVariation zero c r = r ≡ Err StrayToken
+ClosesVariation (suc depth) c r = r ≡ Ok c
 
 -- a game takes a token, or is at fault there
-abbrev pub Takes : Course → Telling → Result Course Cause → Type 0
-Takes c (Tag first pair) r = TakesTag c c.phase pair r
-Takes c (MoveText text) r = TakesIfMain (depth_of c.phase) c r (TakesMove c text (nat_lt (length c.moves) 4096) r)
-Takes c Begins r = r ≡ Ok c
-Takes c Ends r = Closes (depth_of c.phase) c r
-Takes c (Told result) r = TakesIfMain (depth_of c.phase) c r (r ≡ Ok (record c { result = result }))
-Takes c Stray r = TakesIfMain (depth_of c.phase) c r (r ≡ Err StrayToken)
-Takes c Endless r = r ≡ Err EndlessComment
-Takes c TooLong r = r ≡ Err LongLine
+abbrev pub TakesToken : Course → Telling → Result Course Cause → Type 0
+TakesToken c (Tag first pair) r = TakesTag c c.phase pair r
+TakesToken c (MoveText text) r = TakesIfMain (depth_of c.phase) c r (TakesMove c text (nat_lt (length c.moves) 4096) r)
+TakesToken c Begins r = r ≡ Ok c
+TakesToken c Ends r = ClosesVariation (depth_of c.phase) c r
+TakesToken c (Told result) r = TakesIfMain (depth_of c.phase) c r (r ≡ Ok (record c { result = result }))
+TakesToken c Stray r = TakesIfMain (depth_of c.phase) c r (r ≡ Err StrayToken)
+TakesToken c Endless r = r ≡ Err EndlessComment
+TakesToken c TooLong r = r ≡ Err LongLine
 
 -- why a game is at fault, behind which of its moves and where
 abbrev pub fault_of : Course → ℕ → Cause → GameFault
@@ -159,17 +159,17 @@ fault_of c line cause = record { line = unwrap_or c.line line; at = line; plies 
 
 -- a token was passed
 abbrev pub passed : Course → Token → Course
-passed c t = record c { line = Some (unwrap_or c.line t.line); last = t.line; phase = after c.phase t.is }
+passed c t = record c { line = Some (unwrap_or c.line t.line); last = t.line; phase = phase_after_token c.phase t.is }
 
 -- what a token makes of a game, or its fault
-abbrev pub taken : Course → ℕ → Result Course Cause → Course
-taken c line (Ok d) = d
-taken c line (Err cause) = record c { fault = Some (fault_of c line cause) }
+abbrev pub course_after_token : Course → ℕ → Result Course Cause → Course
+course_after_token c line (Ok d) = d
+course_after_token c line (Err cause) = record c { fault = Some (fault_of c line cause) }
 
 -- a game goes on over a token. Behind its first fault what the tokens say counts no more
-abbrev pub Passes : Course → Token → Course → Type 0
-Passes c t d =
-    MatchOption c.fault ((r : Result Course Cause) × Takes c t.is r × (d ≡ passed (taken c t.line r) t)) (λ fault. d ≡ passed c t)
+abbrev pub PassesToken : Course → Token → Course → Type 0
+PassesToken c t d =
+    MatchOption c.fault ((r : Result Course Cause) × TakesToken c t.is r × (d ≡ passed (course_after_token c t.line r) t)) (λ fault. d ≡ passed c t)
 
 -- a game: its line, its tags, its start, its moves and its result
 pub record GameTold : Type 0 where
@@ -190,41 +190,44 @@ told_in zero line c =
     GameRead (record { line = line; tags = c.tags; start = c.start; moves = c.moves; result = c.result })
 told_in (suc depth) line c = FaultRead (fault_of c c.last OpenVariation)
 
-abbrev pub told_by : Option GameFault → ℕ → Course → ReadingTold
-told_by None line c = told_in (depth_of c.phase) line c
-told_by (Some fault) line c = FaultRead fault
+abbrev pub reading_unless_fault : Option GameFault → ℕ → Course → ReadingTold
+reading_unless_fault None line c = told_in (depth_of c.phase) line c
+reading_unless_fault (Some fault) line c = FaultRead fault
 
 -- what is told of a game of these tokens; of none nothing
 abbrev pub told_at : Option ℕ → Course → Option ReadingTold
 told_at None c = None
-told_at (Some line) c = Some (told_by c.fault line c)
+told_at (Some line) c = Some (reading_unless_fault c.fault line c)
 
-abbrev pub told_of : Course → Option ReadingTold
-told_of c = told_at c.line c
+abbrev pub reading_at_end : Course → Option ReadingTold
+reading_at_end c = told_at c.line c
 
 -- the tokens that are left of a game tell this of it
-unfoldable pub Tells : Course → List Token → Option ReadingTold → Type 0
-Tells c [] told = told ≡ told_of c
-Tells c (t ∷ ts) told = (d : Course) × Passes c t d × Tells d ts told
+unfoldable pub ReadsTokens : Course → List Token → Option ReadingTold → Type 0
+ReadsTokens c [] told = told ≡ reading_at_end c
+ReadsTokens c (t ∷ ts) told = (d : Course) × PassesToken c t d × ReadsTokens d ts told
 
 -- the position of a new game (FIDE article 2.3) as FEN text
 abbrev pub usual_start : List ℕ
 usual_start = codes "rnbqkbnr/pppppppp/8/8/8/8/PPPPPPPP/RNBQKBNR w KQkq - 0 1"
 
+-- a position is that of a new game
+unfoldable pub IsUsualStart : Parts → Type 0
+IsUsualStart p = (usual_start ≡ fen_of p) × IsPosition p
+
 -- the next game of these tokens, or none, and the tokens behind it
 pub record ReadsGame (tokens : List Token) (told : Option ReadingTold) (behind : List Token) : Type 0 where
   pub usual : Parts
-  pub spelled : usual_start ≡ fen_of usual
-  pub position : IsPosition usual
-  pub tells : Tells (no_course usual) (of_game Tags tokens) told
+  pub is_usual : IsUsualStart usual
+  pub tells : ReadsTokens (no_course usual) (of_game Tags tokens) told
   pub rest : behind ≡ behind_game Tags tokens
 
 -- the games of a list of tokens, one after another
-unfoldable pub ReadsGames : List Token → List ReadingTold → Type 0
-ReadsGames tokens [] = tokens ≡ []
-ReadsGames tokens (told ∷ others) =
-    (behind : List Token) × ReadsGame tokens (Some told) behind × ReadsGames behind others
+unfoldable pub ReadsGamesInTurn : List Token → List ReadingTold → Type 0
+ReadsGamesInTurn tokens [] = tokens ≡ []
+ReadsGamesInTurn tokens (told ∷ others) =
+    (behind : List Token) × ReadsGame tokens (Some told) behind × ReadsGamesInTurn behind others
 
 -- the bytes of a file spell these games
 abbrev pub SpellsGames : List ℕ → List ReadingTold → Type 0
-SpellsGames bytes readings = ReadsGames (tokens_of bytes) readings
+SpellsGames bytes readings = ReadsGamesInTurn (tokens_of bytes) readings

@@ -23,14 +23,14 @@ abbrev pub BeginsAt : Option (List ℕ) → Parts → Type 0
 BeginsAt fen start = MatchOption fen (usual_start ≡ fen_of start) (λ value. SpellsPosition value start)
 
 -- a game that is read is one of chess
-pub record IsGame (game : GameTold) : Type 0 where
+pub record IsChessGame (game : GameTold) : Type 0 where
   pub start : BeginsAt game.tags.fen game.start
   pub moves : (q : Parts) × PlaysInTurn game.start game.moves q
   pub few : length game.moves ≤ 4096
 
 abbrev pub GamesAreOfChess : Type 0
 GamesAreOfChess =
-    (tokens behind : List Token) (game : GameTold) → ReadsGame tokens (Some (GameRead game)) behind → IsGame game
+    (tokens behind : List Token) (game : GameTold) → ReadsGame tokens (Some (GameRead game)) behind → IsChessGame game
 
 -- none is told where no token is left, and nowhere else
 abbrev pub NoneIsTheEnd : Type 0

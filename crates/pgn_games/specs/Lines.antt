@@ -8,9 +8,9 @@ onto_first_line byte [] = (byte ∷ []) ∷ []
 onto_first_line byte (line ∷ lines) = (byte ∷ line) ∷ lines
 
 -- the lines that end at each line feed; the last one may lack it
-unfoldable pub lines_of : List ℕ → List (List ℕ)
-lines_of [] = []
-lines_of (byte ∷ bytes) = if byte == 10 then [] ∷ lines_of bytes else onto_first_line byte (lines_of bytes)
+unfoldable pub lines_of_text : List ℕ → List (List ℕ)
+lines_of_text [] = []
+lines_of_text (byte ∷ bytes) = if byte == 10 then [] ∷ lines_of_text bytes else onto_first_line byte (lines_of_text bytes)
 
 -- a line with a percent sign in its first column
 abbrev pub is_escaped : List ℕ → Bool
@@ -25,7 +25,7 @@ text_of_line line =
 
 -- a text as it is read: a line feed before each line
 unfoldable pub read_text : List ℕ → List ℕ
-read_text bytes = flat_map (λ line. 10 ∷ text_of_line line) (lines_of bytes)
+read_text bytes = flat_map (λ line. 10 ∷ text_of_line line) (lines_of_text bytes)
 
 -- the number of the next line, up to 2^64 - 1
 abbrev pub one_more : ℕ → ℕ

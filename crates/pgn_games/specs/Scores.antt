@@ -7,17 +7,16 @@ use Rattle.board_core.specs.declared.moves.Move.{Move}
 use Rattle.board_core.specs.Position.{IsPosition}
 use Rattle.board_core.specs.Moves.{Legal}
 use Rattle.fen_text.specs.Fen.{SpellsPosition}
-use Rattle.fen_text.specs.Written.{fen_of}
 use Rattle.san_text.specs.San.{ReadsSan}
 use Rattle.pgn_games.specs.declared.game.GameResult.{GameResult}
 use Rattle.pgn_games.specs.declared.game.GameResult.TheVariants.{WhiteWins, BlackWins, Draw, Unknown, Missing}
 use Rattle.pgn_games.specs.declared.tags.TagName.{TagName}
 use Rattle.pgn_games.specs.declared.tags.TagName.TheVariants.{Fen}
 use Rattle.pgn_games.specs.Bytes.{is_digit, is_letter, is_name, is_space}
-use Rattle.pgn_games.specs.Lines.{lines_of}
-use Rattle.pgn_games.specs.Tags.{TagTexts, name_of, no_tags, with_tag}
+use Rattle.pgn_games.specs.Lines.{lines_of_text}
+use Rattle.pgn_games.specs.Tags.{TagTexts, tag_by_name, no_tags, with_tag}
 use Rattle.pgn_games.specs.Tokens.{line_after}
-use Rattle.pgn_games.specs.Games.{GameRead, ReadingTold, SpellsGames, usual_start}
+use Rattle.pgn_games.specs.Games.{GameRead, ReadingTold, IsUsualStart, SpellsGames}
 
 -- a tag of a score: its name, and its value without escapes
 pub record ScoreTag : Type 0 where
@@ -77,7 +76,7 @@ with_value (Some name) value tags = with_tag name value tags
 
 abbrev pub values_kept : TagTexts → List ScoreTag → TagTexts
 values_kept kept [] = kept
-values_kept kept (tag ∷ tags) = values_kept (with_value (name_of tag.name) (kept_value tag) kept) tags
+values_kept kept (tag ∷ tags) = values_kept (with_value (tag_by_name tag.name) (kept_value tag) kept) tags
 
 -- a FEN tag sets the start (section 9.7.2), and other tags leave it
 abbrev pub LeadsToStart : Option TagName → List ℕ → Parts → Parts → Type 0
@@ -88,7 +87,7 @@ LeadsToStart (Some name) value old new = new ≡ old
 abbrev pub TagsLeadToStart : List ScoreTag → Parts → Parts → Type 0
 TagsLeadToStart [] old new = new ≡ old
 TagsLeadToStart (tag ∷ tags) old new =
-    (p : Parts) × LeadsToStart (name_of tag.name) (kept_value tag) old p × TagsLeadToStart tags p new
+    (p : Parts) × LeadsToStart (tag_by_name tag.name) (kept_value tag) old p × TagsLeadToStart tags p new
 
 -- ---- movetext (section 8.2)
 
@@ -135,8 +134,7 @@ pub record SpellsScore (bytes : List ℕ) (score : GameScore) : Type 0 where
   pub movetext : List ℕ
   pub white : List ℕ
   pub usual : Parts
-  pub spelled : usual_start ≡ fen_of usual
-  pub position : IsPosition usual
+  pub is_usual : IsUsualStart usual
   pub start : TagsLeadToStart score.tags usual score.start
   pub few : length score.moves ≤ 4096
   pub ended : score.result ≢ Missing
@@ -185,9 +183,9 @@ joined_texts texts = flat_map (λ text. text) texts
 -- a file of scores is read as the games of these scores, to its end
 abbrev pub ScoresAreReadBack : Type 0
 ScoresAreReadBack =
-    (texts : List (List ℕ)) (scores : List GameScore) → AllZip SpellsScore texts scores → AllByRecursion IsReadLine (lines_of (joined_texts texts)) → (readings : List ReadingTold) × SpellsGames (joined_texts texts) readings × AreScoresRead 1 texts scores readings
+    (texts : List (List ℕ)) (scores : List GameScore) → AllZip SpellsScore texts scores → AllByRecursion IsReadLine (lines_of_text (joined_texts texts)) → (readings : List ReadingTold) × SpellsGames (joined_texts texts) readings × AreScoresRead 1 texts scores readings
 
 -- whatever games are read of such a file, they are those of these scores
 abbrev pub OnlyScoresAreRead : Type 0
 OnlyScoresAreRead =
-    (texts : List (List ℕ)) (scores : List GameScore) → AllZip SpellsScore texts scores → AllByRecursion IsReadLine (lines_of (joined_texts texts)) → (readings : List ReadingTold) → SpellsGames (joined_texts texts) readings → AreScoresRead 1 texts scores readings
+    (texts : List (List ℕ)) (scores : List GameScore) → AllZip SpellsScore texts scores → AllByRecursion IsReadLine (lines_of_text (joined_texts texts)) → (readings : List ReadingTold) → SpellsGames (joined_texts texts) readings → AreScoresRead 1 texts scores readings

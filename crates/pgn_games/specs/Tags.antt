@@ -61,12 +61,12 @@ unescaped true (b ∷ t) = b ∷ unescaped false t
 unescaped false (b ∷ t) = if b == 92 then unescaped true t else b ∷ unescaped false t
 
 -- of a tag's value 255 bytes are kept
-abbrev pub value_of : List ℕ → List ℕ
-value_of quoted = take 255 (unescaped false quoted)
+abbrev pub tag_value : List ℕ → List ℕ
+tag_value quoted = take 255 (unescaped false quoted)
 
 -- the tags that are kept (sections 8.1.1 and 9.7.2)
-abbrev pub name_of : List ℕ → Option TagName
-name_of name =
+abbrev pub tag_by_name : List ℕ → Option TagName
+tag_by_name name =
     if bytes_eq name (codes "Event") then Some Event else if bytes_eq name (codes "White") then Some White else if bytes_eq name (codes "Black") then Some Black else if bytes_eq name (codes "Round") then Some Round else if bytes_eq name (codes "Result") then Some Result else if bytes_eq name (codes "FEN") then Some Fen else None
 
 -- the values of the tags that are kept

@@ -1,7 +1,7 @@
 //! The bytes of PGN text (PGN standard, section 7).
 
 ghost use Rattle.std.specs.Prelude.{◌≡◌, ◌≤◌, length, not, position};
-ghost use Rattle.pgn_games.specs.Bytes.{is_blank, is_digit, is_letter, is_name, is_sign, is_space, is_symbol, kind_of, mark_of, passes, run_len};
+ghost use Rattle.pgn_games.specs.Bytes.{is_blank, is_digit, is_letter, is_name, is_sign, is_space, is_symbol, kind_of, kind_of_mark, passes, run_len};
 
 /// What begins at a byte of a line.
 #[derive(Clone, Copy)]
@@ -82,7 +82,7 @@ pub(crate) fn kind_of(b: u8) -> ByteKind
 }
 
 fn mark_of(b: u8) -> ByteKind
-    ensures { result ≡ mark_of b }
+    ensures { result ≡ kind_of_mark b }
 {
     match b {
         b'(' => ByteKind::Opens,

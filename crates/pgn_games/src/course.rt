@@ -46,12 +46,12 @@ fn add<T: Copy>(list: &mut Vec<T>, item: T) -> Result<(), AllocError>
 
 impl Course {
     ghost use Rattle.board_core.specs.Moves.{IsLegal};
-    ghost use Rattle.pgn_games.specs.Tags.{name_of, value_of};
+    ghost use Rattle.pgn_games.specs.Tags.{tag_by_name, tag_value};
     ghost use Rattle.pgn_games.specs.Lexemes.{Telling};
     ghost use Rattle.pgn_games.specs.Tokens.{token};
-    ghost use Rattle.pgn_games.specs.Games.{Passes, Plays, SetsStart, SetsTag, Takes, TakesMove, TakesTag, depth_of, fault_of, no_course, passed, told_of};
-    ghost use Rattle.pgn_games.specs.Inside.Scan.{IsPlain, lexeme_of, pair_of};
-    ghost use Rattle.pgn_games.specs.Inside.Owned.{Steps, TakesFirst, course_of};
+    ghost use Rattle.pgn_games.specs.Games.{PassesToken, Plays, SetsStart, SetsTag, TakesToken, TakesMove, TakesTag, depth_of, fault_of, no_course, passed, reading_at_end};
+    ghost use Rattle.pgn_games.specs.Inside.Scan.{IsPlainLexeme, lexeme_of, pair_read};
+    ghost use Rattle.pgn_games.specs.Inside.Owned.{TakesOrStays, TakesFirst, course_of};
     ghost use Rattle.pgn_games.specs.Shown.{reading_of};
 
     /// Nothing yet.
@@ -81,7 +81,7 @@ impl Course {
 
     /// Sets the start.
     fn set_start(&mut self, value: Vec<u8>) -> Option<Cause>
-        ensures { Steps (SetsStart (course_of self.old) value.items) (course_of self.old) (course_of self.new) result }
+        ensures { TakesOrStays (SetsStart (course_of self.old) value.items) (course_of self.old) (course_of self.new) result }
     {
         match fen_text::read(&value) {
             Ok(start) => {
@@ -96,7 +96,7 @@ impl Course {
 
     /// Sets a tag, where it is one that is kept.
     fn set_tag(&mut self, pair: TagPair<'_>) -> Result<Option<Cause>, AllocError>
-        ensures { IfOk result (Steps (SetsTag (course_of self.old) (value_of pair.entry.quoted.now) (name_of pair.entry.name.now)) (course_of self.old) (course_of self.new)) }
+        ensures { IfOk result (TakesOrStays (SetsTag (course_of self.old) (tag_value pair.entry.quoted.now) (tag_by_name pair.entry.name.now)) (course_of self.old) (course_of self.new)) }
     {
         let Some(name) = name_of(pair.name) else {
             return Ok(None);
@@ -113,7 +113,7 @@ impl Course {
 
     /// Takes a tag pair, which stands before the movetext.
     fn take_tag(&mut self, pair: TagPair<'_>) -> Result<Option<Cause>, AllocError>
-        ensures { IfOk result (Steps (TakesTag (course_of self.old) self.old.phase (Some (pair_of pair.entry).pair)) (course_of self.old) (course_of self.new)) }
+        ensures { IfOk result (TakesOrStays (TakesTag (course_of self.old) self.old.phase (Some (pair_read pair.entry).pair)) (course_of self.old) (course_of self.new)) }
     {
         match self.phase {
             Phase::Tags => self.set_tag(pair),
@@ -137,7 +137,7 @@ impl Course {
 
     /// Reads a move and plays it.
     fn take_move(&mut self, text: &[u8]) -> Result<Option<Cause>, AllocError>
-        ensures { IfOk result (Steps (TakesMove (course_of self.old) text.now (nat_lt (vec_len self.old.moves) 4096)) (course_of self.old) (course_of self.new)) }
+        ensures { IfOk result (TakesOrStays (TakesMove (course_of self.old) text.now (nat_lt (vec_len self.old.moves) 4096)) (course_of self.old) (course_of self.new)) }
     {
         if self.moves.len() >= MOST_MOVES {
             return Ok(Some(Cause::TooManyMoves));
@@ -154,8 +154,8 @@ impl Course {
     /// Takes what stands outside of variations.
     fn take_main(&mut self, lexeme: Lexeme<'_>) -> Result<Option<Cause>, AllocError>
         requires main { depth_of self.old.phase ≡ 0 }
-        requires plain { IsPlain lexeme }
-        ensures { (first : Bool) (told : Telling) → lexeme_of first lexeme.entry ≡ Some told → IfOk result (Steps (Takes (course_of self.old) told) (course_of self.old) (course_of self.new)) }
+        requires plain { IsPlainLexeme lexeme }
+        ensures { (first : Bool) (told : Telling) → lexeme_of first lexeme.entry ≡ Some told → IfOk result (TakesOrStays (TakesToken (course_of self.old) told) (course_of self.old) (course_of self.new)) }
     {
         match lexeme {
             Lexeme::MoveText(text) => self.take_move(text),
@@ -170,7 +170,7 @@ impl Course {
 
     /// Takes a token, or tells why it is at fault.
     fn take(&mut self, lexeme: Lexeme<'_>) -> Result<Option<Cause>, AllocError>
-        ensures { (first : Bool) (told : Telling) → lexeme_of first lexeme.entry ≡ Some told → IfOk result (Steps (Takes (course_of self.old) told) (course_of self.old) (course_of self.new)) }
+        ensures { (first : Bool) (told : Telling) → lexeme_of first lexeme.entry ≡ Some told → IfOk result (TakesOrStays (TakesToken (course_of self.old) told) (course_of self.old) (course_of self.new)) }
     {
         match lexeme {
             Lexeme::Tag(pair) => self.take_tag(pair),
@@ -226,7 +226,7 @@ impl Course {
 
     /// Goes on over a token.
     pub(crate) fn put(&mut self, line: u64, lexeme: Lexeme<'_>) -> Result<(), AllocError>
-        ensures { (first : Bool) (told : Telling) → lexeme_of first lexeme.entry ≡ Some told → OnOk result (Passes (course_of self.old) (token line told) (course_of self.new)) }
+        ensures { (first : Bool) (told : Telling) → lexeme_of first lexeme.entry ≡ Some told → OnOk result (PassesToken (course_of self.old) (token line told) (course_of self.new)) }
     {
         self.take_first(line, lexeme)?;
         self.pass(line, lexeme);
@@ -235,7 +235,7 @@ impl Course {
 
     /// What is told of the game, if it has begun.
     pub(crate) fn reading(self) -> Option<Reading>
-        ensures { option_map reading_of result ≡ told_of (course_of self) }
+        ensures { option_map reading_of result ≡ reading_at_end (course_of self) }
     {
         let line = self.line?;
         if let Some(fault) = self.fault {

@@ -47,7 +47,7 @@ fn brace_in(text: &[u8]) -> Option<usize>
 impl Cursor {
     ghost use Rattle.pgn_games.specs.Inside.Owned.{course_of};
     ghost use Rattle.pgn_games.specs.Inside.Lines.{OneLine};
-    ghost use Rattle.pgn_games.specs.Inside.Steps.{ClosesComment, IsOn, LeavesLine, StepsOn};
+    ghost use Rattle.pgn_games.specs.Inside.Steps.{ClosesComment, IsOn, LeavesLine, StepsOverLexeme};
 
     /// Before the first line.
     pub(crate) fn new(alloc: Global) -> Cursor
@@ -90,7 +90,7 @@ impl Cursor {
         requires one { OneLine self.old.line.items }
         requires on { IsOn course.old.phase }
         requires plain { slice_index self.old.line.items self.old.place ≢ 123 }
-        ensures steps { IfOk result (StepsOn (course_of course.old) self.old (course_of course.new) self.new) }
+        ensures steps { IfOk result (StepsOverLexeme (course_of course.old) self.old (course_of course.new) self.new) }
         ensures further { IfOk result (λ next. next ≡ Next.GoesOn → self.old.place < self.new.place) }
         ensures on { IfOk result (λ next. next ≡ Next.GoesOn → IsOn course.new.phase) }
         ensures line { self.new.line ≡ self.old.line }

@@ -63,6 +63,8 @@ pub fn export_is_read_back()
     ensures read { ExportIsReadBack }
     ensures only { OnlyExportIsRead }
 {
+    position_after_is_computed();
+    position_after_is_a_position();
     export_spells_scores();
     scores_are_read_back();
     one_list_is_spelled();

@@ -4,7 +4,7 @@ ghost use Rattle.std.specs.Prelude.{◌≡◌, ◌≤◌, [], ◌∷◌, IfOk, I
 ghost use Rattle.pgn_games.specs.Lines.{is_escaped, text_of_line};
 ghost use Rattle.pgn_games.specs.Reading.{IfKnown};
 ghost use Rattle.pgn_games.specs.Inside.Lines.{OneLine};
-ghost use Rattle.pgn_games.specs.Inside.Steps.{BeginsAs, StandsAt, TakesText};
+ghost use Rattle.pgn_games.specs.Inside.Steps.{BeginsAs, StandsAtLine, TakesText};
 
 use crate::cursor::Cursor;
 use crate::phase::one_more;
@@ -73,7 +73,7 @@ pub(crate) fn take_line<L: LineReader>(
 ) -> Result<Taken, ReadFault>
     requires { vec_len cursor.old.line ≤ cursor.old.place }
     ensures text { IfOk result (λ taken. IfKnown (L.facts lines.old).left (L.facts lines.new).left (TakesText cursor.old cursor.new taken)) }
-    ensures place { IfOk result (StandsAt cursor.new) }
+    ensures place { IfOk result (StandsAtLine cursor.new) }
     ensures one { OneLine cursor.new.line.items }
     ensures cause { IsErrOf result ReadFault.Unreadable → (L.facts lines.old).fails }
     ensures same { (L.facts lines.new).fails → (L.facts lines.old).fails }

@@ -3,7 +3,7 @@
 ghost use Rattle.std.specs.Prelude.{◌≡◌, ◌&&◌, Bool, Some, MatchOption};
 ghost use Rattle.pgn_games.specs.Lines.{one_more};
 ghost use Rattle.pgn_games.specs.Lexemes.{Telling};
-ghost use Rattle.pgn_games.specs.Games.{after, depth_of, goes_on, is_tag_in_first_column, over_at};
+ghost use Rattle.pgn_games.specs.Games.{phase_after_token, depth_of, goes_on, is_tag_in_first_column, over_at};
 ghost use Rattle.pgn_games.specs.Inside.Scan.{lexeme_of};
 
 use crate::lexeme::Lexeme;
@@ -49,7 +49,7 @@ fn over_at(depth: u64) -> Phase
 
 /// How far the game has come after a token.
 pub(crate) fn after(phase: Phase, lexeme: Lexeme<'_>) -> Phase
-    ensures { (first : Bool) → MatchOption (lexeme_of first lexeme.entry) (result ≡ phase) (λ told. result ≡ after phase told) }
+    ensures { (first : Bool) → MatchOption (lexeme_of first lexeme.entry) (result ≡ phase) (λ told. result ≡ phase_after_token phase told) }
 {
     let depth = depth_of(phase);
     match lexeme {

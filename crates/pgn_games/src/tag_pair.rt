@@ -2,7 +2,7 @@
 
 ghost use Rattle.std.specs.Prelude.{◌≡◌, ◌≤◌, ◌<◌, ◌+◌, false, IfSome, length, option_map, drop};
 ghost use Rattle.pgn_games.specs.Tags.{TagAndRest, after_byte, after_spaces, closes_at, pair_from_quote, tag_pair};
-ghost use Rattle.pgn_games.specs.Inside.Scan.{pair_of};
+ghost use Rattle.pgn_games.specs.Inside.Scan.{pair_read};
 
 use crate::bytes::{Class, run_len};
 
@@ -54,7 +54,7 @@ fn closes_at(text: &[u8]) -> Option<usize>
 
 /// Reads the string and the bracket behind a tag's name.
 fn read_value<'a>(name: &'a [u8], text: &'a [u8]) -> Option<TagPair<'a>>
-    ensures is { option_map pair_of result ≡ pair_from_quote name.now (after_byte 34 (after_spaces text.now)) }
+    ensures is { option_map pair_read result ≡ pair_from_quote name.now (after_byte 34 (after_spaces text.now)) }
     ensures within { IfSome result (λ pair. length pair.rest.now ≤ length text.now) }
 {
     let text = after_byte(after_spaces(text), b'"')?;
@@ -70,7 +70,7 @@ fn read_value<'a>(name: &'a [u8], text: &'a [u8]) -> Option<TagPair<'a>>
 /// Reads the tag pair behind an opening bracket.
 #[tactic(auto, unfolding(crate::specs::Tags::tag_pair))]
 pub(crate) fn tag_pair(text: &[u8]) -> Option<TagPair<'_>>
-    ensures is { option_map pair_of result ≡ tag_pair text.now }
+    ensures is { option_map pair_read result ≡ tag_pair text.now }
     ensures within { IfSome result (λ pair. length pair.rest.now ≤ length text.now) }
 {
     let text = after_spaces(text);

@@ -1,7 +1,7 @@
 //! The tags of a game that are kept (PGN standard, sections 8.1.1 and 9.7.2).
 
 ghost use Rattle.std.specs.Prelude.{◌≡◌, IfOk, false};
-ghost use Rattle.pgn_games.specs.Tags.{name_of, value_of, no_tags, unescaped, with_tag};
+ghost use Rattle.pgn_games.specs.Tags.{tag_by_name, tag_value, no_tags, unescaped, with_tag};
 ghost use Rattle.pgn_games.specs.Shown.{texts_of};
 
 use std::alloc::{AllocError, Global};
@@ -37,7 +37,7 @@ pub struct Tags {
 
 /// The tag of a name, where it is kept.
 pub(crate) fn name_of(name: &[u8]) -> Option<TagName>
-    ensures { result ≡ name_of name.now }
+    ensures { result ≡ tag_by_name name.now }
 {
     if name == b"Event".as_slice() {
         return Some(TagName::Event);
@@ -79,7 +79,7 @@ fn unescaped(alloc: Global, quoted: &[u8]) -> Result<Vec<u8>, AllocError>
 
 /// What a string of a tag says, of which 255 bytes are kept.
 pub(crate) fn value_of(alloc: Global, quoted: &[u8]) -> Result<Vec<u8>, AllocError>
-    ensures { IfOk result (λ value. value.items ≡ value_of quoted.now) }
+    ensures { IfOk result (λ value. value.items ≡ tag_value quoted.now) }
 {
     let mut value = unescaped(alloc, quoted)?;
     value.truncate(MOST_VALUE_BYTES);

@@ -6,7 +6,7 @@ ghost use Rattle.pgn_games.specs.Tokens.{Token};
 ghost use Rattle.pgn_games.specs.Reading.{IfKnown, tokens_with};
 ghost use Rattle.pgn_games.specs.Inside.Owned.{course_of};
 ghost use Rattle.pgn_games.specs.Inside.Lines.{OneLine};
-ghost use Rattle.pgn_games.specs.Inside.Steps.{Continues, IsOn, TellsGame, TellsOn, closed, closing_tokens, comment_left, rest_with};
+ghost use Rattle.pgn_games.specs.Inside.Steps.{Continues, IsOn, ReadsToEnd, TellsOn, comment_closed, closing_tokens, comment_left, rest_with};
 
 use crate::course::Course;
 use crate::cursor::{Cursor, Left, Next};
@@ -28,7 +28,7 @@ pub(crate) enum Closing {
 
 /// How a comment ends that is closed.
 fn closed_with(long: bool) -> Closing
-    ensures { (from : ℕ) → closing_tokens from result ≡ closed from long }
+    ensures { (from : ℕ) → closing_tokens from result ≡ comment_closed from long }
 {
     if long {
         Closing::WithLongLine
@@ -160,7 +160,7 @@ pub(crate) fn tell_game<L: LineReader>(
 ) -> Result<(), ReadFault>
     requires one { OneLine cursor.old.line.items }
     requires on { IsOn course.old.phase }
-    ensures told { OnOk result (IfKnown (L.facts lines.old).left (L.facts lines.new).left (λ left behind. TellsGame (course_of course.old) (tokens_with cursor.old (read_text left)) (course_of course.new) (tokens_with cursor.new (read_text behind)))) }
+    ensures told { OnOk result (IfKnown (L.facts lines.old).left (L.facts lines.new).left (λ left behind. ReadsToEnd (course_of course.old) (tokens_with cursor.old (read_text left)) (course_of course.new) (tokens_with cursor.new (read_text behind)))) }
     ensures one { OneLine cursor.new.line.items }
     ensures cause { IsErrOf result ReadFault.Unreadable → (L.facts lines.old).fails }
     ensures same { (L.facts lines.new).fails → (L.facts lines.old).fails }

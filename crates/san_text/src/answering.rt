@@ -1,5 +1,5 @@
-//! Whether a side that is in check has a legal move. Nearly always its king has one, or the man that has moved can be taken: these are
-//! looked at first, since a look at all moves takes ten times as long.
+//! Whether a side that is in check has a legal move. Mostly its king has one, or the man that has moved can be taken: these are looked
+//! at first, since a look at all moves costs more.
 
 ghost use Rattle.std.specs.Prelude.{◌<◌, ◌↔◌, IsTrue};
 ghost use Rattle.board_core.specs.Moves.{IsLegal};

@@ -4,7 +4,7 @@ use Rattle.pgn_games.specs.declared.course.Course.{Course as ReadCourse}
 use Rattle.pgn_games.specs.declared.fault.Cause.{Cause}
 use Rattle.pgn_games.specs.Shown.{texts_of}
 use Rattle.pgn_games.specs.Lexemes.{Telling}
-use Rattle.pgn_games.specs.Games.{Course, Takes, taken}
+use Rattle.pgn_games.specs.Games.{Course, TakesToken, course_after_token}
 
 -- what the tokens of a game tell so far
 abbrev pub course_of : ReadCourse → Course
@@ -21,11 +21,11 @@ course_of c = record {
 }
 
 -- what is told is taken, or is at fault and changes nothing
-abbrev pub Steps : (Result Course Cause → Type 0) → Course → Course → Option Cause → Type 0
-Steps IsTaken old new None = IsTaken (Ok new)
-Steps IsTaken old new (Some cause) = IsTaken (Err cause) × (new ≡ old)
+abbrev pub TakesOrStays : (Result Course Cause → Type 0) → Course → Course → Option Cause → Type 0
+TakesOrStays IsTaken old new None = IsTaken (Ok new)
+TakesOrStays IsTaken old new (Some cause) = IsTaken (Err cause) × (new ≡ old)
 
 -- before the first fault a lexeme is taken, or is this fault
 abbrev pub TakesFirst : Course → ℕ → Telling → Course → Type 0
 TakesFirst old line told new =
-    MatchOption old.fault ((r : Result Course Cause) × Takes old told r × (new ≡ taken old line r)) (λ fault. new ≡ old)
+    MatchOption old.fault ((r : Result Course Cause) × TakesToken old told r × (new ≡ course_after_token old line r)) (λ fault. new ≡ old)

@@ -7,8 +7,8 @@ use Rattle.pgn_games.specs.Tags.{TagAndRest}
 use Rattle.pgn_games.specs.Lexemes.{Telling, Tag, MoveText, Begins, Ends, Told, Stray, Endless, TooLong}
 
 -- a tag pair that was read
-abbrev pub pair_of : ReadPair → TagAndRest
-pair_of pair = record { pair = record { name = pair.name.now; quoted = pair.quoted.now }; rest = pair.rest.now }
+abbrev pub pair_read : ReadPair → TagAndRest
+pair_read pair = record { pair = record { name = pair.name.now; quoted = pair.quoted.now }; rest = pair.rest.now }
 
 -- what a lexeme tells that was read, in the first column or not
 abbrev pub lexeme_of : Bool → Read → Option Telling
@@ -24,14 +24,14 @@ lexeme_of first read.Endless = Some Endless
 lexeme_of first read.TooLong = Some TooLong
 
 -- no tag and no fault
-abbrev pub IsPlain : Read → Type 0
-IsPlain read.Nothing = Unit {0}
-IsPlain (read.Tag pair) = ⊥
-IsPlain read.BadTag = ⊥
-IsPlain (read.MoveText text) = Unit {0}
-IsPlain read.Begins = Unit {0}
-IsPlain read.Ends = Unit {0}
-IsPlain (read.Told result) = Unit {0}
-IsPlain read.Stray = Unit {0}
-IsPlain read.Endless = ⊥
-IsPlain read.TooLong = ⊥
+abbrev pub IsPlainLexeme : Read → Type 0
+IsPlainLexeme read.Nothing = Unit {0}
+IsPlainLexeme (read.Tag pair) = ⊥
+IsPlainLexeme read.BadTag = ⊥
+IsPlainLexeme (read.MoveText text) = Unit {0}
+IsPlainLexeme read.Begins = Unit {0}
+IsPlainLexeme read.Ends = Unit {0}
+IsPlainLexeme (read.Told result) = Unit {0}
+IsPlainLexeme read.Stray = Unit {0}
+IsPlainLexeme read.Endless = ⊥
+IsPlainLexeme read.TooLong = ⊥

@@ -14,7 +14,7 @@ use Rattle.pgn_games.specs.declared.phase.Phase.{Phase}
 use Rattle.pgn_games.specs.declared.phase.Phase.TheVariants.{Tags, Moves, Over}
 use Rattle.pgn_games.specs.Lexemes.{Endless, TooLong}
 use Rattle.pgn_games.specs.Tokens.{Token, line_after, token, token_if, tokens_from}
-use Rattle.pgn_games.specs.Games.{Course, ReadingTold, Tells, behind_game, of_game}
+use Rattle.pgn_games.specs.Games.{Course, ReadingTold, ReadsTokens, behind_game, of_game}
 use Rattle.pgn_games.specs.Reading.{tokens_with}
 
 -- a text that begins with a line feed, or is empty
@@ -23,14 +23,14 @@ BeginsLine [] = Unit {0}
 BeginsLine (b ∷ t) = b ≡ 10
 
 -- a comment that began on a line and comes to a line that is too long, or not, tells this when it is closed
-abbrev pub closed : ℕ → Bool → List Token
-closed from long = token_if from (if long then Some TooLong else None)
+abbrev pub comment_closed : ℕ → Bool → List Token
+comment_closed from long = token_if from (if long then Some TooLong else None)
 
 -- the tokens of a text within such a comment
 unfoldable pub comment_left : ℕ → Bool → ℕ → List ℕ → List Token
 comment_left from long line [] = token from Endless ∷ []
 comment_left from long line (b ∷ t) =
-    if b == 125 then closed from long ++ tokens_from 0 line false t else comment_left from (long || b == 256) (line_after line b) t
+    if b == 125 then comment_closed from long ++ tokens_from 0 line false t else comment_left from (long || b == 256) (line_after line b) t
 
 -- a game isn't over
 abbrev pub IsOn : Phase → Type 0
@@ -40,11 +40,11 @@ IsOn Over = ⊥
 
 -- what tokens tell of a game goes on with what others tell of it, and behind it stands the same
 pub record Continues (c : Course) (ts : List Token) (d : Course) (us : List Token) : Type 0 where
-  pub told : (x : Option ReadingTold) → Tells d (of_game d.phase us) x → Tells c (of_game c.phase ts) x
+  pub told : (x : Option ReadingTold) → ReadsTokens d (of_game d.phase us) x → ReadsTokens c (of_game c.phase ts) x
   pub rest : behind_game d.phase us ≡ behind_game c.phase ts
 
 -- no token belongs to the game any more
-pub record IsOver (c : Course) (ts : List Token) : Type 0 where
+pub record IsGameOver (c : Course) (ts : List Token) : Type 0 where
   pub none : of_game c.phase ts ≡ []
   pub all : behind_game c.phase ts ≡ ts
 
@@ -55,14 +55,14 @@ rest_with cursor more = drop cursor.place cursor.line.items ++ more
 -- the rest of the line closes a comment, or none of it does
 abbrev pub ClosesComment : Cursor → Cursor → Bool → Type 0
 ClosesComment old new result =
-    (from : ℕ) (long : Bool) (more : List ℕ) → MatchBool result (comment_left from long old.number (rest_with old more) ≡ closed from long ++ tokens_with new more) (comment_left from long old.number (rest_with old more) ≡ comment_left from long new.number more)
+    (from : ℕ) (long : Bool) (more : List ℕ) → MatchBool result (comment_left from long old.number (rest_with old more) ≡ comment_closed from long ++ tokens_with new more) (comment_left from long old.number (rest_with old more) ≡ comment_left from long new.number more)
 
 -- a lexeme is passed, or the game is over
-abbrev pub StepsOn : Course → Cursor → Course → Cursor → Next → Type 0
-StepsOn c old d new GoesOn =
+abbrev pub StepsOverLexeme : Course → Cursor → Course → Cursor → Next → Type 0
+StepsOverLexeme c old d new GoesOn =
     (more : List ℕ) → BeginsLine more → Continues c (tokens_with old more) d (tokens_with new more)
-StepsOn c old d new Stops =
-    (more : List ℕ) → BeginsLine more → Continues c (tokens_with old more) d (tokens_with new more) × IsOver d (tokens_with new more)
+StepsOverLexeme c old d new Stops =
+    (more : List ℕ) → BeginsLine more → Continues c (tokens_with old more) d (tokens_with new more) × IsGameOver d (tokens_with new more)
 
 -- a line is passed to its end, to a comment that isn't closed on it, or to where the game is over
 abbrev pub LeavesLine : Course → Cursor → Course → Cursor → Left → Type 0
@@ -71,7 +71,7 @@ LeavesLine c old d new AtEnd =
 LeavesLine c old d new InComment =
     (length new.line.items ≤ new.place) × ((more : List ℕ) → BeginsLine more → Continues c (tokens_with old more) d (comment_left new.number false new.number more))
 LeavesLine c old d new GameOver =
-    (more : List ℕ) → BeginsLine more → Continues c (tokens_with old more) d (tokens_with new more) × IsOver d (tokens_with new more)
+    (more : List ℕ) → BeginsLine more → Continues c (tokens_with old more) d (tokens_with new more) × IsGameOver d (tokens_with new more)
 
 -- a line that was read is begun, behind the one of this number
 abbrev pub BeginsAs : List ℕ → ℕ → Cursor → Taken → Type 0
@@ -91,19 +91,19 @@ TakesText old new Nothing left behind =
     (rest_with old (read_text left) ≡ []) × (rest_with new (read_text behind) ≡ [])
 
 -- the next line is read from its first column; otherwise nothing is left of it
-abbrev pub StandsAt : Cursor → Taken → Type 0
-StandsAt new Line = new.place ≡ 0
-StandsAt new LongLine = length new.line.items ≤ new.place
-StandsAt new Nothing = length new.line.items ≤ new.place
+abbrev pub StandsAtLine : Cursor → Taken → Type 0
+StandsAtLine new Line = new.place ≡ 0
+StandsAtLine new LongLine = length new.line.items ≤ new.place
+StandsAtLine new Nothing = length new.line.items ≤ new.place
 
 -- a game is told to its end
-abbrev pub TellsGame : Course → List Token → Course → List Token → Type 0
-TellsGame c ts d us = Continues c ts d us × IsOver d us
+abbrev pub ReadsToEnd : Course → List Token → Course → List Token → Type 0
+ReadsToEnd c ts d us = Continues c ts d us × IsGameOver d us
 
 -- a game goes on, or is told to its end
 abbrev pub TellsOn : Next → Course → List Token → Course → List Token → Type 0
 TellsOn GoesOn c ts d us = Continues c ts d us
-TellsOn Stops c ts d us = TellsGame c ts d us
+TellsOn Stops c ts d us = ReadsToEnd c ts d us
 
 -- what a comment tells that began on a line
 abbrev pub closing_tokens : ℕ → Closing → List Token

@@ -5,7 +5,7 @@ use Rattle.pgn_games.specs.Lines.{read_text}
 use Rattle.pgn_games.specs.Tokens.{Token}
 use Rattle.pgn_games.specs.Reading.{IfKnown, tokens_with}
 use Rattle.pgn_games.specs.Inside.Lines.{OneLine}
-use Rattle.pgn_games.specs.Inside.Steps.{StandsAt, TakesText, comment_left, rest_with}
+use Rattle.pgn_games.specs.Inside.Steps.{StandsAtLine, TakesText, comment_left, rest_with}
 use Rattle.pgn_games.proofs.ReadLaws.{comment_at_end, comment_line, comment_long_line, joined, known_then, not_closed}
 use Rattle.pgn_games.proofs.telling.close_comment.Goals as goal
 use Rattle.pgn_games.proofs.telling.close_comment.Goals.{in-LongLine, in-Line+else-close_comment}
@@ -29,7 +29,7 @@ loop-preserved g c =
       | in-LongLine w ↦ record {
         left = λ from.
             joined _ _ _ _ (left from) w.cursor-is w.long-is (known_then _ _ _ _ _ _ (λ x y z p q. p ∙ comment_long_line from c.loop.long c.loop.cursor c.take_line.new.cursor y z q) (c.loop.invariant.left from) (subst text w.in-LongLine.is c.in_ok-take_line.ensures.text));
-        past = subst (λ (x : Cursor). vec_len x.line ≤ x.place) (sym w.cursor-is) (omega (arith, subst (StandsAt c.take_line.new.cursor) w.in-LongLine.is c.in_ok-take_line.ensures.place, c.take_line.new.cursor.line.ok.0));
+        past = subst (λ (x : Cursor). vec_len x.line ≤ x.place) (sym w.cursor-is) (omega (arith, subst (StandsAtLine c.take_line.new.cursor) w.in-LongLine.is c.in_ok-take_line.ensures.place, c.take_line.new.cursor.line.ok.0));
         one = subst (λ (x : Cursor). OneLine x.line.items) (sym w.cursor-is) c.in_ok-take_line.ensures.one;
         fails = λ h. c.loop.invariant.fails (c.in_ok-take_line.ensures.same h);
       }

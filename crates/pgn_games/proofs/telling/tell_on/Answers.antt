@@ -2,7 +2,7 @@ use Rattle.std.proofs.Common.{false, ap, subst, sym}
 use Rattle.pgn_games.specs.Lines.{read_text}
 use Rattle.pgn_games.specs.Reading.{tokens_with}
 use Rattle.pgn_games.specs.Inside.Owned.{course_of}
-use Rattle.pgn_games.specs.Inside.Steps.{LeavesLine, TellsGame, TellsOn, comment_left}
+use Rattle.pgn_games.specs.Inside.Steps.{LeavesLine, ReadsToEnd, TellsOn, comment_left}
 use Rattle.pgn_games.proofs.GameLaws.{continues_same, continues_then}
 use Rattle.pgn_games.proofs.LineLaws.{begins}
 use Rattle.pgn_games.proofs.ReadLaws.{known_map, known_same, past_line, tells_then, told_over}
@@ -11,7 +11,7 @@ use Rattle.pgn_games.proofs.telling.tell_on.Goals as goal
 pub returns-in-GameOver-clause-told : goal.returns-in-GameOver-clause-told
 returns-in-GameOver-clause-told g c =
     let leaves = subst (LeavesLine (course_of c.args.course.now) c.args.cursor.now (course_of c.tell_line.new.course) c.tell_line.new.self) c.in-GameOver.is c.in_ok-tell_line.ensures.leaves in
-    known_same (g.L.LineReader.facts c.args.lines.now).left (λ x y. TellsGame (course_of c.args.course.now) (tokens_with c.args.cursor.now (read_text x)) (course_of c.tell_line.new.course) (tokens_with c.tell_line.new.self (read_text y))) (λ x. told_over _ _ _ _ (leaves (read_text x) (begins x)).0 (leaves (read_text x) (begins x)).1)
+    known_same (g.L.LineReader.facts c.args.lines.now).left (λ x y. ReadsToEnd (course_of c.args.course.now) (tokens_with c.args.cursor.now (read_text x)) (course_of c.tell_line.new.course) (tokens_with c.tell_line.new.self (read_text y))) (λ x. told_over _ _ _ _ (leaves (read_text x) (begins x)).0 (leaves (read_text x) (begins x)).1)
 
 pub returns-in_ok-pass_comment-in-InComment-clause-told : goal.returns-in_ok-pass_comment-in-InComment-clause-told
 returns-in_ok-pass_comment-in-InComment-clause-told g c =

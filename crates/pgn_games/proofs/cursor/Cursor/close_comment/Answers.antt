@@ -3,7 +3,7 @@ use Rattle.std.specs.Prelude.{◌==◌, position}
 use Rattle.std.proofs.lemmas.List.Elements.{All-drop}
 use Rattle.pgn_games.specs.Tokens.{Token}
 use Rattle.pgn_games.specs.Inside.Lines.{OneLine}
-use Rattle.pgn_games.specs.Inside.Steps.{closed}
+use Rattle.pgn_games.specs.Inside.Steps.{comment_closed}
 use Rattle.pgn_games.proofs.RunLaws.{rest_of}
 use Rattle.pgn_games.proofs.TokenLaws.{further_on}
 use Rattle.pgn_games.proofs.CommentLaws.{none_closes, some_closes}
@@ -27,4 +27,4 @@ returns-in-Some-clause-closes c =
     let small : All (λ b. b < 256) (drop self.place self.line.items) = subst (All (λ b. b < 256)) rest c.brace_in.ensures.bytes in
     let some : position (λ b. b == 125) (drop self.place self.line.items) ≡ Some n = sym (c.in-Some.ensures.is ∙ ap (position (λ b. b == 125)) rest) in
     λ from long more.
-    some_closes from long self.number (drop self.place self.line.items) more n one small some ∙ ap (λ (ts : List Token). closed from long ++ ts) (further_on self.number self.place n self.line.items more)
+    some_closes from long self.number (drop self.place self.line.items) more n one small some ∙ ap (λ (ts : List Token). comment_closed from long ++ ts) (further_on self.number self.place n self.line.items more)
