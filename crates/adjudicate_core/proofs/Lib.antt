@@ -25,3 +25,4 @@ pub mod JsonLaws
 pub mod MakeLaws
 pub mod GoneLaws
 pub mod StoreLaws
+pub mod FolderLaws

@@ -73,7 +73,7 @@ fn answer_given<D: LineDisk, I: Input, H: Host, W: Output, E: Output>(
         Task::Show(task) => task.answer(sources, out),
         Task::Run(task) => put_answered(out, task.answer(alloc, sources)),
         Task::Listen(task) => listen(alloc, task, sources, system.host, history, out),
-        Task::Probes(task) => task.answer(alloc, sources, system.input, out, err),
+        Task::Probes(task) => task.answer(alloc, sources, system.disk, system.input, out, err),
         Task::Game(task) => put_answered(out, task.answer(alloc, sources)),
         Task::Games(task) => task.answer(alloc, sources, system.input, out, err),
         Task::Pgn(task) => task.answer(alloc, sources, system.disk, system.input, out),

@@ -1,5 +1,13 @@
--- `probes --tables DIR [--manifest FILE] [--json] [--determined] [--progress]`: what tables tell of the positions of the input (this project's own).
-use Rattle.std.specs.Prelude.{◌≡◌, ℕ, Bool, true, false, List, [], ◌∷◌, Option, Some, None, codes, option_map}
+-- `probes --tables DIR [--manifest FILE] [--all-tables] [--json] [--determined] [--progress]`: what tables tell of the positions of the input (this project's own).
+use Rattle.std.specs.Prelude.{◌≡◌, ◌||◌, not, ℕ, Bool, true, false, List, [], ◌∷◌, Option, Some, None, Result, codes, option_map}
+use Rattle.std.specs.Borrow.{Bor}
+use Rattle.system_io.specs.Disks.{DiskFacts}
+use Rattle.system_io.specs.Inputs.{InputFacts}
+use Rattle.system_io.specs.declared.output.WriteFault.{WriteFault}
+use Rattle.task_files.specs.Given.{Given}
+use Rattle.adjudicate_core.specs.FolderAnswers.{IsSpelledBy, PutsByFolder, read_at_once, read_when_asked}
+use Rattle.adjudicate_core.specs.Reply.{IsText}
+use Rattle.adjudicate_core.specs.TableAnswers.{PutsByTables}
 use Rattle.board_core.specs.declared.parts.Parts.{Parts}
 use Rattle.board_core.specs.Position.{IsPosition}
 use Rattle.fen_text.specs.declared.fault.FenFault.{FenFault}
@@ -17,8 +25,9 @@ use Rattle.task_files.specs.Sources.{Named}
 use Rattle.adjudicate_core.specs.JsonAnswers.{TellsJson}
 use Rattle.adjudicate_core.specs.Lines.{refused_fen}
 use Rattle.adjudicate_core.specs.Numbers.{is_set}
-use Rattle.judge_core.specs.Ask.{IsAnswered}
+use Rattle.judge_core.specs.Ask.{IsAnswered, ask_of}
 use Rattle.judge_core.specs.declared.ask.Ask.{Ask}
+use Rattle.judge_core.specs.declared.ask.Ask.TheVariants.{Strict}
 use Rattle.line_teller.specs.ToldLines.{LineTold}
 use Rattle.adjudicate_core.specs.declared.commands.probes.Probes.{Probes}
 
@@ -26,6 +35,7 @@ abbrev pub rules : List Rule
 rules =
     rule_of_form form.Option (codes "tables")
     ∷ rule_of_form form.Option (codes "manifest")
+    ∷ rule_of_form form.Flag (codes "all-tables")
     ∷ rule_of_form form.Flag (codes "json")
     ∷ rule_of_form form.Flag (codes "determined")
     ∷ rule_of_form form.Flag (codes "progress") ∷ []
@@ -34,15 +44,19 @@ rules =
 abbrev pub HasValues : (Text → Option Text) → Probes → Type 0
 HasValues value t =
     (Some t.tables.now ≡ value (codes "tables")) × (option_map (λ s. s.now) t.manifest ≡ value (codes "manifest"))
-    × (t.json ≡ is_set (value (codes "json"))) × (t.determined ≡ is_set (value (codes "determined"))) × (t.progress ≡ is_set (value (codes "progress")))
+    × (t.all_tables ≡ is_set (value (codes "all-tables"))) × (t.json ≡ is_set (value (codes "json"))) × (t.determined ≡ is_set (value (codes "determined"))) × (t.progress ≡ is_set (value (codes "progress")))
 
 -- what may be wrong with its values, in the order in which it is told
 abbrev pub faults : List Fault
 faults = NoOption (codes "tables") ∷ []
 
--- what is read for it
+-- a table is read when a position asks for it, unless all are wanted at once, or JSON, or determined values
+abbrev pub is_lazy : Probes → Bool
+is_lazy t = not (t.all_tables || (t.json || t.determined))
+
+-- what is read for it before it answers
 abbrev pub named : Probes → Named
-named t = record { folder = Some t.tables.now; manifest = option_map (λ s. s.now) t.manifest; input = false; kept = None; other_kept = None }
+named t = record { folder = option_map (λ s. s.now) (read_at_once (is_lazy t) (Some t.tables)); manifest = option_map (λ s. s.now) t.manifest; input = false; kept = None; other_kept = None }
 
 -- a line: what `probe` and `judge` tell of its position, in columns, or the refusal of the text
 pub data TellsLine (ask : Ask) (tables : Tables) (text : List ℕ) (told : LineTold) : Type 0 where
@@ -53,3 +67,11 @@ pub data TellsLine (ask : Ask) (tables : Tables) (text : List ℕ) (told : LineT
 abbrev pub TellsLineIn : Bool → Ask → Tables → List ℕ → LineTold → Type 0
 TellsLineIn true ask = TellsJson ask false
 TellsLineIn false ask = TellsLine ask
+
+-- the positions of the input by the tables of a folder that are read when these ask for them, or by those that were given
+abbrev pub PutsFrom : DiskFacts → InputFacts → Probes → Given → Option (Bor (List ℕ)) → Option (List ℕ) → Option (List ℕ) → Result ℕ WriteFault → Type 0
+PutsFrom disk source t given (Some path) old new r = PutsByFolder disk path.now given.told IsSpelledBy (TellsLine Strict) IsText source old new r
+PutsFrom disk source t given None old new r = PutsByTables (TellsLineIn t.json (ask_of t.determined)) IsText source given old new r
+
+abbrev pub Puts : DiskFacts → InputFacts → Probes → Given → Option (List ℕ) → Option (List ℕ) → Result ℕ WriteFault → Type 0
+Puts disk source t given old new r = PutsFrom disk source t given (read_when_asked (is_lazy t) (Some t.tables)) old new r

@@ -18,9 +18,13 @@ use Rattle.adjudicate_core.specs.declared.answers.refusals.Refusal.TheVariants a
 abbrev pub AreColumns : Parts → Columns → Tables → Type 0
 AreColumns p columns tables = IsProbed tables p columns.probed × (columns.verdict ≡ ruling tables p)
 
+-- the manifest is at fault, or else the folder can't be listed or lists a file twice
+pub data LacksFolder (disk : DiskFacts) (path : List ℕ) (manifest : Option ToldManifest) (refused : Refusal) : Type 0 where
+  HasBadLine : (line : ℕ) → manifest ≡ Some (Err line) → refused ≡ refusal.Manifest line → LacksFolder disk path manifest refused
+  CannotList : FolderFails disk path manifest → refused ≡ refusal.Files → LacksFolder disk path manifest refused
+
 -- what a folder's tables say of a position, or why they say nothing
 pub data FindsColumns (disk : DiskFacts) (path : List ℕ) (manifest : Option ToldManifest) (p : Parts) (found : Result Columns Refusal) : Type 0 where
-  FindsBadLine : (line : ℕ) → manifest ≡ Some (Err line) → found ≡ Err (refusal.Manifest line) → FindsColumns disk path manifest p found
-  FindsNoFolder : FolderFails disk path manifest → found ≡ Err refusal.Files → FindsColumns disk path manifest p found
+  FindsNoFolder : (refused : Refusal) → LacksFolder disk path manifest refused → found ≡ Err refused → FindsColumns disk path manifest p found
   FindsBadFile : (folder : Folder) → IsFolderAt disk path manifest folder → (file : FileRefusal) → IsRefusedAt disk folder p file → found ≡ Err (refusal.File file.name file.fault) → FindsColumns disk path manifest p found
   FindsAll : (folder : Folder) → IsFolderAt disk path manifest folder → (columns : Columns) → AnswersBy disk folder (λ q. q ≡ p) (AreColumns p columns) → found ≡ Ok columns → FindsColumns disk path manifest p found

@@ -1,10 +1,15 @@
 //! `probes`: the values of the positions of the input in tables, a line each.
 
-ghost use Rattle.std.specs.Prelude.{◌≡◌, false, IfOk, OnErr, IfErr};
+ghost use Rattle.std.specs.Prelude.{◌≡◌, ◌⊎◌, false, IfOk, OnErr, IfErr};
+ghost use Rattle.table_folder.specs.Folders.{AreOf};
 ghost use Rattle.clap.specs.Words.{first_value, found_of};
 ghost use Rattle.board_core.specs.Position.{IsPosition};
 ghost use Rattle.fen_text.specs.Fen.{SpellsPosition};
-ghost use Rattle.adjudicate_core.specs.Commands.Probes.{HasValues, TellsLine, TellsLineIn, faults, named};
+ghost use Rattle.adjudicate_core.specs.Commands.Probes.{HasValues, Puts, TellsLine, TellsLineIn, faults, is_lazy, named};
+ghost use Rattle.adjudicate_core.specs.FolderAnswers.{IsSpelledBy, PutsByFolder, TellsByFolder};
+ghost use Rattle.adjudicate_core.specs.Telling.{TellsOne};
+ghost use Rattle.judge_core.specs.declared.ask.Ask.TheVariants.{Strict};
+ghost use Rattle.move_msg.specs.ToldBy.{told_by};
 ghost use Rattle.adjudicate_core.specs.LineAnswers.{PutsLinesOrNone};
 ghost use Rattle.adjudicate_core.specs.Lines.{words_of};
 ghost use Rattle.adjudicate_core.specs.Misuses.{IsFirstMisuse, fault_words};
@@ -12,26 +17,30 @@ ghost use Rattle.judge_core.specs.Ask.{ask_of};
 ghost use Rattle.task_files.specs.Sources.{named_by};
 ghost use Rattle.adjudicate_core.specs.Reply.{IsText};
 ghost use Rattle.adjudicate_core.specs.TableAnswers.{PutsByTables};
-ghost use Rattle.line_teller.specs.ToldLines.{HasFailed};
+ghost use Rattle.line_teller.specs.ToldLines.{HasFailed, refused_memory};
 
 use super::{Form, Value};
 use crate::answers::json_answers::JsonTeller;
 use crate::answers::line_answers::put_told;
 use crate::answers::lines::{Line, put_line, put_refusal};
 use crate::answers::refusals::Refusal;
+use crate::folders::{folder_at, read_at_once, read_when_asked};
 use crate::tables::gather;
 use crate::words::numbers::{CacheSize, is_set};
 use crate::words::usage::ValueFault;
 use crate::words::values::option_in;
 use board_core::Position;
+use bumpalo::Bump;
 use clap::ArgMatches;
 use fen_text::read;
 use json_lines::Ask;
 use judge_core::Set;
 use line_teller::{LineHandler, TellFault};
+use move_msg::Manifest;
 use std::alloc::{AllocError, Global};
 use std::io::Write;
-use system_io::{Input, Output, WriteFault};
+use system_io::{Disk, Input, Output, WriteFault};
+use table_folder::TableFolder;
 use task_files::{InputPaths, Inputs};
 
 /// The values of the positions of the input in tables.
@@ -41,6 +50,8 @@ pub struct Probes<'a> {
     pub tables: &'a str,
     /// The file of the manifest that the tables are held to, if one is named.
     pub manifest: Option<&'a str>,
+    /// Whether all tables are read before the first answer.
+    pub all_tables: bool,
     /// Whether the answers are written as JSON.
     pub json: bool,
     /// Whether values are wanted that are the same whatever the missing tables hold.
@@ -50,7 +61,7 @@ pub struct Probes<'a> {
 }
 
 /// The values of `probes`.
-pub(crate) const VALUES: [Value; 5] = [
+pub(crate) const VALUES: [Value; 6] = [
     Value {
         name: "tables",
         form: Form::Option,
@@ -58,6 +69,10 @@ pub(crate) const VALUES: [Value; 5] = [
     Value {
         name: "manifest",
         form: Form::Option,
+    },
+    Value {
+        name: "all-tables",
+        form: Form::Flag,
     },
     Value {
         name: "json",
@@ -137,6 +152,66 @@ impl<'a> LineHandler for Prober<'a> {
     }
 }
 
+/// Answers a line with the values of its position in the tables of a folder, of which those are read that it asks for.
+#[derive(Drop)]
+struct FolderProber<'r, D: Disk> {
+    /// The allocator.
+    alloc: Global,
+    /// The folder.
+    folder: TableFolder<'r, D>,
+    /// Its tables that are open.
+    set: Set<'r>,
+    ghost opened: { AreOf (D.facts folder.disk) folder.folder set.tables },
+}
+
+impl<'r, D: Disk> FolderProber<'r, D> {
+    /// The values of a position in the tables, in columns, and whether both are there; or the refusal of a file.
+    fn columns(&mut self, text: &[u8], position: &Position) -> Result<(Line, bool), AllocError>
+        requires spelled { SpellsPosition text.now position.now }
+        requires position { IsPosition position.now }
+        ensures told { IfOk result (λ told. TellsByFolder (D.facts self.old.folder.disk) self.old.folder.folder IsSpelledBy (TellsLine Strict) text.now (record { words = words_of told.0; done = told.1 })) }
+        ensures folder { self.new.folder ≡ self.old.folder }
+    {
+        match self.folder.settle(self.alloc, &mut self.set, position)? {
+            Ok(columns) => Ok((Line::Columns(columns), columns.probed.has_both())),
+            Err(refused) => Ok((Line::Refused(Refusal::File(refused.name, refused.fault)), false)),
+        }
+    }
+
+    /// The answer to a line, and whether it is complete.
+    fn answer(&mut self, text: &[u8]) -> Result<(Line, bool), AllocError>
+        ensures told { IfOk result (λ told. TellsByFolder (D.facts self.old.folder.disk) self.old.folder.folder IsSpelledBy (TellsLine Strict) text.now (record { words = words_of told.0; done = told.1 })) }
+        ensures folder { self.new.folder ≡ self.old.folder }
+        ensures memory { OnErr result (IsText text.now) }
+    {
+        match read(text) {
+            Ok(position) => self.columns(text, &position),
+            Err(fault) => Ok((Line::Refused(Refusal::Fen(fault)), false)),
+        }
+    }
+}
+
+impl<'r, D: Disk> LineHandler for FolderProber<'r, D> {
+    ghost use Rattle.judge_core.specs.declared.ask.Ask.TheVariants.{Strict};
+    ghost use Rattle.adjudicate_core.specs.FolderAnswers.{IsSpelledBy, TellsByFolder};
+    ghost use Rattle.adjudicate_core.specs.Reply.{IsText};
+    ghost use Rattle.adjudicate_core.specs.Commands.Probes.{TellsLine};
+
+    ghost tells = { λ p. TellsByFolder (D.facts p.folder.disk) p.folder.folder IsSpelledBy (TellsLine Strict) };
+
+    ghost takes_memory = { IsText };
+
+    fn tell<W: Output>(&mut self, line: &[u8], out: &mut W) -> Result<bool, TellFault> {
+        match self.answer(line) {
+            Ok((told, is_told)) => match put_line(out, &told) {
+                Ok(()) => Ok(is_told),
+                Err(_) => Err(TellFault::Io),
+            },
+            Err(_) => Err(TellFault::OutOfMemory),
+        }
+    }
+}
+
 impl<'a> Probes<'a> {
     /// The task with these values, or the first thing that is wrong with them.
     pub(crate) fn of(matches: &ArgMatches<'a>) -> Result<Probes<'a>, ValueFault<'a>>
@@ -146,18 +221,26 @@ impl<'a> Probes<'a> {
         Ok(Probes {
             tables: option_in(matches, "tables")?,
             manifest: matches.get_str("manifest"),
+            all_tables: is_set(matches.get_str("all-tables")),
             json: is_set(matches.get_str("json")),
             determined: is_set(matches.get_str("determined")),
             progress: is_set(matches.get_str("progress")),
         })
     }
 
-    /// What is read for it.
+    /// Whether a table is read when a position asks for it.
+    fn is_lazy(&self) -> bool
+        ensures { result ≡ is_lazy self.now }
+    {
+        !(self.all_tables || self.json || self.determined)
+    }
+
+    /// What is read for it before it answers.
     pub(crate) fn places(&self) -> InputPaths<'a>
         ensures { named_by result ≡ named self.now }
     {
         InputPaths {
-            folder: Some(self.tables),
+            folder: read_at_once(self.is_lazy(), Some(self.tables)),
             manifest: self.manifest,
             reads_input: false,
             kept: None,
@@ -194,16 +277,49 @@ impl<'a> Probes<'a> {
         }
     }
 
-    /// Writes the answer to each line of the input as it comes, by the tables of files, or the refusal of the tables.
-    /// Returns the status, 0 where all answers are complete, else 1. With `--json` an answer is one object (RFC 8259).
-    /// With `--determined` values and distances are also those that are the same whatever the missing tables hold; the
-    /// verdict stays.
-    ///
-    /// Each line is answered before the next one has to arrive, and memory is that of the longest line. Where memory is
-    /// refused, the line `refused memory` follows the whole lines before it; where the input fails, `refused files`.
-    /// With `--progress` the number of lines done goes to `errors` after every 10,000; without it nothing is written
-    /// there.
-    pub(crate) fn answer<I: Input, W: Output, E: Write>(
+    /// Writes the answer to each line of the input as it comes, by the tables of a folder, of which those are read that it asks for.
+    fn answer_by_folder<D: Disk, I: Input, W: Output, E: Write>(
+        &self,
+        alloc: Global,
+        folder: TableFolder<'_, D>,
+        input: &I,
+        out: &mut W,
+        errors: &mut E,
+    ) -> Result<u8, WriteFault>
+        ensures written { PutsLinesOrNone (TellsByFolder (D.facts folder.entry.disk) folder.entry.folder IsSpelledBy (TellsLine Strict)) IsText (I.facts input.now) (W.contents out.old) (W.contents out.new) result ⊎ TellsOne refused_memory (W.contents out.old) (W.contents out.new) result }
+        ensures quiet { self.now.progress ≡ false → errors.new ≡ errors.old }
+        ensures cause { OnErr result (HasFailed W.facts) }
+    {
+        let Ok(set) = folder.new_set(alloc, CacheSize::usual().blocks()) else {
+            return put_refusal(out, Refusal::Memory);
+        };
+        let mut prober = FolderProber { alloc, folder, set };
+        put_told(alloc, &mut prober, input, out, errors, self.progress)
+    }
+
+    /// The same by the folder at a path, or the refusal of its manifest or of the folder.
+    fn answer_in<D: Disk, I: Input, W: Output, E: Write>(
+        &self,
+        alloc: Global,
+        place: (&D, &str, &Manifest),
+        input: &I,
+        out: &mut W,
+        errors: &mut E,
+    ) -> Result<u8, WriteFault>
+        ensures written { PutsByFolder (D.facts place.0.now) place.1.now (told_by place.2.now) IsSpelledBy (TellsLine Strict) IsText (I.facts input.now) (W.contents out.old) (W.contents out.new) result }
+        ensures quiet { self.now.progress ≡ false → errors.new ≡ errors.old }
+        ensures cause { OnErr result (HasFailed W.facts) }
+    {
+        let arena = Bump::new(alloc);
+        match folder_at(alloc, place.0, place.1, place.2, &arena) {
+            Ok(Ok(folder)) => self.answer_by_folder(alloc, folder, input, out, errors),
+            Ok(Err(refusal)) => put_refusal(out, refusal),
+            Err(_) => put_refusal(out, Refusal::Memory),
+        }
+    }
+
+    /// The same by the tables of files, or the refusal of the tables.
+    fn answer_from<I: Input, W: Output, E: Write>(
         &self,
         alloc: Global,
         sources: &Inputs,
@@ -219,6 +335,39 @@ impl<'a> Probes<'a> {
             Ok(Ok(set)) => self.answer_lines(alloc, set, input, out, errors),
             Ok(Err(refusal)) => put_refusal(out, refusal),
             Err(_) => put_refusal(out, Refusal::Memory),
+        }
+    }
+
+    /// Writes the answer to each line of the input as it comes, by the tables of a folder, or the refusal of these.
+    /// Returns the status, 0 where all answers are complete, else 1. With `--json` an answer is one object (RFC 8259).
+    /// With `--determined` values and distances are also those that are the same whatever the missing tables hold; the
+    /// verdict stays.
+    ///
+    /// Each line is answered before the next one has to arrive, and memory is that of the longest line. Where memory is
+    /// refused, the line `refused memory` follows the whole lines before it; where the input fails, `refused files`.
+    /// With `--progress` the number of lines done goes to `errors` after every 10,000; without it nothing is written
+    /// there.
+    ///
+    /// A table is read when a position asks for it, and the file of one that is at fault is refused as the answer of each position
+    /// that needs it. With `--all-tables`, `--json` or `--determined` all are read before, and the first file at fault is refused.
+    pub(crate) fn answer<D: Disk, I: Input, W: Output, E: Write>(
+        &self,
+        alloc: Global,
+        sources: &Inputs,
+        disk: &D,
+        input: &I,
+        out: &mut W,
+        errors: &mut E,
+    ) -> Result<u8, WriteFault>
+        ensures written { Puts (D.facts disk.now) (I.facts input.now) self.now sources.now (W.contents out.old) (W.contents out.new) result }
+        ensures quiet { self.now.progress ≡ false → errors.new ≡ errors.old }
+        ensures cause { OnErr result (HasFailed W.facts) }
+    {
+        match read_when_asked(self.is_lazy(), Some(self.tables)) {
+            Some(path) => {
+                self.answer_in(alloc, (disk, path, sources.manifest()), input, out, errors)
+            }
+            None => self.answer_from(alloc, sources, input, out, errors),
         }
     }
 }

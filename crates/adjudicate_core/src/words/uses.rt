@@ -18,7 +18,8 @@ const USAGE: &str = "usage: adjudicate judge [--tables DIR] [--manifest FILE] [-
        adjudicate list [--progress] DIR
        adjudicate check --manifest FILE [--progress] DIR
        adjudicate show
-       adjudicate probes --tables DIR [--manifest FILE] [--json] [--determined] [--progress]
+       adjudicate probes --tables DIR [--manifest FILE] [--all-tables] [--json] [--determined]
+                         [--progress]
        adjudicate root --tables DIR [--manifest FILE] [--json] [--determined] [FEN]
        adjudicate game [--tables DIR] [--manifest FILE] [--delay N] [--san] FEN
        adjudicate games --tables DIR [--manifest FILE] [--delay N] [--progress]
