@@ -13,6 +13,7 @@
 
 mod fault;
 mod folder;
+pub mod laws;
 mod needing;
 mod settling;
 
