@@ -6,3 +6,5 @@ pub mod Staying
 pub mod Walking
 pub mod Whole
 pub mod WholeMoves
+pub mod ValueFirst
+pub mod Needed

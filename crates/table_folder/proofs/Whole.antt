@@ -1,5 +1,5 @@
 -- The set of the whole folder beside sets of some of its tables.
-use Rattle.std.proofs.Common.{◌≡◌, ◌⊎◌, ◌<◌, ◌≤◌, ◌+◌, ◌-◌, ℕ, Bool, false, length, List, get_or, Option, Some, None, Result, Ok, Err, refl, sym, ap, ◌∙◌, inl, inr, arith}
+use Rattle.std.proofs.Common.{◌≡◌, ◌⊎◌, ◌<◌, ◌≤◌, ◌+◌, ◌-◌, ℕ, Bool, false, length, get_or, Option, Some, None, Result, Ok, Err, sym, ap, ◌∙◌, inl, inr, arith}
 use Rattle.std.proofs.lemmas.Bool.{cases_lt}
 use Rattle.std.proofs.lemmas.List.{ext_get_or, get_or_past}
 use Rattle.board_core.specs.declared.parts.Parts.{Parts}
@@ -18,10 +18,9 @@ use Rattle.judge_core.specs.MoreTables.{AnswersTheSame, HasAll, IsFinalDistance,
 use Rattle.judge_core.specs.ProbeResult.{IsProbed}
 use Rattle.judge_core.specs.Probing.{wdl_of}
 use Rattle.judge_core.specs.Ruling.{is_out_of_scope}
-use Rattle.judge_core.specs.Tables.{Tables, slot, table_at}
+use Rattle.judge_core.specs.Tables.{Tables, table_at}
 use Rattle.table_folder.specs.Folders.{AreOf, Folder}
 use Rattle.table_folder.specs.Laws.{IsWhole, SettledIsAsWhole, WholeIsOne}
-use Rattle.table_folder.specs.Settled.{IsSettled}
 use Rattle.table_folder.proofs.Staying.{final_distance, final_value, there_or_not}
 
 -- ---- the whole folder has each table that is open

@@ -1,12 +1,11 @@
 -- Root moves and games by the whole folder.
-use Rattle.std.proofs.Common.{◌≡◌, ◌<◌, ◌≤◌, ◌+◌, ℕ, zero, suc, nat_lt, Bool, true, false, ◌||◌, List, [], ◌∷◌, filter_map, fold, take, Option, Some, None, option_map, refl, sym, ap, subst, ◌∙◌, inl, inr, arith}
+use Rattle.std.proofs.Common.{◌≡◌, ◌≤◌, ℕ, zero, suc, nat_lt, Bool, true, false, ◌||◌, List, [], ◌∷◌, filter_map, fold, take, Option, Some, None, option_map, refl, sym, ap, subst, ◌∙◌, inl, inr, arith}
 use Rattle.std.proofs.lemmas.Bool.{le-ltb, ltb-false, or_parts}
 use Rattle.std.proofs.lemmas.List.Elements.{Contains-append_right}
 use Rattle.std.specs.List.{Contains, cons_option}
 use Rattle.std.specs.List.Sorted.{IsPermutation, IsStableByKey}
 use Rattle.std.specs.Option.{option_and_then}
 use Rattle.board_core.specs.declared.parts.Parts.{Parts}
-use Rattle.board_core.specs.declared.parts.Rights.{Rights}
 use Rattle.board_core.specs.declared.moves.Move.{Move}
 use Rattle.board_core.specs.Castling.{has_any_right}
 use Rattle.board_core.specs.ComputedMoves.{count_of_men, is_capture, legal_moves, position_after}
@@ -21,7 +20,6 @@ use Rattle.judge_core.specs.MoreTables.{GamesDependOnRulings, MoreTablesAnswerTh
 use Rattle.judge_core.specs.Probing.{wdl_of}
 use Rattle.judge_core.specs.Root.{move_rank, rank_cmp, root_move_at, root_move_by, root_moves, root_moves_by}
 use Rattle.judge_core.specs.Ruling.{is_out_of_scope, ruling}
-use Rattle.judge_core.specs.Tables.{Tables}
 use Rattle.judge_core.specs.Values.{Reading}
 use Rattle.table_folder.specs.Laws.{SettledGamesAreAsWhole, SettledMovesAreAsWhole}
 use Rattle.table_folder.specs.Settled.{IsPly}

@@ -4,8 +4,9 @@ use Rattle.std.specs.Prelude.{◌≡◌, ◌<◌, ℕ, IsFalse, List, Some}
 use Rattle.board_core.specs.declared.moves.Move.{Move}
 use Rattle.board_core.specs.declared.parts.Parts.{Parts}
 use Rattle.board_core.specs.Position.{IsPosition}
-use Rattle.system_io.specs.Disks.{DiskFacts}
+use Rattle.system_io.specs.Disks.{DiskFacts, HoldsOne}
 use Rattle.table_file.specs.declared.kind.TableKind.{TableKind}
+use Rattle.table_file.specs.Names.{file_name}
 use Rattle.table_file.specs.Tables.{Contents}
 use Rattle.judge_core.specs.declared.game.GameOutcome.{GameOutcome}
 use Rattle.judge_core.specs.declared.probe_result.ProbeResult.{ProbeResult}
@@ -18,8 +19,9 @@ use Rattle.judge_core.specs.Root.{IsRoot}
 use Rattle.judge_core.specs.Ruling.{is_out_of_scope, ruling}
 use Rattle.judge_core.specs.Standings.{IsAt, Reached}
 use Rattle.judge_core.specs.Tables.{Tables, table_at}
-use Rattle.table_folder.specs.Folders.{AreOf, Folder, IsTableOf}
-use Rattle.table_folder.specs.Settled.{AreSettled, IsPly, IsSettled, IsWithMoves}
+use Rattle.table_folder.specs.declared.fault.FileRefusal.{FileRefusal}
+use Rattle.table_folder.specs.Folders.{AreOf, Folder, HasTable, IsTableOf}
+use Rattle.table_folder.specs.Settled.{AreSettled, IsPly, IsRefusedAt, IsSettled, IsWithMoves, Misses}
 
 -- the set of the whole folder: each table of the folder, as its file says it, and no other
 pub record IsWhole (disk : DiskFacts) (folder : Folder) (whole : Tables) : Type 0 where
@@ -67,3 +69,20 @@ abbrev pub SettledGamesAreAsWhole : DiskFacts → Type 0
 SettledGamesAreAsWhole disk =
     (folder : Folder) (tables whole : Tables) (start : Parts) (moves : List Move) (delay : ℕ) → AreOf disk folder tables → IsWhole disk folder whole
     → AreSettled folder tables (IsPly start moves) → JudgesAlike tables whole start moves delay
+
+-- ---- refusals
+
+-- a refused file is needed: it is that of a table of the folder which a position misses even by the whole folder
+pub record IsNeeded (folder : Folder) (whole : Tables) (p : Parts) (refusal : FileRefusal) : Type 0 where
+  pub kind : TableKind
+  pub key : ℕ
+  pub known : key < 145
+  pub name : refusal.name.bytes ≡ file_name kind key
+  pub has : HasTable folder kind key
+  pub misses : Misses whole p kind key
+
+-- a position is refused rightly, on a disk whose files hold one thing
+abbrev pub RefusedIsNeeded : DiskFacts → Type 0
+RefusedIsNeeded disk =
+    HoldsOne disk → (folder : Folder) (whole : Tables) (p : Parts) (refusal : FileRefusal) → IsWhole disk folder whole → IsRefusedAt disk folder p refusal
+    → IsNeeded folder whole p refusal

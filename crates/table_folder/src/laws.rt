@@ -1,6 +1,6 @@
 //! Laws over the definitions of specs/, for proofs above: each function carries one law, over any disk, and does nothing.
 
-ghost use Rattle.table_folder.specs.Laws.{SettledGamesAreAsWhole, SettledIsAsWhole, SettledMovesAreAsWhole, WholeIsOne};
+ghost use Rattle.table_folder.specs.Laws.{RefusedIsNeeded, SettledGamesAreAsWhole, SettledIsAsWhole, SettledMovesAreAsWhole, WholeIsOne};
 
 use board_core::laws::{
     capture_takes_one_man, other_move_keeps_the_men, position_after_is_computed,
@@ -42,6 +42,14 @@ pub fn settled_games_are_as_whole<D: Disk>(_disk: &D)
     ensures { SettledGamesAreAsWhole (D.facts _disk.now) }
 {
     games_depend_on_rulings();
+    more_tables_answer_the_same();
+    what_is_missing_stays_missing();
+}
+
+/// A file that is refused is needed, where each file holds one thing: by all tables of the folder the position misses its table.
+pub fn refused_is_needed<D: Disk>(_disk: &D)
+    ensures { RefusedIsNeeded (D.facts _disk.now) }
+{
     more_tables_answer_the_same();
     what_is_missing_stays_missing();
 }
