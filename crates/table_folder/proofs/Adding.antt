@@ -21,7 +21,7 @@ use Rattle.judge_core.specs.declared.fault.SetFault.TheVariants.{Duplicate, OutO
 use Rattle.table_folder.specs.declared.fault.FileFault.TheVariants.{Changed}
 use Rattle.table_folder.specs.Folders.{AreOf, Folder, HasTable, IsTableOf, NotListed, NotRead, Read, Says, digest_in, found_in, found_table}
 use Rattle.table_folder.specs.Inside.{AddsTable, IsOneMoreOf, IsRefusalOf, MissesBy}
-use Rattle.table_folder.specs.Settled.{IsRefusedAt}
+use Rattle.table_folder.specs.Settled.{ComesInTurn, IsRefusedAt}
 use Rattle.table_folder.specs.declared.fault.FileRefusal.{FileRefusal}
 use Rattle.table_folder.proofs.Probed.{misses_at}
 use Rattle.board_core.specs.declared.parts.Parts.{Parts}
@@ -44,8 +44,8 @@ table_in t (Some digest) name bytes e = table_from_held t (contents_at name byte
 -- a table has the kind and the material of its file's name
 pub titled : ReadsWhatIsLaidOut → NamesDiffer → (disk : DiskFacts) (folder : Folder) (kind : TableKind) (key : ℕ) (t : Contents) → key < 145 → Says disk folder (file_name kind key) (Ok t) → (t.kind ≡ kind) × (t.material ≡ key)
 titled reads differ disk folder kind key t known (NotListed none e) = absurd cc
-titled reads differ disk folder kind key t known (NotRead fails e) = absurd cc
-titled reads differ disk folder kind key t known (Read bytes held e) =
+titled reads differ disk folder kind key t known (NotRead listed fails e) = absurd cc
+titled reads differ disk folder kind key t known (Read listed bytes held e) =
     let layout = (reads (file_name kind key) bytes t).0 (table_in t (digest_in folder.manifest (file_name kind key)) (file_name kind key) bytes e) in
     let same = differ kind t.kind key t.material known layout.head.known layout.head.named in
     (sym same.0, sym same.1)
@@ -116,8 +116,8 @@ one_more_after keeps disk folder old mid new probed kind key known same missing 
     one_more_of keeps disk folder old.tables new kind key known (rw before at missing).0 has are (rw before at adds)
 
 -- a refusal after a look at a set that stayed
-pub refused_after : (disk : DiskFacts) (folder : Folder) (old mid new : Holding) (p : Parts) (probed : ProbeResult) (kind : TableKind) {key : ℕ} (refusal : FileRefusal) → key < 145 → mid ≡ old → new ≡ mid → IsProbed old.tables p probed → MissesBy mid.tables probed kind key → HasTable folder kind key → AreOf disk folder old.tables → IsRefusalOf disk folder kind key refusal → (new.tables ≡ old.tables) × IsRefusedAt disk folder p refusal
-refused_after disk folder old mid new p probed kind {key = key} refusal known same kept told missing has are refused = let before = ap (λ s. s.tables) same in (
+pub refused_after : (disk : DiskFacts) (folder : Folder) (old mid new : Holding) (p : Parts) (probed : ProbeResult) (kind : TableKind) {key : ℕ} (refusal : FileRefusal) → key < 145 → mid ≡ old → new ≡ mid → IsProbed old.tables p probed → MissesBy mid.tables probed kind key → HasTable folder kind key → ComesInTurn folder mid.tables kind key → AreOf disk folder old.tables → IsRefusalOf disk folder kind key refusal → (new.tables ≡ old.tables) × IsRefusedAt disk folder p refusal
+refused_after disk folder old mid new p probed kind {key = key} refusal known same kept told missing has in_turn are refused = let before = ap (λ s. s.tables) same in (
   ap (λ s. s.tables) (kept ∙ same),
   record {
     tables = old.tables;
@@ -127,6 +127,7 @@ refused_after disk folder old mid new p probed kind {key = key} refusal known sa
     known = known;
     misses = misses_at old.tables p probed kind key told (rw before at missing);
     has = has;
+    in_turn = rw before at in_turn;
     name = refused.name;
     says = refused.says;
   },

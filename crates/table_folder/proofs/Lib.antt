@@ -4,3 +4,7 @@ pub mod Probed
 pub mod Adding
 pub mod Staying
 pub mod Walking
+pub mod Whole
+pub mod WholeMoves
+pub mod ValueFirst
+pub mod Needed

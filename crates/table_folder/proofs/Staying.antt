@@ -16,7 +16,7 @@ use Rattle.judge_core.specs.Tables.{Tables, table_at}
 use Rattle.table_folder.specs.Folders.{AreOf, Folder, HasTable}
 use Rattle.table_folder.specs.Settled.{IsSettled}
 
-there_or_not : {X : Type 0} (x : Option X) → (x ≡ None) ⊎ ((t : X) × (x ≡ Some t))
+pub there_or_not : {X : Type 0} (x : Option X) → (x ≡ None) ⊎ ((t : X) × (x ≡ Some t))
 there_or_not None = inl refl
 there_or_not (Some t) = inr (t, refl)
 

@@ -63,11 +63,11 @@ IsNamed (Some manifest) names name = IsSome (digest_in (Some manifest) name)
 abbrev pub HasTable : Folder → TableKind → ℕ → Type 0
 HasTable folder kind key = IsNamed folder.manifest folder.names (file_name kind key)
 
--- what the folder's file of a name says: it isn't listed, or it can't be read, or its bytes say it
+-- what the folder's file of a name says: it isn't listed, or it is and can't be read, or its bytes say it
 pub data Says (disk : DiskFacts) (folder : Folder) (name : List ℕ) (found : Found) : Type 0 where
   NotListed : (Contains folder.names name → ⊥) → found ≡ Err Missing → Says disk folder name found
-  NotRead : disk.fails (AtFile (path_in folder.path name)) → found ≡ Err Unreadable → Says disk folder name found
-  Read : (bytes : List ℕ) → disk.holds (path_in folder.path name) bytes → found ≡ found_in (digest_in folder.manifest name) name bytes → Says disk folder name found
+  NotRead : Contains folder.names name → disk.fails (AtFile (path_in folder.path name)) → found ≡ Err Unreadable → Says disk folder name found
+  Read : Contains folder.names name → (bytes : List ℕ) → disk.holds (path_in folder.path name) bytes → found ≡ found_in (digest_in folder.manifest name) name bytes → Says disk folder name found
 
 -- a table of the folder, as its file says it
 pub record IsTableOf (disk : DiskFacts) (folder : Folder) (kind : TableKind) (key : ℕ) (t : Contents) : Type 0 where

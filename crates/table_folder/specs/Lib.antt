@@ -1,4 +1,5 @@
 pub mod Faults
 pub mod Folders
 pub mod Settled
+pub mod Laws
 pub mod Inside

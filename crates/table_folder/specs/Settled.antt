@@ -6,7 +6,7 @@ use Rattle.board_core.specs.ComputedMoves.{legal_moves, position_after}
 use Rattle.board_core.specs.declared.parts.Parts.{Parts}
 use Rattle.system_io.specs.Disks.{DiskFacts}
 use Rattle.table_file.specs.declared.kind.TableKind.{TableKind}
-use Rattle.table_file.specs.declared.kind.TableKind.TheVariants.{Wdl}
+use Rattle.table_file.specs.declared.kind.TableKind.TheVariants.{Wdl, Dtz}
 use Rattle.table_file.specs.Names.{file_name}
 use Rattle.judge_core.specs.declared.fault.ValueFault.TheVariants.{NotCovered}
 use Rattle.judge_core.specs.Distances.{dtz_of}
@@ -38,6 +38,10 @@ IsPly start (m ∷ moves) p = (p ≡ start) ⊎ ((next : Parts) × (position_aft
 abbrev pub IsWithMoves : Parts → Parts → Type 0
 IsWithMoves position p = (p ≡ position) ⊎ ((m : Move) × Contains (legal_moves position) m × (position_after position m ≡ Some p))
 
+-- of a material the WDL table comes first: it is open, or the folder has none
+abbrev pub ComesInTurn : Folder → Tables → TableKind → ℕ → Type 0
+ComesInTurn folder tables kind key = kind ≡ Dtz → table_at tables Wdl key ≡ None → HasTable folder Wdl key → ⊥
+
 -- a position misses a table of the folder, by tables of this, whose file says why it is none
 pub record IsRefusedAt (disk : DiskFacts) (folder : Folder) (p : Parts) (refusal : FileRefusal) : Type 0 where
   pub tables : Tables
@@ -47,6 +51,7 @@ pub record IsRefusedAt (disk : DiskFacts) (folder : Folder) (p : Parts) (refusal
   pub known : key < 145
   pub misses : Misses tables p kind key
   pub has : HasTable folder kind key
+  pub in_turn : ComesInTurn folder tables kind key
   pub name : refusal.name.bytes ≡ file_name kind key
   pub says : Says disk folder (file_name kind key) (Err refusal.fault)
 

@@ -136,6 +136,7 @@ impl<'r, D: Disk> TableFolder<'r, D> {
         alloc: Global,
         listed: &FileName,
     ) -> Result<Result<Vec<u8>, FileFault>, AllocError>
+        requires { Contains self.now.folder.names listed.now }
         ensures held { IfOk result (λ found. IfOk found (λ bytes. (D.facts self.now.disk).holds (path_in self.now.folder.path listed.now) bytes.items)) }
         ensures found { IfOk result (λ found. IfOk found (λ bytes. found_in (digest_in self.now.folder.manifest listed.now) listed.now bytes.items ≡ found_table (contents_at listed.now bytes.items))) }
         ensures fault { IfOk result (λ found. IfErr found (λ fault. Says (D.facts self.now.disk) self.now.folder listed.now (Err fault))) }
@@ -180,6 +181,7 @@ impl<'r, D: Disk> TableFolder<'r, D> {
         alloc: Global,
         listed: &FileName,
     ) -> Result<Result<Table<'r>, FileFault>, AllocError>
+        requires { Contains self.now.folder.names listed.now }
         ensures { IfOk result (Says (D.facts self.now.disk) self.now.folder listed.now) }
     {
         match self.bytes_of(alloc, listed)? {

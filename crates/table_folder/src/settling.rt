@@ -7,7 +7,7 @@ ghost use Rattle.judge_core.specs.Ruling.{ruling};
 ghost use Rattle.judge_core.specs.Tables.{table_at};
 ghost use Rattle.table_file.specs.declared.kind.TableKind.{TableKind};
 ghost use Rattle.table_folder.specs.Folders.{AreOf, HasTable};
-ghost use Rattle.table_folder.specs.Settled.{IsRefusedAt, IsSettled};
+ghost use Rattle.table_folder.specs.Settled.{ComesInTurn, IsRefusedAt, IsSettled};
 ghost use Rattle.table_folder.specs.Inside.{AddsTable, IsLook, IsRefusalOf, MissesBy};
 
 use crate::fault::FileRefusal;
@@ -60,6 +60,7 @@ impl<'r, D: Disk> TableFolder<'r, D> {
     /// The kind of the table that a distance misses, where the folder has one for the material and the set lacks it.
     fn missing_kind(&self, set: &Set<'_>, material: &Material) -> Option<TableKind>
         ensures some { IfSome result (λ kind. (table_at set.now.tables kind material.now ≡ None) × HasTable self.now.folder kind material.now) }
+        ensures in_turn { IfSome result (λ kind. ComesInTurn self.now.folder set.now.tables kind material.now) }
         ensures none { IfNone result ((kind : TableKind) → table_at set.now.tables kind material.now ≡ None → HasTable self.now.folder kind material.now → ⊥) }
     {
         if self.lacks(set, TableKind::Wdl, material) {
@@ -74,6 +75,7 @@ impl<'r, D: Disk> TableFolder<'r, D> {
     /// The table that both probes miss by what they tell, where the folder has it and the set lacks it.
     fn missing(&self, set: &Set<'_>, probed: &ProbeResult) -> Option<MissingTable>
         ensures some { IfSome result (λ found. MissesBy set.now.tables probed.now found.kind found.material × HasTable self.now.folder found.kind found.material) }
+        ensures in_turn { IfSome result (λ found. ComesInTurn self.now.folder set.now.tables found.kind found.material) }
         ensures none { IfNone result ((kind : TableKind) (key : ℕ) → MissesBy set.now.tables probed.now kind key → HasTable self.now.folder kind key → ⊥) }
     {
         if let Err(ProbeFault::NotCovered(material)) = probed.wdl {

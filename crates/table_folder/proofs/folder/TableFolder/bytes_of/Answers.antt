@@ -13,4 +13,4 @@ returns-else-eq-clause-fault g c =
     let held = subst (λ v. (g.D.Disk.facts v.disk).holds (path_in v.folder.path c.args.listed.now) bytes) c.self.view_is named in
     let digest = ap (digest_in c.args.self.now.folder.manifest) (sym c.as_str.ensures.text) ∙ sym c.digest.ensures ∙ c.in-Some.is in
     let other = ap (λ d. bytes_eq d c.in-Some.digest) (ap sha256 (sym c.deref.ensures.value) ∙ sym c.file_digest.ensures.is) ∙ sym c.eq.ensures ∙ c.if-eq.false in
-    Read bytes held (changed_is _ _ _ _ digest other)
+    Read c.requires bytes held (changed_is _ _ _ _ digest other)

@@ -12,4 +12,4 @@ returns-in-Err-clause-look g c =
     let same = rw c.in-Err.is at c.in_ok-add.ensures.unchanged in
     let refused = rw c.in-Err.is at c.in_ok-add.ensures.refused in
     let missing = c.in-Some.ensures.some in
-    refused_after _ _ _ _ _ _ _ _ _ c.add.ensures.known c.in_ok-columns.ensures.unchanged same c.in_ok-columns.ensures.told missing.0 missing.1 c.requires refused
+    refused_after _ _ _ _ _ _ _ _ _ c.add.ensures.known c.in_ok-columns.ensures.unchanged same c.in_ok-columns.ensures.told missing.0 missing.1 c.in-Some.ensures.in_turn c.requires refused

@@ -7,4 +7,4 @@ pub returns-in-Ok : goal.returns-in-Ok
 returns-in-Ok g c =
     let held = rw c.in-Ok.is at c.in_ok-bytes.ensures.held in
     let found = rw c.in-Ok.is at c.in_ok-bytes.ensures.found in
-    IfOk-weaker c.keep.result _ _ (λ r e. Read c.in-Ok.bytes.items held (rw (c.as_str.ensures.text, c.deref.ensures.value) at e ∙ sym found)) c.keep.ensures
+    IfOk-weaker c.keep.result _ _ (λ r e. Read c.requires c.in-Ok.bytes.items held (rw (c.as_str.ensures.text, c.deref.ensures.value) at e ∙ sym found)) c.keep.ensures

@@ -1,0 +1,129 @@
+-- Root moves and games by the whole folder.
+use Rattle.std.proofs.Common.{◌≡◌, ◌≤◌, ℕ, zero, suc, nat_lt, Bool, true, false, ◌||◌, List, [], ◌∷◌, filter_map, fold, take, Option, Some, None, option_map, refl, sym, ap, subst, ◌∙◌, inl, inr, arith}
+use Rattle.std.proofs.lemmas.Bool.{le-ltb, ltb-false, or_parts}
+use Rattle.std.proofs.lemmas.List.Elements.{Contains-append_right}
+use Rattle.std.specs.List.{Contains, cons_option}
+use Rattle.std.specs.List.Sorted.{IsPermutation, IsStableByKey}
+use Rattle.std.specs.Option.{option_and_then}
+use Rattle.board_core.specs.declared.parts.Parts.{Parts}
+use Rattle.board_core.specs.declared.moves.Move.{Move}
+use Rattle.board_core.specs.Castling.{has_any_right}
+use Rattle.board_core.specs.ComputedMoves.{count_of_men, is_capture, legal_moves, position_after}
+use Rattle.board_core.specs.Laws.{CaptureTakesOneMan, OtherMoveKeepsTheMen, PositionAfterIsComputed}
+use Rattle.board_core.specs.Moves.{Legal, after, rights_after}
+use Rattle.board_core.specs.Position.{IsPosition}
+use Rattle.system_io.specs.Disks.{DiskFacts}
+use Rattle.judge_core.specs.declared.root_move.RootMove.{RootMove}
+use Rattle.judge_core.specs.Distances.{Reach, dtz_of}
+use Rattle.judge_core.specs.Games.{position_after_all}
+use Rattle.judge_core.specs.MoreTables.{GamesDependOnRulings, MoreTablesAnswerTheSame, WhatIsMissingStaysMissing}
+use Rattle.judge_core.specs.Probing.{wdl_of}
+use Rattle.judge_core.specs.Root.{move_rank, rank_cmp, root_move_at, root_move_by, root_moves, root_moves_by}
+use Rattle.judge_core.specs.Ruling.{is_out_of_scope, ruling}
+use Rattle.judge_core.specs.Values.{Reading}
+use Rattle.table_folder.specs.Laws.{SettledGamesAreAsWhole, SettledMovesAreAsWhole}
+use Rattle.table_folder.specs.Settled.{IsPly}
+use Rattle.table_folder.proofs.Whole.{as_whole}
+
+-- ---- a legal move stays in scope
+
+-- the tables' scope: no right to castle, and no more than five men
+scope_parts : (p : Parts) → is_out_of_scope p ≡ false → (has_any_right p.rights ≡ false) × (count_of_men p ≤ 5)
+unfolding is_out_of_scope
+scope_parts p e =
+    let both = or_parts (has_any_right p.rights) (nat_lt 5 (count_of_men p)) e in
+    (both.0, ltb-false 5 (count_of_men p) both.1)
+
+no_rights : (a b c d : Bool) → (a || b || c || d) ≡ false → (a ≡ false) × (b ≡ false) × (c ≡ false) × (d ≡ false)
+no_rights a b c d e =
+    let three = or_parts (a || b || c) d e in
+    let two = or_parts (a || b) c three.0 in
+    let one = or_parts a b two.0 in
+    (one.0, one.1, two.1, three.1)
+
+no_rights_after : (p : Parts) (m : Move) → has_any_right p.rights ≡ false → has_any_right (rights_after p m) ≡ false
+no_rights_after p m e =
+    let none = no_rights p.rights.white_king p.rights.white_queen p.rights.black_king p.rights.black_queen e in
+    rw (none.0, none.1, none.2, none.3) refl
+
+module _ (computed : PositionAfterIsComputed) (takes : CaptureTakesOneMan) (keeps : OtherMoveKeepsTheMen) where
+  no_more_men : (p q : Parts) (m : Move) → IsPosition p → Legal p m q → (b : Bool) → is_capture p m ≡ b → count_of_men q ≤ count_of_men p
+  no_more_men p q m position legal true e = omega (arith, takes p m q position legal e)
+  no_more_men p q m position legal false e = omega (arith, keeps p m q position legal e)
+
+  stays_in_scope : (p q : Parts) (m : Move) → IsPosition p → is_out_of_scope p ≡ false → position_after p m ≡ Some q → is_out_of_scope q ≡ false
+  unfolding is_out_of_scope after
+  stays_in_scope p q m position in_scope plays =
+      let legal = (computed p m q).0 plays in
+      let before = scope_parts p in_scope in
+      let rights = ap (λ (x : Parts). has_any_right x.rights) legal.becomes ∙ no_rights_after p m before.0 in
+      let few = le-ltb 5 (count_of_men q) (omega (arith, before.1, no_more_men p q m position legal (is_capture p m) refl)) in
+      rw (rights, few) refl
+
+-- ---- root moves
+
+module _ (f g : Parts → Reading) (h k : Parts → Reach) (p : Parts) where
+  made_alike : (m : Move) (q : Parts) → f q ≡ g q → h q ≡ k q → root_move_by f h p m q ≡ root_move_by g k p m q
+  made_alike m q value reach =
+      let made : Reading → Reach → RootMove = λ v r. root_move_by (λ _. v) (λ _. r) p m q in
+      ap (λ v. made v (h q)) value ∙ ap (made (g q)) reach
+
+  moves_alike : (ms : List Move) → ((m : Move) (q : Parts) → Contains ms m → position_after p m ≡ Some q → (f q ≡ g q) × (h q ≡ k q)) → filter_map (root_move_at f h p) ms ≡ filter_map (root_move_at g k p) ms
+  moves_alike [] alike = refl
+  moves_alike (m ∷ ms) alike =
+      ap (λ x. cons_option x (filter_map (root_move_at f h p) ms)) (at_position (position_after p m) refl) ∙ ap (cons_option (root_move_at g k p m)) (moves_alike ms (λ other q among. alike other q (Contains-append_right (m ∷ []) ms other among)))
+    where
+      at_position : (o : Option Parts) → position_after p m ≡ o → option_map (root_move_by f h p m) o ≡ option_map (root_move_by g k p m) o
+      at_position None plays = refl
+      at_position (Some q) plays = let both = alike m q (0, omega arith, refl) plays in ap (λ (x : RootMove). Some x) (made_alike m q both.0 both.1)
+
+  roots_alike : ((m : Move) (q : Parts) → Contains (legal_moves p) m → position_after p m ≡ Some q → (f q ≡ g q) × (h q ≡ k q)) → root_moves_by f h p ≡ root_moves_by g k p
+  unfolding root_moves_by
+  roots_alike alike = moves_alike (legal_moves p) alike
+
+pub moves_as_whole : PositionAfterIsComputed → CaptureTakesOneMan → OtherMoveKeepsTheMen → MoreTablesAnswerTheSame → WhatIsMissingStaysMissing → (disk : DiskFacts) → SettledMovesAreAsWhole disk
+moves_as_whole computed takes keeps more missing disk folder tables whole p moves are all position in_scope settled root = record {
+  all = subst (λ xs. IsPermutation xs moves) same root.all;
+  best_first = root.best_first;
+  stable = subst (λ xs. IsStableByKey move_rank rank_cmp xs moves) same root.stable;
+}
+  where
+    alike : (m : Move) (q : Parts) → Contains (legal_moves p) m → position_after p m ≡ Some q → (wdl_of tables q ≡ wdl_of whole q) × (dtz_of tables q ≡ dtz_of whole q)
+    alike m q among plays =
+        let inside = stays_in_scope computed takes keeps p q m position in_scope plays in
+        let answers = as_whole more missing disk folder tables whole q are all (settled q (inr (m, among, plays))) in
+        (sym (answers.value inside), sym (answers.distance inside))
+
+    same : root_moves tables p ≡ root_moves whole p
+    same = roots_alike (wdl_of tables) (wdl_of whole) (dtz_of tables) (dtz_of whole) p alike
+
+-- ---- games
+
+no_position : (moves : List Move) → fold (λ position m. option_and_then (λ p. position_after p m) position) None moves ≡ None
+no_position [] = refl
+no_position (m ∷ moves) = no_position moves
+
+-- where some of the moves lead is a ply of the game
+is_ply : (n : ℕ) (moves : List Move) (start p : Parts) → position_after_all start (take n moves) ≡ Some p → IsPly start moves p
+unfolding position_after_all
+is_ply n [] start p e = here n e
+  where
+    here : (n : ℕ) → position_after_all start (take n []) ≡ Some p → p ≡ start
+    here zero e = let same : start ≡ p = cc in sym same
+    here (suc n) e = let same : start ≡ p = cc in sym same
+is_ply zero (m ∷ moves) start p e = let same : start ≡ p = cc in inl (sym same)
+is_ply (suc n) (m ∷ moves) start p e = by_position (position_after start m) refl (λ next there. is_ply n moves next p there) e
+  where
+    by_position : (o : Option Parts) → position_after start m ≡ o → ((next : Parts) → position_after_all next (take n moves) ≡ Some p → IsPly next moves p) → fold (λ position m. option_and_then (λ p. position_after p m) position) o (take n moves) ≡ Some p → IsPly start (m ∷ moves) p
+    by_position None plays rest none = let nothing = sym (no_position (take n moves)) ∙ none in absurd cc
+    by_position (Some next) plays rest there = inr (next, plays, rest next there)
+
+pub games_as_whole : GamesDependOnRulings → MoreTablesAnswerTheSame → WhatIsMissingStaysMissing → (disk : DiskFacts) → SettledGamesAreAsWhole disk
+games_as_whole depend more missing disk folder tables whole start moves delay are all settled =
+    let alike = depend (record { start = start; tables = tables; delay = delay }) whole moves in record {
+      outcome = λ outcome. alike.0 outcome (λ ply p le plays. ruled ply p plays);
+      standing = λ s. alike.1 s (λ ply p le plays. ruled ply p plays);
+    }
+  where
+    ruled : (ply : ℕ) (p : Parts) → position_after_all start (take ply moves) ≡ Some p → ruling whole p ≡ ruling tables p
+    ruled ply p plays = (as_whole more missing disk folder tables whole p are all (settled p (is_ply ply moves start p plays))).verdict

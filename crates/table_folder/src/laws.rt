@@ -1,0 +1,55 @@
+//! Laws over the definitions of specs/, for proofs above: each function carries one law, over any disk, and does nothing.
+
+ghost use Rattle.table_folder.specs.Laws.{RefusedIsNeeded, SettledGamesAreAsWhole, SettledIsAsWhole, SettledMovesAreAsWhole, WholeIsOne};
+
+use board_core::laws::{
+    capture_takes_one_man, other_move_keeps_the_men, position_after_is_computed,
+};
+use judge_core::laws::{
+    games_depend_on_rulings, more_tables_answer_the_same, what_is_missing_stays_missing,
+};
+use system_io::Disk;
+
+/// A folder has one set of all its tables at most.
+pub fn whole_is_one<D: Disk>(_disk: &D)
+    ensures { WholeIsOne (D.facts _disk.now) }
+{}
+
+/// Where a position misses no table of the folder, its value, its distance, its verdict and its probes are those by all tables of
+/// the folder.
+pub fn settled_is_as_whole<D: Disk>(_disk: &D)
+    ensures { SettledIsAsWhole (D.facts _disk.now) }
+{
+    more_tables_answer_the_same();
+    what_is_missing_stays_missing();
+}
+
+/// Where a position in scope and those after its moves miss no table of the folder, its root moves are those by all tables of the
+/// folder.
+pub fn settled_moves_are_as_whole<D: Disk>(_disk: &D)
+    ensures { SettledMovesAreAsWhole (D.facts _disk.now) }
+{
+    position_after_is_computed();
+    capture_takes_one_man();
+    other_move_keeps_the_men();
+    more_tables_answer_the_same();
+    what_is_missing_stays_missing();
+}
+
+/// Where the positions of a game miss no table of the folder, its outcome, and where it stands, are those by all tables of the
+/// folder.
+pub fn settled_games_are_as_whole<D: Disk>(_disk: &D)
+    ensures { SettledGamesAreAsWhole (D.facts _disk.now) }
+{
+    games_depend_on_rulings();
+    more_tables_answer_the_same();
+    what_is_missing_stays_missing();
+}
+
+/// A file that is refused is needed, where each file holds one thing: by all tables of the folder the position misses its table.
+pub fn refused_is_needed<D: Disk>(_disk: &D)
+    ensures { RefusedIsNeeded (D.facts _disk.now) }
+{
+    more_tables_answer_the_same();
+    what_is_missing_stays_missing();
+}
