@@ -1,5 +1,5 @@
 -- `judge [--tables DIR] [--manifest FILE] [--lazy] FEN`: the verdict on a position (this project's own).
-use Rattle.std.specs.Prelude.{◌≡◌, false, List, [], ◌∷◌, Option, Some, None, codes, option_map}
+use Rattle.std.specs.Prelude.{◌≡◌, ℕ, false, List, [], ◌∷◌, Option, Some, None, codes, option_map}
 use Rattle.board_core.specs.declared.parts.Parts.{Parts}
 use Rattle.judge_core.specs.Ruling.{ruling}
 use Rattle.judge_core.specs.Words.{verdict_words}

@@ -7,11 +7,11 @@ use Rattle.adjudicate_core.proofs.tables.add_files.Goals as goal
 
 pub returns-in-Err-clause-tables : goal.returns-in-Err-clause-tables
 returns-in-Err-clause-tables c =
-    is_refused table_file_of look_at c.args.files.now c.loop-file.file-index c.file-item.result c.loop-file-test.true c.file-item.is _ _ _ _ c.in_ok-found.ensures (rw c.in-Err.is at c.in_ok-add_found.ensures.tables) c.loop-file.invariant.0
+    is_refused table_file_of look_at c.args.files.now c.loop-file.file-index c.file-item.result c.loop-file-test.true c.file-item.is _ _ _ _ (rw (c.as_str.ensures.value, c.deref.ensures.value) at c.in_ok-found.ensures) (rw c.in-Err.is at c.in_ok-add_found.ensures.tables) c.loop-file.invariant.0
 
 pub loop-file-preserved : goal.loop-file-preserved
 loop-file-preserved c =
-    (goes_on table_file_of look_at c.args.files.now c.loop-file.file-index c.file-item.result c.loop-file-test.true c.file-item.is _ _ _ _ c.in_ok-found.ensures (rw c.in-Ok.is at c.in_ok-add_found.ensures.tables) c.loop-file.invariant.0, c.in_ok-add_found.ensures.cache ∙ c.loop-file.invariant.1)
+    (goes_on table_file_of look_at c.args.files.now c.loop-file.file-index c.file-item.result c.loop-file-test.true c.file-item.is _ _ _ _ (rw (c.as_str.ensures.value, c.deref.ensures.value) at c.in_ok-found.ensures) (rw c.in-Ok.is at c.in_ok-add_found.ensures.tables) c.loop-file.invariant.0, c.in_ok-add_found.ensures.cache ∙ c.loop-file.invariant.1)
 
 pub returns-clause-tables : goal.returns-clause-tables
 returns-clause-tables c =
