@@ -1,7 +1,6 @@
 //! `probes`: the values of the positions of the input in tables, a line each.
 
 ghost use Rattle.std.specs.Prelude.{◌≡◌, ◌⊎◌, false, IfOk, OnErr, IfErr};
-ghost use Rattle.table_folder.specs.Folders.{AreOf};
 ghost use Rattle.clap.specs.Words.{first_value, found_of};
 ghost use Rattle.board_core.specs.Position.{IsPosition};
 ghost use Rattle.fen_text.specs.Fen.{SpellsPosition};
@@ -39,6 +38,7 @@ use line_teller::{LineHandler, TellFault};
 use move_msg::Manifest;
 use std::alloc::{AllocError, Global};
 use std::io::Write;
+use std::marker::Model;
 use system_io::{Disk, Input, Output, WriteFault};
 use table_folder::TableFolder;
 use task_files::{InputPaths, Inputs};
@@ -161,7 +161,16 @@ struct FolderProber<'r, D: Disk> {
     folder: TableFolder<'r, D>,
     /// Its tables that are open.
     set: Set<'r>,
-    ghost opened: { AreOf (D.facts folder.disk) folder.folder set.tables },
+}
+
+impl<'r, D: Disk> Model for FolderProber<'r, D> {
+    ghost use Rattle.table_folder.specs.Folders.{AreOf, FolderOn};
+
+    ghost Value = { FolderOn D };
+
+    ghost view = { λ p. p.folder };
+
+    ghost invariant = { λ p. AreOf (D.facts p.folder.disk) p.folder.folder p.set.tables };
 }
 
 impl<'r, D: Disk> FolderProber<'r, D> {
@@ -169,8 +178,8 @@ impl<'r, D: Disk> FolderProber<'r, D> {
     fn columns(&mut self, text: &[u8], position: &Position) -> Result<(Line, bool), AllocError>
         requires spelled { SpellsPosition text.now position.now }
         requires position { IsPosition position.now }
-        ensures told { IfOk result (λ told. TellsByFolder (D.facts self.old.folder.disk) self.old.folder.folder IsSpelledBy (TellsLine Strict) text.now (record { words = words_of told.0; done = told.1 })) }
-        ensures folder { self.new.folder ≡ self.old.folder }
+        ensures told { IfOk result (λ told. TellsByFolder (D.facts self.old.disk) self.old.folder IsSpelledBy (TellsLine Strict) text.now (record { words = words_of told.0; done = told.1 })) }
+        ensures folder { self.new ≡ self.old }
     {
         match self.folder.settle(self.alloc, &mut self.set, position)? {
             Ok(columns) => Ok((Line::Columns(columns), columns.probed.has_both())),
@@ -180,8 +189,8 @@ impl<'r, D: Disk> FolderProber<'r, D> {
 
     /// The answer to a line, and whether it is complete.
     fn answer(&mut self, text: &[u8]) -> Result<(Line, bool), AllocError>
-        ensures told { IfOk result (λ told. TellsByFolder (D.facts self.old.folder.disk) self.old.folder.folder IsSpelledBy (TellsLine Strict) text.now (record { words = words_of told.0; done = told.1 })) }
-        ensures folder { self.new.folder ≡ self.old.folder }
+        ensures told { IfOk result (λ told. TellsByFolder (D.facts self.old.disk) self.old.folder IsSpelledBy (TellsLine Strict) text.now (record { words = words_of told.0; done = told.1 })) }
+        ensures folder { self.new ≡ self.old }
         ensures memory { OnErr result (IsText text.now) }
     {
         match read(text) {
@@ -197,7 +206,7 @@ impl<'r, D: Disk> LineHandler for FolderProber<'r, D> {
     ghost use Rattle.adjudicate_core.specs.Reply.{IsText};
     ghost use Rattle.adjudicate_core.specs.Commands.Probes.{TellsLine};
 
-    ghost tells = { λ p. TellsByFolder (D.facts p.folder.disk) p.folder.folder IsSpelledBy (TellsLine Strict) };
+    ghost tells = { λ p. TellsByFolder (D.facts p.disk) p.folder IsSpelledBy (TellsLine Strict) };
 
     ghost takes_memory = { IsText };
 
@@ -306,7 +315,7 @@ impl<'a> Probes<'a> {
         out: &mut W,
         errors: &mut E,
     ) -> Result<u8, WriteFault>
-        ensures written { PutsByFolder (D.facts place.0.now) place.1.now (told_by place.2.now) IsSpelledBy (TellsLine Strict) IsText (I.facts input.now) (W.contents out.old) (W.contents out.new) result }
+        ensures written { PutsByFolder (D.facts place.entry.0.now) place.entry.1.now (told_by place.entry.2.now) IsSpelledBy (TellsLine Strict) IsText (I.facts input.now) (W.contents out.old) (W.contents out.new) result }
         ensures quiet { self.now.progress ≡ false → errors.new ≡ errors.old }
         ensures cause { OnErr result (HasFailed W.facts) }
     {
