@@ -8,3 +8,4 @@ pub mod Whole
 pub mod WholeMoves
 pub mod ValueFirst
 pub mod Needed
+pub mod WholeThere

@@ -20,9 +20,10 @@
 //!   isn't listed, can't be read, has another digest or is no such table.
 //! - CLAIM: `TableFolder::settle_game`, `TableFolder::settle_moves`, clauses `opened`, `kept`, `settled`, `refused`, `cache`: the same
 //!   for the position at each ply of a game, and for a position and those after its legal moves.
-//! - CLAIM: `laws::settled_is_as_whole`; `laws::settled_moves_are_as_whole`; `laws::settled_games_are_as_whole`; `laws::whole_is_one`:
-//!   where no table of the folder is missing, value, distance, probes, verdict, root moves, the outcome of a game and where it stands
-//!   are those by the set of all tables of the folder. There is one such set at most.
+//! - CLAIM: `laws::settled_is_as_whole`; `laws::settled_moves_are_as_whole`; `laws::settled_games_are_as_whole`; `laws::whole_is_one`;
+//!   `laws::whole_is_there`: where no table of the folder is missing, value, distance, probes, verdict, root moves, the outcome of a
+//!   game and where it stands are those by the set of all tables of the folder. There is one such set at most, and there is one where
+//!   each file of a table says one thing.
 //! - CLAIM: `laws::refused_is_needed`: by the set of all tables of the folder the position misses the table of a file that is refused,
 //!   where each file holds one thing. So no file is refused that no position needs.
 //! - CLAIM: `FileFault::name`: as text.
