@@ -3,6 +3,7 @@ pub mod Saying
 pub mod Probed
 pub mod Adding
 pub mod Staying
+pub mod Only
 pub mod Walking
 pub mod Whole
 pub mod WholeMoves
