@@ -74,8 +74,8 @@ none_of disk folder = record {
 }
 
 -- one table more of the folder
-pub one_more_of : AddingKeepsTheRest → (disk : DiskFacts) (folder : Folder) (old new : Tables) (p : Parts) (kind : TableKind) (key : ℕ) → key < 145 → Misses old p kind key → HasTable folder kind key → AreOf disk folder old → AddsTable disk folder old new kind key → IsOneMoreOf disk folder old new p
-one_more_of keeps disk folder old new p kind key known misses has are adds =
+pub one_more_of : AddingKeepsTheRest → (disk : DiskFacts) (folder : Folder) (old new : Tables) (p : Parts) (kind : TableKind) (key : ℕ) → key < 145 → Misses old p kind key → ComesInTurn folder old kind key → HasTable folder kind key → AreOf disk folder old → AddsTable disk folder old new kind key → IsOneMoreOf disk folder old new p
+one_more_of keeps disk folder old new p kind key known misses in_turn has are adds =
     let lacks = misses.1 in
     let fits : slot kind key < length old = omega (arith, slot_below kind key known, are.slots) in
     rw adds.put (record {
@@ -100,7 +100,7 @@ one_more_of keeps disk folder old new p kind key known misses has are adds =
     is_missed : (other : TableKind) (k : ℕ) → k < 145 → slot other k ≡ slot kind key → IsMissedFor disk folder (λ q. q ≡ p) other k
     is_missed other k lt same =
         let both = slots_differ other kind k key lt known same in
-        rw (both.0, both.1) (record { position = p; needed = refl; tables = old; opened = are; misses = misses })
+        rw (both.0, both.1) (record { position = p; needed = refl; tables = old; opened = are; misses = misses; in_turn = in_turn })
 
     is_new : (other : TableKind) (k : ℕ) (t : Contents) → k < 145 → slot other k ≡ slot kind key → slot kind key < length old → table_at (set old (slot kind key) (Some adds.table)) other k ≡ Some t → IsTableOf disk folder other k t
     is_new other k t lt same fits there =
@@ -122,10 +122,10 @@ taken (Err Duplicate) tables kind other key k a b lacks twice memory added =
 taken (Err OutOfMemory) tables kind other key k a b lacks twice memory added = absurd (memory refl)
 
 -- a table more after a look at a set that stayed
-pub one_more_after : AddingKeepsTheRest → (disk : DiskFacts) (folder : Folder) (old mid : Holding) (new : Tables) (p : Parts) (probed : ProbeResult) (kind : TableKind) (key : ℕ) → key < 145 → mid ≡ old → IsProbed old.tables p probed → MissesBy mid.tables probed kind key → HasTable folder kind key → AreOf disk folder old.tables → AddsTable disk folder mid.tables new kind key → IsOneMoreOf disk folder old.tables new p
-one_more_after keeps disk folder old mid new p probed kind key known same told missing has are adds =
+pub one_more_after : AddingKeepsTheRest → (disk : DiskFacts) (folder : Folder) (old mid : Holding) (new : Tables) (p : Parts) (probed : ProbeResult) (kind : TableKind) (key : ℕ) → key < 145 → mid ≡ old → IsProbed old.tables p probed → MissesBy mid.tables probed kind key → ComesInTurn folder mid.tables kind key → HasTable folder kind key → AreOf disk folder old.tables → AddsTable disk folder mid.tables new kind key → IsOneMoreOf disk folder old.tables new p
+one_more_after keeps disk folder old mid new p probed kind key known same told missing in_turn has are adds =
     let before = ap (λ s. s.tables) same in
-    one_more_of keeps disk folder old.tables new p kind key known (misses_at old.tables p probed kind key told (rw before at missing)) has are (rw before at adds)
+    one_more_of keeps disk folder old.tables new p kind key known (misses_at old.tables p probed kind key told (rw before at missing)) (rw before at in_turn) has are (rw before at adds)
 
 -- a refusal after a look at a set that stayed
 pub refused_after : (disk : DiskFacts) (folder : Folder) (old mid new : Holding) (p : Parts) (probed : ProbeResult) (kind : TableKind) {key : ℕ} (refusal : FileRefusal) → key < 145 → mid ≡ old → new ≡ mid → IsProbed old.tables p probed → MissesBy mid.tables probed kind key → HasTable folder kind key → ComesInTurn folder mid.tables kind key → AreOf disk folder old.tables → IsRefusalOf disk folder kind key refusal → (new.tables ≡ old.tables) × IsRefusedAt disk folder p refusal

@@ -34,4 +34,5 @@ adds_wider old new wider only kind key known none some =
       tables = missed.tables;
       opened = missed.opened;
       misses = missed.misses;
+      in_turn = missed.in_turn;
     }

@@ -22,6 +22,10 @@ Misses tables p kind key =
     (is_out_of_scope p ≡ false) × (table_at tables kind key ≡ None)
     × ((kind ≡ Wdl) × (wdl_of tables p ≡ Err (NotCovered key)) ⊎ (dtz_of tables p ≡ Err (NotCovered key)))
 
+-- of a material the WDL table comes first: it is open, or the folder has none
+abbrev pub ComesInTurn : Folder → Tables → TableKind → ℕ → Type 0
+ComesInTurn folder tables kind key = kind ≡ Dtz → table_at tables Wdl key ≡ None → HasTable folder Wdl key → ⊥
+
 -- of the tables that a position misses the folder has none
 abbrev pub IsSettled : Folder → Tables → Parts → Type 0
 IsSettled folder tables p = (kind : TableKind) (key : ℕ) → Misses tables p kind key → HasTable folder kind key → ⊥
@@ -37,10 +41,6 @@ IsPly start (m ∷ moves) p = (p ≡ start) ⊎ ((next : Parts) × (position_aft
 -- a position, or the one after a legal move of it
 abbrev pub IsWithMoves : Parts → Parts → Type 0
 IsWithMoves position p = (p ≡ position) ⊎ ((m : Move) × Contains (legal_moves position) m × (position_after position m ≡ Some p))
-
--- of a material the WDL table comes first: it is open, or the folder has none
-abbrev pub ComesInTurn : Folder → Tables → TableKind → ℕ → Type 0
-ComesInTurn folder tables kind key = kind ≡ Dtz → table_at tables Wdl key ≡ None → HasTable folder Wdl key → ⊥
 
 -- a position misses a table of the folder, by tables of this, whose file says why it is none
 pub record IsRefusedAt (disk : DiskFacts) (folder : Folder) (p : Parts) (refusal : FileRefusal) : Type 0 where
@@ -62,6 +62,7 @@ pub record IsMissedFor (disk : DiskFacts) (folder : Folder) (IsNeeded : Parts �
   pub tables : Tables
   pub opened : AreOf disk folder tables
   pub misses : Misses tables position kind key
+  pub in_turn : ComesInTurn folder tables kind key
 
 -- each table that the second set has and the first lacks is missed at a needed position
 abbrev pub AddsOnlyMissed : DiskFacts → Folder → (Parts → Type 0) → Tables → Tables → Type 0

@@ -2,7 +2,7 @@ use Rattle.std.proofs.Common.{◌≡◌, ◌∷◌, ◌++◌, [], take, ap, sym,
 use Rattle.std.proofs.lemmas.List.{take_all, take_more}
 use Rattle.table_folder.specs.Settled.{IsSettled}
 use Rattle.table_folder.proofs.Only.{adds_more, adds_none}
-use Rattle.table_folder.proofs.Walking.{HasDone, all_done, one_more_done, only_after}
+use Rattle.table_folder.proofs.Walking.{HasDone, all_done, one_more_done, only_after, only_there}
 use Rattle.table_folder.proofs.folder.TableFolder.settle_moves.Goals as goal
 
 pub loop-m-preserved-in_default-play : goal.loop-m-preserved-in_default-play
@@ -43,3 +43,9 @@ returns-in-Err-2-clause-only g c =
 
 pub returns-clause-settled : goal.returns-clause-settled
 returns-clause-settled g c = all_done _ (take_all c.loop-m.m-index _ c.loop-m-test.false ∙ c.deref-m-items.ensures.value ∙ c.in_ok-legal.ensures.computed) c.loop-m.invariant.0
+
+pub returns-in-Err-clause-only : goal.returns-in-Err-clause-only
+returns-in-Err-clause-only g c = only_there _ _ c.settle_one.ensures.only
+
+pub returns-in_err-refusal-clause-only : goal.returns-in_err-refusal-clause-only
+returns-in_err-refusal-clause-only g c = only_there _ _ c.settle_one.ensures.only
