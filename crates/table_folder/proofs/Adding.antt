@@ -21,8 +21,9 @@ use Rattle.judge_core.specs.declared.fault.SetFault.TheVariants.{Duplicate, OutO
 use Rattle.table_folder.specs.declared.fault.FileFault.TheVariants.{Changed}
 use Rattle.table_folder.specs.Folders.{AreOf, Folder, HasTable, IsTableOf, NotListed, NotRead, Read, Says, digest_in, found_in, found_table}
 use Rattle.table_folder.specs.Inside.{AddsTable, IsOneMoreOf, IsRefusalOf, MissesBy}
-use Rattle.table_folder.specs.Settled.{ComesInTurn, IsRefusedAt}
+use Rattle.table_folder.specs.Settled.{ComesInTurn, IsMissedFor, IsRefusedAt, Misses}
 use Rattle.table_folder.specs.declared.fault.FileRefusal.{FileRefusal}
+use Rattle.table_folder.proofs.Only.{adds_none}
 use Rattle.table_folder.proofs.Probed.{misses_at}
 use Rattle.board_core.specs.declared.parts.Parts.{Parts}
 use Rattle.judge_core.specs.ProbeResult.{IsProbed}
@@ -73,8 +74,9 @@ none_of disk folder = record {
 }
 
 -- one table more of the folder
-pub one_more_of : AddingKeepsTheRest → (disk : DiskFacts) (folder : Folder) (old new : Tables) (kind : TableKind) (key : ℕ) → key < 145 → table_at old kind key ≡ None → HasTable folder kind key → AreOf disk folder old → AddsTable disk folder old new kind key → IsOneMoreOf disk folder old new
-one_more_of keeps disk folder old new kind key known lacks has are adds =
+pub one_more_of : AddingKeepsTheRest → (disk : DiskFacts) (folder : Folder) (old new : Tables) (p : Parts) (kind : TableKind) (key : ℕ) → key < 145 → Misses old p kind key → ComesInTurn folder old kind key → HasTable folder kind key → AreOf disk folder old → AddsTable disk folder old new kind key → IsOneMoreOf disk folder old new p
+one_more_of keeps disk folder old new p kind key known misses in_turn has are adds =
+    let lacks = misses.1 in
     let fits : slot kind key < length old = omega (arith, slot_below kind key known, are.slots) in
     rw adds.put (record {
       opened = record {
@@ -88,8 +90,18 @@ one_more_of keeps disk folder old new kind key known lacks has are adds =
       kept = (keeps old kind key adds.table lacks fits).kept;
       slots = length-set old (slot kind key) (Some adds.table);
       more = omega (arith, count_more old (slot kind key) adds.table fits lacks);
+      only = λ other k lt none some.
+          elim (cases_eq (slot other k) (slot kind key)) [
+            | inl same ↦ is_missed other k lt same
+            | inr ne ↦ adds_none disk folder (λ q. q ≡ p) old other k lt none (rw (get_or-set_other old (slot kind key) (slot other k) (Some adds.table) None ne) at some)
+          ];
     })
   where
+    is_missed : (other : TableKind) (k : ℕ) → k < 145 → slot other k ≡ slot kind key → IsMissedFor disk folder (λ q. q ≡ p) other k
+    is_missed other k lt same =
+        let both = slots_differ other kind k key lt known same in
+        rw (both.0, both.1) (record { position = p; needed = refl; tables = old; opened = are; misses = misses; in_turn = in_turn })
+
     is_new : (other : TableKind) (k : ℕ) (t : Contents) → k < 145 → slot other k ≡ slot kind key → slot kind key < length old → table_at (set old (slot kind key) (Some adds.table)) other k ≡ Some t → IsTableOf disk folder other k t
     is_new other k t lt same fits there =
         let both = slots_differ other kind k key lt known same in
@@ -110,10 +122,10 @@ taken (Err Duplicate) tables kind other key k a b lacks twice memory added =
 taken (Err OutOfMemory) tables kind other key k a b lacks twice memory added = absurd (memory refl)
 
 -- a table more after a look at a set that stayed
-pub one_more_after : AddingKeepsTheRest → (disk : DiskFacts) (folder : Folder) (old mid : Holding) (new : Tables) (probed : ProbeResult) (kind : TableKind) (key : ℕ) → key < 145 → mid ≡ old → MissesBy mid.tables probed kind key → HasTable folder kind key → AreOf disk folder old.tables → AddsTable disk folder mid.tables new kind key → IsOneMoreOf disk folder old.tables new
-one_more_after keeps disk folder old mid new probed kind key known same missing has are adds =
+pub one_more_after : AddingKeepsTheRest → (disk : DiskFacts) (folder : Folder) (old mid : Holding) (new : Tables) (p : Parts) (probed : ProbeResult) (kind : TableKind) (key : ℕ) → key < 145 → mid ≡ old → IsProbed old.tables p probed → MissesBy mid.tables probed kind key → ComesInTurn folder mid.tables kind key → HasTable folder kind key → AreOf disk folder old.tables → AddsTable disk folder mid.tables new kind key → IsOneMoreOf disk folder old.tables new p
+one_more_after keeps disk folder old mid new p probed kind key known same told missing in_turn has are adds =
     let before = ap (λ s. s.tables) same in
-    one_more_of keeps disk folder old.tables new kind key known (rw before at missing).0 has are (rw before at adds)
+    one_more_of keeps disk folder old.tables new p kind key known (misses_at old.tables p probed kind key told (rw before at missing)) (rw before at in_turn) has are (rw before at adds)
 
 -- a refusal after a look at a set that stayed
 pub refused_after : (disk : DiskFacts) (folder : Folder) (old mid new : Holding) (p : Parts) (probed : ProbeResult) (kind : TableKind) {key : ℕ} (refusal : FileRefusal) → key < 145 → mid ≡ old → new ≡ mid → IsProbed old.tables p probed → MissesBy mid.tables probed kind key → HasTable folder kind key → ComesInTurn folder mid.tables kind key → AreOf disk folder old.tables → IsRefusalOf disk folder kind key refusal → (new.tables ≡ old.tables) × IsRefusedAt disk folder p refusal

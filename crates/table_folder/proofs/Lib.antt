@@ -3,8 +3,10 @@ pub mod Saying
 pub mod Probed
 pub mod Adding
 pub mod Staying
+pub mod Only
 pub mod Walking
 pub mod Whole
 pub mod WholeMoves
 pub mod ValueFirst
 pub mod Needed
+pub mod WholeThere

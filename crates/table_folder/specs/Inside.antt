@@ -16,7 +16,7 @@ use Rattle.table_folder.specs.declared.fault.FileRefusal.{FileRefusal}
 use Rattle.table_folder.specs.declared.settling.Look.{Look}
 use Rattle.table_folder.specs.declared.settling.Look.TheVariants.{Settled, Opened, Refused}
 use Rattle.table_folder.specs.Folders.{AreOf, Folder, Says}
-use Rattle.table_folder.specs.Settled.{IsRefusedAt, IsSettled}
+use Rattle.table_folder.specs.Settled.{AddsOnlyMissed, IsRefusedAt, IsSettled}
 
 -- by what both probes tell, this table is missed
 abbrev pub MissesBy : Tables → ProbeResult → TableKind → ℕ → Type 0
@@ -34,16 +34,17 @@ pub record IsRefusalOf (disk : DiskFacts) (folder : Folder) (kind : TableKind) (
   pub name : refusal.name.bytes ≡ file_name kind key
   pub says : Says disk folder (file_name kind key) (Err refusal.fault)
 
--- one table more of the folder is open
-pub record IsOneMoreOf (disk : DiskFacts) (folder : Folder) (old new : Tables) : Type 0 where
+-- one table more of the folder is open, which this position misses
+pub record IsOneMoreOf (disk : DiskFacts) (folder : Folder) (old new : Tables) (p : Parts) : Type 0 where
   pub opened : AreOf disk folder new
   pub kept : HasAll old new
   pub slots : length new ≡ length old
   pub more : table_count old + 1 ≤ table_count new
+  pub only : AddsOnlyMissed disk folder (λ q. q ≡ p) old new
 
 -- what a look at a position comes to
 abbrev pub IsLook : DiskFacts → Folder → Tables → Tables → Parts → Look → Type 0
 IsLook disk folder old new p (Settled columns) =
     (new ≡ old) × IsProbed old p columns.probed × (columns.verdict ≡ ruling old p) × IsSettled folder old p
-IsLook disk folder old new p Opened = IsOneMoreOf disk folder old new
+IsLook disk folder old new p Opened = IsOneMoreOf disk folder old new p
 IsLook disk folder old new p (Refused refusal) = (new ≡ old) × IsRefusedAt disk folder p refusal

@@ -20,13 +20,19 @@ use Rattle.judge_core.specs.Ruling.{is_out_of_scope, ruling}
 use Rattle.judge_core.specs.Standings.{IsAt, Reached}
 use Rattle.judge_core.specs.Tables.{Tables, table_at}
 use Rattle.table_folder.specs.declared.fault.FileRefusal.{FileRefusal}
-use Rattle.table_folder.specs.Folders.{AreOf, Folder, HasTable, IsTableOf}
+use Rattle.table_folder.specs.Folders.{AreOf, Folder, Found, HasTable, IsTableOf, Says}
 use Rattle.table_folder.specs.Settled.{AreSettled, IsPly, IsRefusedAt, IsSettled, IsWithMoves, Misses}
 
 -- the set of the whole folder: each table of the folder, as its file says it, and no other
 pub record IsWhole (disk : DiskFacts) (folder : Folder) (whole : Tables) : Type 0 where
   pub opened : AreOf disk folder whole
   pub all : (kind : TableKind) (key : ℕ) (t : Contents) → key < 145 → IsTableOf disk folder kind key t → table_at whole kind key ≡ Some t
+
+-- a folder has such a set on a disk that holds one thing at each path, where each file of a table says something, be it why it is none
+abbrev pub WholeIsThere : DiskFacts → Type 0
+WholeIsThere disk =
+    HoldsOne disk → (folder : Folder) → ((kind : TableKind) (key : ℕ) → key < 145 → (found : Found) × Says disk folder (file_name kind key) found)
+    → (whole : Tables) × IsWhole disk folder whole
 
 -- a folder has one such set at most
 abbrev pub WholeIsOne : DiskFacts → Type 0

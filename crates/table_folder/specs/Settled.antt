@@ -1,5 +1,5 @@
 -- Positions at which no table of a folder is missing, and what is refused (this project's own).
-use Rattle.std.specs.Prelude.{◌≡◌, ◌<◌, ◌⊎◌, ℕ, false, List, [], ◌∷◌, Some, None, Err}
+use Rattle.std.specs.Prelude.{◌≡◌, ◌<◌, ◌⊎◌, ℕ, false, List, [], ◌∷◌, Some, None, IsSome, Err}
 use Rattle.std.specs.List.{Contains}
 use Rattle.board_core.specs.declared.moves.Move.{Move}
 use Rattle.board_core.specs.ComputedMoves.{legal_moves, position_after}
@@ -22,6 +22,10 @@ Misses tables p kind key =
     (is_out_of_scope p ≡ false) × (table_at tables kind key ≡ None)
     × ((kind ≡ Wdl) × (wdl_of tables p ≡ Err (NotCovered key)) ⊎ (dtz_of tables p ≡ Err (NotCovered key)))
 
+-- of a material the WDL table comes first: it is open, or the folder has none
+abbrev pub ComesInTurn : Folder → Tables → TableKind → ℕ → Type 0
+ComesInTurn folder tables kind key = kind ≡ Dtz → table_at tables Wdl key ≡ None → HasTable folder Wdl key → ⊥
+
 -- of the tables that a position misses the folder has none
 abbrev pub IsSettled : Folder → Tables → Parts → Type 0
 IsSettled folder tables p = (kind : TableKind) (key : ℕ) → Misses tables p kind key → HasTable folder kind key → ⊥
@@ -38,10 +42,6 @@ IsPly start (m ∷ moves) p = (p ≡ start) ⊎ ((next : Parts) × (position_aft
 abbrev pub IsWithMoves : Parts → Parts → Type 0
 IsWithMoves position p = (p ≡ position) ⊎ ((m : Move) × Contains (legal_moves position) m × (position_after position m ≡ Some p))
 
--- of a material the WDL table comes first: it is open, or the folder has none
-abbrev pub ComesInTurn : Folder → Tables → TableKind → ℕ → Type 0
-ComesInTurn folder tables kind key = kind ≡ Dtz → table_at tables Wdl key ≡ None → HasTable folder Wdl key → ⊥
-
 -- a position misses a table of the folder, by tables of this, whose file says why it is none
 pub record IsRefusedAt (disk : DiskFacts) (folder : Folder) (p : Parts) (refusal : FileRefusal) : Type 0 where
   pub tables : Tables
@@ -54,6 +54,20 @@ pub record IsRefusedAt (disk : DiskFacts) (folder : Folder) (p : Parts) (refusal
   pub in_turn : ComesInTurn folder tables kind key
   pub name : refusal.name.bytes ≡ file_name kind key
   pub says : Says disk folder (file_name kind key) (Err refusal.fault)
+
+-- a needed position misses this table, by tables of the folder
+pub record IsMissedFor (disk : DiskFacts) (folder : Folder) (IsNeeded : Parts → Type 0) (kind : TableKind) (key : ℕ) : Type 0 where
+  pub position : Parts
+  pub needed : IsNeeded position
+  pub tables : Tables
+  pub opened : AreOf disk folder tables
+  pub misses : Misses tables position kind key
+  pub in_turn : ComesInTurn folder tables kind key
+
+-- each table that the second set has and the first lacks is missed at a needed position
+abbrev pub AddsOnlyMissed : DiskFacts → Folder → (Parts → Type 0) → Tables → Tables → Type 0
+AddsOnlyMissed disk folder IsNeeded old new =
+    (kind : TableKind) (key : ℕ) → key < 145 → table_at old kind key ≡ None → IsSome (table_at new kind key) → IsMissedFor disk folder IsNeeded kind key
 
 -- answers by tables of the folder, of which none is missing at the positions that are needed
 pub record AnswersBy (disk : DiskFacts) (folder : Folder) (IsNeeded : Parts → Type 0) (Answers : Tables → Type 0) : Type 0 where

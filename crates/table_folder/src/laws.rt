@@ -1,6 +1,6 @@
 //! Laws over the definitions of specs/, for proofs above: each function carries one law, over any disk, and does nothing.
 
-ghost use Rattle.table_folder.specs.Laws.{RefusedIsNeeded, SettledGamesAreAsWhole, SettledIsAsWhole, SettledMovesAreAsWhole, WholeIsOne};
+ghost use Rattle.table_folder.specs.Laws.{RefusedIsNeeded, SettledGamesAreAsWhole, SettledIsAsWhole, SettledMovesAreAsWhole, WholeIsOne, WholeIsThere};
 
 use board_core::laws::{
     capture_takes_one_man, other_move_keeps_the_men, position_after_is_computed,
@@ -9,6 +9,11 @@ use judge_core::laws::{
     games_depend_on_rulings, more_tables_answer_the_same, what_is_missing_stays_missing,
 };
 use system_io::Disk;
+
+/// A folder has a set of all its tables where each file of a table says one thing, be it why it is none.
+pub fn whole_is_there<D: Disk>(_disk: &D)
+    ensures { WholeIsThere (D.facts _disk.now) }
+{}
 
 /// A folder has one set of all its tables at most.
 pub fn whole_is_one<D: Disk>(_disk: &D)

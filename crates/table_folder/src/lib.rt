@@ -14,15 +14,16 @@
 //!   that the folder lists, with a manifest those that it names. The folder has a table where its manifest names the file, or without
 //!   one where the file is listed. `open_file` gives the table that a file of this name and these bytes is, or why it is none.
 //! - CLAIM: `TableFolder::new_set`, clauses `opened`, `empty`, `cache`: an empty set for the tables of a folder.
-//! - CLAIM: `TableFolder::settle`, clauses `opened`, `kept`, `probed`, `verdict`, `settled`, `refused`, `cache`: the set keeps its tables
-//!   and gets tables of the folder alone, each as its file says it. Then the position misses no table of the folder, and the result
+//! - CLAIM: `TableFolder::settle`, clauses `opened`, `kept`, `only`, `probed`, `verdict`, `settled`, `refused`, `cache`: the set keeps its
+//!   tables and gets tables of the folder alone, each as its file says it, and none that the position doesn't miss. Then the position misses no table of the folder, and the result
 //!   is both probes and the verdict by the set. Or it is the refusal of a table's file: the position misses that table, and the file
 //!   isn't listed, can't be read, has another digest or is no such table.
-//! - CLAIM: `TableFolder::settle_game`, `TableFolder::settle_moves`, clauses `opened`, `kept`, `settled`, `refused`, `cache`: the same
-//!   for the position at each ply of a game, and for a position and those after its legal moves.
-//! - CLAIM: `laws::settled_is_as_whole`; `laws::settled_moves_are_as_whole`; `laws::settled_games_are_as_whole`; `laws::whole_is_one`:
-//!   where no table of the folder is missing, value, distance, probes, verdict, root moves, the outcome of a game and where it stands
-//!   are those by the set of all tables of the folder. There is one such set at most.
+//! - CLAIM: `TableFolder::settle_game`, `TableFolder::settle_moves`, clauses `opened`, `kept`, `only`, `settled`, `refused`, `cache`: the
+//!   same for the position at each ply of a game, and for a position and those after its legal moves.
+//! - CLAIM: `laws::settled_is_as_whole`; `laws::settled_moves_are_as_whole`; `laws::settled_games_are_as_whole`; `laws::whole_is_one`;
+//!   `laws::whole_is_there`: where no table of the folder is missing, value, distance, probes, verdict, root moves, the outcome of a
+//!   game and where it stands are those by the set of all tables of the folder. There is one such set at most, and there is one where
+//!   each file of a table says one thing.
 //! - CLAIM: `laws::refused_is_needed`: by the set of all tables of the folder the position misses the table of a file that is refused,
 //!   where each file holds one thing. So no file is refused that no position needs.
 //! - CLAIM: `FileFault::name`: as text.

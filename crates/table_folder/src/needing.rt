@@ -3,7 +3,7 @@
 ghost use Rattle.std.specs.Prelude.{◌≡◌, IfOk, IfErr};
 ghost use Rattle.judge_core.specs.MoreTables.{HasAll};
 ghost use Rattle.table_folder.specs.Folders.{AreOf};
-ghost use Rattle.table_folder.specs.Settled.{AreSettled, IsPly, IsRefusedAt, IsRefusedFor, IsSettled, IsWithMoves};
+ghost use Rattle.table_folder.specs.Settled.{AddsOnlyMissed, AreSettled, IsPly, IsRefusedAt, IsRefusedFor, IsSettled, IsWithMoves};
 
 use crate::fault::FileRefusal;
 use crate::folder::TableFolder;
@@ -24,6 +24,7 @@ impl<'r, D: Disk> TableFolder<'r, D> {
         requires { AreOf (D.facts self.now.disk) self.now.folder set.old.tables }
         ensures opened { AreOf (D.facts self.now.disk) self.now.folder set.new.tables }
         ensures kept { HasAll set.old.tables set.new.tables }
+        ensures only { AddsOnlyMissed (D.facts self.now.disk) self.now.folder (λ p. p ≡ position.now) set.old.tables set.new.tables }
         ensures settled { IfOk result (λ settled. IfOk settled (λ _. IsSettled self.now.folder set.new.tables position.now)) }
         ensures refused { IfOk result (λ settled. IfErr settled (IsRefusedAt (D.facts self.now.disk) self.now.folder position.now)) }
         ensures cache { set.new.cache ≡ set.old.cache }
@@ -51,6 +52,7 @@ impl<'r, D: Disk> TableFolder<'r, D> {
         requires { AreOf (D.facts self.now.disk) self.now.folder set.old.tables }
         ensures opened { AreOf (D.facts self.now.disk) self.now.folder set.new.tables }
         ensures kept { HasAll set.old.tables set.new.tables }
+        ensures only { AddsOnlyMissed (D.facts self.now.disk) self.now.folder (IsPly start.now moves.now) set.old.tables set.new.tables }
         ensures settled { IfOk result (λ settled. IfOk settled (λ _. AreSettled self.now.folder set.new.tables (IsPly start.now moves.now))) }
         ensures refused { IfOk result (λ settled. IfErr settled (IsRefusedFor (D.facts self.now.disk) self.now.folder (IsPly start.now moves.now))) }
         ensures cache { set.new.cache ≡ set.old.cache }
@@ -80,6 +82,7 @@ impl<'r, D: Disk> TableFolder<'r, D> {
         requires { AreOf (D.facts self.now.disk) self.now.folder set.old.tables }
         ensures opened { AreOf (D.facts self.now.disk) self.now.folder set.new.tables }
         ensures kept { HasAll set.old.tables set.new.tables }
+        ensures only { AddsOnlyMissed (D.facts self.now.disk) self.now.folder (IsWithMoves position.now) set.old.tables set.new.tables }
         ensures settled { IfOk result (λ settled. IfOk settled (λ _. AreSettled self.now.folder set.new.tables (IsWithMoves position.now))) }
         ensures refused { IfOk result (λ settled. IfErr settled (IsRefusedFor (D.facts self.now.disk) self.now.folder (IsWithMoves position.now))) }
         ensures cache { set.new.cache ≡ set.old.cache }

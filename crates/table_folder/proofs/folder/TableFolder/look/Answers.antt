@@ -5,7 +5,7 @@ pub returns-in-Ok-clause-look : goal.returns-in-Ok-clause-look
 returns-in-Ok-clause-look g c =
     let adds = rw c.in-Ok.is at c.in_ok-add.ensures.added in
     let missing = c.in-Some.ensures.some in
-    one_more_after c.adding_keeps_the_rest.ensures _ _ _ _ _ c.in_ok-columns.columns.probed _ _ c.add.ensures.known c.in_ok-columns.ensures.unchanged missing.0 missing.1 c.requires adds
+    one_more_after c.adding_keeps_the_rest.ensures _ _ _ _ _ _ c.in_ok-columns.columns.probed _ _ c.add.ensures.known c.in_ok-columns.ensures.unchanged c.in_ok-columns.ensures.told missing.0 c.in-Some.ensures.in_turn missing.1 c.requires adds
 
 pub returns-in-Err-clause-look : goal.returns-in-Err-clause-look
 returns-in-Err-clause-look g c =

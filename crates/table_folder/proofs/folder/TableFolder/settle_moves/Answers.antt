@@ -1,7 +1,8 @@
 use Rattle.std.proofs.Common.{◌≡◌, ◌∷◌, ◌++◌, [], take, ap, sym, ◌∙◌, subst}
-use Rattle.std.proofs.lemmas.List.{take_more}
+use Rattle.std.proofs.lemmas.List.{take_all, take_more}
 use Rattle.table_folder.specs.Settled.{IsSettled}
-use Rattle.table_folder.proofs.Walking.{HasDone, one_more_done}
+use Rattle.table_folder.proofs.Only.{adds_more, adds_none}
+use Rattle.table_folder.proofs.Walking.{HasDone, all_done, one_more_done, only_after, only_there}
 use Rattle.table_folder.proofs.folder.TableFolder.settle_moves.Goals as goal
 
 pub loop-m-preserved-in_default-play : goal.loop-m-preserved-in_default-play
@@ -10,7 +11,7 @@ loop-m-preserved-in_default-play g c =
     let done = take_more c.deref-m-items.result.now c.loop-m.m-index m c.loop-m-test.true ∙ ap (λ x. take c.loop-m.m-index c.deref-m-items.result.now ++ x ∷ []) (sym c.m-item.is) in
     let none = sym c.play.ensures.computed ∙ c.in_default-play.is in
     let has = c.loop-m.invariant.0 in (
-      subst (HasDone _ _ _ _ _) (sym done) (one_more_done c.more_tables_answer_the_same.ensures c.what_is_missing_stays_missing.ensures _ m has (λ kind key t there. there) has.opened (λ p plays. let e = sym none ∙ plays in absurd cc)),
+      subst (HasDone _ _ _ _ _) (sym done) (one_more_done c.more_tables_answer_the_same.ensures c.what_is_missing_stays_missing.ensures _ m has (λ kind key t there. there) (adds_none _ _ _ _) has.opened (λ p plays. let e = sym none ∙ plays in absurd cc)),
       c.loop-m.invariant.1,
     )
 
@@ -26,6 +27,25 @@ loop-m-preserved g c =
     let done = take_more c.deref-m-items.result.now c.loop-m.m-index m c.loop-m-test.true ∙ ap (λ x. take c.loop-m.m-index c.deref-m-items.result.now ++ x ∷ []) (sym c.m-item.is) in
     let plays = sym c.play.ensures.computed ∙ c.in-Some.is in
     let settled = rw c.in_default-2.is at c.in_ok-refusal-2.ensures.settled in (
-      subst (HasDone _ _ _ _ _) (sym done) (one_more_done c.more_tables_answer_the_same.ensures c.what_is_missing_stays_missing.ensures _ m c.loop-m.invariant.0 c.settle_one-in-loop-m.ensures.kept c.settle_one-in-loop-m.ensures.opened (λ p other. let same = sym plays ∙ other in let one : c.in-Some.next ≡ p = cc in subst (IsSettled c.args.self.now.folder c.settle_one-in-loop-m.new.set.tables) one settled)),
+      subst (HasDone _ _ _ _ _) (sym done) (one_more_done c.more_tables_answer_the_same.ensures c.what_is_missing_stays_missing.ensures _ m c.loop-m.invariant.0 c.settle_one-in-loop-m.ensures.kept (only_after _ _ _ _ _ _ (c.deref-m-items.ensures.value ∙ c.in_ok-legal.ensures.computed) c.loop-m-test.true c.m-item.is plays c.settle_one-in-loop-m.ensures.only) c.settle_one-in-loop-m.ensures.opened (λ p other. let same = sym plays ∙ other in let one : c.in-Some.next ≡ p = cc in subst (IsSettled c.args.self.now.folder c.settle_one-in-loop-m.new.set.tables) one settled)),
       c.settle_one-in-loop-m.ensures.cache ∙ c.loop-m.invariant.1,
     )
+
+pub returns-in_err-refusal-2-clause-only : goal.returns-in_err-refusal-2-clause-only
+returns-in_err-refusal-2-clause-only g c =
+    let plays = sym c.play.ensures.computed ∙ c.in-Some.is in
+    adds_more _ _ _ c.loop-m.invariant.0.only (only_after _ _ _ _ _ _ (c.deref-m-items.ensures.value ∙ c.in_ok-legal.ensures.computed) c.loop-m-test.true c.m-item.is plays c.settle_one-in-loop-m.ensures.only)
+
+pub returns-in-Err-2-clause-only : goal.returns-in-Err-2-clause-only
+returns-in-Err-2-clause-only g c =
+    let plays = sym c.play.ensures.computed ∙ c.in-Some.is in
+    adds_more _ _ _ c.loop-m.invariant.0.only (only_after _ _ _ _ _ _ (c.deref-m-items.ensures.value ∙ c.in_ok-legal.ensures.computed) c.loop-m-test.true c.m-item.is plays c.settle_one-in-loop-m.ensures.only)
+
+pub returns-clause-settled : goal.returns-clause-settled
+returns-clause-settled g c = all_done _ (take_all c.loop-m.m-index _ c.loop-m-test.false ∙ c.deref-m-items.ensures.value ∙ c.in_ok-legal.ensures.computed) c.loop-m.invariant.0
+
+pub returns-in-Err-clause-only : goal.returns-in-Err-clause-only
+returns-in-Err-clause-only g c = only_there _ _ c.settle_one.ensures.only
+
+pub returns-in_err-refusal-clause-only : goal.returns-in_err-refusal-clause-only
+returns-in_err-refusal-clause-only g c = only_there _ _ c.settle_one.ensures.only
