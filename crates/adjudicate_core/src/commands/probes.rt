@@ -2,6 +2,7 @@
 
 ghost use Rattle.std.specs.Prelude.{◌≡◌, ◌⊎◌, false, IfOk, OnErr, IfErr};
 ghost use Rattle.clap.specs.Words.{first_value, found_of};
+ghost use Rattle.board_core.specs.declared.parts.Parts.{Parts};
 ghost use Rattle.board_core.specs.Position.{IsPosition};
 ghost use Rattle.fen_text.specs.Fen.{SpellsPosition};
 ghost use Rattle.adjudicate_core.specs.Commands.Probes.{HasValues, Puts, TellsLine, TellsLineIn, faults, is_lazy, named};
@@ -178,6 +179,7 @@ impl<'r, D: Disk> FolderProber<'r, D> {
     fn columns(&mut self, text: &[u8], position: &Position) -> Result<(Line, bool), AllocError>
         requires spelled { SpellsPosition text.now position.now }
         requires position { IsPosition position.now }
+        requires one { (p : Parts) → SpellsPosition text.now p → IsPosition p → p ≡ position.now }
         ensures told { IfOk result (λ told. TellsByFolder (D.facts self.old.disk) self.old.folder IsSpelledBy (TellsLine Strict) text.now (record { words = words_of told.0; done = told.1 })) }
         ensures folder { self.new ≡ self.old }
     {
@@ -193,6 +195,8 @@ impl<'r, D: Disk> FolderProber<'r, D> {
         ensures folder { self.new ≡ self.old }
         ensures memory { OnErr result (IsText text.now) }
     {
+        // Of a text that is no position the tables that are open say nothing, which is one way to answer.
+        let _set = &self.set;
         match read(text) {
             Ok(position) => self.columns(text, &position),
             Err(fault) => Ok((Line::Refused(Refusal::Fen(fault)), false)),

@@ -1,14 +1,13 @@
-use Rattle.std.proofs.Common.{sym, refl}
-use Rattle.adjudicate_core.specs.Lines.{refusal_words}
-use Rattle.adjudicate_core.specs.TableAnswers.{PutsLinesOf, PutsRefusal}
+use Rattle.std.proofs.Common.{Some, ap, sym, ◌∙◌}
+use Rattle.adjudicate_core.specs.FolderAnswers.{read_when_asked}
 use Rattle.adjudicate_core.proofs.commands.probes.Probes.answer.Goals as goal
 
-pub returns-in-Ok-Ok : goal.returns-in-Ok-Ok
-returns-in-Ok-Ok g c =
-    let is = sym (rw c.in-Ok-Ok.field-0-is at c.in-Ok-Ok.ensures.tables) in
-    record { written = PutsLinesOf c.in-Ok-Ok.set.tables is c.answer_lines.ensures.written; quiet = c.answer_lines.ensures.quiet; cause = c.answer_lines.ensures.cause }
+pub returns-in-Some-clause-written : goal.returns-in-Some-clause-written
+returns-in-Some-clause-written g c =
+    let asked = ap (λ l. read_when_asked l (Some c.args.self.now.tables)) (sym c.is_lazy.ensures) ∙ sym c.read_when_asked.ensures ∙ c.in-Some.is in
+    rw asked (rw c.manifest.ensures at c.answer_in.ensures.written)
 
-pub returns-in-Ok-Err : goal.returns-in-Ok-Err
-returns-in-Ok-Err g c =
-    let is = sym (rw c.in-Ok-Err.field-0-is at c.in-Ok-Err.ensures.tables) in
-    record { written = PutsRefusal (refusal_words c.in-Ok-Err.refusal) is c.put_refusal.ensures.told; quiet = λ unasked. refl; cause = c.put_refusal.ensures.cause }
+pub returns-in-None-clause-written : goal.returns-in-None-clause-written
+returns-in-None-clause-written g c =
+    let asked = ap (λ l. read_when_asked l (Some c.args.self.now.tables)) (sym c.is_lazy.ensures) ∙ sym c.read_when_asked.ensures ∙ c.in-None.is in
+    rw asked c.answer_from.ensures.written
