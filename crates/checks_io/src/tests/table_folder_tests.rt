@@ -4,11 +4,10 @@ ghost use Rattle.table_folder.specs.Folders.{AreOf};
 
 use crate::tests::comparing::check_same;
 use arrayvec::ArrayString;
-use board_core::Position;
 use bumpalo::Bump;
 use check_helpers::{QUEEN, QUEEN_PLIES, file_of};
 use fen_text::read;
-use judge_core::Set;
+use judge_core::{Columns, Set};
 use move_msg::{Line, Manifest};
 use std::alloc::Global;
 use std::fs;
@@ -30,15 +29,6 @@ const OTHER: &str = "/tmp/checks-test-folder/KRvK.rtbw";
 /// A win by 10 plies: the 9 of the table, and one.
 const WON: &str = "8/8/8/8/8/4k3/8/KQ6 w - - 0 1";
 
-/// A file is written, and the position asked for anew: this file is refused with this fault, or none.
-#[derive(Clone, Copy)]
-struct Step<'a> {
-    path: &'a str,
-    bytes: &'a [u8],
-    refused: &'a str,
-    fault: &'a str,
-}
-
 /// The folder with three files that are no tables.
 fn make_files<R: Files + AllocGlobal + Abort>(rt: &R) {
     let _left = fs::remove_dir_all(rt, FOLDER).is_ok();
@@ -46,6 +36,13 @@ fn make_files<R: Files + AllocGlobal + Abort>(rt: &R) {
     for path in [WDL, DTZ, OTHER] {
         fs::write(rt, path, "no table").expect(rt, "a file");
     }
+}
+
+/// That both probes are those of a win by 10 plies.
+fn check_won(rt: &impl Abort, columns: &Columns) {
+    let probed = columns.probed;
+    check_same(rt, probed.wdl.ok(), Some(2), "value");
+    check_same(rt, probed.dtz.ok(), Some(10), "distance");
 }
 
 /// That a folder refuses this file for this fault at a position, or that the position is won by 10 plies.
@@ -67,8 +64,7 @@ fn check_settled<'r, D: Disk>(
         .expect(rt, "memory")
     {
         Ok(columns) => {
-            check_same(rt, columns.probed.wdl.ok(), Some(2), "value");
-            check_same(rt, columns.probed.dtz.ok(), Some(10), "distance");
+            check_won(rt, &columns);
             check_same(rt, refused, "", fault);
         }
         Err(refusal) => {
@@ -82,49 +78,22 @@ fn check_settled<'r, D: Disk>(
 #[test]
 fn tables_are_read_when_they_are_asked_for(rt: HostRuntime) {
     make_files(&rt);
-    let (wdl, dtz) = (file_of(&QUEEN), file_of(&QUEEN_PLIES));
     let disk = SystemDisk::new(&rt, sink());
     let (manifest, arena) = (Manifest::Unnamed, Bump::new(rt.alloc()));
     let folder = TableFolder::open(rt.alloc(), &disk, FOLDER, &manifest, &arena)
         .ok()
         .expect(&rt, "a folder");
     let mut set = folder.new_set(rt.alloc(), 1).ok().expect(&rt, "memory");
-    let steps = [
-        Step {
-            path: OTHER,
-            bytes: b"",
-            refused: "KQvK.rtbw",
-            fault: "BadSize",
-        },
-        Step {
-            path: WDL,
-            bytes: &[0; 80],
-            refused: "KQvK.rtbw",
-            fault: "BadMagic",
-        },
-        Step {
-            path: WDL,
-            bytes: &wdl,
-            refused: "KQvK.rtbz",
-            fault: "BadSize",
-        },
-        Step {
-            path: DTZ,
-            bytes: &dtz,
-            refused: "",
-            fault: "",
-        },
-        Step {
-            path: WDL,
-            bytes: b"",
-            refused: "",
-            fault: "",
-        },
-    ];
-    for step in &steps {
-        fs::write(&rt, step.path, step.bytes).expect(&rt, "a file");
-        check_settled(&rt, rt.alloc(), &folder, &mut set, step.refused, step.fault);
-    }
+    fs::write(&rt, OTHER, b"").expect(&rt, "a file");
+    check_settled(&rt, rt.alloc(), &folder, &mut set, "KQvK.rtbw", "BadSize");
+    fs::write(&rt, WDL, &[0u8; 80]).expect(&rt, "a file");
+    check_settled(&rt, rt.alloc(), &folder, &mut set, "KQvK.rtbw", "BadMagic");
+    fs::write(&rt, WDL, &file_of(&QUEEN)).expect(&rt, "a file");
+    check_settled(&rt, rt.alloc(), &folder, &mut set, "KQvK.rtbz", "BadSize");
+    fs::write(&rt, DTZ, &file_of(&QUEEN_PLIES)).expect(&rt, "a file");
+    check_settled(&rt, rt.alloc(), &folder, &mut set, "", "");
+    fs::write(&rt, WDL, b"").expect(&rt, "a file");
+    check_settled(&rt, rt.alloc(), &folder, &mut set, "", "");
 }
 
 /// The manifest of a WDL table with these bytes and of a DTZ table.
