@@ -70,6 +70,7 @@ mod binding;
 mod commands;
 mod entering;
 mod entries;
+mod folders;
 mod hosting;
 mod keys;
 pub mod laws;
@@ -81,7 +82,6 @@ mod sending;
 mod silence;
 mod stores;
 mod system;
-mod folders;
 mod tables;
 mod words;
 

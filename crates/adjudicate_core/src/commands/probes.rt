@@ -185,7 +185,10 @@ impl<'r, D: Disk> FolderProber<'r, D> {
     {
         match self.folder.settle(self.alloc, &mut self.set, position)? {
             Ok(columns) => Ok((Line::Columns(columns), columns.probed.has_both())),
-            Err(refused) => Ok((Line::Refused(Refusal::File(refused.name, refused.fault)), false)),
+            Err(refused) => Ok((
+                Line::Refused(Refusal::File(refused.name, refused.fault)),
+                false,
+            )),
         }
     }
 

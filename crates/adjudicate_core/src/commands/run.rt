@@ -32,8 +32,8 @@ use relay_world::schedule::{Schedule, ScheduleFault, read};
 use relay_world::{Event, Game, World, WorldFault, run};
 use std::alloc::{AllocError, Global};
 use table_file::{TableFault, reads_what_is_laid_out};
-use task_files::{InputPaths, Inputs};
 use table_folder::FileFault;
+use task_files::{InputPaths, Inputs};
 
 /// Two arbiters under the schedule of the input.
 #[derive(Clone, Copy)]
