@@ -10,7 +10,6 @@
 //! - `sealed_tests`: sealed ports and files of keys
 //! - `source_tests`: a source whose datagrams are lost (over `source_port`)
 //! - `output_tests`: reads and writes that fail
-//! - `table_folder_tests`: folders of tables over the system's files
 //!
 //! `comparing` and `no_stores` are what these tests share. All stand in `src/tests/`. What other crates' tests use too stands in
 //! `check_helpers`, whose head says what is a test and how to run one. It has no definitions of its own.

@@ -11,4 +11,3 @@ mod port_tests;
 mod sealed_tests;
 mod source_port;
 mod source_tests;
-mod table_folder_tests;

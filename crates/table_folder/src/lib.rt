@@ -8,7 +8,8 @@
 //! Inside: `folder` (names and files), `settling` (which table is missed, and until when), `needing` (the positions of a game, and after
 //! moves), `fault`, `laws`.
 //!
-//! Definitions, in reading order: `Folders` (`Says`, `AreOf`), `Settled` (`IsSettled`, `AnswersBy`), `Laws` (`IsWhole`), `Faults`.
+//! Definitions, in reading order: `Folders` (`Says`, `AreOf`), `Settled` (`IsSettled`, `AnswersBy`), `Laws` (`IsWhole`), `Faults`. Its cases
+//! stand in `many.txt` and `tables.txt` of `rows`.
 //!
 //! - CLAIM: `TableFolder::open`, clauses `disk`, `folder`, `cause`; `TableFolder::has`; `open_file`: the names are those of table files
 //!   that the folder lists, with a manifest those that it names. The folder has a table where its manifest names the file, or without
