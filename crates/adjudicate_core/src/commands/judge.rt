@@ -77,7 +77,7 @@ fn verdict_of(alloc: Global, sources: &Inputs, position: &Position) -> Result<An
     }
 }
 
-/// The same by the tables of a folder, of which those are read that the position asks for.
+/// The verdict by the tables of a folder, of which those are read that the position asks for, or the refusal of one of these.
 fn verdict_in<D: Disk>(
     alloc: Global,
     disk: &D,

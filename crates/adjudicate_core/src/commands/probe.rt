@@ -93,7 +93,7 @@ fn told_of(alloc: Global, sources: &Inputs, position: &Position) -> Result<Answe
     }
 }
 
-/// The same by the tables of a folder, of which those are read that the position asks for.
+/// The values in the tables of a folder, of which those are read that the position asks for, or the refusal of one of these.
 fn told_in<D: Disk>(
     alloc: Global,
     disk: &D,

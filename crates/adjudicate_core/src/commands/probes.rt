@@ -313,7 +313,7 @@ impl<'a> Probes<'a> {
         put_told(alloc, &mut prober, input, out, errors, self.progress)
     }
 
-    /// The same by the folder at a path, or the refusal of its manifest or of the folder.
+    /// Writes these answers by the folder at a path, or the refusal of its manifest or of the folder.
     fn answer_in<D: Disk, I: Input, W: Output, E: Write>(
         &self,
         alloc: Global,
@@ -334,7 +334,7 @@ impl<'a> Probes<'a> {
         }
     }
 
-    /// The same by the tables of files, or the refusal of the tables.
+    /// Writes these answers by the tables of files, or the refusal of the first one at fault.
     fn answer_from<I: Input, W: Output, E: Write>(
         &self,
         alloc: Global,
