@@ -161,6 +161,7 @@ moves_depth (t ∷ ts) =
 
 shallow : (l : JsonLine) → depth (line_json l) ≤ 3
 shallow (line.Fault fault) = omega arith
+shallow (line.Refused words) = omega arith
 shallow (line.Position t) = (let e = flat_position t.position t.columns.probed t.columns.verdict in omega (arith, e))
 shallow (line.Root t moves) =
     let e = flat_position t.position t.columns.probed t.columns.verdict in

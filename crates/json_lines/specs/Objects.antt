@@ -147,8 +147,12 @@ fen_error fen.BadCastlingText = codes "FEN " ++ fen_fault_name fen.BadCastlingTe
 fen_error fen.BadSquare = codes "FEN " ++ fen_fault_name fen.BadSquare
 fen_error fen.BadNumber = codes "FEN " ++ fen_fault_name fen.BadNumber
 
+-- an object that says why there is no answer
+abbrev pub error_json : List ℕ → Json
+error_json words = object (member (codes "error") (string words) no_members)
+
 abbrev pub fault_json : FenFault → Json
-fault_json fault = object (member (codes "error") (string (fen_error fault)) no_members)
+fault_json fault = error_json (fen_error fault)
 
 abbrev pub position_json : PositionTold → Json
 position_json t = object (position_members t.position t.columns.probed t.columns.verdict)
@@ -156,8 +160,9 @@ position_json t = object (position_members t.position t.columns.probed t.columns
 abbrev pub root_json : PositionTold → List MoveTold → Json
 root_json t moves = object (followed_by (position_members t.position t.columns.probed t.columns.verdict) (moves_members moves))
 
--- a line: why a text is no position, or a position, or a position and its moves
+-- a line: why a text is no position, or why a table that it needs isn't read, or a position, or a position and its moves
 abbrev pub line_json : JsonLine → Json
 line_json (line.Fault fault) = fault_json fault
+line_json (line.Refused words) = error_json words.bytes
 line_json (line.Position t) = position_json t
 line_json (line.Root t moves) = root_json t moves.items

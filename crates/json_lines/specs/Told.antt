@@ -70,6 +70,7 @@ pub record IsRootTold (ask : Ask) (tables : Tables) (p : Parts) (ts : List MoveT
 -- the line of a position, with its moves or without
 abbrev pub IsLineOf : Ask → Bool → Tables → Parts → JsonLine → Type 0
 IsLineOf ask with_moves tables p (line.Fault fault) = ⊥
+IsLineOf ask with_moves tables p (line.Refused words) = ⊥
 IsLineOf ask false tables p (line.Position t) = IsPositionTold ask tables p t
 IsLineOf ask true tables p (line.Position t) = ⊥
 IsLineOf ask false tables p (line.Root t moves) = ⊥
@@ -87,6 +88,7 @@ pub data IsLineFor (text : List ℕ) (IsLine : Parts → JsonLine → Type 0) (l
 -- all that is told of is there
 abbrev pub is_done : JsonLine → Bool
 is_done (line.Fault fault) = false
+is_done (line.Refused words) = false
 is_done (line.Position t) = has_both t.columns.probed
 is_done (line.Root t moves) = has_both t.columns.probed && list_all (λ m. has_both m.probed) moves.items
 

@@ -49,6 +49,8 @@ pub struct MoveTold {
 pub enum JsonLine {
     /// Why a text is no position.
     Fault(FenFault),
+    /// Why a table that the position needs isn't read: the name of its file and what is wrong with it.
+    Refused(ArrayString<64>),
     /// A position.
     Position(PositionTold),
     /// A position and its legal moves: the best first, or in the order of moves where it is out of scope.
@@ -293,12 +295,12 @@ impl JsonLine {
         }
     }
 
-    /// Whether the text is a position and no value that is told of is refused.
+    /// Whether the text is a position, its tables are read, and no value that is told of is refused.
     pub fn is_done(&self) -> bool
         ensures { result ≡ is_done self.now }
     {
         match self {
-            JsonLine::Fault(_) => false,
+            JsonLine::Fault(_) | JsonLine::Refused(_) => false,
             JsonLine::Position(told) => told.columns.probed.has_both(),
             JsonLine::Root(told, moves) => told.columns.probed.has_both() && have_both(moves),
         }

@@ -2,14 +2,14 @@
 
 ghost use Rattle.std.specs.Prelude.{◌≡◌, ◌++◌, ◌∷◌, ◌<◌, [], Bool, false, true, codes, length, Some, OnOk};
 ghost use Rattle.std.specs.Io.KnownBytes.{Appends};
-ghost use Rattle.json.specs.Json.{array, document, string};
+ghost use Rattle.json.specs.Json.{array, document, member, no_members, object, string};
 ghost use Rattle.json.specs.Token.{begin_array, begin_object, end_array, end_object, key};
 ghost use Rattle.json.specs.Tree.{json_tokens};
 ghost use Rattle.json_lines.specs.Inside.Members.{Writes, members_of, open_items, open_tokens, value_json};
 ghost use Rattle.fen_text.specs.Coordinates.{move_text};
 ghost use Rattle.judge_core.specs.Words.{probe_fault_words};
 ghost use Rattle.place_index.specs.Material.{men_of, name_of};
-ghost use Rattle.json_lines.specs.Objects.{after_members, category, category_of, error_members, fault_json, fen_error, first_probe_fault, followed_by, is_stalemate, json_text, line_json, move_json, move_members, moves_items, number_or_null, position_json, position_members, root_json, standing_members, value_members, verdict_or_null};
+ghost use Rattle.json_lines.specs.Objects.{after_members, category, category_of, error_members, fen_error, first_probe_fault, followed_by, is_stalemate, json_text, line_json, move_json, move_members, moves_items, number_or_null, position_json, position_members, root_json, standing_members, value_members, verdict_or_null};
 
 use crate::members::{Member, Value, put_comma, put_key, put_member, put_members};
 use crate::text::put;
@@ -381,13 +381,13 @@ fn fen_error<'a>(fault: &FenFault) -> Value<'a>
     }
 }
 
-/// Writes why a text is no position.
-fn put_fen_error<W: Write>(out: &mut W, fault: &FenFault) -> Result<(), WriteFault>
-    ensures { OnOk result (Writes false (json_tokens (fault_json fault.now)) (W.contents out.old) (W.contents out.new)) }
+/// Writes an object that says why there is no answer.
+fn put_error_alone<W: Write>(out: &mut W, value: Value<'_>) -> Result<(), WriteFault>
+    ensures { OnOk result (Writes false (json_tokens (object (member (codes "error") (value_json value.entry) no_members))) (W.contents out.old) (W.contents out.new)) }
 {
     let member = Member {
         name: "error",
-        value: fen_error(fault),
+        value,
     };
     put_begin(out, false)?;
     put_member(out, false, &member)?;
@@ -403,7 +403,8 @@ pub fn put_json_line<W: Write>(out: &mut W, line: &JsonLine) -> Result<(), Write
     ensures reads_back { OnOk result (document (json_text (line_json line.now)) ≡ Some (line_json line.now)) }
 {
     match line {
-        JsonLine::Fault(fault) => put_fen_error(out, fault),
+        JsonLine::Fault(fault) => put_error_alone(out, fen_error(fault)),
+        JsonLine::Refused(words) => put_error_alone(out, Value::Text(words.as_str())),
         JsonLine::Position(told) => put_alone(out, told),
         JsonLine::Root(told, moves) => put_root(out, told, moves),
     }

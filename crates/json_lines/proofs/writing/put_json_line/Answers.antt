@@ -1,16 +1,30 @@
-use Rattle.std.proofs.Common.{List, false, subst}
-use Rattle.std.specs.Prelude.{OnOk}
+use Rattle.std.proofs.Common.{List, false, subst, ℕ}
+use Rattle.std.specs.Prelude.{OnOk, codes}
 use Rattle.std.proofs.lemmas.Result.{on_ok_weaker}
+use Rattle.json.specs.Json.{Json, member, no_members, object}
 use Rattle.json.specs.Tree.{json_tokens}
 use Rattle.json_lines.specs.declared.told.JsonLine.TheVariants as line
 use Rattle.json_lines.specs.declared.told.MoveTold.{MoveTold}
 use Rattle.json_lines.specs.Inside.Members.{Writes}
-use Rattle.json_lines.specs.Objects.{root_json}
+use Rattle.json_lines.specs.Objects.{error_json, root_json}
 use Rattle.json_lines.proofs.Whole.{line_reads_back}
 use Rattle.json_lines.proofs.writing.put_json_line.Goals as goal
 
-pub returns-in-Fault-clause-reads_back : goal.returns-in-Fault-clause-reads_back
-returns-in-Fault-clause-reads_back g c = rw c.in-Fault.is (on_ok_weaker c.put_fen_error.result (λ h. line_reads_back (line.Fault c.in-Fault.fault) _ _ h) c.put_fen_error.ensures)
+pub returns-in-Fault : goal.returns-in-Fault
+returns-in-Fault g c =
+    let written = subst (λ (j : Json). OnOk c.put_error_alone.result (Writes false (json_tokens (object (member (codes "error") j no_members))) (g.W.Write.contents c.args.out.now) (g.W.Write.contents c.put_error_alone.new.out))) c.fen_error.ensures c.put_error_alone.ensures in
+    record {
+      written = rw c.in-Fault.is (on_ok_weaker c.put_error_alone.result (λ h. h.text) written);
+      reads_back = rw c.in-Fault.is (on_ok_weaker c.put_error_alone.result (λ h. line_reads_back (line.Fault c.in-Fault.fault) _ _ h) written);
+    }
+
+pub returns-in-Refused : goal.returns-in-Refused
+returns-in-Refused g c =
+    let written = subst (λ (t : List ℕ). OnOk c.put_error_alone-in-Refused.result (Writes false (json_tokens (error_json t)) (g.W.Write.contents c.args.out.now) (g.W.Write.contents c.put_error_alone-in-Refused.new.out))) c.as_str.ensures.value c.put_error_alone-in-Refused.ensures in
+    record {
+      written = rw c.in-Refused.is (on_ok_weaker c.put_error_alone-in-Refused.result (λ h. h.text) written);
+      reads_back = rw c.in-Refused.is (on_ok_weaker c.put_error_alone-in-Refused.result (λ h. line_reads_back (line.Refused c.in-Refused.words) _ _ h) written);
+    }
 
 pub returns-in-Position-clause-reads_back : goal.returns-in-Position-clause-reads_back
 returns-in-Position-clause-reads_back g c = rw c.in-Position.is (on_ok_weaker c.put_alone.result (λ h. line_reads_back (line.Position c.in-Position.told) _ _ h) c.put_alone.ensures)
