@@ -139,7 +139,11 @@ fn answer_each(
 {
     match question {
         Question::Wdl => wdl_of_each(alloc, set, boards, replies),
-        Question::Dtz | Question::Verdict | Question::DeterminedWdl | Question::DeterminedDtz => {
+        Question::Dtz
+        | Question::Verdict
+        | Question::KnownWdl
+        | Question::DeterminedWdl
+        | Question::DeterminedDtz => {
             answer_between(alloc, set, question, boards, 0..boards.len(), replies)
         }
     }
