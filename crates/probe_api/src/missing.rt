@@ -64,12 +64,7 @@ fn put_known_missing_of(
 
 /// Puts the name of the first table that the set lacks for the value of a board as soon as it is known (`Question::KnownWdl`), as
 /// `put_missing` does for its WDL probe: the name is empty too where a capture wins. The set stays as it was but for its cache.
-pub fn put_known_missing(
-    alloc: Global,
-    set: &mut Set<'_>,
-    board: &Board,
-    room: &mut [u8],
-) -> usize
+pub fn put_known_missing(alloc: Global, set: &mut Set<'_>, board: &Board, room: &mut [u8]) -> usize
     ensures is { PutsKnownMissing set.old.tables board.now room.old result room.new }
     ensures kept { set.new ≡ set.old }
 {
