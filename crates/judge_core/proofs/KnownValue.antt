@@ -18,15 +18,19 @@ use Rattle.judge_core.specs.declared.found.Found.{Found}
 use Rattle.judge_core.specs.Values.{Reading, points, opposite_reading}
 use Rattle.judge_core.specs.Tables.{Tables, table_value}
 use Rattle.judge_core.specs.Distances.{is_value}
+use Rattle.judge_core.specs.declared.fault.ProbeFault.{ProbeFault}
+use Rattle.judge_core.specs.Answers.{as_probe}
 use Rattle.judge_core.specs.Asked.{not_covered}
+use Rattle.judge_core.specs.Ruling.{is_out_of_scope}
 use Rattle.judge_core.specs.MoreTables.{HasAll}
 use Rattle.judge_core.specs.Probing.{values_after, searched_where, searched_by, wdl_from_search, wdl_to, wdl_where, wdl_of, worth, worth_in}
 use Rattle.judge_core.specs.Inside.Found.{lands_empty, found_by_captures, found_unless_won, found_with, nothing_found}
-use Rattle.judge_core.specs.Known.{wins_by_capture, known_by, known_to, known_where, known_of, KnownMeetsItsRule, ValueIsKnown, KnownStaysKnown}
+use Rattle.judge_core.specs.Known.{wins_by_capture, known_by, known_to, known_where, known_of, known_answer, IsKnownProbe, KnownMeetsItsRule, ValueIsKnown, KnownStaysKnown}
 use Rattle.judge_core.proofs.Asking.{asked-append}
 use Rattle.judge_core.proofs.Captures.{falls}
 use Rattle.judge_core.proofs.Firm.{OnlyWdl, Under, own_firm}
 use Rattle.judge_core.proofs.Kept.{Keeps, unless_ok, last_there, kept_all, keeps-turned, searched_kept}
+use Rattle.judge_core.proofs.Looking.{returned}
 use Rattle.judge_core.proofs.Readings.{all_come, found-nothing, found-step}
 use Rattle.judge_core.proofs.Rising.{points_most, same_points}
 use Rattle.judge_core.proofs.RootCaptures.{only_there, worth_most}
@@ -323,3 +327,12 @@ known_unwon tables p found position many e = by_win (wins_by_capture (known_of t
     by_win : (b : Bool) → wins_by_capture (known_of tables) p ≡ b → (found ≡ found_by_captures (known_of tables) p (legal_captures p)) × (worth_in (searched_by tables (known_of tables) p) ≡ known_of tables p)
     by_win true won = absurd (let never = rw won at e in cc)
     by_win false none = (let is = rw none at e in (cc, sym (known_is tables p position many ∙ rw none refl)))
+
+-- ---- what a probe returns
+
+-- of a position in scope
+pub known_answered : (tables : Tables) (p : Parts) (outside : Bool) (reading : Reading) (r : Result Wdl ProbeFault) → outside ≡ is_out_of_scope p → outside ≡ false → reading ≡ known_of tables p → r ≡ as_probe (λ v. v) reading → r ≡ known_answer tables p
+known_answered tables p outside reading r is inside known e = rw (sym is ∙ inside) (e ∙ ap (as_probe (λ v. v)) known)
+
+pub known_is_probe : (tables : Tables) (p : Parts) → IsKnownProbe tables p (known_answer tables p)
+known_is_probe tables p = returned (is_out_of_scope p) (known_of tables p)

@@ -61,7 +61,7 @@ impl<'a> Set<'a> {
 
     /// The values that are known after the captures of the position; none where one wins.
     #[cycle(known)]
-    fn found_or_won(&mut self, alloc: Global, position: &Position) -> Option<Found>
+    pub(crate) fn found_or_won(&mut self, alloc: Global, position: &Position) -> Option<Found>
         requires position { IsPosition position.now }
         ensures is { result ≡ found_unless_won (known_of self.old.tables) position.now }
         ensures unchanged { self.new ≡ self.old }

@@ -28,8 +28,8 @@
 //! - CLAIM: `Set::wdl`, clauses `answer`, `unchanged`, `no_memory`; `laws::wdl_meets_its_rule`; `Set::wdl_each`, clauses `each`,
 //!   `probe`, `unchanged`: the WDL value is the definition's over whole expanded tables, a missing table before a damaged one,
 //!   and lack of memory is never reported; of many positions likewise, but the error of `wdl_each` has no cause.
-//! - CLAIM: `Set::known_wdl`, clauses `answer`, `no_memory`, `unchanged`; `laws::value_is_known`; `laws::known_meets_its_rule`;
-//!   `laws::known_stays_known`: the value as soon as it is known. A capture that leads to a lost position for the opponent wins,
+//! - CLAIM: `Set::known_wdl`, clauses `answer`, `no_memory`, `unchanged`; `Set::known_wdl_each`, clauses `each`, `probe`,
+//!   `unchanged`; `laws::value_is_known`; `laws::known_meets_its_rule`; `laws::known_stays_known`: the value as soon as it is known. A capture that leads to a lost position for the opponent wins,
 //!   whatever is missing or damaged elsewhere; where none wins, captures and own table say the value or the first fault. It is the
 //!   value of `wdl` where that has one, and stays so in a set that has more tables.
 //! - CLAIM: `Set::dtz`, clauses `answer`, `memory`, `unchanged`, `filed`; `laws::distance_by_five_rules`;
