@@ -633,6 +633,14 @@ static uint32_t open_missed(hofsjurd_prober *prober, const hofsjurd_board *board
     return open_table(prober, name, 'w');
 }
 
+/* Opens the table that the value of a board misses as soon as it is known. */
+static uint32_t open_missed_for_known(hofsjurd_prober *prober, const hofsjurd_board *board)
+{
+    char name[HOFSJURD_TEXT_ROOM] = "";
+    if (!hofsjurd_board_known_missing(&prober->set, board, name, sizeof name)) return HOFSJURD_OUT_OF_MEMORY;
+    return open_table(prober, name, 'w');
+}
+
 /* Opens a table that the DTZ probe of a board misses: the WDL table of the material that it names, or else its DTZ table. */
 static uint32_t open_missed_for_distance(hofsjurd_prober *prober, const hofsjurd_board *board)
 {
@@ -750,6 +758,12 @@ static hofsjurd_reply ask_determined(hofsjurd_prober *prober, board_call *strict
     if (open_in_reach(prober, board) == HOFSJURD_OUT_OF_MEMORY) return reply_of(HOFSJURD_OUT_OF_MEMORY);
     hofsjurd_reply reply = call(&prober->set, board);
     return reply.status == HOFSJURD_NOT_COVERED ? strict : reply;
+}
+
+/* A capture that wins needs no other table. Where the first that is missed isn't listed, another one may be that lets a capture win. */
+hofsjurd_reply hofsjurd_prober_known_wdl(hofsjurd_prober *prober, const hofsjurd_board *board)
+{
+    return ask_determined(prober, hofsjurd_board_known_wdl, hofsjurd_board_known_wdl, open_missed_for_known, board);
 }
 
 hofsjurd_reply hofsjurd_prober_determined_wdl(hofsjurd_prober *prober, const hofsjurd_board *board)

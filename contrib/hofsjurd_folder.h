@@ -99,6 +99,7 @@ void hofsjurd_prober_close(hofsjurd_prober *prober);
  * That is the status then where the call would tell HOFSJURD_NOT_COVERED: of the answer, or of the root move. hofsjurd_prober_refusal
  * names the file, the first one of its name. The next call tries again; but a file that is no table is not read twice. */
 hofsjurd_reply hofsjurd_prober_wdl(hofsjurd_prober *prober, const hofsjurd_board *board);
+hofsjurd_reply hofsjurd_prober_known_wdl(hofsjurd_prober *prober, const hofsjurd_board *board); /* a capture that wins opens no other table */
 hofsjurd_reply hofsjurd_prober_dtz(hofsjurd_prober *prober, const hofsjurd_board *board);
 hofsjurd_reply hofsjurd_prober_judge(hofsjurd_prober *prober, const hofsjurd_board *board);
 hofsjurd_reply hofsjurd_prober_root(hofsjurd_prober *prober, const hofsjurd_board *board, hofsjurd_root_move *moves, size_t room);

@@ -252,13 +252,21 @@ static uint32_t list_moves(hofsjurd_prober *prober, hofsjurd_board *board, move_
 
 /* ------------------------------------------------------------------------------------------------------------- probes */
 
+/* The value as soon as it is known, as Fathom tells it at a capture that wins. Otherwise what is the same whatever missing tables hold. */
+static hofsjurd_reply ask_value(hofsjurd_prober *prober, hofsjurd_board *board)
+{
+    hofsjurd_reply reply = ask(hofsjurd_prober_known_wdl, prober, board);
+    bool is_left_open = reply.status == HOFSJURD_NOT_COVERED || reply.status >= HOFSJURD_FILE_BAD_NAME;
+    return is_left_open ? ask(hofsjurd_prober_determined_wdl, prober, board) : reply;
+}
+
 unsigned tb_probe_wdl_impl(uint64_t _white, uint64_t _black, uint64_t _kings, uint64_t _queens, uint64_t _rooks,
     uint64_t _bishops, uint64_t _knights, uint64_t _pawns, unsigned _ep, bool _turn)
 {
     hofsjurd_prober *prober = prober_here();
     if (!prober) return TB_RESULT_FAILED;
     hofsjurd_board board = board_of(_white, _black, _kings, _queens, _rooks, _bishops, _knights, _pawns, _ep, _turn);
-    hofsjurd_reply reply = ask(hofsjurd_prober_determined_wdl, prober, &board);
+    hofsjurd_reply reply = ask_value(prober, &board);
     return reply.status ? TB_RESULT_FAILED : (unsigned)(reply.value + 2);
 }
 

@@ -249,6 +249,13 @@ typedef struct {
 hofsjurd_reply hofsjurd_root(hofsjurd *handle, const char *fen, size_t length, hofsjurd_root_move *moves, size_t room);
 hofsjurd_reply hofsjurd_board_root(hofsjurd *handle, const hofsjurd_board *board, hofsjurd_root_move *moves, size_t room);
 
+/* The WDL value as soon as it is known. A capture that leads to a position which the opponent has lost, by the same rule, wins at once,
+ * with HOFSJURD_OK and whatever table is missing or damaged elsewhere. Where no capture wins, the value and the status are those of
+ * hofsjurd_wdl, by the values that are known after the captures. Where hofsjurd_wdl has a value, it is this one. */
+hofsjurd_reply hofsjurd_known_wdl(hofsjurd *handle, const char *fen, size_t length);
+hofsjurd_reply hofsjurd_board_known_wdl(hofsjurd *handle, const hofsjurd_board *board);
+uint32_t hofsjurd_boards_known_wdl(hofsjurd *handle, const hofsjurd_board *boards, size_t length, hofsjurd_reply *replies, size_t room);
+
 /* The same three questions, answered also where a table that is needed is missing, if the answer is the same whatever that table
  * holds: a capture that wins already, say. Each table that is there is read, and one that is damaged stays so. Where the calls above
  * have an answer, it is this one, unless memory is refused.
@@ -329,6 +336,9 @@ size_t hofsjurd_verdict_name(uint32_t verdict, char *room, size_t length);
 /* the name of the first table that the WDL probe of a board needs and the set lacks ("KQvK"), where that tells
  * HOFSJURD_NOT_COVERED; empty otherwise, and nothing written where the handle is closed */
 size_t hofsjurd_board_missing(hofsjurd *handle, const hofsjurd_board *board, char *room, size_t length);
+
+/* the same of hofsjurd_board_known_wdl: empty too where a capture wins */
+size_t hofsjurd_board_known_missing(hofsjurd *handle, const hofsjurd_board *board, char *room, size_t length);
 
 /* the name of the first material of which the DTZ probe of a board needs a table that the set lacks, its WDL table or its DTZ table,
  * where that tells HOFSJURD_NOT_COVERED; empty otherwise, and where memory is refused, and nothing written where the handle is closed */

@@ -3,6 +3,7 @@
 use super::*;
 use crate::determined_calls::*;
 use crate::holding_calls::{hofsjurd_has, hofsjurd_largest};
+use crate::known_calls::*;
 use crate::move_calls::*;
 use crate::sharing::hofsjurd_share;
 use probe_api::PlainRootMove;
@@ -53,6 +54,16 @@ const TAKES_BOARD: Board = Board {
     kings: 0x10_0000_0100,
     knights: 0x80_0000_0000_0000,
     ..MATE_BOARD
+};
+
+/// The same men, none of whom can take another.
+const QUIET: &[u8] = b"8/7n/8/4k3/8/8/K7/2Q5 w - - 0 1";
+
+/// That position.
+const QUIET_BOARD: Board = Board {
+    white: 0x104,
+    queens: 4,
+    ..TAKES_BOARD
 };
 
 const NO_MOVE: PlainMove = PlainMove {
@@ -133,6 +144,31 @@ fn check_boards(rt: &impl Abort, alloc: Global, handle: &mut Handle) {
     check_replies(rt, status, &replies, [(0, 10), (3, 0)]);
     let status = hofsjurd_boards_judge(alloc, handle, &BOARDS, &mut replies);
     check_replies(rt, status, &replies, [(0, 5), (0, 0)]);
+}
+
+/// The queen takes the knight, which wins though the table of both is missing.
+fn check_known(rt: &impl Abort, alloc: Global, handle: &mut Handle) {
+    let told = hofsjurd_known_wdl(alloc, handle, TAKES);
+    check(rt, told, 0, 2, "known_wdl");
+    let told = hofsjurd_board_known_wdl(alloc, handle, &TAKES_BOARD);
+    check(rt, told, 0, 2, "board_known_wdl");
+    let mut replies = [NO_REPLY; 2];
+    let status = hofsjurd_boards_known_wdl(alloc, handle, &BOARDS, &mut replies);
+    check_replies(rt, status, &replies, [(0, 2), (0, 2)]);
+    let mut room = [1u8; 8];
+    let length = hofsjurd_board_known_missing(alloc, handle, &TAKES_BOARD, &mut room);
+    check_text(rt, length, &room, b"", "board_known_missing");
+}
+
+/// Where no capture wins, the missing table is told.
+fn check_unknown(rt: &impl Abort, alloc: Global, handle: &mut Handle) {
+    let told = hofsjurd_known_wdl(alloc, handle, QUIET);
+    check(rt, told, 3, 0, "known_wdl");
+    let told = hofsjurd_board_known_wdl(alloc, handle, &QUIET_BOARD);
+    check(rt, told, 3, 0, "board_known_wdl");
+    let mut room = [1u8; 8];
+    let length = hofsjurd_board_known_missing(alloc, handle, &QUIET_BOARD, &mut room);
+    check_text(rt, length, &room, b"KQvKN", "board_known_missing");
 }
 
 fn check_determined(rt: &impl Abort, alloc: Global, handle: &mut Handle) {
@@ -319,6 +355,8 @@ fn exports_answer(rt: HostRuntime) {
     check_texts(&rt, alloc, &mut handle);
     check_board(&rt, alloc, &mut handle);
     check_boards(&rt, alloc, &mut handle);
+    check_known(&rt, alloc, &mut handle);
+    check_unknown(&rt, alloc, &mut handle);
     check_determined(&rt, alloc, &mut handle);
     check_board_determined(&rt, alloc, &mut handle);
     check_root(&rt, alloc, &mut handle);

@@ -7,7 +7,7 @@
 //! call is undefined for any bytes and numbers, and each returns, given what the caller owes.
 //!
 //! Inside: `handle`, `game_handle` and `held` (what they own), `owned_pointer`, `owned_game` (a pointer as C keeps it), `raw_box` (a box
-//! as its pointer), `asking`, `move_calls`, `determined_calls`, `holding_calls`, `sharing` (a second handle with the tables of a first;
+//! as its pointer), `asking`, `move_calls`, `known_calls`, `determined_calls`, `holding_calls`, `sharing` (a second handle with the tables of a first;
 //! that handles may pass to another thread), `call_tests` (each export called once). This is the only crate with `extern` functions and
 //! unsafe code.
 //!
@@ -54,6 +54,7 @@ mod game_handle;
 mod handle;
 mod held;
 mod holding_calls;
+mod known_calls;
 mod move_calls;
 mod owned_game;
 mod owned_pointer;

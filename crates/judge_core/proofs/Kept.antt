@@ -49,7 +49,7 @@ no_fault_more (Err (Damaged key)) rs e = absurd (by_first (first not_covered rs)
 with_ok : {X : Type 0} (r : Result X ValueFault) (x : X) (rs : List (Result X ValueFault)) → r ≡ Ok x → fault_in rs ≡ None → fault_in (r ∷ rs) ≡ None
 with_ok r x rs e h = rw e h
 
-last_there : {X : Type 0} (rs : List (Result X ValueFault)) (r : Result X ValueFault) → fault_in (rs ++ r ∷ []) ≡ None → (fault_in rs ≡ None) × ((x : X) × (r ≡ Ok x))
+pub last_there : {X : Type 0} (rs : List (Result X ValueFault)) (r : Result X ValueFault) → fault_in (rs ++ r ∷ []) ≡ None → (fault_in rs ≡ None) × ((x : X) × (r ≡ Ok x))
 last_there [] r e = (refl, (no_fault_more r [] e).0)
 last_there (x ∷ rs) r e =
     let there = no_fault_more x (rs ++ r ∷ []) e in
@@ -83,7 +83,7 @@ module _ {X : Type 0} (say say' : Parts → Result X ValueFault) (p : Parts) (t 
 
 -- ---- values
 
-keeps-turned : (r s : Reading) → Keeps r s → Keeps (opposite_reading r) (opposite_reading s)
+pub keeps-turned : (r s : Reading) → Keeps r s → Keeps (opposite_reading r) (opposite_reading s)
 keeps-turned (Ok u) s k x e = rw (k u refl) e
 keeps-turned (Err fault) s k x e = absurd (cc)
 

@@ -43,3 +43,4 @@ pub mod FirmDistances
 pub mod MoreTables
 pub mod Opened
 pub mod ByRulings
+pub mod KnownValue

@@ -27,10 +27,10 @@ same_values h inside all ps values same probes is =
 pub answered : (tables : Tables) (p : Parts) (outside : Bool) (reading : Reading) (r : Result Wdl ProbeFault) → outside ≡ is_out_of_scope p → outside ≡ false → reading ≡ wdl_of tables p → r ≡ as_probe (λ v. v) reading → r ≡ wdl_answer tables p
 answered tables p outside reading r is inside known e = rw (sym is ∙ inside) (e ∙ ap (as_probe (λ v. v)) known)
 
-abbrev Returned : Bool → Reading → Result Wdl ProbeFault → Type 0
+abbrev pub Returned : Bool → Reading → Result Wdl ProbeFault → Type 0
 Returned outside reading wdl = (wdl ≢ Err OutOfMemory) × IsProbe wdl outside reading
 
-returned : (outside : Bool) (reading : Reading) → Returned outside reading (if outside then Err OutOfScope else as_probe (λ v. v) reading)
+pub returned : (outside : Bool) (reading : Reading) → Returned outside reading (if outside then Err OutOfScope else as_probe (λ v. v) reading)
 returned true reading = (λ e. absurd cc, refl)
 returned false (Ok v) = (λ e. absurd cc, (refl, refl))
 returned false (Err (value.NotCovered key)) = (λ e. absurd cc, (refl, refl))

@@ -80,7 +80,7 @@ pub record Walked (value : Parts → Reading) (p : Parts) (found : Found) (last 
   pub so_far : found ≡ found_by_captures value p done
   pub whole : done ++ captures_after p last ≡ legal_captures p
 
-all_come : (moves : List Move) → filter (is_later None) moves ≡ moves
+pub all_come : (moves : List Move) → filter (is_later None) moves ≡ moves
 all_come [] = refl
 all_come (m ∷ moves) = ap (λ ms. m ∷ ms) (all_come moves)
 

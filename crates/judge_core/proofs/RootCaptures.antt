@@ -30,7 +30,7 @@ use Rattle.judge_core.proofs.Rule.{meets_rule, still}
 none_there : {X : Type 0} (x : X) → Contains [] x → ⊥
 none_there x has = (let lt = has.1 in absurd (omega (arith, lt)))
 
-only_there : {X : Type 0} (y x : X) → Contains (y ∷ []) x → y ≡ x
+pub only_there : {X : Type 0} (y x : X) → Contains (y ∷ []) x → y ≡ x
 only_there y x (k, lt, e) = (let zero_k : k ≡ 0 = omega (arith, lt) in rw zero_k at e)
 
 -- what an item of a list without some comes from
@@ -49,7 +49,7 @@ from_item f (x ∷ xs) y has = step (from_item f xs y) (f x) refl
     ]
 
 -- an item that passes a test is among those that do
-passes_there : {X : Type 0} (t : X → Bool) (xs : List X) (x : X) → Contains xs x → t x ≡ true → Contains (filter t xs) x
+pub passes_there : {X : Type 0} (t : X → Bool) (xs : List X) (x : X) → Contains xs x → t x ≡ true → Contains (filter t xs) x
 passes_there t [] x has e = absurd (none_there x has)
 passes_there t (y ∷ ys) x has e = elim (Contains-append_cases (y ∷ []) ys x has) [
   | inl here ↦ head (only_there y x here)
@@ -130,18 +130,18 @@ forced_move p m e has = by_list (legal_moves p) e has
     by_list [] e has = absurd (none_there m has)
     by_list (x ∷ xs) e has = all_are (is_en_passant p) (x ∷ xs) m e has
 
-module _ (tables : Tables) (p : Parts) (m : Move) (q : Parts) (u : Wdl) (has : Contains (legal_moves p) m) (takes : is_capture p m ≡ true) (eq : position_after p m ≡ Some q) (eu : opposite_reading (wdl_of tables q) ≡ Ok u) where
+module _ (value : Parts → Reading) (p : Parts) (m : Move) (q : Parts) (u : Wdl) (has : Contains (legal_moves p) m) (takes : is_capture p m ≡ true) (eq : position_after p m ≡ Some q) (eu : opposite_reading (value q) ≡ Ok u) where
   abbrev value_after : Parts → Reading
-  value_after = λ x. opposite_reading (wdl_of tables x)
+  value_after = λ x. opposite_reading (value x)
 
-  passant_most : is_en_passant p m ≡ true → points u ≤ points (greatest_value (values_after (wdl_of tables) p (filter (is_en_passant p) (legal_captures p))))
+  passant_most : is_en_passant p m ≡ true → points u ≤ points (greatest_value (values_after value p (filter (is_en_passant p) (legal_captures p))))
   passant_most e = among value_after p Loss (filter (is_en_passant p) (legal_captures p)) m q u (passes_there (is_en_passant p) (legal_captures p) m (passes_there (is_capture p) (legal_moves p) m has takes) e) eq eu
 
-  other_most : is_en_passant p m ≡ false → points u ≤ points (greatest_value (values_after (wdl_of tables) p (filter (λ x. not (is_en_passant p x)) (legal_captures p))))
+  other_most : is_en_passant p m ≡ false → points u ≤ points (greatest_value (values_after value p (filter (λ x. not (is_en_passant p x)) (legal_captures p))))
   other_most e = among value_after p Loss (filter (λ x. not (is_en_passant p x)) (legal_captures p)) m q u (passes_there (λ x. not (is_en_passant p x)) (legal_captures p) m (passes_there (is_capture p) (legal_moves p) m has takes) (ap not e)) eq eu
 
-  worth_most : (w : CaptureSearch) → w.capture ≡ greatest_value (values_after (wdl_of tables) p (filter (λ x. not (is_en_passant p x)) (legal_captures p)))
-      → w.passant ≡ greatest_value (values_after (wdl_of tables) p (filter (is_en_passant p) (legal_captures p))) → w.forced ≡ is_forced p → points u ≤ points (worth w)
+  pub worth_most : (w : CaptureSearch) → w.capture ≡ greatest_value (values_after value p (filter (λ x. not (is_en_passant p x)) (legal_captures p)))
+      → w.passant ≡ greatest_value (values_after value p (filter (is_en_passant p) (legal_captures p))) → w.forced ≡ is_forced p → points u ≤ points (worth w)
   worth_most w ec ep ef = by_forced w.forced refl
     where
       left : points w.capture ≤ points (greater w.capture w.passant)
@@ -179,7 +179,7 @@ module _ (tables : Tables) (p : Parts) (position : IsPosition p) where
         own = value_or_loss (table_value tables p);
         forced = is_forced p;
       } in
-      searched_most tables p m q u has takes eq eu (fault_in (values_after (wdl_of tables) p (legal_captures p) ++ table_value tables p ∷ [])) w v (worth_most tables p m q u has takes eq eu w refl refl refl) rule
+      searched_most (wdl_of tables) p m q u has takes eq eu (fault_in (values_after (wdl_of tables) p (legal_captures p) ++ table_value tables p ∷ [])) w v (worth_most (wdl_of tables) p m q u has takes eq eu w refl refl refl) rule
 
   of_move : (r : RootMove) (m : Move) (u v : Wdl) (o : Option Parts) → position_after p m ≡ o → Contains (legal_moves p) m → option_map (root_move_by (wdl_of tables) (dtz_of tables) p m) o ≡ Some r
       → captures r.effect ≡ true → is_checkmate r.state ≡ false → r.wdl ≡ Ok u → wdl_of tables p ≡ Ok v → points u ≤ points v

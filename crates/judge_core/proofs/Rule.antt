@@ -26,7 +26,7 @@ same_reading f g None h = refl
 same_reading f g (Some q) h = ap (λ (r : Reading). Some (opposite_reading r)) (h q refl)
 
 module _ (f g : Parts → Reading) (p : Parts) (agree : Agree f g p) where
-  same_all : (ms : List Move) → values_after f p (filter (is_capture p) ms) ≡ values_after g p (filter (is_capture p) ms)
+  pub same_all : (ms : List Move) → values_after f p (filter (is_capture p) ms) ≡ values_after g p (filter (is_capture p) ms)
   same_all [] = refl
   same_all (m ∷ ms) = step (same_all ms) (is_capture p m) refl
     where

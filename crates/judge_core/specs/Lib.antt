@@ -19,4 +19,5 @@ pub mod FiveRules
 pub mod RootLaws
 pub mod DeterminedLaws
 pub mod MoreTables
+pub mod Known
 pub mod Inside

@@ -3,6 +3,7 @@
 ghost use Rattle.judge_core.specs.FiveRules.{DistanceByFiveRules};
 ghost use Rattle.judge_core.specs.MoreTables.{AddingKeepsTheRest, AskingAgainEnds, FinalStaysFinal, GamesDependOnRulings, MoreTablesAnswerTheSame, WhatIsMissingStaysMissing, WhatIsNotFinalCanBeOpened};
 ghost use Rattle.judge_core.specs.DeterminedLaws.{CompletionsExist, DeterminedAnswersAreOne, DeterminedDistanceIsOne, DeterminedMoveIsAsProbed, DeterminedValueIsOne, FirstDeterminedMoveIsBest, FirstDeterminedMoveWinsWithinRule};
+ghost use Rattle.judge_core.specs.Known.{KnownMeetsItsRule, KnownStaysKnown, ValueIsKnown};
 ghost use Rattle.judge_core.specs.RootLaws.{FirstMoveIsBest, FirstMoveWinsWithinRule, FirstMoveKeepsTheValue, NearestWinIsTheDistance, NoCaptureIsBetter};
 ghost use Rattle.judge_core.specs.Laws.{WdlMeetsItsRule, DtzMeetsItsRules, GameHasOneOutcome, NoDelayIsTheRuling, FirstVerdictInWords, FirstVerdictLooksBack, IllegalStaysIllegal, OneMoveMore};
 
@@ -11,6 +12,21 @@ use place_index::few_men_have_tables;
 /// The value of a position follows from the values after its captures by its rule.
 pub fn wdl_meets_its_rule()
     ensures { WdlMeetsItsRule }
+{}
+
+/// The value that is known follows from those after the captures by its rule.
+pub fn known_meets_its_rule()
+    ensures { KnownMeetsItsRule }
+{}
+
+/// Where the tables say what a position is worth, this is known: `Set::known_wdl` answers as `Set::wdl` where that has a value.
+pub fn value_is_known()
+    ensures { ValueIsKnown }
+{}
+
+/// What is known stays so in a set that has more tables.
+pub fn known_stays_known()
+    ensures { KnownStaysKnown }
 {}
 
 /// The distance of a position in scope follows from the distances after its moves by its rules, whatever the bytes of

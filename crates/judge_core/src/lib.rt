@@ -7,7 +7,7 @@
 //! is judged once, and only this crate knows the rule of delay.
 //!
 //! Inside: `set`, `table_slots` and `table_slot` (tables in their slots), `blocks` (decoded blocks), `reading` (of both),
-//! `located_position` (a position as its table sees it); `wdl`, `probing`, `found`, `many` for WDL; `determined`, `determined_dtz` where
+//! `located_position` (a position as its table sees it); `wdl`, `probing`, `found`, `known`, `many` for WDL; `determined`, `determined_dtz` where
 //! tables are missing; `dtz`, `counts`, `distance`, `moving`, `mobility`; `judging`, `verdict`, `answering` (all three at once),
 //! `probe_result`, `root`, `root_move`, `standing`, `game`, `display`, `ask` (strict or determined), `fault`, `laws`.
 //!
@@ -18,7 +18,7 @@
 //!
 //! Definitions, in reading order: `Values`, `LookUp`, `Tables`, `Blocks`, `Asked`, `Probing` (`wdl_of`), `Distances` (`dtz_of`),
 //! `FiveRules`, `Ruling`, `Games`, `Standings`, `Answers`, `ProbeResult`, `Root`, `Determined`, `Ask`, `Words`; `Laws`, `RootLaws`,
-//! `DeterminedLaws`, `MoreTables`. Its tests stand in `checks` (`root_tests`, `determined_tests`, `refusal_tests`); cases in `probes.txt`, `root.txt`,
+//! `DeterminedLaws`, `MoreTables`, `Known` (`known_of`). Its tests stand in `checks` (`root_tests`, `determined_tests`, `refusal_tests`); cases in `probes.txt`, `root.txt`,
 //! `tables.txt` and `many.txt` of `rows`.
 //!
 //! - CLAIM: `Set::new`; `Set::add`, clauses `added`, `refused`, `duplicate`, `no_memory`; `Set::cache`, clause `is`;
@@ -28,6 +28,10 @@
 //! - CLAIM: `Set::wdl`, clauses `answer`, `unchanged`, `no_memory`; `laws::wdl_meets_its_rule`; `Set::wdl_each`, clauses `each`,
 //!   `probe`, `unchanged`: the WDL value is the definition's over whole expanded tables, a missing table before a damaged one,
 //!   and lack of memory is never reported; of many positions likewise, but the error of `wdl_each` has no cause.
+//! - CLAIM: `Set::known_wdl`, clauses `answer`, `no_memory`, `unchanged`; `Set::known_wdl_each`, clauses `each`, `probe`,
+//!   `unchanged`; `laws::value_is_known`; `laws::known_meets_its_rule`; `laws::known_stays_known`: the value as soon as it is known. A capture that leads to a lost position for the opponent wins,
+//!   whatever is missing or damaged elsewhere; where none wins, captures and own table say the value or the first fault. It is the
+//!   value of `wdl` where that has one, and stays so in a set that has more tables.
 //! - CLAIM: `Set::dtz`, clauses `answer`, `memory`, `unchanged`, `filed`; `laws::distance_by_five_rules`;
 //!   `laws::dtz_meets_its_rules`: the DTZ value of a position in scope is what the five rules give, each with its faults. For a
 //!   set's tables the bound of two positions in a row cuts nothing off, whatever their bytes are. Lack of memory is reported only
@@ -89,6 +93,7 @@ mod fault;
 mod found;
 mod game;
 mod judging;
+mod known;
 pub mod laws;
 mod located_position;
 mod many;

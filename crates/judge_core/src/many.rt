@@ -5,13 +5,14 @@ ghost use Rattle.board_core.specs.declared.parts.Parts.{Parts};
 ghost use Rattle.judge_core.specs.Answers.{IsWdlProbe, wdl_answer};
 ghost use Rattle.judge_core.specs.Blocks.{AreRight};
 ghost use Rattle.judge_core.specs.Inside.Placing.{IsOwnPlace};
+ghost use Rattle.judge_core.specs.Known.{IsKnownProbe, known_answer};
 ghost use Rattle.judge_core.specs.Tables.{table_value};
 
 use crate::blocks::Blocks;
 use crate::fault::{ProbeFault, ValueFault};
 use crate::found::worth_in;
 use crate::located_position::{LocatedPosition, is_bare};
-use crate::probing::told;
+use crate::probing::{is_forced, told};
 use crate::reading::OwnPlace;
 use crate::set::Set;
 use crate::table_slots::TableSlots;
@@ -148,6 +149,53 @@ impl<'a> Set<'a> {
         let mut values = Vec::with_capacity(alloc, probes.len())?;
         for i in 0..probes.len() {
             values.push(self.wdl_with(alloc, &probes[i], &own[i]))?;
+        }
+        Ok(values)
+    }
+
+    /// What the position is known to be worth, as `known_wdl` gives it, where its own table says this.
+    fn known_with(
+        &mut self,
+        alloc: Global,
+        probe: &LocatedPosition<'_>,
+        own: &Result<Wdl, ValueFault>,
+    ) -> Result<Wdl, ProbeFault>
+        requires own { own.now ≡ table_value self.old.tables probe.now }
+        ensures is { result ≡ known_answer self.old.tables probe.now }
+        ensures unchanged { self.new ≡ self.old }
+    {
+        let position = probe.position();
+        if is_out_of_scope(position) {
+            return Err(ProbeFault::OutOfScope);
+        }
+        if is_bare(position) {
+            return Ok(Wdl::Draw);
+        }
+        match self.found_or_won(alloc, position) {
+            Some(found) => told(&worth_in(found.close(own, is_forced(position)))),
+            None => Ok(Wdl::Win),
+        }
+    }
+
+    /// What the positions are worth as soon as it is known, each as `known_wdl` gives it, in their order. Their own tables are looked
+    /// up as `wdl_each` does.
+    ///
+    /// The error comes only where memory for lists of so many entries is refused. The set stays as it was but for its
+    /// cache.
+    pub fn known_wdl_each(
+        &mut self,
+        alloc: Global,
+        positions: &[Position],
+    ) -> Result<Vec<Result<Wdl, ProbeFault>>, AllocError>
+        ensures each { IfOk result (λ values. values.items ≡ map (known_answer self.old.tables) positions.now) }
+        ensures probe { (p : Parts) → IsKnownProbe self.old.tables p (known_answer self.old.tables p) }
+        ensures unchanged { self.new ≡ self.old }
+    {
+        let probes = probes_of(alloc, positions)?;
+        let own = self.table_values(alloc, &probes)?;
+        let mut values = Vec::with_capacity(alloc, probes.len())?;
+        for i in 0..probes.len() {
+            values.push(self.known_with(alloc, &probes[i], &own[i]))?;
         }
         Ok(values)
     }

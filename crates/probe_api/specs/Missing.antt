@@ -9,6 +9,7 @@ use Rattle.judge_core.specs.declared.fault.ProbeFault.{ProbeFault}
 use Rattle.judge_core.specs.declared.fault.ProbeFault.TheVariants.{OutOfScope, NotCovered, Damaged, OutOfMemory}
 use Rattle.judge_core.specs.Answers.{IsProbe, IsWdlProbe, ListsMoves, signed_in}
 use Rattle.judge_core.specs.Distances.{dtz_of}
+use Rattle.judge_core.specs.Known.{IsKnownProbe}
 use Rattle.judge_core.specs.Ruling.{is_out_of_scope}
 use Rattle.judge_core.specs.Tables.{Tables}
 use Rattle.probe_api.specs.Boards.{shown}
@@ -32,6 +33,18 @@ pub record PutsMissingOf (tables : Tables) (p : Parts) (old : List ℕ) (told : 
 -- of the WDL probe of the position that a board shows; the name is empty where it shows none
 pub record PutsMissing (tables : Tables) (board : Board) (old : List ℕ) (told : ℕ) (new : List ℕ) : Type 0 where
   pub position : IsPosition (shown board) → PutsMissingOf tables (shown board) old told new
+  pub fault : (fault : PositionFault) → IsFirstFault (shown board) fault → PutsText [] old told new
+  pub one : IsPosition (shown board) ⊎ ((fault : PositionFault) × IsFirstFault (shown board) fault)
+
+-- of the probe of a position that ends at a capture that wins
+pub record PutsKnownMissingOf (tables : Tables) (p : Parts) (old : List ℕ) (told : ℕ) (new : List ℕ) : Type 0 where
+  pub wdl : Result Wdl ProbeFault
+  pub probe : IsKnownProbe tables p wdl
+  pub put : PutsText (missing_name wdl) old told new
+
+-- ... of the position that a board shows; the name is empty where it shows none
+pub record PutsKnownMissing (tables : Tables) (board : Board) (old : List ℕ) (told : ℕ) (new : List ℕ) : Type 0 where
+  pub position : IsPosition (shown board) → PutsKnownMissingOf tables (shown board) old told new
   pub fault : (fault : PositionFault) → IsFirstFault (shown board) fault → PutsText [] old told new
   pub one : IsPosition (shown board) ⊎ ((fault : PositionFault) × IsFirstFault (shown board) fault)
 

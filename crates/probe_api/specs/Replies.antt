@@ -21,6 +21,7 @@ use Rattle.judge_core.specs.declared.fault.ProbeFault.TheVariants.{OutOfScope, N
 use Rattle.judge_core.specs.Answers.{IsProbe, ListsMoves, ListsMovesForVerdict, signed_in}
 use Rattle.judge_core.specs.Determined.{IsDeterminedWdl, IsDeterminedDtz, ListsMovesDetermined}
 use Rattle.judge_core.specs.Distances.{dtz_of}
+use Rattle.judge_core.specs.Known.{IsKnownProbe}
 use Rattle.judge_core.specs.Probing.{wdl_of}
 use Rattle.judge_core.specs.Ruling.{is_out_of_scope, ruling}
 use Rattle.judge_core.specs.Tables.{Tables}
@@ -28,7 +29,7 @@ use Rattle.judge_core.specs.ProbeResult.{numbered}
 use Rattle.probe_api.specs.Boards.{shown}
 use Rattle.probe_api.specs.declared.board.Board.{Board}
 use Rattle.probe_api.specs.declared.asking.Question.{Question}
-use Rattle.probe_api.specs.declared.asking.Question.TheVariants.{Wdl as AsksWdl, Dtz as AsksDtz, Verdict as AsksVerdict, DeterminedWdl as AsksDeterminedWdl, DeterminedDtz as AsksDeterminedDtz}
+use Rattle.probe_api.specs.declared.asking.Question.TheVariants.{Wdl as AsksWdl, Dtz as AsksDtz, Verdict as AsksVerdict, KnownWdl as AsksKnownWdl, DeterminedWdl as AsksDeterminedWdl, DeterminedDtz as AsksDeterminedDtz}
 use Rattle.probe_api.specs.declared.reply.Reply.{Reply}
 
 abbrev pub told : ℤ → Reply
@@ -86,10 +87,16 @@ pub record TellsDtz (tables : Tables) (p : Parts) (reply : Reply) : Type 0 where
   pub memory : dtz ≡ Err NoMemory → ListsMoves tables p
   pub told : reply ≡ probe_reply dtz
 
--- or the verdict, unless memory for a list of moves was refused
+-- the verdict, unless memory for a list of moves was refused,
 pub record TellsVerdict (tables : Tables) (p : Parts) (reply : Reply) : Type 0 where
   pub told : reply ≢ refused 5 → reply ≡ told (pos (verdict_number (ruling tables p)))
   pub memory : reply ≡ refused 5 → ListsMovesForVerdict tables p
+
+-- the value as soon as it is known, which a capture that wins is whatever is missing or damaged elsewhere,
+pub record TellsKnownWdl (tables : Tables) (p : Parts) (reply : Reply) : Type 0 where
+  pub wdl : Result Wdl ProbeFault
+  pub is : IsKnownProbe tables p wdl
+  pub told : reply ≡ probe_reply (numbered wdl)
 
 -- the value that is the same whatever the missing tables hold, the set's own where it has one,
 pub record TellsDeterminedWdl (tables : Tables) (p : Parts) (reply : Reply) : Type 0 where
@@ -108,6 +115,7 @@ abbrev pub Tells : Question → Tables → Parts → Reply → Type 0
 Tells AsksWdl tables p reply = TellsWdl tables p reply
 Tells AsksDtz tables p reply = TellsDtz tables p reply
 Tells AsksVerdict tables p reply = TellsVerdict tables p reply
+Tells AsksKnownWdl tables p reply = TellsKnownWdl tables p reply
 Tells AsksDeterminedWdl tables p reply = TellsDeterminedWdl tables p reply
 Tells AsksDeterminedDtz tables p reply = TellsDeterminedDtz tables p reply
 

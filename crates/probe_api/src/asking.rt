@@ -2,7 +2,7 @@
 
 ghost use Rattle.std.specs.Prelude.{◌≡◌};
 ghost use Rattle.judge_core.specs.ProbeResult.{numbered};
-ghost use Rattle.probe_api.specs.Replies.{probe_reply, Tells, TellsBoard, TellsText, TellsWdl, TellsDtz, TellsVerdict, TellsDeterminedWdl, TellsDeterminedDtz};
+ghost use Rattle.probe_api.specs.Replies.{probe_reply, Tells, TellsBoard, TellsText, TellsWdl, TellsDtz, TellsVerdict, TellsKnownWdl, TellsDeterminedWdl, TellsDeterminedDtz};
 
 use crate::board::{Board, position_on};
 use crate::reply::{Reply, fen_status, position_status, probed, verdict_number};
@@ -20,6 +20,8 @@ pub enum Question {
     Dtz,
     /// The verdict.
     Verdict,
+    /// The value as soon as it is known: a capture that wins is it, whatever is missing or damaged elsewhere.
+    KnownWdl,
     /// The value that is the same whatever the missing tables hold.
     DeterminedWdl,
     /// The distance that is the same whatever the missing tables hold.
@@ -72,6 +74,15 @@ fn verdict(alloc: Global, set: &mut Set<'_>, position: &Position) -> Reply
     }
 }
 
+/// The WDL value as soon as it is known.
+fn known_wdl(alloc: Global, set: &mut Set<'_>, position: &Position) -> Reply
+    ensures is { TellsKnownWdl set.old.tables position.now result }
+    ensures kept { set.new ≡ set.old }
+{
+    let wdl = set.known_wdl(alloc, position);
+    wdl_reply(wdl)
+}
+
 /// The WDL value, by the tables or else whatever the missing ones hold.
 fn determined_wdl(alloc: Global, set: &mut Set<'_>, position: &Position) -> Reply
     ensures is { TellsDeterminedWdl set.old.tables position.now result }
@@ -106,6 +117,7 @@ pub(crate) fn answer(
         Question::Wdl => wdl(alloc, set, position),
         Question::Dtz => dtz(alloc, set, position),
         Question::Verdict => verdict(alloc, set, position),
+        Question::KnownWdl => known_wdl(alloc, set, position),
         Question::DeterminedWdl => determined_wdl(alloc, set, position),
         Question::DeterminedDtz => determined_dtz(alloc, set, position),
     }

@@ -1,17 +1,17 @@
 //! One question asked of many boards.
 
-ghost use Rattle.std.specs.Prelude.{◌≡◌, ◌≢◌, ◌<◌, ◌≤◌, length, slice_index_or, IfSome};
+ghost use Rattle.std.specs.Prelude.{◌≡◌, ◌≢◌, ◌<◌, ◌≤◌, length, map, slice_index_or, IfOk, IfSome};
+ghost use Rattle.board_core.specs.declared.parts.Parts.{Parts};
 ghost use Rattle.probe_api.specs.declared.board.Board.{Board};
-ghost use Rattle.probe_api.specs.declared.asking.Question.TheVariants.{Wdl as AsksWdl};
 ghost use Rattle.probe_api.specs.Batches.{AreTold, TellsBoards};
-ghost use Rattle.probe_api.specs.Inside.{AreShown, AreValues};
+ghost use Rattle.probe_api.specs.Inside.{AreShown, AreValues, IsAnswerBy, answer_by, question_of};
 
 use crate::asking::{Question, answer_board, wdl_reply};
 use crate::board::{Board, position_on};
 use crate::reply::Reply;
 use board_core::Position;
 use judge_core::{ProbeFault, Set, Wdl};
-use std::alloc::Global;
+use std::alloc::{AllocError, Global};
 use std::ops::Range;
 
 fn board_at(boards: &[Board], place: usize) -> &Board
@@ -45,6 +45,27 @@ fn answer_between(
     }
 }
 
+/// How far the captures are searched for the values of boards that are looked up side by side.
+#[derive(Clone, Copy)]
+enum Search {
+    /// All of them, as `Question::Wdl` asks.
+    Whole,
+    /// Up to one that wins, as `Question::KnownWdl` asks.
+    ToAWin,
+}
+
+impl Search {
+    /// The question that asks so.
+    fn question(self) -> Question
+        ensures { result ≡ question_of self }
+    {
+        match self {
+            Search::Whole => Question::Wdl,
+            Search::ToAWin => Question::KnownWdl,
+        }
+    }
+}
+
 /// How many boards are looked up side by side. Where one of them shows no position they are answered one by one.
 const SIDE_BY_SIDE: usize = 16;
 
@@ -66,28 +87,47 @@ fn positions_on(alloc: Global, boards: &[Board]) -> Option<Vec<Position>>
     Some(positions)
 }
 
-/// The WDL values of the boards, looked up side by side; none where a board shows no position, or where memory is refused.
+/// The values of positions, looked up side by side. The error comes where memory is refused.
+fn values_of(
+    alloc: Global,
+    set: &mut Set<'_>,
+    search: Search,
+    positions: &[Position],
+) -> Result<Vec<Result<Wdl, ProbeFault>>, AllocError>
+    ensures each { IfOk result (λ values. values.items ≡ map (answer_by search set.old.tables) positions.now) }
+    ensures probe { (p : Parts) → IsAnswerBy search set.old.tables p (answer_by search set.old.tables p) }
+    ensures kept { set.new ≡ set.old }
+{
+    match search {
+        Search::Whole => set.wdl_each(alloc, positions),
+        Search::ToAWin => set.known_wdl_each(alloc, positions),
+    }
+}
+
+/// The values of the boards, looked up side by side; none where a board shows no position, or where memory is refused.
 fn values_on(
     alloc: Global,
     set: &mut Set<'_>,
+    search: Search,
     boards: &[Board],
 ) -> Option<Vec<Result<Wdl, ProbeFault>>>
-    ensures are { IfSome result (λ values. AreValues set.old.tables boards.now values.items) }
+    ensures are { IfSome result (λ values. AreValues search set.old.tables boards.now values.items) }
     ensures kept { set.new ≡ set.old }
 {
     let Some(positions) = positions_on(alloc, boards) else {
         return None;
     };
-    match set.wdl_each(alloc, &positions) {
+    match values_of(alloc, set, search, &positions) {
         Ok(values) => Some(values),
         Err(_) => None,
     }
 }
 
-/// The WDL value of each board in a part of the list, in its place.
+/// The value of each board in a part of the list, in its place.
 fn wdl_between(
     alloc: Global,
     set: &mut Set<'_>,
+    search: Search,
     boards: &[Board],
     part: Range<usize>,
     replies: &mut [Reply],
@@ -95,13 +135,13 @@ fn wdl_between(
     requires lengths { length boards.now ≡ length replies.old }
     requires from { part.start ≤ part.end }
     requires to { part.end ≤ length boards.now }
-    requires before { AreTold AsksWdl set.old.tables boards.now replies.old part.start }
+    requires before { AreTold (question_of search) set.old.tables boards.now replies.old part.start }
     ensures places { length replies.new ≡ length replies.old }
-    ensures each { AreTold AsksWdl set.old.tables boards.now replies.new part.end }
+    ensures each { AreTold (question_of search) set.old.tables boards.now replies.new part.end }
     ensures kept { set.new ≡ set.old }
 {
-    let Some(values) = values_on(alloc, set, &boards[part.start..part.end]) else {
-        answer_between(alloc, set, Question::Wdl, boards, part, replies);
+    let Some(values) = values_on(alloc, set, search, &boards[part.start..part.end]) else {
+        answer_between(alloc, set, search.question(), boards, part, replies);
         return;
     };
     for i in 0..values.len() {
@@ -109,17 +149,23 @@ fn wdl_between(
     }
 }
 
-/// The WDL value of each board, in its place. `SIDE_BY_SIDE` of them at a time are looked up side by side.
-fn wdl_of_each(alloc: Global, set: &mut Set<'_>, boards: &[Board], replies: &mut [Reply])
+/// The value of each board, in its place. `SIDE_BY_SIDE` of them at a time are looked up side by side.
+fn wdl_of_each(
+    alloc: Global,
+    set: &mut Set<'_>,
+    search: Search,
+    boards: &[Board],
+    replies: &mut [Reply],
+)
     requires { length boards.now ≡ length replies.old }
     ensures places { length replies.new ≡ length replies.old }
-    ensures each { TellsBoards AsksWdl set.old.tables boards.now replies.new }
+    ensures each { TellsBoards (question_of search) set.old.tables boards.now replies.new }
     ensures kept { set.new ≡ set.old }
 {
     let mut from: usize = 0;
     'boards: while from < boards.len() {
         let to = from + SIDE_BY_SIDE.min(boards.len() - from);
-        wdl_between(alloc, set, boards, from..to, replies);
+        wdl_between(alloc, set, search, boards, from..to, replies);
         from = to;
     }
 }
@@ -138,7 +184,8 @@ fn answer_each(
     ensures kept { set.new ≡ set.old }
 {
     match question {
-        Question::Wdl => wdl_of_each(alloc, set, boards, replies),
+        Question::Wdl => wdl_of_each(alloc, set, Search::Whole, boards, replies),
+        Question::KnownWdl => wdl_of_each(alloc, set, Search::ToAWin, boards, replies),
         Question::Dtz | Question::Verdict | Question::DeterminedWdl | Question::DeterminedDtz => {
             answer_between(alloc, set, question, boards, 0..boards.len(), replies)
         }

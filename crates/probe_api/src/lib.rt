@@ -18,6 +18,8 @@
 //! - CLAIM: `answer_text`, clause `is`; `answer_board`, clause `is`; `root_of_text`, clause `is`; `root_of_board`, clause `is`: where
 //!   determined values are asked for, the value, the distance and the root moves that are the same whatever the missing tables hold,
 //!   the set's own where it has one.
+//! - CLAIM: `answer_text`, clause `is`; `answer_board`, clause `is`: the value as soon as it is known, where this is asked for: a capture
+//!   that leads to a lost position for the opponent wins, whatever is missing or damaged elsewhere.
 //! - CLAIM: `answer_boards`, clauses `is`, `lengths`, `refused`, `kept`: of many boards each reply is that of its board. The
 //!   status is 0 where there are as many replies as boards, and else 82, and none is written.
 //! - CLAIM: `add`, clauses `is`, `memory`: a file is added as the table that it is, or refused by its first fault or as one that is
@@ -32,8 +34,9 @@
 //!   best first, where all fit into the caller's array; else it stays as it was. Status 5 comes only at a position in scope.
 //! - CLAIM: `put_board`; `board_after`; `board_shows_its_position`; `state_of_board`: the board of the position that a text spells, and
 //!   that after a legal move, each of which shows its position, and how a board stands. A fault leaves the room as it was.
-//! - CLAIM: `put_missing`, clauses `is`, `kept`; `put_dtz_missing`, clauses `is`, `kept`: the name of the first table that the value of a
-//!   board lacks, and of the first material of which its distance lacks a table.
+//! - CLAIM: `put_missing`, clauses `is`, `kept`; `put_known_missing`, clauses `is`, `kept`; `put_dtz_missing`, clauses `is`, `kept`: the
+//!   name of the first table that the value of a board lacks, also as soon as it is known, and of the first material of which its
+//!   distance lacks a table.
 //! - CLAIM: `put_san`; `tell_san`: the text of a legal move in standard algebraic notation, and the one legal move that such a text
 //!   tells. Otherwise the first fault is told, and the caller's room stays as it was.
 //! - CLAIM: `has`; `largest`: whether a set has the table of a kind for a material that a text names, and the largest number of men
@@ -65,7 +68,7 @@ pub use board::Board;
 pub use game::{Game, begin_game, tell_numbers, tell_text};
 pub use holding::{has, largest};
 pub use listing::{moves_of_board, moves_of_text};
-pub use missing::{put_dtz_missing, put_missing};
+pub use missing::{put_dtz_missing, put_known_missing, put_missing};
 pub use naming::{status_name, verdict_name, version};
 pub use plain_move::PlainMove;
 pub use reply::Reply;

@@ -2,7 +2,7 @@
 
 ghost use Rattle.std.specs.Prelude.{◌≡◌};
 ghost use Rattle.place_index.specs.Material.{name_of, men_of};
-ghost use Rattle.probe_api.specs.Missing.{PutsDtzMissing, PutsDtzMissingOf, PutsMissing, PutsMissingOf};
+ghost use Rattle.probe_api.specs.Missing.{PutsDtzMissing, PutsDtzMissingOf, PutsKnownMissing, PutsKnownMissingOf, PutsMissing, PutsMissingOf};
 ghost use Rattle.probe_api.specs.Texts.{PutsText};
 
 use crate::board::{Board, position_on};
@@ -41,6 +41,35 @@ pub fn put_missing(alloc: Global, set: &mut Set<'_>, board: &Board, room: &mut [
 {
     match position_on(board) {
         Ok(position) => put_missing_of(alloc, set, &position, room),
+        Err(_) => put_text(b"", room),
+    }
+}
+
+/// Puts the name of the table that the probe of a position misses which ends at a capture that wins.
+fn put_known_missing_of(
+    alloc: Global,
+    set: &mut Set<'_>,
+    position: &Position,
+    room: &mut [u8],
+) -> usize
+    ensures is { PutsKnownMissingOf set.old.tables position.now room.old result room.new }
+    ensures kept { set.new ≡ set.old }
+{
+    let probed = set.known_wdl(alloc, position);
+    match &probed {
+        Err(ProbeFault::NotCovered(material)) => put_name(material, room),
+        _ => put_text(b"", room),
+    }
+}
+
+/// Puts the name of the first table that the set lacks for the value of a board as soon as it is known (`Question::KnownWdl`), as
+/// `put_missing` does for its WDL probe: the name is empty too where a capture wins. The set stays as it was but for its cache.
+pub fn put_known_missing(alloc: Global, set: &mut Set<'_>, board: &Board, room: &mut [u8]) -> usize
+    ensures is { PutsKnownMissing set.old.tables board.now room.old result room.new }
+    ensures kept { set.new ≡ set.old }
+{
+    match position_on(board) {
+        Ok(position) => put_known_missing_of(alloc, set, &position, room),
         Err(_) => put_text(b"", room),
     }
 }

@@ -1,8 +1,9 @@
 -- What the code has found on its way through the captures.
-use Rattle.std.specs.Prelude.{Bool, true, false, not, List, is_none, Result, Ok, Err, filter}
+use Rattle.std.specs.Prelude.{Bool, true, false, not, List, is_none, Option, Some, None, Result, Ok, Err, filter, if◌then◌else◌}
 use Rattle.board_core.specs.declared.parts.Parts.{Parts}
 use Rattle.board_core.specs.declared.moves.Move.{Move}
 use Rattle.board_core.specs.Attack.{man_at}
+use Rattle.board_core.specs.ComputedMoves.{legal_captures}
 use Rattle.judge_core.specs.declared.wdl.Wdl.{Wdl}
 use Rattle.judge_core.specs.declared.wdl.Wdl.TheVariants.{Loss}
 use Rattle.judge_core.specs.declared.fault.ValueFault.{ValueFault}
@@ -10,6 +11,7 @@ use Rattle.judge_core.specs.declared.found.Found.{Found}
 use Rattle.judge_core.specs.declared.found.CaptureSearch.{CaptureSearch}
 use Rattle.judge_core.specs.Values.{Reading, greater}
 use Rattle.judge_core.specs.Asked.{faults_in, first_fault, unless, no_faults, with_fault, with_answer}
+use Rattle.judge_core.specs.Known.{wins_by_capture}
 use Rattle.judge_core.specs.Probing.{greatest_value, value_or_loss, values_after}
 
 -- a move that goes to an empty square; a capture that does is en passant
@@ -23,6 +25,10 @@ found_by_captures value p moves = record {
   capture = greatest_value (values_after value p (filter (λ m. not (lands_empty p m)) moves));
   passant = greatest_value (values_after value p (filter (lands_empty p) moves));
 }
+
+-- what all captures give, or none where one of them wins
+abbrev pub found_unless_won : (Parts → Reading) → Parts → Option Found
+found_unless_won value p = if wins_by_capture value p then None else Some (found_by_captures value p (legal_captures p))
 
 -- before the first of them
 abbrev pub nothing_found : Found
