@@ -1,5 +1,5 @@
 -- Going through a block from place to place.
-use Rattle.std.proofs.Common.{◌≡◌, ℕ, ◌+◌, ◌-◌, ◌*◌, ◌/◌, ◌%◌, ◌^◌, ◌≤◌, List, length, Some, subst, arith}
+use Rattle.std.proofs.Common.{◌≡◌, ℕ, ◌+◌, ◌-◌, ◌*◌, ◌/◌, ◌%◌, ◌^◌, ◌≤◌, ◌⊎◌, inl, inr, List, length, Some, subst, arith}
 use Rattle.pair_dict.specs.Symbols.{values_of}
 use Rattle.pair_dict.specs.Codes.{Pairing, code_at}
 use Rattle.pair_dict.specs.Inside.Runs.{run_values, run_bits, sum_values, sum_bits, IsRunAt, IsFurther, AreTaken}
@@ -65,6 +65,13 @@ run_skipped d block from place next buffer left values n first shows run fits he
       further = further_run d block from place next values n first (run held) fits (omega (arith, shows.within)) at-is left-is;
       shows = shows_after block next.at n buffer left (omega arith) held (subst (λ (q : ℕ). Shows block q buffer) back shows) bits-is held-is;
     }
+
+-- what holds of two sums holds of the one that was taken
+pub either_sum : (P : RunSum → Type 0) (more less sum : RunSum) → (sum ≡ more) ⊎ (sum ≡ less) → P more → P less → P sum
+either_sum P more less sum which of-more of-less = elim which [
+  | inl is ↦ rw is of-more
+  | inr is ↦ rw is of-less
+]
 
 -- runs that are taken out of a word one after the other
 pub taken_first : (d : Pairing) (block : List ℕ) (p : ℕ) (sum : RunSum) (buffer : BitBuffer) → sum_values sum ≡ 0 → sum_bits sum ≡ 0 → Shows block p buffer → AreTaken d block p sum buffer

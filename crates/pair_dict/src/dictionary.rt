@@ -195,24 +195,31 @@ impl<'a> Dictionary<'a> {
         }
     }
 
-    /// Four runs taken from a word one after the other, added up, and the last of them.
+    /// Four runs taken from a word one after the other, added up, and the last of them; and as many of the first ones, added
+    /// up, as have at most so many values.
     #[inline]
-    fn four_runs(&self, buffer: BitBuffer) -> (RunSum, CodeRun)
+    fn four_runs(&self, buffer: BitBuffer, most: usize) -> (RunSum, CodeRun, RunSum)
         requires { 52 ≤ buffer.held }
         ensures are { (block : List ℕ) (p : ℕ) → Shows block p buffer
             → IsRunAt self.now block p (sum_values result.0) (sum_bits result.0) }
         ensures few { sum_bits result.0 ≤ 52 }
         ensures last { run_bits result.1 ≤ sum_bits result.0 }
+        ensures first { (block : List ℕ) (p : ℕ) → Shows block p buffer
+            → IsRunAt self.now block p (sum_values result.2) (sum_bits result.2) }
+        ensures first_few { sum_bits result.2 ≤ 52 }
+        ensures first_fit { sum_values result.2 ≤ most }
     {
         let mut rest = buffer;
         let mut sum = RunSum::none();
+        let mut first = RunSum::none();
         let mut run = CodeRun::none();
         for taken in 0..RUNS_IN_WORD {
             run = self.run(rest);
             sum = sum.with(run);
             rest = rest.without(run.bits());
+            first = first.or_more(sum, most);
         }
-        (sum, run)
+        (sum, run, first)
     }
 
     /// Skips runs from a place on, one by one from a single word. It stops at bits that begin with no run, at a run
@@ -262,9 +269,9 @@ impl<'a> Dictionary<'a> {
     {
         let mut place = from;
         'words: while has_word(block, place.at) {
-            let (sum, last) = self.four_runs(BitBuffer::at(block, place.at));
+            let (sum, last, first) = self.four_runs(BitBuffer::at(block, place.at), place.left);
             if sum.values() > place.left {
-                return place;
+                return place.after(first.values(), first.bits());
             }
             place = place.after(sum.values(), sum.bits());
             if last.bits() == 0 && has_word(block, place.at) {
