@@ -66,6 +66,16 @@ run_skipped d block from place next buffer left values n first shows run fits he
       shows = shows_after block next.at n buffer left (omega arith) held (subst (λ (q : ℕ). Shows block q buffer) back shows) bits-is held-is;
     }
 
+-- a code of a buffer is skipped
+pub code_skipped : (d : Pairing) (block : List ℕ) (from place next : Place) (buffer left : BitBuffer) (s n values : ℕ) → IsFurther d block from place → Shows block place.at buffer → code_at d block place.at ≡ Some (s, n) → 1 ≤ n → n ≤ 32 → 32 ≤ buffer.held → 1 ≤ values → values ≡ length (values_of d.symbols s) → values ≤ place.left
+    → next.at ≡ place.at + n → next.left ≡ place.left - values → left.bits ≡ buffer.bits * 2 ^ n % 2 ^ 64 → left.held ≡ buffer.held - n → IsSkipped d block from next left
+code_skipped d block from place next buffer left s n values first shows code some short held one values-is fits at-is left-is bits-is held-is =
+    let back : place.at ≡ next.at - n = omega arith in
+    record {
+      further = further_code d block from place next s n values first code some short one values-is fits (omega (arith, shows.within)) at-is left-is;
+      shows = shows_after block next.at n buffer left (omega arith) (omega arith) (subst (λ (q : ℕ). Shows block q buffer) back shows) bits-is held-is;
+    }
+
 -- what holds of two sums holds of the one that was taken
 pub either_sum : (P : RunSum → Type 0) (more less sum : RunSum) → (sum ≡ more) ⊎ (sum ≡ less) → P more → P less → P sum
 either_sum P more less sum which of-more of-less = elim which [

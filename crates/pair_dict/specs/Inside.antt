@@ -2,6 +2,7 @@
 pub mod Layouts
 pub mod Counts
 pub mod Windows
+pub mod Hints
 pub mod Runs
 pub mod Kept
 pub mod Nodes

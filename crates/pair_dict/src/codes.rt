@@ -1,12 +1,13 @@
 //! Codes of symbols.
 
 ghost use Rattle.std.specs.Prelude.{◌≡◌, ◌+◌, ◌*◌, ◌/◌, ◌%◌, ◌^◌, ◌<◌, ◌≤◌, List, ℕ, length, slice_index, true, nat_lt, IfOk, IfSome, if◌then◌else◌};
-ghost use Rattle.pair_dict.specs.Codes.{bases, code_from};
+ghost use Rattle.pair_dict.specs.Codes.{bases, below, code_from};
 ghost use Rattle.pair_dict.specs.Reading.{falls, words};
-ghost use Rattle.pair_dict.specs.Inside.Windows.{AreFirsts, AreLong, IsLeastWithPrefix, IsSoundCode, firsts_in, lowest_in};
+ghost use Rattle.pair_dict.specs.Inside.Windows.{AreFirsts, IsLeastWithPrefix, IsSoundCode, IsKnownCode, IsFront, Shows, firsts_in, lowest_in};
+ghost use Rattle.pair_dict.specs.Inside.Hints.{EndsAtZero, IsHint, AreHints, IsFirstReached};
 
 use crate::two_bytes::word_of;
-use crate::window::{room_at, window};
+use crate::window::{BitBuffer, room_at, window};
 use std::alloc::{AllocError, Global};
 
 /// The base of a length at the top of 32 bits, or 2^32 where no code has that length.
@@ -96,51 +97,65 @@ pub(crate) fn code_lengths(
     Ok(codes)
 }
 
-/// How the codes of a dictionary are looked up, in eight bytes.
+/// How the codes of a dictionary are looked up.
 #[derive(Clone, Copy)]
 pub(crate) struct CodeSearch {
-    /// Bits below this number are no code of the lengths before the place `from`, where the search for a long code begins.
-    pub(crate) first: u32,
-    pub(crate) from: u8,
     /// The least length of a code.
     pub(crate) least: u8,
     /// By how many bits runs are looked up; they hold no longer code.
     pub(crate) run_width: u8,
 }
 
-impl CodeSearch {
-    /// The search for codes of this least length, where runs are looked up by so many bits.
-    pub(crate) fn new(run_width: u32, least: u32, firsts: &[u64]) -> CodeSearch
-        requires width { run_width ≤ 13 }
-        requires least { least ≤ 32 }
-        ensures long { AreLong firsts.now result }
-        ensures least { result.least ≡ least }
-        ensures width { result.run_width ≡ run_width }
-    {
-        let from = ((run_width + 1).saturating_sub(least) as usize).min(firsts.len());
-        let mut first = u32::MAX as u64;
-        for i in 0..from {
-            first = first.min(firsts[i]);
-        }
-        CodeSearch {
-            first: first as u32,
-            from: from as u8,
-            least: least as u8,
-            run_width: run_width as u8,
-        }
+/// The place of the least code length that bits with these first six may have.
+pub(crate) fn hint(firsts: &[u64], prefix: u64) -> usize
+    requires some { 1 ≤ length firsts.now }
+    requires last { EndsAtZero firsts.now }
+    requires prefix { prefix < 64 }
+    ensures { IsHint firsts.now prefix result }
+{
+    let end = (prefix + 1) * 67108864;
+    let mut i: usize = 0;
+    'up: while firsts[i] >= end {
+        i += 1;
     }
+    i
+}
 
-    /// The place of the least code length that bits may have; the bits stand at the top of 32 bits.
-    #[inline]
-    fn start(&self, front: u64) -> usize
-        ensures { result ≡ if nat_lt front self.now.first then self.now.from else 0 }
-    {
-        if front < self.first as u64 {
-            self.from as usize
-        } else {
-            0
-        }
+/// The place of the code length that bits have, which stand at the top of 32 bits.
+#[inline]
+fn place_of(codes: &[CodeLength], hints: &[u8], front: u64) -> usize
+    requires last { EndsAtZero (firsts_in codes.now) }
+    requires hints { AreHints (firsts_in codes.now) hints.now }
+    requires front { front < 2 ^ 32 }
+    ensures { IsFirstReached (firsts_in codes.now) front result }
+{
+    let mut i = hints[(front / 67108864) as usize] as usize;
+    'up: while codes[i].first() > front {
+        i += 1;
     }
+    i
+}
+
+/// The number of the symbol whose code these bits begin with, if there is that symbol, and the length of the code. The bits
+/// stand at the top of 32 bits.
+#[inline]
+fn code_of(codes: &[CodeLength], hints: &[u8], least: u8, front: u64) -> (usize, u32)
+    requires some { 1 ≤ length codes.now }
+    requires greatest { least + length codes.now ≤ 33 }
+    requires firsts { AreFirsts least (lowest_in codes.now) (firsts_in codes.now) }
+    requires hints { AreHints (firsts_in codes.now) hints.now }
+    requires front { front < 2 ^ 32 }
+    ensures is { (limit : ℕ) (block : List ℕ) (p : ℕ) → IsFront block p front → p + result.1 ≤ 8 * length block
+        → code_from limit block p least (bases (lowest_in codes.now)) (lowest_in codes.now) ≡ below limit result.0 result.1 }
+    ensures past { (limit : ℕ) (block : List ℕ) (p : ℕ) → IsFront block p front → 8 * length block < p + result.1
+        → code_from limit block p least (bases (lowest_in codes.now)) (lowest_in codes.now) ≡ None }
+    ensures some { least ≤ result.1 }
+    ensures short { result.1 ≤ 32 }
+{
+    let i = place_of(codes, hints, front);
+    let length = least as u32 + i as u32;
+    let above = ((front - codes[i].first()) >> (32 - length)) as usize;
+    (codes[i].lowest() as usize + above, length)
 }
 
 /// The symbol and the length of the code at a bit of a block, by the first number of each length.
@@ -149,32 +164,52 @@ pub(crate) fn code_in(
     block: &[u8],
     at: usize,
     codes: &[CodeLength],
-    search: &CodeSearch,
+    hints: &[u8],
+    least: u8,
 ) -> Option<(usize, u32)>
     requires at { at ≤ 8 * length block.now }
-    requires least { 1 ≤ search.now.least }
-    requires greatest { search.now.least + length codes.now ≤ 33 }
-    requires firsts { AreFirsts search.now.least (lowest_in codes.now) (firsts_in codes.now) }
-    requires long { AreLong (firsts_in codes.now) search.now }
-    ensures is { result ≡ code_from limit block.now at search.now.least (bases (lowest_in codes.now)) (lowest_in codes.now) }
+    requires least { 1 ≤ least }
+    requires some { 1 ≤ length codes.now }
+    requires greatest { least + length codes.now ≤ 33 }
+    requires firsts { AreFirsts least (lowest_in codes.now) (firsts_in codes.now) }
+    requires hints { AreHints (firsts_in codes.now) hints.now }
+    ensures is { result ≡ code_from limit block.now at least (bases (lowest_in codes.now)) (lowest_in codes.now) }
     ensures sound { IfSome result (λ code. IsSoundCode limit block.now at code) }
 {
-    let front = window(block, at) >> 32;
-    for i in search.start(front)..codes.len() {
-        let first = codes[i].first();
-        if first <= front {
-            let length = search.least as u32 + i as u32;
-            if length as usize > room_at(block, at) {
-                return None;
-            }
-            let above = ((front - first) >> (32 - length)) as usize;
-            let symbol = codes[i].lowest() as usize + above;
-            return if symbol < limit {
-                Some((symbol, length))
-            } else {
-                None
-            };
-        }
+    let (symbol, length) = code_of(codes, hints, least, window(block, at) >> 32);
+    if length as usize > room_at(block, at) {
+        return None;
     }
-    None
+    if symbol < limit {
+        Some((symbol, length))
+    } else {
+        None
+    }
+}
+
+/// The symbol and the length of the code at the front of 32 bits or more.
+#[inline]
+pub(crate) fn code_held(
+    limit: usize,
+    buffer: BitBuffer,
+    codes: &[CodeLength],
+    hints: &[u8],
+    least: u8,
+) -> Option<(usize, u32)>
+    requires held { 32 ≤ buffer.held }
+    requires least { 1 ≤ least }
+    requires some { 1 ≤ length codes.now }
+    requires greatest { least + length codes.now ≤ 33 }
+    requires firsts { AreFirsts least (lowest_in codes.now) (firsts_in codes.now) }
+    requires hints { AreHints (firsts_in codes.now) hints.now }
+    ensures is { (block : List ℕ) (p : ℕ) → Shows block p buffer
+        → result ≡ code_from limit block p least (bases (lowest_in codes.now)) (lowest_in codes.now) }
+    ensures sound { IfSome result (λ code. IsKnownCode limit code) }
+{
+    let (symbol, length) = code_of(codes, hints, least, buffer.front_32());
+    if symbol < limit {
+        Some((symbol, length))
+    } else {
+        None
+    }
 }

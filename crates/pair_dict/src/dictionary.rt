@@ -7,21 +7,22 @@ ghost use Rattle.pair_dict.specs.Inside.Counts.{AreCounts};
 ghost use Rattle.pair_dict.specs.Inside.Layouts.{pairing_in, IsDictLayout};
 ghost use Rattle.pair_dict.specs.Inside.Nodes.{AreNodes};
 ghost use Rattle.pair_dict.specs.Inside.Tables.{AreCodeTables};
-ghost use Rattle.pair_dict.specs.Inside.Windows.{IsSoundCode, Shows};
+ghost use Rattle.pair_dict.specs.Inside.Windows.{IsSoundCode, IsKnownCode, Shows};
 ghost use Rattle.pair_dict.specs.Inside.Runs.{run_values, run_bits, sum_values, sum_bits, IsLeft, IsRunAt, IsFurther};
 ghost use Rattle.pair_dict.specs.Reading.{GivesFromDict, layout_at, dictionary_at};
 ghost use Rattle.pair_dict.specs.declared.fault.DictFault.TheVariants.{OutOfMemory};
 ghost use Rattle.pair_dict.specs.Blocks.{block_values, BlockIsComputed, BlockBeginsWithValues};
 
-use crate::codes::{CodeLength, CodeSearch, code_in, code_lengths, firsts_of};
-use crate::counts::{Settled, bytes_of, settle_all};
+use crate::codes::{CodeLength, CodeSearch, code_held, code_in, code_lengths, firsts_of};
+use crate::counts::{Settled, settle_all};
 use crate::fault::{Damaged, DictFault};
+use crate::hints::{HINTS, bytes_of};
 use crate::layout::Layout;
 use crate::nodes::{Node, Parts};
 use crate::places::Place;
 use crate::runs::{CodeRun, RunSum, run_width, runs_of};
 use crate::symbols::{MOST_VALUES, Symbol, symbol_at};
-use crate::window::{BitBuffer, has_word};
+use crate::window::{BitBuffer, has_word, window};
 use std::alloc::{AllocError, Global};
 use std::marker::Model;
 
@@ -30,16 +31,16 @@ const RUNS_IN_WORD: u32 = 4;
 
 /// The symbols of a table and their codes.
 ///
-/// It borrows the bytes that it was read from. Beside them it keeps two numbers for each code length, the runs of short
-/// codes by their first bits, and of each symbol how many values it has and what they are.
+/// It borrows the bytes that it was read from. Beside them it keeps two numbers for each code length, hints where the search
+/// for a code begins, the runs of short codes by their first bits, and of each symbol how many values it has and what they are.
 #[derive(Drop)]
 pub struct Dictionary<'a> {
     search: CodeSearch,
     codes: Vec<CodeLength>,
     runs: Vec<CodeRun>,
     nodes: Vec<Node>,
-    // How many values each symbol has, less one.
-    counts: Vec<u8>,
+    // The hints, and then how many values each symbol has, less one.
+    bytes: Vec<u8>,
     // Last, since a single value needs none of them.
     symbols: &'a [u8],
 }
@@ -62,6 +63,7 @@ struct CodeTables {
     search: CodeSearch,
     codes: Vec<CodeLength>,
     runs: Vec<CodeRun>,
+    bytes: Vec<u8>,
 }
 
 /// What the codes of a layout are found by.
@@ -75,16 +77,21 @@ fn code_tables(
     requires counts { AreCounts layout.now.symbols.now counts.now }
     requires some { 1 ≤ most_bits }
     requires few { most_bits ≤ 13 }
-    ensures { IfOk result (λ t. AreCodeTables layout.now t) }
+    ensures { IfOk result (λ t. AreCodeTables layout.now counts.now t) }
 {
     let firsts = firsts_of(alloc, layout.least, layout.lowest)?;
-    let run_width = run_width(counts.len(), most_bits);
+    let run_width = run_width(counts.len(), layout.least, most_bits);
     let runs = runs_of(alloc, layout, &firsts, counts, run_width)?;
     let codes = code_lengths(alloc, &firsts, layout.lowest)?;
+    let bytes = bytes_of(alloc, &firsts, counts)?;
     Ok(CodeTables {
-        search: CodeSearch::new(run_width, layout.least, &firsts),
+        search: CodeSearch {
+            least: layout.least as u8,
+            run_width: run_width as u8,
+        },
         codes,
         runs,
+        bytes,
     })
 }
 
@@ -97,7 +104,7 @@ impl<'a> Dictionary<'a> {
     /// present. The time is linear in the number of symbols, whatever their order.
     ///
     /// Values are found by a table of at most 2^`most_bits` entries of two bytes, `most_bits` from 1 to 13. A larger table
-    /// makes fewer steps and misses the cache more often.
+    /// makes fewer steps and misses the cache more often. Up to 11 bits, where codes are long, values are found code by code.
     pub fn read(
         alloc: Global,
         bytes: &'a [u8],
@@ -131,13 +138,12 @@ impl<'a> Dictionary<'a> {
         ensures { IfOk result (λ d. d ≡ (pairing_in layout.now).0) }
     {
         let tables = code_tables(alloc, layout, &settled.counts, most_bits)?;
-        let counts = bytes_of(alloc, &settled.counts)?;
         Ok(Dictionary {
             search: tables.search,
             codes: tables.codes,
             runs: tables.runs,
             nodes: settled.nodes,
-            counts,
+            bytes: tables.bytes,
             symbols: layout.symbols,
         })
     }
@@ -159,7 +165,30 @@ impl<'a> Dictionary<'a> {
         ensures is { result ≡ code_at self.now block.now at }
         ensures sound { IfSome result (λ code. IsSoundCode (symbol_count self.now.symbols) block.now at code) }
     {
-        code_in(self.nodes.len(), block, at, &self.codes, &self.search)
+        code_in(
+            self.nodes.len(),
+            block,
+            at,
+            &self.codes,
+            &self.bytes,
+            self.search.least,
+        )
+    }
+
+    /// The symbol and the length of the code at the front of 32 bits or more.
+    #[inline]
+    fn code_held(&self, buffer: BitBuffer) -> Option<(usize, u32)>
+        requires { 32 ≤ buffer.held }
+        ensures is { (block : List ℕ) (p : ℕ) → Shows block p buffer → result ≡ code_at self.now block p }
+        ensures sound { IfSome result (λ code. IsKnownCode (symbol_count self.now.symbols) code) }
+    {
+        code_held(
+            self.nodes.len(),
+            buffer,
+            &self.codes,
+            &self.bytes,
+            self.search.least,
+        )
     }
 
     /// How many values a symbol has.
@@ -169,7 +198,7 @@ impl<'a> Dictionary<'a> {
         ensures is { result ≡ length (values_of self.now.symbols symbol) }
         ensures some { 1 ≤ result }
     {
-        self.counts[symbol] as usize + 1
+        self.bytes[HINTS + symbol] as usize + 1
     }
 
     /// One value of a symbol.
@@ -308,15 +337,54 @@ impl<'a> Dictionary<'a> {
         }
     }
 
-    /// The bits of the run at the front of a block, 0 to 13. To read it is to bring the block's front and that run from memory.
+    /// The value sought from a place on, code by code.
+    #[inline(never)]
+    fn value_by_codes(&self, block: &[u8], from: Place) -> Result<u16, Damaged>
+        requires at { from.at ≤ 8 * length block.now }
+        requires near { from.at + 32 * from.left < 2 ^ 40 }
+        ensures found { (offset : ℕ) → IsLeft self.now block.now from.at from.left offset
+            → IfOk result (λ v. slice_get (block_values self.now block.now) offset ≡ Some v) }
+        ensures damaged { (offset : ℕ) → IsLeft self.now block.now from.at from.left offset
+            → OnErr result (length (block_values self.now block.now) ≤ offset) }
+    {
+        let mut place = from;
+        let mut buffer = BitBuffer::at(block, from.at);
+        'codes: loop {
+            let bits = buffer.filled(block, place.at);
+            if bits.held() < 32 {
+                return self.value_from(block, place);
+            }
+            let Some((symbol, length)) = self.code_held(bits) else {
+                return Err(Damaged);
+            };
+            let skipped = self.values(symbol);
+            if place.left < skipped {
+                return Ok(self.value_in(symbol, place.left));
+            }
+            place = place.after(skipped, length);
+            buffer = bits.without(length);
+        }
+    }
+
+    /// Whether a run may hold a code.
+    #[inline]
+    fn has_runs(&self) -> bool {
+        self.search.least <= self.search.run_width
+    }
+
+    /// The bits of the run at the front of a block, 0 to 13; where no run holds a code, the hint for the block's first bits, up to
+    /// 13. To read it is to bring the block's front and that run or hint from memory.
     pub fn first_run_bits(&self, block: &[u8]) -> u32
         ensures { result ≤ 13 }
     {
-        self.run(BitBuffer::at(block, 0)).bits()
+        if self.has_runs() {
+            return self.run(BitBuffer::at(block, 0)).bits();
+        }
+        (self.bytes[(window(block, 0) >> 58) as usize] as u32).min(13)
     }
 
     /// The value of a block at an offset from its first value, 0 to 4095. It takes no memory. It skips the symbols
-    /// before the value by their counts, several codes at a time, and descends into one symbol.
+    /// before the value by their counts, several codes at a time where codes are short, and descends into one symbol.
     ///
     /// `Damaged` where the block's whole codes give no value at that offset (Syzygy table format, the values of a block).
     pub fn value(&self, block: &[u8], offset: u32) -> Result<u16, Damaged>
@@ -327,7 +395,10 @@ impl<'a> Dictionary<'a> {
             at: 0,
             left: offset as usize,
         };
-        self.value_from(block, self.skip_words(block, first))
+        if self.has_runs() {
+            return self.value_from(block, self.skip_words(block, first));
+        }
+        self.value_by_codes(block, first)
     }
 
     /// Appends the values of a symbol, as long as there are fewer than `limit`. Right halves wait on a stack while left

@@ -2,8 +2,8 @@
 //!
 //! The bytes of a table file from the greatest code length on go in; a dictionary that borrows them comes out, with how many
 //! bytes it took, or the first refusal. It gives a block's value at an offset (`value`) or its first values (`decode`). Inside:
-//! `layout`, `two_bytes`, `symbols`, `nodes`, `counts`, `codes` for what is read; `window`, `runs`, `places` for the loop over a
-//! block; `dictionary`, `fault`, `laws`.
+//! `layout`, `two_bytes`, `symbols`, `nodes`, `counts`, `codes`, `hints` for what is read; `window`, `runs`, `places` for the loop
+//! over a block; `dictionary`, `fault`, `laws`.
 //!
 //! Words of Stockfish: a symbol's pair is `btree`, its count `symlen` (one less), the least and greatest code length `minSymLen`
 //! and `maxSymLen`, first symbol and base `lowestSym` and `base64`; `Dictionary::read` is `set_sizes`.
@@ -29,6 +29,7 @@ mod codes;
 mod counts;
 mod dictionary;
 mod fault;
+mod hints;
 mod laws;
 mod layout;
 mod nodes;

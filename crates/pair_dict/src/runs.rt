@@ -16,14 +16,23 @@ use std::alloc::{AllocError, Global};
 /// table that misses the cache more often.
 const MORE_BITS: u32 = 3;
 
-/// By how many bits runs are looked up for this number of symbols: `MORE_BITS` more than the symbols' numbers have, up
-/// to `most`.
-pub(crate) fn run_width(symbols: usize, most: u32) -> u32
+/// The most bits by which a small table is looked up.
+const SMALL_TABLE: u32 = 11;
+
+/// Where the least code has this many bits or more, a look-up in a small table gives one code or none.
+const LONG_CODE: u32 = 3;
+
+/// By how many bits runs are looked up for this number of symbols and this least length of a code: `MORE_BITS` more than the
+/// symbols' numbers have, up to `most`. One bit, which holds no code, where a small table of long codes gains nothing.
+pub(crate) fn run_width(symbols: usize, least: u32, most: u32) -> u32
     requires some { 1 ≤ most }
     requires few { most ≤ 13 }
     ensures some { 1 ≤ result }
     ensures few { result ≤ 13 }
 {
+    if most <= SMALL_TABLE && least >= LONG_CODE {
+        return 1;
+    }
     for bits in 0..most.saturating_sub(MORE_BITS) {
         if symbols < 1 << bits {
             return bits + MORE_BITS;

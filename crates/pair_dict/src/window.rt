@@ -148,6 +148,29 @@ impl BitBuffer {
         (self.bits >> (64 - width)) as usize
     }
 
+    /// The first 32 bits, as a number.
+    #[inline]
+    pub(crate) fn front_32(self) -> u64
+        ensures is { result ≡ self.bits / 2 ^ 32 }
+        ensures below { result < 2 ^ 32 }
+    {
+        self.bits >> 32
+    }
+
+    /// These bits, which stand at a bit of a block, or more from there on where fewer than 32 are held.
+    #[inline]
+    pub(crate) fn filled(self, block: &[u8], at: usize) -> BitBuffer
+        requires at { at ≤ 8 * length block.now }
+        requires fits { at < 2 ^ 60 }
+        requires shows { Shows block.now at self }
+        ensures { Shows block.now at result }
+    {
+        if self.held < 32 {
+            return BitBuffer::at(block, at);
+        }
+        self
+    }
+
     /// How many bits are held, up to 64.
     #[inline]
     pub(crate) fn held(self) -> u32

@@ -3,7 +3,8 @@ use Rattle.std.specs.Prelude.{◌≡◌, ◌+◌, ◌^◌, ◌≤◌, length}
 use Rattle.pair_dict.specs.Codes.{Pairing}
 use Rattle.pair_dict.specs.Inside.Counts.{AreCounts}
 use Rattle.pair_dict.specs.Inside.Nodes.{AreNodes, counts_in}
-use Rattle.pair_dict.specs.Inside.Windows.{AreFirsts, AreLong, firsts_in, lowest_in}
+use Rattle.pair_dict.specs.Inside.Windows.{AreFirsts, firsts_in, lowest_in}
+use Rattle.pair_dict.specs.Inside.Hints.{AreHints}
 use Rattle.pair_dict.specs.Inside.Runs.{AreRuns}
 use Rattle.pair_dict.specs.declared.dictionary.Dictionary.TheInside.{Inside}
 
@@ -15,8 +16,8 @@ pub record IsSoundDictionary (a : Inside) : Type 0 where
   pub some : 1 ≤ length a.codes.items
   pub greatest : a.search.least + length a.codes.items ≤ 33
   pub firsts : AreFirsts a.search.least (lowest_in a.codes.items) (firsts_in a.codes.items)
-  pub long_codes : AreLong (firsts_in a.codes.items) a.search
-  pub counts : AreCounts a.symbols.now (counts_in a.counts.items)
+  pub hints : AreHints (firsts_in a.codes.items) a.bytes.items
+  pub counts : AreCounts a.symbols.now (counts_in a.bytes.items)
   pub nodes : AreNodes a.symbols.now a.nodes.items
   pub some_bits : 1 ≤ a.search.run_width
   pub few_bits : a.search.run_width ≤ 13

@@ -10,7 +10,7 @@ down-init c =
     let lt = rw (← c.self.view_is) at c.requires.known in
     record {
       known = lt;
-      within = rw (length-values_of symbols (counts_in c.self.inside.counts.items) c.self.invariant.counts c.args.symbol lt) at (rw (← c.self.view_is) at c.requires.within);
+      within = rw (length-values_of symbols (counts_in c.self.inside.bytes.items) c.self.invariant.counts c.args.symbol lt) at (rw (← c.self.view_is) at c.requires.within);
       same = refl;
     }
 
@@ -18,13 +18,13 @@ pub returns-in-Equal : goal.returns-in-Equal
 returns-in-Equal c =
     let symbols = c.self.inside.symbols.now in
     let i = c.self.invariant in
-    rw (← c.self.view_is) (value_equal symbols (counts_in c.self.inside.counts.items) i.counts c.self.inside.nodes.items i.nodes c.down.symbol c.down.invariant.known c.index.result.now c.index.ensures
+    rw (← c.self.view_is) (value_equal symbols (counts_in c.self.inside.bytes.items) i.counts c.self.inside.nodes.items i.nodes c.down.symbol c.down.invariant.known c.index.result.now c.index.ensures
     c.in-Equal.value c.down.left c.in-Equal.ensures c.down.invariant.within ∙ c.down.invariant.same)
 
 pub down-preserved-then-left-skipped : goal.down-preserved-then-left-skipped
 down-preserved-then-left-skipped c =
     let symbols = c.self.inside.symbols.now in
-    let counts = counts_in c.self.inside.counts.items in
+    let counts = counts_in c.self.inside.bytes.items in
     let i = c.self.invariant in
     let s = c.down.symbol in
     let lt = c.down.invariant.known in
@@ -40,7 +40,7 @@ down-preserved-then-left-skipped c =
 pub down-preserved : goal.down-preserved
 down-preserved c =
     let symbols = c.self.inside.symbols.now in
-    let counts = counts_in c.self.inside.counts.items in
+    let counts = counts_in c.self.inside.bytes.items in
     let i = c.self.invariant in
     let s = c.down.symbol in
     let lt = c.down.invariant.known in
