@@ -6,4 +6,5 @@ pub mod Hints
 pub mod Runs
 pub mod Kept
 pub mod Nodes
+pub mod Words
 pub mod Tables

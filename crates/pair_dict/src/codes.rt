@@ -1,10 +1,11 @@
 //! Codes of symbols.
 
 ghost use Rattle.std.specs.Prelude.{◌≡◌, ◌+◌, ◌*◌, ◌/◌, ◌%◌, ◌^◌, ◌<◌, ◌≤◌, List, ℕ, length, slice_index, true, nat_lt, IfOk, IfSome, if◌then◌else◌};
-ghost use Rattle.pair_dict.specs.Codes.{bases, below, code_from};
+ghost use Rattle.pair_dict.specs.Codes.{below};
 ghost use Rattle.pair_dict.specs.Reading.{falls, words};
 ghost use Rattle.pair_dict.specs.Inside.Windows.{AreFirsts, IsLeastWithPrefix, IsSoundCode, IsKnownCode, IsFront, Shows, firsts_in, lowest_in};
-ghost use Rattle.pair_dict.specs.Inside.Hints.{EndsAtZero, IsHint, AreHints, IsFirstReached};
+ghost use Rattle.pair_dict.specs.Inside.Words.{AreCodes, codes_in, code_kept};
+ghost use Rattle.pair_dict.specs.Inside.Hints.{EndsAtZero, IsHint, IsFirstReached};
 
 use crate::two_bytes::word_of;
 use crate::window::{BitBuffer, room_at, window};
@@ -47,7 +48,7 @@ pub(crate) fn firsts_of(alloc: Global, least: u32, lowest: &[u8]) -> Result<Vec<
 #[derive(Clone, Copy)]
 pub(crate) struct CodeLength {
     // The first number times 65536 plus the lowest symbol, so that one read gives both.
-    packed: u64,
+    pub(crate) packed: u64,
 }
 
 impl CodeLength {
@@ -100,6 +101,10 @@ pub(crate) fn code_lengths(
 /// How the codes of a dictionary are looked up.
 #[derive(Clone, Copy)]
 pub(crate) struct CodeSearch {
+    /// How many symbols there are.
+    pub(crate) symbols: u16,
+    /// How many lengths of codes there are.
+    pub(crate) lengths: u8,
     /// The least length of a code.
     pub(crate) least: u8,
     /// By how many bits runs are looked up; they hold no longer code.
@@ -121,66 +126,76 @@ pub(crate) fn hint(firsts: &[u64], prefix: u64) -> usize
     i
 }
 
-/// The place of the code length that bits have, which stand at the top of 32 bits.
+/// The code length of that place. The search serves the clauses alone.
 #[inline]
-fn place_of(codes: &[CodeLength], hints: &[u8], front: u64) -> usize
-    requires last { EndsAtZero (firsts_in codes.now) }
-    requires hints { AreHints (firsts_in codes.now) hints.now }
+fn code_length(words: &[u32], search: CodeSearch, i: usize) -> CodeLength
+    requires all { 2 * search.lengths ≤ length words.now }
+    requires known { i < search.lengths }
+    ensures first { result.packed / 65536 ≡ slice_index (firsts_in (codes_in search.lengths words.now)) i }
+    ensures lowest { result.packed % 65536 ≡ slice_index (lowest_in (codes_in search.lengths words.now)) i }
+{
+    let _ = search;
+    CodeLength {
+        packed: words[2 * i] as u64 + 4294967296 * words[2 * i + 1] as u64,
+    }
+}
+
+/// The place of the code length that bits have, and that code length. The bits stand at the top of 32 bits.
+#[inline]
+fn length_of(words: &[u32], hints: &[u8], search: CodeSearch, front: u64) -> (usize, CodeLength)
+    requires codes { AreCodes search words.now hints.now }
     requires front { front < 2 ^ 32 }
-    ensures { IsFirstReached (firsts_in codes.now) front result }
+    ensures place { IsFirstReached (firsts_in (codes_in search.lengths words.now)) front result.0 }
+    ensures few { result.0 < search.lengths }
+    ensures first { result.1.packed / 65536 ≡ slice_index (firsts_in (codes_in search.lengths words.now)) result.0 }
+    ensures lowest { result.1.packed % 65536 ≡ slice_index (lowest_in (codes_in search.lengths words.now)) result.0 }
 {
     let mut i = hints[(front / 67108864) as usize] as usize;
-    'up: while codes[i].first() > front {
+    let mut code = code_length(words, search, i);
+    'up: while code.first() > front {
         i += 1;
+        code = code_length(words, search, i);
     }
-    i
+    (i, code)
 }
 
 /// The number of the symbol whose code these bits begin with, if there is that symbol, and the length of the code. The bits
 /// stand at the top of 32 bits.
 #[inline]
-fn code_of(codes: &[CodeLength], hints: &[u8], least: u8, front: u64) -> (usize, u32)
-    requires some { 1 ≤ length codes.now }
-    requires greatest { least + length codes.now ≤ 33 }
-    requires firsts { AreFirsts least (lowest_in codes.now) (firsts_in codes.now) }
-    requires hints { AreHints (firsts_in codes.now) hints.now }
+fn code_of(words: &[u32], hints: &[u8], search: CodeSearch, front: u64) -> (usize, u32)
+    requires codes { AreCodes search words.now hints.now }
     requires front { front < 2 ^ 32 }
-    ensures is { (limit : ℕ) (block : List ℕ) (p : ℕ) → IsFront block p front → p + result.1 ≤ 8 * length block
-        → code_from limit block p least (bases (lowest_in codes.now)) (lowest_in codes.now) ≡ below limit result.0 result.1 }
-    ensures past { (limit : ℕ) (block : List ℕ) (p : ℕ) → IsFront block p front → 8 * length block < p + result.1
-        → code_from limit block p least (bases (lowest_in codes.now)) (lowest_in codes.now) ≡ None }
-    ensures some { least ≤ result.1 }
+    ensures is { (block : List ℕ) (p : ℕ) → IsFront block p front → p + result.1 ≤ 8 * length block
+        → code_kept search words.now block p ≡ below search.symbols result.0 result.1 }
+    ensures past { (block : List ℕ) (p : ℕ) → IsFront block p front → 8 * length block < p + result.1
+        → code_kept search words.now block p ≡ None }
+    ensures some { 1 ≤ result.1 }
     ensures short { result.1 ≤ 32 }
 {
-    let i = place_of(codes, hints, front);
-    let length = least as u32 + i as u32;
-    let above = ((front - codes[i].first()) >> (32 - length)) as usize;
-    (codes[i].lowest() as usize + above, length)
+    let (i, code) = length_of(words, hints, search, front);
+    let length = search.least as u32 + i as u32;
+    let above = ((front - code.first()) >> (32 - length)) as usize;
+    (code.lowest() as usize + above, length)
 }
 
 /// The symbol and the length of the code at a bit of a block, by the first number of each length.
 pub(crate) fn code_in(
-    limit: usize,
     block: &[u8],
     at: usize,
-    codes: &[CodeLength],
+    words: &[u32],
     hints: &[u8],
-    least: u8,
+    search: CodeSearch,
 ) -> Option<(usize, u32)>
     requires at { at ≤ 8 * length block.now }
-    requires least { 1 ≤ least }
-    requires some { 1 ≤ length codes.now }
-    requires greatest { least + length codes.now ≤ 33 }
-    requires firsts { AreFirsts least (lowest_in codes.now) (firsts_in codes.now) }
-    requires hints { AreHints (firsts_in codes.now) hints.now }
-    ensures is { result ≡ code_from limit block.now at least (bases (lowest_in codes.now)) (lowest_in codes.now) }
-    ensures sound { IfSome result (λ code. IsSoundCode limit block.now at code) }
+    requires codes { AreCodes search words.now hints.now }
+    ensures is { result ≡ code_kept search words.now block.now at }
+    ensures sound { IfSome result (λ code. IsSoundCode search.symbols block.now at code) }
 {
-    let (symbol, length) = code_of(codes, hints, least, window(block, at) >> 32);
+    let (symbol, length) = code_of(words, hints, search, window(block, at) >> 32);
     if length as usize > room_at(block, at) {
         return None;
     }
-    if symbol < limit {
+    if symbol < search.symbols as usize {
         Some((symbol, length))
     } else {
         None
@@ -190,24 +205,18 @@ pub(crate) fn code_in(
 /// The symbol and the length of the code at the front of 32 bits or more.
 #[inline]
 pub(crate) fn code_held(
-    limit: usize,
     buffer: BitBuffer,
-    codes: &[CodeLength],
+    words: &[u32],
     hints: &[u8],
-    least: u8,
+    search: CodeSearch,
 ) -> Option<(usize, u32)>
     requires held { 32 ≤ buffer.held }
-    requires least { 1 ≤ least }
-    requires some { 1 ≤ length codes.now }
-    requires greatest { least + length codes.now ≤ 33 }
-    requires firsts { AreFirsts least (lowest_in codes.now) (firsts_in codes.now) }
-    requires hints { AreHints (firsts_in codes.now) hints.now }
-    ensures is { (block : List ℕ) (p : ℕ) → Shows block p buffer
-        → result ≡ code_from limit block p least (bases (lowest_in codes.now)) (lowest_in codes.now) }
-    ensures sound { IfSome result (λ code. IsKnownCode limit code) }
+    requires codes { AreCodes search words.now hints.now }
+    ensures is { (block : List ℕ) (p : ℕ) → Shows block p buffer → result ≡ code_kept search words.now block p }
+    ensures sound { IfSome result (λ code. IsKnownCode search.symbols code) }
 {
-    let (symbol, length) = code_of(codes, hints, least, buffer.front_32());
-    if symbol < limit {
+    let (symbol, length) = code_of(words, hints, search, buffer.front_32());
+    if symbol < search.symbols as usize {
         Some((symbol, length))
     } else {
         None

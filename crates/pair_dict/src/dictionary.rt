@@ -13,7 +13,7 @@ ghost use Rattle.pair_dict.specs.Reading.{GivesFromDict, layout_at, dictionary_a
 ghost use Rattle.pair_dict.specs.declared.fault.DictFault.TheVariants.{OutOfMemory};
 ghost use Rattle.pair_dict.specs.Blocks.{block_values, BlockIsComputed, BlockBeginsWithValues};
 
-use crate::codes::{CodeLength, CodeSearch, code_held, code_in, code_lengths, firsts_of};
+use crate::codes::{CodeSearch, code_held, code_in, firsts_of};
 use crate::counts::{Settled, settle_all};
 use crate::fault::{Damaged, DictFault};
 use crate::hints::{HINTS, bytes_of};
@@ -23,6 +23,7 @@ use crate::places::Place;
 use crate::runs::{CodeRun, RunSum, run_width, runs_of};
 use crate::symbols::{MOST_VALUES, Symbol, symbol_at};
 use crate::window::{BitBuffer, has_word, window};
+use crate::words::{node_at, words_of};
 use std::alloc::{AllocError, Global};
 use std::marker::Model;
 
@@ -36,9 +37,9 @@ const RUNS_IN_WORD: u32 = 4;
 #[derive(Drop)]
 pub struct Dictionary<'a> {
     search: CodeSearch,
-    codes: Vec<CodeLength>,
     runs: Vec<CodeRun>,
-    nodes: Vec<Node>,
+    // Two words a code length, and then one a node.
+    words: Vec<u32>,
     // The hints, and then how many values each symbol has, less one.
     bytes: Vec<u8>,
     // Last, since a single value needs none of them.
@@ -57,40 +58,45 @@ impl<'a> Model for Dictionary<'a> {
     ghost invariant = { IsSoundDictionary };
 }
 
-/// What codes are found by.
+/// What values are found by.
 #[derive(Drop)]
 struct CodeTables {
     search: CodeSearch,
-    codes: Vec<CodeLength>,
     runs: Vec<CodeRun>,
+    words: Vec<u32>,
     bytes: Vec<u8>,
 }
 
-/// What the codes of a layout are found by.
+/// What the values of a layout are found by, whose symbols have these counts and nodes.
 fn code_tables(
     alloc: Global,
     layout: &Layout<'_>,
     counts: &[u16],
+    nodes: &[Node],
     most_bits: u32,
 ) -> Result<CodeTables, AllocError>
     requires layout { IsDictLayout layout.now }
     requires counts { AreCounts layout.now.symbols.now counts.now }
+    requires nodes { AreNodes layout.now.symbols.now nodes.now }
     requires some { 1 ≤ most_bits }
     requires few { most_bits ≤ 13 }
-    ensures { IfOk result (λ t. AreCodeTables layout.now counts.now t) }
+    ensures { IfOk result (λ t. AreCodeTables layout.now t) }
 {
     let firsts = firsts_of(alloc, layout.least, layout.lowest)?;
     let run_width = run_width(counts.len(), layout.least, most_bits);
     let runs = runs_of(alloc, layout, &firsts, counts, run_width)?;
-    let codes = code_lengths(alloc, &firsts, layout.lowest)?;
+    let words = words_of(alloc, &firsts, layout.lowest, nodes)?;
     let bytes = bytes_of(alloc, &firsts, counts)?;
+    let search = CodeSearch {
+        symbols: counts.len() as u16,
+        lengths: firsts.len() as u8,
+        least: layout.least as u8,
+        run_width: run_width as u8,
+    };
     Ok(CodeTables {
-        search: CodeSearch {
-            least: layout.least as u8,
-            run_width: run_width as u8,
-        },
-        codes,
+        search,
         runs,
+        words,
         bytes,
     })
 }
@@ -137,12 +143,11 @@ impl<'a> Dictionary<'a> {
         requires few { most_bits ≤ 13 }
         ensures { IfOk result (λ d. d ≡ (pairing_in layout.now).0) }
     {
-        let tables = code_tables(alloc, layout, &settled.counts, most_bits)?;
+        let tables = code_tables(alloc, layout, &settled.counts, &settled.nodes, most_bits)?;
         Ok(Dictionary {
             search: tables.search,
-            codes: tables.codes,
             runs: tables.runs,
-            nodes: settled.nodes,
+            words: tables.words,
             bytes: tables.bytes,
             symbols: layout.symbols,
         })
@@ -165,14 +170,7 @@ impl<'a> Dictionary<'a> {
         ensures is { result ≡ code_at self.now block.now at }
         ensures sound { IfSome result (λ code. IsSoundCode (symbol_count self.now.symbols) block.now at code) }
     {
-        code_in(
-            self.nodes.len(),
-            block,
-            at,
-            &self.codes,
-            &self.bytes,
-            self.search.least,
-        )
+        code_in(block, at, &self.words, &self.bytes, self.search)
     }
 
     /// The symbol and the length of the code at the front of 32 bits or more.
@@ -182,13 +180,7 @@ impl<'a> Dictionary<'a> {
         ensures is { (block : List ℕ) (p : ℕ) → Shows block p buffer → result ≡ code_at self.now block p }
         ensures sound { IfSome result (λ code. IsKnownCode (symbol_count self.now.symbols) code) }
     {
-        code_held(
-            self.nodes.len(),
-            buffer,
-            &self.codes,
-            &self.bytes,
-            self.search.least,
-        )
+        code_held(buffer, &self.words, &self.bytes, self.search)
     }
 
     /// How many values a symbol has.
@@ -210,7 +202,7 @@ impl<'a> Dictionary<'a> {
         let mut symbol = symbol;
         let mut left = offset;
         'down: loop {
-            match self.nodes[symbol].parts() {
+            match node_at(&self.words, self.search.lengths, symbol).parts() {
                 Parts::Equal(value) => return value,
                 Parts::Pair(first, second, skipped) => {
                     if left < skipped as usize {

@@ -2,7 +2,7 @@
 //!
 //! The bytes of a table file from the greatest code length on go in; a dictionary that borrows them comes out, with how many
 //! bytes it took, or the first refusal. It gives a block's value at an offset (`value`) or its first values (`decode`). Inside:
-//! `layout`, `two_bytes`, `symbols`, `nodes`, `counts`, `codes`, `hints` for what is read; `window`, `runs`, `places` for the loop
+//! `layout`, `two_bytes`, `symbols`, `nodes`, `counts`, `codes`, `hints`, `words` for what is read; `window`, `runs`, `places` for the loop
 //! over a block; `dictionary`, `fault`, `laws`.
 //!
 //! Words of Stockfish: a symbol's pair is `btree`, its count `symlen` (one less), the least and greatest code length `minSymLen`
@@ -38,6 +38,7 @@ mod runs;
 mod symbols;
 mod two_bytes;
 mod window;
+mod words;
 
 pub use dictionary::Dictionary;
 pub use fault::{Damaged, DictFault};
