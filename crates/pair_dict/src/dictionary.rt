@@ -8,11 +8,13 @@ ghost use Rattle.pair_dict.specs.Inside.Layouts.{pairing_in, IsDictLayout};
 ghost use Rattle.pair_dict.specs.Inside.Nodes.{AreNodes};
 ghost use Rattle.pair_dict.specs.Inside.Tables.{AreCodeTables};
 ghost use Rattle.pair_dict.specs.Inside.Windows.{IsSoundCode, IsKnownCode, Shows};
-ghost use Rattle.pair_dict.specs.Inside.Runs.{run_values, run_bits, sum_values, sum_bits, IsLeft, IsRunAt, IsFurther};
+ghost use Rattle.pair_dict.specs.Inside.Runs.{run_values, run_bits, sum_values, sum_bits, IsLeft, IsRunAt, IsFurther, IsBefore};
+ghost use Rattle.pair_dict.specs.Marks.{AreMarks};
 ghost use Rattle.pair_dict.specs.Reading.{GivesFromDict, layout_at, dictionary_at};
 ghost use Rattle.pair_dict.specs.declared.fault.DictFault.TheVariants.{OutOfMemory};
 ghost use Rattle.pair_dict.specs.Blocks.{block_values, BlockIsComputed, BlockBeginsWithValues};
 
+use crate::bookmarks::{Bookmarks, MOST_MARKS};
 use crate::codes::{CodeSearch, code_held, code_in, firsts_of};
 use crate::counts::{Settled, settle_all};
 use crate::fault::{Damaged, DictFault};
@@ -22,7 +24,7 @@ use crate::nodes::{Node, Parts};
 use crate::places::Place;
 use crate::runs::{CodeRun, RunSum, run_width, runs_of};
 use crate::symbols::{MOST_VALUES, Symbol, symbol_at};
-use crate::window::{BitBuffer, has_word, window};
+use crate::window::{BitBuffer, has_word, has_word_before, window};
 use crate::words::{node_at, words_of};
 use std::alloc::{AllocError, Global};
 use std::marker::Model;
@@ -281,15 +283,15 @@ impl<'a> Dictionary<'a> {
     }
 
     /// Skips runs from a place on, four from each word, and codes that no run holds, as long as eight bytes are left.
-    /// It stops at a word or a code that passes the value sought, and where there is no code.
+    /// It stops at a word or a code that passes the value sought, where there is no code, and at or behind a bit.
     #[inline]
-    fn skip_words(&self, block: &[u8], from: Place) -> Place
+    fn skip_words(&self, block: &[u8], from: Place, until: usize) -> Place
         requires at { from.at ≤ 8 * length block.now }
         requires near { from.at + 32 * from.left < 2 ^ 40 }
         ensures { IsFurther self.now block.now from result }
     {
         let mut place = from;
-        'words: while has_word(block, place.at) {
+        'words: while has_word_before(block, place.at, until) {
             let (sum, last, first) = self.four_runs(BitBuffer::at(block, place.at), place.left);
             if sum.values() > place.left {
                 return place.after(first.values(), first.bits());
@@ -388,9 +390,55 @@ impl<'a> Dictionary<'a> {
             left: offset as usize,
         };
         if self.has_runs() {
-            return self.value_from(block, self.skip_words(block, first));
+            return self.value_from(block, self.skip_words(block, first, usize::MAX));
         }
         self.value_by_codes(block, first)
+    }
+
+    /// Skips words from a place on, and adds bookmarks on the way, one for each sixteenth of the block.
+    fn skip_marked(&self, block: &[u8], from: Place, offset: u32, marks: &mut Bookmarks) -> Place
+        requires short { length block.now ≤ 2 ^ 24 }
+        requires near { from.at + 32 * from.left < 2 ^ 40 }
+        requires before { IsBefore self.now block.now offset from }
+        requires marks { AreMarks self.now block.now marks.old }
+        ensures further { IsFurther self.now block.now from result }
+        ensures marks { AreMarks self.now block.now marks.new }
+    {
+        let step = block.len() / 2;
+        let mut place = from;
+        for number in marks.filled() + 1..MOST_MARKS + 1 {
+            let until = number * step;
+            place = self.skip_words(block, place, until);
+            if place.at < until {
+                return place;
+            }
+            marks.add(place.at as u32, offset - place.left as u32);
+        }
+        self.skip_words(block, place, usize::MAX)
+    }
+
+    /// The value of a block of at most 2^24 bytes at an offset, as `value` gives it, from the last bookmark before it on. It adds
+    /// bookmarks on the way, so that later values of the block are found from there.
+    ///
+    /// `Damaged` where the block's whole codes give no value at that offset.
+    pub fn value_marked(
+        &self,
+        block: &[u8],
+        offset: u32,
+        marks: &mut Bookmarks,
+    ) -> Result<u16, Damaged>
+        requires short { length block.now ≤ 2 ^ 24 }
+        requires marks { AreMarks self.now block.now marks.old }
+        ensures found { IfOk result (λ v. slice_get (block_values self.now block.now) offset ≡ Some v) }
+        ensures damaged { OnErr result (length (block_values self.now block.now) ≤ offset) }
+        ensures marks { AreMarks self.now block.now marks.new }
+    {
+        let from = marks.before(offset);
+        if self.has_runs() {
+            let place = self.skip_marked(block, from, offset, marks);
+            return self.value_from(block, place);
+        }
+        self.value_by_codes(block, from)
     }
 
     /// Appends the values of a symbol, as long as there are fewer than `limit`. Right halves wait on a stack while left

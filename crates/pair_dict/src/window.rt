@@ -48,6 +48,14 @@ pub(crate) fn has_word(block: &[u8], at: usize) -> bool
     at / 8 < block.len().saturating_sub(7)
 }
 
+/// Whether eight bytes of the block are left from a bit on, and that bit is before another.
+#[inline]
+pub(crate) fn has_word_before(block: &[u8], at: usize, until: usize) -> bool
+    ensures { IsTrue result → at / 8 + 8 ≤ length block.now }
+{
+    at < until && has_word(block, at)
+}
+
 /// The bits from a bit on at the top of a word, at least 57 of them, with zeros after the end.
 #[inline]
 pub(crate) fn window(block: &[u8], at: usize) -> u64
