@@ -24,7 +24,7 @@ use crate::nodes::{Node, Parts};
 use crate::places::Place;
 use crate::runs::{CodeRun, RunSum, run_width, runs_of};
 use crate::symbols::{MOST_VALUES, Symbol, symbol_at};
-use crate::window::{BitBuffer, has_word, has_word_before, window};
+use crate::window::{BitBuffer, has_word, window, words_end};
 use crate::words::{node_at, words_of};
 use std::alloc::{AllocError, Global};
 use std::marker::Model;
@@ -290,9 +290,10 @@ impl<'a> Dictionary<'a> {
         requires near { from.at + 32 * from.left < 2 ^ 40 }
         ensures { IsFurther self.now block.now from result }
     {
+        let end = words_end(block, until);
         let mut place = from;
-        'words: while has_word_before(block, place.at, until) {
-            let (sum, last, first) = self.four_runs(BitBuffer::at(block, place.at), place.left);
+        'words: while place.at < end {
+            let (sum, last, first) = self.four_runs(BitBuffer::whole(block, place.at), place.left);
             if sum.values() > place.left {
                 return place.after(first.values(), first.bits());
             }

@@ -56,10 +56,10 @@ impl<'a> Model for Table<'a> {
 /// A part with its sections: all that a look-up in it reads, in one place.
 #[derive(Drop)]
 pub(crate) struct OpenedPart<'a> {
-    pub(crate) head: Part<'a>,
-    pub(crate) blocks: FileBytes<'a>,
-    pub(crate) lengths: FileBytes<'a>,
     pub(crate) entries: FileBytes<'a>,
+    pub(crate) lengths: FileBytes<'a>,
+    pub(crate) blocks: FileBytes<'a>,
+    pub(crate) head: Part<'a>,
 }
 
 /// Whether the sparse entries of a part name the values in the middle of their spans.
