@@ -1,15 +1,16 @@
 -- The first number of each code length, at the top of 32 bits.
-use Rattle.std.proofs.Common.{◌≡◌, ℕ, zero, suc, ◌+◌, ◌-◌, ◌*◌, ◌/◌, ◌%◌, ◌^◌, ◌<◌, ◌≤◌, List, [], ◌∷◌, ◌++◌, length, drop, take, get_or, set, min, cond, ltb, add-zero, refl, sym, ap, ◌∙◌, inl, inr, arith}
+use Rattle.std.proofs.Common.{◌≡◌, ℕ, zero, suc, ◌+◌, ◌-◌, ◌*◌, ◌/◌, ◌%◌, ◌^◌, ◌<◌, ◌≤◌, List, [], ◌∷◌, ◌++◌, length, drop, take, get_or, set, None, add-zero, refl, sym, ap, ◌∙◌, inl, inr, arith}
 use Rattle.std.proofs.lemmas.List.{get_or-set_same, get_or-set_other, get_or-map, length-map, map-append, take_more}
-use Rattle.std.proofs.lemmas.Bool.{cases_lt, cases_eq, lt-ltb, le-ltb}
+use Rattle.std.proofs.lemmas.Bool.{cases_lt, cases_eq}
 use Rattle.std.proofs.lemmas.Nat.{shr-shr, pow-add, pow_pos}
 use Rattle.std.proofs.Math.Nat.{le-div_iff_mul-le, div-lt_iff_lt-mul, add-mul-div_left, mul_comm, mul-le-mul_right}
-use Rattle.pair_dict.specs.Codes.{bases, bits, code_from}
-use Rattle.pair_dict.specs.Inside.Windows.{IsWindow, IsLeastWithPrefix, AreFirsts, AreLong, firsts_in, lowest_in}
+use Rattle.pair_dict.specs.Codes.{bases, bits, below, code_from}
+use Rattle.pair_dict.specs.Inside.Windows.{IsWindow, IsFront, Shows, IsLeastWithPrefix, AreFirsts, firsts_in, lowest_in}
+use Rattle.pair_dict.specs.Inside.Hints.{EndsAtZero, AreHints, IsFirstReached}
+use Rattle.pair_dict.specs.declared.window.BitBuffer.{BitBuffer}
 use Rattle.pair_dict.specs.declared.codes.CodeLength.{CodeLength}
-use Rattle.pair_dict.specs.declared.codes.CodeSearch.{CodeSearch}
 use Rattle.pair_dict.proofs.WordLemmas.{base_last, length-bases}
-use Rattle.pair_dict.proofs.CodeLemmas.{code_next}
+use Rattle.pair_dict.proofs.CodeLemmas.{code_next, code_too_long, code_found}
 
 first_zero : (n : ℕ) → IsLeastWithPrefix n 0 0
 first_zero n = record { possible = λ lt. omega arith; impossible = λ le. absurd (omega (arith, le, pow_pos n)) }
@@ -31,14 +32,19 @@ split_32 n le =
     let e : 32 ≡ n + (32 - n) = omega arith in
     ap (λ (x : ℕ). 2 ^ x) e ∙ pow-add 2 n (32 - n)
 
--- a word of 64 bits without its last one
+-- a word of 64 bits without its last half
 pub front_below : (word : ℕ) → word < 2 ^ 64 → word / 2 ^ 32 < 2 ^ 32
 front_below word lt = omega arith
 
-pub front_bits : (block : List ℕ) (at word n : ℕ) → IsWindow block at word → n ≤ 32 → at + n ≤ 8 * length block → word / 2 ^ 32 / 2 ^ (32 - n) ≡ bits block at n
-front_bits block at word n is few within =
+pub front_of_window : (block : List ℕ) (at word : ℕ) → IsWindow block at word → IsFront block at (word / 2 ^ 32)
+front_of_window block at word is n few within =
     let e : 32 + (32 - n) ≡ 64 - n = omega arith in
     shr-shr word 32 (32 - n) ∙ ap (λ (k : ℕ). word / 2 ^ k) e ∙ is n (omega arith) within
+
+pub front_of_buffer : (block : List ℕ) (at : ℕ) (b : BitBuffer) → Shows block at b → 32 ≤ b.held → IsFront block at (b.bits / 2 ^ 32)
+front_of_buffer block at b shows held n few within =
+    let e : 32 + (32 - n) ≡ 64 - n = omega arith in
+    shr-shr b.bits 32 (32 - n) ∙ ap (λ (k : ℕ). b.bits / 2 ^ k) e ∙ shows.same n (omega arith)
 
 module _ (n base first front : ℕ) (is : IsLeastWithPrefix n base first) (few : n ≤ 32) (small : front < 2 ^ 32) where
   -- the front's first n bits are at least the base
@@ -71,36 +77,16 @@ module _ (n base first front : ℕ) (is : IsLeastWithPrefix n base first) (few :
         | inr past ↦ absurd (omega (arith, is.impossible past))
       ]
 
--- what the front's first n bits are in the block
-pub record IsReached (block : List ℕ) (at n base first front low : ℕ) : Type 0 where
-  pub reached : base ≤ bits block at n
-  pub symbol : low + (front - first) / 2 ^ (32 - n) ≡ (low + bits block at n) - base
+-- the code of 32 bits, whose length was found
+module _ (limit : ℕ) (block : List ℕ) (at least front : ℕ) (lowest firsts : List ℕ) (are : AreFirsts least lowest firsts) (is : IsFront block at front) (small : front < 2 ^ 32) (most : least + length lowest ≤ 33) where
+  missed_at : (i : ℕ) → i < length lowest → front < get_or firsts i 0 → at + (least + i) ≤ 8 * length block → bits block at (least + i) < get_or (bases lowest) i 0
+  missed_at i lt missed fits =
+      let n = least + i in
+      let few : n ≤ 32 = omega arith in
+      rw (is n few fits) at (first_missed n (get_or (bases lowest) i 0) (get_or firsts i 0) front (are.each i lt) few small missed)
 
-pub reached_at : (block : List ℕ) (at word n base first low : ℕ) → IsLeastWithPrefix n base first → IsWindow block at word → word < 2 ^ 64 → n ≤ 32 → at + n ≤ 8 * length block → first ≤ word / 2 ^ 32 → IsReached block at n base first (word / 2 ^ 32) low
-reached_at block at word n base first low is window small few fits le =
-    let bits-is = front_bits block at word n window few fits in
-    let front = front_below word small in
-    let reached = rw bits-is at (first_reached n base first (word / 2 ^ 32) is few front le) in
-    let above = rw bits-is at (above_base n base first (word / 2 ^ 32) is few front le) in
-    record { reached = reached; symbol = omega (arith, above, reached) }
-
-pub missed_at : (block : List ℕ) (at word n base first : ℕ) → IsLeastWithPrefix n base first → IsWindow block at word → word < 2 ^ 64 → n ≤ 32 → at + n ≤ 8 * length block → word / 2 ^ 32 < first → bits block at n < base
-missed_at block at word n base first is window small few fits lt =
-    rw (front_bits block at word n window few fits) at (first_missed n base first (word / 2 ^ 32) is few (front_below word small) lt)
-
--- the least of one number more
-pub least_more : (firsts : List ℕ) (i first next : ℕ) → ((j : ℕ) → j < i → first ≤ get_or firsts j 0) → next ≡ min first (get_or firsts i 0) → (j : ℕ) → j < i + 1 → next ≤ get_or firsts j 0
-least_more firsts i first next below next-is j lt =
-    elim (cases_lt j i) [
-      | inl before ↦ omega (arith, next-is, below j before)
-      | inr past ↦
-          let last : j ≡ i = omega arith in
-          rw last (omega (arith, next-is))
-    ]
-
--- no code has one of the lengths before a place where the search may begin
-module _ (limit : ℕ) (block : List ℕ) (at least word : ℕ) (lowest firsts : List ℕ) (are : AreFirsts least lowest firsts) (window : IsWindow block at word) (small : word < 2 ^ 64) (most : least + length lowest ≤ 33) where
-  passed_to : (i : ℕ) → i ≤ length firsts → ((j : ℕ) → j < i → word / 2 ^ 32 < get_or firsts j 0)
+  -- no code has one of the lengths before
+  passed_to : (i : ℕ) → i ≤ length firsts → ((j : ℕ) → j < i → front < get_or firsts j 0)
       → code_from limit block at (least + i) (drop i (bases lowest)) (drop i lowest) ≡ code_from limit block at least (bases lowest) lowest
   passed_to zero within missed = rw (add-zero least) refl
   passed_to (suc i) within missed =
@@ -108,20 +94,29 @@ module _ (limit : ℕ) (block : List ℕ) (at least word : ℕ) (lowest firsts :
       let lt : i < length lowest = omega (arith, are.lengths) in
       let e : least + i + 1 ≡ least + suc i = omega arith in
       let next : i + 1 ≡ suc i = omega arith in
-      rw (← e, ← next) (sym (code_next limit block at (least + i) (bases lowest) lowest i len (omega (arith, len, lt))
-      (λ fits. missed_at block at word (least + i) (get_or (bases lowest) i 0) (get_or firsts i 0) (are.each i lt) window small (omega (arith, lt, most)) fits (missed i (omega arith))))
-      ∙ passed_to i (omega arith) (λ j before. missed j (omega arith)))
+      rw (← e, ← next) (sym (code_next limit block at (least + i) (bases lowest) lowest i len (omega (arith, len, lt)) (λ fits. missed_at i lt (missed i (omega arith)) fits)) ∙ passed_to i (omega arith) (λ j before. missed j (omega arith)))
 
-  pub started : (long : CodeSearch) (start : ℕ) → AreLong firsts long → start ≡ cond (ltb (word / 2 ^ 32) long.first) long.from 0
-      → code_from limit block at (least + start) (drop start (bases lowest)) (drop start lowest) ≡ code_from limit block at least (bases lowest) lowest
-  started long start is e = elim (cases_lt (word / 2 ^ 32) long.first) [
-    | inl below ↦
-        let there : start ≡ long.from = rw (lt-ltb (word / 2 ^ 32) long.first below) at e in
-        rw there (passed_to long.from is.within (λ j lt. omega (arith, is.above j lt, below)))
-    | inr above ↦
-        let there : start ≡ 0 = rw (le-ltb (word / 2 ^ 32) long.first above) at e in
-        rw there (passed_to 0 (omega arith) (λ j lt. absurd (omega arith)))
-  ]
+  module _ (i : ℕ) (found : IsFirstReached firsts front i) where
+    -- it doesn't fit the block
+    pub code_past : 8 * length block < at + (least + i) → code_from limit block at least (bases lowest) lowest ≡ None
+    code_past long =
+        let len = length-bases lowest in
+        sym (passed_to i (omega (arith, found.known)) found.missed) ∙ code_too_long limit block at (least + i) (bases lowest) lowest i len (omega (arith, len, found.known, are.lengths)) long
+
+    -- it fits the block
+    pub code_is : (low first symbol : ℕ) → low ≡ get_or lowest i 0 → first ≡ get_or firsts i 0 → symbol ≡ low + (front - first) / 2 ^ (32 - (least + i)) → at + (least + i) ≤ 8 * length block
+        → code_from limit block at least (bases lowest) lowest ≡ below limit symbol (least + i)
+    code_is low first symbol low-is first-is symbol-is fits =
+        let n = least + i in
+        let base = get_or (bases lowest) i 0 in
+        let len = length-bases lowest in
+        let lt : i < length lowest = omega (arith, found.known, are.lengths) in
+        let few : n ≤ 32 = omega arith in
+        let shown = is n few fits in
+        let reached : base ≤ bits block at n = rw shown at (first_reached n base (get_or firsts i 0) front (are.each i lt) few small found.reached) in
+        let above : (front - get_or firsts i 0) / 2 ^ (32 - n) + base ≡ bits block at n = above_base n base (get_or firsts i 0) front (are.each i lt) few small found.reached ∙ shown in
+        let value : symbol ≡ (get_or lowest i 0 + bits block at n) - base = symbol-is ∙ rw (low-is, first-is) (omega (arith, above, reached)) in
+        sym (passed_to i (omega (arith, found.known)) found.missed) ∙ code_found limit block at n (bases lowest) lowest i len (omega (arith, len, lt)) fits reached ∙ ap (λ (s : ℕ). below limit s n) (sym value)
 
 -- ---- code lengths that are kept
 
@@ -160,3 +155,34 @@ firsts_few least lowest firsts are most i lt =
           omega (arith, less, is.possible possible, split_32 n (omega (arith, are.lengths, lt, most)))
       | inr past ↦ omega (arith, is.impossible past)
     ]
+
+-- no bits are below the first number of the greatest length
+pub ends_at_zero : (least : ℕ) (lowest firsts : List ℕ) → AreFirsts least lowest firsts → 1 ≤ length lowest → EndsAtZero firsts
+ends_at_zero least lowest firsts are some =
+    let i = length firsts - 1 in
+    let lt : i < length lowest = omega (arith, are.lengths) in
+    let base-is : get_or (bases lowest) i 0 ≡ 0 = base_last lowest i (omega (arith, are.lengths)) in
+    (are.each i lt).possible (omega (arith, base-is, pow_pos (least + i))) ∙ ap (λ (b : ℕ). b * 2 ^ (32 - (least + i))) base-is ∙ omega arith
+
+-- ---- hints
+
+-- one place more
+pub not_last : (firsts : List ℕ) (i n : ℕ) → EndsAtZero firsts → i < length firsts → n < get_or firsts i 0 → i + 1 < length firsts
+not_last firsts i n last lt more =
+    elim (cases_eq i (length firsts - 1)) [
+      | inl same ↦ absurd (omega (arith, more, ap (λ (k : ℕ). get_or firsts k 0) same, last))
+      | inr ne ↦ omega (arith, ne)
+    ]
+
+pub place_more : (firsts : List ℕ) (i end : ℕ) → ((j : ℕ) → j < i → end ≤ get_or firsts j 0) → end ≤ get_or firsts i 0 → (j : ℕ) → j < i + 1 → end ≤ get_or firsts j 0
+place_more firsts i end before here j lt =
+    elim (cases_lt j i) [
+      | inl less ↦ before j less
+      | inr past ↦
+          let last : j ≡ i = omega arith in
+          rw last here
+    ]
+
+-- the numbers of 32 bits with the same first six
+pub hinted : (firsts bytes : List ℕ) (front : ℕ) → AreHints firsts bytes → front < 2 ^ 32 → (j : ℕ) → j < get_or bytes (front / 67108864) 0 → front + 1 ≤ get_or firsts j 0
+hinted firsts bytes front hints small j lt = omega (arith, (hints.each (front / 67108864) (omega arith)).above j lt)

@@ -11,6 +11,7 @@ pub mod BufferLemmas
 pub mod RunLemmas
 pub mod PlaceLemmas
 pub mod FirstLemmas
+pub mod WordLists
 pub mod Pending
 pub mod Chain
 pub mod Spelled

@@ -1,10 +1,11 @@
 -- Nodes of symbols.
-use Rattle.std.proofs.Common.{◌≡◌, ◌≢◌, ℕ, ◌+◌, ◌-◌, ◌<◌, List, ◌++◌, length, get_or, set, take, refl, sym, ap, subst, ◌∙◌, inl, inr, arith}
-use Rattle.std.proofs.lemmas.List.{length-append, length-set, length-map, get_or-map, get_or_append_left, get_or-append_right, get_or-set_same, get_or-set_other, get_or_read, get_or_default, take-append-le, take_all, take_more, take_more_set, map-set}
+use Rattle.std.proofs.Common.{◌≡◌, ◌≢◌, ℕ, ◌+◌, ◌-◌, ◌<◌, suc, ◌≤◌, List, [], ◌∷◌, ◌++◌, length, get_or, set, take, drop, map, append_assoc, refl, sym, ap, subst, ◌∙◌, inl, inr, arith}
+use Rattle.std.proofs.lemmas.List.{length-append, length-set, length-map, get_or-map, get_or_append_left, get_or-append_right, get_or-set_same, get_or-set_other, get_or_read, get_or_default, take-append-le, take_all, take_more, map-append, drop_at, length-drop, get_or-drop}
 use Rattle.std.proofs.lemmas.Bool.{cases_lt, cases_eq}
 use Rattle.pair_dict.specs.Symbols.{symbol_count, left, right, HasSymbolValues, leaf, pair, values_of}
 use Rattle.pair_dict.specs.Inside.Counts.{AreCounts, AreSettled, KeepsKnown}
 use Rattle.pair_dict.specs.Inside.Nodes.{node_parts, AreEqual, IsPair, AreNodeParts, IsNode, AreNodes, AreKnownNodes, Joins, counts_in}
+use Rattle.pair_dict.specs.Inside.Hints.{IsHint, AreHints, less_one}
 use Rattle.pair_dict.specs.declared.nodes.Node.{Node}
 use Rattle.pair_dict.specs.declared.nodes.Parts.{Parts}
 use Rattle.pair_dict.specs.declared.nodes.Parts.TheVariants.{Equal, Pair}
@@ -114,18 +115,46 @@ module _ (symbols counts : List ℕ) (h : AreCounts symbols counts) (nodes : Lis
 
 -- ---- counts in bytes
 
-pub length-counts_in : (bytes : List ℕ) → length (counts_in bytes) ≡ length bytes
-length-counts_in bytes = length-map bytes (λ (n : ℕ). n + 1)
+pub length-counts_in : (bytes : List ℕ) → length (counts_in bytes) ≡ length bytes - 64
+length-counts_in bytes = length-map (drop 64 bytes) (λ (n : ℕ). n + 1) ∙ length-drop 64 bytes
 
 -- what was read of a byte
-pub read_byte : (symbols bytes : List ℕ) (h : AreCounts symbols (counts_in bytes)) (s x : ℕ) → s < symbol_count symbols → x ≡ get_or bytes s x → x + 1 ≡ get_or (counts_in bytes) s 0
+pub read_byte : (symbols bytes : List ℕ) (h : AreCounts symbols (counts_in bytes)) (s x : ℕ) → s < symbol_count symbols → x ≡ get_or bytes (64 + s) x → x + 1 ≡ get_or (counts_in bytes) s 0
 read_byte symbols bytes h s x lt e =
-    let within : s < length bytes = omega (arith, lt, h.lengths, length-counts_in bytes) in
-    ap (λ (n : ℕ). n + 1) e ∙ sym (get_or-map (λ (n : ℕ). n + 1) bytes s x 0 within)
+    let within : s < length (drop 64 bytes) = omega (arith, lt, h.lengths, length-counts_in bytes, length-drop 64 bytes) in
+    ap (λ (n : ℕ). n + 1) (e ∙ sym (get_or-drop 64 bytes s x)) ∙ sym (get_or-map (λ (n : ℕ). n + 1) (drop 64 bytes) s x 0 within)
 
 -- one byte more
-pub byte_put : (bytes counts : List ℕ) (i v : ℕ) → length bytes ≡ length counts → i < length counts → v + 1 ≡ get_or counts i 0 → take i (counts_in bytes) ≡ take i counts → take (i + 1) (counts_in (set bytes i v)) ≡ take (i + 1) counts
-byte_put bytes counts i v lengths lt is done =
-    let len : i < length (counts_in bytes) = omega (arith, length-counts_in bytes, lengths, lt) in
-    let put : counts_in (set bytes i v) ≡ set (counts_in bytes) i (v + 1) = map-set (λ (n : ℕ). n + 1) bytes i v in
-    rw (put, take_more_set (counts_in bytes) i (v + 1) len, is, done) (sym (take_more counts i 0 lt))
+pub less_more : (bytes counts before : List ℕ) (i v : ℕ) → i < length counts → v ≡ get_or counts i 0 - 1 → bytes ≡ before ++ less_one (take i counts) → bytes ++ v ∷ [] ≡ before ++ less_one (take (i + 1) counts)
+less_more bytes counts before i v lt v-is so =
+    let next : less_one (take (i + 1) counts) ≡ less_one (take i counts) ++ v ∷ [] =
+    ap less_one (take_more counts i 0 lt) ∙ map-append (λ (n : ℕ). n - 1) (take i counts) (get_or counts i 0 ∷ []) ∙ rw v-is refl in
+    rw (so, next) (append_assoc before (less_one (take i counts)) (v ∷ []))
+
+back : (counts : List ℕ) → ((s : ℕ) → s < length counts → 1 ≤ get_or counts s 0) → map (λ (n : ℕ). n + 1) (less_one counts) ≡ counts
+back [] some = refl
+back (n ∷ counts) some =
+    let here : n - 1 + 1 ≡ n = omega (arith, some 0 (omega arith)) in
+    rw (here, back counts (λ s lt. some (suc s) (omega arith))) refl
+
+-- the counts behind the hints
+pub counts_back : (hints counts : List ℕ) → length hints ≡ 64 → ((s : ℕ) → s < length counts → 1 ≤ get_or counts s 0) → counts_in (hints ++ less_one counts) ≡ counts
+counts_back hints counts all some = ap (λ (xs : List ℕ). map (λ (n : ℕ). n + 1) xs) (ap (λ (k : ℕ). drop k (hints ++ less_one counts)) (sym all) ∙ drop_at hints (less_one counts) (length hints) refl) ∙ back counts some
+
+-- one hint more
+pub hint_more : (firsts bytes : List ℕ) (prefix v : ℕ) → length bytes ≡ prefix → ((k : ℕ) → k < prefix → IsHint firsts k (get_or bytes k 0)) → IsHint firsts prefix v → (k : ℕ) → k < prefix + 1 → IsHint firsts k (get_or (bytes ++ v ∷ []) k 0)
+hint_more firsts bytes prefix v all before here k lt =
+    elim (cases_lt k (length bytes)) [
+      | inl less ↦ rw (get_or_append_left bytes (v ∷ []) 0 k less) (before k (omega (arith, all, less)))
+      | inr past ↦
+          let last : k - length bytes ≡ 0 = omega (arith, all, lt) in
+          let same : k ≡ prefix = omega (arith, all, lt, past) in
+          rw (get_or-append_right bytes (v ∷ []) (length bytes) k 0 refl past, last, same) here
+    ]
+
+-- more bytes behind the hints
+pub hints_stay : (firsts bytes more : List ℕ) → AreHints firsts bytes → AreHints firsts (bytes ++ more)
+hints_stay firsts bytes more hints = record {
+  all = omega (arith, hints.all, length-append bytes more);
+  each = λ k lt. rw (get_or_append_left bytes more 0 k (omega (arith, hints.all, lt))) (hints.each k lt);
+}

@@ -1,12 +1,14 @@
 //! Codes of symbols.
 
 ghost use Rattle.std.specs.Prelude.{◌≡◌, ◌+◌, ◌*◌, ◌/◌, ◌%◌, ◌^◌, ◌<◌, ◌≤◌, List, ℕ, length, slice_index, true, nat_lt, IfOk, IfSome, if◌then◌else◌};
-ghost use Rattle.pair_dict.specs.Codes.{bases, code_from};
+ghost use Rattle.pair_dict.specs.Codes.{below};
 ghost use Rattle.pair_dict.specs.Reading.{falls, words};
-ghost use Rattle.pair_dict.specs.Inside.Windows.{AreFirsts, AreLong, IsLeastWithPrefix, IsSoundCode, firsts_in, lowest_in};
+ghost use Rattle.pair_dict.specs.Inside.Windows.{AreFirsts, IsLeastWithPrefix, IsSoundCode, IsKnownCode, IsFront, Shows, firsts_in, lowest_in};
+ghost use Rattle.pair_dict.specs.Inside.Words.{AreCodes, codes_in, code_kept};
+ghost use Rattle.pair_dict.specs.Inside.Hints.{EndsAtZero, IsHint, IsFirstReached};
 
 use crate::two_bytes::word_of;
-use crate::window::{room_at, window};
+use crate::window::{BitBuffer, room_at, window};
 use std::alloc::{AllocError, Global};
 
 /// The base of a length at the top of 32 bits, or 2^32 where no code has that length.
@@ -46,7 +48,7 @@ pub(crate) fn firsts_of(alloc: Global, least: u32, lowest: &[u8]) -> Result<Vec<
 #[derive(Clone, Copy)]
 pub(crate) struct CodeLength {
     // The first number times 65536 plus the lowest symbol, so that one read gives both.
-    packed: u64,
+    pub(crate) packed: u64,
 }
 
 impl CodeLength {
@@ -96,85 +98,127 @@ pub(crate) fn code_lengths(
     Ok(codes)
 }
 
-/// How the codes of a dictionary are looked up, in eight bytes.
+/// How the codes of a dictionary are looked up.
 #[derive(Clone, Copy)]
 pub(crate) struct CodeSearch {
-    /// Bits below this number are no code of the lengths before the place `from`, where the search for a long code begins.
-    pub(crate) first: u32,
-    pub(crate) from: u8,
+    /// How many symbols there are.
+    pub(crate) symbols: u16,
+    /// How many lengths of codes there are.
+    pub(crate) lengths: u8,
     /// The least length of a code.
     pub(crate) least: u8,
     /// By how many bits runs are looked up; they hold no longer code.
     pub(crate) run_width: u8,
 }
 
-impl CodeSearch {
-    /// The search for codes of this least length, where runs are looked up by so many bits.
-    pub(crate) fn new(run_width: u32, least: u32, firsts: &[u64]) -> CodeSearch
-        requires width { run_width ≤ 13 }
-        requires least { least ≤ 32 }
-        ensures long { AreLong firsts.now result }
-        ensures least { result.least ≡ least }
-        ensures width { result.run_width ≡ run_width }
-    {
-        let from = ((run_width + 1).saturating_sub(least) as usize).min(firsts.len());
-        let mut first = u32::MAX as u64;
-        for i in 0..from {
-            first = first.min(firsts[i]);
-        }
-        CodeSearch {
-            first: first as u32,
-            from: from as u8,
-            least: least as u8,
-            run_width: run_width as u8,
-        }
+/// The place of the least code length that bits with these first six may have.
+pub(crate) fn hint(firsts: &[u64], prefix: u64) -> usize
+    requires some { 1 ≤ length firsts.now }
+    requires last { EndsAtZero firsts.now }
+    requires prefix { prefix < 64 }
+    ensures { IsHint firsts.now prefix result }
+{
+    let end = (prefix + 1) * 67108864;
+    let mut i: usize = 0;
+    'up: while firsts[i] >= end {
+        i += 1;
     }
+    i
+}
 
-    /// The place of the least code length that bits may have; the bits stand at the top of 32 bits.
-    #[inline]
-    fn start(&self, front: u64) -> usize
-        ensures { result ≡ if nat_lt front self.now.first then self.now.from else 0 }
-    {
-        if front < self.first as u64 {
-            self.from as usize
-        } else {
-            0
-        }
+/// The code length of that place. The search serves the clauses alone.
+#[inline]
+fn code_length(words: &[u32], search: CodeSearch, i: usize) -> CodeLength
+    requires all { 2 * search.lengths ≤ length words.now }
+    requires known { i < search.lengths }
+    ensures first { result.packed / 65536 ≡ slice_index (firsts_in (codes_in search.lengths words.now)) i }
+    ensures lowest { result.packed % 65536 ≡ slice_index (lowest_in (codes_in search.lengths words.now)) i }
+{
+    let _ = search;
+    CodeLength {
+        packed: words[2 * i] as u64 + 4294967296 * words[2 * i + 1] as u64,
     }
+}
+
+/// The place of the code length that bits have, and that code length. The bits stand at the top of 32 bits.
+#[inline]
+fn length_of(words: &[u32], hints: &[u8], search: CodeSearch, front: u64) -> (usize, CodeLength)
+    requires codes { AreCodes search words.now hints.now }
+    requires front { front < 2 ^ 32 }
+    ensures place { IsFirstReached (firsts_in (codes_in search.lengths words.now)) front result.0 }
+    ensures few { result.0 < search.lengths }
+    ensures first { result.1.packed / 65536 ≡ slice_index (firsts_in (codes_in search.lengths words.now)) result.0 }
+    ensures lowest { result.1.packed % 65536 ≡ slice_index (lowest_in (codes_in search.lengths words.now)) result.0 }
+{
+    let mut i = hints[(front / 67108864) as usize] as usize;
+    let mut code = code_length(words, search, i);
+    'up: while code.first() > front {
+        i += 1;
+        code = code_length(words, search, i);
+    }
+    (i, code)
+}
+
+/// The number of the symbol whose code these bits begin with, if there is that symbol, and the length of the code. The bits
+/// stand at the top of 32 bits.
+#[inline]
+fn code_of(words: &[u32], hints: &[u8], search: CodeSearch, front: u64) -> (usize, u32)
+    requires codes { AreCodes search words.now hints.now }
+    requires front { front < 2 ^ 32 }
+    ensures is { (block : List ℕ) (p : ℕ) → IsFront block p front → p + result.1 ≤ 8 * length block
+        → code_kept search words.now block p ≡ below search.symbols result.0 result.1 }
+    ensures past { (block : List ℕ) (p : ℕ) → IsFront block p front → 8 * length block < p + result.1
+        → code_kept search words.now block p ≡ None }
+    ensures some { 1 ≤ result.1 }
+    ensures short { result.1 ≤ 32 }
+{
+    let (i, code) = length_of(words, hints, search, front);
+    let length = search.least as u32 + i as u32;
+    let above = ((front - code.first()) >> (32 - length)) as usize;
+    (code.lowest() as usize + above, length)
 }
 
 /// The symbol and the length of the code at a bit of a block, by the first number of each length.
 pub(crate) fn code_in(
-    limit: usize,
     block: &[u8],
     at: usize,
-    codes: &[CodeLength],
-    search: &CodeSearch,
+    words: &[u32],
+    hints: &[u8],
+    search: CodeSearch,
 ) -> Option<(usize, u32)>
     requires at { at ≤ 8 * length block.now }
-    requires least { 1 ≤ search.now.least }
-    requires greatest { search.now.least + length codes.now ≤ 33 }
-    requires firsts { AreFirsts search.now.least (lowest_in codes.now) (firsts_in codes.now) }
-    requires long { AreLong (firsts_in codes.now) search.now }
-    ensures is { result ≡ code_from limit block.now at search.now.least (bases (lowest_in codes.now)) (lowest_in codes.now) }
-    ensures sound { IfSome result (λ code. IsSoundCode limit block.now at code) }
+    requires codes { AreCodes search words.now hints.now }
+    ensures is { result ≡ code_kept search words.now block.now at }
+    ensures sound { IfSome result (λ code. IsSoundCode search.symbols block.now at code) }
 {
-    let front = window(block, at) >> 32;
-    for i in search.start(front)..codes.len() {
-        let first = codes[i].first();
-        if first <= front {
-            let length = search.least as u32 + i as u32;
-            if length as usize > room_at(block, at) {
-                return None;
-            }
-            let above = ((front - first) >> (32 - length)) as usize;
-            let symbol = codes[i].lowest() as usize + above;
-            return if symbol < limit {
-                Some((symbol, length))
-            } else {
-                None
-            };
-        }
+    let (symbol, length) = code_of(words, hints, search, window(block, at) >> 32);
+    if length as usize > room_at(block, at) {
+        return None;
     }
-    None
+    if symbol < search.symbols as usize {
+        Some((symbol, length))
+    } else {
+        None
+    }
+}
+
+/// The symbol and the length of the code at the front of 32 bits or more.
+#[inline]
+pub(crate) fn code_held(
+    buffer: BitBuffer,
+    words: &[u32],
+    hints: &[u8],
+    search: CodeSearch,
+) -> Option<(usize, u32)>
+    requires held { 32 ≤ buffer.held }
+    requires codes { AreCodes search words.now hints.now }
+    ensures is { (block : List ℕ) (p : ℕ) → Shows block p buffer → result ≡ code_kept search words.now block p }
+    ensures sound { IfSome result (λ code. IsKnownCode search.symbols code) }
+{
+    let (symbol, length) = code_of(words, hints, search, buffer.front_32());
+    if symbol < search.symbols as usize {
+        Some((symbol, length))
+    } else {
+        None
+    }
 }

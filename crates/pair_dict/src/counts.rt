@@ -3,13 +3,13 @@
 ghost use Rattle.std.specs.Prelude.{◌≡◌, ◌≢◌, ◌<◌, ◌≤◌, ◌⊎◌, List, ℕ, length, slice_index, true, false, IfOk, IfErr, OnOk, OnErr};
 ghost use Rattle.pair_dict.specs.Symbols.{symbol_count, HasSymbolValues, have_values};
 ghost use Rattle.pair_dict.specs.Inside.Counts.{AreCounts, AreSettled, KeepsKnown};
-ghost use Rattle.pair_dict.specs.Inside.Nodes.{AreNodes, AreKnownNodes, Joins, counts_in};
+ghost use Rattle.pair_dict.specs.Inside.Nodes.{AreNodes, AreKnownNodes, Joins};
 ghost use Rattle.pair_dict.specs.declared.fault.DictFault.TheVariants.{BadSymbol, OutOfMemory};
 
 use crate::fault::DictFault;
 use crate::nodes::Node;
 use crate::symbols::{MOST_VALUES, Symbol, symbol_at};
-use std::alloc::{AllocError, Global};
+use std::alloc::Global;
 
 /// The node of the pair of two symbols whose nodes are known, the left one with so many values.
 #[inline(always)]
@@ -127,17 +127,4 @@ pub(crate) fn settle_all(alloc: Global, symbols: &[u8]) -> Result<Settled, DictF
         settle(symbols, &mut counts, &mut nodes, symbol, MOST_VALUES)?;
     }
     Ok(Settled { counts, nodes })
-}
-
-/// The counts less one, a byte each.
-pub(crate) fn bytes_of(alloc: Global, counts: &[u16]) -> Result<Vec<u8>, AllocError>
-    requires some { (s : ℕ) → s < length counts.now → 1 ≤ slice_index counts.now s }
-    requires few { (s : ℕ) → s < length counts.now → slice_index counts.now s ≤ 256 }
-    ensures { IfOk result (λ bytes. counts_in bytes.items ≡ counts.now) }
-{
-    let mut bytes = vec![in alloc; 0u8; counts.len()]?;
-    for i in 0..counts.len() {
-        bytes[i] = (counts[i] - 1) as u8;
-    }
-    Ok(bytes)
 }

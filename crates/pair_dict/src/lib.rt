@@ -2,8 +2,8 @@
 //!
 //! The bytes of a table file from the greatest code length on go in; a dictionary that borrows them comes out, with how many
 //! bytes it took, or the first refusal. It gives a block's value at an offset (`value`) or its first values (`decode`). Inside:
-//! `layout`, `two_bytes`, `symbols`, `nodes`, `counts`, `codes` for what is read; `window`, `runs`, `places` for the loop over a
-//! block; `dictionary`, `fault`, `laws`.
+//! `layout`, `two_bytes`, `symbols`, `nodes`, `counts`, `codes`, `hints`, `words` for what is read; `window`, `runs`, `places`, `bookmarks` for the
+//! loop over a block; `dictionary`, `fault`, `laws`.
 //!
 //! Words of Stockfish: a symbol's pair is `btree`, its count `symlen` (one less), the least and greatest code length `minSymLen`
 //! and `maxSymLen`, first symbol and base `lowestSym` and `base64`; `Dictionary::read` is `set_sizes`.
@@ -19,16 +19,20 @@
 //!   it is the first. Lack of memory is reported only once the layout is there and in order.
 //! - CLAIM: `Dictionary::value`, clauses `found`, `damaged`: it is the block's value at an offset, and `Damaged` exactly at and
 //!   past the end of its values.
+//! - CLAIM: `Dictionary::value_marked`, clauses `found`, `damaged`, `marks`: the same, from a place on that was passed before; the
+//!   places that are noted are this block's.
 //! - CLAIM: `Dictionary::decode`, clauses `values`, `asked`, `room`, `none`: it gives the block's first values, and reserves at
 //!   most as many as are requested and 2048 for each byte of the block. A request for none is never refused.
 //! - CLAIM: `Dictionary::block_is_computed`, clauses `computed`, `front`; `values_are_computed`; `values_are_unique`;
 //!   `values_are_tested`: a block's values are those of the longest list of symbols whose codes begin it.
 #![tactic(auto)]
 
+mod bookmarks;
 mod codes;
 mod counts;
 mod dictionary;
 mod fault;
+mod hints;
 mod laws;
 mod layout;
 mod nodes;
@@ -37,7 +41,9 @@ mod runs;
 mod symbols;
 mod two_bytes;
 mod window;
+mod words;
 
+pub use bookmarks::Bookmarks;
 pub use dictionary::Dictionary;
 pub use fault::{Damaged, DictFault};
 pub use laws::{

@@ -21,7 +21,7 @@ const EQUAL: u32 = 4095;
 pub(crate) struct Node {
     // From the low bits on: 12 of the left symbol or of the value, 12 of the right symbol or of `EQUAL`, and 8 of how many
     // values the left symbol has.
-    packed: u32,
+    pub(crate) packed: u32,
 }
 
 impl Node {

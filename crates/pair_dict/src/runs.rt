@@ -1,6 +1,6 @@
 //! Codes that stand one after the other in a few bits.
 
-ghost use Rattle.std.specs.Prelude.{◌≡◌, ◌+◌, ◌*◌, ◌^◌, ◌<◌, ◌≤◌, ◌↔◌, ℕ, length, IsTrue, IfOk};
+ghost use Rattle.std.specs.Prelude.{◌≡◌, ◌+◌, ◌*◌, ◌^◌, ◌<◌, ◌≤◌, ◌↔◌, ◌⊎◌, ℕ, length, IsTrue, IfOk};
 ghost use Rattle.pair_dict.specs.Symbols.{symbol_count};
 ghost use Rattle.pair_dict.specs.Inside.Counts.{AreCounts};
 ghost use Rattle.pair_dict.specs.Reading.{words};
@@ -14,17 +14,26 @@ use std::alloc::{AllocError, Global};
 
 /// Runs are looked up by this many more bits than the symbols' numbers have. More bits make fewer steps, but a larger
 /// table that misses the cache more often.
-const MORE_BITS: u32 = 1;
+const MORE_BITS: u32 = 3;
 
-/// By how many bits runs are looked up for this number of symbols: `MORE_BITS` more than the symbols' numbers have, up
-/// to `most`.
-pub(crate) fn run_width(symbols: usize, most: u32) -> u32
+/// The most bits by which a small table is looked up.
+const SMALL_TABLE: u32 = 11;
+
+/// Where the least code has this many bits or more, a look-up in a small table gives one code or none.
+const LONG_CODE: u32 = 3;
+
+/// By how many bits runs are looked up for this number of symbols and this least length of a code: `MORE_BITS` more than the
+/// symbols' numbers have, up to `most`. One bit, which holds no code, where a small table of long codes gains nothing.
+pub(crate) fn run_width(symbols: usize, least: u32, most: u32) -> u32
     requires some { 1 ≤ most }
     requires few { most ≤ 13 }
     ensures some { 1 ≤ result }
     ensures few { result ≤ 13 }
 {
-    for bits in 0..most - MORE_BITS {
+    if most <= SMALL_TABLE && least >= LONG_CODE {
+        return 1;
+    }
+    for bits in 0..most.saturating_sub(MORE_BITS) {
         if symbols < 1 << bits {
             return bits + MORE_BITS;
         }
@@ -123,6 +132,16 @@ impl RunSum {
         RunSum {
             packed: self.packed + run.packed as usize,
         }
+    }
+
+    /// More runs that begin with these, where they have at most so many values; otherwise these.
+    #[inline]
+    pub(crate) fn or_more(self, more: RunSum, most: usize) -> RunSum
+        requires { sum_values self ≤ most }
+        ensures fits { sum_values result ≤ most }
+        ensures is { (result ≡ more) ⊎ (result ≡ self) }
+    {
+        if more.values() <= most { more } else { self }
     }
 
     /// How many values the runs stand for.

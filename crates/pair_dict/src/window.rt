@@ -48,6 +48,23 @@ pub(crate) fn has_word(block: &[u8], at: usize) -> bool
     at / 8 < block.len().saturating_sub(7)
 }
 
+/// The bits before this one are before `until`, and eight bytes of the block are left from each of them on.
+#[inline]
+pub(crate) fn words_end(block: &[u8], until: usize) -> usize
+    ensures { (at : ℕ) → at < result → at / 8 + 8 ≤ length block.now }
+{
+    block.len().saturating_sub(7).saturating_mul(8).min(until)
+}
+
+/// The bits from a bit on at the top of a word, where eight bytes are left from there.
+#[inline]
+fn whole_window(block: &[u8], at: usize) -> u64
+    requires { at / 8 + 8 ≤ length block.now }
+    ensures { IsWindow block.now at result }
+{
+    word_at(block, at / 8) << (at % 8) as u32
+}
+
 /// The bits from a bit on at the top of a word, at least 57 of them, with zeros after the end.
 #[inline]
 pub(crate) fn window(block: &[u8], at: usize) -> u64
@@ -55,7 +72,7 @@ pub(crate) fn window(block: &[u8], at: usize) -> u64
     ensures { IsWindow block.now at result }
 {
     if has_word(block, at) {
-        return word_at(block, at / 8) << (at % 8) as u32;
+        return whole_window(block, at);
     }
     last_word_at(block, at / 8) << (at % 8) as u32
 }
@@ -92,8 +109,18 @@ impl BitBuffer {
         if !has_word(block, at) {
             return BitBuffer::last(block, at);
         }
+        BitBuffer::whole(block, at)
+    }
+
+    /// The 57 bits from a bit on, where eight bytes are left from there.
+    #[inline]
+    pub(crate) fn whole(block: &[u8], at: usize) -> BitBuffer
+        requires { at / 8 + 8 ≤ length block.now }
+        ensures shows { Shows block.now at result }
+        ensures held { result.held ≡ 57 }
+    {
         BitBuffer {
-            bits: window(block, at),
+            bits: whole_window(block, at),
             held: 57,
         }
     }
@@ -146,6 +173,29 @@ impl BitBuffer {
         ensures below { result < 2 ^ width }
     {
         (self.bits >> (64 - width)) as usize
+    }
+
+    /// The first 32 bits, as a number.
+    #[inline]
+    pub(crate) fn front_32(self) -> u64
+        ensures is { result ≡ self.bits / 2 ^ 32 }
+        ensures below { result < 2 ^ 32 }
+    {
+        self.bits >> 32
+    }
+
+    /// These bits, which stand at a bit of a block, or more from there on where fewer than 32 are held.
+    #[inline]
+    pub(crate) fn filled(self, block: &[u8], at: usize) -> BitBuffer
+        requires at { at ≤ 8 * length block.now }
+        requires fits { at < 2 ^ 60 }
+        requires shows { Shows block.now at self }
+        ensures { Shows block.now at result }
+    {
+        if self.held < 32 {
+            return BitBuffer::at(block, at);
+        }
+        self
     }
 
     /// How many bits are held, up to 64.

@@ -143,10 +143,10 @@ fn sum_of_groups(turned: &Turned) -> u64
     let factors = turned.shape().factors();
     let mut earlier = Earlier::new();
     let leading = number_leading(turned, &mut earlier);
-    let mut sum = leading * factors[0];
+    let mut sum = leading * factors[0] as u64;
     for place in 1..factors.len() {
         let number = number_at(turned, place, &mut earlier);
-        sum += number * factors[place];
+        sum += number * factors[place] as u64;
     }
     sum
 }

@@ -2,7 +2,7 @@
 
 ghost use Rattle.std.specs.Prelude.{◌≡◌, ◌≤◌, ◌<◌, not, length, map};
 ghost use Rattle.std.specs.Option.{ForSome};
-ghost use Rattle.place_index.specs.Shape.{places_given, is_free, places, factor_at};
+ghost use Rattle.place_index.specs.Shape.{places_given, is_free, places, factor_at, greatest_size};
 
 use crate::sizes::Sizes;
 use arrayvec::ArrayVec;
@@ -50,7 +50,8 @@ pub(crate) fn places(groups: usize, order: u8, second: Option<u8>) -> ArrayVec<u
 /// The product of the sizes of the groups at places before this one.
 fn factor(places: &[u8], sizes: &Sizes, place: u8) -> u64
     requires { length places.now ≡ length sizes.now }
-    ensures { result ≡ factor_at places.now sizes.now place }
+    ensures is { result ≡ factor_at places.now sizes.now place }
+    ensures fits { result ≤ greatest_size }
 {
     let all = sizes.as_slice();
     let mut factor: u64 = 1;
@@ -63,15 +64,15 @@ fn factor(places: &[u8], sizes: &Sizes, place: u8) -> u64
 }
 
 /// The factor of each group.
-pub(crate) fn factors(places: &[u8], sizes: &Sizes) -> ArrayVec<u64, 5>
+pub(crate) fn factors(places: &[u8], sizes: &Sizes) -> ArrayVec<u32, 5>
     requires { length places.now ≡ length sizes.now }
     ensures { result.items ≡ map (factor_at places.now sizes.now) places.now }
 {
     // The condition that there are at most five serves the proof alone.
     let _sizes = sizes.as_slice();
-    let mut factors = ArrayVec::<u64, 5>::new();
+    let mut factors = ArrayVec::<u32, 5>::new();
     for place in places {
-        factors.push(factor(places, sizes, *place));
+        factors.push(factor(places, sizes, *place) as u32);
     }
     factors
 }

@@ -34,8 +34,8 @@ pub struct Shape {
     order: u8,
     second: u8,
     file: PawnFile,
-    factors: ArrayVec<u64, 5>,
-    size: u64,
+    factors: ArrayVec<u32, 5>,
+    size: u32,
 }
 
 impl Model for Shape {
@@ -109,7 +109,7 @@ impl Shape {
             second,
             file,
             factors: factors(places.as_slice(), &sizes),
-            size: sizes.product(),
+            size: sizes.product() as u32,
         })
     }
 
@@ -175,7 +175,7 @@ impl Shape {
     }
 
     /// By what each group's number is multiplied, a number for each group in their order; the lowest is 1.
-    pub fn factors(&self) -> &[u64]
+    pub fn factors(&self) -> &[u32]
         ensures { result.now ≡ factors_of self.now }
     {
         self.factors.as_slice()
@@ -187,6 +187,6 @@ impl Shape {
         ensures some { 1 ≤ result }
         ensures most { result ≤ greatest_size }
     {
-        self.size
+        self.size as u64
     }
 }

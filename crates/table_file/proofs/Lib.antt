@@ -24,3 +24,4 @@ pub mod PartsRead
 pub mod Opening
 pub mod MapEntries
 pub mod StoredSides
+pub mod Marks

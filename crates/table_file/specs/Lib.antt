@@ -11,6 +11,7 @@ pub mod Sparse
 pub mod Sections
 pub mod Tables
 pub mod Expansion
+pub mod Marked
 pub mod Distances
 pub mod Layouts
 pub mod FirstFaults

@@ -6,7 +6,7 @@
 //! `forge` takes a plan and writes a file, for tests.
 //!
 //! What a file says: `kind`, `material`, `parts`, `places`, `size_record`, `codes`, `maps`, `reading`. Where a value is: `sparse`
-//! (the check of the sparse entries, linear by sums), `spots`, `steps` (the count of block lengths), `at_spot`. The rest:
+//! (the check of the sparse entries, linear by sums), `spots`, `steps` (the count of block lengths), `at_spot`, `marked`. The rest:
 //! `table`, `table_part`, `outcome`, `plan`, `forging`, `laws`, `fault`.
 //!
 //! Words of Stockfish: a table is `TBTable`, a part `PairsData`, flags `TBFlag`, block lengths `blockLength`, a block's size
@@ -33,6 +33,8 @@
 //! - CLAIM: `TablePart::unpack`, clauses `is`, `few`; `TablePart::value_in_block`, clauses `found`, `damaged`;
 //!   `TablePart::value_among`; `TablePart::plies_of`, clauses `found`, `damaged`, `most`: a block's values, at most 65536, and a
 //!   value or a distance from them or at a spot.
+//! - CLAIM: `TablePart::value_marked`, clauses `found`, `damaged`, `marks`: the same value from a place of the block that was passed
+//!   before; the places that are noted are this block's.
 //! - CLAIM: `forge`, clauses `ok`, `good`: where it answers Ok, it wrote exactly the bytes of the plan's definition, which open
 //!   under the plan's name with its values.
 //! - CLAIM: `forge`, clauses `good`, `io`, `bad`, `untouched`: a plan that breaks a rule of `specs/Plan.antt` is never written;
@@ -49,6 +51,7 @@ mod forging;
 mod kind;
 mod laws;
 mod maps;
+mod marked;
 mod material;
 mod outcome;
 mod parts;
@@ -66,8 +69,9 @@ pub use fault::TableFault;
 pub use forging::{ForgeFault, forge};
 pub use kind::{TableKind, file_name};
 pub use laws::{a_side_is_stored, names_differ, reads_what_is_laid_out, tells_first_fault};
+pub use marked::no_bookmarks;
 pub use outcome::Outcome;
-pub use pair_dict::Damaged;
+pub use pair_dict::{Bookmarks, Damaged};
 pub use plan::{Content, MapsPlan, PairsPlan, PartPlan, Plan};
 pub use spots::Spot;
 pub use steps::Steps;

@@ -151,7 +151,8 @@ fn place_of<L: Ledger>(
 pub(crate) fn block_of<'a>(codes: &Codes<'_>, blocks: &'a [u8], block: usize) -> &'a [u8]
     requires known { block < codes.now.blocks }
     requires length { length blocks.now ≡ codes.now.blocks * block_size codes.now }
-    ensures { result.now ≡ take (block_size codes.now) (drop (block * block_size codes.now) blocks.now) }
+    ensures is { result.now ≡ take (block_size codes.now) (drop (block * block_size codes.now) blocks.now) }
+    ensures few { length result.now ≤ 2 ^ 24 }
 {
     let size = codes.block_size();
     let at = block * size;
@@ -237,7 +238,7 @@ pub(crate) fn value_in(view: View<'_, '_>, index: u64) -> Result<u16, Damaged>
     value_by::<Brand>(view, index, Blank::new(1))
 }
 
-/// The bits of the first run of a block; 0 where there is no such block.
+/// The bits of the first run of a block or the hint for its first code; 0 where there is no such block.
 pub(crate) fn look_ahead_in(view: View<'_, '_>, block: usize) -> u32
     requires { IsChecked view }
     ensures { result ≤ 13 }

@@ -123,8 +123,8 @@ impl<'t, 'a> TablePart<'t, 'a> {
         values_in(alloc, self.view(), block as usize)
     }
 
-    /// Looks at the front of a block, so that it has come from memory when it is read: the bits of its first run, 0 to 13,
-    /// and 0 where there is no such block.
+    /// Looks at the front of a block, so that it has come from memory when it is read: the bits of its first run or the hint for
+    /// its first code, 0 to 13, and 0 where there is no such block.
     pub fn look_ahead(&self, block: u32) -> u32
         ensures few { result ≤ 13 }
     {

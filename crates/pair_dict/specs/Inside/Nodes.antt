@@ -1,5 +1,5 @@
 -- Symbols as they are kept for going down to one of their values.
-use Rattle.std.specs.Prelude.{◌≡◌, ◌≢◌, ℕ, ◌+◌, ◌/◌, ◌%◌, ◌<◌, ◌==◌, List, length, slice_index, map, if◌then◌else◌}
+use Rattle.std.specs.Prelude.{◌≡◌, ◌≢◌, ℕ, ◌+◌, ◌/◌, ◌%◌, ◌<◌, ◌==◌, List, length, slice_index, drop, map, if◌then◌else◌}
 use Rattle.std.proofs.Common.{get_or}
 use Rattle.pair_dict.specs.Symbols.{symbol_count, left, right, HasSymbolValues}
 use Rattle.pair_dict.specs.declared.nodes.Node.{Node}
@@ -41,9 +41,9 @@ pub record AreNodes (symbols : List ℕ) (nodes : List Node) : Type 0 where
   pub lengths : length nodes ≡ symbol_count symbols
   pub each : (s : ℕ) (other : Node) → s < symbol_count symbols → IsNode symbols s (get_or nodes s other)
 
--- counts that are kept less one
+-- counts that are kept less one, after 64 hints
 abbrev pub counts_in : List ℕ → List ℕ
-counts_in bytes = map (λ n. n + 1) bytes
+counts_in bytes = map (λ n. n + 1) (drop 64 bytes)
 
 -- ---- while they are found; a symbol that isn't counted yet has no node
 

@@ -3,6 +3,7 @@ use Rattle.std.specs.Prelude.{◌≡◌, ℕ, ◌+◌, ◌-◌, ◌*◌, ◌/◌
 use Rattle.std.proofs.Common.{get_or}
 use Rattle.pair_dict.specs.Codes.{Pairing}
 use Rattle.pair_dict.specs.Blocks.{values_from, block_values}
+use Rattle.pair_dict.specs.Marks.{IsMark}
 use Rattle.pair_dict.specs.Inside.Windows.{Shows}
 use Rattle.pair_dict.specs.declared.window.BitBuffer.{BitBuffer}
 use Rattle.pair_dict.specs.declared.runs.CodeRun.{CodeRun}
@@ -85,8 +86,15 @@ AreRunsWithin runs behind most = (rest : ℕ) → rest < behind → IsRunWithin 
 pub record IsFurther (d : Pairing) (block : List ℕ) (from to : Place) : Type 0 where
   pub within : to.at ≤ 8 * length block
   pub forth : from.at ≤ to.at
+  pub back : to.left ≤ from.left
   pub slow : to.at + 32 * to.left ≤ from.at + 32 * from.left
   pub rest : (offset : ℕ) → IsLeft d block from.at from.left offset → IsLeft d block to.at to.left offset
+  pub passed : (values : ℕ) → IsMark d block from.at values → IsMark d block to.at (values + (from.left - to.left))
+
+-- a place before the value at an offset
+pub record IsBefore (d : Pairing) (block : List ℕ) (offset : ℕ) (place : Place) : Type 0 where
+  pub left : place.left ≤ offset
+  pub mark : IsMark d block place.at (offset - place.left)
 
 -- runs that were taken from bit p on: the values that their bits stand for, and a buffer that shows what follows
 pub record AreTaken (d : Pairing) (block : List ℕ) (p : ℕ) (sum : RunSum) (buffer : BitBuffer) : Type 0 where

@@ -3,7 +3,6 @@ use Rattle.std.specs.Prelude.{◌≡◌, ℕ, ◌+◌, ◌-◌, ◌*◌, ◌/◌
 use Rattle.pair_dict.specs.Codes.{bases, bits, number_of}
 use Rattle.pair_dict.specs.declared.window.BitBuffer.{BitBuffer}
 use Rattle.pair_dict.specs.declared.codes.CodeLength.{CodeLength}
-use Rattle.pair_dict.specs.declared.codes.CodeSearch.{CodeSearch}
 
 -- the highest n bits of the word are the first n bits of the bytes
 abbrev pub IsWord : List ℕ → ℕ → Type 0
@@ -37,10 +36,9 @@ firsts_in codes = map (λ c. c.packed / 65536) codes
 abbrev pub lowest_in : List CodeLength → List ℕ
 lowest_in codes = map (λ c. c.packed % 65536) codes
 
--- bits below the number `first` are no code of the lengths before the place `from`
-pub record AreLong (firsts : List ℕ) (long : CodeSearch) : Type 0 where
-  pub within : long.from ≤ length firsts
-  pub above : (i : ℕ) → i < long.from → long.first ≤ slice_index firsts i
+-- the 32 bits begin with those of the block from bit p on
+abbrev pub IsFront : List ℕ → ℕ → ℕ → Type 0
+IsFront block p front = (n : ℕ) → n ≤ 32 → p + n ≤ 8 * length block → front / 2 ^ (32 - n) ≡ bits block p n
 
 -- a code that was read: a known symbol, a bit at least, and all of it in the block
 pub record IsSoundCode (limit : ℕ) (block : List ℕ) (p : ℕ) (code : ℕ × ℕ) : Type 0 where
@@ -48,3 +46,9 @@ pub record IsSoundCode (limit : ℕ) (block : List ℕ) (p : ℕ) (code : ℕ ×
   pub some : 1 ≤ code.1
   pub short : code.1 ≤ 32
   pub within : p + code.1 ≤ 8 * length block
+
+-- the same without its place: a known symbol and 1 to 32 bits
+pub record IsKnownCode (limit : ℕ) (code : ℕ × ℕ) : Type 0 where
+  pub known : code.0 < limit
+  pub some : 1 ≤ code.1
+  pub short : code.1 ≤ 32

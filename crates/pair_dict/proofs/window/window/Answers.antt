@@ -3,6 +3,3 @@ use Rattle.pair_dict.proofs.window.window.Goals as goal
 
 pub returns : goal.returns
 returns c = window_at c.args.block.now c.args.at c.last_word_at.result c.last_word_at.ensures c.requires
-
-pub returns-then-has_word : goal.returns-then-has_word
-returns-then-has_word c = window_at c.args.block.now c.args.at c.word_at.result c.word_at.ensures c.requires

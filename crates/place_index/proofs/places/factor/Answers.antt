@@ -34,10 +34,16 @@ loop-i-preserved c =
           ∙ c.loop-i.invariant
     ]
 
-pub returns : goal.returns
-returns c =
+pub returns-clause-is : goal.returns-clause-is
+returns-clause-is c =
     sym (once c.loop-i.factor) ∙ ap (λ x. c.loop-i.factor * x) (sym (factor_all c.args.places.now c.as_slice-all.result.now c.args.place c.loop-i.i c.loop-i-test.false)) ∙ c.loop-i.invariant
     ∙ ap (λ xs. factor_at c.args.places.now xs c.args.place) c.as_slice-all.ensures.is
+
+pub returns-clause-fits : goal.returns-clause-fits
+returns-clause-fits c =
+    let all : c.loop-i.factor ≡ factor_at c.args.places.now c.as_slice-all.result.now c.args.place =
+    sym (once c.loop-i.factor) ∙ ap (λ x. c.loop-i.factor * x) (sym (factor_all c.args.places.now c.as_slice-all.result.now c.args.place c.loop-i.i c.loop-i-test.false)) ∙ c.loop-i.invariant in
+    omega (arith, all, factor_most c.args.places.now c.as_slice-all.result.now c.args.place (omega (arith, ap product c.as_slice-all.ensures.is, c.as_slice-all.ensures.some)), ap product c.as_slice-all.ensures.is, c.as_slice-all.ensures.fits)
 
 pub bounds-places-i : goal.bounds-places-i
 bounds-places-i c = omega (arith, c.requires, ap length c.as_slice-all.ensures.is, c.loop-i-test.true)

@@ -4,7 +4,7 @@ use Rattle.pair_dict.specs.Inside.Nodes.{counts_in}
 use Rattle.pair_dict.proofs.dictionary.Dictionary.block_is_computed.Goals as goal
 
 pub returns-clause-computed : goal.returns-clause-computed
-returns-clause-computed c = rw (← c.self.view_is) (block_computed (kept_pairing c.self.inside) (counts_in c.self.inside.counts.items) c.args.block.now c.self.invariant.counts c.self.invariant.least)
+returns-clause-computed c = rw (← c.self.view_is) (block_computed (kept_pairing c.self.inside) (counts_in c.self.inside.bytes.items) c.args.block.now c.self.invariant.counts c.self.invariant.codes.least)
 
 pub returns-clause-front : goal.returns-clause-front
-returns-clause-front c = rw (← c.self.view_is) (block_begins (kept_pairing c.self.inside) (counts_in c.self.inside.counts.items) c.args.block.now c.self.invariant.counts c.self.invariant.least)
+returns-clause-front c = rw (← c.self.view_is) (block_begins (kept_pairing c.self.inside) (counts_in c.self.inside.bytes.items) c.args.block.now c.self.invariant.counts c.self.invariant.codes.least)

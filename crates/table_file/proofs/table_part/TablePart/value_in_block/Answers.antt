@@ -13,8 +13,8 @@ block_of-requires-clause-known c = rw c.in-Pairs.is at (view_real c.args.self.no
 
 pub returns-clause-found : goal.returns-clause-found
 returns-clause-found c = λ index spot.
-    found_in c.args.self.now c.view-view.result c.view-view.ensures.part c.view-view.ensures.checked c.in-Pairs.codes c.in-Pairs.is index c.args.block c.args.offset spot c.value.result (rw (c.dictionary.ensures, c.block_of.ensures) at c.value.ensures.found)
+    found_in c.args.self.now c.view-view.result c.view-view.ensures.part c.view-view.ensures.checked c.in-Pairs.codes c.in-Pairs.is index c.args.block c.args.offset spot c.value.result (rw (c.dictionary.ensures, c.block_of.ensures.is) at c.value.ensures.found)
 
 pub returns-clause-damaged : goal.returns-clause-damaged
 returns-clause-damaged c = λ index spot.
-    damaged_in c.args.self.now c.view-view.result c.view-view.ensures.part c.view-view.ensures.checked c.in-Pairs.codes c.in-Pairs.is index c.args.block c.args.offset spot c.value.result (rw (c.dictionary.ensures, c.block_of.ensures) at c.value.ensures.damaged)
+    damaged_in c.args.self.now c.view-view.result c.view-view.ensures.part c.view-view.ensures.checked c.in-Pairs.codes c.in-Pairs.is index c.args.block c.args.offset spot c.value.result (rw (c.dictionary.ensures, c.block_of.ensures.is) at c.value.ensures.damaged)
