@@ -63,13 +63,16 @@ def metadata_of(project: dict[str, Any], version: str) -> str:
 def files_of(library: Path) -> dict[str, bytes]:
     """The files that are installed, but for those about them."""
     files = {f"hofsjurd/{it.name}": it.read_bytes() for it in (HERE / "hofsjurd").iterdir() if it.suffix == ".py" or it.name == "py.typed"}
-    return {**files, LIBRARY: library.read_bytes()}
+    # (beside this folder in the repository)
+    wrapper = HERE.parent / "hofsjurd_uci.py"
+    return {**files, wrapper.name: wrapper.read_bytes(), LIBRARY: library.read_bytes()}
 
 
 def about(project: dict[str, Any], version: str, tag: str) -> dict[str, bytes]:
     """The files about a wheel, but for its record."""
+    scripts = "".join(f"{name} = {call}\n" for name, call in project["scripts"].items())
     wheel = f"Wheel-Version: 1.0\nGenerator: make_wheel\nRoot-Is-Purelib: false\nTag: {tag}\n"
-    texts = {"METADATA": metadata_of(project, version), "WHEEL": wheel}
+    texts = {"METADATA": metadata_of(project, version), "WHEEL": wheel, "entry_points.txt": f"[console_scripts]\n{scripts}"}
     return {f"{project['name']}-{version}.dist-info/{name}": text.encode() for name, text in texts.items()}
 
 
