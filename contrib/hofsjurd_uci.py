@@ -69,6 +69,17 @@ class Place(NamedTuple):
         return self.start == other.start and self.moves == other.moves[: len(self.moves)]
 
 
+class Found(NamedTuple):
+    """A verdict, and the place in a game that has it."""
+
+    name: str
+    place: Place
+
+    @property
+    def ply(self) -> int:
+        return len(self.place.moves)
+
+
 def place_of(line: str) -> Optional[Place]:
     """The place that a line `position ..` tells."""
     told, _, moves = line.partition(" moves ")
@@ -120,8 +131,8 @@ class TableJudge:
         self.game: Any = None
         self.place = Place("", [])
 
-    def follow(self, place: Place) -> Optional[tuple[int, str]]:
-        """The first verdict up to a place, with its ply. What it can't follow is a ValueError, or another error of hofsjurd's."""
+    def follow(self, place: Place) -> Optional[Found]:
+        """The first verdict up to a place. What it can't follow is a ValueError, or another error of hofsjurd's."""
         if self.game is None or not self.place.precedes(place):
             self.game, self.place = None, Place(place.start, [])
             self.game = self.make(self.tables, place.start, delay=self.delay)
@@ -130,7 +141,7 @@ class TableJudge:
                 break
             self.game.push(move)
         self.place = Place(place.start, self.game.moves)
-        return (self.game.ply, str(self.game.verdict)) if self.game.verdict else None
+        return Found(str(self.game.verdict), self.place) if self.game.verdict else None
 
     def end(self, place: Place) -> None:
         """The game has ended."""
@@ -351,8 +362,8 @@ class Follower:
         self.moved: Optional[str] = None  # the engine's move there
         self.colour = "white"
         self.is_followed, self.is_logged = True, False
-        # read by the thread that passes the engine's lines on; one object for a game
-        self.verdict: Optional[tuple[int, str]] = None
+        # read by the thread that passes the engine's lines on, which holds it to the place of the search; one object for a game
+        self.verdict: Optional[Found] = None
         self.thread = threading.Thread(target=self._run, daemon=True)
         self.thread.start()
 
@@ -397,25 +408,27 @@ class Follower:
         assert self.place
         return Place(self.place.start, [*self.place.moves, *([self.moved] if self.moved else [])])
 
-    def _found(self, verdict: Optional[tuple[int, str]], is_played: bool) -> None:
+    def _found(self, verdict: Optional[Found], is_played: bool) -> None:
         """A verdict of the tables'. On what has been played the manager is to be told."""
         if verdict and is_played and self.verdict is None:
             self.verdict = verdict
         if verdict and not self.is_logged:
             self.is_logged = True
-            self._write(verdict, self._last())
+            self._write(verdict)
 
     def _hear_host(self, feed: Feed, ply: int, name: str) -> None:
         """A verdict of the hosts', in the thread that read it."""
-        self.events.put(functools.partial(self._found_by_hosts, feed, (ply, name)))
+        self.events.put(functools.partial(self._found_by_hosts, feed, ply, name))
 
-    def _found_by_hosts(self, feed: Feed, verdict: tuple[int, str]) -> None:
+    def _found_by_hosts(self, feed: Feed, ply: int, name: str) -> None:
+        verdict = Found(name, Place(feed.place.start, feed.place.moves[:ply]))
         if isinstance(self.judge, HostJudge) and self.judge.feed is feed:
             self.verdict = verdict
-        self._write(verdict, feed.place)
+        self._write(verdict)
 
-    def _write(self, verdict: tuple[int, str], place: Place) -> None:
-        self.log.write(f"verdict {verdict[0]} {verdict[1]}", self.engine, self.colour, place.start, " ".join(place.moves[: verdict[0]]))
+    def _write(self, verdict: Found) -> None:
+        place = verdict.place
+        self.log.write(f"verdict {verdict.ply} {verdict.name}", self.engine, self.colour, place.start, " ".join(place.moves))
 
     def close(self) -> None:
         """Ends the game and waits a little for what is left."""
@@ -451,7 +464,7 @@ class Wrapper:
         self.engine = subprocess.Popen(given.engine, stdin=subprocess.PIPE, stdout=subprocess.PIPE, bufsize=0)
         self.place: Optional[Place] = None  # of the last line `position`
         self.searches: collections.deque[Search] = collections.deque()  # each has a `bestmove` to come
-        self.told: Optional[tuple[int, str]] = None  # the verdict that the manager has been told
+        self.told: Optional[Found] = None  # the verdict that the manager has been told
         self.score = b""  # the engine's last line with a score
 
     def run(self) -> int:
@@ -531,20 +544,22 @@ class Wrapper:
         move = (line.decode(errors="replace").split() + [""])[1]
         score, self.score = self.score, b""
         search = self.searches.popleft() if self.searches else None
-        if not search or not search.is_moving:
+        if not search or not search.is_moving or not search.place:
             return b""
         verdict = self.follower.verdict
         if len(move) in (4, 5) and move[1].isdigit():
             self.follower.events.put(functools.partial(self.follower.moves, move))
-        return self._announcement(verdict, score, move) if verdict else b""
+        # (the thread that follows may still be with an earlier game)
+        is_ours = verdict is not None and verdict.place.precedes(search.place)
+        return self._announcement(verdict, search.place.colour, score, move) if verdict and is_ours else b""
 
-    def _announcement(self, verdict: tuple[int, str], score: bytes, move: str) -> bytes:
-        text = b"" if self.told is verdict or not self.tells else f"info string verdict {verdict[0]} {verdict[1]}\n".encode()
+    def _announcement(self, verdict: Found, colour: str, score: bytes, move: str) -> bytes:
+        text = b"" if self.told is verdict or not self.tells else f"info string verdict {verdict.ply} {verdict.name}\n".encode()
         self.told = verdict
-        if not self.resign or verdict[1] == "Stopped":
+        if not self.resign or verdict.name == "Stopped":
             return text
-        winner = WINNERS.get(verdict[1])
-        value = self.resign if winner == self.follower.colour else -self.resign if winner else 0
+        winner = WINNERS.get(verdict.name)
+        value = self.resign if winner == colour else -self.resign if winner else 0
         line = score if SCORE.search(score) else f"info depth 1 score cp 0 nodes 0 time 0 pv {move}".encode()
         return text + SCORE.sub(f"score cp {value}".encode(), line) + b"\n"
 

@@ -6,11 +6,14 @@ path.
 """
 from __future__ import annotations
 
+import contextlib
 import os
 import shutil
+import signal
 import subprocess
 import sys
 import tempfile
+import time
 from pathlib import Path
 from typing import Callable
 
@@ -86,11 +89,21 @@ def in_fresh(base: Path, words: list[str]) -> int:
         env = {"PATH": PATH, "HOME": "/root", "LC_ALL": "C.UTF-8", "TERM": "dumb"}
         return subprocess.run(["chroot", root, "python3", "-B", Path(sys.argv[0]).resolve(), *words], env=env).returncode
     finally:
+        end_processes(root)
         still = [it for it in reversed(mounted) if subprocess.run(["umount", it]).returncode]
         if still:
             print(f"still mounted: {still}", file=sys.stderr)
         else:
             shutil.rmtree(folder, ignore_errors=True)
+
+
+def end_processes(root: Path) -> None:
+    """Ends what a trial has left running in its Debian."""
+    for process in Path("/proc").glob("[0-9]*"):
+        with contextlib.suppress(OSError):
+            if Path(os.readlink(process / "root")) == root:
+                os.kill(int(process.name), signal.SIGKILL)
+    time.sleep(0.5)
 
 
 def mount(source: Path, to: Path, mounted: list[Path]) -> None:

@@ -21,20 +21,22 @@ PathLike = Union[str, "os.PathLike[str]"]
 
 
 class _Question(NamedTuple):
-    """The calls of a question: of a board, opening the tables that it takes; and of a FEN text or many boards, by those that are open."""
+    """The calls of a question: of a board, opening the tables that it takes; of a FEN text or many boards, by those that are open; and for
+    the name of the table that is missing."""
 
     of_board: Any
     of_text: Any = None
     of_boards: Any = None
     needs_dtz: bool = True
+    missing: Any = library.hofsjurd_board_missing
 
 
 _WDL = _Question(library.hofsjurd_prober_wdl, library.hofsjurd_wdl, library.hofsjurd_boards_wdl, needs_dtz=False)
-_DTZ = _Question(library.hofsjurd_prober_dtz, library.hofsjurd_dtz, library.hofsjurd_boards_dtz)
+_DTZ = _Question(library.hofsjurd_prober_dtz, library.hofsjurd_dtz, library.hofsjurd_boards_dtz, missing=library.hofsjurd_board_dtz_missing)
 _JUDGE = _Question(library.hofsjurd_prober_judge, None, library.hofsjurd_boards_judge)
 _ROOT = _Question(library.hofsjurd_prober_root)
 _DETERMINED_WDL = _Question(library.hofsjurd_prober_determined_wdl, needs_dtz=False)
-_DETERMINED_DTZ = _Question(library.hofsjurd_prober_determined_dtz)
+_DETERMINED_DTZ = _Question(library.hofsjurd_prober_determined_dtz, missing=library.hofsjurd_board_dtz_missing)
 _DETERMINED_ROOT = _Question(library.hofsjurd_prober_determined_root)
 
 
@@ -275,7 +277,7 @@ class Tablebase:
         plain = plain_of(board)
         reply = question.of_board(prober.handle, plain)
         if reply.status:
-            raise _error(prober, plain, reply.status)
+            raise _error(prober, plain, reply.status, question.missing)
         value = reply.value
         return value
 
@@ -295,7 +297,7 @@ class Tablebase:
         for place in replies._open_places(is_verdict=question is _JUDGE):
             plain = given._plain[place]
             reply = question.of_board(prober.handle, plain)
-            replies._set(place, reply.value, _error(prober, plain, reply.status) if reply.status else None)
+            replies._set(place, reply.value, _error(prober, plain, reply.status, question.missing) if reply.status else None)
         return replies
 
     def __enter__(self) -> Tablebase:
@@ -305,14 +307,13 @@ class Tablebase:
         self.close()
 
 
-def _error(prober: _Prober, plain: PlainBoard, status: int) -> ProbeError:
+def _error(prober: _Prober, plain: PlainBoard, status: int, missing: Any = None) -> ProbeError:
     """The error of a status that isn't 0, with the table's name."""
     if status in _library.FILE_STATUSES:
         refusal = library.hofsjurd_prober_refusal(prober.handle).contents
         return RefusedTableError(status, refusal.error, os.path.join(os.fsdecode(refusal.path), os.fsdecode(refusal.name)))
-    if status == _library.NOT_COVERED:
-        table = text_of(library.hofsjurd_board_missing, prober.set, plain) or text_of(library.hofsjurd_board_dtz_missing, prober.set, plain)
-        return MissingTableError(status, table)
+    if status == _library.NOT_COVERED and missing:
+        return MissingTableError(status, text_of(missing, prober.set, plain))
     return board_error(plain, status)
 
 
