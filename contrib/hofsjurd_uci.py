@@ -70,14 +70,15 @@ class Place(NamedTuple):
 
 
 class Found(NamedTuple):
-    """A verdict, and the place in a game that has it."""
+    """A verdict, its ply, and the place in a game that has it. Hosts may tell it before this wrapper has seen the last move there."""
 
+    ply: int
     name: str
     place: Place
 
-    @property
-    def ply(self) -> int:
-        return len(self.place.moves)
+    def is_of(self, place: Place) -> bool:
+        """Whether a place is this one, or a later one of the game."""
+        return self.ply <= len(place.moves) and self.place.precedes(place)
 
 
 def place_of(line: str) -> Optional[Place]:
@@ -141,9 +142,9 @@ class TableJudge:
                 break
             self.game.push(move)
         self.place = Place(place.start, self.game.moves)
-        return Found(str(self.game.verdict), self.place) if self.game.verdict else None
+        return Found(self.game.ply, str(self.game.verdict), self.place) if self.game.verdict else None
 
-    def end(self, place: Place) -> None:
+    def end(self, place: Optional[Place]) -> None:
         """The game has ended."""
         self.game = None
 
@@ -237,8 +238,8 @@ class Match:
     def _is_free(seats: dict[str, str], place: Place, colour: str) -> bool:
         told = Place(seats["start"], seats["moves"].split())
         process = seats.get(_other(colour), "0").split()[0]
-        is_there = process != "0" and Path(f"/proc/{process}").exists()
-        return colour not in seats and is_there and (told.precedes(place) or place.precedes(told))
+        is_there = process not in ("0", str(os.getpid())) and Path(f"/proc/{process}").exists()
+        return not {colour, "over"} & seats.keys() and is_there and (told.precedes(place) or place.precedes(told))
 
     def extend(self, number: int, place: Place) -> Optional[list[str]]:
         """The list of the game's moves with those up to a place; None where the place is one of another game."""
@@ -250,6 +251,10 @@ class Match:
             return None
         self.write(number, {**seats, "moves": " ".join(place.moves)})
         return place.moves
+
+    def end(self, number: int) -> None:
+        """Nobody sits down at the game any more."""
+        self.write(number, {**self.read(number), "over": "."})
 
 
 def _other(colour: str) -> str:
@@ -331,11 +336,15 @@ class HostJudge:
         self.feed = Feed(words, Place(start, []), self.told, self.log)
         self.feeds = [*(it for it in self.feeds if it.process.poll() is None), self.feed]
 
-    def end(self, place: Place) -> None:
-        """The game has ended at a place. Its last move, which no position has told, is taken as played."""
-        if self.feed:
-            with contextlib.suppress(ValueError, OSError):
+    def end(self, place: Optional[Place]) -> None:
+        """The game has ended, at a place where it was followed so far. Its last move, which no position has told, is taken as played."""
+        with contextlib.suppress(ValueError, OSError):
+            if self.feed and place:
                 self.feed.move(self._agreed(place))
+            if self.match and self.place:
+                with self.match.locked():
+                    self.match.end(self.number)
+        if self.feed:
             self.feed.end()
         self.feed, self.place = None, None
 
@@ -400,8 +409,8 @@ class Follower:
 
     def new_game(self) -> None:
         """The game that was followed has ended."""
-        if self.place and self.is_followed:
-            self.judge.end(self._last())
+        if self.place:
+            self.judge.end(self._last() if self.is_followed else None)
         self.place, self.moved = None, None
 
     def _last(self) -> Place:
@@ -421,7 +430,7 @@ class Follower:
         self.events.put(functools.partial(self._found_by_hosts, feed, ply, name))
 
     def _found_by_hosts(self, feed: Feed, ply: int, name: str) -> None:
-        verdict = Found(name, Place(feed.place.start, feed.place.moves[:ply]))
+        verdict = Found(ply, name, Place(feed.place.start, feed.place.moves[:ply]))
         if isinstance(self.judge, HostJudge) and self.judge.feed is feed:
             self.verdict = verdict
         self._write(verdict)
@@ -550,8 +559,7 @@ class Wrapper:
         if len(move) in (4, 5) and move[1].isdigit():
             self.follower.events.put(functools.partial(self.follower.moves, move))
         # (the thread that follows may still be with an earlier game)
-        is_ours = verdict is not None and verdict.place.precedes(search.place)
-        return self._announcement(verdict, search.place.colour, score, move) if verdict and is_ours else b""
+        return self._announcement(verdict, search.place.colour, score, move) if verdict and verdict.is_of(search.place) else b""
 
     def _announcement(self, verdict: Found, colour: str, score: bytes, move: str) -> bytes:
         text = b"" if self.told is verdict or not self.tells else f"info string verdict {verdict.ply} {verdict.name}\n".encode()
@@ -565,20 +573,22 @@ class Wrapper:
 
 
 def arguments() -> argparse.Namespace:
-    words = argparse.ArgumentParser(prog="hofsjurd-uci", usage=__doc__)
-    words.add_argument("--tables")
-    words.add_argument("--host")
-    words.add_argument("--game", nargs="+", default=[])
-    words.add_argument("--games", type=lambda it: it.split(","), default=[])
-    words.add_argument("--match")
-    words.add_argument("--manifest")
-    words.add_argument("--string", choices=("always", "never", "auto"), default="auto")
-    words.add_argument("--resign", type=int, default=10000)
-    words.add_argument("--delay", type=int, default=0, choices=range(9))
-    words.add_argument("--log")
-    words.add_argument("--key")
-    words.add_argument("--program", default="adjudicate")
-    words.add_argument("engine", nargs="*")
+    usage = "hofsjurd-uci --tables DIR | --host ADDR,ADDR .. [OPTIONS] -- ENGINE ARGS; --help tells all"
+    words = argparse.ArgumentParser(
+        "hofsjurd-uci",
+        usage,
+        __doc__,
+        formatter_class=argparse.RawDescriptionHelpFormatter,
+    )
+    hidden: dict[str, Any] = {"help": argparse.SUPPRESS}
+    for name in ("--tables", "--host", "--match", "--manifest", "--log", "--key"):
+        words.add_argument(name, **hidden)
+    words.add_argument("--game", nargs="+", default=[], **hidden)
+    words.add_argument("--games", type=lambda it: it.split(","), default=[], **hidden)
+    words.add_argument("--string", choices=("always", "never", "auto"), default="auto", **hidden)
+    words.add_argument("--resign", type=int, default=10000, **hidden)
+    words.add_argument("--delay", type=int, default=0, choices=range(9), **hidden)
+    words.add_argument("--program", default="adjudicate", **hidden)
     cut = sys.argv.index("--") if "--" in sys.argv else len(sys.argv)
     given = words.parse_args(sys.argv[1:cut])
     given.engine = sys.argv[cut + 1 :]

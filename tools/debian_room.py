@@ -74,7 +74,9 @@ def main(trial: Callable[..., int], usage: str, least: int, most: int) -> None:
 def in_fresh(base: Path, words: list[str]) -> int:
     """Runs this script in a copy of the Debian in a folder."""
     if not (base / "usr/bin/dpkg").is_file():
-        subprocess.run(["debootstrap", "--variant=minbase", "--include=python3,ca-certificates,procps", RELEASE, base, MIRROR], check=True, **QUIET)
+        subprocess.run(
+            ["debootstrap", "--variant=minbase", "--include=python3,ca-certificates,procps", RELEASE, base, MIRROR], check=True, **QUIET
+        )
     folder = tempfile.mkdtemp(prefix="fresh-")
     root = Path(folder, "root")
     seen = [TOP, *(Path(it) for it in words if os.path.exists(it))]

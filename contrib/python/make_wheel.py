@@ -113,9 +113,7 @@ def get_requires_for_build_wheel(config_settings: Optional[dict[str, Any]] = Non
     return []
 
 
-def build_wheel(
-    wheel_directory: str, config_settings: Optional[dict[str, Any]] = None, metadata_directory: Optional[str] = None
-) -> str:
+def build_wheel(wheel_directory: str, config_settings: Optional[dict[str, Any]] = None, metadata_directory: Optional[str] = None) -> str:
     """What pip calls."""
     library = os.environ.get("HOFSJURD_LIBRARY")
     if not library:

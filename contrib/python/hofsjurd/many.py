@@ -61,10 +61,12 @@ class Boards(Sequence[Position]):
         return len(self._plain)
 
     @overload
-    def __getitem__(self, place: int) -> Position: ...
+    def __getitem__(self, place: int) -> Position:
+        ...
 
     @overload
-    def __getitem__(self, place: slice) -> list[Position]: ...
+    def __getitem__(self, place: slice) -> list[Position]:
+        ...
 
     def __getitem__(self, place: Union[int, slice]) -> Union[Position, list[Position]]:
         if isinstance(place, slice):
@@ -117,10 +119,12 @@ class Replies(Sequence[Optional[int]]):
         return len(self.values)
 
     @overload
-    def __getitem__(self, place: int) -> Optional[int]: ...
+    def __getitem__(self, place: int) -> Optional[int]:
+        ...
 
     @overload
-    def __getitem__(self, place: slice) -> list[Optional[int]]: ...
+    def __getitem__(self, place: slice) -> list[Optional[int]]:
+        ...
 
     def __getitem__(self, place: Union[int, slice]) -> Union[Optional[int], list[Optional[int]]]:
         if isinstance(place, slice):

@@ -19,7 +19,8 @@ _STATES = ("open", "check", "checkmate", "stalemate")
 class HasUci(Protocol):
     """Anything whose `uci()` gives a move in coordinates, as a chess.Move."""
 
-    def uci(self) -> str: ...
+    def uci(self) -> str:
+        ...
 
 
 MoveLike = Union[str, HasUci]

@@ -22,7 +22,8 @@ _MOST_MEN = 5
 class HasFen(Protocol):
     """Anything whose `fen()` gives a FEN text of six fields, as a chess.Board."""
 
-    def fen(self) -> str: ...
+    def fen(self) -> str:
+        ...
 
 
 BoardLike = Union[str, HasFen]
@@ -180,9 +181,7 @@ def fen_of(board: BoardLike) -> bytes:
 def material_of(plain: PlainBoard) -> str:
     """The name of the men of a board, as "KQvKR", the side with more men first."""
     order = tuple(zip("KQRBNP", ("kings", "queens", "rooks", "bishops", "knights", "pawns")))
-    names = [
-        "".join(letter * bin(getattr(plain, kind) & side).count("1") for letter, kind in order) for side in (plain.white, plain.black)
-    ]
+    names = ["".join(letter * bin(getattr(plain, kind) & side).count("1") for letter, kind in order) for side in (plain.white, plain.black)]
     names.sort(key=lambda it: (-len(it), ["KQRBNP".index(letter) for letter in it]))
     return "v".join(names)
 

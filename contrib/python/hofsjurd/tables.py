@@ -67,7 +67,7 @@ class _Listing:
         refused: list[Exception] = []
 
         def tell(_with: Any, path: bytes, name: Optional[bytes], status: int, error: int) -> bool:
-            where = os.path.join(os.fsdecode(path), os.fsdecode(name or b""))
+            where = os.fsdecode(os.path.join(path, name) if name else path)
             refused.append(OSError(error, os.strerror(error), where) if error else RefusedTableError(status, 0, where))
             return not folder.is_strict and name is not None
 
