@@ -75,7 +75,7 @@ def lines_of(part: Part) -> Iterator[str]:
 
 
 def judge_lines(base: hofsjurd.Tablebase, fens: list[str]) -> list[str]:
-    """What `adjudicate probes` prints of each."""
+    """What `adjudicate probes` prints of each, but for the name behind `Damaged`, which the library doesn't tell."""
     boards = hofsjurd.Boards(fens)
     wdl, dtz, verdicts = base.probe_wdl_many(boards), base.probe_dtz_many(boards), base.judge_many(boards)
     names = ["open", *map(str, hofsjurd.Verdict)]

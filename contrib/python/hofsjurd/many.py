@@ -2,6 +2,7 @@
 from __future__ import annotations
 
 import ctypes
+import functools
 from array import array
 from collections.abc import Sequence
 from typing import Any, Optional, Union, overload
@@ -84,13 +85,11 @@ class Replies(Sequence[Optional[int]]):
         for place, error in boards.errors.items():
             self.statuses[place] = error.status
 
-    @property
+    @functools.cached_property
     def errors(self) -> dict[int, ProbeError]:
         """What `probe_..` would raise, by the places that have no answer."""
-        for place in self._places():
-            if place not in self._errors:
-                self._errors[place] = board_error(self._plain[place], self.statuses[place])
-        return self._errors
+        known = self._errors
+        return {place: known.get(place) or board_error(self._plain[place], self.statuses[place]) for place in self._places()}
 
     def tolist(self) -> list[Optional[int]]:
         """All answers as a list."""
