@@ -1,5 +1,6 @@
 -- Answers by the tables of a folder that are read when a position asks for them.
-use Rattle.std.proofs.Common.{◌≡◌, ℕ, List, Option, Some, None, Result, Ok, Err, false, refl, sym, ap, ◌∙◌, subst}
+use Rattle.std.proofs.Common.{◌≡◌, ◌==◌, ℕ, Bool, List, Option, Some, None, Result, Ok, Err, false, true, length, refl, sym, ap, ◌∙◌, subst, inl, inr}
+use Rattle.std.specs.Prelude.{IfOk, IfErr}
 use Rattle.board_core.specs.declared.parts.Parts.{Parts}
 use Rattle.judge_core.specs.declared.display.Columns.{Columns}
 use Rattle.judge_core.specs.Tables.{Tables}
@@ -7,67 +8,165 @@ use Rattle.move_msg.specs.ToldManifests.{ToldManifest}
 use Rattle.system_io.specs.Disks.{DiskFacts}
 use Rattle.adjudicate_core.specs.declared.answers.refusals.Refusal.{Refusal}
 use Rattle.adjudicate_core.specs.declared.answers.refusals.Refusal.TheVariants as refusal
-use Rattle.adjudicate_core.specs.FolderAnswers.{Answered, BadFile, BadManifest, ByFolder, ByItsTables, ForBadFile, IsSpelledBy, NoFolder, PutsBadManifest, PutsByFolder, PutsLinesBy, PutsNoFolder, TellsByFolder, refused_table}
-use Rattle.adjudicate_core.specs.Commands.Probes.{OfPosition, TellsLine}
-use Rattle.adjudicate_core.specs.Telling.{TellsOne}
+use Rattle.adjudicate_core.specs.Commands.Game.{BadWord, BadWordIn, IsOutcomeReply, IsPlayedBy, are_all_legal, outcome_reply, plies_of}
+use Rattle.adjudicate_core.specs.declared.commands.game.FollowGame.{FollowGame}
+use Rattle.adjudicate_core.specs.Commands.Games.{Played, TellsGameByFolder, moves_in, start_in}
+use Rattle.adjudicate_core.specs.Commands.Probes.{OfPosition, TellsLineByFolder}
+use Rattle.adjudicate_core.specs.Commands.Root.{IsRootReply, TellsLineByFolder as TellsRootByFolder}
+use Rattle.adjudicate_core.specs.JsonAnswers.{IsJsonTold, TellsJsonByFolder, json_reply, needed_by}
+use Rattle.adjudicate_core.specs.Reply as replies
+use Rattle.board_core.specs.declared.moves.Move.{Move}
+use Rattle.json_lines.specs.Objects.{json_text, line_json}
+use Rattle.json_lines.specs.Told.{ForPosition, IsLineOf, is_done}
+use Rattle.json_lines.specs.declared.told.JsonLine.{JsonLine}
+use Rattle.judge_core.specs.declared.ask.Ask.TheVariants.{Strict}
+use Rattle.judge_core.specs.declared.game.GameOutcome.{GameOutcome}
+use Rattle.judge_core.specs.Games.{IsOutcome}
+use Rattle.judge_core.specs.Words.{outcome_words}
+use Rattle.move_msg.specs.GameTexts.{TellsMoves}
 use Rattle.board_core.specs.Position.{IsPosition}
 use Rattle.fen_text.specs.Fen.{SpellsPosition}
-use Rattle.judge_core.specs.declared.ask.Ask.TheVariants.{Strict}
-use Rattle.judge_core.specs.ProbeResult.{IsProbed, has_both}
-use Rattle.judge_core.specs.Ruling.{ruling}
+use Rattle.judge_core.specs.ProbeResult.{has_both}
 use Rattle.judge_core.specs.Words.{columns_words}
+use Rattle.adjudicate_core.specs.FolderAnswers.{AnswersIn, BadManifest, ByFolder, ByItsTables, Finds, ForBadFile, InFolder, IsAlone, NoFolder, PutsBadManifest, PutsByFolder, PutsLinesBy, PutsNoFolder, refused_table, refused_table_in}
+use Rattle.adjudicate_core.specs.Telling.{TellsOne}
+use Rattle.judge_core.specs.ProbeResult.{IsProbed}
+use Rattle.judge_core.specs.Ruling.{ruling}
 use Rattle.line_teller.specs.ToldLines.{LineTold}
 use Rattle.system_io.specs.Inputs.{InputFacts}
 use Rattle.system_io.specs.declared.output.WriteFault.{WriteFault}
 use Rattle.table_folder.specs.declared.fault.FileRefusal.{FileRefusal}
 use Rattle.table_folder.specs.Folders.{AreOf, Folder, IsFolderAt}
 use Rattle.adjudicate_core.specs.LineAnswers.{PutsLinesOrNone}
-use Rattle.table_folder.specs.Settled.{IsRefusedAt, IsSettled}
+use Rattle.table_folder.specs.Settled.{AnswersBy, AreSettled, IsPly, IsRefusedAt, IsRefusedFor, IsSettled, IsWithMoves}
 use Rattle.adjudicate_core.specs.Inside.LookingUp.{AreColumns, CannotList, FindsAll, FindsBadFile, FindsColumns, FindsNoFolder, HasBadLine, LacksFolder}
-use Rattle.adjudicate_core.specs.Lines.{refusal_words}
+use Rattle.adjudicate_core.specs.Lines.{refusal_words, refused_move}
+use Rattle.move_msg.specs.GameTexts.{words_in}
+use Rattle.move_notation.specs.Notations.{IsBadWordIn, notation_by}
+use Rattle.std.specs.Borrow.{Bor}
+use Rattle.task_files.specs.Given.{Given}
 use Rattle.adjudicate_core.specs.Reply.{Reply, refusal_reply}
 
 -- the refusal of a folder is a reply
-pub lacks_folder : {disk : DiskFacts} {path : List ℕ} {manifest : Option ToldManifest} {IsAnswer : Tables → Parts → Reply → Type 0} {p : Parts} {r : Reply} {refused : Refusal} → LacksFolder disk path manifest refused → r ≡ refusal_reply (refusal_words refused) → ByFolder disk path manifest IsAnswer p r
+pub lacks_folder : {disk : DiskFacts} {path : List ℕ} {manifest : Option ToldManifest} {IsNeeded : Parts → Parts → Type 0} {refused : FileRefusal → List ℕ} {IsAnswer : Tables → Parts → Reply → Type 0} {p : Parts} {r : Reply} {why : Refusal} → LacksFolder disk path manifest why → r ≡ refusal_reply (refusal_words why) → ByFolder disk path manifest IsNeeded refused IsAnswer p r
 lacks_folder (HasBadLine line bad e) is = BadManifest line bad (is ∙ ap (λ x. refusal_reply (refusal_words x)) e)
 lacks_folder (CannotList fails e) is = NoFolder fails (is ∙ ap (λ x. refusal_reply (refusal_words x)) e)
 
+-- a reply by the tables of a folder that is open
+pub in_folder : {D : Type 0} (facts : D → DiskFacts) (a b : D) (folder : Folder) (path : List ℕ) (manifest : Option ToldManifest) (IsNeeded : Parts → Parts → Type 0) (refused : FileRefusal → List ℕ) (IsAnswer : Tables → Parts → Reply → Type 0) (p : Parts) (r : Reply) → a ≡ b → IsFolderAt (facts b) path manifest folder → AnswersIn (facts a) folder IsNeeded refused IsAnswer p r → ByFolder (facts b) path manifest IsNeeded refused IsAnswer p r
+in_folder facts a b folder path manifest IsNeeded refused IsAnswer p r same at is =
+    InFolder folder at (subst (λ d. AnswersIn (facts d) folder IsNeeded refused IsAnswer p r) same is)
+
+-- ---- columns
+
 -- what is found is a reply, where its columns give one
-pub by_found : (disk : DiskFacts) (path : List ℕ) (manifest : Option ToldManifest) (p : Parts) (IsAnswer : Tables → Parts → Reply → Type 0) (r : Reply) (columns : Columns) → ((tables : Tables) → AreColumns p columns tables → IsAnswer tables p r) → FindsColumns disk path manifest p (Ok columns) → ByFolder disk path manifest IsAnswer p r
+pub by_found : (disk : DiskFacts) (path : List ℕ) (manifest : Option ToldManifest) (p : Parts) (IsAnswer : Tables → Parts → Reply → Type 0) (r : Reply) (columns : Columns) → ((tables : Tables) → AreColumns p tables columns → IsAnswer tables p r) → FindsColumns disk path manifest p (Ok columns) → ByFolder disk path manifest IsAlone refused_table IsAnswer p r
 by_found disk path manifest p IsAnswer r columns gives (FindsNoFolder refused lacks e) = absurd cc
 by_found disk path manifest p IsAnswer r columns gives (FindsBadFile folder at file refused e) = absurd cc
 by_found disk path manifest p IsAnswer r columns gives (FindsAll folder at other by e) =
     let same : other ≡ columns = cc in
-    Answered folder at (record { tables = by.tables; opened = by.opened; settled = by.settled; answers = gives by.tables (subst (λ x. AreColumns p x by.tables) same by.answers) })
+    InFolder folder at (inl (record { tables = by.tables; opened = by.opened; settled = by.settled; answers = gives by.tables (subst (λ x. AreColumns p by.tables x) same by.answers) }))
 
-pub none_found : (disk : DiskFacts) (path : List ℕ) (manifest : Option ToldManifest) (p : Parts) (IsAnswer : Tables → Parts → Reply → Type 0) (r : Reply) (refused : Refusal) → FindsColumns disk path manifest p (Err refused) → r ≡ refusal_reply (refusal_words refused) → ByFolder disk path manifest IsAnswer p r
+pub none_found : (disk : DiskFacts) (path : List ℕ) (manifest : Option ToldManifest) (p : Parts) (IsAnswer : Tables → Parts → Reply → Type 0) (r : Reply) (refused : Refusal) → FindsColumns disk path manifest p (Err refused) → r ≡ refusal_reply (refusal_words refused) → ByFolder disk path manifest IsAlone refused_table IsAnswer p r
 none_found disk path manifest p IsAnswer r refused (FindsNoFolder other lacks e) is =
     let same : refused ≡ other = cc in
     lacks_folder lacks (is ∙ ap (λ x. refusal_reply (refusal_words x)) same)
 none_found disk path manifest p IsAnswer r refused (FindsBadFile folder at file at_fault e) is =
     let same : refused ≡ refusal.File file.name file.fault = cc in
-    BadFile folder at file at_fault (is ∙ ap (λ x. refusal_reply (refusal_words x)) same)
+    InFolder folder at (inr (file, at_fault, is ∙ ap (λ x. refusal_reply (refusal_words x)) same))
 none_found disk path manifest p IsAnswer r refused (FindsAll folder at columns by e) is = absurd cc
+
+module _ (disk : DiskFacts) (folder : Folder) (tables : Tables) (p : Parts) where
+  -- what is settled at a position is settled at all that it alone needs
+  pub alone : IsSettled folder tables p → AreSettled folder tables (IsAlone p)
+  alone settled = λ q same. subst (IsSettled folder tables) (sym same) settled
+
+  -- what a settled position comes to
+  pub finds_columns : {E : Type 0} (r : Result (Result Columns FileRefusal) E) → AreOf disk folder tables
+      → IfOk r (λ s. IfOk s (λ c. IsProbed tables p c.probed)) → IfOk r (λ s. IfOk s (λ c. c.verdict ≡ ruling tables p)) → IfOk r (λ s. IfOk s (λ c. IsSettled folder tables p)) → IfOk r (λ s. IfErr s (IsRefusedAt disk folder p))
+      → IfOk r (Finds disk folder (IsAlone p) (AreColumns p))
+  finds_columns (Err e) opened probed verdict settled refused = tt
+  finds_columns (Ok (Ok c)) opened probed verdict settled refused = record { tables = tables; opened = opened; settled = alone settled; answers = (probed, verdict) }
+  finds_columns (Ok (Err refusal)) opened probed verdict settled refused = record { position = p; needed = refl; refused = refused }
 
 -- ---- lines
 
-pub line_found : (disk : DiskFacts) (folder : Folder) (text : List ℕ) (p : Parts) (columns : Columns) (tables : Tables) → SpellsPosition text p → IsPosition p → ((q : Parts) → SpellsPosition text q → IsPosition q → q ≡ p) → AreOf disk folder tables → IsSettled folder tables p → IsProbed tables p columns.probed → columns.verdict ≡ ruling tables p
-    → TellsByFolder disk folder IsSpelledBy (TellsLine Strict) text (record { words = columns_words columns.probed.wdl columns.probed.dtz columns.verdict; done = has_both columns.probed })
-line_found disk folder text p columns tables spelled position one opened settled probed verdict =
-    ByItsTables (record {
-      tables = tables;
-      opened = opened;
-      settled = λ q h. subst (IsSettled folder tables) (sym (one q h.0 h.1)) settled;
-      answers = OfPosition p spelled position columns.probed probed (rw verdict refl);
-    })
-
-pub line_refused : (disk : DiskFacts) (folder : Folder) (text : List ℕ) (p : Parts) (refusal : FileRefusal) → SpellsPosition text p → IsPosition p → IsRefusedAt disk folder p refusal → TellsByFolder disk folder IsSpelledBy (TellsLine Strict) text (record { words = refused_table refusal; done = false })
-line_refused disk folder text p refusal spelled position refused = ForBadFile refusal (record { position = p; needed = (spelled, position); refused = refused }) refl
-
-pub puts_lacking : {disk : DiskFacts} {path : List ℕ} {manifest : Option ToldManifest} {IsNeeded : List ℕ → Parts → Type 0} {Tells : Tables → List ℕ → LineTold → Type 0} {Takes : List ℕ → Type 0} {source : InputFacts} (old new : Option (List ℕ)) (r : Result ℕ WriteFault) {refused : Refusal} → LacksFolder disk path manifest refused → TellsOne (refusal_words refused) old new r → PutsByFolder disk path manifest IsNeeded Tells Takes source old new r
+pub puts_lacking : {disk : DiskFacts} {path : List ℕ} {manifest : Option ToldManifest} {Tells : Folder → List ℕ → LineTold → Type 0} {Takes : List ℕ → Type 0} {source : InputFacts} (old new : Option (List ℕ)) (r : Result ℕ WriteFault) {refused : Refusal} → LacksFolder disk path manifest refused → TellsOne (refusal_words refused) old new r → PutsByFolder disk path manifest Tells Takes source old new r
 puts_lacking old new r (HasBadLine line bad e) told = PutsBadManifest line bad (subst (λ x. TellsOne (refusal_words x) old new r) e told)
 puts_lacking old new r (CannotList fails e) told = PutsNoFolder fails (subst (λ x. TellsOne (refusal_words x) old new r) e told)
 
-pub puts_by : {D : Type 0} (facts : D → DiskFacts) (a b : D) (folder : Folder) (path : List ℕ) (manifest : Option ToldManifest) (IsNeeded : List ℕ → Parts → Type 0) (Tells : Tables → List ℕ → LineTold → Type 0) (Takes : List ℕ → Type 0) (source : InputFacts) (old new : Option (List ℕ)) (r : Result ℕ WriteFault) → a ≡ b → IsFolderAt (facts b) path manifest folder → PutsLinesOrNone (TellsByFolder (facts a) folder IsNeeded Tells) Takes source old new r → PutsByFolder (facts b) path manifest IsNeeded Tells Takes source old new r
-puts_by facts a b folder path manifest IsNeeded Tells Takes source old new r same at lines =
-    PutsLinesBy folder at (subst (λ d. PutsLinesOrNone (TellsByFolder (facts d) folder IsNeeded Tells) Takes source old new r) same lines)
+pub puts_by : {D : Type 0} (facts : D → DiskFacts) (a b : D) (folder : Folder) (path : List ℕ) (manifest : Option ToldManifest) (Tells : DiskFacts → Folder → List ℕ → LineTold → Type 0) (Takes : List ℕ → Type 0) (source : InputFacts) (old new : Option (List ℕ)) (r : Result ℕ WriteFault) → a ≡ b → IsFolderAt (facts b) path manifest folder → PutsLinesOrNone (Tells (facts a) folder) Takes source old new r → PutsByFolder (facts b) path manifest (Tells (facts b)) Takes source old new r
+puts_by facts a b folder path manifest Tells Takes source old new r same at lines =
+    PutsLinesBy folder at (subst (λ d. PutsLinesOrNone (Tells (facts d) folder) Takes source old new r) same lines)
+
+-- a line of `probes`
+module _ (disk : DiskFacts) (folder : Folder) (text : List ℕ) (p : Parts) (spelled : SpellsPosition text p) (position : IsPosition p) where
+  pub line_found : (columns : Columns) → AnswersBy disk folder (IsAlone p) (λ tables. AreColumns p tables columns) → TellsLineByFolder disk folder text (record { words = columns_words columns.probed.wdl columns.probed.dtz columns.verdict; done = has_both columns.probed })
+  line_found columns by =
+      ByItsTables p (spelled, position) (record {
+        tables = by.tables;
+        opened = by.opened;
+        settled = by.settled;
+        answers = OfPosition p spelled position columns.probed by.answers.0 (rw by.answers.1 refl);
+      })
+
+  pub line_refused : (refusal : FileRefusal) → IsRefusedFor disk folder (IsAlone p) refusal → TellsLineByFolder disk folder text (record { words = refused_table refusal; done = false })
+  line_refused refusal refused = ForBadFile p (spelled, position) refusal refused refl
+
+  -- an object of `probes` or `root`
+  pub json_found : (with_moves : Bool) (l : JsonLine) → AnswersBy disk folder (needed_by with_moves p) (λ tables. IsLineOf Strict with_moves tables p l) → TellsJsonByFolder with_moves disk folder text (record { words = json_text (line_json l); done = is_done l })
+  json_found with_moves l by =
+      ByItsTables p (spelled, position) (record {
+        tables = by.tables;
+        opened = by.opened;
+        settled = by.settled;
+        answers = (l, ForPosition p spelled position by.answers, refl);
+      })
+
+  pub json_refused : (with_moves : Bool) (l : JsonLine) (refusal : FileRefusal) → json_text (line_json l) ≡ refused_table_in true refusal → is_done l ≡ false → IsRefusedFor disk folder (needed_by with_moves p) refusal → TellsJsonByFolder with_moves disk folder text (record { words = json_text (line_json l); done = is_done l })
+  json_refused with_moves l refusal words done refused =
+      ForBadFile p (spelled, position) refusal refused (ap (λ w. record { words = w; done = is_done l }) words ∙ ap (λ (b : Bool). record { words = refused_table_in true refusal; done = b }) done)
+
+  -- the lines of `root`
+  pub root_found : (r : Reply) → AnswersBy disk folder (IsWithMoves p) (λ tables. IsRootReply Strict tables p r) → TellsRootByFolder disk folder text (record { words = r.text; done = r.status == 0 })
+  root_found r by =
+      ByItsTables p (spelled, position) (record {
+        tables = by.tables;
+        opened = by.opened;
+        settled = by.settled;
+        answers = (r, replies.ForPosition p spelled position by.answers, refl);
+      })
+
+  pub root_refused : (r : Reply) (refusal : FileRefusal) → r ≡ refusal_reply (refused_table refusal) → IsRefusedFor disk folder (IsWithMoves p) refusal → TellsRootByFolder disk folder text (record { words = r.text; done = r.status == 0 })
+  root_refused r refusal is refused = ForBadFile p (spelled, position) refusal refused (ap (λ (x : Reply). record { words = x.text; done = x.status == 0 }) is)
+
+  pub root_in : (r : Reply) → AnswersIn disk folder IsWithMoves refused_table (IsRootReply Strict) p r → TellsRootByFolder disk folder text (record { words = r.text; done = r.status == 0 })
+  root_in r (inl by) = root_found r by
+  root_in r (inr (refusal, refused, is)) = root_refused r refusal is refused
+
+-- an object of a position and its moves, as a reply
+pub json_in : (disk : DiskFacts) (folder : Folder) (p : Parts) (l : JsonLine) (r : Reply) → AnswersBy disk folder (IsWithMoves p) (λ tables. IsLineOf Strict true tables p l) → r ≡ json_reply l → AnswersIn disk folder IsWithMoves (refused_table_in true) (IsJsonTold Strict) p r
+json_in disk folder p l r by is = inl (record { tables = by.tables; opened = by.opened; settled = by.settled; answers = (l, by.answers, is) })
+
+-- a line of `games`
+module _ (disk : DiskFacts) (folder : Folder) (delay : ℕ) (line : List ℕ) (start : Parts) (spelled : SpellsPosition (start_in line) start) (position : IsPosition start) (moves : List Move) (told : TellsMoves (moves_in line) moves) where
+  pub game_found : (outcome : GameOutcome) (legal : Bool) → AnswersBy disk folder (IsPly start moves) (λ tables. IsOutcome (record { start = start; tables = tables; delay = delay }) moves outcome) → legal ≡ are_all_legal outcome → TellsGameByFolder delay disk folder line (record { words = outcome_words outcome (length moves); done = legal })
+  game_found outcome legal by is =
+      ByItsTables (record { start = start; moves = moves }) (spelled, position, told) (record {
+        tables = by.tables;
+        opened = by.opened;
+        settled = by.settled;
+        answers = Played start spelled position moves told outcome by.answers (ap (λ (b : Bool). record { words = outcome_words outcome (length moves); done = b }) is);
+      })
+
+  pub game_refused : (refusal : FileRefusal) → IsRefusedFor disk folder (IsPly start moves) refusal → TellsGameByFolder delay disk folder line (record { words = refused_table refusal; done = false })
+  game_refused refusal refused = ForBadFile (record { start = start; moves = moves }) (spelled, position, told) refusal refused refl
+
+-- the reply of `game`
+pub game_in : (disk : DiskFacts) (folder : Folder) (delay : ℕ) (start : Parts) (moves : List Move) (outcome : GameOutcome) (r : Reply) → AnswersBy disk folder (IsPly start moves) (λ tables. IsOutcome (record { start = start; tables = tables; delay = delay }) moves outcome) → r ≡ outcome_reply outcome moves → AnswersIn disk folder (plies_of moves) refused_table (IsOutcomeReply delay moves) start r
+game_in disk folder delay start moves outcome r by is = inl (record { tables = by.tables; opened = by.opened; settled = by.settled; answers = (outcome, by.answers, is) })
+
+-- the refusal of a word that is no move comes before the tables, wherever these are
+pub bad_word : (disk : DiskFacts) (t : FollowGame) (given : Given) (path : Option (Bor (List ℕ))) (start : Parts) (place : ℕ) → IsBadWordIn (notation_by t.san) start (words_in given.input) place → IsPlayedBy disk t given path start (refusal_reply (refused_move place))
+bad_word disk t given (Some path) start place bad = BadWordIn place bad refl
+bad_word disk t given None start place bad = BadWord place bad refl

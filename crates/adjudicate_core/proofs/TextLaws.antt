@@ -42,6 +42,11 @@ pub anyhow : {A E X : Type 0} (r : Result A E) → X → OnErr r X
 anyhow (Ok a) x = tt
 anyhow (Err e) x = x
 
+-- what holds of all holds of an answer
+pub however : {A E : Type 0} {P : A → Type 0} (r : Result A E) → ((a : A) → P a) → IfOk r P
+however (Ok a) all = all a
+however (Err e) all = tt
+
 -- the reply that lists the legal moves
 pub moves_listed : (san : Bool) (p : Parts) (ms : List Move) (i : ℕ) (lines : List (List ℕ)) → length ms ≤ i → ms ≡ legal_moves p → lines ≡ map (move_line san p) (take i ms) → IsMoves san p (record { text = text_of lines; status = 0 })
 unfolding moves_at

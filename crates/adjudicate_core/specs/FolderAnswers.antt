@@ -1,9 +1,10 @@
 -- Answers by the tables of a folder that are read when a position asks for them (this project's own).
-use Rattle.std.specs.Prelude.{◌≡◌, ℕ, Bool, true, false, List, Option, Some, None, Result, Err}
+use Rattle.std.specs.Prelude.{◌≡◌, ◌⊎◌, ◌++◌, ℕ, Bool, true, false, List, Option, Some, None, Result, Ok, Err, codes}
 use Rattle.board_core.specs.declared.parts.Parts.{Parts}
 use Rattle.judge_core.specs.Tables.{Tables}
 use Rattle.board_core.specs.Position.{IsPosition}
 use Rattle.fen_text.specs.Fen.{SpellsPosition}
+use Rattle.json_lines.specs.Objects.{error_json, json_text}
 use Rattle.line_teller.specs.ToldLines.{LineTold, refused_files, refused_memory}
 use Rattle.system_io.specs.Inputs.{InputFacts}
 use Rattle.system_io.specs.declared.output.WriteFault.{WriteFault}
@@ -14,7 +15,7 @@ use Rattle.system_io.specs.Disks.{DiskFacts}
 use Rattle.table_folder.specs.declared.fault.FileRefusal.{FileRefusal}
 use Rattle.table_folder.specs.Faults.{file_fault_name}
 use Rattle.table_folder.specs.Folders.{Folder, IsFolderAt}
-use Rattle.table_folder.specs.Settled.{AnswersBy, IsRefusedAt, IsRefusedFor}
+use Rattle.table_folder.specs.Settled.{AnswersBy, IsRefusedFor}
 use Rattle.task_files.specs.Outside.{FolderFails}
 use Rattle.adjudicate_core.specs.Lines.{refused_file, refused_manifest}
 use Rattle.adjudicate_core.specs.Reply.{Reply, refusal_reply}
@@ -28,17 +29,36 @@ abbrev pub read_when_asked : {X : Type 0} → Bool → Option X → Option X
 read_when_asked true folder = folder
 read_when_asked false folder = None
 
--- the words that refuse the file of a table
+-- the words that refuse the file of a table, in a line or as JSON
 abbrev pub refused_table : FileRefusal → List ℕ
 refused_table refusal = refused_file refusal.name.bytes (file_fault_name refusal.fault)
 
--- A reply by the folder's tables at a position: the refusal of a malformed manifest; or of the folder, which can't be listed or lists a
--- file twice; or of a file that the position needs; or an answer by tables of the folder, of which none is missing there.
-pub data ByFolder (disk : DiskFacts) (path : List ℕ) (manifest : Option ToldManifest) (IsAnswer : Tables → Parts → Reply → Type 0) (p : Parts) (r : Reply) : Type 0 where
-  BadManifest : (line : ℕ) → manifest ≡ Some (Err line) → r ≡ refusal_reply (refused_manifest line) → ByFolder disk path manifest IsAnswer p r
-  NoFolder : FolderFails disk path manifest → r ≡ refusal_reply refused_files → ByFolder disk path manifest IsAnswer p r
-  BadFile : (folder : Folder) → IsFolderAt disk path manifest folder → (refusal : FileRefusal) → IsRefusedAt disk folder p refusal → r ≡ refusal_reply (refused_table refusal) → ByFolder disk path manifest IsAnswer p r
-  Answered : (folder : Folder) → IsFolderAt disk path manifest folder → AnswersBy disk folder (λ q. q ≡ p) (λ tables. IsAnswer tables p r) → ByFolder disk path manifest IsAnswer p r
+abbrev pub refused_table_in : Bool → FileRefusal → List ℕ
+refused_table_in true refusal = json_text (error_json (refusal.name.bytes ++ codes " " ++ file_fault_name refusal.fault))
+refused_table_in false refusal = refused_table refusal
+
+-- of a position nothing is needed but what tables say of itself
+abbrev pub IsAlone : Parts → Parts → Type 0
+IsAlone p q = q ≡ p
+
+-- what is found by tables of the folder, of which none is missing at the positions that are needed; or the file of one that is needed is
+-- refused
+abbrev pub Finds : {X : Type 0} → DiskFacts → Folder → (Parts → Type 0) → (Tables → X → Type 0) → Result X FileRefusal → Type 0
+Finds disk folder IsNeeded Is (Ok x) = AnswersBy disk folder IsNeeded (λ tables. Is tables x)
+Finds disk folder IsNeeded Is (Err refusal) = IsRefusedFor disk folder IsNeeded refusal
+
+-- a reply to a position so: an answer, or the refusal of a file
+abbrev pub AnswersIn : DiskFacts → Folder → (Parts → Parts → Type 0) → (FileRefusal → List ℕ) → (Tables → Parts → Reply → Type 0) → Parts → Reply → Type 0
+AnswersIn disk folder IsNeeded refused IsAnswer p r =
+    AnswersBy disk folder (IsNeeded p) (λ tables. IsAnswer tables p r)
+    ⊎ ((refusal : FileRefusal) × IsRefusedFor disk folder (IsNeeded p) refusal × (r ≡ refusal_reply (refused refusal)))
+
+-- a reply by the folder at a path: the refusal of a malformed manifest; or of the folder, which can't be listed or lists a file twice; or
+-- a reply by its tables
+pub data ByFolder (disk : DiskFacts) (path : List ℕ) (manifest : Option ToldManifest) (IsNeeded : Parts → Parts → Type 0) (refused : FileRefusal → List ℕ) (IsAnswer : Tables → Parts → Reply → Type 0) (p : Parts) (r : Reply) : Type 0 where
+  BadManifest : (line : ℕ) → manifest ≡ Some (Err line) → r ≡ refusal_reply (refused_manifest line) → ByFolder disk path manifest IsNeeded refused IsAnswer p r
+  NoFolder : FolderFails disk path manifest → r ≡ refusal_reply refused_files → ByFolder disk path manifest IsNeeded refused IsAnswer p r
+  InFolder : (folder : Folder) → IsFolderAt disk path manifest folder → AnswersIn disk folder IsNeeded refused IsAnswer p r → ByFolder disk path manifest IsNeeded refused IsAnswer p r
 
 -- ---- the lines of an input
 
@@ -46,15 +66,16 @@ pub data ByFolder (disk : DiskFacts) (path : List ℕ) (manifest : Option ToldMa
 abbrev pub IsSpelledBy : List ℕ → Parts → Type 0
 IsSpelledBy text p = SpellsPosition text p × IsPosition p
 
--- A line that is answered by tables of the folder, of which none is missing at the positions that it needs; or the file of one that is
--- needed is refused.
-pub data TellsByFolder (disk : DiskFacts) (folder : Folder) (IsNeeded : List ℕ → Parts → Type 0) (Tells : Tables → List ℕ → LineTold → Type 0) (text : List ℕ) (line : LineTold) : Type 0 where
-  ByItsTables : AnswersBy disk folder (IsNeeded text) (λ tables. Tells tables text line) → TellsByFolder disk folder IsNeeded Tells text line
-  ForBadFile : (refusal : FileRefusal) → IsRefusedFor disk folder (IsNeeded text) refusal → line ≡ record { words = refused_table refusal; done = false } → TellsByFolder disk folder IsNeeded Tells text line
+-- A line whose answer is the same by all tables; or what it spells is answered by tables of the folder, of which none is missing at the
+-- positions that it needs; or the file of one that is needed is refused.
+pub data TellsByFolder {X : Type 0} (disk : DiskFacts) (folder : Folder) (Spells : List ℕ → X → Type 0) (IsNeeded : X → Parts → Type 0) (Tells : Tables → List ℕ → LineTold → Type 0) (refused : FileRefusal → List ℕ) (text : List ℕ) (line : LineTold) : Type 0 where
+  ByNoTable : ((tables : Tables) → Tells tables text line) → TellsByFolder disk folder Spells IsNeeded Tells refused text line
+  ByItsTables : (x : X) → Spells text x → AnswersBy disk folder (IsNeeded x) (λ tables. Tells tables text line) → TellsByFolder disk folder Spells IsNeeded Tells refused text line
+  ForBadFile : (x : X) → Spells text x → (refusal : FileRefusal) → IsRefusedFor disk folder (IsNeeded x) refusal → line ≡ record { words = refused refusal; done = false } → TellsByFolder disk folder Spells IsNeeded Tells refused text line
 
 -- the manifest is refused, or the folder; or the lines of the input were told by the folder; or memory was refused before them
-pub data PutsByFolder (disk : DiskFacts) (path : List ℕ) (manifest : Option ToldManifest) (IsNeeded : List ℕ → Parts → Type 0) (Tells : Tables → List ℕ → LineTold → Type 0) (Takes : List ℕ → Type 0) (source : InputFacts) (old new : Option (List ℕ)) (r : Result ℕ WriteFault) : Type 0 where
-  PutsBadManifest : (line : ℕ) → manifest ≡ Some (Err line) → TellsOne (refused_manifest line) old new r → PutsByFolder disk path manifest IsNeeded Tells Takes source old new r
-  PutsNoFolder : FolderFails disk path manifest → TellsOne refused_files old new r → PutsByFolder disk path manifest IsNeeded Tells Takes source old new r
-  PutsLinesBy : (folder : Folder) → IsFolderAt disk path manifest folder → PutsLinesOrNone (TellsByFolder disk folder IsNeeded Tells) Takes source old new r → PutsByFolder disk path manifest IsNeeded Tells Takes source old new r
-  PutsNoRoom : TellsOne refused_memory old new r → PutsByFolder disk path manifest IsNeeded Tells Takes source old new r
+pub data PutsByFolder (disk : DiskFacts) (path : List ℕ) (manifest : Option ToldManifest) (Tells : Folder → List ℕ → LineTold → Type 0) (Takes : List ℕ → Type 0) (source : InputFacts) (old new : Option (List ℕ)) (r : Result ℕ WriteFault) : Type 0 where
+  PutsBadManifest : (line : ℕ) → manifest ≡ Some (Err line) → TellsOne (refused_manifest line) old new r → PutsByFolder disk path manifest Tells Takes source old new r
+  PutsNoFolder : FolderFails disk path manifest → TellsOne refused_files old new r → PutsByFolder disk path manifest Tells Takes source old new r
+  PutsLinesBy : (folder : Folder) → IsFolderAt disk path manifest folder → PutsLinesOrNone (Tells folder) Takes source old new r → PutsByFolder disk path manifest Tells Takes source old new r
+  PutsNoRoom : TellsOne refused_memory old new r → PutsByFolder disk path manifest Tells Takes source old new r

@@ -1,5 +1,4 @@
 -- Invariants of values and intermediate results of functions. Private clauses alone cite them.
-pub mod Answering
 pub mod Asked
 pub mod Behind
 pub mod Binding

@@ -12,12 +12,26 @@ use Rattle.json_lines.specs.Objects.{json_text, line_json}
 use Rattle.json_lines.specs.Told.{IsLineFor, IsLineOf, is_done}
 use Rattle.line_teller.specs.ToldLines.{LineTold}
 use Rattle.move_msg.specs.TextLines.{ended}
+use Rattle.judge_core.specs.declared.ask.Ask.TheVariants.{Strict}
+use Rattle.system_io.specs.Disks.{DiskFacts}
+use Rattle.table_folder.specs.Folders.{Folder}
+use Rattle.table_folder.specs.Settled.{IsWithMoves}
+use Rattle.adjudicate_core.specs.FolderAnswers.{IsAlone, IsSpelledBy, TellsByFolder, refused_table_in}
 use Rattle.adjudicate_core.specs.Lines.{refused_fen}
 use Rattle.adjudicate_core.specs.Reply.{Reply, refusal_reply, status_if}
 
 -- a line of the input: one object for its position, with its moves or without, or one that has the fault of the text
 abbrev pub TellsJson : Ask → Bool → Tables → List ℕ → LineTold → Type 0
 TellsJson ask with_moves tables text told = (l : JsonLine) × IsLineFor text (IsLineOf ask with_moves tables) l × (told ≡ record { words = json_text (line_json l); done = is_done l })
+
+-- what tables say of the positions after its moves is needed too where these are told
+abbrev pub needed_by : Bool → Parts → Parts → Type 0
+needed_by true = IsWithMoves
+needed_by false = IsAlone
+
+-- so it is told by the tables of a folder that are read when a position asks for them
+abbrev pub TellsJsonByFolder : Bool → DiskFacts → Folder → List ℕ → LineTold → Type 0
+TellsJsonByFolder with_moves disk folder = TellsByFolder disk folder IsSpelledBy (needed_by with_moves) (TellsJson Strict with_moves) (refused_table_in true)
 
 -- the reply that an object is
 abbrev pub json_reply : JsonLine → Reply

@@ -2,11 +2,8 @@
 use Rattle.std.specs.Prelude.{◌≡◌, ℕ, List, Option, Some, None, Result, Ok, Err, IfOk, drop, map, String, Vec, string_bytes}
 use Rattle.std.specs.Borrow.{Bor}
 use Rattle.std.specs.Global.{Global}
-use Rattle.system_io.specs.Disks.{DiskFacts}
-use Rattle.system_io.specs.Inputs.{InputFacts}
 use Rattle.system_io.specs.declared.output.WriteFault.{WriteFault}
 use Rattle.adjudicate_core.specs.declared.commands.Task.{Task}
-use Rattle.adjudicate_core.specs.declared.system.System.{System}
 use Rattle.adjudicate_core.specs.declared.commands.Task.TheVariants as task
 use Rattle.adjudicate_core.specs.declared.words.usage.Misuse.{Misuse}
 use Rattle.adjudicate_core.specs.declared.words.usage.WordsFault.{WordsFault}
@@ -14,15 +11,9 @@ use Rattle.adjudicate_core.specs.declared.words.usage.WordsFault.TheVariants.{No
 use Rattle.adjudicate_core.specs.declared.words.usage.Misuse.TheVariants as misuse
 use Rattle.task_files.specs.Given.{Given}
 use Rattle.line_teller.specs.ToldLines.{refused_files, refused_memory}
-use Rattle.system_io.specs.Hosts.{HostFacts, Made}
-use Rattle.system_io.specs.KeptFiles.{KeptFacts}
-use Rattle.system_io.specs.Outputs.{OutputFacts}
-use Rattle.system_io.specs.Records.{StoreFacts, StorePlaces}
-use Rattle.system_io.specs.Ports.{PortFacts}
 use Rattle.adjudicate_core.specs.Listens.{Listens, hosted, serving_seen_as}
-use Rattle.adjudicate_core.specs.Outsides.{OutsideWithStores, machine_of, outside, hosting_places}
+use Rattle.adjudicate_core.specs.Outsides.{OutsideWithStores, outside, hosting_places}
 use Rattle.adjudicate_core.specs.Sends.{SendsGame}
-use Rattle.adjudicate_core.specs.Silences.{TellsSilence}
 use Rattle.source_core.specs.declared.lines.Ended.{Ended}
 use Rattle.source_core.specs.Lines.{ended_status}
 use Rattle.adjudicate_core.specs.Enters.{Enters}
@@ -56,7 +47,6 @@ use Rattle.sealed_port.specs.declared.seal_port.Keys.{Keys}
 use Rattle.adjudicate_core.specs.Reply.{AnswersOnce, AnswersRead, IsText}
 use Rattle.adjudicate_core.specs.Telling.{TellsOne}
 use Rattle.adjudicate_core.specs.Tasks.{IsTask, IsMisuse, NamesNoCommand, key_in, named_in}
-use Rattle.adjudicate_core.specs.Uses.{TellsMisuse}
 
 -- words as the bytes of their texts
 abbrev pub texts : List (Bor (List ℕ)) → List (List ℕ)
@@ -79,8 +69,8 @@ AnswersFrom m Told (task.Show t) given old new r = shows.Answers given old new r
 AnswersFrom m Told (task.Run t) given old new r = AnswersOnce (runs.IsReply t given) (Unit {0}) old new r
 AnswersFrom m Told (task.Listen t) given old new r = Listens m.outside.host (serving_seen_as m.outside.host.file r) t given m.outside.had m.outside.has old new r
 AnswersFrom m Told (task.Probes t) given old new r = of_probes.Puts m.outside.disk m.outside.source t given old new r
-AnswersFrom m Told (task.Game t) given old new r = AnswersOnce (games.IsReply t given) (IsText t.fen.now) old new r
-AnswersFrom m Told (task.Games t) given old new r = PutsByTables (of_games.TellsGameLine t.delay) of_games.HasStartFen m.outside.source given old new r
+AnswersFrom m Told (task.Game t) given old new r = AnswersOnce (games.IsReply m.outside.disk t given) (IsText t.fen.now) old new r
+AnswersFrom m Told (task.Games t) given old new r = of_games.Puts m.outside.disk m.outside.source t given old new r
 AnswersFrom m Told (task.Pgn t) given old new r = of_pgn.Puts m.outside.disk m.outside.source t given old new r
 AnswersFrom m Told (task.Record t) given old new r = AnswersOnce (records.IsReply given.kept) (records.RecordTakesMemory given.kept) old new r
 AnswersFrom m Told (task.GameRecord t) given old new r = game_records.Puts m.outside.disk m.stores t old new r
@@ -90,7 +80,7 @@ AnswersFrom m Told (task.Version t) given old new r = versions.Answers old new r
 AnswersFrom m Told (task.Send t) given old new r = (e : Result Ended WriteFault) × (r ≡ status_ended e) × IfOk e Told × SendsGame m.outside t old new e
 AnswersFrom m Told (task.Enter t) given old new r = Enters m.outside t old new r
 AnswersFrom m Told (task.Host t) given old new r = HostsGames (hosting_places m) (written (hosting_places m) t.games.now) t given m.outside.had m.outside.has old new r
-AnswersFrom m Told (task.Root t) given old new r = roots.Puts t.json (ask_of t.determined) m.outside.source t.fen given old new r
+AnswersFrom m Told (task.Root t) given old new r = roots.Puts m.outside.disk m.outside.source t given old new r
 AnswersFrom m Told (task.Follow t) given old new r = follows.Puts m.outside.source t given old new r
 AnswersFrom m Told (task.Status t) given old new r = statuses.PutsOver m.outside.disk m.stores t old new r
 
@@ -135,16 +125,3 @@ pub data Called {P F S : Type 0} (m : OutsideWithStores P F S) (IsTold : Misuse 
   OnWords : (words : List (List ℕ)) → called ≡ Ok words → Performs m IsTold Told (drop 1 words) old new r → Called m IsTold Told called old new r
   OnNoText : (word : Vec ℕ Global) (bytes : Bor (List ℕ)) → called ≡ Err (NoText word) → bytes.now ≡ word.items → IsTold (misuse.NoText bytes) → new ≡ old → r ≡ Ok 2 → Called m IsTold Told called old new r
   NoRoomForWords : TellsOne refused_memory old new r → Called m IsTold Told called old new r
-
--- ---- as a call sees it
-
--- By how disks, inputs, hosts, their histories, their ports and their files are seen, what is written at an output, and what is known of
--- an output for errors and is written there: what the program makes of its words at a system, from each of these moments to a later one.
-abbrev pub RunsProgram : {D I H M P F S W E : Type 0} → (D → DiskFacts) → (I → InputFacts) → (H → HostFacts P F) → (H → StorePlaces S) → (M → Option (List Made)) → (P → PortFacts) → (F → KeptFacts) → (S → StoreFacts) → (W → Option (List ℕ)) → (E → OutputFacts) → (E → Option (List ℕ)) → List (Bor (List ℕ)) → System D I H → M → M → W → W → E → E → Result ℕ WriteFault → Type 0
-RunsProgram disk input host stores made port file store written facts told words s history history' out out' errors errors' r =
-    Performs (machine_of disk input host stores made port file store s history history') (TellsMisuse facts told errors errors') (TellsSilence facts told errors errors') (texts words) (written out) (written out') r
-
--- so it is for all words that it was called with
-abbrev pub Calls : {D I H M P F S W E : Type 0} → (D → DiskFacts) → (I → InputFacts) → (H → HostFacts P F) → (H → StorePlaces S) → (M → Option (List Made)) → (P → PortFacts) → (F → KeptFacts) → (S → StoreFacts) → (W → Option (List ℕ)) → (E → OutputFacts) → (E → Option (List ℕ)) → Result (Vec (String Global) Global) WordsFault → System D I H → M → M → W → W → E → E → Result ℕ WriteFault → Type 0
-Calls disk input host stores made port file store written facts told called s history history' out out' errors errors' r =
-    Called (machine_of disk input host stores made port file store s history history') (TellsMisuse facts told errors errors') (TellsSilence facts told errors errors') (called_by called) (written out) (written out') r

@@ -27,7 +27,7 @@ mod pgn;
 mod probe;
 mod probes;
 mod record;
-mod root;
+pub(crate) mod root;
 mod run;
 mod send;
 mod show;

@@ -1,20 +1,31 @@
 //! The tables of a folder that are read when a position asks for them.
 
-ghost use Rattle.std.specs.Prelude.{◌≡◌, IfOk, IfErr};
+ghost use Rattle.std.specs.Prelude.{◌≡◌, IfOk, IfErr, false, true};
 ghost use Rattle.table_folder.specs.Folders.{IsFolderAt};
+ghost use Rattle.table_folder.specs.Settled.{IsPly, IsWithMoves};
 ghost use Rattle.move_msg.specs.ToldBy.{told_by};
-ghost use Rattle.adjudicate_core.specs.FolderAnswers.{read_at_once, read_when_asked};
-ghost use Rattle.adjudicate_core.specs.Inside.LookingUp.{FindsColumns, LacksFolder};
+ghost use Rattle.json_lines.specs.Told.{IsLineOf};
+ghost use Rattle.judge_core.specs.Games.{IsOutcome};
+ghost use Rattle.judge_core.specs.declared.ask.Ask.TheVariants.{Strict};
+ghost use Rattle.adjudicate_core.specs.Commands.Root.{IsRootReply};
+ghost use Rattle.adjudicate_core.specs.FolderAnswers.{Finds, IsAlone, read_at_once, read_when_asked};
+ghost use Rattle.adjudicate_core.specs.JsonAnswers.{needed_by};
+ghost use Rattle.adjudicate_core.specs.Inside.Asked.{reply_of};
+ghost use Rattle.adjudicate_core.specs.Inside.LookingUp.{AreColumns, FindsColumns, LacksFolder};
 
+use crate::answers::Answer;
 use crate::answers::refusals::Refusal;
+use crate::commands::root::told_by;
 use crate::words::numbers::CacheSize;
-use board_core::Position;
+use board_core::{Delay, Move, Position};
 use bumpalo::Bump;
-use judge_core::Columns;
+use json_lines::{JsonLine, PositionTold};
+use judge_core::{Ask, Columns, GameOutcome, Set};
 use move_msg::Manifest;
 use std::alloc::{AllocError, Global};
+use std::marker::Model;
 use system_io::{Disk, ReadFault};
-use table_folder::TableFolder;
+use table_folder::{FileRefusal, TableFolder};
 
 /// The folder whose tables are read before all answers, if one is.
 pub(crate) fn read_at_once(lazy: bool, folder: Option<&str>) -> Option<&str>
@@ -30,8 +41,40 @@ pub(crate) fn read_when_asked(lazy: bool, folder: Option<&str>) -> Option<&str>
     if lazy { folder } else { None }
 }
 
-/// Opens a folder whose tables are read when a position asks for them; the refusal is that of a malformed manifest, then of the folder.
-pub(crate) fn folder_at<'r, D: Disk>(
+/// Where a folder of tables is, and the manifest that it is held to.
+#[derive(Drop)]
+pub(crate) struct FolderPlace<'r, D> {
+    /// The disk.
+    pub(crate) disk: &'r D,
+    /// The folder's path.
+    pub(crate) path: &'r str,
+    /// The manifest.
+    pub(crate) manifest: &'r Manifest,
+}
+
+/// A folder whose tables are read when a position asks for them, and those of them that are open.
+///
+/// Contracts see the disk and the folder. What is found is found by tables of the folder, of which none is missing at the positions that
+/// it needs; or the file of one of these is refused.
+#[derive(Drop)]
+pub(crate) struct OpenFolder<'r, D: Disk> {
+    alloc: Global,
+    folder: TableFolder<'r, D>,
+    set: Set<'r>,
+}
+
+impl<'r, D: Disk> Model for OpenFolder<'r, D> {
+    ghost use Rattle.table_folder.specs.Folders.{AreOf, FolderOn};
+
+    ghost Value = { FolderOn D };
+
+    ghost view = { λ o. o.folder };
+
+    ghost invariant = { λ o. AreOf (D.facts o.folder.disk) o.folder.folder o.set.tables };
+}
+
+/// Opens a folder; no table is read. The refusal is that of a malformed manifest, then of the folder.
+fn folder_at<'r, D: Disk>(
     alloc: Global,
     disk: &'r D,
     path: &'r str,
@@ -52,24 +95,146 @@ pub(crate) fn folder_at<'r, D: Disk>(
     }
 }
 
+impl<'r, D: Disk> OpenFolder<'r, D> {
+    /// Opens a folder; no table is read. The refusal is that of a malformed manifest, then of the folder.
+    pub(crate) fn at(
+        alloc: Global,
+        disk: &'r D,
+        path: &'r str,
+        manifest: &'r Manifest,
+        arena: &'r Bump,
+    ) -> Result<Result<OpenFolder<'r, D>, Refusal>, AllocError>
+        ensures disk { IfOk result (λ found. IfOk found (λ o. o.disk ≡ disk.now)) }
+        ensures folder { IfOk result (λ found. IfOk found (λ o. IsFolderAt (D.facts disk.now) path.now (told_by manifest.now) o.folder)) }
+        ensures refused { IfOk result (λ found. IfErr found (LacksFolder (D.facts disk.now) path.now (told_by manifest.now))) }
+    {
+        let folder = match folder_at(alloc, disk, path, manifest, arena)? {
+            Ok(folder) => folder,
+            Err(refusal) => return Ok(Err(refusal)),
+        };
+        let set = folder.new_set(alloc, CacheSize::usual().blocks())?;
+        Ok(Ok(OpenFolder { alloc, folder, set }))
+    }
+
+    /// Both probes of a position, and the verdict on it.
+    pub(crate) fn columns(
+        &mut self,
+        position: &Position,
+    ) -> Result<Result<Columns, FileRefusal>, AllocError>
+        ensures found { IfOk result (Finds (D.facts self.old.disk) self.old.folder (IsAlone position.now) (AreColumns position.now)) }
+        ensures folder { self.new ≡ self.old }
+    {
+        self.folder.settle(self.alloc, &mut self.set, position)
+    }
+
+    /// What is told of the legal moves of a position, and of the position.
+    pub(crate) fn moves_told(
+        &mut self,
+        position: &Position,
+    ) -> Result<Result<Answer, FileRefusal>, AllocError>
+        ensures found { IfOk result (Finds (D.facts self.old.disk) self.old.folder (IsWithMoves position.now) (λ tables a. IsRootReply Strict tables position.now (reply_of a))) }
+        ensures folder { self.new ≡ self.old }
+    {
+        if let Err(refusal) = self.folder.settle_moves(self.alloc, &mut self.set, position)? {
+            return Ok(Err(refusal));
+        }
+        match told_by(Ask::Strict, self.alloc, &mut self.set, position) {
+            Ok(answer) => Ok(Ok(answer)),
+            Err(fault) => Err(fault),
+        }
+    }
+
+    /// What is told of a position and of its legal moves, to be written as JSON.
+    fn json_with_moves(
+        &mut self,
+        position: &Position,
+    ) -> Result<Result<JsonLine, FileRefusal>, AllocError>
+        ensures found { IfOk result (Finds (D.facts self.old.disk) self.old.folder (IsWithMoves position.now) (λ tables l. IsLineOf Strict true tables position.now l)) }
+        ensures folder { self.new ≡ self.old }
+    {
+        if let Err(refusal) = self.folder.settle_moves(self.alloc, &mut self.set, position)? {
+            return Ok(Err(refusal));
+        }
+        match JsonLine::of_position(self.alloc, &mut self.set, position, Ask::Strict, true) {
+            Ok(line) => Ok(Ok(line)),
+            Err(fault) => Err(fault),
+        }
+    }
+
+    /// What is told of a position, to be written as JSON.
+    fn json_alone(
+        &mut self,
+        position: &Position,
+    ) -> Result<Result<JsonLine, FileRefusal>, AllocError>
+        ensures found { IfOk result (Finds (D.facts self.old.disk) self.old.folder (IsAlone position.now) (λ tables l. IsLineOf Strict false tables position.now l)) }
+        ensures folder { self.new ≡ self.old }
+    {
+        match self.columns(position)? {
+            Ok(columns) => Ok(Ok(JsonLine::Position(PositionTold {
+                position: *position,
+                columns,
+            }))),
+            Err(refusal) => Ok(Err(refusal)),
+        }
+    }
+
+    /// What is told of a position, and of its legal moves if they are wanted, to be written as JSON.
+    pub(crate) fn json_line(
+        &mut self,
+        position: &Position,
+        with_moves: bool,
+    ) -> Result<Result<JsonLine, FileRefusal>, AllocError>
+        ensures found { IfOk result (Finds (D.facts self.old.disk) self.old.folder (needed_by with_moves position.now) (λ tables l. IsLineOf Strict with_moves tables position.now l)) }
+        ensures folder { self.new ≡ self.old }
+    {
+        if with_moves {
+            self.json_with_moves(position)
+        } else {
+            self.json_alone(position)
+        }
+    }
+
+    /// What a game comes to whose verdicts by tables must hold for so many further plies.
+    pub(crate) fn outcome(
+        &mut self,
+        start: &Position,
+        moves: &[Move],
+        delay: Delay,
+    ) -> Result<Result<GameOutcome, FileRefusal>, AllocError>
+        ensures found { IfOk result (Finds (D.facts self.old.disk) self.old.folder (IsPly start.now moves.now) (λ tables outcome. IsOutcome (record { start = start.now; tables = tables; delay = delay }) moves.now outcome)) }
+        ensures folder { self.new ≡ self.old }
+    {
+        if let Err(refusal) = self
+            .folder
+            .settle_game(self.alloc, &mut self.set, start, moves)?
+        {
+            return Ok(Err(refusal));
+        }
+        match self
+            .set
+            .judge_game(self.alloc, start, moves, delay.plies())
+        {
+            Ok(outcome) => Ok(Ok(outcome)),
+            Err(_) => Err(AllocError),
+        }
+    }
+}
+
 /// Both probes of a position and the verdict on it by the tables of a folder, of which those are read that the position asks for, or
 /// the refusal: of a malformed manifest, then of the folder, then of the first file that is asked for and at fault.
 pub(crate) fn columns_in<D: Disk>(
     alloc: Global,
-    disk: &D,
-    path: &str,
-    manifest: &Manifest,
+    place: &FolderPlace<'_, D>,
     position: &Position,
 ) -> Result<Result<Columns, Refusal>, AllocError>
-    ensures { IfOk result (FindsColumns (D.facts disk.now) path.now (told_by manifest.now) position.now) }
+    ensures { IfOk result (FindsColumns (D.facts place.now.disk.now) place.now.path.now (told_by place.now.manifest.now) position.now) }
 {
     let arena = Bump::new(alloc);
-    let folder = match folder_at(alloc, disk, path, manifest, &arena)? {
+    let mut folder = match OpenFolder::at(alloc, place.disk, place.path, place.manifest, &arena)? {
         Ok(folder) => folder,
         Err(refusal) => return Ok(Err(refusal)),
     };
-    let mut set = folder.new_set(alloc, CacheSize::usual().blocks())?;
-    match folder.settle(alloc, &mut set, position)? {
+    match folder.columns(position)? {
         Ok(columns) => Ok(Ok(columns)),
         Err(refused) => Ok(Err(Refusal::File(refused.name, refused.fault))),
     }

@@ -76,6 +76,7 @@ mod keys;
 pub mod laws;
 mod listening;
 mod locking;
+mod machine;
 mod manifests;
 mod program;
 mod sending;
@@ -91,6 +92,7 @@ pub use commands::{
     Root, RunSchedule, Send, SentGame, Show, ShowRecord, ShowStatus, Task, ToldGame, Value,
     Version, parse,
 };
+pub use machine::Machine;
 pub use program::{refuse_memory, run, run_program};
 pub use system::System;
 pub use words::numbers::{CacheSize, StoreForm};

@@ -4,10 +4,10 @@ ghost use Rattle.std.specs.Prelude.{◌≡◌, ◌≢◌, ◌⊎◌, IfOk, Ok, O
 ghost use Rattle.adjudicate_core.specs.declared.commands.Task.{Task};
 ghost use Rattle.line_teller.specs.ToldLines.{HasFailed, refused_memory};
 ghost use Rattle.adjudicate_core.specs.Makes.{Makes, MakesCalled, MakesFor};
-ghost use Rattle.adjudicate_core.specs.Inside.Answering.{GivenAt, SealedAt, TaskAt};
-ghost use Rattle.adjudicate_core.specs.Running.{Calls, RunsProgram, called_by, texts};
-ghost use Rattle.adjudicate_core.specs.Silences.{IsLoud, TellsIfLost};
+ghost use Rattle.adjudicate_core.specs.Running.{AnswersByKey, AnswersFrom, AnswersTask, Called, Performs, called_by, texts};
+ghost use Rattle.adjudicate_core.specs.Silences.{IsLoud, TellsIfLost, TellsSilence};
 ghost use Rattle.adjudicate_core.specs.Tasks.{IsTask, tells_progress};
+ghost use Rattle.adjudicate_core.specs.Uses.{TellsMisuse};
 ghost use Rattle.move_msg.specs.TextLines.{ended};
 ghost use Rattle.std.specs.Io.KnownBytes.{Appends};
 
@@ -19,6 +19,7 @@ use crate::entering::enter;
 use crate::hosting::host_games;
 use crate::keys::keys_at;
 use crate::listening::listen;
+use crate::machine::Machine;
 use crate::sending::send;
 use crate::silence::tell_silence;
 use crate::system::System;
@@ -50,16 +51,16 @@ struct Context<'s, 'a, D, I, H> {
 /// the writer failed. `list`, `check` and `status` read their folder here, and hold one file at a time. With `--progress` the
 /// progress goes to `err`: for `probes` after every 10,000 lines, for `list` and `check` after each hundred million
 /// bytes. For `send` who was silent goes there, where an arbiter doesn't answer. No other task writes there.
-fn answer_given<D: LineDisk, I: Input, H: Host, W: Output, E: Output>(
+fn answer_given<'s, D: LineDisk, I: Input, H: Host, W: Output, E: Output>(
     alloc: Global,
     task: &Task,
-    given: Context<'_, '_, D, I, H>,
+    given: Context<'_, 's, D, I, H>,
     history: &mut H::History,
     out: &mut W,
     err: &mut E,
 ) -> Result<u8, WriteFault>
     ensures quiet { tells_progress task.now ≡ false → TellsIfLost E.facts E.contents err.old err.new task.now result }
-    ensures answered { GivenAt D.facts I.facts H.facts H.stores H.made H.Port.facts H.File.facts H.Store.facts W.contents E.facts E.contents task.now given.entry history.old history.new out.old out.new err.old err.new result }
+    ensures answered { AnswersFrom (⟦<System<'s, D, I, H> as Machine>⟧.from given.entry.system.now history.old history.new) (TellsSilence E.facts E.contents err.old err.new) task.now given.entry.sources.now (W.contents out.old) (W.contents out.new) result }
     ensures made { MakesFor task.now (H.made history.old) (H.made history.new) }
     ensures cause { OnErr result (HasFailed W.facts) }
 {
@@ -74,8 +75,8 @@ fn answer_given<D: LineDisk, I: Input, H: Host, W: Output, E: Output>(
         Task::Run(task) => put_answered(out, task.answer(alloc, sources)),
         Task::Listen(task) => listen(alloc, task, sources, system.host, history, out),
         Task::Probes(task) => task.answer(alloc, sources, system.disk, system.input, out, err),
-        Task::Game(task) => put_answered(out, task.answer(alloc, sources)),
-        Task::Games(task) => task.answer(alloc, sources, system.input, out, err),
+        Task::Game(task) => put_answered(out, task.answer(alloc, sources, system.disk)),
+        Task::Games(task) => task.answer(alloc, sources, system.disk, system.input, out, err),
         Task::Pgn(task) => task.answer(alloc, sources, system.disk, system.input, out),
         Task::Record(task) => put_answered(out, task.answer(alloc, sources)),
         Task::GameRecord(task) => task.answer(alloc, system.disk, system.host, out),
@@ -85,23 +86,23 @@ fn answer_given<D: LineDisk, I: Input, H: Host, W: Output, E: Output>(
         Task::Send(task) => tell_silence(err, send(alloc, task, system, history, out)),
         Task::Enter(task) => enter(alloc, task, system, history, out),
         Task::Host(task) => host_games(alloc, task, sources, system, history, out),
-        Task::Root(task) => task.answer(alloc, sources, system.input, out, err),
+        Task::Root(task) => task.answer(alloc, sources, system.disk, system.input, out, err),
         Task::Follow(task) => task.answer(alloc, sources, system.input, out),
         Task::Status(task) => task.answer(alloc, system.disk, system.host, out),
     }
 }
 
 /// Answers a task from what it reads.
-fn run_task<D: LineDisk, I: Input, H: Host, W: Output, E: Output>(
+fn run_task<'s, D: LineDisk, I: Input, H: Host, W: Output, E: Output>(
     alloc: Global,
     task: &Task,
-    system: &System<'_, D, I, H>,
+    system: &System<'s, D, I, H>,
     history: &mut H::History,
     out: &mut W,
     err: &mut E,
 ) -> Result<u8, WriteFault>
     ensures quiet { tells_progress task.now ≡ false → TellsIfLost E.facts E.contents err.old err.new task.now result }
-    ensures answered { TaskAt D.facts I.facts H.facts H.stores H.made H.Port.facts H.File.facts H.Store.facts W.contents E.facts E.contents task.now system.now history.old history.new out.old out.new err.old err.new result }
+    ensures answered { AnswersTask (⟦<System<'s, D, I, H> as Machine>⟧.from system.now history.old history.new) (TellsSilence E.facts E.contents err.old err.new) task.now (W.contents out.old) (W.contents out.new) result }
     ensures made { MakesFor task.now (H.made history.old) (H.made history.new) }
     ensures cause { OnErr result (HasFailed W.facts) }
 {
@@ -121,16 +122,16 @@ fn run_task<D: LineDisk, I: Input, H: Host, W: Output, E: Output>(
 
 /// Answers a task from what it reads. Where it names a file of keys, the ports of the host are sealed by these. The refusal of that
 /// file comes before all others.
-fn run_by_key<D: LineDisk, I: Input, H: Host, W: Output, E: Output>(
+fn run_by_key<'s, D: LineDisk, I: Input, H: Host, W: Output, E: Output>(
     alloc: Global,
     task: &Task,
-    system: &System<'_, D, I, H>,
+    system: &System<'s, D, I, H>,
     history: &mut H::History,
     out: &mut W,
     err: &mut E,
 ) -> Result<u8, WriteFault>
     ensures quiet { tells_progress task.now ≡ false → TellsIfLost E.facts E.contents err.old err.new task.now result }
-    ensures answered { SealedAt D.facts I.facts H.facts H.stores H.made H.Port.facts H.File.facts H.Store.facts W.contents E.facts E.contents task.now system.now history.old history.new out.old out.new err.old err.new result }
+    ensures answered { AnswersByKey (⟦<System<'s, D, I, H> as Machine>⟧.from system.now history.old history.new) (TellsSilence E.facts E.contents err.old err.new) task.now (W.contents out.old) (W.contents out.new) result }
     ensures made { MakesFor task.now (H.made history.old) (H.made history.new) }
     ensures cause { OnErr result (HasFailed W.facts) }
 {
@@ -176,16 +177,16 @@ fn first_of<'a>(words: &[&'a str]) -> &'a str {
 /// gets the usage alone, after a command that of the command. The progress of a task with `--progress` goes there too, and who was silent where
 /// `send` ends as `refused lost`, and nothing else. A failure of
 /// `err` changes nothing. The error comes only where `out` failed.
-pub fn run<D: LineDisk, I: Input, H: Host, W: Output, E: Output>(
+pub fn run<'s, D: LineDisk, I: Input, H: Host, W: Output, E: Output>(
     alloc: Global,
     words: &[&str],
-    system: &System<'_, D, I, H>,
+    system: &System<'s, D, I, H>,
     history: &mut H::History,
     out: &mut W,
     err: &mut E,
 ) -> Result<u8, WriteFault>
     ensures quiet { err.new ≢ err.old → (result ≡ Ok 2) ⊎ ((t : Task) × IsTask (texts words.now) t × IsLoud E.facts E.contents err.old err.new t result) }
-    ensures runs { RunsProgram D.facts I.facts H.facts H.stores H.made H.Port.facts H.File.facts H.Store.facts W.contents E.facts E.contents words.now system.now history.old history.new out.old out.new err.old err.new result }
+    ensures runs { Performs (⟦<System<'s, D, I, H> as Machine>⟧.from system.now history.old history.new) (TellsMisuse E.facts E.contents err.old err.new) (TellsSilence E.facts E.contents err.old err.new) (texts words.now) (W.contents out.old) (W.contents out.new) result }
     ensures made { Makes (texts words.now) (H.made history.old) (H.made history.new) }
     ensures cause { OnErr result (HasFailed W.facts) }
 {
@@ -233,15 +234,15 @@ pub fn refuse_memory<W: Write>(out: &mut W) -> Result<u8, WriteFault>
 
 /// Runs the program on all words that it was called with, its own name first. A word that is not UTF-8 is a misuse.
 /// Where memory was refused for the words, the line is `refused memory`.
-pub fn run_program<D: LineDisk, I: Input, H: Host, W: Output, E: Output>(
+pub fn run_program<'s, D: LineDisk, I: Input, H: Host, W: Output, E: Output>(
     alloc: Global,
     called: &Result<Vec<String>, WordsFault>,
-    system: &System<'_, D, I, H>,
+    system: &System<'s, D, I, H>,
     history: &mut H::History,
     out: &mut W,
     err: &mut E,
 ) -> Result<u8, WriteFault>
-    ensures runs { Calls D.facts I.facts H.facts H.stores H.made H.Port.facts H.File.facts H.Store.facts W.contents E.facts E.contents called.now system.now history.old history.new out.old out.new err.old err.new result }
+    ensures runs { Called (⟦<System<'s, D, I, H> as Machine>⟧.from system.now history.old history.new) (TellsMisuse E.facts E.contents err.old err.new) (TellsSilence E.facts E.contents err.old err.new) (called_by called.now) (W.contents out.old) (W.contents out.new) result }
     ensures made { MakesCalled (called_by called.now) (H.made history.old) (H.made history.new) }
     ensures cause { OnErr result (HasFailed W.facts) }
 {

@@ -1,5 +1,5 @@
--- `game [--tables DIR] [--manifest FILE] [--delay N] [--san] FEN`: what the game of the input comes to (this project's own).
-use Rattle.std.specs.Prelude.{◌≡◌, ℕ, Bool, true, false, List, [], ◌∷◌, length, Option, Some, None, Result, Ok, Err, codes, option_map}
+-- `game [--tables DIR] [--manifest FILE] [--all-tables] [--delay N] [--san] FEN`: what the game of the input comes to (this project's own).
+use Rattle.std.specs.Prelude.{◌≡◌, not, ℕ, Bool, true, false, List, [], ◌∷◌, length, Option, Some, None, Result, Ok, Err, codes, option_map}
 use Rattle.board_core.specs.declared.parts.Parts.{Parts}
 use Rattle.board_core.specs.declared.moves.Move.{Move}
 use Rattle.move_msg.specs.GameTexts.{words_in}
@@ -16,6 +16,11 @@ use Rattle.adjudicate_core.specs.Rules.{rule_of_form}
 use Rattle.adjudicate_core.specs.declared.commands.Form.TheVariants as form
 use Rattle.adjudicate_core.specs.Misuses.{Fault, NoWord, Unfit}
 use Rattle.adjudicate_core.specs.declared.words.usage.Wanted.TheVariants as wanted
+use Rattle.std.specs.Borrow.{Bor}
+use Rattle.system_io.specs.Disks.{DiskFacts}
+use Rattle.move_msg.specs.ToldManifests.{ToldManifest}
+use Rattle.table_folder.specs.Settled.{IsPly}
+use Rattle.adjudicate_core.specs.FolderAnswers.{ByFolder, read_at_once, read_when_asked, refused_table}
 use Rattle.task_files.specs.Sources.{Named}
 use Rattle.task_files.specs.Given.{Given}
 use Rattle.adjudicate_core.specs.Lines.{refused_move}
@@ -28,21 +33,22 @@ abbrev pub rules : List Rule
 rules =
     rule_of_form form.Option (codes "tables")
     ∷ rule_of_form form.Option (codes "manifest")
+    ∷ rule_of_form form.Flag (codes "all-tables")
     ∷ rule_of_form form.Option (codes "delay")
     ∷ rule_of_form form.Flag (codes "san")
     ∷ rule_of_form form.Word (codes "FEN") ∷ []
 
 -- the values of its arguments
 abbrev pub HasValues : (Text → Option Text) → FollowGame → Type 0
-HasValues value t = (option_map (λ s. s.now) t.tables ≡ value (codes "tables")) × (option_map (λ s. s.now) t.manifest ≡ value (codes "manifest")) × IsDelay (value (codes "delay")) t.delay × (t.san ≡ is_set (value (codes "san"))) × (Some t.fen.now ≡ value (codes "FEN"))
+HasValues value t = (option_map (λ s. s.now) t.tables ≡ value (codes "tables")) × (option_map (λ s. s.now) t.manifest ≡ value (codes "manifest")) × (t.all_tables ≡ is_set (value (codes "all-tables"))) × IsDelay (value (codes "delay")) t.delay × (t.san ≡ is_set (value (codes "san"))) × (Some t.fen.now ≡ value (codes "FEN"))
 
 -- what may be wrong with its values, in the order in which it is told
 abbrev pub faults : List Fault
 faults = Unfit wanted.Delay ∷ NoWord (codes "FEN") ∷ []
 
--- what is read for it
+-- what is read for it before it answers
 abbrev pub named : FollowGame → Named
-named t = record { folder = option_map (λ s. s.now) t.tables; manifest = option_map (λ s. s.now) t.manifest; input = true; kept = None; other_kept = None }
+named t = record { folder = option_map (λ s. s.now) (read_at_once (not t.all_tables) t.tables); manifest = option_map (λ s. s.now) t.manifest; input = true; kept = None; other_kept = None }
 
 -- all moves of the game are legal, or those to its verdict
 abbrev pub are_all_legal : GameOutcome → Bool
@@ -59,5 +65,24 @@ pub data IsPlayedReply (notation : Notation) (text : List ℕ) (found : Result T
   BadTables : (moves : List Move) → AreMovesIn notation start (words_in text) moves → (words : List ℕ) → found ≡ Err words → r ≡ refusal_reply words → IsPlayedReply notation text found delay start r
   Played : (moves : List Move) → AreMovesIn notation start (words_in text) moves → (tables : Tables) → found ≡ Ok tables → (outcome : GameOutcome) → IsOutcome (record { start = start; tables = tables; delay = delay }) moves outcome → r ≡ outcome_reply outcome moves → IsPlayedReply notation text found delay start r
 
-abbrev pub IsReply : FollowGame → Given → Reply → Type 0
-IsReply t given r = IsForText t.fen.now (IsPlayedReply (notation_by t.san) given.input (gathered given) t.delay) r
+-- ---- by a folder whose tables are read when the positions of the game ask for them
+
+abbrev pub IsOutcomeReply : ℕ → List Move → Tables → Parts → Reply → Type 0
+IsOutcomeReply delay moves tables start r = (outcome : GameOutcome) × IsOutcome (record { start = start; tables = tables; delay = delay }) moves outcome × (r ≡ outcome_reply outcome moves)
+
+-- what is needed of the game of these moves from a start
+abbrev pub plies_of : List Move → Parts → Parts → Type 0
+plies_of moves start = IsPly start moves
+
+-- the refusal of the first word that is no move; or else what the game comes to by the folder
+pub data IsPlayedIn (disk : DiskFacts) (path : List ℕ) (manifest : Option ToldManifest) (notation : Notation) (text : List ℕ) (delay : ℕ) (start : Parts) (r : Reply) : Type 0 where
+  BadWordIn : (place : ℕ) → IsBadWordIn notation start (words_in text) place → r ≡ refusal_reply (refused_move place) → IsPlayedIn disk path manifest notation text delay start r
+  PlayedIn : (moves : List Move) → AreMovesIn notation start (words_in text) moves → ByFolder disk path manifest (plies_of moves) refused_table (IsOutcomeReply delay moves) start r → IsPlayedIn disk path manifest notation text delay start r
+
+-- by the tables of a folder that are read when positions ask for them, or by those that were given
+abbrev pub IsPlayedBy : DiskFacts → FollowGame → Given → Option (Bor (List ℕ)) → Parts → Reply → Type 0
+IsPlayedBy disk t given (Some path) = IsPlayedIn disk path.now given.told (notation_by t.san) given.input t.delay
+IsPlayedBy disk t given None = IsPlayedReply (notation_by t.san) given.input (gathered given) t.delay
+
+abbrev pub IsReply : DiskFacts → FollowGame → Given → Reply → Type 0
+IsReply disk t given r = IsForText t.fen.now (IsPlayedBy disk t given (read_when_asked (not t.all_tables) t.tables)) r

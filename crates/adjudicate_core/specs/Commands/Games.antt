@@ -1,5 +1,5 @@
--- `games --tables DIR [--manifest FILE] [--delay N] [--progress]`: what the games of the input come to, a line each (this project's own).
-use Rattle.std.specs.Prelude.{◌≡◌, ◌==◌, ◌+◌, ℕ, Bool, true, false, List, [], ◌∷◌, length, Option, Some, None, codes, drop, option_map, position, take}
+-- `games --tables DIR [--manifest FILE] [--all-tables] [--delay N] [--progress]`: what the games of the input come to, a line each (this project's own).
+use Rattle.std.specs.Prelude.{◌≡◌, ◌==◌, ◌+◌, not, ℕ, Bool, true, false, List, [], ◌∷◌, length, Option, Some, None, Result, codes, drop, option_map, position, take}
 use Rattle.board_core.specs.declared.parts.Parts.{Parts}
 use Rattle.board_core.specs.declared.moves.Move.{Move}
 use Rattle.board_core.specs.Position.{IsPosition}
@@ -12,6 +12,15 @@ use Rattle.judge_core.specs.Tables.{Tables}
 use Rattle.move_msg.specs.GameTexts.{IsBadWordAt, TellsMoves, words_in}
 use Rattle.clap.specs.Words.{Rule, Text}
 use Rattle.line_teller.specs.ToldLines.{LineTold}
+use Rattle.std.specs.Borrow.{Bor}
+use Rattle.system_io.specs.Disks.{DiskFacts}
+use Rattle.system_io.specs.Inputs.{InputFacts}
+use Rattle.system_io.specs.declared.output.WriteFault.{WriteFault}
+use Rattle.table_folder.specs.Folders.{Folder}
+use Rattle.table_folder.specs.Settled.{IsPly}
+use Rattle.adjudicate_core.specs.FolderAnswers.{PutsByFolder, TellsByFolder, read_at_once, read_when_asked, refused_table}
+use Rattle.adjudicate_core.specs.TableAnswers.{PutsByTables}
+use Rattle.task_files.specs.Given.{Given}
 use Rattle.task_files.specs.Sources.{Named}
 use Rattle.adjudicate_core.specs.Commands.Game.{are_all_legal}
 use Rattle.adjudicate_core.specs.Rules.{rule_of_form}
@@ -27,6 +36,7 @@ abbrev pub rules : List Rule
 rules =
     rule_of_form form.Option (codes "tables")
     ∷ rule_of_form form.Option (codes "manifest")
+    ∷ rule_of_form form.Flag (codes "all-tables")
     ∷ rule_of_form form.Option (codes "delay")
     ∷ rule_of_form form.Flag (codes "progress") ∷ []
 
@@ -34,15 +44,15 @@ rules =
 abbrev pub HasValues : (Text → Option Text) → FollowGames → Type 0
 HasValues value t =
     (Some t.tables.now ≡ value (codes "tables")) × (option_map (λ s. s.now) t.manifest ≡ value (codes "manifest"))
-    × IsDelay (value (codes "delay")) t.delay × (t.progress ≡ is_set (value (codes "progress")))
+    × (t.all_tables ≡ is_set (value (codes "all-tables"))) × IsDelay (value (codes "delay")) t.delay × (t.progress ≡ is_set (value (codes "progress")))
 
 -- what may be wrong with its values, in the order in which it is told
 abbrev pub faults : List Fault
 faults = NoOption (codes "tables") ∷ Unfit wanted.Delay ∷ []
 
--- what is read for it
+-- what is read for it before it answers
 abbrev pub named : FollowGames → Named
-named t = record { folder = Some t.tables.now; manifest = option_map (λ s. s.now) t.manifest; input = false; kept = None; other_kept = None }
+named t = record { folder = option_map (λ s. s.now) (read_at_once (not t.all_tables) (Some t.tables)); manifest = option_map (λ s. s.now) t.manifest; input = false; kept = None; other_kept = None }
 
 -- ---- a line: the FEN text of a start, and behind the first tab the moves from there
 
@@ -73,3 +83,28 @@ pub data TellsGameLine (delay : ℕ) (tables : Tables) (line : List ℕ) (told :
   NoStart : (fault : FenFault) → IsFirstFenFault (start_in line) fault → told ≡ record { words = refused_fen fault; done = false } → TellsGameLine delay tables line told
   NoMove : HasStartFen line → (place : ℕ) → IsBadWordAt (words_in (moves_in line)) place → told ≡ record { words = refused_move place; done = false } → TellsGameLine delay tables line told
   Played : (start : Parts) → SpellsPosition (start_in line) start → IsPosition start → (moves : List Move) → TellsMoves (moves_in line) moves → (outcome : GameOutcome) → IsOutcome (record { start = start; tables = tables; delay = delay }) moves outcome → told ≡ record { words = outcome_words outcome (length moves); done = are_all_legal outcome } → TellsGameLine delay tables line told
+
+-- ---- by a folder whose tables are read when the positions of a game ask for them
+
+-- a start, and moves from there
+pub record Course : Type 0 where
+  pub start : Parts
+  pub moves : List Move
+
+-- the game that a line spells
+abbrev pub SpellsGame : List ℕ → Course → Type 0
+SpellsGame line game = SpellsPosition (start_in line) game.start × IsPosition game.start × TellsMoves (moves_in line) game.moves
+
+abbrev pub plies_in : Course → Parts → Type 0
+plies_in game = IsPly game.start game.moves
+
+abbrev pub TellsGameByFolder : ℕ → DiskFacts → Folder → List ℕ → LineTold → Type 0
+TellsGameByFolder delay disk folder = TellsByFolder disk folder SpellsGame plies_in (TellsGameLine delay) refused_table
+
+-- the games of the input by the tables of a folder, or by those that were given
+abbrev pub PutsFrom : DiskFacts → InputFacts → FollowGames → Given → Option (Bor (List ℕ)) → Option (List ℕ) → Option (List ℕ) → Result ℕ WriteFault → Type 0
+PutsFrom disk source t given (Some path) old new r = PutsByFolder disk path.now given.told (TellsGameByFolder t.delay disk) HasStartFen source old new r
+PutsFrom disk source t given None old new r = PutsByTables (TellsGameLine t.delay) HasStartFen source given old new r
+
+abbrev pub Puts : DiskFacts → InputFacts → FollowGames → Given → Option (List ℕ) → Option (List ℕ) → Result ℕ WriteFault → Type 0
+Puts disk source t given old new r = PutsFrom disk source t given (read_when_asked (not t.all_tables) (Some t.tables)) old new r

@@ -13,7 +13,7 @@ use Rattle.task_files.specs.Sources.{Named}
 use Rattle.task_files.specs.Given.{Given}
 use Rattle.std.specs.Borrow.{Bor}
 use Rattle.system_io.specs.Disks.{DiskFacts}
-use Rattle.adjudicate_core.specs.FolderAnswers.{ByFolder, read_at_once, read_when_asked}
+use Rattle.adjudicate_core.specs.FolderAnswers.{ByFolder, IsAlone, read_at_once, read_when_asked, refused_table}
 use Rattle.adjudicate_core.specs.Looks.{gathered}
 use Rattle.adjudicate_core.specs.Numbers.{is_set}
 use Rattle.adjudicate_core.specs.Reply.{ByTables, IsForText, Reply}
@@ -49,7 +49,7 @@ IsJudged tables p r = r ≡ judged tables p
 
 -- by the tables of a folder that are read when the position asks for them, or by those that were given
 abbrev pub IsJudgedBy : DiskFacts → Given → Option (Bor (List ℕ)) → Parts → Reply → Type 0
-IsJudgedBy disk given (Some path) = ByFolder disk path.now given.told IsJudged
+IsJudgedBy disk given (Some path) = ByFolder disk path.now given.told IsAlone refused_table IsJudged
 IsJudgedBy disk given None = ByTables (gathered given) IsJudged
 
 abbrev pub IsReply : DiskFacts → Judge → Given → Reply → Type 0

@@ -14,7 +14,7 @@ use Rattle.task_files.specs.Given.{Given}
 use Rattle.adjudicate_core.specs.Lines.{told_words}
 use Rattle.std.specs.Borrow.{Bor}
 use Rattle.system_io.specs.Disks.{DiskFacts}
-use Rattle.adjudicate_core.specs.FolderAnswers.{ByFolder, read_at_once, read_when_asked}
+use Rattle.adjudicate_core.specs.FolderAnswers.{ByFolder, IsAlone, read_at_once, read_when_asked, refused_table}
 use Rattle.adjudicate_core.specs.Looks.{gathered}
 use Rattle.adjudicate_core.specs.Numbers.{is_set}
 use Rattle.adjudicate_core.specs.Reply.{ByTables, IsForText, Reply, status_if}
@@ -52,7 +52,7 @@ IsProbeReply tables p r = (probed : ProbeResult) × IsProbed tables p probed × 
 
 -- by the tables of the folder that are read when the position asks for them, or by those that were given
 abbrev pub IsProbedBy : DiskFacts → Given → Option (Bor (List ℕ)) → Parts → Reply → Type 0
-IsProbedBy disk given (Some path) = ByFolder disk path.now given.told IsProbeReply
+IsProbedBy disk given (Some path) = ByFolder disk path.now given.told IsAlone refused_table IsProbeReply
 IsProbedBy disk given None = ByTables (gathered given) IsProbeReply
 
 abbrev pub IsReply : DiskFacts → Probe → Given → Reply → Type 0

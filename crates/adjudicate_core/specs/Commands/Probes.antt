@@ -4,8 +4,9 @@ use Rattle.std.specs.Borrow.{Bor}
 use Rattle.system_io.specs.Disks.{DiskFacts}
 use Rattle.system_io.specs.Inputs.{InputFacts}
 use Rattle.system_io.specs.declared.output.WriteFault.{WriteFault}
+use Rattle.table_folder.specs.Folders.{Folder}
 use Rattle.task_files.specs.Given.{Given}
-use Rattle.adjudicate_core.specs.FolderAnswers.{IsSpelledBy, PutsByFolder, read_at_once, read_when_asked}
+use Rattle.adjudicate_core.specs.FolderAnswers.{IsAlone, IsSpelledBy, PutsByFolder, TellsByFolder, read_at_once, read_when_asked, refused_table}
 use Rattle.adjudicate_core.specs.Reply.{IsText}
 use Rattle.adjudicate_core.specs.TableAnswers.{PutsByTables}
 use Rattle.board_core.specs.declared.parts.Parts.{Parts}
@@ -22,7 +23,7 @@ use Rattle.adjudicate_core.specs.Rules.{rule_of_form}
 use Rattle.adjudicate_core.specs.declared.commands.Form.TheVariants as form
 use Rattle.adjudicate_core.specs.Misuses.{Fault, NoOption}
 use Rattle.task_files.specs.Sources.{Named}
-use Rattle.adjudicate_core.specs.JsonAnswers.{TellsJson}
+use Rattle.adjudicate_core.specs.JsonAnswers.{TellsJson, TellsJsonByFolder}
 use Rattle.adjudicate_core.specs.Lines.{refused_fen}
 use Rattle.adjudicate_core.specs.Numbers.{is_set}
 use Rattle.judge_core.specs.Ask.{IsAnswered, ask_of}
@@ -50,9 +51,9 @@ HasValues value t =
 abbrev pub faults : List Fault
 faults = NoOption (codes "tables") ∷ []
 
--- a table is read when a position asks for it, unless all are wanted at once, or JSON, or determined values
+-- a table is read when a position asks for it, unless all are wanted at once, or determined values
 abbrev pub is_lazy : Probes → Bool
-is_lazy t = not (t.all_tables || (t.json || t.determined))
+is_lazy t = not (t.all_tables || t.determined)
 
 -- what is read for it before it answers
 abbrev pub named : Probes → Named
@@ -68,9 +69,17 @@ abbrev pub TellsLineIn : Bool → Ask → Tables → List ℕ → LineTold → T
 TellsLineIn true ask = TellsJson ask false
 TellsLineIn false ask = TellsLine ask
 
+-- so it is told by the tables of a folder that are read when a position asks for them
+abbrev pub TellsLineByFolder : DiskFacts → Folder → List ℕ → LineTold → Type 0
+TellsLineByFolder disk folder = TellsByFolder disk folder IsSpelledBy IsAlone (TellsLine Strict) refused_table
+
+abbrev pub TellsFolderLineIn : Bool → DiskFacts → Folder → List ℕ → LineTold → Type 0
+TellsFolderLineIn true = TellsJsonByFolder false
+TellsFolderLineIn false = TellsLineByFolder
+
 -- the positions of the input by the tables of a folder that are read when these ask for them, or by those that were given
 abbrev pub PutsFrom : DiskFacts → InputFacts → Probes → Given → Option (Bor (List ℕ)) → Option (List ℕ) → Option (List ℕ) → Result ℕ WriteFault → Type 0
-PutsFrom disk source t given (Some path) old new r = PutsByFolder disk path.now given.told IsSpelledBy (TellsLine Strict) IsText source old new r
+PutsFrom disk source t given (Some path) old new r = PutsByFolder disk path.now given.told (TellsFolderLineIn t.json disk) IsText source old new r
 PutsFrom disk source t given None old new r = PutsByTables (TellsLineIn t.json (ask_of t.determined)) IsText source given old new r
 
 abbrev pub Puts : DiskFacts → InputFacts → Probes → Given → Option (List ℕ) → Option (List ℕ) → Result ℕ WriteFault → Type 0

@@ -1,6 +1,6 @@
--- `root --tables DIR [--manifest FILE] [--json] [--determined] [FEN]`: what tables tell of the legal moves of a position, or of the positions of the input
+-- `root --tables DIR [--manifest FILE] [--all-tables] [--json] [--determined] [FEN]`: what tables tell of the legal moves of a position, or of the positions of the input
 -- (this project's own).
-use Rattle.std.specs.Prelude.{◌≡◌, ◌⊎◌, ◌++◌, ◌&&◌, ◌==◌, ℕ, Bool, true, false, List, [], ◌∷◌, map, Option, Some, None, Result, codes, option_map}
+use Rattle.std.specs.Prelude.{◌≡◌, ◌⊎◌, ◌++◌, ◌&&◌, ◌||◌, ◌==◌, not, ℕ, Bool, true, false, List, [], ◌∷◌, map, Option, Some, None, Result, codes, option_map}
 use Rattle.std.specs.Borrow.{Bor}
 use Rattle.std.specs.List.{list_all}
 use Rattle.system_io.specs.Inputs.{InputFacts}
@@ -12,21 +12,26 @@ use Rattle.judge_core.specs.ProbeResult.{has_both}
 use Rattle.judge_core.specs.Ruling.{is_out_of_scope, ruling}
 use Rattle.judge_core.specs.Tables.{Tables}
 use Rattle.judge_core.specs.Words.{columns_words}
-use Rattle.move_msg.specs.TextLines.{text_of}
+use Rattle.move_msg.specs.TextLines.{ended, text_of}
+use Rattle.system_io.specs.Disks.{DiskFacts}
+use Rattle.table_folder.specs.Folders.{Folder}
+use Rattle.table_folder.specs.Settled.{IsWithMoves}
 use Rattle.clap.specs.Words.{Rule, Text}
 use Rattle.adjudicate_core.specs.Rules.{rule_of_form}
 use Rattle.adjudicate_core.specs.declared.commands.Form.TheVariants as form
 use Rattle.adjudicate_core.specs.Misuses.{Fault, NoOption}
 use Rattle.task_files.specs.Sources.{Named}
 use Rattle.task_files.specs.Given.{Given}
-use Rattle.adjudicate_core.specs.JsonAnswers.{IsForTextIn, IsJsonTold, TellsJson}
+use Rattle.adjudicate_core.specs.FolderAnswers.{ByFolder, IsSpelledBy, PutsByFolder, TellsByFolder, read_at_once, read_when_asked, refused_table, refused_table_in}
+use Rattle.adjudicate_core.specs.JsonAnswers.{IsForTextIn, IsJsonTold, TellsJson, TellsJsonByFolder}
 use Rattle.adjudicate_core.specs.Lines.{probed_of, root_words}
 use Rattle.adjudicate_core.specs.Looks.{gathered}
 use Rattle.adjudicate_core.specs.Numbers.{is_set}
 use Rattle.adjudicate_core.specs.Reply.{AnswersOnce, ByTables, IsForText, IsText, Reply, status_if}
 use Rattle.adjudicate_core.specs.TableAnswers.{PutsByTables}
-use Rattle.judge_core.specs.Ask.{IsAnswered, IsRanked}
+use Rattle.judge_core.specs.Ask.{IsAnswered, IsRanked, ask_of}
 use Rattle.judge_core.specs.declared.ask.Ask.{Ask}
+use Rattle.judge_core.specs.declared.ask.Ask.TheVariants.{Strict}
 use Rattle.line_teller.specs.ToldLines.{LineTold}
 use Rattle.adjudicate_core.specs.declared.commands.root.Root.{Root}
 
@@ -34,6 +39,7 @@ abbrev pub rules : List Rule
 rules =
     rule_of_form form.Option (codes "tables")
     ∷ rule_of_form form.Option (codes "manifest")
+    ∷ rule_of_form form.Flag (codes "all-tables")
     ∷ rule_of_form form.Flag (codes "json")
     ∷ rule_of_form form.Flag (codes "determined")
     ∷ rule_of_form form.Word (codes "FEN") ∷ []
@@ -42,16 +48,20 @@ rules =
 abbrev pub HasValues : (Text → Option Text) → Root → Type 0
 HasValues value t =
     (Some t.tables.now ≡ value (codes "tables")) × (option_map (λ s. s.now) t.manifest ≡ value (codes "manifest"))
-    × (t.json ≡ is_set (value (codes "json"))) × (t.determined ≡ is_set (value (codes "determined")))
+    × (t.all_tables ≡ is_set (value (codes "all-tables"))) × (t.json ≡ is_set (value (codes "json"))) × (t.determined ≡ is_set (value (codes "determined")))
     × (option_map (λ s. s.now) t.fen ≡ value (codes "FEN"))
 
 -- what may be wrong with its values, in the order in which it is told
 abbrev pub faults : List Fault
 faults = NoOption (codes "tables") ∷ []
 
--- what is read for it
+-- a table is read when a position asks for it, unless all are wanted at once, or determined values
+abbrev pub is_lazy : Root → Bool
+is_lazy t = not (t.all_tables || t.determined)
+
+-- what is read for it before it answers
 abbrev pub named : Root → Named
-named t = record { folder = Some t.tables.now; manifest = option_map (λ s. s.now) t.manifest; input = false; kept = None; other_kept = None }
+named t = record { folder = option_map (λ s. s.now) (read_at_once (is_lazy t) (Some t.tables)); manifest = option_map (λ s. s.now) t.manifest; input = false; kept = None; other_kept = None }
 
 -- A line for each legal move, the best first, and then what `probes` tells of the position. It is complete where nothing is refused.
 abbrev pub root_reply : List RootMove → ProbeResult → List ℕ → Reply
@@ -82,7 +92,29 @@ abbrev pub TellsLineIn : Bool → Ask → Tables → List ℕ → LineTold → T
 TellsLineIn true ask = TellsJson ask true
 TellsLineIn false ask = TellsLine ask
 
--- what is told of the position of the words, or of those of the input
-abbrev pub Puts : Bool → Ask → InputFacts → Option (Bor (List ℕ)) → Given → Option (List ℕ) → Option (List ℕ) → Result ℕ WriteFault → Type 0
-Puts json ask source (Some fen) given old new r = AnswersOnce (IsForTextIn json fen.now (ByTables (gathered given) (IsToldIn json ask))) (IsText fen.now) old new r
-Puts json ask source None given old new r = PutsByTables (TellsLineIn json ask) IsText source given old new r
+-- ---- by a folder whose tables are read when positions ask for them: a position, and those after its moves
+
+abbrev pub TellsLineByFolder : DiskFacts → Folder → List ℕ → LineTold → Type 0
+TellsLineByFolder disk folder = TellsByFolder disk folder IsSpelledBy IsWithMoves (TellsLine Strict) (λ refusal. ended (refused_table refusal))
+
+abbrev pub TellsFolderLineIn : Bool → DiskFacts → Folder → List ℕ → LineTold → Type 0
+TellsFolderLineIn true = TellsJsonByFolder true
+TellsFolderLineIn false = TellsLineByFolder
+
+-- a position by the tables of a folder, or by those that were given
+abbrev pub IsToldBy : DiskFacts → Root → Given → Option (Bor (List ℕ)) → Parts → Reply → Type 0
+IsToldBy disk t given (Some path) = ByFolder disk path.now given.told IsWithMoves (refused_table_in t.json) (IsToldIn t.json Strict)
+IsToldBy disk t given None = ByTables (gathered given) (IsToldIn t.json (ask_of t.determined))
+
+-- the positions of the input likewise
+abbrev pub PutsFrom : DiskFacts → InputFacts → Root → Given → Option (Bor (List ℕ)) → Option (List ℕ) → Option (List ℕ) → Result ℕ WriteFault → Type 0
+PutsFrom disk source t given (Some path) old new r = PutsByFolder disk path.now given.told (TellsFolderLineIn t.json disk) IsText source old new r
+PutsFrom disk source t given None old new r = PutsByTables (TellsLineIn t.json (ask_of t.determined)) IsText source given old new r
+
+-- the position of the words, or those of the input
+abbrev pub PutsOf : DiskFacts → InputFacts → Root → Option (Bor (List ℕ)) → Given → Option (Bor (List ℕ)) → Option (List ℕ) → Option (List ℕ) → Result ℕ WriteFault → Type 0
+PutsOf disk source t (Some fen) given path old new r = AnswersOnce (IsForTextIn t.json fen.now (IsToldBy disk t given path)) (IsText fen.now) old new r
+PutsOf disk source t None given path old new r = PutsFrom disk source t given path old new r
+
+abbrev pub Puts : DiskFacts → InputFacts → Root → Given → Option (List ℕ) → Option (List ℕ) → Result ℕ WriteFault → Type 0
+Puts disk source t given old new r = PutsOf disk source t t.fen given (read_when_asked (is_lazy t) (Some t.tables)) old new r

@@ -36,5 +36,6 @@ PutsRead (Err OutOfMemory) old new r = TellsOne refused_memory old new r
 -- it is the line of a position, and not of a text's fault
 abbrev pub IsPositionLine : JsonLine → Type 0
 IsPositionLine (line.Fault fault) = ⊥
+IsPositionLine (line.Refused words) = Unit {0}
 IsPositionLine (line.Position told) = Unit {0}
 IsPositionLine (line.Root told moves) = Unit {0}

@@ -9,14 +9,15 @@ use Rattle.move_msg.specs.ToldManifests.{ToldManifest}
 use Rattle.system_io.specs.Disks.{DiskFacts}
 use Rattle.table_folder.specs.declared.fault.FileRefusal.{FileRefusal}
 use Rattle.table_folder.specs.Folders.{Folder, IsFolderAt}
-use Rattle.table_folder.specs.Settled.{AnswersBy, IsRefusedAt}
+use Rattle.table_folder.specs.Settled.{AnswersBy, IsRefusedFor}
 use Rattle.task_files.specs.Outside.{FolderFails}
+use Rattle.adjudicate_core.specs.FolderAnswers.{IsAlone}
 use Rattle.adjudicate_core.specs.declared.answers.refusals.Refusal.{Refusal}
 use Rattle.adjudicate_core.specs.declared.answers.refusals.Refusal.TheVariants as refusal
 
 -- what tables say of a position
-abbrev pub AreColumns : Parts → Columns → Tables → Type 0
-AreColumns p columns tables = IsProbed tables p columns.probed × (columns.verdict ≡ ruling tables p)
+abbrev pub AreColumns : Parts → Tables → Columns → Type 0
+AreColumns p tables columns = IsProbed tables p columns.probed × (columns.verdict ≡ ruling tables p)
 
 -- the manifest is at fault, or else the folder can't be listed or lists a file twice
 pub data LacksFolder (disk : DiskFacts) (path : List ℕ) (manifest : Option ToldManifest) (refused : Refusal) : Type 0 where
@@ -26,5 +27,5 @@ pub data LacksFolder (disk : DiskFacts) (path : List ℕ) (manifest : Option Tol
 -- what a folder's tables say of a position, or why they say nothing
 pub data FindsColumns (disk : DiskFacts) (path : List ℕ) (manifest : Option ToldManifest) (p : Parts) (found : Result Columns Refusal) : Type 0 where
   FindsNoFolder : (refused : Refusal) → LacksFolder disk path manifest refused → found ≡ Err refused → FindsColumns disk path manifest p found
-  FindsBadFile : (folder : Folder) → IsFolderAt disk path manifest folder → (file : FileRefusal) → IsRefusedAt disk folder p file → found ≡ Err (refusal.File file.name file.fault) → FindsColumns disk path manifest p found
-  FindsAll : (folder : Folder) → IsFolderAt disk path manifest folder → (columns : Columns) → AnswersBy disk folder (λ q. q ≡ p) (AreColumns p columns) → found ≡ Ok columns → FindsColumns disk path manifest p found
+  FindsBadFile : (folder : Folder) → IsFolderAt disk path manifest folder → (file : FileRefusal) → IsRefusedFor disk folder (IsAlone p) file → found ≡ Err (refusal.File file.name file.fault) → FindsColumns disk path manifest p found
+  FindsAll : (folder : Folder) → IsFolderAt disk path manifest folder → (columns : Columns) → AnswersBy disk folder (IsAlone p) (λ tables. AreColumns p tables columns) → found ≡ Ok columns → FindsColumns disk path manifest p found

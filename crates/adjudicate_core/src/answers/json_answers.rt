@@ -1,9 +1,15 @@
 //! Answers as JSON: one object a line.
 
-ghost use Rattle.std.specs.Prelude.{◌≡◌, IfOk, IsErrOf, OnErr, OnOk};
+ghost use Rattle.std.specs.Prelude.{◌≡◌, ◌++◌, IfOk, IsErrOf, OnErr, OnOk, codes, false, true};
 ghost use Rattle.std.specs.Io.KnownBytes.{Appends};
 ghost use Rattle.adjudicate_core.specs.Inside.Asked.{IsPositionLine, reply_of};
-ghost use Rattle.adjudicate_core.specs.JsonAnswers.{json_reply};
+ghost use Rattle.adjudicate_core.specs.FolderAnswers.{refused_table_in};
+ghost use Rattle.adjudicate_core.specs.JsonAnswers.{TellsJsonByFolder, json_reply};
+ghost use Rattle.adjudicate_core.specs.Reply.{IsText};
+ghost use Rattle.board_core.specs.Position.{IsPosition};
+ghost use Rattle.fen_text.specs.Fen.{SpellsPosition};
+ghost use Rattle.json_lines.specs.Told.{is_done};
+ghost use Rattle.table_folder.specs.Faults.{file_fault_name};
 ghost use Rattle.fen_text.specs.declared.fault.FenFault.TheVariants as fen;
 ghost use Rattle.json_lines.specs.Objects.{fault_json, json_text, line_json};
 ghost use Rattle.json_lines.specs.declared.told.JsonLine.TheVariants as line;
@@ -12,14 +18,17 @@ ghost use Rattle.move_msg.specs.TextLines.{ended};
 ghost use Rattle.system_io.specs.Outputs.{WritesFront};
 
 use crate::answers::Answer;
-use board_core::PositionFault;
-use fen_text::FenFault;
+use crate::folders::OpenFolder;
+use arrayvec::ArrayString;
+use board_core::{Position, PositionFault};
+use fen_text::{FenFault, read};
 use json_lines::{Ask, JsonLine, put_json_line};
 use judge_core::Set;
 use line_teller::{LineHandler, TellFault};
 use std::alloc::{AllocError, Global};
 use std::io::Write;
-use system_io::{Output, WriteFault};
+use system_io::{Disk, Output, WriteFault};
+use table_folder::FileRefusal;
 
 /// Writes an object and a line feed.
 fn put_json<W: Write>(out: &mut W, line: &JsonLine) -> Result<(), WriteFault>
@@ -138,6 +147,86 @@ impl<'a> LineHandler for JsonTeller<'a> {
 
     fn tell<W: Output>(&mut self, line: &[u8], out: &mut W) -> Result<bool, TellFault> {
         match JsonLine::of_text(self.alloc, &mut self.set, line, self.ask, self.with_moves) {
+            Ok(told) => match put_told(self.alloc, out, &told) {
+                Ok(()) => Ok(told.is_done()),
+                Err(fault) => Err(fault),
+            },
+            Err(_) => Err(TellFault::OutOfMemory),
+        }
+    }
+}
+
+/// The words that refuse the file of a table: its name and what is wrong with it.
+fn refused_words(refusal: &FileRefusal) -> ArrayString<64>
+    ensures { result.bytes ≡ refusal.now.name.bytes ++ codes " " ++ file_fault_name refusal.now.fault }
+{
+    let mut words = ArrayString::new();
+    words.push_str(refusal.name.as_str());
+    words.push_str(" ");
+    words.push_str(refusal.fault.name());
+    words
+}
+
+/// The object that refuses the file of a table.
+pub(crate) fn refused_line(refusal: &FileRefusal) -> JsonLine
+    ensures text { json_text (line_json result) ≡ refused_table_in true refusal.now }
+    ensures done { is_done result ≡ false }
+    ensures position { IsPositionLine result }
+{
+    JsonLine::Refused(refused_words(refusal))
+}
+
+/// Answers a line with an object of JSON for its position, by the tables of a folder, of which those are read that it asks for.
+#[derive(Drop)]
+pub(crate) struct FolderJsonTeller<'r, D: Disk> {
+    /// The allocator.
+    pub(crate) alloc: Global,
+    /// The folder.
+    pub(crate) folder: OpenFolder<'r, D>,
+    /// Whether the object has the legal moves.
+    pub(crate) with_moves: bool,
+}
+
+impl<'r, D: Disk> FolderJsonTeller<'r, D> {
+    /// The object of a position, or that of the refusal of a file.
+    fn line_at(&mut self, text: &[u8], position: &Position) -> Result<JsonLine, AllocError>
+        requires spelled { SpellsPosition text.now position.now }
+        requires position { IsPosition position.now }
+        ensures told { IfOk result (λ l. TellsJsonByFolder self.old.with_moves (D.facts self.old.folder.disk) self.old.folder.folder text.now (record { words = json_text (line_json l); done = is_done l })) }
+        ensures folder { self.new.folder ≡ self.old.folder }
+        ensures moves { self.new.with_moves ≡ self.old.with_moves }
+    {
+        match self.folder.json_line(position, self.with_moves)? {
+            Ok(line) => Ok(line),
+            Err(refusal) => Ok(refused_line(&refusal)),
+        }
+    }
+
+    /// The object of a line.
+    fn line_of(&mut self, text: &[u8]) -> Result<JsonLine, AllocError>
+        ensures told { IfOk result (λ l. TellsJsonByFolder self.old.with_moves (D.facts self.old.folder.disk) self.old.folder.folder text.now (record { words = json_text (line_json l); done = is_done l })) }
+        ensures position { IfOk result (λ l. IsPositionLine l → IsText text.now) }
+        ensures memory { OnErr result (IsText text.now) }
+        ensures folder { self.new.folder ≡ self.old.folder }
+        ensures moves { self.new.with_moves ≡ self.old.with_moves }
+    {
+        match read(text) {
+            Ok(position) => self.line_at(text, &position),
+            Err(fault) => Ok(JsonLine::Fault(fault)),
+        }
+    }
+}
+
+impl<'r, D: Disk> LineHandler for FolderJsonTeller<'r, D> {
+    ghost use Rattle.adjudicate_core.specs.JsonAnswers.{TellsJsonByFolder};
+    ghost use Rattle.adjudicate_core.specs.Reply.{IsText};
+
+    ghost tells = { λ t. TellsJsonByFolder t.with_moves (D.facts t.folder.disk) t.folder.folder };
+
+    ghost takes_memory = { IsText };
+
+    fn tell<W: Output>(&mut self, line: &[u8], out: &mut W) -> Result<bool, TellFault> {
+        match self.line_of(line) {
             Ok(told) => match put_told(self.alloc, out, &told) {
                 Ok(()) => Ok(told.is_done()),
                 Err(fault) => Err(fault),

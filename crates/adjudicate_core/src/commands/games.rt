@@ -7,22 +7,26 @@ ghost use Rattle.fen_text.specs.Fen.{SpellsPosition};
 ghost use Rattle.line_teller.specs.ToldLines.{HasFailed};
 ghost use Rattle.move_msg.specs.GameTexts.{TellsMoves};
 ghost use Rattle.task_files.specs.Sources.{named_by};
-ghost use Rattle.adjudicate_core.specs.Commands.Games.{HasStartFen, HasValues, TellsGameLine, faults, moves_behind, moves_in, named, start_before, start_in, tab_in};
+ghost use Rattle.adjudicate_core.specs.Commands.Games.{HasStartFen, HasValues, Puts, TellsGameByFolder, TellsGameLine, faults, moves_behind, moves_in, named, start_before, start_in, tab_in};
 ghost use Rattle.adjudicate_core.specs.LineAnswers.{PutsLinesOrNone};
 ghost use Rattle.adjudicate_core.specs.Lines.{words_of};
 ghost use Rattle.adjudicate_core.specs.Misuses.{IsFirstMisuse, fault_words};
+ghost use Rattle.adjudicate_core.specs.FolderAnswers.{PutsByFolder};
 ghost use Rattle.adjudicate_core.specs.TableAnswers.{PutsByTables};
+ghost use Rattle.move_msg.specs.ToldBy.{told_by};
 
 use super::{Form, Value};
 use crate::answers::line_answers::put_told;
 use crate::answers::lines::{Line, put_line, put_refusal};
 use crate::answers::refusals::Refusal;
 use crate::commands::game::are_all_legal;
+use crate::folders::{FolderPlace, OpenFolder, read_at_once, read_when_asked};
 use crate::tables::gather;
 use crate::words::numbers::{CacheSize, is_set};
 use crate::words::usage::ValueFault;
 use crate::words::values::{delay_in, option_in};
 use board_core::{Delay, Move, Position};
+use bumpalo::Bump;
 use clap::ArgMatches;
 use fen_text::read;
 use judge_core::{Outcome, Set};
@@ -30,7 +34,7 @@ use line_teller::{LineHandler, TellFault};
 use move_msg::read_moves;
 use std::alloc::{AllocError, Global};
 use std::io::Write;
-use system_io::{Input, Output, WriteFault};
+use system_io::{Disk, Input, Output, WriteFault};
 use task_files::{InputPaths, Inputs};
 
 /// The outcomes of the games of the input.
@@ -40,6 +44,8 @@ pub struct FollowGames<'a> {
     pub tables: &'a str,
     /// The file of the manifest that the tables are held to, if one is named.
     pub manifest: Option<&'a str>,
+    /// Whether all tables are read before the first answer.
+    pub all_tables: bool,
     /// For how many further plies a verdict by tables must hold.
     pub delay: Delay,
     /// Whether the progress is written.
@@ -47,7 +53,7 @@ pub struct FollowGames<'a> {
 }
 
 /// The values of `games`.
-pub(crate) const VALUES: [Value; 4] = [
+pub(crate) const VALUES: [Value; 5] = [
     Value {
         name: "tables",
         form: Form::Option,
@@ -55,6 +61,10 @@ pub(crate) const VALUES: [Value; 4] = [
     Value {
         name: "manifest",
         form: Form::Option,
+    },
+    Value {
+        name: "all-tables",
+        form: Form::Flag,
     },
     Value {
         name: "delay",
@@ -175,6 +185,91 @@ impl<'a> LineHandler for GameJudge<'a> {
     }
 }
 
+/// Answers a line with the outcome of its game, by the tables of a folder, of which those are read that it asks for.
+#[derive(Drop)]
+struct FolderGameJudge<'r, D: Disk> {
+    /// The allocator.
+    alloc: Global,
+    /// The folder.
+    folder: OpenFolder<'r, D>,
+    /// For how many further plies a verdict by tables must hold.
+    delay: Delay,
+}
+
+impl<'r, D: Disk> FolderGameJudge<'r, D> {
+    /// The answer to a line whose start and moves are read, and whether it is complete.
+    fn judge(
+        &mut self,
+        line: &[u8],
+        start: &Position,
+        moves: &[Move],
+    ) -> Result<(Line, bool), AllocError>
+        requires spelled { SpellsPosition (start_in line.now) start.now }
+        requires position { IsPosition start.now }
+        requires moves { TellsMoves (moves_in line.now) moves.now }
+        ensures told { IfOk result (λ told. TellsGameByFolder self.old.delay (D.facts self.old.folder.disk) self.old.folder.folder line.now (record { words = words_of told.0; done = told.1 })) }
+        ensures folder { self.new.folder ≡ self.old.folder }
+        ensures delay { self.new.delay ≡ self.old.delay }
+    {
+        match self.folder.outcome(start, moves, self.delay)? {
+            Ok(outcome) => {
+                let plies = moves.len();
+                let line = Line::Outcome(Outcome { outcome, plies });
+                Ok((line, are_all_legal(outcome)))
+            }
+            Err(refused) => Ok((
+                Line::Refused(Refusal::File(refused.name, refused.fault)),
+                false,
+            )),
+        }
+    }
+
+    /// The answer to a line whose start is read, and whether it is complete.
+    fn answer_from(&mut self, line: &[u8], start: &Position) -> Result<(Line, bool), AllocError>
+        requires spelled { SpellsPosition (start_in line.now) start.now }
+        requires position { IsPosition start.now }
+        ensures told { IfOk result (λ told. TellsGameByFolder self.old.delay (D.facts self.old.folder.disk) self.old.folder.folder line.now (record { words = words_of told.0; done = told.1 })) }
+        ensures folder { self.new.folder ≡ self.old.folder }
+        ensures delay { self.new.delay ≡ self.old.delay }
+    {
+        match read_moves(self.alloc, moves_in(line))? {
+            Ok(moves) => self.judge(line, start, &moves),
+            Err(place) => Ok((Line::Refused(Refusal::Move(place)), false)),
+        }
+    }
+
+    /// The answer to a line, and whether it is complete.
+    fn answer(&mut self, line: &[u8]) -> Result<(Line, bool), AllocError>
+        ensures told { IfOk result (λ told. TellsGameByFolder self.old.delay (D.facts self.old.folder.disk) self.old.folder.folder line.now (record { words = words_of told.0; done = told.1 })) }
+        ensures folder { self.new.folder ≡ self.old.folder }
+        ensures delay { self.new.delay ≡ self.old.delay }
+        ensures memory { OnErr result (HasStartFen line.now) }
+    {
+        match read(start_in(line)) {
+            Ok(start) => self.answer_from(line, &start),
+            Err(fault) => Ok((Line::Refused(Refusal::Fen(fault)), false)),
+        }
+    }
+}
+
+impl<'r, D: Disk> LineHandler for FolderGameJudge<'r, D> {
+    ghost use Rattle.adjudicate_core.specs.Commands.Games.{HasStartFen, TellsGameByFolder};
+
+    ghost tells = { λ j. TellsGameByFolder j.delay (D.facts j.folder.disk) j.folder.folder };
+
+    ghost takes_memory = { HasStartFen };
+
+    fn tell<W: Output>(&mut self, line: &[u8], out: &mut W) -> Result<bool, TellFault> {
+        match self.answer(line) {
+            Ok((told, is_told)) => match put_line(out, &told) {
+                Ok(()) => Ok(is_told),
+                Err(_) => Err(TellFault::Io),
+            },
+            Err(_) => Err(TellFault::OutOfMemory),
+        }
+    }
+}
+
 impl<'a> FollowGames<'a> {
     /// The task with these values, or the first thing that is wrong with them.
     pub(crate) fn of(matches: &ArgMatches<'a>) -> Result<FollowGames<'a>, ValueFault<'a>>
@@ -184,17 +279,18 @@ impl<'a> FollowGames<'a> {
         Ok(FollowGames {
             tables: option_in(matches, "tables")?,
             manifest: matches.get_str("manifest"),
+            all_tables: is_set(matches.get_str("all-tables")),
             delay: delay_in(matches)?,
             progress: is_set(matches.get_str("progress")),
         })
     }
 
-    /// What is read for it.
+    /// What is read for it before it answers.
     pub(crate) fn places(&self) -> InputPaths<'a>
         ensures { named_by result ≡ named self.now }
     {
         InputPaths {
-            folder: Some(self.tables),
+            folder: read_at_once(!self.all_tables, Some(self.tables)),
             manifest: self.manifest,
             reads_input: false,
             kept: None,
@@ -202,15 +298,8 @@ impl<'a> FollowGames<'a> {
         }
     }
 
-    /// Writes the outcome of the game of each line of the input as it comes, by the tables of files, or the refusal of the tables.
-    /// Returns the status, 0 where all moves of all games are legal, else 1.
-    ///
-    /// A line is a FEN text, a tab and moves in coordinates, with spaces between them; without a tab it is a start alone. It is told as
-    /// `game` tells it: `refused FEN ..` of its start, `refused move 2` of a word that is no move, `illegal 2`, `ruled 2 TableDraw` or
-    /// `open 2`. Each line is answered before the next one has to arrive, and memory is that of the longest line. Where memory is
-    /// refused, the line `refused memory` follows the whole lines before it; where the input fails, `refused files`. With
-    /// `--progress` the number of lines done goes to `errors` after every 10,000; without it nothing is written there.
-    pub(crate) fn answer<I: Input, W: Output, E: Write>(
+    /// Writes the outcomes by the tables of files, or the refusal of the first file at fault.
+    fn answer_from<I: Input, W: Output, E: Write>(
         &self,
         alloc: Global,
         sources: &Inputs,
@@ -230,6 +319,69 @@ impl<'a> FollowGames<'a> {
             }
             Ok(Err(refusal)) => put_refusal(out, refusal),
             Err(_) => put_refusal(out, Refusal::Memory),
+        }
+    }
+
+    /// Writes the outcomes by the folder at a path, or the refusal of its manifest or of the folder.
+    fn answer_in<D: Disk, I: Input, W: Output, E: Write>(
+        &self,
+        alloc: Global,
+        place: &FolderPlace<'_, D>,
+        input: &I,
+        out: &mut W,
+        errors: &mut E,
+    ) -> Result<u8, WriteFault>
+        ensures written { PutsByFolder (D.facts place.now.disk.now) place.now.path.now (told_by place.now.manifest.now) (TellsGameByFolder self.now.delay (D.facts place.now.disk.now)) HasStartFen (I.facts input.now) (W.contents out.old) (W.contents out.new) result }
+        ensures quiet { self.now.progress ≡ false → errors.new ≡ errors.old }
+        ensures cause { OnErr result (HasFailed W.facts) }
+    {
+        let arena = Bump::new(alloc);
+        match OpenFolder::at(alloc, place.disk, place.path, place.manifest, &arena) {
+            Ok(Ok(folder)) => {
+                let delay = self.delay;
+                let mut judge = FolderGameJudge { alloc, folder, delay };
+                put_told(alloc, &mut judge, input, out, errors, self.progress)
+            }
+            Ok(Err(refusal)) => put_refusal(out, refusal),
+            Err(_) => put_refusal(out, Refusal::Memory),
+        }
+    }
+
+    /// Writes the outcome of the game of each line of the input as it comes, by the tables of a folder, or the refusal of these.
+    /// Returns the status, 0 where all moves of all games are legal, else 1.
+    ///
+    /// A line is a FEN text, a tab and moves in coordinates, with spaces between them; without a tab it is a start alone. It is told as
+    /// `game` tells it: `refused FEN ..` of its start, `refused move 2` of a word that is no move, `illegal 2`, `ruled 2 TableDraw` or
+    /// `open 2`. Each line is answered before the next one has to arrive, and memory is that of the longest line. Where memory is
+    /// refused, the line `refused memory` follows the whole lines before it; where the input fails, `refused files`. With
+    /// `--progress` the number of lines done goes to `errors` after every 10,000; without it nothing is written there.
+    ///
+    /// A table is read when a position of a game asks for it, and the file of one that is at fault is refused as the answer of each game that
+    /// needs it. With `--all-tables` all are read before, and the first file at fault is refused.
+    pub(crate) fn answer<D: Disk, I: Input, W: Output, E: Write>(
+        &self,
+        alloc: Global,
+        sources: &Inputs,
+        disk: &D,
+        input: &I,
+        out: &mut W,
+        errors: &mut E,
+    ) -> Result<u8, WriteFault>
+        ensures written { Puts (D.facts disk.now) (I.facts input.now) self.now sources.now (W.contents out.old) (W.contents out.new) result }
+        ensures quiet { self.now.progress ≡ false → errors.new ≡ errors.old }
+        ensures cause { OnErr result (HasFailed W.facts) }
+    {
+        match read_when_asked(!self.all_tables, Some(self.tables)) {
+            Some(path) => {
+                let manifest = sources.manifest();
+                let place = FolderPlace {
+                    disk,
+                    path,
+                    manifest,
+                };
+                self.answer_in(alloc, &place, input, out, errors)
+            }
+            None => self.answer_from(alloc, sources, input, out, errors),
         }
     }
 }

@@ -3,7 +3,7 @@
 ghost use Rattle.std.specs.Prelude.{◌≡◌, IfOk, OnErr, IfErr};
 ghost use Rattle.clap.specs.Words.{first_value, found_of};
 ghost use Rattle.adjudicate_core.specs.Commands.Judge.{HasValues, IsJudged, IsJudgedBy, IsReply, faults, named};
-ghost use Rattle.adjudicate_core.specs.FolderAnswers.{ByFolder, read_when_asked};
+ghost use Rattle.adjudicate_core.specs.FolderAnswers.{ByFolder, IsAlone, read_when_asked, refused_table};
 ghost use Rattle.adjudicate_core.specs.Inside.Asked.{reply_of};
 ghost use Rattle.adjudicate_core.specs.Looks.{gathered};
 ghost use Rattle.adjudicate_core.specs.Reply.{ByTables, IsText};
@@ -15,7 +15,7 @@ use super::{Form, Value};
 use crate::answers::Answer;
 use crate::answers::lines::Line;
 use crate::answers::refusals::Refusal;
-use crate::folders::{columns_in, read_at_once, read_when_asked};
+use crate::folders::{FolderPlace, columns_in, read_at_once, read_when_asked};
 use crate::tables::gather;
 use crate::words::numbers::{CacheSize, is_set};
 use crate::words::usage::ValueFault;
@@ -23,7 +23,6 @@ use crate::words::values::word_in;
 use board_core::Position;
 use clap::ArgMatches;
 use fen_text::read;
-use move_msg::Manifest;
 use std::alloc::{AllocError, Global};
 use system_io::Disk;
 use task_files::{InputPaths, Inputs};
@@ -80,14 +79,12 @@ fn verdict_of(alloc: Global, sources: &Inputs, position: &Position) -> Result<An
 /// The verdict by the tables of a folder, of which those are read that the position asks for, or the refusal of one of these.
 fn verdict_in<D: Disk>(
     alloc: Global,
-    disk: &D,
-    path: &str,
-    manifest: &Manifest,
+    place: &FolderPlace<'_, D>,
     position: &Position,
 ) -> Result<Answer, AllocError>
-    ensures { IfOk result (λ a. ByFolder (D.facts disk.now) path.now (told_by manifest.now) IsJudged position.now (reply_of a)) }
+    ensures { IfOk result (λ a. ByFolder (D.facts place.now.disk.now) place.now.path.now (told_by place.now.manifest.now) IsAlone refused_table IsJudged position.now (reply_of a)) }
 {
-    match columns_in(alloc, disk, path, manifest, position)? {
+    match columns_in(alloc, place, position)? {
         Ok(columns) => Ok(Answer::One(Line::Ruling(columns.verdict), true)),
         Err(refusal) => Ok(Answer::Refused(refusal)),
     }
@@ -131,7 +128,15 @@ impl<'a> Judge<'a> {
         ensures { IfOk result (λ a. IsJudgedBy (D.facts disk.now) sources.now (read_when_asked self.now.lazy self.now.tables) position.now (reply_of a)) }
     {
         match read_when_asked(self.lazy, self.tables) {
-            Some(path) => verdict_in(alloc, disk, path, sources.manifest(), position),
+            Some(path) => {
+                let manifest = sources.manifest();
+                let place = FolderPlace {
+                    disk,
+                    path,
+                    manifest,
+                };
+                verdict_in(alloc, &place, position)
+            }
             None => verdict_of(alloc, sources, position),
         }
     }

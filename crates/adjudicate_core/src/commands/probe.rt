@@ -3,7 +3,7 @@
 ghost use Rattle.std.specs.Prelude.{◌≡◌, Some, IfOk, OnErr, IfErr};
 ghost use Rattle.clap.specs.Words.{first_value, found_of};
 ghost use Rattle.adjudicate_core.specs.Commands.Probe.{HasValues, IsProbeReply, IsProbedBy, IsReply, faults, named, probed_reply};
-ghost use Rattle.adjudicate_core.specs.FolderAnswers.{ByFolder, read_when_asked};
+ghost use Rattle.adjudicate_core.specs.FolderAnswers.{ByFolder, IsAlone, read_when_asked, refused_table};
 ghost use Rattle.adjudicate_core.specs.Inside.Asked.{reply_of};
 ghost use Rattle.adjudicate_core.specs.Looks.{gathered};
 ghost use Rattle.adjudicate_core.specs.Reply.{ByTables, IsText};
@@ -15,7 +15,7 @@ use super::{Form, Value};
 use crate::answers::Answer;
 use crate::answers::lines::Line;
 use crate::answers::refusals::Refusal;
-use crate::folders::{columns_in, read_at_once, read_when_asked};
+use crate::folders::{FolderPlace, columns_in, read_at_once, read_when_asked};
 use crate::tables::gather;
 use crate::words::numbers::{CacheSize, is_set};
 use crate::words::usage::ValueFault;
@@ -24,7 +24,6 @@ use board_core::Position;
 use clap::ArgMatches;
 use fen_text::read;
 use judge_core::{Column, ProbeResult, Set};
-use move_msg::Manifest;
 use std::alloc::{AllocError, Global};
 use system_io::Disk;
 use task_files::{InputPaths, Inputs};
@@ -96,14 +95,12 @@ fn told_of(alloc: Global, sources: &Inputs, position: &Position) -> Result<Answe
 /// The values in the tables of a folder, of which those are read that the position asks for, or the refusal of one of these.
 fn told_in<D: Disk>(
     alloc: Global,
-    disk: &D,
-    path: &str,
-    manifest: &Manifest,
+    place: &FolderPlace<'_, D>,
     position: &Position,
 ) -> Result<Answer, AllocError>
-    ensures { IfOk result (λ a. ByFolder (D.facts disk.now) path.now (told_by manifest.now) IsProbeReply position.now (reply_of a)) }
+    ensures { IfOk result (λ a. ByFolder (D.facts place.now.disk.now) place.now.path.now (told_by place.now.manifest.now) IsAlone refused_table IsProbeReply position.now (reply_of a)) }
 {
-    match columns_in(alloc, disk, path, manifest, position)? {
+    match columns_in(alloc, place, position)? {
         Ok(columns) => tell(alloc, columns.probed),
         Err(refusal) => Ok(Answer::Refused(refusal)),
     }
@@ -147,7 +144,15 @@ impl<'a> Probe<'a> {
         ensures { IfOk result (λ a. IsProbedBy (D.facts disk.now) sources.now (read_when_asked self.now.lazy (Some self.now.tables)) position.now (reply_of a)) }
     {
         match read_when_asked(self.lazy, Some(self.tables)) {
-            Some(path) => told_in(alloc, disk, path, sources.manifest(), position),
+            Some(path) => {
+                let manifest = sources.manifest();
+                let place = FolderPlace {
+                    disk,
+                    path,
+                    manifest,
+                };
+                told_in(alloc, &place, position)
+            }
             None => told_of(alloc, sources, position),
         }
     }

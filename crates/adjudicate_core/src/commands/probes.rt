@@ -1,14 +1,11 @@
 //! `probes`: the values of the positions of the input in tables, a line each.
 
-ghost use Rattle.std.specs.Prelude.{◌≡◌, ◌⊎◌, false, IfOk, OnErr, IfErr};
+ghost use Rattle.std.specs.Prelude.{◌≡◌, false, IfOk, OnErr, IfErr};
 ghost use Rattle.clap.specs.Words.{first_value, found_of};
-ghost use Rattle.board_core.specs.declared.parts.Parts.{Parts};
 ghost use Rattle.board_core.specs.Position.{IsPosition};
 ghost use Rattle.fen_text.specs.Fen.{SpellsPosition};
-ghost use Rattle.adjudicate_core.specs.Commands.Probes.{HasValues, Puts, TellsLine, TellsLineIn, faults, is_lazy, named};
-ghost use Rattle.adjudicate_core.specs.FolderAnswers.{IsSpelledBy, PutsByFolder, TellsByFolder};
-ghost use Rattle.adjudicate_core.specs.Telling.{TellsOne};
-ghost use Rattle.judge_core.specs.declared.ask.Ask.TheVariants.{Strict};
+ghost use Rattle.adjudicate_core.specs.Commands.Probes.{HasValues, Puts, TellsFolderLineIn, TellsLine, TellsLineByFolder, TellsLineIn, faults, is_lazy, named};
+ghost use Rattle.adjudicate_core.specs.FolderAnswers.{PutsByFolder};
 ghost use Rattle.move_msg.specs.ToldBy.{told_by};
 ghost use Rattle.adjudicate_core.specs.LineAnswers.{PutsLinesOrNone};
 ghost use Rattle.adjudicate_core.specs.Lines.{words_of};
@@ -17,14 +14,14 @@ ghost use Rattle.judge_core.specs.Ask.{ask_of};
 ghost use Rattle.task_files.specs.Sources.{named_by};
 ghost use Rattle.adjudicate_core.specs.Reply.{IsText};
 ghost use Rattle.adjudicate_core.specs.TableAnswers.{PutsByTables};
-ghost use Rattle.line_teller.specs.ToldLines.{HasFailed, refused_memory};
+ghost use Rattle.line_teller.specs.ToldLines.{HasFailed};
 
 use super::{Form, Value};
-use crate::answers::json_answers::JsonTeller;
+use crate::answers::json_answers::{FolderJsonTeller, JsonTeller};
 use crate::answers::line_answers::put_told;
 use crate::answers::lines::{Line, put_line, put_refusal};
 use crate::answers::refusals::Refusal;
-use crate::folders::{folder_at, read_at_once, read_when_asked};
+use crate::folders::{FolderPlace, OpenFolder, read_at_once, read_when_asked};
 use crate::tables::gather;
 use crate::words::numbers::{CacheSize, is_set};
 use crate::words::usage::ValueFault;
@@ -36,12 +33,9 @@ use fen_text::read;
 use json_lines::Ask;
 use judge_core::Set;
 use line_teller::{LineHandler, TellFault};
-use move_msg::Manifest;
 use std::alloc::{AllocError, Global};
 use std::io::Write;
-use std::marker::Model;
 use system_io::{Disk, Input, Output, WriteFault};
-use table_folder::TableFolder;
 use task_files::{InputPaths, Inputs};
 
 /// The values of the positions of the input in tables.
@@ -156,22 +150,8 @@ impl<'a> LineHandler for Prober<'a> {
 /// Answers a line with the values of its position in the tables of a folder, of which those are read that it asks for.
 #[derive(Drop)]
 struct FolderProber<'r, D: Disk> {
-    /// The allocator.
-    alloc: Global,
     /// The folder.
-    folder: TableFolder<'r, D>,
-    /// Its tables that are open.
-    set: Set<'r>,
-}
-
-impl<'r, D: Disk> Model for FolderProber<'r, D> {
-    ghost use Rattle.table_folder.specs.Folders.{AreOf, FolderOn};
-
-    ghost Value = { FolderOn D };
-
-    ghost view = { λ p. p.folder };
-
-    ghost invariant = { λ p. AreOf (D.facts p.folder.disk) p.folder.folder p.set.tables };
+    folder: OpenFolder<'r, D>,
 }
 
 impl<'r, D: Disk> FolderProber<'r, D> {
@@ -179,11 +159,10 @@ impl<'r, D: Disk> FolderProber<'r, D> {
     fn columns(&mut self, text: &[u8], position: &Position) -> Result<(Line, bool), AllocError>
         requires spelled { SpellsPosition text.now position.now }
         requires position { IsPosition position.now }
-        requires one { (p : Parts) → SpellsPosition text.now p → IsPosition p → p ≡ position.now }
-        ensures told { IfOk result (λ told. TellsByFolder (D.facts self.old.disk) self.old.folder IsSpelledBy (TellsLine Strict) text.now (record { words = words_of told.0; done = told.1 })) }
-        ensures folder { self.new ≡ self.old }
+        ensures told { IfOk result (λ told. TellsLineByFolder (D.facts self.old.folder.disk) self.old.folder.folder text.now (record { words = words_of told.0; done = told.1 })) }
+        ensures folder { self.new.folder ≡ self.old.folder }
     {
-        match self.folder.settle(self.alloc, &mut self.set, position)? {
+        match self.folder.columns(position)? {
             Ok(columns) => Ok((Line::Columns(columns), columns.probed.has_both())),
             Err(refused) => Ok((
                 Line::Refused(Refusal::File(refused.name, refused.fault)),
@@ -194,12 +173,10 @@ impl<'r, D: Disk> FolderProber<'r, D> {
 
     /// The answer to a line, and whether it is complete.
     fn answer(&mut self, text: &[u8]) -> Result<(Line, bool), AllocError>
-        ensures told { IfOk result (λ told. TellsByFolder (D.facts self.old.disk) self.old.folder IsSpelledBy (TellsLine Strict) text.now (record { words = words_of told.0; done = told.1 })) }
-        ensures folder { self.new ≡ self.old }
+        ensures told { IfOk result (λ told. TellsLineByFolder (D.facts self.old.folder.disk) self.old.folder.folder text.now (record { words = words_of told.0; done = told.1 })) }
+        ensures folder { self.new.folder ≡ self.old.folder }
         ensures memory { OnErr result (IsText text.now) }
     {
-        // Of a text that is no position the tables that are open say nothing, which is one way to answer.
-        let _set = &self.set;
         match read(text) {
             Ok(position) => self.columns(text, &position),
             Err(fault) => Ok((Line::Refused(Refusal::Fen(fault)), false)),
@@ -208,12 +185,10 @@ impl<'r, D: Disk> FolderProber<'r, D> {
 }
 
 impl<'r, D: Disk> LineHandler for FolderProber<'r, D> {
-    ghost use Rattle.judge_core.specs.declared.ask.Ask.TheVariants.{Strict};
-    ghost use Rattle.adjudicate_core.specs.FolderAnswers.{IsSpelledBy, TellsByFolder};
     ghost use Rattle.adjudicate_core.specs.Reply.{IsText};
-    ghost use Rattle.adjudicate_core.specs.Commands.Probes.{TellsLine};
+    ghost use Rattle.adjudicate_core.specs.Commands.Probes.{TellsLineByFolder};
 
-    ghost tells = { λ p. TellsByFolder (D.facts p.disk) p.folder IsSpelledBy (TellsLine Strict) };
+    ghost tells = { λ p. TellsLineByFolder (D.facts p.folder.disk) p.folder.folder };
 
     ghost takes_memory = { IsText };
 
@@ -248,7 +223,7 @@ impl<'a> Probes<'a> {
     fn is_lazy(&self) -> bool
         ensures { result ≡ is_lazy self.now }
     {
-        !(self.all_tables || self.json || self.determined)
+        !(self.all_tables || self.determined)
     }
 
     /// What is read for it before it answers.
@@ -297,37 +272,44 @@ impl<'a> Probes<'a> {
     fn answer_by_folder<D: Disk, I: Input, W: Output, E: Write>(
         &self,
         alloc: Global,
-        folder: TableFolder<'_, D>,
+        folder: OpenFolder<'_, D>,
         input: &I,
         out: &mut W,
         errors: &mut E,
     ) -> Result<u8, WriteFault>
-        ensures written { PutsLinesOrNone (TellsByFolder (D.facts folder.entry.disk) folder.entry.folder IsSpelledBy (TellsLine Strict)) IsText (I.facts input.now) (W.contents out.old) (W.contents out.new) result ⊎ TellsOne refused_memory (W.contents out.old) (W.contents out.new) result }
+        ensures written { PutsLinesOrNone (TellsFolderLineIn self.now.json (D.facts folder.entry.disk) folder.entry.folder) IsText (I.facts input.now) (W.contents out.old) (W.contents out.new) result }
         ensures quiet { self.now.progress ≡ false → errors.new ≡ errors.old }
         ensures cause { OnErr result (HasFailed W.facts) }
     {
-        let Ok(set) = folder.new_set(alloc, CacheSize::usual().blocks()) else {
-            return put_refusal(out, Refusal::Memory);
-        };
-        let mut prober = FolderProber { alloc, folder, set };
-        put_told(alloc, &mut prober, input, out, errors, self.progress)
+        if self.json {
+            let with_moves = false;
+            let mut teller = FolderJsonTeller {
+                alloc,
+                folder,
+                with_moves,
+            };
+            put_told(alloc, &mut teller, input, out, errors, self.progress)
+        } else {
+            let mut prober = FolderProber { folder };
+            put_told(alloc, &mut prober, input, out, errors, self.progress)
+        }
     }
 
     /// Writes these answers by the folder at a path, or the refusal of its manifest or of the folder.
     fn answer_in<D: Disk, I: Input, W: Output, E: Write>(
         &self,
         alloc: Global,
-        place: (&D, &str, &Manifest),
+        place: &FolderPlace<'_, D>,
         input: &I,
         out: &mut W,
         errors: &mut E,
     ) -> Result<u8, WriteFault>
-        ensures written { PutsByFolder (D.facts place.entry.0.now) place.entry.1.now (told_by place.entry.2.now) IsSpelledBy (TellsLine Strict) IsText (I.facts input.now) (W.contents out.old) (W.contents out.new) result }
+        ensures written { PutsByFolder (D.facts place.now.disk.now) place.now.path.now (told_by place.now.manifest.now) (TellsFolderLineIn self.now.json (D.facts place.now.disk.now)) IsText (I.facts input.now) (W.contents out.old) (W.contents out.new) result }
         ensures quiet { self.now.progress ≡ false → errors.new ≡ errors.old }
         ensures cause { OnErr result (HasFailed W.facts) }
     {
         let arena = Bump::new(alloc);
-        match folder_at(alloc, place.0, place.1, place.2, &arena) {
+        match OpenFolder::at(alloc, place.disk, place.path, place.manifest, &arena) {
             Ok(Ok(folder)) => self.answer_by_folder(alloc, folder, input, out, errors),
             Ok(Err(refusal)) => put_refusal(out, refusal),
             Err(_) => put_refusal(out, Refusal::Memory),
@@ -365,7 +347,7 @@ impl<'a> Probes<'a> {
     /// there.
     ///
     /// A table is read when a position asks for it, and the file of one that is at fault is refused as the answer of each position
-    /// that needs it. With `--all-tables`, `--json` or `--determined` all are read before, and the first file at fault is refused.
+    /// that needs it. With `--all-tables` or `--determined` all are read before, and the first file at fault is refused.
     pub(crate) fn answer<D: Disk, I: Input, W: Output, E: Write>(
         &self,
         alloc: Global,
@@ -381,7 +363,13 @@ impl<'a> Probes<'a> {
     {
         match read_when_asked(self.is_lazy(), Some(self.tables)) {
             Some(path) => {
-                self.answer_in(alloc, (disk, path, sources.manifest()), input, out, errors)
+                let manifest = sources.manifest();
+                let place = FolderPlace {
+                    disk,
+                    path,
+                    manifest,
+                };
+                self.answer_in(alloc, &place, input, out, errors)
             }
             None => self.answer_from(alloc, sources, input, out, errors),
         }

@@ -1,15 +1,19 @@
 //! `root`: the legal moves of a position, or of those of the input, by their values in tables.
 
-ghost use Rattle.std.specs.Prelude.{◌≡◌, ◌==◌, IfOk, OnErr, IfErr};
+ghost use Rattle.std.specs.Prelude.{◌≡◌, ◌==◌, Some, IfOk, OnErr, IfErr, true};
 ghost use Rattle.system_io.specs.Outputs.{WritesFront};
 ghost use Rattle.clap.specs.Words.{first_value, found_of};
-ghost use Rattle.adjudicate_core.specs.Commands.Root.{HasValues, IsRootReply, IsToldIn, Puts, TellsLineIn, faults, named, root_reply};
+ghost use Rattle.adjudicate_core.specs.Commands.Root.{HasValues, IsRootReply, IsToldBy, IsToldIn, Puts, PutsFrom, TellsFolderLineIn, TellsLineByFolder, TellsLineIn, faults, is_lazy, named, root_reply};
+ghost use Rattle.adjudicate_core.specs.FolderAnswers.{AnswersIn, ByFolder, PutsByFolder, read_when_asked, refused_table, refused_table_in};
+ghost use Rattle.table_folder.specs.Settled.{IsWithMoves};
+ghost use Rattle.judge_core.specs.declared.ask.Ask.TheVariants.{Strict};
+ghost use Rattle.move_msg.specs.ToldBy.{told_by};
 ghost use Rattle.adjudicate_core.specs.Inside.Asked.{reply_of};
 ghost use Rattle.adjudicate_core.specs.JsonAnswers.{IsForTextIn, IsJsonTold, refused_in};
 ghost use Rattle.adjudicate_core.specs.LineAnswers.{PutsLinesOrNone};
 ghost use Rattle.adjudicate_core.specs.Looks.{gathered};
 ghost use Rattle.adjudicate_core.specs.Misuses.{IsFirstMisuse, fault_words};
-ghost use Rattle.adjudicate_core.specs.Reply.{ByTables, IsForText, IsText};
+ghost use Rattle.adjudicate_core.specs.Reply.{ByTables, IsForText, IsText, refusal_reply};
 ghost use Rattle.adjudicate_core.specs.TableAnswers.{PutsByTables};
 ghost use Rattle.judge_core.specs.Ask.{ask_of};
 ghost use Rattle.judge_core.specs.Words.{columns_words};
@@ -18,16 +22,18 @@ ghost use Rattle.task_files.specs.Sources.{named_by};
 ghost use Rattle.line_teller.specs.ToldLines.{HasFailed};
 
 use super::{Form, Value};
-use crate::answers::json_answers::{JsonTeller, answer_as_json};
+use crate::answers::json_answers::{FolderJsonTeller, JsonTeller, answer_as_json, refused_line};
 use crate::answers::line_answers::put_told;
 use crate::answers::lines::{Line, RootLine, put_refusal};
 use crate::answers::refusals::Refusal;
 use crate::answers::{Answer, put_answer, put_answered};
+use crate::folders::{FolderPlace, OpenFolder, read_at_once, read_when_asked};
 use crate::tables::gather;
 use crate::words::numbers::{CacheSize, is_set};
 use crate::words::usage::ValueFault;
 use crate::words::values::option_in;
 use board_core::Position;
+use bumpalo::Bump;
 use clap::ArgMatches;
 use fen_text::{FenFault, read};
 use json_lines::{Ask, JsonLine};
@@ -35,7 +41,8 @@ use judge_core::{Columns, RootMove, Set};
 use line_teller::{LineHandler, TellFault};
 use std::alloc::{AllocError, Global};
 use std::io::Write;
-use system_io::{Input, Output, WriteFault};
+use system_io::{Disk, Input, Output, WriteFault};
+use table_folder::FileRefusal;
 use task_files::{InputPaths, Inputs};
 
 /// The legal moves of a position by their values in tables.
@@ -45,6 +52,8 @@ pub struct Root<'a> {
     pub tables: &'a str,
     /// The file of the manifest that the tables are held to, if one is named.
     pub manifest: Option<&'a str>,
+    /// Whether all tables are read before the first answer.
+    pub all_tables: bool,
     /// Whether the answers are written as JSON.
     pub json: bool,
     /// Whether values are wanted that are the same whatever the missing tables hold.
@@ -54,7 +63,7 @@ pub struct Root<'a> {
 }
 
 /// The values of `root`.
-pub(crate) const VALUES: [Value; 5] = [
+pub(crate) const VALUES: [Value; 6] = [
     Value {
         name: "tables",
         form: Form::Option,
@@ -62,6 +71,10 @@ pub(crate) const VALUES: [Value; 5] = [
     Value {
         name: "manifest",
         form: Form::Option,
+    },
+    Value {
+        name: "all-tables",
+        form: Form::Flag,
     },
     Value {
         name: "json",
@@ -93,7 +106,7 @@ fn lines_of(alloc: Global, moves: &[RootMove], columns: Columns) -> Result<Answe
 }
 
 /// What the tables tell of the legal moves of a position, and of the position.
-fn told_by(
+pub(crate) fn told_by(
     ask: Ask,
     alloc: Global,
     set: &mut Set<'_>,
@@ -178,6 +191,72 @@ fn told_of(
     }
 }
 
+/// The refusal of the file of a table, as JSON or as a line.
+fn refused_table_in(
+    alloc: Global,
+    refusal: FileRefusal,
+    json: bool,
+) -> Result<Answer, AllocError>
+    ensures { IfOk result (λ a. reply_of a ≡ refusal_reply (refused_table_in json refusal)) }
+{
+    if json {
+        answer_as_json(alloc, &refused_line(&refusal))
+    } else {
+        Ok(Answer::Refused(Refusal::File(refusal.name, refusal.fault)))
+    }
+}
+
+/// What the tables of an open folder tell of the legal moves of a position, and of the position, as JSON.
+fn json_by_folder<D: Disk>(
+    alloc: Global,
+    folder: &mut OpenFolder<'_, D>,
+    position: &Position,
+) -> Result<Answer, AllocError>
+    ensures told { IfOk result (λ a. AnswersIn (D.facts folder.old.disk) folder.old.folder IsWithMoves (refused_table_in true) (IsJsonTold Strict) position.now (reply_of a)) }
+{
+    match folder.json_line(position, true)? {
+        Ok(line) => answer_as_json(alloc, &line),
+        Err(refusal) => refused_table_in(alloc, refusal, true),
+    }
+}
+
+/// What the tables of an open folder tell of the legal moves of a position, and of the position, in lines.
+fn lines_by_folder<D: Disk>(
+    folder: &mut OpenFolder<'_, D>,
+    position: &Position,
+) -> Result<Answer, AllocError>
+    ensures told { IfOk result (λ a. AnswersIn (D.facts folder.old.disk) folder.old.folder IsWithMoves refused_table (IsRootReply Strict) position.now (reply_of a)) }
+    ensures folder { folder.new ≡ folder.old }
+{
+    match folder.moves_told(position)? {
+        Ok(answer) => Ok(answer),
+        Err(refusal) => Ok(Answer::Refused(Refusal::File(refusal.name, refusal.fault))),
+    }
+}
+
+/// What the tables of a folder tell of the legal moves of a position, and of the position, as JSON or in lines; those are read that the
+/// position and those after its moves ask for. Or the refusal: of a malformed manifest, then of the folder, then of the first file that is
+/// asked for and at fault.
+fn told_by_folder<D: Disk>(
+    alloc: Global,
+    place: &FolderPlace<'_, D>,
+    position: &Position,
+    json: bool,
+) -> Result<Answer, AllocError>
+    ensures { IfOk result (λ a. ByFolder (D.facts place.now.disk.now) place.now.path.now (told_by place.now.manifest.now) IsWithMoves (refused_table_in json) (IsToldIn json Strict) position.now (reply_of a)) }
+{
+    let arena = Bump::new(alloc);
+    let mut folder = match OpenFolder::at(alloc, place.disk, place.path, place.manifest, &arena)? {
+        Ok(folder) => folder,
+        Err(refusal) => return Ok(Answer::Refused(refusal)),
+    };
+    if json {
+        json_by_folder(alloc, &mut folder, position)
+    } else {
+        lines_by_folder(&mut folder, position)
+    }
+}
+
 /// The refusal of a text that is no position, as JSON or as a line.
 fn refused_in(fault: FenFault, json: bool) -> Answer
     ensures { reply_of result ≡ refused_in json fault }
@@ -186,23 +265,6 @@ fn refused_in(fault: FenFault, json: bool) -> Answer
         Answer::JsonFault(fault)
     } else {
         Answer::Refused(Refusal::Fen(fault))
-    }
-}
-
-/// The answer to the text of a position, as JSON or in lines. A text that is no position is refused first.
-fn answer_text(
-    ask: Ask,
-    alloc: Global,
-    sources: &Inputs,
-    text: &str,
-    json: bool,
-) -> Result<Answer, AllocError>
-    ensures ok { IfOk result (λ a. IsForTextIn json text.now (ByTables (gathered sources.now) (IsToldIn json ask)) (reply_of a)) }
-    ensures memory { OnErr result (IsText text.now) }
-{
-    match read(text.as_bytes()) {
-        Err(fault) => Ok(refused_in(fault, json)),
-        Ok(position) => told_of(ask, alloc, sources, &position, json),
     }
 }
 
@@ -251,6 +313,47 @@ impl<'a> LineHandler for Ranker<'a> {
     }
 }
 
+/// Answers a line with the legal moves of its position by their values in the tables of a folder, of which those are read that it asks
+/// for.
+#[derive(Drop)]
+struct FolderRanker<'r, D: Disk> {
+    /// The folder.
+    folder: OpenFolder<'r, D>,
+}
+
+impl<'r, D: Disk> FolderRanker<'r, D> {
+    /// The answer to a line.
+    fn answer(&mut self, text: &[u8]) -> Result<Answer, AllocError>
+        ensures told { IfOk result (λ a. TellsLineByFolder (D.facts self.old.folder.disk) self.old.folder.folder text.now (record { words = (reply_of a).text; done = (reply_of a).status == 0 })) }
+        ensures memory { OnErr result (IsText text.now) }
+        ensures folder { self.new.folder ≡ self.old.folder }
+    {
+        match read(text) {
+            Ok(position) => lines_by_folder(&mut self.folder, &position),
+            Err(fault) => Ok(Answer::Refused(Refusal::Fen(fault))),
+        }
+    }
+}
+
+impl<'r, D: Disk> LineHandler for FolderRanker<'r, D> {
+    ghost use Rattle.adjudicate_core.specs.Reply.{IsText};
+    ghost use Rattle.adjudicate_core.specs.Commands.Root.{TellsLineByFolder};
+
+    ghost tells = { λ p. TellsLineByFolder (D.facts p.folder.disk) p.folder.folder };
+
+    ghost takes_memory = { IsText };
+
+    fn tell<W: Output>(&mut self, line: &[u8], out: &mut W) -> Result<bool, TellFault> {
+        match self.answer(line) {
+            Ok(answer) => match put_with_empty_line(out, &answer) {
+                Ok(done) => Ok(done),
+                Err(_) => Err(TellFault::Io),
+            },
+            Err(_) => Err(TellFault::OutOfMemory),
+        }
+    }
+}
+
 impl<'a> Root<'a> {
     /// The task with these values, or the first thing that is wrong with them.
     pub(crate) fn of(matches: &ArgMatches<'a>) -> Result<Root<'a>, ValueFault<'a>>
@@ -260,18 +363,26 @@ impl<'a> Root<'a> {
         Ok(Root {
             tables: option_in(matches, "tables")?,
             manifest: matches.get_str("manifest"),
+            all_tables: is_set(matches.get_str("all-tables")),
             json: is_set(matches.get_str("json")),
             determined: is_set(matches.get_str("determined")),
             fen: matches.get_str("FEN"),
         })
     }
 
-    /// What is read for it.
+    /// Whether a table is read when a position asks for it.
+    fn is_lazy(&self) -> bool
+        ensures { result ≡ is_lazy self.now }
+    {
+        !(self.all_tables || self.determined)
+    }
+
+    /// What is read for it before it answers.
     pub(crate) fn places(&self) -> InputPaths<'a>
         ensures { named_by result ≡ named self.now }
     {
         InputPaths {
-            folder: Some(self.tables),
+            folder: read_at_once(self.is_lazy(), Some(self.tables)),
             manifest: self.manifest,
             reads_input: false,
             kept: None,
@@ -328,32 +439,155 @@ impl<'a> Root<'a> {
         }
     }
 
-    /// Writes what the tables of files tell of the position of the text: a line for each legal move, the best first,
+    /// Writes the answer to each line of the input as it comes, by the tables of an open folder.
+    fn answer_lines_in<D: Disk, I: Input, W: Output, E: Write>(
+        &self,
+        alloc: Global,
+        folder: OpenFolder<'_, D>,
+        input: &I,
+        out: &mut W,
+        errors: &mut E,
+    ) -> Result<u8, WriteFault>
+        ensures written { PutsLinesOrNone (TellsFolderLineIn self.now.json (D.facts folder.entry.disk) folder.entry.folder) IsText (I.facts input.now) (W.contents out.old) (W.contents out.new) result }
+        ensures quiet { errors.new ≡ errors.old }
+        ensures cause { OnErr result (HasFailed W.facts) }
+    {
+        if self.json {
+            let with_moves = true;
+            let mut teller = FolderJsonTeller {
+                alloc,
+                folder,
+                with_moves,
+            };
+            put_told(alloc, &mut teller, input, out, errors, false)
+        } else {
+            let mut ranker = FolderRanker { folder };
+            put_told(alloc, &mut ranker, input, out, errors, false)
+        }
+    }
+
+    /// Writes the answer to each line of the input as it comes, by a folder whose tables are read when a line asks for them; or the refusal of
+    /// its manifest or of the folder.
+    fn answer_input_in<D: Disk, I: Input, W: Output, E: Write>(
+        &self,
+        alloc: Global,
+        place: &FolderPlace<'_, D>,
+        input: &I,
+        out: &mut W,
+        errors: &mut E,
+    ) -> Result<u8, WriteFault>
+        ensures written { PutsByFolder (D.facts place.now.disk.now) place.now.path.now (told_by place.now.manifest.now) (TellsFolderLineIn self.now.json (D.facts place.now.disk.now)) IsText (I.facts input.now) (W.contents out.old) (W.contents out.new) result }
+        ensures quiet { errors.new ≡ errors.old }
+        ensures cause { OnErr result (HasFailed W.facts) }
+    {
+        let arena = Bump::new(alloc);
+        match OpenFolder::at(alloc, place.disk, place.path, place.manifest, &arena) {
+            Ok(Ok(folder)) => self.answer_lines_in(alloc, folder, input, out, errors),
+            Ok(Err(refusal)) => put_refusal(out, refusal),
+            Err(_) => put_refusal(out, Refusal::Memory),
+        }
+    }
+
+    /// The answer to the position of the text, by the tables that were read or by those that it asks for.
+    fn answer_position<D: Disk>(
+        &self,
+        alloc: Global,
+        sources: &Inputs,
+        disk: &D,
+        position: &Position,
+    ) -> Result<Answer, AllocError>
+        ensures { IfOk result (λ a. IsToldBy (D.facts disk.now) self.now sources.now (read_when_asked (is_lazy self.now) (Some self.now.tables)) position.now (reply_of a)) }
+    {
+        match read_when_asked(self.is_lazy(), Some(self.tables)) {
+            Some(path) => {
+                let manifest = sources.manifest();
+                let place = FolderPlace {
+                    disk,
+                    path,
+                    manifest,
+                };
+                told_by_folder(alloc, &place, position, self.json)
+            }
+            None => {
+                let ask = Ask::of(self.determined);
+                told_of(ask, alloc, sources, position, self.json)
+            }
+        }
+    }
+
+    /// The answer to the text of a position, as JSON or in lines. A text that is no position is refused first.
+    fn answer_text<D: Disk>(
+        &self,
+        alloc: Global,
+        sources: &Inputs,
+        disk: &D,
+        text: &str,
+    ) -> Result<Answer, AllocError>
+        ensures ok { IfOk result (λ a. IsForTextIn self.now.json text.now (IsToldBy (D.facts disk.now) self.now sources.now (read_when_asked (is_lazy self.now) (Some self.now.tables))) (reply_of a)) }
+        ensures memory { OnErr result (IsText text.now) }
+    {
+        match read(text.as_bytes()) {
+            Err(fault) => Ok(refused_in(fault, self.json)),
+            Ok(position) => self.answer_position(alloc, sources, disk, &position),
+        }
+    }
+
+    /// Writes the answers to the lines of the input, by the tables that were read or by those that these ask for.
+    fn answer_all<D: Disk, I: Input, W: Output, E: Write>(
+        &self,
+        alloc: Global,
+        sources: &Inputs,
+        disk: &D,
+        input: &I,
+        out: &mut W,
+        errors: &mut E,
+    ) -> Result<u8, WriteFault>
+        ensures written { PutsFrom (D.facts disk.now) (I.facts input.now) self.now sources.now (read_when_asked (is_lazy self.now) (Some self.now.tables)) (W.contents out.old) (W.contents out.new) result }
+        ensures quiet { errors.new ≡ errors.old }
+        ensures cause { OnErr result (HasFailed W.facts) }
+    {
+        match read_when_asked(self.is_lazy(), Some(self.tables)) {
+            Some(path) => {
+                let manifest = sources.manifest();
+                let place = FolderPlace {
+                    disk,
+                    path,
+                    manifest,
+                };
+                self.answer_input_in(alloc, &place, input, out, errors)
+            }
+            None => self.answer_input(alloc, sources, input, out, errors),
+        }
+    }
+
+    /// Writes what tables tell of the position of the text: a line for each legal move, the best first,
     /// and then the line of `probes`. Without a text it does so for each line of the input as it comes, with an empty
     /// line after each answer. With `--json` an answer is one object (RFC 8259), and no empty line follows. With
     /// `--determined` values and distances are also those that are the same whatever the missing tables hold. Returns the
     /// status, 0 where all answers are complete, else 1.
     ///
-    /// A text that is no position is refused before the tables are. Without a text a refusal of the tables comes before
+    /// A text that is no position is refused before the tables are. Without a text a refusal of the folder comes before
     /// all lines. Refused memory and an input that fails are told as for `probes`. Nothing is written to `errors`.
-    pub(crate) fn answer<I: Input, W: Output, E: Write>(
+    ///
+    /// A table is read when a position, or one after a legal move of it, asks for it, and the file of one that is at fault is refused as
+    /// the answer of each position that needs it. With `--all-tables` or `--determined` all are read before, and the first file at fault
+    /// is refused.
+    pub(crate) fn answer<D: Disk, I: Input, W: Output, E: Write>(
         &self,
         alloc: Global,
         sources: &Inputs,
+        disk: &D,
         input: &I,
         out: &mut W,
         errors: &mut E,
     ) -> Result<u8, WriteFault>
-        ensures written { Puts self.now.json (ask_of self.now.determined) (I.facts input.now) self.now.fen sources.now (W.contents out.old) (W.contents out.new) result }
+        ensures written { Puts (D.facts disk.now) (I.facts input.now) self.now sources.now (W.contents out.old) (W.contents out.new) result }
         ensures quiet { errors.new ≡ errors.old }
         ensures cause { OnErr result (HasFailed W.facts) }
     {
         match self.fen {
-            Some(text) => {
-                let ask = Ask::of(self.determined);
-                put_answered(out, answer_text(ask, alloc, sources, text, self.json))
-            }
-            None => self.answer_input(alloc, sources, input, out, errors),
+            Some(text) => put_answered(out, self.answer_text(alloc, sources, disk, text)),
+            None => self.answer_all(alloc, sources, disk, input, out, errors),
         }
     }
 }

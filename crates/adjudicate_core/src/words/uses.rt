@@ -20,9 +20,9 @@ const USAGE: &str = "usage: adjudicate judge [--tables DIR] [--manifest FILE] [-
        adjudicate show
        adjudicate probes --tables DIR [--manifest FILE] [--all-tables] [--json] [--determined]
                          [--progress]
-       adjudicate root --tables DIR [--manifest FILE] [--json] [--determined] [FEN]
-       adjudicate game [--tables DIR] [--manifest FILE] [--delay N] [--san] FEN
-       adjudicate games --tables DIR [--manifest FILE] [--delay N] [--progress]
+       adjudicate root --tables DIR [--manifest FILE] [--all-tables] [--json] [--determined] [FEN]
+       adjudicate game [--tables DIR] [--manifest FILE] [--all-tables] [--delay N] [--san] FEN
+       adjudicate games --tables DIR [--manifest FILE] [--all-tables] [--delay N] [--progress]
        adjudicate pgn --tables DIR [--manifest FILE] [--delay N] [--json] [--differ] [FILE]
        adjudicate follow [--tables DIR] [--manifest FILE] [--delay N] [--san] FEN
        adjudicate run [--tables DIR] [--cache N] [--delay N]

@@ -1,7 +1,7 @@
-use Rattle.std.proofs.Common.{refl, sym, subst}
-use Rattle.table_folder.specs.Folders.{AreOf}
-use Rattle.table_folder.specs.Settled.{IsRefusedAt, IsSettled}
-use Rattle.adjudicate_core.specs.Inside.LookingUp.{FindsAll, FindsBadFile, FindsNoFolder}
+use Rattle.std.proofs.Common.{refl, subst}
+use Rattle.table_folder.specs.Settled.{AnswersBy, IsRefusedFor}
+use Rattle.adjudicate_core.specs.FolderAnswers.{IsAlone}
+use Rattle.adjudicate_core.specs.Inside.LookingUp.{AreColumns, FindsAll, FindsBadFile, FindsNoFolder}
 use Rattle.adjudicate_core.proofs.folders.columns_in.Goals as goal
 
 pub returns-in-Err : goal.returns-in-Err
@@ -11,20 +11,12 @@ pub returns-in-Ok-2 : goal.returns-in-Ok-2
 returns-in-Ok-2 g c =
     let at = rw c.in-Ok.is at c.in_ok-folder.ensures.folder in
     let disk = rw c.in-Ok.is at c.in_ok-folder.ensures.disk in
-    let opened = subst (λ d. AreOf (g.D.Disk.facts d) c.in-Ok.folder.folder c.settle.new.set.tables) disk c.settle.ensures.opened in
-    let settled = rw c.in-Ok-2.is at c.in_ok-columns.ensures.settled in
-    let probed = rw c.in-Ok-2.is at c.in_ok-columns.ensures.probed in
-    let verdict = rw c.in-Ok-2.is at c.in_ok-columns.ensures.verdict in
-    FindsAll c.in-Ok.folder.folder at c.in-Ok-2.columns (record {
-      tables = c.settle.new.set.tables;
-      opened = opened;
-      settled = λ p same. subst (IsSettled c.in-Ok.folder.folder c.settle.new.set.tables) (sym same) settled;
-      answers = (probed, verdict);
-    }) refl
+    let found = rw c.in-Ok-2.is at c.in_ok-columns.ensures.found in
+    FindsAll c.in-Ok.folder.folder at c.in-Ok-2.columns (subst (λ d. AnswersBy (g.D.Disk.facts d) c.in-Ok.folder.folder (IsAlone c.args.position.now) (λ tables. AreColumns c.args.position.now tables c.in-Ok-2.columns)) disk found) refl
 
 pub returns : goal.returns
 returns g c =
     let at = rw c.in-Ok.is at c.in_ok-folder.ensures.folder in
     let disk = rw c.in-Ok.is at c.in_ok-folder.ensures.disk in
-    let refused = rw c.in-Err-2.is at c.in_ok-columns.ensures.refused in
-    FindsBadFile c.in-Ok.folder.folder at c.in-Err-2.refused (subst (λ d. IsRefusedAt (g.D.Disk.facts d) c.in-Ok.folder.folder c.args.position.now c.in-Err-2.refused) disk refused) refl
+    let refused = rw c.in-Err-2.is at c.in_ok-columns.ensures.found in
+    FindsBadFile c.in-Ok.folder.folder at c.in-Err-2.refused (subst (λ d. IsRefusedFor (g.D.Disk.facts d) c.in-Ok.folder.folder (IsAlone c.args.position.now) c.in-Err-2.refused) disk refused) refl

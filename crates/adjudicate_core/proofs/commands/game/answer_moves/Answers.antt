@@ -1,8 +1,5 @@
-use Rattle.std.proofs.Common.{length, refl, sym, ap}
-use Rattle.move_msg.specs.TextLines.{ended}
-use Rattle.judge_core.specs.Words.{outcome_words}
+use Rattle.std.proofs.Common.{refl, sym}
 use Rattle.adjudicate_core.specs.Lines.{refusal_words}
-use Rattle.adjudicate_core.specs.Reply.{status_if}
 use Rattle.adjudicate_core.specs.Commands.Game.{BadTables, Played}
 use Rattle.adjudicate_core.proofs.commands.game.answer_moves.Goals as goal
 
@@ -11,5 +8,4 @@ returns-in-Err c = BadTables c.args.moves.now c.requires (refusal_words c.in-Err
 
 pub returns : goal.returns
 returns c =
-    Played c.args.moves.now c.requires c.in-Ok.set.tables (sym (rw c.in-Ok.is at c.in_ok-set.ensures.tables)) c.in_ok-outcome.outcome (rw c.plies.ensures.value at c.in_ok-outcome.ensures.value)
-    (ap (λ legal. record { text = ended (outcome_words c.in_ok-outcome.outcome (length c.args.moves.now)); status = status_if legal }) c.are_all_legal.ensures)
+    Played c.args.moves.now c.requires c.in-Ok.set.tables (sym (rw c.in-Ok.is at c.in_ok-set.ensures.tables)) c.in_ok-outcome.outcome (rw c.plies.ensures.value at c.in_ok-outcome.ensures.value) c.told.ensures

@@ -1,14 +1,12 @@
-use Rattle.std.proofs.Common.{sym, refl}
-use Rattle.adjudicate_core.specs.Lines.{refusal_words}
-use Rattle.adjudicate_core.specs.TableAnswers.{PutsLinesOf, PutsRefusal}
+use Rattle.std.proofs.Common.{sym, ◌∙◌}
 use Rattle.adjudicate_core.proofs.commands.games.FollowGames.answer.Goals as goal
 
-pub returns-in-Ok-Ok-clause-written : goal.returns-in-Ok-Ok-clause-written
-returns-in-Ok-Ok-clause-written g c =
-    let is = sym (rw c.in-Ok-Ok.field-0-is at c.in-Ok-Ok.ensures.tables) in
-    PutsLinesOf c.in-Ok-Ok.set.tables is c.put_told.ensures.written
+pub returns-in-Some-clause-written : goal.returns-in-Some-clause-written
+returns-in-Some-clause-written g c =
+    let asked = sym c.read_when_asked.ensures ∙ c.in-Some.is in
+    rw asked (rw c.manifest-manifest.ensures at c.answer_in.ensures.written)
 
-pub returns-in-Ok-Err-clause-written : goal.returns-in-Ok-Err-clause-written
-returns-in-Ok-Err-clause-written g c =
-    let is = sym (rw c.in-Ok-Err.field-0-is at c.in-Ok-Err.ensures.tables) in
-    PutsRefusal (refusal_words c.in-Ok-Err.refusal) is c.put_refusal.ensures.told
+pub returns-in-None-clause-written : goal.returns-in-None-clause-written
+returns-in-None-clause-written g c =
+    let asked = sym c.read_when_asked.ensures ∙ c.in-None.is in
+    rw asked c.answer_from.ensures.written

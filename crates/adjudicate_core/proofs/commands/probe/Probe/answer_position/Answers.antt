@@ -4,4 +4,4 @@ use Rattle.adjudicate_core.proofs.commands.probe.Probe.answer_position.Goals as 
 pub returns-in-Some : goal.returns-in-Some
 returns-in-Some g c =
     let asked = sym c.read_when_asked.ensures ∙ c.in-Some.is in
-    rw asked (rw c.manifest.ensures at c.told_in.ensures)
+    rw asked (rw c.manifest-manifest.ensures at c.told_in.ensures)

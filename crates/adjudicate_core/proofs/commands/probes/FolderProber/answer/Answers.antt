@@ -1,6 +1,6 @@
-use Rattle.std.proofs.Common.{refl, sym, ◌∙◌}
+use Rattle.std.proofs.Common.{refl}
 use Rattle.adjudicate_core.specs.Commands.Probes.{OfNone}
-use Rattle.adjudicate_core.specs.FolderAnswers.{ByItsTables}
+use Rattle.adjudicate_core.specs.FolderAnswers.{ByNoTable}
 use Rattle.adjudicate_core.proofs.TextLaws.{anyhow}
 use Rattle.adjudicate_core.proofs.commands.probes.FolderProber.answer.Goals as goal
 
@@ -8,10 +8,4 @@ pub returns-in-Ok-clause-memory : goal.returns-in-Ok-clause-memory
 returns-in-Ok-clause-memory g c = anyhow c.columns.result (c.in-Ok.position, c.in-Ok.ensures.ok, c.in-Ok.ensures.position)
 
 pub returns-in-Err-clause-told : goal.returns-in-Err-clause-told
-returns-in-Err-clause-told g c = rw (← c.self.view_is) (
-    ByItsTables (record {
-      tables = c.self.inside.set.tables;
-      opened = c.self.invariant;
-      settled = λ q h. let e = sym c.in-Err.is ∙ c.read.ensures.only q h.1 h.0 in absurd cc;
-      answers = OfNone c.in-Err.fault c.in-Err.ensures.err refl;
-    }))
+returns-in-Err-clause-told g c = ByNoTable (λ tables. OfNone c.in-Err.fault c.in-Err.ensures.err refl)

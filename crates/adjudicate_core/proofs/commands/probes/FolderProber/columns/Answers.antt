@@ -1,17 +1,10 @@
 use Rattle.adjudicate_core.proofs.FolderLaws.{line_found, line_refused}
-use Rattle.adjudicate_core.proofs.commands.probes.FolderProber.columns.Goals.{in-Ok, in-Err}
 use Rattle.adjudicate_core.proofs.commands.probes.FolderProber.columns.Goals as goal
 
-pub returns-clause-told : goal.returns-clause-told
-returns-clause-told g c =
-    elim c.match-branch-2.branch [
-      | in-Ok w ↦
-          let settled = rw w.in-Ok.is at c.in_ok-columns.ensures.settled in
-          let probed = rw w.in-Ok.is at c.in_ok-columns.ensures.probed in
-          let verdict = rw w.in-Ok.is at c.in_ok-columns.ensures.verdict in
-          rw (← c.self.view_is, w.result-is, w.has_both.ensures)
-          (line_found _ _ _ c.args.position.now w.in-Ok.columns c.settle.new.set.tables c.requires.spelled c.requires.position c.requires.one c.settle.ensures.opened settled probed verdict)
-      | in-Err w ↦
-          let refused = rw w.in-Err.is at c.in_ok-columns.ensures.refused in
-          rw (← c.self.view_is, w.result-is) (line_refused _ _ _ c.args.position.now w.in-Err.refused c.requires.spelled c.requires.position refused)
-    ]
+pub returns-in-Ok-clause-told : goal.returns-in-Ok-clause-told
+returns-in-Ok-clause-told g c =
+    let found = rw c.in-Ok.is at c.in_ok-columns.ensures.found in
+    rw c.has_both.ensures (line_found _ _ _ c.args.position.now c.requires.spelled c.requires.position c.in-Ok.columns found)
+
+pub returns-in-Err-clause-told : goal.returns-in-Err-clause-told
+returns-in-Err-clause-told g c = line_refused _ _ _ c.args.position.now c.requires.spelled c.requires.position c.in-Err.refused (rw c.in-Err.is at c.in_ok-columns.ensures.found)

@@ -5,7 +5,7 @@ use Rattle.adjudicate_core.proofs.commands.probes.Probes.answer.Goals as goal
 pub returns-in-Some-clause-written : goal.returns-in-Some-clause-written
 returns-in-Some-clause-written g c =
     let asked = ap (λ l. read_when_asked l (Some c.args.self.now.tables)) (sym c.is_lazy.ensures) ∙ sym c.read_when_asked.ensures ∙ c.in-Some.is in
-    rw asked (rw c.manifest.ensures at c.answer_in.ensures.written)
+    rw asked (rw c.manifest-manifest.ensures at c.answer_in.ensures.written)
 
 pub returns-in-None-clause-written : goal.returns-in-None-clause-written
 returns-in-None-clause-written g c =

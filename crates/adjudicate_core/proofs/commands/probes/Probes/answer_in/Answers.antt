@@ -1,5 +1,4 @@
-use Rattle.std.proofs.Common.{inl, inr}
-use Rattle.adjudicate_core.specs.FolderAnswers.{PutsNoRoom}
+use Rattle.adjudicate_core.specs.Commands.Probes.{TellsFolderLineIn}
 use Rattle.adjudicate_core.proofs.FolderLaws.{puts_by, puts_lacking}
 use Rattle.adjudicate_core.proofs.commands.probes.Probes.answer_in.Goals as goal
 
@@ -7,10 +6,7 @@ pub returns-in-Ok-Ok-clause-written : goal.returns-in-Ok-Ok-clause-written
 returns-in-Ok-Ok-clause-written g c =
     let at = rw c.in-Ok-Ok.field-0-is at c.in-Ok-Ok.ensures.folder in
     let disk = rw c.in-Ok-Ok.field-0-is at c.in-Ok-Ok.ensures.disk in
-    elim c.answer_by_folder.ensures.written [
-      | inl lines ↦ puts_by g.D.Disk.facts c.in-Ok-Ok.folder.disk _ c.in-Ok-Ok.folder.folder _ _ _ _ _ _ _ _ _ disk at lines
-      | inr none ↦ PutsNoRoom none
-    ]
+    puts_by g.D.Disk.facts c.in-Ok-Ok.folder.disk _ c.in-Ok-Ok.folder.folder _ _ (TellsFolderLineIn c.args.self.now.json) _ _ _ _ _ disk at c.answer_by_folder.ensures.written
 
 pub returns-in-Ok-Err-clause-written : goal.returns-in-Ok-Err-clause-written
 returns-in-Ok-Err-clause-written g c = puts_lacking _ _ _ (rw c.in-Ok-Err.field-0-is at c.in-Ok-Err.ensures.refused) c.put_refusal.ensures.told
