@@ -135,7 +135,10 @@ impl<'r, D: Disk> OpenFolder<'r, D> {
         ensures found { IfOk result (Finds (D.facts self.old.disk) self.old.folder (IsWithMoves position.now) (λ tables a. IsRootReply Strict tables position.now (reply_of a))) }
         ensures folder { self.new ≡ self.old }
     {
-        if let Err(refusal) = self.folder.settle_moves(self.alloc, &mut self.set, position)? {
+        if let Err(refusal) = self
+            .folder
+            .settle_moves(self.alloc, &mut self.set, position)?
+        {
             return Ok(Err(refusal));
         }
         match told_by(Ask::Strict, self.alloc, &mut self.set, position) {
@@ -152,7 +155,10 @@ impl<'r, D: Disk> OpenFolder<'r, D> {
         ensures found { IfOk result (Finds (D.facts self.old.disk) self.old.folder (IsWithMoves position.now) (λ tables l. IsLineOf Strict true tables position.now l)) }
         ensures folder { self.new ≡ self.old }
     {
-        if let Err(refusal) = self.folder.settle_moves(self.alloc, &mut self.set, position)? {
+        if let Err(refusal) = self
+            .folder
+            .settle_moves(self.alloc, &mut self.set, position)?
+        {
             return Ok(Err(refusal));
         }
         match JsonLine::of_position(self.alloc, &mut self.set, position, Ask::Strict, true) {
@@ -210,10 +216,7 @@ impl<'r, D: Disk> OpenFolder<'r, D> {
         {
             return Ok(Err(refusal));
         }
-        match self
-            .set
-            .judge_game(self.alloc, start, moves, delay.plies())
-        {
+        match self.set.judge_game(self.alloc, start, moves, delay.plies()) {
             Ok(outcome) => Ok(Ok(outcome)),
             Err(_) => Err(AllocError),
         }

@@ -339,7 +339,11 @@ impl<'a> FollowGames<'a> {
         match OpenFolder::at(alloc, place.disk, place.path, place.manifest, &arena) {
             Ok(Ok(folder)) => {
                 let delay = self.delay;
-                let mut judge = FolderGameJudge { alloc, folder, delay };
+                let mut judge = FolderGameJudge {
+                    alloc,
+                    folder,
+                    delay,
+                };
                 put_told(alloc, &mut judge, input, out, errors, self.progress)
             }
             Ok(Err(refusal)) => put_refusal(out, refusal),

@@ -192,11 +192,7 @@ fn told_of(
 }
 
 /// The refusal of the file of a table, as JSON or as a line.
-fn refused_table_in(
-    alloc: Global,
-    refusal: FileRefusal,
-    json: bool,
-) -> Result<Answer, AllocError>
+fn refused_table_in(alloc: Global, refusal: FileRefusal, json: bool) -> Result<Answer, AllocError>
     ensures { IfOk result (λ a. reply_of a ≡ refusal_reply (refused_table_in json refusal)) }
 {
     if json {
