@@ -174,6 +174,8 @@ class Feed:
         fresh = []
         for name, entry in there.items():
             game = self.games.get(name)
+            if game is None and Path(self.queue, f"{name}.verdict").exists():  # (of a feed before this one: it stays as it is)
+                self.ended.add(name)
             if name in self.ended:
                 continue
             try:
@@ -184,7 +186,7 @@ class Feed:
             except FileNotFoundError:  # (it was taken away just now)
                 continue
             except (OSError, ValueError) as error:
-                self.end(Game(Path(entry.path)), str(error))
+                self.end(game or Game(Path(entry.path)), str(error))
                 continue
             if name not in self.games and game.start:
                 fresh.append(game)
@@ -207,10 +209,7 @@ class Feed:
                 self.games[game.name] = self.by_stamp[game.stamp] = game
 
     def claim(self, game: Game) -> bool:
-        """Whether a game is to be fed: not one that has ended, and none whose name was used."""
-        if self.beside(game, "verdict").exists():
-            self.ended.add(game.name)
-            return False
+        """Whether a game is to be fed: none whose name was used."""
         stamp = self.program.stamp(game)
         game.stamp = bytes.fromhex(stamp)
         if self.beside(game, "stamp").exists():
