@@ -481,6 +481,9 @@ class Wrapper:
         self.score = b""  # the engine's last line with a score
 
     def run(self) -> int:
+        for file in (0, 1):
+            with contextlib.suppress(OSError):
+                os.set_blocking(file, True)  # (a manager may have left its own way of reading and writing)
         back = threading.Thread(target=self._from_engine, daemon=True)
         signal.signal(signal.SIGINT, lambda *_: None)  # (the engine gets it too, and knows what to do)
         signal.signal(signal.SIGTERM, lambda *_: self.engine.terminate())
@@ -494,16 +497,19 @@ class Wrapper:
 
     def _to_engine(self) -> None:
         assert self.engine.stdin
-        rest = b""
-        while data := os.read(0, ROOM):
-            # (heard before it is passed on, which takes microseconds: the engine may answer at once)
-            *lines, rest = (rest + data).split(b"\n")
-            for line in lines:
-                with self._unharmed():
-                    self._hear_manager(line.decode(errors="replace").strip())
-            if not self._put(data, self.engine.stdin.fileno()):
-                return
+        rest, is_there = b"", True
+        with contextlib.suppress(OSError):  # (a terminal that hangs up)
+            while is_there and (data := os.read(0, ROOM)):
+                # (heard before it is passed on, which takes microseconds: the engine may answer at once)
+                *lines, rest = (rest + data).split(b"\n")
+                self._hear_lines(lines)
+                is_there = self._put(data, self.engine.stdin.fileno())
         self.engine.stdin.close()
+
+    def _hear_lines(self, lines: list[bytes]) -> None:
+        for line in lines:
+            with self._unharmed():
+                self._hear_manager(line.decode(errors="replace").strip())
 
     @contextlib.contextmanager
     def _unharmed(self) -> Iterator[None]:
