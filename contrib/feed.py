@@ -33,7 +33,7 @@ import sys
 import tempfile
 import time
 from pathlib import Path
-from typing import Iterator, Optional
+from typing import IO, Iterator, Optional
 
 MESSAGE = struct.Struct(">2sBB16sBIH")  # head, version, kind, stamp, sender, number, word
 HEAD, MOVE, ACK, VERDICT = b"SA", 1, 2, 3
@@ -174,6 +174,8 @@ class Feed:
         fresh = []
         for name, entry in there.items():
             game = self.games.get(name)
+            if game is None and Path(self.queue, f"{name}.verdict").exists():  # (of a feed before this one: it stays as it is)
+                self.ended.add(name)
             if name in self.ended:
                 continue
             try:
@@ -184,7 +186,7 @@ class Feed:
             except FileNotFoundError:  # (it was taken away just now)
                 continue
             except (OSError, ValueError) as error:
-                self.end(Game(Path(entry.path)), str(error))
+                self.end(game or Game(Path(entry.path)), str(error))
                 continue
             if name not in self.games and game.start:
                 fresh.append(game)
@@ -207,10 +209,7 @@ class Feed:
                 self.games[game.name] = self.by_stamp[game.stamp] = game
 
     def claim(self, game: Game) -> bool:
-        """Whether a game is to be fed: not one that has ended, and none whose name was used."""
-        if self.beside(game, "verdict").exists():
-            self.ended.add(game.name)
-            return False
+        """Whether a game is to be fed: none whose name was used."""
         stamp = self.program.stamp(game)
         game.stamp = bytes.fromhex(stamp)
         if self.beside(game, "stamp").exists():
@@ -319,6 +318,14 @@ def manifest_of(given: argparse.Namespace) -> Iterator[str]:
         yield file.name
 
 
+def take(lock: IO[str]) -> None:
+    """Takes the queue, which has one feed. An OSError where another one has it."""
+    try:
+        fcntl.flock(lock, fcntl.LOCK_EX | fcntl.LOCK_NB)
+    except OSError:
+        raise OSError("another feed has this queue") from None
+
+
 def main() -> int:
     words = argparse.ArgumentParser(usage=__doc__)
     for name in ("--queue", "--host", "--tables"):
@@ -334,13 +341,14 @@ def main() -> int:
     given = words.parse_args()
     if len(given.games) != 2 or given.host.count(",") != 1:
         words.error("two folders of games, and two hosts")
-    with open(Path(given.queue) / "lock", "w") as lock, manifest_of(given) as manifest:
-        try:
-            fcntl.flock(lock, fcntl.LOCK_EX | fcntl.LOCK_NB)
-        except OSError:
-            sys.exit("feed: another feed has this queue")
-        with contextlib.suppress(KeyboardInterrupt):
+    try:
+        with open(Path(given.queue) / "lock", "w") as lock, manifest_of(given) as manifest:
+            take(lock)
             Feed(given, Program(given, manifest)).run()
+    except KeyboardInterrupt:
+        return 0
+    except (OSError, ValueError, subprocess.CalledProcessError) as error:
+        sys.exit(f"feed: {error}")
     return 0
 
 

@@ -44,6 +44,9 @@ from typing import Any, Callable, Iterator, NamedTuple, Optional, Union
 
 START = "rnbqkbnr/pppppppp/8/8/8/8/PPPPPPPP/RNBQKBNR w KQkq - 0 1"
 SCORE = re.compile(rb"\bscore (?:cp|mate) -?\d+(?: lowerbound| upperbound)?")
+# A line that tells a score, and one that tells it of another line of play than the best.
+IS_SCORE = re.compile(rb"info (?!string\b).*\bscore ")
+OTHER_LINE = re.compile(rb"\bmultipv (?!1\b)")
 WINNERS = {"WhiteMates": "white", "TableWhite": "white", "BlackMates": "black", "TableBlack": "black"}
 ROOM = 65536
 # Seconds that the end of the engine waits for the hosts' last verdict.
@@ -113,7 +116,7 @@ class Log:
     def write(self, *columns: str) -> None:
         line = "\t".join(columns) + "\n"
         with contextlib.suppress(OSError):
-            os.write(sys.stderr.fileno() if self.file is None else self.file, line.encode())
+            os.write(2 if self.file is None else self.file, line.encode(errors="replace"))
 
 
 # ------------------------------------------------------------------------------------------------------------------------- who judges
@@ -215,8 +218,8 @@ class Match:
             yield
 
     def read(self, number: int) -> dict[str, str]:
-        lines = (self.folder / str(number)).read_text().splitlines()
-        return dict(line.split(" ", 1) for line in lines)
+        lines = (self.folder / str(number)).read_text().split("\n")
+        return {word: text for word, _, text in (line.partition(" ") for line in lines) if word}
 
     def write(self, number: int, seats: dict[str, str]) -> None:
         new = self.folder / f"{number}.new"
@@ -473,10 +476,14 @@ class Wrapper:
         self.engine = subprocess.Popen(given.engine, stdin=subprocess.PIPE, stdout=subprocess.PIPE, bufsize=0)
         self.place: Optional[Place] = None  # of the last line `position`
         self.searches: collections.deque[Search] = collections.deque()  # each has a `bestmove` to come
+        self.last = Search(None, is_moving=False)  # the last one of them, also when its `bestmove` has come
         self.told: Optional[Found] = None  # the verdict that the manager has been told
         self.score = b""  # the engine's last line with a score
 
     def run(self) -> int:
+        for file in (0, 1):
+            with contextlib.suppress(OSError):
+                os.set_blocking(file, True)  # (a manager may have left its own way of reading and writing)
         back = threading.Thread(target=self._from_engine, daemon=True)
         signal.signal(signal.SIGINT, lambda *_: None)  # (the engine gets it too, and knows what to do)
         signal.signal(signal.SIGTERM, lambda *_: self.engine.terminate())
@@ -490,17 +497,27 @@ class Wrapper:
 
     def _to_engine(self) -> None:
         assert self.engine.stdin
-        rest = b""
-        while data := os.read(0, ROOM):
-            # (heard before it is passed on, which takes microseconds: the engine may answer at once)
-            *lines, rest = (rest + data).split(b"\n")
-            for line in lines:
-                self._hear_manager(line.decode(errors="replace").strip())
-            try:
-                self.engine.stdin.write(data)
-            except OSError:
-                return
+        rest, is_there = b"", True
+        with contextlib.suppress(OSError):  # (a terminal that hangs up)
+            while is_there and (data := os.read(0, ROOM)):
+                # (heard before it is passed on, which takes microseconds: the engine may answer at once)
+                *lines, rest = (rest + data).split(b"\n")
+                self._hear_lines(lines)
+                is_there = self._put(data, self.engine.stdin.fileno())
         self.engine.stdin.close()
+
+    def _hear_lines(self, lines: list[bytes]) -> None:
+        for line in lines:
+            with self._unharmed():
+                self._hear_manager(line.decode(errors="replace").strip())
+
+    @contextlib.contextmanager
+    def _unharmed(self) -> Iterator[None]:
+        """What goes wrong here is told in the log, and the line goes through as it came."""
+        try:
+            yield
+        except Exception as error:
+            self.log.write("refused", f"{type(error).__name__}: {error}", self.follower.engine)
 
     def _hear_manager(self, line: str) -> None:
         word, _, words = line.partition(" ")
@@ -510,43 +527,44 @@ class Wrapper:
         elif word == "ucinewgame":
             events.put(self.follower.new_game)
         elif word == "go":
-            self.searches.append(Search(self.place, is_moving=not {"ponder", "infinite"} & set(words.split())))
-        elif word == "ponderhit" and self.searches:
-            self.searches[-1].is_moving = True
-        else:
-            return
-        if word in ("go", "ponderhit") and self.searches[-1].is_moving and self.searches[-1].place:
-            events.put(functools.partial(self.follower.at, self.searches[-1].place))
+            self.last = Search(self.place, is_moving=not {"ponder", "infinite"} & set(words.split()))
+            self.searches.append(self.last)
+        elif word == "ponderhit":
+            self.last.is_moving = True
+        if word in ("go", "ponderhit") and self.last.is_moving and self.last.place:
+            events.put(functools.partial(self.follower.at, self.last.place))
 
     def _from_engine(self) -> None:
         assert self.engine.stdout
         rest = b""
         while data := os.read(self.engine.stdout.fileno(), ROOM):
             *lines, rest = (rest + data).split(b"\n")
-            text = b"".join(self._through(line) for line in lines)
-            if not self._put(text):
+            text = b"".join(self._before(line) + line + b"\n" for line in lines)
+            if not self._put(text, 1):
                 self.engine.terminate()
                 return
-        self._put(rest)
+        self._put(rest, 1)
 
     @staticmethod
-    def _put(text: bytes) -> bool:
+    def _put(text: bytes, file: int) -> bool:
+        """Writes all of a text; whether that went well."""
         try:
             while text:
-                text = text[os.write(1, text) :]
+                text = text[os.write(file, text) :]
         except OSError:
             return False
         return True
 
-    def _through(self, line: bytes) -> bytes:
-        """What the manager gets for a line of the engine's."""
-        if line.startswith(b"info ") and b" score " in line:
-            self.score = line
-        elif line.startswith(b"id name "):
-            self.follower.engine = line[8:].decode(errors="replace").strip()
-        elif line.startswith(b"bestmove"):
-            return self._moved(line) + line + b"\n"
-        return line + b"\n"
+    def _before(self, line: bytes) -> bytes:
+        """What the manager gets before a line of the engine's."""
+        with self._unharmed():
+            if IS_SCORE.match(line) and not OTHER_LINE.search(line):
+                self.score = line
+            elif line.startswith(b"id name "):
+                self.follower.engine = line[8:].decode(errors="replace").strip()
+            elif line.startswith(b"bestmove"):
+                return self._moved(line)
+        return b""
 
     def _moved(self, line: bytes) -> bytes:
         """What comes before a move of the engine's."""

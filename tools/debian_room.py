@@ -52,6 +52,10 @@ class Trial:
         self.failed += bool(wrong)
         print(f"FAILED  {what}: {str(wrong)[:600]}" if wrong else f"ok      {what}", flush=True)
 
+    def same(self, what: str, come: object, wanted: object) -> None:
+        """One try: `come` is to be `wanted`. (What came may be nothing, so it isn't told by itself.)"""
+        self.tell(what, "" if come == wanted else f"{come!r}, not {wanted!r}")
+
     def end(self) -> int:
         print(f"{self.name}: {self.count} tries, {self.failed} failed", flush=True)
         return 1 if self.failed else 0

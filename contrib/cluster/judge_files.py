@@ -6,8 +6,9 @@
 A FILE is a CSV file with a header and a column of FENs (.csv; --column, `fen` unless given), a PGN file (.pgn), or has a FEN a line. It is cut into
 parts of some --part-size bytes (16,000,000 unless given), a PGN file is one part. Workers judge the parts, each with tables that it maps once, and
 write the result of each to DIR/part-NNNNNN.txt, which is there whole or not at all: a line for each position as `adjudicate probes` prints it, for each
-game as `adjudicate games` does. What a worker that fails had to do is done again by another one. Started again over the same files, it does the parts
-that aren't there yet. So `cat DIR/part-*.txt` is what one process prints of all files in turn.
+game as `adjudicate games` does. What a worker that fails had to do is done again by another one. Started again with the same words, it does the parts
+that aren't there yet; DIR/parts.txt has the parts, and other ones are refused. So `cat DIR/part-*.txt` is what one process prints of all files in turn.
+A table file that can't be read, or is none, ends the run with its name.
 
 Files, tables and --out have the same path on all machines. With --scheduler ADDR it asks the workers of `dask scheduler`, each started by
 `dask worker ADDR --nthreads 1 --nworkers auto`; otherwise it starts N processes here (4 unless given). Each needs the module hofsjurd.
@@ -25,6 +26,7 @@ from typing import Any, Iterator
 HERE = Path(__file__).resolve().parent
 sys.path.insert(0, str(HERE))
 
+from hofsjurd import ProbeError  # noqa: E402
 from judging import Part, judge_part, result_path  # noqa: E402
 
 
@@ -39,12 +41,24 @@ def parts_of(paths: list[str], size: int, column: str) -> Iterator[Part]:
         kind, length, begin, place = kind_of(path), os.path.getsize(path), 0, 0
         if kind == "csv":
             with open(path, "rb") as file:
-                names = next(csv.reader([file.readline().decode().rstrip("\r\n")]))
-                begin, place = file.tell(), names.index(column)
+                names = next(csv.reader([file.readline().decode("utf-8-sig").rstrip("\r\n")]), [])
+                begin = file.tell()
+            if column not in names:
+                raise ValueError(f"{path}: its first line names no column {column}")
+            place = names.index(column)
         step = length if kind == "pgn" else size
         for at in range(begin, length, max(step, 1)):
             yield Part(number, path, kind, at, min(at + step, length), place)
             number += 1
+
+
+def missing_of(parts: list[Part], out: str) -> list[Part]:
+    """The parts whose results aren't there. A ValueError where the results there are of other parts."""
+    path, told = Path(out, "parts.txt"), "".join(f"{' '.join(map(str, it))}\n" for it in parts)
+    if path.exists() and path.read_text() != told:
+        raise ValueError(f"{path}: it was begun with other files, or another --part-size or --column")
+    path.write_text(told)
+    return [it for it in parts if not result_path(out, it.number).exists()]
 
 
 def run(client: Any, parts: list[Part], tables: str, out: str) -> int:
@@ -75,13 +89,16 @@ def main() -> int:
     words.add_argument("files", nargs="+")
     given = words.parse_args()
     Path(given.out).mkdir(parents=True, exist_ok=True)
-    parts = [it for it in parts_of(given.files, given.part_size, given.column) if not result_path(given.out, it.number).exists()]
-    if given.scheduler:
-        with Client(given.scheduler) as client:
-            run(client, parts, given.tables, given.out)
-    else:
-        with LocalCluster(n_workers=given.workers, threads_per_worker=1, dashboard_address=None) as cluster, Client(cluster) as client:
-            run(client, parts, given.tables, given.out)
+    try:
+        parts = missing_of([*parts_of(given.files, given.part_size, given.column)], given.out)
+        if given.scheduler:
+            with Client(given.scheduler) as client:
+                run(client, parts, given.tables, given.out)
+        else:
+            with LocalCluster(n_workers=given.workers, threads_per_worker=1, dashboard_address=None) as cluster, Client(cluster) as client:
+                run(client, parts, given.tables, given.out)
+    except (OSError, ValueError, ProbeError) as error:
+        sys.exit(f"judge_files: {error}")
     return 0
 
 

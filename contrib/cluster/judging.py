@@ -51,7 +51,7 @@ def result_path(out: str, number: int) -> Path:
 def judge_part(part: Part, tables: str, out: str) -> tuple[int, int]:
     """Writes the result of a part, and tells its number and how many lines it has."""
     base, count, path = tables_of(tables), 0, result_path(out, part.number)
-    new = path.with_suffix(f".{os.getpid()}.new")
+    new = path.with_suffix(f".{os.uname().nodename}.{os.getpid()}.new")
     with open(new, "w") as file:
         lines = lines_of(part) if part.kind != "pgn" else iter(())
         for some in iter(lambda: list(islice(lines, TOGETHER)), []):
@@ -71,20 +71,32 @@ def lines_of(part: Part) -> Iterator[str]:
             file.readline()
         while file.tell() < part.end and (line := file.readline()):
             text = line.decode(errors="replace").rstrip("\r\n")
-            yield next(csv.reader([text]))[part.column] if part.kind == "csv" and text else text
+            yield column_of(text, part.column) if part.kind == "csv" else text
+
+
+def column_of(text: str, column: int) -> str:
+    """A column of a line of CSV; empty where the line has none, so that the line alone is refused."""
+    try:
+        return next(csv.reader([text]), [])[column]
+    except (IndexError, csv.Error):
+        return ""
 
 
 def judge_lines(base: hofsjurd.Tablebase, fens: list[str]) -> list[str]:
-    """What `adjudicate probes` prints of each, but for the name behind `Damaged`, which the library doesn't tell."""
+    """What `adjudicate probes` prints of each, but for the name behind `Damaged`, which the library doesn't tell. A RefusedTableError for a
+    file that can't be read, or is no table: then nothing is told of any."""
     boards = hofsjurd.Boards(fens)
     wdl, dtz, verdicts = base.probe_wdl_many(boards), base.probe_dtz_many(boards), base.judge_many(boards)
     names = ["open", *map(str, hofsjurd.Verdict)]
-    if not (any(wdl.statuses) or any(dtz.statuses)):
+    if not (any(wdl.statuses) or any(dtz.statuses) or any(verdicts.statuses)):
         return [f"{w}\t{d}\t{names[v]}" for w, d, v in zip(wdl.values, dtz.values, verdicts.values)]
     return [_line(fen, wdl, dtz, verdicts, place, names) for place, fen in enumerate(fens)]
 
 
 def _line(fen: str, wdl: hofsjurd.Replies, dtz: hofsjurd.Replies, verdicts: hofsjurd.Replies, place: int, names: list[str]) -> str:
+    for error in (it.errors.get(place) for it in (wdl, dtz, verdicts)):
+        if isinstance(error, hofsjurd.RefusedTableError):
+            raise error
     status = wdl.statuses[place]
     if status in FEN_FAULTS:
         return f"refused FEN {wdl.errors[place]}"

@@ -2,6 +2,7 @@
 from __future__ import annotations
 
 import os
+from typing import Any
 
 from . import _library
 from ._library import library, text_of
@@ -17,6 +18,9 @@ class ProbeError(Exception):
 
     def __str__(self) -> str:
         return str(self.args[0])  # (that of a KeyError would be in quotes)
+
+    def __reduce__(self) -> Any:
+        return _made_again, (type(self), self.args, self.__dict__)  # (as pickle wants it: another process may raise it)
 
 
 class ClosedError(ProbeError):
@@ -73,6 +77,12 @@ _KINDS: dict[int, type[ProbeError]] = {
     _library.AMBIGUOUS_MOVE: MoveError,
     **dict.fromkeys(_library.POSITION_FAULTS, PositionError),
 }
+
+
+def _made_again(kind: type[ProbeError], given: tuple[Any, ...], values: dict[str, Any]) -> ProbeError:
+    error = kind.__new__(kind, *given)
+    error.__dict__.update(values)
+    return error
 
 
 def error_of(status: int, table: str = "") -> ProbeError:

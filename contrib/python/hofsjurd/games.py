@@ -54,7 +54,8 @@ class Game:
 
     def fen(self) -> str:
         """The FEN text of the position that the game has come to. So a game is asked of like a board."""
-        return text_of(library.hofsjurd_game_fen, self._handle)
+        with self._lock:
+            return self._fen()
 
     def push(self, move: MoveLike) -> Optional[Verdict]:
         """Tells the next move, in coordinates or as a Move, and returns the first verdict so far. Any error leaves the game as it was: a
@@ -65,19 +66,24 @@ class Game:
     def push_san(self, text: str) -> Optional[Verdict]:
         """The same of a move in standard algebraic notation."""
         with self._lock:
-            return self._pushed(read_san(self.fen().encode(), text))
+            return self._pushed(read_san(self._fen().encode(), text))
 
     push_uci = push
+
+    def _fen(self) -> str:
+        """For who has the lock: a call of the library reads the game, or changes it."""
+        return text_of(library.hofsjurd_game_fen, self._handle)
 
     def _pushed(self, move: PlainMove) -> Optional[Verdict]:
         if self._verdict:
             raise GameOverError(GAME_OVER)
         prober, after = self._tables._prober(), plain_after(self._plain, move)
         _open_tables(prober, after)
-        self._verdict = self._value(library.hofsjurd_game_move(self._handle, prober.set, move))
+        verdict = self._value(library.hofsjurd_game_move(self._handle, prober.set, move))
         self._plain = after
         self._moves.append(uci_of(move))
-        return self._verdict
+        self._verdict = verdict
+        return verdict
 
     @staticmethod
     def _value(reply: Reply) -> Optional[Verdict]:

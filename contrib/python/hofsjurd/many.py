@@ -22,10 +22,15 @@ BOARD_FIELDS = [
 ]
 
 
+# The formats of NumPy's arrays of texts, and of objects of Python: they are lists here.
+_NO_BOARDS = ("w", "O")
+
+
 class Boards(Sequence[Position]):
     """Boards in one buffer, made once and asked of often.
 
-    They come from FEN texts, positions and chess.Boards, or from a buffer of boards (bytes, an array, a memoryview, an array of NumPy).
+    They come from FEN texts, positions and chess.Boards, in a list or in NumPy's array of texts or objects, or from a buffer of boards
+    (bytes, an array, a memoryview, an array of NumPy).
     A buffer that can be written is used in place, and is to stay as it is while it is asked of. `errors` has what is wrong with a text
     that is no FEN, by its place; its board is empty.
     """
@@ -36,7 +41,10 @@ class Boards(Sequence[Position]):
             raise TypeError("boards are a list or a buffer, and not one text")
         try:
             view = memoryview(boards)
+            is_buffer = not view.format.endswith(_NO_BOARDS)
         except TypeError:
+            is_buffer = False
+        if not is_buffer:
             view = memoryview(self._read(list(boards)))
         if not view.c_contiguous or view.nbytes % BOARD_SIZE:
             raise ValueError(f"a buffer of boards has {BOARD_SIZE} bytes for each, one behind the other: {view.nbytes}")

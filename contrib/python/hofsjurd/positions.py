@@ -33,8 +33,8 @@ class Position:
     """A position as sets of squares, in which a1 is bit 0, b1 bit 1, up to h8, bit 63.
 
     `turn` is True for white, `castling_rights` has 1 for white with the rook of h1, 2 with that of a1, 4 and 8 for black likewise, and
-    `ep_square` is the square that a pawn passed by a double step just now. Whether it is a position of chess is told by the call that it
-    is given to, as a PositionError.
+    `ep_square` is the square that a pawn passed by a double step just now. A number that is none of these is a ValueError. Whether it is a
+    position of chess is told by the call that it is given to, as a PositionError.
     """
 
     __slots__ = ("_plain",)
@@ -59,6 +59,9 @@ class Position:
         passed = _library.NO_SQUARE if ep_square is None else ep_square
         counters = min(halfmove_clock, _MOST_COUNTER), min(fullmove_number, _MOST_COUNTER)
         sets = white, black, kings, queens, rooks, bishops, knights, pawns
+        # (a number beyond its room would be cut without a word)
+        if min(*sets, *counters) < 0 or max(sets) >> 64 or not (0 <= castling_rights < 16 and 0 <= passed <= _library.NO_SQUARE):
+            raise ValueError("a set has 64 bits, rights to castle are 0 to 15, a square is 0 to 63, and no counter is below 0")
         self._plain = PlainBoard(*sets, *counters, not turn, castling_rights, passed)
 
     @classmethod

@@ -54,9 +54,11 @@ class _Listing:
     any more."""
 
     _free = library.hofsjurd_listing_free
+    _close = library.hofsjurd_prober_close
 
     def __init__(self, folders: tuple[_Folder, ...] = ()) -> None:
         self.handle, self.folders = ctypes.c_void_p(), folders
+        self.probers: set[int] = set()  # the library's, which are open
         self.names: set[str] = set()
         for folder in folders:
             self._add(folder)
@@ -84,15 +86,22 @@ class _Listing:
         """Whether a file is listed, as "KQvK.rtbw"."""
         return bool(self.handle) and bool(library.hofsjurd_listing_has(self.handle, name.encode()))
 
+    def close(self, prober: Optional[int]) -> None:
+        """Closes a prober over it, once."""
+        if prober in self.probers:
+            self.probers.discard(prober)
+            self._close(prober)
+
     def __del__(self) -> None:
+        # (of objects that hold one another in a ring, this one may go before its probers)
+        for it in [*self.probers]:
+            self.close(it)
         if self.handle:
             self._free(self.handle)
 
 
 class _Prober:
     """Who asks: the library's prober over a listing, for one thread. It holds the listing, and is closed when nobody holds it any more."""
-
-    _close = library.hofsjurd_prober_close
 
     def __init__(self, listing: _Listing, cache: int) -> None:
         self.handle, self.listing = ctypes.c_void_p(), listing
@@ -102,11 +111,11 @@ class _Prober:
         status = library.hofsjurd_prober_open(ctypes.byref(self.handle), listing.handle, cache)
         if status:
             raise error_of(status)
+        listing.probers.add(self.handle.value or 0)
         self.set = library.hofsjurd_prober_set(self.handle)
 
     def __del__(self) -> None:
-        if self.handle:
-            self._close(self.handle)
+        self.listing.close(self.handle.value)
 
 
 class _Probers(threading.local):
