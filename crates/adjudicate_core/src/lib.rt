@@ -7,12 +7,13 @@
 //! Inside: each command is a file in `commands/`, with its definitions in the file of the same name in `specs/Commands/`. `words`
 //! reads the command line: `values`, `numbers`, `usage`, `uses`, `addresses`, `game_paths`. `answers` writes: `line_answers`,
 //! `json_answers`, `lines`, `refusals`, each line laid out by `LineWords` of `line_teller` (its parts in `line_parts`), which doesn't
-//! fail, and written at once. `keys` reads files of keys, `entries` the lines of a list; `tables` and `manifests` make sets of files;
+//! fail, and written at once. `keys` reads files of keys, `entries` the lines of a list; `tables` and `manifests` make sets of files; `folders` reads
+//! a table when a position asks for it;
 //! `listening`, `hosting`, `entering`, `sending`, `binding`, `locking`, `silence`, `stores` run the commands that touch ports and
-//! files; `program` over a `system`; `laws`.
+//! files; `program` over a `system`, of which `machine` has all that is known as one argument; `laws`.
 //!
 //! Definitions, in reading order: `Numbers`, `Rules`, `Commands`, `Tasks`, `Misuses`, `Usage`, `Uses`, `Addresses`, `Keys` for words;
-//! `Looks`, `Lines`, `Reply`, `Telling`, `Schedules`, `LineAnswers`, `TableAnswers`, `JsonAnswers`, `Audits`, `AuditAgreements` for
+//! `Looks`, `Lines`, `Reply`, `Telling`, `Schedules`, `LineAnswers`, `TableAnswers`, `FolderAnswers`, `JsonAnswers`, `Audits`, `AuditAgreements` for
 //! answers; `Outsides`, `Locks`, `GamePaths`, `Silences`, `Listens`, `Manifests`, `Sends`, `Entries`, `Enters`, `Stores`, `Hostings`,
 //! `Makes` for runs; `Running` (`Performs`, `Called`) for all. Its cases stand in `rows`, nearly all of its files;
 //! `tools/host_games`, `tools/play_games` and `tools/attack` try the program as it is built.
@@ -54,6 +55,9 @@
 //! - CLAIM: `run_program`: with `--key` the ports of `listen`, `host` and `send` are sealed by the keys of the file, and all else
 //!   is as without it. What is refused of the file is told before all else, the first of: it can't be read as a regular file of at
 //!   most 130 bytes (`Disk::read_with_mode` of system_io); its group or others have some right; its first malformed line.
+//! - CLAIM: `run`, clause `runs`: `judge` and `probe` with `--lazy`, and `probes`, `root`, `game` and `games` without `--all-tables` and
+//!   `--determined`, answer by tables of the folder of which none is missing at the positions that they need, or refuse the file of one
+//!   that is needed (`ByFolder`, `PutsByFolder`).
 //! - CLAIM: `run`, clause `runs`: `--json` of `probes` and `root` writes one object a line, and `--determined` tells the
 //!   determined values of judge_core in place of the strict ones.
 //! - CLAIM: `run`, clause `runs`: `follow` refuses the text of its start and its tables in this order; then each ply of the game is
