@@ -56,7 +56,7 @@ const TAKES_BOARD: Board = Board {
     ..MATE_BOARD
 };
 
-/// The same men, none of whom can take another.
+/// These men where none can take another.
 const QUIET: &[u8] = b"8/7n/8/4k3/8/8/K7/2Q5 w - - 0 1";
 
 /// That position.
