@@ -1,3 +1,4 @@
 pub mod Pieces
 pub mod Whole
 pub mod Playing
+pub mod ApiDepth

@@ -108,30 +108,30 @@ list_written js a b c d begins items ends =
     subst (λ ts. Writes false (begin_array ∷ ts) a d) (sym (closed_items js))
     (writes_both false (begin_array ∷ []) (open_items js ++ end_array ∷ []) a b d begins (writes_both false (open_items js) (end_array ∷ []) b c d items (ends _)))
 
-pub no_move : (later : Bool) (ts : List MoveTold) (old : Option (List ℕ)) → length ts ≡ 0 → Writes later (open_items (moves_items ts)) old old
-no_move later [] old h = writes_nothing later old
-no_move later (t ∷ ts) old h = absurd (omega (arith, h))
+pub no_move : (json : MoveTold → Json) (later : Bool) (ts : List MoveTold) (old : Option (List ℕ)) → length ts ≡ 0 → Writes later (open_items (moves_items json ts)) old old
+no_move json later [] old h = writes_nothing later old
+no_move json later (t ∷ ts) old h = absurd (omega (arith, h))
 
-pub one_move : (later : Bool) (all : List MoveTold) (t : MoveTold) (ts : List MoveTold) (a b c : Option (List ℕ)) → IsFirstAndRest all t ts → Writes later (json_tokens (move_json t)) a b → Writes true (open_items (moves_items ts)) b c → Writes later (open_items (moves_items all)) a c
-one_move later all t ts a b c h one more =
-    subst (λ xs. Writes later (open_items (moves_items xs)) a c) (sym h.0)
-    (writes_both later (json_tokens (move_json t)) (open_items (moves_items ts)) a b c one (subst (λ l. Writes l (open_items (moves_items ts)) b c) (sym (ended_json later (move_json t))) more))
+pub one_move : (json : MoveTold → Json) (later : Bool) (all : List MoveTold) (t : MoveTold) (ts : List MoveTold) (a b c : Option (List ℕ)) → IsFirstAndRest all t ts → Writes later (json_tokens (json t)) a b → Writes true (open_items (moves_items json ts)) b c → Writes later (open_items (moves_items json all)) a c
+one_move json later all t ts a b c h one more =
+    subst (λ xs. Writes later (open_items (moves_items json xs)) a c) (sym h.0)
+    (writes_both later (json_tokens (json t)) (open_items (moves_items json ts)) a b c one (subst (λ l. Writes l (open_items (moves_items json ts)) b c) (sym (ended_json later (json t))) more))
 
 -- ---- how deep a line nests
 
-flat_number : (r : Result ℤ ProbeFault) → depth (number_or_null r) ≡ 0
+pub flat_number : (r : Result ℤ ProbeFault) → depth (number_or_null r) ≡ 0
 flat_number (Ok n) = refl
 flat_number (Err fault) = refl
 
-flat_verdict : (v : Option Verdict) → depth (verdict_or_null v) ≡ 0
+pub flat_verdict : (v : Option Verdict) → depth (verdict_or_null v) ≡ 0
 flat_verdict None = refl
 flat_verdict (Some v) = refl
 
-flat_fault : (o : Option ProbeFault) → members_depth (fault_members o) ≡ 0
+pub flat_fault : (o : Option ProbeFault) → members_depth (fault_members o) ≡ 0
 flat_fault None = refl
 flat_fault (Some fault) = refl
 
-flat_followed : (ms others : Members) → members_depth (followed_by ms others) ≡ max (members_depth ms) (members_depth others)
+pub flat_followed : (ms others : Members) → members_depth (followed_by ms others) ≡ max (members_depth ms) (members_depth others)
 flat_followed no_members others = omega arith
 flat_followed (member k j ms) others =
     let e = flat_followed ms others in
@@ -152,11 +152,11 @@ flat_move t =
     let e = flat_fault (first_probe_fault t.probed.wdl t.probed.dtz) in
     omega (arith, w, d, e)
 
-moves_depth : (ts : List MoveTold) → items_depth (moves_items ts) ≤ 1
-moves_depth [] = omega arith
-moves_depth (t ∷ ts) =
-    let one = flat_move t in
-    let more = moves_depth ts in
+pub moves_depth : (members : MoveTold → Members) → ((t : MoveTold) → members_depth (members t) ≡ 0) → (ts : List MoveTold) → items_depth (moves_items (λ t. object (members t)) ts) ≤ 1
+moves_depth members flat [] = omega arith
+moves_depth members flat (t ∷ ts) =
+    let one = flat t in
+    let more = moves_depth members flat ts in
     omega (arith, one, more)
 
 shallow : (l : JsonLine) → depth (line_json l) ≤ 3
@@ -165,8 +165,8 @@ shallow (line.Refused words) = omega arith
 shallow (line.Position t) = (let e = flat_position t.position t.columns.probed t.columns.verdict in omega (arith, e))
 shallow (line.Root t moves) =
     let e = flat_position t.position t.columns.probed t.columns.verdict in
-    let f = flat_followed (position_members t.position t.columns.probed t.columns.verdict) (moves_members moves.items) in
-    let m = moves_depth moves.items in
+    let f = flat_followed (position_members t.position t.columns.probed t.columns.verdict) (moves_members move_json moves.items) in
+    let m = moves_depth move_members flat_move moves.items in
     omega (arith, e, f, m)
 
 pub line_reads_back : (l : JsonLine) (old new : Option (List ℕ)) → Writes false (json_tokens (line_json l)) old new → document (json_text (line_json l)) ≡ Some (line_json l)

@@ -1,4 +1,5 @@
 pub mod Members
 pub mod Objects
 pub mod Told
+pub mod Api
 pub mod Inside

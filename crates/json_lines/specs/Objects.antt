@@ -130,12 +130,13 @@ move_members t = member (codes "uci") (string (move_text t.played)) (after_membe
 abbrev pub move_json : MoveTold → Json
 move_json t = object (move_members t)
 
-abbrev pub moves_items : List MoveTold → Items
-moves_items [] = no_items
-moves_items (t ∷ ts) = item (move_json t) (moves_items ts)
+-- moves, each written so
+abbrev pub moves_items : (MoveTold → Json) → List MoveTold → Items
+moves_items json [] = no_items
+moves_items json (t ∷ ts) = item (json t) (moves_items json ts)
 
-abbrev pub moves_members : List MoveTold → Members
-moves_members ts = member (codes "moves") (array (moves_items ts)) no_members
+abbrev pub moves_members : (MoveTold → Json) → List MoveTold → Members
+moves_members json ts = member (codes "moves") (array (moves_items json ts)) no_members
 
 -- why a text is no position
 abbrev pub fen_error : FenFault → List ℕ
@@ -158,7 +159,7 @@ abbrev pub position_json : PositionTold → Json
 position_json t = object (position_members t.position t.columns.probed t.columns.verdict)
 
 abbrev pub root_json : PositionTold → List MoveTold → Json
-root_json t moves = object (followed_by (position_members t.position t.columns.probed t.columns.verdict) (moves_members moves))
+root_json t moves = object (followed_by (position_members t.position t.columns.probed t.columns.verdict) (moves_members move_json moves))
 
 -- a line: why a text is no position, or why a table that it needs isn't read, or a position, or a position and its moves
 abbrev pub line_json : JsonLine → Json

@@ -17,12 +17,14 @@
 //!   list moves.
 #![tactic(auto)]
 
+mod api;
 mod members;
 mod object;
 mod text;
 mod told;
 mod writing;
 
+pub use api::put_api_line;
 pub use judge_core::Ask;
 pub use members::{Member, Value};
 pub use object::put_object;

@@ -7,10 +7,12 @@ ghost use Rattle.json.specs.Token.{begin_array, begin_object, end_array, end_obj
 ghost use Rattle.json.specs.Tree.{json_tokens};
 ghost use Rattle.json_lines.specs.Inside.Members.{Writes, members_of, open_items, open_tokens, value_json};
 ghost use Rattle.fen_text.specs.Coordinates.{move_text};
+ghost use Rattle.json_lines.specs.Api.{move_json_in};
 ghost use Rattle.judge_core.specs.Words.{probe_fault_words};
 ghost use Rattle.place_index.specs.Material.{men_of, name_of};
 ghost use Rattle.json_lines.specs.Objects.{after_members, category, category_of, error_members, fen_error, first_probe_fault, followed_by, is_stalemate, json_text, line_json, move_json, move_members, moves_items, number_or_null, position_json, position_members, root_json, standing_members, value_members, verdict_or_null};
 
+use crate::api::put_api_move;
 use crate::members::{Member, Value, put_comma, put_key, put_member, put_members};
 use crate::text::put;
 use crate::told::{JsonLine, MoveTold, PositionTold};
@@ -21,8 +23,17 @@ use place_index::Material;
 use std::io::Write;
 use system_io::WriteFault;
 
+/// In which form a move is written.
+#[derive(Clone, Copy)]
+pub(crate) enum MoveForm {
+    /// As `root` has it.
+    Own,
+    /// As the tablebase API has it.
+    Api,
+}
+
 /// A number of the tables, or null where there is none.
-fn number_or_null<'a>(told: &Result<i32, ProbeFault>) -> Value<'a>
+pub(crate) fn number_or_null<'a>(told: &Result<i32, ProbeFault>) -> Value<'a>
     ensures { value_json result ≡ number_or_null told.now }
 {
     match told {
@@ -32,7 +43,7 @@ fn number_or_null<'a>(told: &Result<i32, ProbeFault>) -> Value<'a>
 }
 
 /// The verdict's name, or null where the game goes on.
-fn verdict_or_null<'a>(verdict: Option<Verdict>) -> Value<'a>
+pub(crate) fn verdict_or_null<'a>(verdict: Option<Verdict>) -> Value<'a>
     ensures { value_json result ≡ verdict_or_null verdict }
 {
     match verdict {
@@ -75,7 +86,7 @@ fn category_of<'a>(state: BoardState, wdl: &Result<i32, ProbeFault>) -> &'a str
 }
 
 /// Whether the side to move is stalemated.
-fn is_stalemate(state: BoardState) -> bool
+pub(crate) fn is_stalemate(state: BoardState) -> bool
     ensures { result ≡ is_stalemate state }
 {
     match state {
@@ -156,7 +167,7 @@ pub(crate) fn put_end<W: Write>(out: &mut W) -> Result<(), WriteFault>
 }
 
 /// Writes members, and why a value is missing, where one is.
-fn put_told<W: Write>(
+pub(crate) fn put_told<W: Write>(
     out: &mut W,
     later: bool,
     members: &[Member<'_>],
@@ -172,7 +183,7 @@ fn put_told<W: Write>(
 }
 
 /// Writes an object but for its closing brace: members, and why a value is missing, where one is.
-fn put_facts<W: Write>(
+pub(crate) fn put_facts<W: Write>(
     out: &mut W,
     members: &[Member<'_>],
     probed: &ProbeResult,
@@ -187,7 +198,7 @@ fn put_facts<W: Write>(
 }
 
 /// A member with this name and this value.
-fn member<'a>(name: &'static str, value: Value<'a>) -> Member<'a>
+pub(crate) fn member<'a>(name: &'static str, value: Value<'a>) -> Member<'a>
     ensures { result ≡ record { name = name.entry; value = value.entry } }
 {
     Member { name, value }
@@ -217,7 +228,7 @@ fn put_position<W: Write>(out: &mut W, told: &PositionTold) -> Result<(), WriteF
 }
 
 /// Writes the member that has a move.
-fn put_uci<W: Write>(out: &mut W, told: &MoveTold) -> Result<(), WriteFault>
+pub(crate) fn put_uci<W: Write>(out: &mut W, told: &MoveTold) -> Result<(), WriteFault>
     ensures { OnOk result (Writes false (key (codes "uci") ∷ json_tokens (string (move_text told.now.played))) (W.contents out.old) (W.contents out.new)) }
 {
     let played = write_move(&told.played);
@@ -250,7 +261,7 @@ fn put_values<W: Write>(out: &mut W, told: &MoveTold) -> Result<(), WriteFault>
 }
 
 /// Writes the member that has a move in standard algebraic notation.
-fn put_san<W: Write>(out: &mut W, told: &MoveTold) -> Result<(), WriteFault>
+pub(crate) fn put_san<W: Write>(out: &mut W, told: &MoveTold) -> Result<(), WriteFault>
     ensures { OnOk result (Writes true (key (codes "san") ∷ json_tokens (string told.now.san.bytes)) (W.contents out.old) (W.contents out.new)) }
 {
     let member = Member {
@@ -302,14 +313,34 @@ fn put_move<W: Write>(out: &mut W, later: bool, told: &MoveTold) -> Result<(), W
     }
 }
 
+/// Writes the object of a move in a form.
+fn put_move_in<W: Write>(
+    out: &mut W,
+    later: bool,
+    form: MoveForm,
+    told: &MoveTold,
+) -> Result<(), WriteFault>
+    ensures { OnOk result (Writes later (json_tokens (move_json_in form told.now)) (W.contents out.old) (W.contents out.new)) }
+{
+    match form {
+        MoveForm::Own => put_move(out, later, told),
+        MoveForm::Api => put_api_move(out, later, told),
+    }
+}
+
 /// Writes the objects of moves, with commas between.
-fn put_moves<W: Write>(out: &mut W, later: bool, moves: &[MoveTold]) -> Result<(), WriteFault>
-    ensures { OnOk result (Writes later (open_items (moves_items moves.now)) (W.contents out.old) (W.contents out.new)) }
+fn put_moves<W: Write>(
+    out: &mut W,
+    later: bool,
+    form: MoveForm,
+    moves: &[MoveTold],
+) -> Result<(), WriteFault>
+    ensures { OnOk result (Writes later (open_items (moves_items (move_json_in form) moves.now)) (W.contents out.old) (W.contents out.new)) }
 {
     match moves.split_first() {
         None => Ok(()),
-        Some((told, rest)) => match put_move(out, later, told) {
-            Ok(()) => put_moves(out, true, rest),
+        Some((told, rest)) => match put_move_in(out, later, form, told) {
+            Ok(()) => put_moves(out, true, form, rest),
             Err(fault) => Err(fault),
         },
     }
@@ -330,20 +361,24 @@ fn put_end_list<W: Write>(out: &mut W) -> Result<(), WriteFault>
 }
 
 /// Writes the list of moves.
-fn put_list<W: Write>(out: &mut W, moves: &[MoveTold]) -> Result<(), WriteFault>
-    ensures { OnOk result (Writes false (json_tokens (array (moves_items moves.now))) (W.contents out.old) (W.contents out.new)) }
+fn put_list<W: Write>(out: &mut W, form: MoveForm, moves: &[MoveTold]) -> Result<(), WriteFault>
+    ensures { OnOk result (Writes false (json_tokens (array (moves_items (move_json_in form) moves.now))) (W.contents out.old) (W.contents out.new)) }
 {
     put_begin_list(out)?;
-    put_moves(out, false, moves)?;
+    put_moves(out, false, form, moves)?;
     put_end_list(out)
 }
 
 /// Writes the member that has the moves.
-fn put_moves_member<W: Write>(out: &mut W, moves: &[MoveTold]) -> Result<(), WriteFault>
-    ensures { OnOk result (Writes true (key (codes "moves") ∷ json_tokens (array (moves_items moves.now))) (W.contents out.old) (W.contents out.new)) }
+pub(crate) fn put_moves_member<W: Write>(
+    out: &mut W,
+    form: MoveForm,
+    moves: &[MoveTold],
+) -> Result<(), WriteFault>
+    ensures { OnOk result (Writes true (key (codes "moves") ∷ json_tokens (array (moves_items (move_json_in form) moves.now))) (W.contents out.old) (W.contents out.new)) }
 {
     match put_key(out, true, "moves") {
-        Ok(()) => put_list(out, moves),
+        Ok(()) => put_list(out, form, moves),
         Err(fault) => Err(fault),
     }
 }
@@ -357,7 +392,7 @@ fn put_root<W: Write>(
     ensures { OnOk result (Writes false (json_tokens (root_json told.now moves.now)) (W.contents out.old) (W.contents out.new)) }
 {
     put_position(out, told)?;
-    put_moves_member(out, moves)?;
+    put_moves_member(out, MoveForm::Own, moves)?;
     put_end(out)
 }
 
@@ -372,7 +407,7 @@ fn put_alone<W: Write>(out: &mut W, told: &PositionTold) -> Result<(), WriteFaul
 }
 
 /// Why a text is no position, as a value.
-fn fen_error<'a>(fault: &FenFault) -> Value<'a>
+pub(crate) fn fen_error<'a>(fault: &FenFault) -> Value<'a>
     ensures { value_json result ≡ string (fen_error fault.now) }
 {
     match fault {
@@ -382,7 +417,7 @@ fn fen_error<'a>(fault: &FenFault) -> Value<'a>
 }
 
 /// Writes an object that says why there is no answer.
-fn put_error_alone<W: Write>(out: &mut W, value: Value<'_>) -> Result<(), WriteFault>
+pub(crate) fn put_error_alone<W: Write>(out: &mut W, value: Value<'_>) -> Result<(), WriteFault>
     ensures { OnOk result (Writes false (json_tokens (object (member (codes "error") (value_json value.entry) no_members))) (W.contents out.old) (W.contents out.new)) }
 {
     let member = Member {

@@ -1,0 +1,33 @@
+use Rattle.std.proofs.Common.{List, ℕ, ◌++◌, ap, ◌∙◌, append_assoc}
+use Rattle.http_server.proofs.KnownLemmas.{Appends-then, Consumes-then}
+use Rattle.http_server.proofs.StreamLemmas.{Calls-then}
+use Rattle.http_loop.proofs.peer.take_turn.Goals as goal
+
+pub returns-in_default : goal.returns-in_default
+returns-in_default g c =
+    let read = c.loop.invariant.0 in
+    let written = c.loop.invariant.1 in
+    let quiet = c.advance.ensures.quiet in
+    let came = c.step.ensures.read in
+    let went = c.step.ensures.written in
+    let all = Calls-then g.S.Service.answers _ _ _ _ _ _ c.loop.invariant.2 c.advance.ensures.calls in
+    record {
+      read = (read.0 ++ came.0, Consumes-then _ _ _ read.0 came.0 read.1 came.1, came.2 ∙ ap (λ (t : List ℕ). t ++ came.0) (quiet.0 ∙ read.2) ∙ append_assoc _ read.0 came.0);
+      written = (written.0 ++ went.0, Appends-then _ _ _ written.0 went.0 written.1 went.1, went.2 ∙ ap (λ (t : List ℕ). t ++ went.0) (quiet.2 ∙ written.2) ∙ append_assoc _ written.0 went.0);
+      calls = (all.0, c.step.ensures.calls ∙ all.1, all.2);
+      config = c.step.ensures.config ∙ c.advance.ensures.config ∙ c.loop.invariant.3;
+    }
+
+pub loop-preserved : goal.loop-preserved
+loop-preserved g c =
+    let read = c.loop.invariant.0 in
+    let written = c.loop.invariant.1 in
+    let quiet = c.advance.ensures.quiet in
+    let came = c.step.ensures.read in
+    let went = c.step.ensures.written in
+    let all = Calls-then g.S.Service.answers _ _ _ _ _ _ c.loop.invariant.2 c.advance.ensures.calls in (
+      (read.0 ++ came.0, Consumes-then _ _ _ read.0 came.0 read.1 came.1, came.2 ∙ ap (λ (t : List ℕ). t ++ came.0) (quiet.0 ∙ read.2) ∙ append_assoc _ read.0 came.0),
+      (written.0 ++ went.0, Appends-then _ _ _ written.0 went.0 written.1 went.1, went.2 ∙ ap (λ (t : List ℕ). t ++ went.0) (quiet.2 ∙ written.2) ∙ append_assoc _ written.0 went.0),
+      (all.0, c.step.ensures.calls ∙ all.1, all.2),
+      c.step.ensures.config ∙ c.advance.ensures.config ∙ c.loop.invariant.3,
+    )

@@ -1,0 +1,233 @@
+//! Requests that are answered by the tables of a folder.
+
+ghost use Rattle.std.specs.Prelude.{◌≡◌, ◌≤◌, IfOk, OnErr, length, string_bytes, ℕ, List};
+ghost use Rattle.line_teller.specs.ToldLines.{HasFailed};
+ghost use Rattle.move_msg.specs.ToldBy.{told_by};
+ghost use Rattle.serve_core.specs.Serves.{Serves, ServesFolder, TellsRefusal, TellsText, manifest_path, ready_line, refused_manifest};
+ghost use Rattle.task_files.specs.Outside.{IsToldAt};
+
+use crate::counting::Counted;
+use bumpalo::Bump;
+use http_answer::Answerer;
+use http_loop::{Limits, Server};
+use http_server::Config;
+use line_teller::LineWords;
+use move_msg::Manifest;
+use std::alloc::{AllocError, Global};
+use std::hash::RandomState;
+use std::io;
+use std::net::{Net, SocketAddr, ToSocketAddrs};
+use std::time::{Clock, Duration};
+use system_io::{Disk, Output, ReadFault, WriteFault};
+use table_folder::TableFolder;
+use task_files::read_manifest;
+
+/// How many connections there are at once, at most.
+const CONNECTIONS: usize = 512;
+
+/// How many decoded blocks of tables are kept, at most.
+const BLOCKS: usize = 4096;
+
+/// What is served, and where.
+#[derive(Clone, Copy)]
+pub struct Serve<'a> {
+    /// The folder of the tables.
+    pub tables: &'a str,
+    /// The manifest that its files are held to, if there is one.
+    pub manifest: Option<&'a str>,
+    /// The address at which requests come: a host, a colon and a port.
+    pub bind: &'a str,
+    /// How many requests are answered, at least, before it ends.
+    pub requests: u64,
+}
+
+/// Writes a line that refuses, and returns the status 1.
+fn put_refusal<W: Output>(out: &mut W, line: LineWords) -> Result<u8, WriteFault>
+    ensures told { TellsRefusal line (W.contents out.old) (W.contents out.new) result }
+    ensures cause { OnErr result (HasFailed W.facts) }
+{
+    match line.put(out) {
+        Ok(()) => Ok(1),
+        Err(fault) => Err(fault),
+    }
+}
+
+/// Writes words that refuse, and returns the status 1.
+fn refuse<W: Output>(out: &mut W, words: &str) -> Result<u8, WriteFault>
+    requires { length words.now ≤ 255 }
+    ensures told { TellsRefusal words.now (W.contents out.old) (W.contents out.new) result }
+    ensures cause { OnErr result (HasFailed W.facts) }
+{
+    put_refusal(out, LineWords::of(words))
+}
+
+/// Writes that the line of a manifest with this number is malformed.
+fn refuse_manifest<W: Output>(out: &mut W, line: usize) -> Result<u8, WriteFault>
+    ensures told { TellsRefusal (refused_manifest line) (W.contents out.old) (W.contents out.new) result }
+    ensures cause { OnErr result (HasFailed W.facts) }
+{
+    let mut words = LineWords::of("refused manifest ");
+    words.add_number(line);
+    put_refusal(out, words)
+}
+
+/// A server that listens at the first address of a host name and a port that can be bound.
+fn bound<'r, R: Clock + Net>(
+    rt: &'r R,
+    alloc: Global,
+    keys: RandomState,
+    address: &str,
+) -> io::Result<Server<'r, R>> {
+    let limits = Limits {
+        config: Config::default(),
+        connections: CONNECTIONS,
+        exchange: Duration::from_secs(10),
+        sweep: Duration::from_secs(1),
+    };
+    let mut refused = io::Error::from(io::ErrorKind::AddrNotAvailable);
+    for at in address.to_socket_addrs(rt)? {
+        match Server::bind(rt, alloc, keys, limits, at) {
+            Ok(server) => return Ok(server),
+            Err(error) => refused = error,
+        }
+    }
+    Err(refused)
+}
+
+/// The line that tells an address.
+fn ready_text(alloc: Global, own: SocketAddr) -> Result<String, AllocError>
+    ensures { IfOk result (λ text. (address : List ℕ) × (string_bytes text ≡ ready_line address)) }
+{
+    format!(in alloc; "ready {own}\n")
+}
+
+/// Writes a text, and lets it go out.
+fn put_out<W: Output>(out: &mut W, text: &str) -> Result<u8, WriteFault>
+    ensures told { TellsText text.now 0 (W.contents out.old) (W.contents out.new) result }
+    ensures cause { OnErr result (HasFailed W.facts) }
+{
+    match out.put(text.as_bytes()) {
+        Ok(()) => match out.flush_all() {
+            Ok(()) => Ok(0),
+            Err(fault) => Err(fault),
+        },
+        Err(fault) => Err(fault),
+    }
+}
+
+/// Answers so many requests. The error comes where the system can't wait, or memory is refused.
+fn answer_all<R: Clock + Net, D: Disk>(
+    server: &mut Server<'_, R>,
+    answerer: Answerer<'_, D>,
+    requests: u64,
+) -> io::Result<()> {
+    let mut counted = Counted {
+        service: answerer,
+        answered: 0,
+    };
+    for _ in 0..u64::MAX {
+        if requests <= counted.answered {
+            return Ok(());
+        }
+        server.round(&mut counted)?;
+    }
+    Ok(())
+}
+
+/// Tells the address at which a server listens, and answers requests.
+fn serve_at<R: Clock + Net, D: Disk, W: Output>(
+    alloc: Global,
+    server: &mut Server<'_, R>,
+    answerer: Answerer<'_, D>,
+    requests: u64,
+    out: &mut W,
+) -> Result<u8, WriteFault>
+    ensures told { ServesFolder (W.contents out.old) (W.contents out.new) result }
+    ensures cause { OnErr result (HasFailed W.facts) }
+{
+    let Ok(own) = server.address() else {
+        return refuse(out, "refused port");
+    };
+    let Ok(text) = ready_text(alloc, own) else {
+        return refuse(out, "refused memory");
+    };
+    let status = match put_out(out, text.as_str()) {
+        Ok(status) => status,
+        Err(fault) => return Err(fault),
+    };
+    match answer_all(server, answerer, requests) {
+        Ok(()) => Ok(status),
+        Err(_) => refuse(out, "refused port"),
+    }
+}
+
+/// Serves over a folder.
+fn serve_folder<R: Clock + Net, D: Disk, W: Output>(
+    alloc: Global,
+    rt: &R,
+    keys: RandomState,
+    folder: TableFolder<'_, D>,
+    task: &Serve<'_>,
+    out: &mut W,
+) -> Result<u8, WriteFault>
+    ensures told { ServesFolder (W.contents out.old) (W.contents out.new) result }
+    ensures cause { OnErr result (HasFailed W.facts) }
+{
+    let Ok(answerer) = Answerer::over(alloc, folder, BLOCKS) else {
+        return refuse(out, "refused memory");
+    };
+    match bound(rt, alloc, keys, task.bind) {
+        Ok(mut server) => serve_at(alloc, &mut server, answerer, task.requests, out),
+        Err(_) => refuse(out, "refused port"),
+    }
+}
+
+/// Serves over the folder that the words name, held to this manifest.
+fn serve_by<R: Clock + Net, D: Disk, W: Output>(
+    alloc: Global,
+    rt: &R,
+    keys: RandomState,
+    disk: &D,
+    manifest: &Manifest,
+    task: &Serve<'_>,
+    out: &mut W,
+) -> Result<u8, WriteFault>
+    requires { IsToldAt (D.facts disk.now) (manifest_path task.now) (told_by manifest.now) }
+    ensures told { Serves (D.facts disk.now) task.now (W.contents out.old) (W.contents out.new) result }
+    ensures cause { OnErr result (HasFailed W.facts) }
+{
+    if let Manifest::BadLine(line) = manifest {
+        return refuse_manifest(out, *line);
+    }
+    let arena = Bump::new(alloc);
+    match TableFolder::open(alloc, disk, task.tables, manifest, &arena) {
+        Ok(folder) => serve_folder(alloc, rt, keys, folder, task, out),
+        Err(ReadFault::Unreadable) => refuse(out, "refused files"),
+        Err(ReadFault::OutOfMemory) => refuse(out, "refused memory"),
+    }
+}
+
+/// Answers requests by the tables of a folder, each of which is read when a position asks for it, and returns the status: 0 where as many
+/// requests were answered as are wanted.
+///
+/// The first line is `ready` and the address at which requests come, and nothing else is written. What is refused is told in one line, in
+/// this order: the manifest, which can't be read or is malformed, the folder of the tables, and the address. Where memory is refused
+/// before a request the line is `refused memory`. The line `refused port` comes behind the first one where the system can't wait for requests
+/// any more. The error comes only where the writer failed.
+pub fn serve_tables<R: Clock + Net, D: Disk, W: Output>(
+    alloc: Global,
+    rt: &R,
+    keys: RandomState,
+    disk: &D,
+    task: &Serve<'_>,
+    out: &mut W,
+) -> Result<u8, WriteFault>
+    ensures told { Serves (D.facts disk.now) task.now (W.contents out.old) (W.contents out.new) result }
+    ensures cause { OnErr result (HasFailed W.facts) }
+{
+    match read_manifest(alloc, disk, task.manifest) {
+        Ok(manifest) => serve_by(alloc, rt, keys, disk, &manifest, task, out),
+        Err(ReadFault::Unreadable) => refuse(out, "refused files"),
+        Err(ReadFault::OutOfMemory) => refuse(out, "refused memory"),
+    }
+}
