@@ -153,14 +153,6 @@ fn run_by_key<'s, D: LineDisk, I: Input, H: Host, W: Output, E: Output>(
     }
 }
 
-/// The first word, or an empty one.
-fn first_of<'a>(words: &[&'a str]) -> &'a str {
-    match words {
-        [word, ..] => *word,
-        [] => "",
-    }
-}
-
 /// Runs the program on the words after its own name, and returns the status: 0 done, 1 refused, 2 misuse.
 ///
 /// All that a task names is read before anything is answered: its folder, of which the files of tables are looked at, its
@@ -173,9 +165,9 @@ fn first_of<'a>(words: &[&'a str]) -> &'a str {
 /// records in that folder, and `enter` files of games in its folder. No other task opens anything there, and these nothing else: that is
 /// so of any result, also of an error.
 ///
-/// Answers go to `out`. For a misuse one line on `err` says what is wrong, followed by the usage. A request for help
-/// gets the usage alone, after a command that of the command. The progress of a task with `--progress` goes there too, and who was silent where
-/// `send` ends as `refused lost`, and nothing else. A failure of
+/// Answers go to `out`. For a misuse one line on `err` says what is wrong; then come a near word, where there is one, and the line that
+/// names help. A request for help gets the list of commands, or the use of the command that it names. The progress of a task with
+/// `--progress` goes there too, and who was silent where `send` ends as `refused lost`, and nothing else. A failure of
 /// `err` changes nothing. The error comes only where `out` failed.
 pub fn run<'s, D: LineDisk, I: Input, H: Host, W: Output, E: Output>(
     alloc: Global,
@@ -194,7 +186,7 @@ pub fn run<'s, D: LineDisk, I: Input, H: Host, W: Output, E: Output>(
         Ok(task) => run_by_key(alloc, &task, system, history, out, err),
         Err(Usage::OutOfMemory) => put_refusal(out, Refusal::Memory),
         Err(Usage::Misuse(misuse)) => {
-            tell_misuse(alloc, err, &misuse, first_of(words));
+            tell_misuse(alloc, err, &misuse);
             Ok(2)
         }
     }
@@ -252,7 +244,7 @@ pub fn run_program<'s, D: LineDisk, I: Input, H: Host, W: Output, E: Output>(
             Err(_) => put_refusal(out, Refusal::Memory),
         },
         Err(WordsFault::NoText(word)) => {
-            tell_misuse(alloc, err, &Misuse::NoText(word.as_slice()), "");
+            tell_misuse(alloc, err, &Misuse::NoText(word.as_slice()));
             Ok(2)
         }
         Err(WordsFault::OutOfMemory) => put_refusal(out, Refusal::Memory),
