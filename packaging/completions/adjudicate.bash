@@ -1,46 +1,97 @@
-# Completion of adjudicate for bash. Commands and options are those of the program's own usage.
+# Completion of adjudicate for bash. Written by tools/words from what the program tells; a change here doesn't stay.
 
-# The words of a command in the usage, one a line: an option with the name of its value, if it has one, or a name alone.
+# The options of a command, each with the word for its value, if it has one.
+_adjudicate_options()
+{
+    case $1 in
+        judge) echo '--tables=DIR --manifest=FILE --lazy' ;;
+        probe) echo '--tables=DIR --manifest=FILE --lazy' ;;
+        probes) echo '--tables=DIR --manifest=FILE --all-tables --json --determined --progress' ;;
+        root) echo '--tables=DIR --manifest=FILE --all-tables --json --determined' ;;
+        moves) echo '--san' ;;
+        game) echo '--tables=DIR --manifest=FILE --all-tables --delay=N --san' ;;
+        games) echo '--tables=DIR --manifest=FILE --all-tables --delay=N --progress' ;;
+        follow) echo '--tables=DIR --manifest=FILE --delay=N --san' ;;
+        pgn) echo '--tables=DIR --manifest=FILE --delay=N --json --differ' ;;
+        enter) echo '--name=NAME --start=FEN --from=FILE --tables=DIR --manifest=FILE --delay=N --games=DIR' ;;
+        send) echo '--name=NAME --start=FEN --tables=DIR --manifest=FILE --delay=N --game=FILE --bind=ADDR --to=ADDR[,ADDR] --wait=MS --tries=N --key=FILE --san' ;;
+        status) echo '--games=DIR --other=DIR' ;;
+        record) echo '--games=DIR' ;;
+        audit) echo '--name=NAME --start=FEN --tables=DIR --manifest=FILE --delay=N --games=DIR --other=DIR' ;;
+        listen) echo '--name=NAME --start=FEN --tables=DIR --me=1|2 --bind=ADDR --to=ADDR[,ADDR] --kept=FILE --datagrams=N --delay=N --fetch --ready --key=FILE' ;;
+        host) echo '--games=DIR --tables=DIR --manifest=FILE --bind=ADDR --to=ADDR[,ADDR] --me=1|2 --at-once=N --cache=N --datagrams=N --key=FILE --log=all|changes|none --store=sqlite|files --log-failures-ignored' ;;
+        run) echo '--tables=DIR --cache=N --delay=N' ;;
+        list) echo '--progress' ;;
+        check) echo '--manifest=FILE --progress' ;;
+    esac
+}
+
+# The words of a command.
 _adjudicate_words()
 {
-    "$1" help 2>&1 | sed 's/^usage: //; s/^ *//' | awk -v command="$2" '
-        /^adjudicate / { is_it = $2 == command; $1 = $2 = "" }
-        is_it { line = line " " $0 }
-        END {
-            count = split(line, word, " ")
-            for (i = 1; i <= count; i++) {
-                # a flag closes its bracket at once
-                text = word[i] ~ /^\[*--[a-z-]*$/ ? word[i] " " word[++i] : word[i]
-                sub(/\[,.*/, "", text); gsub(/[][]/, "", text)
-                # a command may have several lines
-                if (!is_told[text]++) print text
-            }
-        }'
+    case $1 in
+        judge) echo 'FEN' ;;
+        probe) echo 'FEN' ;;
+        root) echo 'FEN' ;;
+        moves) echo 'FEN' ;;
+        game) echo 'FEN' ;;
+        follow) echo 'FEN' ;;
+        pgn) echo 'FILE' ;;
+        record) echo 'FILE STAMP' ;;
+        audit) echo 'FILE' ;;
+        list) echo 'DIR' ;;
+        check) echo 'DIR' ;;
+    esac
+}
+
+# The games of the folder that stands behind --games.
+_adjudicate_stamps()
+{
+    local place file
+    for ((place = 1; place < COMP_CWORD; place++)); do
+        if [[ ${COMP_WORDS[place]} == --games ]]; then
+            for file in "${COMP_WORDS[place + 1]}"/*.game; do
+                [[ -e $file ]] && file=${file##*/} && echo "${file%.game}"
+            done
+        fi
+    done
+}
+
+# The values of a word: folders, files, games or these words.
+_adjudicate_values()
+{
+    local word=${COMP_WORDS[COMP_CWORD]} stamps
+    case $1 in
+        DIR) compopt -o filenames; mapfile -t COMPREPLY < <(compgen -d -- "$word") ;;
+        FILE) compopt -o filenames; mapfile -t COMPREPLY < <(compgen -f -- "$word") ;;
+        STAMP) mapfile -t COMPREPLY < <(compgen -W "$(_adjudicate_stamps)" -- "$word") ;;
+        *'|'*) mapfile -t COMPREPLY < <(compgen -W "${1//|/ }" -- "$word") ;;
+    esac
 }
 
 _adjudicate()
 {
-    local word=${COMP_WORDS[COMP_CWORD]} before=${COMP_WORDS[COMP_CWORD - 1]} words value
+    local word=${COMP_WORDS[COMP_CWORD]} before=${COMP_WORDS[COMP_CWORD - 1]} options value
     COMPREPLY=()
-    if ((COMP_CWORD == 1)); then
-        words=$("$1" help 2>&1 | sed -n 's/^\(usage:\)\{0,1\} *adjudicate \([a-z-]*\).*/\2/p')
-        mapfile -t COMPREPLY < <(compgen -W "$words" -- "$word")
+    if ((COMP_CWORD == 1)) || [[ $COMP_CWORD == 2 && $before == help ]]; then
+        mapfile -t COMPREPLY < <(compgen -W 'judge probe probes root moves game games follow pgn enter send status record audit listen host run show list check version help' -- "$word")
         return
     fi
-    words=$(_adjudicate_words "$1" "${COMP_WORDS[1]}")
-    value=$(sed -n "s/^$before \([A-Z]*\)\$/\1/p" <<< "$words")
-    if [[ -z $value && $word == -* ]]; then
-        mapfile -t COMPREPLY < <(compgen -W "$(sed -n 's/^\(--[a-z-]*\).*/\1/p' <<< "$words")" -- "$word")
+    options=$(_adjudicate_options "${COMP_WORDS[1]}")
+    for value in $options; do
+        if [[ $value == "$before="* ]]; then
+            _adjudicate_values "${value#*=}"
+            return
+        fi
+    done
+    if [[ $word == -* ]]; then
+        mapfile -t COMPREPLY < <(compgen -W "$(sed 's/=[^ ]*//g' <<< "$options") --help" -- "$word")
         return
     fi
-    # the value of the option before, or a word of its own
-    [[ -n $value ]] || value=$(grep -x 'DIR\|FILE' <<< "$words" | head -n 1)
-    case $value in
-        DIR) compopt -o filenames; mapfile -t COMPREPLY < <(compgen -d -- "$word") ;;
-        FILE) compopt -o filenames; mapfile -t COMPREPLY < <(compgen -f -- "$word") ;;
-        M) mapfile -t COMPREPLY < <(compgen -W '1 2' -- "$word") ;;
-        FORM) mapfile -t COMPREPLY < <(compgen -W 'all changes none' -- "$word") ;;
-    esac
+    for value in $(_adjudicate_words "${COMP_WORDS[1]}"); do
+        [[ $value == FILE && " ${COMP_WORDS[*]} " == *' --games '* ]] || _adjudicate_values "$value"
+        ((${#COMPREPLY[@]})) && return
+    done
 }
 
 complete -F _adjudicate adjudicate

@@ -29,3 +29,4 @@ is_simple name.Host = refl
 is_simple name.Root = refl
 is_simple name.Follow = refl
 is_simple name.Status = refl
+is_simple name.Serve = refl

@@ -10,6 +10,7 @@ pub mod InputLaws
 pub mod KeyLaws
 pub mod LookLaws
 pub mod MisuseLaws
+mod NearLaws
 pub mod PgnLaws
 pub mod PutLaws
 pub mod GamePathLaws

@@ -73,6 +73,7 @@ nothing_by (task.Host h) = inl (before_games h, refl)
 nothing_by (task.Root t) = refl
 nothing_by (task.Follow t) = refl
 nothing_by (task.Status t) = refl
+nothing_by (task.Serve t) = refl
 
 pub makes_nothing : (t : Task) (had : Option (List Made)) → MakesFor t had had
 makes_nothing t had = ([], Passes-nil had, nothing_by t)

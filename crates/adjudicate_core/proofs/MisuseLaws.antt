@@ -1,7 +1,7 @@
 -- What is told of words that are misused.
 use Rattle.std.proofs.Common.{◌≡◌, ◌≤◌, ◌<◌, ◌++◌, ◌∙◌, List, [], ◌∷◌, Bool, Bor, Option, sym, ap, subst, inl, inr, length, slice_index_or, arith}
 use Rattle.std.proofs.lemmas.Slice.Eq.{bytes_eq-Decides}
-use Rattle.std.specs.Prelude.{ℕ, Some, slice_get, IsTrue, map, ◌↔◌}
+use Rattle.std.specs.Prelude.{ℕ, Some, drop, slice_get, IsTrue, map, ◌↔◌}
 use Rattle.std.specs.Str.{bytes_eq}
 use Rattle.clap.specs.Words.{HasKind, Text, kind_of}
 use Rattle.clap.specs.declared.error.Error.{Error}
@@ -16,7 +16,7 @@ use Rattle.adjudicate_core.specs.declared.words.usage.Misuse.TheVariants as misu
 use Rattle.adjudicate_core.specs.Inside.Putting.{IsMisuseOf}
 use Rattle.adjudicate_core.specs.Misuses.{AreWell, AsksForHelp, Fault, IsFirstMisuse, fault_words}
 use Rattle.adjudicate_core.specs.Rules.{argument_value, words_fault}
-use Rattle.adjudicate_core.specs.Tasks.{IsMisuse, NamesCommand, NamesNoCommand, TakesWords, app_for, faults_of}
+use Rattle.adjudicate_core.specs.Tasks.{IsHelpBy, IsMisuse, NamesCommand, NamesNoCommand, TakesWords, app_for, faults_of}
 use Rattle.adjudicate_core.specs.Usage.{usage_by, usage_of}
 
 -- ---- by one word alone
@@ -31,38 +31,38 @@ one_word (w ∷ v ∷ others) word default b least below is = absurd (omega arit
 
 -- ---- by the parser of command lines
 
-refused_by : (k : ErrorKind) (e : Error) (m : Misuses) → usage_by k e ≡ Misuse m → Refused e ≡ m
-refused_by kind.OutOfMemory e m is = absurd (let f : OutOfMemory ≡ Misuse m = is in cc)
-refused_by kind.InvalidValue e m is = let f : Misuse (Refused e) ≡ Misuse m = is in cc
-refused_by kind.UnknownArgument e m is = let f : Misuse (Refused e) ≡ Misuse m = is in cc
-refused_by kind.InvalidSubcommand e m is = let f : Misuse (Refused e) ≡ Misuse m = is in cc
-refused_by kind.NoEquals e m is = let f : Misuse (Refused e) ≡ Misuse m = is in cc
-refused_by kind.ValueValidation e m is = let f : Misuse (Refused e) ≡ Misuse m = is in cc
-refused_by kind.TooManyValues e m is = let f : Misuse (Refused e) ≡ Misuse m = is in cc
-refused_by kind.TooFewValues e m is = let f : Misuse (Refused e) ≡ Misuse m = is in cc
-refused_by kind.WrongNumberOfValues e m is = let f : Misuse (Refused e) ≡ Misuse m = is in cc
-refused_by kind.ArgumentConflict e m is = let f : Misuse (Refused e) ≡ Misuse m = is in cc
-refused_by kind.MissingRequiredArgument e m is = let f : Misuse (Refused e) ≡ Misuse m = is in cc
-refused_by kind.MissingSubcommand e m is = let f : Misuse (Refused e) ≡ Misuse m = is in cc
-refused_by kind.DisplayHelp e m is = let f : Misuse (Refused e) ≡ Misuse m = is in cc
-refused_by kind.DisplayHelpOnMissingArgumentOrSubcommand e m is = let f : Misuse (Refused e) ≡ Misuse m = is in cc
-refused_by kind.DisplayVersion e m is = let f : Misuse (Refused e) ≡ Misuse m = is in cc
-refused_by kind.Io e m is = let f : Misuse (Refused e) ≡ Misuse m = is in cc
-refused_by kind.Format e m is = let f : Misuse (Refused e) ≡ Misuse m = is in cc
+refused_by : (k : ErrorKind) (name : Name) (e : Error) (m : Misuses) → usage_by k name e ≡ Misuse m → Refused name e ≡ m
+refused_by kind.OutOfMemory command e m is = absurd (let f : OutOfMemory ≡ Misuse m = is in cc)
+refused_by kind.InvalidValue command e m is = let f : Misuse (Refused command e) ≡ Misuse m = is in cc
+refused_by kind.UnknownArgument command e m is = let f : Misuse (Refused command e) ≡ Misuse m = is in cc
+refused_by kind.InvalidSubcommand command e m is = let f : Misuse (Refused command e) ≡ Misuse m = is in cc
+refused_by kind.NoEquals command e m is = let f : Misuse (Refused command e) ≡ Misuse m = is in cc
+refused_by kind.ValueValidation command e m is = let f : Misuse (Refused command e) ≡ Misuse m = is in cc
+refused_by kind.TooManyValues command e m is = let f : Misuse (Refused command e) ≡ Misuse m = is in cc
+refused_by kind.TooFewValues command e m is = let f : Misuse (Refused command e) ≡ Misuse m = is in cc
+refused_by kind.WrongNumberOfValues command e m is = let f : Misuse (Refused command e) ≡ Misuse m = is in cc
+refused_by kind.ArgumentConflict command e m is = let f : Misuse (Refused command e) ≡ Misuse m = is in cc
+refused_by kind.MissingRequiredArgument command e m is = let f : Misuse (Refused command e) ≡ Misuse m = is in cc
+refused_by kind.MissingSubcommand command e m is = let f : Misuse (Refused command e) ≡ Misuse m = is in cc
+refused_by kind.DisplayHelp command e m is = let f : Misuse (Refused command e) ≡ Misuse m = is in cc
+refused_by kind.DisplayHelpOnMissingArgumentOrSubcommand command e m is = let f : Misuse (Refused command e) ≡ Misuse m = is in cc
+refused_by kind.DisplayVersion command e m is = let f : Misuse (Refused command e) ≡ Misuse m = is in cc
+refused_by kind.Io command e m is = let f : Misuse (Refused command e) ≡ Misuse m = is in cc
+refused_by kind.Format command e m is = let f : Misuse (Refused command e) ≡ Misuse m = is in cc
 
-pub refused_so : (words : List Text) (name : Name) (e : Error) (m : Misuses) → NamesCommand words name → HasKind (words_fault (app_for name) words) e → usage_of e ≡ Misuse m → IsMisuse words m
+pub refused_so : (words : List Text) (name : Name) (e : Error) (m : Misuses) → NamesCommand words name → HasKind (words_fault (app_for name) words) e → usage_of name e ≡ Misuse m → IsMisuse words m
 refused_so words name e m named h is = elim h [
-  | inl memory ↦ absurd (let f : OutOfMemory ≡ Misuse m = sym (ap (λ k. usage_by k e) memory) ∙ is in cc)
-  | inr among ↦ subst (IsMisuse words) (refused_by (kind_of e) e m is) (name, named, among)
+  | inl memory ↦ absurd (let f : OutOfMemory ≡ Misuse m = sym (ap (λ k. usage_by k name e) memory) ∙ is in cc)
+  | inr among ↦ subst (IsMisuse words) (refused_by (kind_of e) name e m is) (named, among)
 ]
 
 -- ---- by the command's values
 
-pub value_so : (words : List Text) (name : Name) (value : Text → Option Text) (fault : ValueFault) (m : Misuses) → NamesCommand words name → TakesWords (app_for name) words → ((id : Text) → value id ≡ argument_value (app_for name) words id) → IsFirstMisuse value (faults_of name value) (fault_words fault) → Misuse (Value fault) ≡ Misuse m → IsMisuse words m
+pub value_so : (words : List Text) (name : Name) (value : Text → Option Text) (fault : ValueFault) (m : Misuses) → NamesCommand words name → TakesWords (app_for name) words → ((id : Text) → value id ≡ argument_value (app_for name) words id) → IsFirstMisuse value (faults_of name value) (fault_words fault) → Misuse (Value name fault) ≡ Misuse m → IsMisuse words m
 value_so words name value fault m named taken same first is =
     let one : value ≡ argument_value (app_for name) words = (λ i id. same id i) in
-    let at : Value fault ≡ m = cc in
-    subst (IsMisuse words) at (name, named, taken, subst (λ (v : Text → Option Text). IsFirstMisuse v (faults_of name v) (fault_words fault)) one first)
+    let at : Value name fault ≡ m = cc in
+    subst (IsMisuse words) at (named, taken, subst (λ (v : Text → Option Text). IsFirstMisuse v (faults_of name v) (fault_words fault)) one first)
 
 -- ---- the first of several
 
@@ -79,10 +79,19 @@ first_behind value (fault ∷ front) rest line well h = inr (well.0, first_behin
 
 -- ---- a first word that names no command
 
-pub misuse_so : (words : List Text) (word : Text) (m : Misuses) → NamesNoCommand words → slice_get words 0 ≡ Some word → IsMisuseOf word m → IsMisuse words m
-misuse_so words word misuse.Help none at h = (word, at, h)
-misuse_so words word (misuse.UnknownCommand told) none at h = (none, at ∙ ap Some (sym h.0), λ asks. h.1 (subst AsksForHelp h.0 asks))
-misuse_so words word misuse.NoCommand none at h = absurd h
-misuse_so words word (misuse.NoText told) none at h = absurd h
-misuse_so words word (misuse.Refused e) none at h = absurd h
-misuse_so words word (misuse.Value fault) none at h = absurd h
+wants_help : (words : List Text) (word : Text) (m : Misuses) → slice_get words 0 ≡ Some word → AsksForHelp word → IsHelpBy (drop 1 words) m → IsMisuse words m
+wants_help words word misuse.Help at asks h = ((word, at, asks), h)
+wants_help words word (misuse.HelpOf command) at asks h = ((word, at, asks), h)
+wants_help words word (misuse.UnknownCommand told) at asks h = inr ((word, at, asks), h)
+wants_help words word misuse.NoCommand at asks h = absurd h
+wants_help words word (misuse.NoText told) at asks h = absurd h
+wants_help words word (misuse.Refused command e) at asks h = absurd h
+wants_help words word (misuse.Value command fault) at asks h = absurd h
+
+pub misuse_so : (words : List Text) (word : Text) (m : Misuses) → NamesNoCommand words → slice_get words 0 ≡ Some word → IsMisuseOf word (drop 1 words) m → IsMisuse words m
+misuse_so words word m none at h = elim h [
+  | inl asked ↦ wants_help words word m at asked.0 asked.1
+  | inr unknown ↦
+      let told = unknown.1.0 in
+      subst (IsMisuse words) (sym unknown.1.2) (inl (none, at ∙ ap Some (sym unknown.1.1), λ asks. unknown.0 (subst AsksForHelp unknown.1.1 asks)))
+]

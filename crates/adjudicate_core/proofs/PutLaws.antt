@@ -3,14 +3,13 @@ use Rattle.std.proofs.Common.{◌≡◌, ◌<◌, ◌++◌, ◌∙◌, ℕ, suc,
 use Rattle.std.specs.Prelude.{Result, Ok, Err, OnErr, OnOk, get_or, false}
 use Rattle.std.proofs.lemmas.Bool.{cond-false}
 use Rattle.hex.specs.Hex.{encode_lower}
-use Rattle.adjudicate_core.specs.declared.words.usage.Misuse.{Misuse}
 use Rattle.std.proofs.lemmas.Grind.{flat_map-append}
 use Rattle.std.proofs.Math.Seq.{split_at}
 use Rattle.std.specs.Io.KnownBytes.{Appends, Keeps}
 use Rattle.std.proofs.KnownBytes.{Appends-nil, Appends-trans}
 use Rattle.system_io.specs.Outputs.{OutputFacts, WritesFront}
-use Rattle.adjudicate_core.specs.Uses.{CutOff, CutsOff, GoesOut, Gone, IsMisuseLine, TellsMisuse, is_plain_byte, shown_byte, shown_bytes, shown_line}
-use Rattle.adjudicate_core.specs.Inside.Putting.{IsPut, TellsLineFirst}
+use Rattle.adjudicate_core.specs.Uses.{CutOff, CutsOff, GoesOut, Gone, is_plain_byte, shown_byte, shown_bytes}
+use Rattle.adjudicate_core.specs.Inside.Putting.{IsPut}
 
 module _ {E : Type 0} (facts : E → OutputFacts) (contents : E → Option (List ℕ)) where
   pub put_so : {T F : Type 0} (old new : E) (bytes : List ℕ) (r : Result T F) → WritesFront (contents old) (contents new) bytes r → OnErr r (facts old).refuses → IsPut facts contents old new bytes r
@@ -49,6 +48,13 @@ module _ {E : Type 0} (facts : E → OutputFacts) (contents : E → Option (List
   then_put old mid new a b (Ok x) h p = Appends-trans (contents old) (contents mid) (contents new) a b h p
   then_put old mid new a b (Err e) h p = cut_later old mid new a b h p
 
+  -- three texts, one behind the other
+  pub put_third : {T F : Type 0} (old first second new : E) (a b d : List ℕ) (r : Result T F) → Appends (contents old) (contents first) a → Appends (contents first) (contents second) b → IsPut facts contents second new d r → IsPut facts contents old new (a ++ b ++ d) r
+  put_third old first second new a b d r h k p = then_put old second new (a ++ b) d r (Appends-trans (contents old) (contents first) (contents second) a b h k) p
+
+  pub cut_second : (old first new : E) (a b d : List ℕ) → Appends (contents old) (contents first) a → CutsOff facts contents first new b → CutsOff facts contents old new (a ++ b ++ d)
+  cut_second old first new a b d h p = cut_before old new (a ++ b) d (cut_later old first new a b h p)
+
   still : (a b c : Option (List ℕ)) (bs : List ℕ) → Appends a b bs → Keeps b c → Appends a c bs
   still None b c bs p q = tt
   still (Some xs) None c bs p q = absurd p
@@ -66,6 +72,10 @@ module _ {E : Type 0} (facts : E → OutputFacts) (contents : E → Option (List
   pub goes_after : (old mid new : E) (a b : List ℕ) → Appends (contents old) (contents mid) a → GoesOut facts contents mid new b → GoesOut facts contents old new (a ++ b)
   goes_after old mid new a b h (Gone q gone) = Gone (Appends-trans (contents old) (contents mid) (contents new) a b h q) gone
   goes_after old mid new a b h (CutOff p) = CutOff (cut_later old mid new a b h p)
+
+  -- a text that can't be written to its end, before more
+  pub cut_goes : (old new : E) (a b : List ℕ) → CutsOff facts contents old new a → GoesOut facts contents old new (a ++ b)
+  cut_goes old new a b p = CutOff (cut_before old new a b p)
 
   -- words of which some are written
   pub cut_in : (old mid new : E) (words : List ℕ) (i : ℕ) → i < length words → Appends (contents old) (contents mid) (shown_bytes (take i words)) → CutsOff facts contents mid new (shown_byte (get_or words i 0)) → CutsOff facts contents old new (shown_bytes words)
@@ -100,9 +110,3 @@ module _ {E : Type 0} (facts : E → OutputFacts) (contents : E → Option (List
 
   pub three_cut : (old new : E) (a b d : List ℕ) → CutsOff facts contents old new (shown_bytes (a ++ b)) → CutsOff facts contents old new (shown_bytes (a ++ b ++ d))
   three_cut old new a b d p = two_cut old new (a ++ b) d p
-
-  pub line_so : (old new : E) (words : List ℕ) (m : Misuse) → TellsLineFirst facts contents old new (shown_line words) → IsMisuseLine m (shown_line words) → TellsMisuse facts contents old new m
-  line_so old new words m h is = record { line = shown_line words; usage = h.usage; is = is; out = h.out }
-
-  pub usage_alone : (old new : E) (m : Misuse) → (usage : List ℕ) × GoesOut facts contents old new usage → IsMisuseLine m [] → TellsMisuse facts contents old new m
-  usage_alone old new m h is = record { line = []; usage = h.0; is = is; out = h.1 }

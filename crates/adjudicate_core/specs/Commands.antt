@@ -21,4 +21,5 @@ pub mod Run
 pub mod Send
 pub mod Show
 pub mod Status
+pub mod Serve
 pub mod Version

@@ -3,6 +3,10 @@ use Rattle.std.specs.Prelude.{◌≡◌, ◌⊎◌, ◌++◌, ℕ, List, [], ◌
 use Rattle.hex.specs.Hex.{encode_lower}
 use Rattle.move_msg.specs.Stamps.{IsStamp}
 
+-- the text is the stamp in 32 lower-case hexadecimal digits
+abbrev pub SpellsStamp : List ℕ → List ℕ → Type 0
+SpellsStamp text stamp = IsStamp stamp × (text ≡ encode_lower stamp)
+
 -- nothing, or the path of a folder with a slash
 abbrev pub IsFolderFront : List ℕ → Type 0
 IsFolderFront front = (front ≡ []) ⊎ ((folder : List ℕ) × (front ≡ folder ++ 47 ∷ []))

@@ -83,6 +83,7 @@ IsMadeBy (task.Host h) more = IsOfHost h more
 IsMadeBy (task.Root t) more = more ≡ []
 IsMadeBy (task.Follow t) more = more ≡ []
 IsMadeBy (task.Status t) more = more ≡ []
+IsMadeBy (task.Serve t) more = more ≡ []
 
 -- from one history of the host to a later one
 abbrev pub MakesFor : Task → Option (List Made) → Option (List Made) → Type 0

@@ -5,7 +5,7 @@ use Rattle.clap.specs.Words.{Text}
 use Rattle.move_msg.specs.declared.arbiter_id.ArbiterId.{ArbiterId}
 use Rattle.move_msg.specs.Stamps.{IsGameName}
 use Rattle.adjudicate_core.specs.Addresses.{AreAddresses, AreRecipients, IsAddress}
-use Rattle.adjudicate_core.specs.GamePaths.{NamesGame}
+use Rattle.adjudicate_core.specs.GamePaths.{NamesGame, SpellsStamp}
 use Rattle.adjudicate_core.specs.Numbers.{IsAtOnce, IsCache, IsDatagrams, IsDelay, IsHundredOr, IsLog, IsMe, IsStore}
 use Rattle.arbiter_server.specs.declared.line_log.LogForm.{LogForm}
 use Rattle.adjudicate_core.specs.declared.words.numbers.StoreForm.{StoreForm}
@@ -18,12 +18,13 @@ use Rattle.adjudicate_core.specs.declared.words.usage.ValueFault.TheVariants as 
 
 -- ---- in words
 
--- the option that has the value
+-- the option or the word that has the value
 abbrev pub option_name : Wanted → Text
 option_name wanted.GameName = codes "name"
 option_name wanted.Cache = codes "cache"
 option_name wanted.Delay = codes "delay"
 option_name wanted.Datagrams = codes "datagrams"
+option_name wanted.Requests = codes "requests"
 option_name wanted.Me = codes "me"
 option_name wanted.Wait = codes "wait"
 option_name wanted.Tries = codes "tries"
@@ -34,6 +35,12 @@ option_name wanted.AtOnce = codes "at-once"
 option_name wanted.Log = codes "log"
 option_name wanted.Store = codes "store"
 option_name wanted.GameFile = codes "game"
+option_name wanted.Stamp = codes "FILE"
+
+-- what stands before the value: the option, or the word for what is wanted
+abbrev pub wanted_front : Wanted → Text
+wanted_front wanted.Stamp = codes "STAMP "
+wanted_front option = codes "--" ++ option_name option ++ codes " "
 
 -- what it takes
 abbrev pub range_of : Wanted → List ℕ
@@ -41,6 +48,7 @@ range_of wanted.GameName = codes "1 to 64 bytes from the space to the tilde"
 range_of wanted.Cache = codes "1 to 4096"
 range_of wanted.Delay = codes "0 to 8"
 range_of wanted.Datagrams = codes "0 to 4294967295"
+range_of wanted.Requests = codes "0 to 4294967295"
 range_of wanted.Me = codes "1 or 2"
 range_of wanted.Wait = codes "1 to 65535"
 range_of wanted.Tries = codes "1 to 65535"
@@ -51,6 +59,7 @@ range_of wanted.Address = codes "ADDR, a host, a colon and a port"
 range_of wanted.Log = codes "all, changes or none"
 range_of wanted.Store = codes "sqlite or files"
 range_of wanted.GameFile = codes "FOLDER/STAMP.game, with 32 lower-case hexadecimal digits"
+range_of wanted.Stamp = codes "32 lower-case hexadecimal digits"
 
 -- an option that takes the place of others
 abbrev pub instead_name : Instead → Text
@@ -64,7 +73,7 @@ abbrev pub word_not_with_words : Instead → Text → List ℕ
 word_not_with_words other name = name ++ codes " cannot be used with --" ++ instead_name other
 
 abbrev pub unfit_words : Wanted → List ℕ → List ℕ
-unfit_words wanted text = codes "--" ++ option_name wanted ++ codes " " ++ text ++ codes ": " ++ range_of wanted
+unfit_words wanted text = wanted_front wanted ++ text ++ codes ": " ++ range_of wanted
 
 abbrev pub no_option_words : Text → List ℕ
 no_option_words name = codes "--" ++ name ++ codes " is missing"
@@ -108,6 +117,7 @@ IsUnfit value wanted.GameName = (name : List ℕ) → Some name ≡ value (codes
 IsUnfit value wanted.Cache = (n : ℕ) → IsCache (value (codes "cache")) n → ⊥
 IsUnfit value wanted.Delay = (n : ℕ) → IsDelay (value (codes "delay")) n → ⊥
 IsUnfit value wanted.Datagrams = (n : ℕ) → IsDatagrams (value (codes "datagrams")) n → ⊥
+IsUnfit value wanted.Requests = (n : ℕ) → IsDatagrams (value (codes "requests")) n → ⊥
 IsUnfit value wanted.Me = (who : ArbiterId) → IsMe (value (codes "me")) who → ⊥
 IsUnfit value wanted.Wait = (n : ℕ) → IsHundredOr (value (codes "wait")) n → ⊥
 IsUnfit value wanted.Tries = (n : ℕ) → IsHundredOr (value (codes "tries")) n → ⊥
@@ -117,6 +127,7 @@ IsUnfit value wanted.AtOnce = (n : ℕ) → IsAtOnce (value (codes "at-once")) n
 IsUnfit value wanted.Address = (address : List ℕ) × (value (codes "bind") ≡ Some address) × (IsAddress address → ⊥)
 IsUnfit value wanted.Log = (form : LogForm) → IsLog (value (codes "log")) form → ⊥
 IsUnfit value wanted.Store = (form : StoreForm) → IsStore (value (codes "store")) form → ⊥
+IsUnfit value wanted.Stamp = (text : List ℕ) × (value (codes "FILE") ≡ Some text) × ((stamp : List ℕ) → SpellsStamp text stamp → ⊥)
 IsUnfit value wanted.GameFile = (path : List ℕ) × (value (codes "game") ≡ Some path) × ((stamp : List ℕ) → NamesGame path stamp → ⊥)
 
 abbrev pub Holds : (Text → Option Text) → Fault → Type 0

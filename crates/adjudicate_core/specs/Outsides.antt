@@ -24,7 +24,7 @@ abbrev pub outside : {P F : Type 0} → DiskFacts → InputFacts → Hosted P F 
 outside disk source host had has = record { disk = disk; source = source; host = host; had = had; has = has }
 
 -- so it is of this system
-abbrev pub outside_of : {D I H M P F : Type 0} → (D → DiskFacts) → (I → InputFacts) → (H → HostFacts P F) → (M → Option (List Made)) → (P → PortFacts) → (F → KeptFacts) → System D I H → M → M → Outside P F
+abbrev pub outside_of : {D I H G M P F : Type 0} → (D → DiskFacts) → (I → InputFacts) → (H → HostFacts P F) → (M → Option (List Made)) → (P → PortFacts) → (F → KeptFacts) → System D I H G → M → M → Outside P F
 outside_of disk source host made port file s history history' = outside (disk s.disk.now) (source s.input.now) (hosted (host s.host.now) port file) (made history) (made history')
 
 -- that, and where the host's stores are and what is known of one
@@ -33,7 +33,7 @@ pub record OutsideWithStores (P F S : Type 0) : Type 1 where
   pub stores : StorePlaces S
   pub store : S → StoreFacts
 
-abbrev pub machine_of : {D I H M P F S : Type 0} → (D → DiskFacts) → (I → InputFacts) → (H → HostFacts P F) → (H → StorePlaces S) → (M → Option (List Made)) → (P → PortFacts) → (F → KeptFacts) → (S → StoreFacts) → System D I H → M → M → OutsideWithStores P F S
+abbrev pub machine_of : {D I H G M P F S : Type 0} → (D → DiskFacts) → (I → InputFacts) → (H → HostFacts P F) → (H → StorePlaces S) → (M → Option (List Made)) → (P → PortFacts) → (F → KeptFacts) → (S → StoreFacts) → System D I H G → M → M → OutsideWithStores P F S
 machine_of disk source host stores made port file store s history history' = record { outside = outside_of disk source host made port file s history history'; stores = stores s.host.now; store = store }
 
 -- what a host of games stands on
@@ -41,5 +41,5 @@ abbrev pub hosting_places : {P F S : Type 0} → OutsideWithStores P F S → Hos
 hosting_places m = record { disk = m.outside.disk; host = m.outside.host; stores = m.stores; store = m.store }
 
 -- what is known of a system's disk and host, and of a writer
-abbrev pub around_of : {D I H P F S W : Type 0} → (D → DiskFacts) → (H → HostFacts P F) → (H → StorePlaces S) → (P → PortFacts) → (F → KeptFacts) → (S → StoreFacts) → (W → Option (List ℕ)) → (W → OutputFacts) → System D I H → Around P F S W
+abbrev pub around_of : {D I H G P F S W : Type 0} → (D → DiskFacts) → (H → HostFacts P F) → (H → StorePlaces S) → (P → PortFacts) → (F → KeptFacts) → (S → StoreFacts) → (W → Option (List ℕ)) → (W → OutputFacts) → System D I H G → Around P F S W
 around_of disk host stores port file store written output s = around (disk s.disk.now) (host s.host.now) (stores s.host.now) port file store written output

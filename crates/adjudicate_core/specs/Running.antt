@@ -40,6 +40,7 @@ use Rattle.judge_core.specs.Ask.{ask_of}
 use Rattle.adjudicate_core.specs.Commands.Root as roots
 use Rattle.adjudicate_core.specs.Commands.Follow as follows
 use Rattle.adjudicate_core.specs.Commands.Status as statuses
+use Rattle.adjudicate_core.specs.Commands.Serve as serves
 use Rattle.adjudicate_core.specs.Keys.{HasKeys, LacksKeys}
 use Rattle.sealed_port.specs.KeyedHosts.{keyed_host}
 use Rattle.sealed_port.specs.Sealing.{SealedView, sealed_facts}
@@ -83,6 +84,7 @@ AnswersFrom m Told (task.Host t) given old new r = HostsGames (hosting_places m)
 AnswersFrom m Told (task.Root t) given old new r = roots.Puts m.outside.disk m.outside.source t given old new r
 AnswersFrom m Told (task.Follow t) given old new r = follows.Puts m.outside.source t given old new r
 AnswersFrom m Told (task.Status t) given old new r = statuses.PutsOver m.outside.disk m.stores t old new r
+AnswersFrom m Told (task.Serve t) given old new r = serves.Serves m.outside.disk t old new r
 
 -- to a task the program answers from what it reads; or something that it reads for it can't be read; or memory was refused while
 -- it read

@@ -1,5 +1,5 @@
 -- Commands and tasks: a list for each thing that the program asks of a command (this project's own).
-use Rattle.std.specs.Prelude.{◌≡◌, ◌⊎◌, Bool, false, List, [], ◌∷◌, Option, Some, None, Result, Ok, Err, codes, option_map, slice_get}
+use Rattle.std.specs.Prelude.{◌≡◌, ◌⊎◌, Bool, false, List, [], ◌∷◌, Option, Some, None, Result, Ok, Err, codes, drop, option_map, slice_get}
 use Rattle.clap.specs.Words.{App, IsAmong, Rule, Text, kind_of, new_app}
 use Rattle.adjudicate_core.specs.Rules.{argument_value, with_rules, words_fault}
 use Rattle.task_files.specs.Sources.{Named}
@@ -21,6 +21,7 @@ use Rattle.adjudicate_core.specs.Commands.Host as hosts
 use Rattle.adjudicate_core.specs.Commands.Root as roots
 use Rattle.adjudicate_core.specs.Commands.Follow as follows
 use Rattle.adjudicate_core.specs.Commands.Status as statuses
+use Rattle.adjudicate_core.specs.Commands.Serve as serves
 use Rattle.adjudicate_core.specs.Commands.Record as records
 use Rattle.adjudicate_core.specs.Commands.Audit as audits
 use Rattle.adjudicate_core.specs.Commands.AuditGames as game_audits
@@ -60,6 +61,7 @@ command_word name.Host = codes "host"
 command_word name.Root = codes "root"
 command_word name.Follow = codes "follow"
 command_word name.Status = codes "status"
+command_word name.Serve = codes "serve"
 
 -- what it is given
 abbrev pub command_rules : Name → List Rule
@@ -84,6 +86,7 @@ command_rules name.Host = hosts.rules
 command_rules name.Root = roots.rules
 command_rules name.Follow = follows.rules
 command_rules name.Status = statuses.rules
+command_rules name.Serve = serves.rules
 
 -- what may be wrong with its values, in the order in which it is told; with some values something else than with others
 abbrev pub faults_of : Name → (Text → Option Text) → List Fault
@@ -99,7 +102,7 @@ faults_of name.Probes value = of_probes.faults
 faults_of name.Game value = games.faults
 faults_of name.Games value = of_games.faults
 faults_of name.Pgn value = of_pgn.faults
-faults_of name.Record value = records.faults
+faults_of name.Record value = game_records.faults_by (value (codes "games"))
 faults_of name.Audit value = game_audits.faults_by (value (codes "games")) (value (codes "other"))
 faults_of name.Version value = versions.faults
 faults_of name.Send value = sends.faults
@@ -108,6 +111,7 @@ faults_of name.Host value = hosts.faults
 faults_of name.Root value = roots.faults
 faults_of name.Follow value = follows.faults
 faults_of name.Status value = statuses.faults
+faults_of name.Serve value = serves.faults
 
 -- ---- by the task
 
@@ -135,6 +139,7 @@ task_name (task.Host t) = name.Host
 task_name (task.Root t) = name.Root
 task_name (task.Follow t) = name.Follow
 task_name (task.Status t) = name.Status
+task_name (task.Serve t) = name.Serve
 
 -- it has these values of its command's arguments
 abbrev pub HasTaskValues : (Text → Option Text) → Task → Type 0
@@ -161,6 +166,7 @@ HasTaskValues value (task.Host t) = hosts.HasValues value t
 HasTaskValues value (task.Root t) = roots.HasValues value t
 HasTaskValues value (task.Follow t) = follows.HasValues value t
 HasTaskValues value (task.Status t) = statuses.HasValues value t
+HasTaskValues value (task.Serve t) = serves.HasValues value t
 
 -- what is read for it
 abbrev pub named_in : Task → Named
@@ -187,6 +193,7 @@ named_in (task.Host t) = hosts.named t
 named_in (task.Root t) = roots.named t
 named_in (task.Follow t) = follows.named t
 named_in (task.Status t) = statuses.named
+named_in (task.Serve t) = serves.named
 
 -- the file of keys that it names, if it does
 abbrev pub key_in : Task → Option Text
@@ -220,6 +227,7 @@ tells_progress (task.Host t) = false
 tells_progress (task.Root t) = false
 tells_progress (task.Follow t) = false
 tells_progress (task.Status t) = false
+tells_progress (task.Serve t) = false
 
 -- ---- words
 
@@ -254,13 +262,34 @@ abbrev pub IsReadAs : Name → (Text → Option Text) → Result Task ValueFault
 IsReadAs name value (Ok t) = (task_name t ≡ name) × HasTaskValues value t
 IsReadAs name value (Err fault) = IsFirstMisuse value (faults_of name value) (fault_words fault)
 
--- what is wrong with the words, the first of these: there is none; the first asks for help; it names no command; the command that
+-- the word names no command, and doesn't ask for help
+abbrev pub IsUnknown : Text → Type 0
+IsUnknown word = ((name : Name) → word ≡ command_word name → ⊥) × (AsksForHelp word → ⊥)
+
+-- help of the command, or all of it, by the words behind a request for it; or the first of them names no command
+abbrev pub IsHelpBy : List Text → Misuse → Type 0
+IsHelpBy others misuse.Help = (others ≡ []) ⊎ ((word : Text) × (slice_get others 0 ≡ Some word) × AsksForHelp word)
+IsHelpBy others (misuse.HelpOf command) = slice_get others 0 ≡ Some (command_word command)
+IsHelpBy others (misuse.UnknownCommand word) = (slice_get others 0 ≡ Some word.now) × IsUnknown word.now
+IsHelpBy others misuse.NoCommand = ⊥
+IsHelpBy others (misuse.NoText word) = ⊥
+IsHelpBy others (misuse.Refused command e) = ⊥
+IsHelpBy others (misuse.Value command fault) = ⊥
+
+-- the first word asks for help
+abbrev pub WantsHelp : List Text → Type 0
+WantsHelp words = (word : Text) × (slice_get words 0 ≡ Some word) × AsksForHelp word
+
+-- what is wrong with the words, the first of these: there is none; the first asks for help, and the next, if there is one, names a
+-- command, or asks for it too, or does neither; the first names no command; the command that
 -- it names finds them wrong, in this way, at the first of them where it does; the command's values, of which this is the first that is wrong
 abbrev pub IsMisuse : List Text → Misuse → Type 0
 IsMisuse words misuse.NoCommand = words ≡ []
-IsMisuse words misuse.Help = (word : Text) × (slice_get words 0 ≡ Some word) × AsksForHelp word
+IsMisuse words misuse.Help = WantsHelp words × IsHelpBy (drop 1 words) misuse.Help
+IsMisuse words (misuse.HelpOf command) = WantsHelp words × IsHelpBy (drop 1 words) (misuse.HelpOf command)
 IsMisuse words (misuse.NoText word) = ⊥
-IsMisuse words (misuse.UnknownCommand word) = NamesNoCommand words × (slice_get words 0 ≡ Some word.now) × (AsksForHelp word.now → ⊥)
-IsMisuse words (misuse.Refused e) = (name : Name) × NamesCommand words name × IsAmong (kind_of e) (words_fault (app_for name) words)
-IsMisuse words (misuse.Value fault) =
-    (name : Name) × NamesCommand words name × TakesWords (app_for name) words × IsFirstMisuse (argument_value (app_for name) words) (faults_of name (argument_value (app_for name) words)) (fault_words fault)
+IsMisuse words (misuse.UnknownCommand word) =
+    (NamesNoCommand words × (slice_get words 0 ≡ Some word.now) × (AsksForHelp word.now → ⊥)) ⊎ (WantsHelp words × IsHelpBy (drop 1 words) (misuse.UnknownCommand word))
+IsMisuse words (misuse.Refused command e) = NamesCommand words command × IsAmong (kind_of e) (words_fault (app_for command) words)
+IsMisuse words (misuse.Value command fault) =
+    NamesCommand words command × TakesWords (app_for command) words × IsFirstMisuse (argument_value (app_for command) words) (faults_of command (argument_value (app_for command) words)) (fault_words fault)

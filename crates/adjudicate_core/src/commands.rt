@@ -8,7 +8,7 @@ ghost use Rattle.adjudicate_core.specs.Misuses.{AsksForHelp};
 ghost use Rattle.adjudicate_core.specs.Rules.{argument_value, rule_of_value, words_fault};
 ghost use Rattle.adjudicate_core.specs.Inside.Putting.{IsMisuseOf};
 ghost use Rattle.task_files.specs.Sources.{named_by};
-ghost use Rattle.adjudicate_core.specs.Tasks.{IsReadAs, IsTask, IsMisuse, TakesWords, IsVersion, NamesCommand, NamesNoCommand, app_for, key_in, named_in, command_rules, command_word};
+ghost use Rattle.adjudicate_core.specs.Tasks.{IsReadAs, IsTask, IsMisuse, TakesWords, IsHelpBy, IsVersion, NamesCommand, NamesNoCommand, app_for, key_in, named_in, command_rules, command_word};
 
 mod audit;
 mod audit_games;
@@ -23,6 +23,7 @@ mod judge;
 mod list;
 mod listen;
 mod moves;
+mod options;
 mod pgn;
 mod probe;
 mod probes;
@@ -30,6 +31,7 @@ mod record;
 pub(crate) mod root;
 mod run;
 mod send;
+mod serve;
 mod show;
 mod status;
 mod version;
@@ -55,6 +57,7 @@ pub use probes::Probes;
 pub use record::ShowRecord;
 pub use root::Root;
 pub use run::RunSchedule;
+pub use serve::Serve;
 pub use send::{GameFile, Send, SentGame, ToldGame};
 pub use show::Show;
 pub use status::ShowStatus;
@@ -111,6 +114,8 @@ pub enum Task<'a> {
     Follow(Follow<'a>),
     /// How far the games of a folder have come.
     Status(ShowStatus<'a>),
+    /// Requests that are answered by the tables of a folder.
+    Serve(Serve<'a>),
 }
 
 /// The commands.
@@ -158,6 +163,8 @@ pub enum Name {
     Follow,
     /// Tells how far games have come.
     Status,
+    /// Answers requests of HTTP by tables.
+    Serve,
 }
 
 /// How a command gets a value. Whether it is required isn't said here: the command requires it.
@@ -171,11 +178,61 @@ pub enum Form {
     Flag,
 }
 
-/// A value that a command takes.
+/// Where a value stands in the use of its command. Some commands have two forms.
+#[derive(Clone, Copy)]
+pub enum Stands {
+    /// It has to be there.
+    Needed,
+    /// It may be left out.
+    Optional,
+    /// It has to be there in the first form, and isn't of the second one.
+    NeededInFirst,
+    /// It may be there in the first form, and isn't of the second one.
+    OptionalInFirst,
+    /// It has to be there in the second form, and isn't of the first one.
+    NeededInSecond,
+    /// It may be there in the second form, and isn't of the first one.
+    OptionalInSecond,
+}
+
+/// A value that a command takes. All that is told of it elsewhere, by help, pages and completions, is made from this.
 #[derive(Clone, Copy)]
 pub struct Value {
-    name: &'static str,
-    form: Form,
+    /// What it is asked for by: the option behind `--`, or a name of the word's own.
+    pub(crate) name: &'static str,
+    /// How it is given.
+    pub(crate) form: Form,
+    /// The word for it: `DIR` is a folder, `FILE` a file, `STAMP` a game of the folder of games, `all|none` is one of these words. A flag has
+    /// none.
+    pub(crate) word: &'static str,
+    /// What it is or does, in one line, with its unit, its range, and what is taken where it isn't there.
+    pub(crate) about: &'static str,
+    /// Where it stands.
+    pub(crate) stands: Stands,
+}
+
+/// What commands are for.
+#[derive(Clone, Copy, Debug, PartialEq, Eq)]
+pub(crate) enum Group {
+    /// They answer of positions.
+    Positions,
+    /// They answer of games, or send and enter them.
+    Games,
+    /// They are arbiters, or show what arbiters do.
+    Arbiters,
+    /// They are of tables, or of the program.
+    Tables,
+}
+
+/// What help says of a command.
+#[derive(Clone, Copy)]
+pub(crate) struct Summary {
+    /// What it is for.
+    pub(crate) group: Group,
+    /// What it answers or does, in one line.
+    pub(crate) about: &'static str,
+    /// A command line.
+    pub(crate) example: &'static str,
 }
 
 impl Name {
@@ -206,12 +263,13 @@ impl Name {
             "root" => Some(Name::Root),
             "follow" => Some(Name::Follow),
             "status" => Some(Name::Status),
+            "serve" => Some(Name::Serve),
             _ => None,
         }
     }
 
     /// The word that names the command.
-    fn word<'a>(self) -> &'a str
+    pub(crate) fn word<'a>(self) -> &'a str
         ensures { result.now ≡ command_word self }
     {
         match self {
@@ -236,11 +294,12 @@ impl Name {
             Name::Root => "root",
             Name::Follow => "follow",
             Name::Status => "status",
+            Name::Serve => "serve",
         }
     }
 
     /// The values that the command takes.
-    fn values(self) -> &'static [Value]
+    pub(crate) fn values(self) -> &'static [Value]
         ensures { map rule_of_value result.now ≡ command_rules self }
     {
         match self {
@@ -265,6 +324,43 @@ impl Name {
             Name::Root => &root::VALUES,
             Name::Follow => &follow::VALUES,
             Name::Status => &status::VALUES,
+            Name::Serve => &serve::VALUES,
+        }
+    }
+
+    /// The values that help shows: those of the command, and once more a word that is something else in the second form.
+    pub(crate) fn shown(self) -> &'static [Value] {
+        match self {
+            Name::Record => &record::SHOWN,
+            _ => self.values(),
+        }
+    }
+
+    /// What help says of the command.
+    pub(crate) fn summary(self) -> Summary {
+        match self {
+            Name::Judge => judge::SUMMARY,
+            Name::Probe => probe::SUMMARY,
+            Name::Moves => moves::SUMMARY,
+            Name::List => list::SUMMARY,
+            Name::Check => check::SUMMARY,
+            Name::Show => show::SUMMARY,
+            Name::Run => run::SUMMARY,
+            Name::Listen => listen::SUMMARY,
+            Name::Probes => probes::SUMMARY,
+            Name::Game => game::SUMMARY,
+            Name::Games => games::SUMMARY,
+            Name::Pgn => pgn::SUMMARY,
+            Name::Record => record::SUMMARY,
+            Name::Audit => audit::SUMMARY,
+            Name::Version => version::SUMMARY,
+            Name::Send => send::SUMMARY,
+            Name::Enter => enter::SUMMARY,
+            Name::Host => host::SUMMARY,
+            Name::Root => root::SUMMARY,
+            Name::Follow => follow::SUMMARY,
+            Name::Status => status::SUMMARY,
+            Name::Serve => serve::SUMMARY,
         }
     }
 }
@@ -439,6 +535,10 @@ fn task_of<'a>(name: Name, matches: &ArgMatches<'a>) -> Result<Task<'a>, ValueFa
             Ok(task) => Ok(Task::Status(task)),
             Err(fault) => Err(fault),
         },
+        Name::Serve => match Serve::of(matches) {
+            Ok(task) => Ok(Task::Serve(task)),
+            Err(fault) => Err(fault),
+        },
     }
 }
 
@@ -471,6 +571,7 @@ impl<'a> Task<'a> {
             Task::Root(task) => task.places(),
             Task::Follow(task) => task.places(),
             Task::Status(task) => task.places(),
+            Task::Serve(task) => task.places(),
         }
     }
 }
@@ -496,12 +597,26 @@ fn asks_for_help(word: &str) -> bool
     word == "help" || word == "--help" || word == "-h"
 }
 
-/// The fault of a first word that names no command.
-fn misuse_of(word: &str) -> Misuse<'_>
-    ensures { IsMisuseOf word.entry.now result }
+/// What help is asked for by the words behind the first: of the command that they name, or all of it; or that they name none.
+fn help_by<'a>(others: &'a [&'a str]) -> Misuse<'a>
+    ensures { IsHelpBy (map (λ w. w.now) others.entry.now) result }
+{
+    match others {
+        [] => Misuse::Help,
+        [word, ..] => match Name::of(word) {
+            Some(name) => Misuse::HelpOf(name),
+            None if asks_for_help(word) => Misuse::Help,
+            None => Misuse::UnknownCommand(word),
+        },
+    }
+}
+
+/// The fault of words of which the first names no command.
+fn misuse_of<'a>(word: &'a str, others: &'a [&'a str]) -> Misuse<'a>
+    ensures { IsMisuseOf word.entry.now (map (λ w. w.now) others.entry.now) result }
 {
     if asks_for_help(word) {
-        Misuse::Help
+        help_by(others)
     } else {
         Misuse::UnknownCommand(word)
     }
@@ -528,9 +643,9 @@ fn name_in<'a>(words: &'a [&'a str]) -> Result<Name, Misuse<'a>>
     }
     match words {
         [] => Err(Misuse::NoCommand),
-        [word, ..] => match Name::of(word) {
+        [word, others @ ..] => match Name::of(word) {
             Some(name) => Ok(name),
-            None => Err(misuse_of(word)),
+            None => Err(misuse_of(word, others)),
         },
     }
 }
@@ -542,18 +657,20 @@ fn task_by<'a>(alloc: Global, name: Name, words: &'a [&'a str]) -> Result<Task<'
     ensures misuse { IfErr result (λ e. (misuse : Misuse) → e ≡ Usage.Misuse misuse → IsMisuse (map (λ w. w.now) words.entry.now) misuse) }
 {
     let command = command_of(alloc, name)?;
-    let matches = matches_at(command, words)?;
-    match task_of(name, &matches) {
-        Ok(task) => Ok(task),
-        Err(fault) => Err(Usage::Misuse(Misuse::Value(fault))),
+    match matches_at(command, words) {
+        Ok(matches) => match task_of(name, &matches) {
+            Ok(task) => Ok(task),
+            Err(fault) => Err(Usage::Misuse(Misuse::Value(name, fault))),
+        },
+        Err(error) => Err(Usage::of(name, error)),
     }
 }
 
 /// The task that the words name: the first word is the command, and the others are its own. `--version` alone is
 /// `version`.
 ///
-/// Otherwise the error is the first misuse that applies. There is no word, or the first one asks for help or names no
-/// command. Then come words that the command doesn't have, or a request for help; then the command's values in its own
+/// Otherwise the error is the first misuse that applies. There is no word, or the first one asks for help, or it or the one behind
+/// a request for help names no command. Then come words that the command doesn't have, or a request for help; then the command's values in its own
 /// order. Refused memory is returned where a growth is refused.
 pub fn parse<'a>(alloc: Global, words: &'a [&'a str]) -> Result<Task<'a>, Usage<'a>>
     ensures ok { IfOk result (IsTask (map (λ w. w.now) words.entry.now)) }

@@ -183,11 +183,11 @@ fn put_game<H: Host, W: Output>(
 }
 
 /// Enters the game of the words, and tells the status.
-fn enter_one<D: Disk, I: Input, H: Host, W: Output>(
+fn enter_one<D: Disk, I: Input, H: Host, W: Output, G>(
     alloc: Global,
     task: &Enter<'_>,
     game: &OneGame<'_>,
-    system: &System<'_, D, I, H>,
+    system: &System<'_, D, I, H, G>,
     history: &mut H::History,
     out: &mut W,
 ) -> Result<u8, WriteFault>
@@ -343,11 +343,11 @@ fn list_at<D: Disk, I: Input>(
 }
 
 /// Enters the games of a list by the manifest that the words name, and tells the status.
-fn enter_list<D: Disk, I: Input, H: Host, W: Output>(
+fn enter_list<D: Disk, I: Input, H: Host, W: Output, G>(
     alloc: Global,
     task: &Enter<'_>,
     list: &[u8],
-    system: &System<'_, D, I, H>,
+    system: &System<'_, D, I, H, G>,
     history: &mut H::History,
     out: &mut W,
 ) -> Result<u8, WriteFault>
@@ -380,10 +380,10 @@ fn enter_list<D: Disk, I: Input, H: Host, W: Output>(
 /// the tables. Where memory is refused the last line is `refused memory`. At the host the files of
 /// games are opened, of each line at most one, and nothing else is. The error comes only where the writer failed, and no game of a line
 /// after the one that it failed at is entered.
-pub fn enter<D: Disk, I: Input, H: Host, W: Output>(
+pub fn enter<D: Disk, I: Input, H: Host, W: Output, G>(
     alloc: Global,
     task: &Enter<'_>,
-    system: &System<'_, D, I, H>,
+    system: &System<'_, D, I, H, G>,
     history: &mut H::History,
     out: &mut W,
 ) -> Result<u8, WriteFault>

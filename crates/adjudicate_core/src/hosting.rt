@@ -302,9 +302,9 @@ fn is_clash(names: &[String], form: StoreForm) -> bool
 
 /// Lists a folder of games: what can't be listed is no such folder. One with a store that wouldn't be used, or with a half of one, is
 /// refused.
-fn list_games<D: Disk, I, H: Host>(
+fn list_games<D: Disk, I, H: Host, G>(
     alloc: Global,
-    system: &System<'_, D, I, H>,
+    system: &System<'_, D, I, H, G>,
     folder: &str,
     form: StoreForm,
 ) -> Result<(), Refusal>
@@ -331,11 +331,11 @@ fn list_games<D: Disk, I, H: Host>(
 /// or the files of the records of games that datagrams ask for, and nothing else is. The host's notes tell of how many files tables were
 /// read, why a store isn't opened or that it is lost, and where a log is lost that the games outlive. The error comes only where the
 /// writer failed.
-pub fn host_games<'a, D: Disk, I, H: Host, W: Output>(
+pub fn host_games<'a, D: Disk, I, H: Host, W: Output, G>(
     alloc: Global,
     task: &HostGames<'_>,
     sources: &'a Inputs,
-    system: &System<'_, D, I, H>,
+    system: &System<'_, D, I, H, G>,
     history: &mut H::History,
     out: &mut W,
 ) -> Result<u8, WriteFault>

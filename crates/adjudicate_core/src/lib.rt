@@ -5,7 +5,8 @@
 //! has each command with its lines; the statuses are 0 done, 1 refused, 2 misuse.
 //!
 //! Inside: each command is a file in `commands/`, with its definitions in the file of the same name in `specs/Commands/`. `words`
-//! reads the command line: `values`, `numbers`, `usage`, `uses`, `addresses`, `game_paths`. `answers` writes: `line_answers`,
+//! reads the command line: `values`, `numbers`, `usage`, `uses`, `help`, `near`, `addresses`, `game_paths`. What the commands take is told
+//! once, in their `VALUES`, and help is made from it. `answers` writes: `line_answers`,
 //! `json_answers`, `lines`, `refusals`, each line laid out by `LineWords` of `line_teller` (its parts in `line_parts`), which doesn't
 //! fail, and written at once. `keys` reads files of keys, `entries` the lines of a list; `tables` and `manifests` make sets of files; `folders` reads
 //! a table when a position asks for it;
@@ -19,9 +20,9 @@
 //! `tools/host_games`, `tools/play_games` and `tools/attack` try the program as it is built.
 //!
 //! - CLAIM: `parse`, clauses `ok`, `misuse`, `named`: where the words name a task it is what they say, by the matches of `clap`.
-//!   A misuse is reported only where the first word is missing, asks for help or names no command, where the command refuses the
-//!   words, or where a value that the command needs is missing or out of its range, or one is there beside another that takes its
-//!   place. Words that name no command are always a misuse.
+//!   A misuse is reported only where the first word is missing, asks for help or names no command, where the one behind a request for
+//!   help names none, where the command refuses the words, or where a value that the command needs is missing or out of its range, or
+//!   one is there beside another that takes its place. Words that name no command are always a misuse.
 //! - CLAIM: `run`, clause `runs`; `run_program`: the program on its words answers the task that they
 //!   name over what it read, or one of its sources failed (`refused files`), or memory was refused, or the words are misused and
 //!   nothing is written. The definition of each command's answer is in `AnswersFrom`. Of a call that ends with the writer's error
@@ -33,9 +34,11 @@
 //!   whatever it comes to: `listen` opens its port, the lock and the kept file, `send` its port, `host` the lock, its port and files
 //!   of records, `enter` files of games. Which of these it has opened where it ends so, and that a record's file is opened once for
 //!   each Move or Fetch at most, is in `Listens`, `SendsGame`, `HostsGames`.
-//! - CLAIM: `run`, clauses `runs`, `quiet`; `run_program`: for a misuse standard error gets one line of printing bytes (none
-//!   where help is asked for) and then the usage, of which no clause speaks, or as much of these as it takes. It gets bytes for
-//!   nothing else but for a task with progress, and where `send` ends as `refused lost`: a line of each arbiter, of which it tells that
+//! - CLAIM: `run`, clauses `runs`, `quiet`; `run_program`: for a misuse standard error gets one line of printing bytes, at most one line that
+//!   asks for a near word, which is a command's or that of an option of the command, and the line that names help, of the command where
+//!   there is one; or as much of these as it takes. Where there is no word the list of commands stands behind the line, and where help is asked
+//!   for, it alone, or help of the command, which begins with its name: of that list, and of what stands behind the name, no clause speaks.
+//!   It gets bytes for nothing else but for a task with progress, and where `send` ends as `refused lost`: a line of each arbiter, of which it tells that
 //!   no answer came or how many moves it has acknowledged (`TellsSilence`).
 //! - CLAIM: `run`, clause `runs`: of a schedule the answer of status 0 is of the last of its worlds, in each of which both
 //!   records are true to the game (`IsRunReply`).
@@ -81,6 +84,7 @@ pub mod laws;
 mod listening;
 mod locking;
 mod machine;
+mod pages;
 mod manifests;
 mod program;
 mod sending;
@@ -93,10 +97,11 @@ mod words;
 pub use commands::{
     Audit, AuditGames, Check, Enter, Entries, Follow, FollowGame, FollowGames, Form, GameFile,
     GameRecord, HostGames, Judge, JudgePgn, List, Listen, Moves, Name, OneGame, Probe, Probes,
-    Root, RunSchedule, Send, SentGame, Show, ShowRecord, ShowStatus, Task, ToldGame, Value,
+    Root, RunSchedule, Send, SentGame, Serve, Show, ShowRecord, ShowStatus, Stands, Task, ToldGame, Value,
     Version, parse,
 };
 pub use machine::Machine;
+pub use pages::Pages;
 pub use program::{refuse_memory, run, run_program};
 pub use system::System;
 pub use words::numbers::{CacheSize, StoreForm};

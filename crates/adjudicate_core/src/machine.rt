@@ -23,7 +23,7 @@ pub trait Machine {
     ghost from: { Self → Self.History → Self.History → OutsideWithStores Self.Port Self.File Self.Store };
 }
 
-impl<'s, D: Disk, I: Input, H: Host> Machine for System<'s, D, I, H> {
+impl<'s, D: Disk, I: Input, H: Host, G> Machine for System<'s, D, I, H, G> {
     type History = H::History;
 
     type Port = H::Port;

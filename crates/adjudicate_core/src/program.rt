@@ -20,6 +20,7 @@ use crate::hosting::host_games;
 use crate::keys::keys_at;
 use crate::listening::listen;
 use crate::machine::Machine;
+use crate::pages::Pages;
 use crate::sending::send;
 use crate::silence::tell_silence;
 use crate::system::System;
@@ -32,11 +33,11 @@ use system_io::{Host, Input, LineDisk, Output, ReadFault, WriteFault};
 use task_files::Inputs;
 
 /// What a task is answered from.
-struct Context<'s, 'a, D, I, H> {
+struct Context<'s, 'a, D, I, H, G> {
     /// What was read for it.
     sources: &'s Inputs,
     /// What it reads, and where it opens ports and files, while it is answered.
-    system: &'s System<'a, D, I, H>,
+    system: &'s System<'a, D, I, H, G>,
 }
 
 /// Answers a task from what was read for it, and returns the status, 0 done or 1 refused.
@@ -51,16 +52,16 @@ struct Context<'s, 'a, D, I, H> {
 /// the writer failed. `list`, `check` and `status` read their folder here, and hold one file at a time. With `--progress` the
 /// progress goes to `err`: for `probes` after every 10,000 lines, for `list` and `check` after each hundred million
 /// bytes. For `send` who was silent goes there, where an arbiter doesn't answer. No other task writes there.
-fn answer_given<'s, D: LineDisk, I: Input, H: Host, W: Output, E: Output>(
+fn answer_given<'s, D: LineDisk, I: Input, H: Host, G: Pages, W: Output, E: Output>(
     alloc: Global,
     task: &Task,
-    given: Context<'_, 's, D, I, H>,
+    given: Context<'_, 's, D, I, H, G>,
     history: &mut H::History,
     out: &mut W,
     err: &mut E,
 ) -> Result<u8, WriteFault>
     ensures quiet { tells_progress task.now ≡ false → TellsIfLost E.facts E.contents err.old err.new task.now result }
-    ensures answered { AnswersFrom (⟦<System<'s, D, I, H> as Machine>⟧.from given.entry.system.now history.old history.new) (TellsSilence E.facts E.contents err.old err.new) task.now given.entry.sources.now (W.contents out.old) (W.contents out.new) result }
+    ensures answered { AnswersFrom (⟦<System<'s, D, I, H, G> as Machine>⟧.from given.entry.system.now history.old history.new) (TellsSilence E.facts E.contents err.old err.new) task.now given.entry.sources.now (W.contents out.old) (W.contents out.new) result }
     ensures made { MakesFor task.now (H.made history.old) (H.made history.new) }
     ensures cause { OnErr result (HasFailed W.facts) }
 {
@@ -89,20 +90,21 @@ fn answer_given<'s, D: LineDisk, I: Input, H: Host, W: Output, E: Output>(
         Task::Root(task) => task.answer(alloc, sources, system.disk, system.input, out, err),
         Task::Follow(task) => task.answer(alloc, sources, system.input, out),
         Task::Status(task) => task.answer(alloc, system.disk, system.host, out),
+        Task::Serve(task) => system.pages.serve_requests(alloc, system.disk, task, out),
     }
 }
 
 /// Answers a task from what it reads.
-fn run_task<'s, D: LineDisk, I: Input, H: Host, W: Output, E: Output>(
+fn run_task<'s, D: LineDisk, I: Input, H: Host, G: Pages, W: Output, E: Output>(
     alloc: Global,
     task: &Task,
-    system: &System<'s, D, I, H>,
+    system: &System<'s, D, I, H, G>,
     history: &mut H::History,
     out: &mut W,
     err: &mut E,
 ) -> Result<u8, WriteFault>
     ensures quiet { tells_progress task.now ≡ false → TellsIfLost E.facts E.contents err.old err.new task.now result }
-    ensures answered { AnswersTask (⟦<System<'s, D, I, H> as Machine>⟧.from system.now history.old history.new) (TellsSilence E.facts E.contents err.old err.new) task.now (W.contents out.old) (W.contents out.new) result }
+    ensures answered { AnswersTask (⟦<System<'s, D, I, H, G> as Machine>⟧.from system.now history.old history.new) (TellsSilence E.facts E.contents err.old err.new) task.now (W.contents out.old) (W.contents out.new) result }
     ensures made { MakesFor task.now (H.made history.old) (H.made history.new) }
     ensures cause { OnErr result (HasFailed W.facts) }
 {
@@ -122,16 +124,16 @@ fn run_task<'s, D: LineDisk, I: Input, H: Host, W: Output, E: Output>(
 
 /// Answers a task from what it reads. Where it names a file of keys, the ports of the host are sealed by these. The refusal of that
 /// file comes before all others.
-fn run_by_key<'s, D: LineDisk, I: Input, H: Host, W: Output, E: Output>(
+fn run_by_key<'s, D: LineDisk, I: Input, H: Host, G: Pages, W: Output, E: Output>(
     alloc: Global,
     task: &Task,
-    system: &System<'s, D, I, H>,
+    system: &System<'s, D, I, H, G>,
     history: &mut H::History,
     out: &mut W,
     err: &mut E,
 ) -> Result<u8, WriteFault>
     ensures quiet { tells_progress task.now ≡ false → TellsIfLost E.facts E.contents err.old err.new task.now result }
-    ensures answered { AnswersByKey (⟦<System<'s, D, I, H> as Machine>⟧.from system.now history.old history.new) (TellsSilence E.facts E.contents err.old err.new) task.now (W.contents out.old) (W.contents out.new) result }
+    ensures answered { AnswersByKey (⟦<System<'s, D, I, H, G> as Machine>⟧.from system.now history.old history.new) (TellsSilence E.facts E.contents err.old err.new) task.now (W.contents out.old) (W.contents out.new) result }
     ensures made { MakesFor task.now (H.made history.old) (H.made history.new) }
     ensures cause { OnErr result (HasFailed W.facts) }
 {
@@ -144,20 +146,13 @@ fn run_by_key<'s, D: LineDisk, I: Input, H: Host, W: Output, E: Output>(
                     disk: system.disk,
                     input: system.input,
                     host: &keyed,
+                    pages: system.pages,
                 };
                 run_task(alloc, task, &sealed, history, out, err)
             }
             Ok(Err(refusal)) => put_refusal(out, refusal),
             Err(_) => put_refusal(out, Refusal::Memory),
         },
-    }
-}
-
-/// The first word, or an empty one.
-fn first_of<'a>(words: &[&'a str]) -> &'a str {
-    match words {
-        [word, ..] => *word,
-        [] => "",
     }
 }
 
@@ -173,20 +168,20 @@ fn first_of<'a>(words: &[&'a str]) -> &'a str {
 /// records in that folder, and `enter` files of games in its folder. No other task opens anything there, and these nothing else: that is
 /// so of any result, also of an error.
 ///
-/// Answers go to `out`. For a misuse one line on `err` says what is wrong, followed by the usage. A request for help
-/// gets the usage alone, after a command that of the command. The progress of a task with `--progress` goes there too, and who was silent where
-/// `send` ends as `refused lost`, and nothing else. A failure of
+/// Answers go to `out`. For a misuse one line on `err` says what is wrong; then come a near word, where there is one, and the line that
+/// names help. A request for help gets the list of commands, or the use of the command that it names. The progress of a task with
+/// `--progress` goes there too, and who was silent where `send` ends as `refused lost`, and nothing else. A failure of
 /// `err` changes nothing. The error comes only where `out` failed.
-pub fn run<'s, D: LineDisk, I: Input, H: Host, W: Output, E: Output>(
+pub fn run<'s, D: LineDisk, I: Input, H: Host, G: Pages, W: Output, E: Output>(
     alloc: Global,
     words: &[&str],
-    system: &System<'s, D, I, H>,
+    system: &System<'s, D, I, H, G>,
     history: &mut H::History,
     out: &mut W,
     err: &mut E,
 ) -> Result<u8, WriteFault>
     ensures quiet { err.new ≢ err.old → (result ≡ Ok 2) ⊎ ((t : Task) × IsTask (texts words.now) t × IsLoud E.facts E.contents err.old err.new t result) }
-    ensures runs { Performs (⟦<System<'s, D, I, H> as Machine>⟧.from system.now history.old history.new) (TellsMisuse E.facts E.contents err.old err.new) (TellsSilence E.facts E.contents err.old err.new) (texts words.now) (W.contents out.old) (W.contents out.new) result }
+    ensures runs { Performs (⟦<System<'s, D, I, H, G> as Machine>⟧.from system.now history.old history.new) (TellsMisuse E.facts E.contents err.old err.new) (TellsSilence E.facts E.contents err.old err.new) (texts words.now) (W.contents out.old) (W.contents out.new) result }
     ensures made { Makes (texts words.now) (H.made history.old) (H.made history.new) }
     ensures cause { OnErr result (HasFailed W.facts) }
 {
@@ -194,7 +189,7 @@ pub fn run<'s, D: LineDisk, I: Input, H: Host, W: Output, E: Output>(
         Ok(task) => run_by_key(alloc, &task, system, history, out, err),
         Err(Usage::OutOfMemory) => put_refusal(out, Refusal::Memory),
         Err(Usage::Misuse(misuse)) => {
-            tell_misuse(alloc, err, &misuse, first_of(words));
+            tell_misuse(alloc, err, &misuse);
             Ok(2)
         }
     }
@@ -234,15 +229,15 @@ pub fn refuse_memory<W: Write>(out: &mut W) -> Result<u8, WriteFault>
 
 /// Runs the program on all words that it was called with, its own name first. A word that is not UTF-8 is a misuse.
 /// Where memory was refused for the words, the line is `refused memory`.
-pub fn run_program<'s, D: LineDisk, I: Input, H: Host, W: Output, E: Output>(
+pub fn run_program<'s, D: LineDisk, I: Input, H: Host, G: Pages, W: Output, E: Output>(
     alloc: Global,
     called: &Result<Vec<String>, WordsFault>,
-    system: &System<'s, D, I, H>,
+    system: &System<'s, D, I, H, G>,
     history: &mut H::History,
     out: &mut W,
     err: &mut E,
 ) -> Result<u8, WriteFault>
-    ensures runs { Called (⟦<System<'s, D, I, H> as Machine>⟧.from system.now history.old history.new) (TellsMisuse E.facts E.contents err.old err.new) (TellsSilence E.facts E.contents err.old err.new) (called_by called.now) (W.contents out.old) (W.contents out.new) result }
+    ensures runs { Called (⟦<System<'s, D, I, H, G> as Machine>⟧.from system.now history.old history.new) (TellsMisuse E.facts E.contents err.old err.new) (TellsSilence E.facts E.contents err.old err.new) (called_by called.now) (W.contents out.old) (W.contents out.new) result }
     ensures made { MakesCalled (called_by called.now) (H.made history.old) (H.made history.new) }
     ensures cause { OnErr result (HasFailed W.facts) }
 {
@@ -252,7 +247,7 @@ pub fn run_program<'s, D: LineDisk, I: Input, H: Host, W: Output, E: Output>(
             Err(_) => put_refusal(out, Refusal::Memory),
         },
         Err(WordsFault::NoText(word)) => {
-            tell_misuse(alloc, err, &Misuse::NoText(word.as_slice()), "");
+            tell_misuse(alloc, err, &Misuse::NoText(word.as_slice()));
             Ok(2)
         }
         Err(WordsFault::OutOfMemory) => put_refusal(out, Refusal::Memory),

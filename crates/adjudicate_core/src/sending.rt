@@ -149,11 +149,11 @@ fn send_over<I: Input, P: Port, W: Output>(
 }
 
 /// Binds the address that the words name, and sends from there. Where it can't be bound, the line is `refused port`.
-fn bind_and_send<D: Disk, I: Input, H: Host, W: Output>(
+fn bind_and_send<D: Disk, I: Input, H: Host, W: Output, G>(
     alloc: Global,
     task: &Send<'_>,
     game: &Stamped,
-    system: &System<'_, D, I, H>,
+    system: &System<'_, D, I, H, G>,
     history: &mut H::History,
     out: &mut W,
 ) -> Result<Ended, WriteFault>
@@ -177,10 +177,10 @@ fn bind_and_send<D: Disk, I: Input, H: Host, W: Output>(
 /// name. That the text of the file is of the game with this stamp can't be checked without the manifest of its tables, so it isn't:
 /// under a wrong name no arbiter answers. What follows is as in `source_core::send_game`. At the host the port is opened, and nothing
 /// else is. The error comes only where the writer failed.
-pub fn send<D: Disk, I: Input, H: Host, W: Output>(
+pub fn send<D: Disk, I: Input, H: Host, W: Output, G>(
     alloc: Global,
     task: &Send<'_>,
-    system: &System<'_, D, I, H>,
+    system: &System<'_, D, I, H, G>,
     history: &mut H::History,
     out: &mut W,
 ) -> Result<Ended, WriteFault>

@@ -2,6 +2,8 @@
 
 pub(crate) mod addresses;
 pub(crate) mod game_paths;
+pub(crate) mod help;
+pub(crate) mod near;
 pub(crate) mod numbers;
 pub(crate) mod usage;
 pub(crate) mod uses;

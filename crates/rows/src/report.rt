@@ -64,14 +64,15 @@ pub(crate) fn check_output(
     note_bytes(alloc, report, "output", &wanted.output, output)
 }
 
-/// Compares standard error. For a misuse it need only begin as it is wanted, and not be empty.
+/// Compares standard error. For a misuse it need only begin as it is wanted, where that doesn't end with a line, and not be empty.
 pub(crate) fn check_errors(
     alloc: Global,
     report: &mut String,
     wanted: &Wanted,
     errors: &[u8],
 ) -> Result<(), AllocError> {
-    let is_right = if wanted.ended == Ok(2) {
+    let is_begun = wanted.ended == Ok(2) && !wanted.errors.ends_with(b"\n");
+    let is_right = if is_begun {
         !errors.is_empty() && errors.starts_with(&wanted.errors)
     } else {
         errors == wanted.errors.as_slice()

@@ -7,15 +7,17 @@ use Rattle.line_teller.specs.ToldLines.{HasFront}
 use Rattle.line_teller.proofs.FrontLaws.{front_next}
 use Rattle.move_msg.specs.TextLines.{ended}
 use Rattle.system_io.specs.declared.output.WriteFault.{WriteFault}
-use Rattle.serve_core.specs.Serves.{Done, Lost, ServesFolder, TellsRefusal, TellsText, ready_line, refused_port}
+use Rattle.arbiter_server.specs.ServedLines.{refused_port}
+use Rattle.adjudicate_core.specs.Commands.Serve.{Done, Lost, ServesFolder, ready_line}
+use Rattle.adjudicate_core.specs.Telling.{TellsOne, TellsWholeText}
 
 -- what was written and flushed is a front of itself
 pub whole_is_front : (old mid new : Option (List ℕ)) (text : List ℕ) → Appends old mid text → Keeps mid new → HasFront old new text
 whole_is_front old mid new text wrote keeps = (length text, subst (Appends old new) (sym (take_all (length text) text (omega arith))) (Appends-kept old mid new text wrote keeps))
 
-pub served : (old new : Option (List ℕ)) (text address : List ℕ) (r : Result ℕ WriteFault) → text ≡ ready_line address → TellsText text 0 old new r → ServesFolder old new r
-served old new text address r is told = Done address (subst (λ (t : List ℕ). TellsText t 0 old new r) is told)
+pub served : (old new : Option (List ℕ)) (text address : List ℕ) (r : Result ℕ WriteFault) → text ≡ ready_line address → TellsWholeText text 0 old new r → ServesFolder old new r
+served old new text address r is told = Done address (subst (λ (t : List ℕ). TellsWholeText t 0 old new r) is told)
 
-pub lost : (old mid new : Option (List ℕ)) (text address : List ℕ) (r : Result ℕ WriteFault) → text ≡ ready_line address → Appends old mid text → TellsRefusal refused_port mid new r → ServesFolder old new r
+pub lost : (old mid new : Option (List ℕ)) (text address : List ℕ) (r : Result ℕ WriteFault) → text ≡ ready_line address → Appends old mid text → TellsOne refused_port mid new r → ServesFolder old new r
 lost old mid new text address (Ok status) is wrote told = Lost address (Appends-trans old mid new (ready_line address) (ended refused_port) (subst (Appends old mid) is wrote) told.0, told.1)
 lost old mid new text address (Err fault) is wrote told = Lost address (front_next old mid new (ready_line address) (ended refused_port) (subst (Appends old mid) is wrote) told)

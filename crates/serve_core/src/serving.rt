@@ -3,10 +3,13 @@
 ghost use Rattle.std.specs.Prelude.{◌≡◌, ◌≤◌, IfOk, OnErr, length, string_bytes, ℕ, List};
 ghost use Rattle.line_teller.specs.ToldLines.{HasFailed};
 ghost use Rattle.move_msg.specs.ToldBy.{told_by};
-ghost use Rattle.serve_core.specs.Serves.{Serves, ServesFolder, TellsRefusal, TellsText, manifest_path, ready_line, refused_manifest};
+ghost use Rattle.adjudicate_core.specs.Commands.Serve.{Serves, ServesFolder, manifest_path, ready_line};
+ghost use Rattle.adjudicate_core.specs.Lines.{refused_manifest};
+ghost use Rattle.adjudicate_core.specs.Telling.{TellsOne, TellsWholeText};
 ghost use Rattle.task_files.specs.Outside.{IsToldAt};
 
 use crate::counting::Counted;
+use adjudicate_core::{Pages, Serve};
 use bumpalo::Bump;
 use http_answer::Answerer;
 use http_loop::{Limits, Server};
@@ -28,22 +31,23 @@ const CONNECTIONS: usize = 512;
 /// How many decoded blocks of tables are kept, at most.
 const BLOCKS: usize = 4096;
 
-/// What is served, and where.
+/// The system's clock and sockets, by which requests of HTTP are answered.
 #[derive(Clone, Copy)]
-pub struct Serve<'a> {
-    /// The folder of the tables.
-    pub tables: &'a str,
-    /// The manifest that its files are held to, if there is one.
-    pub manifest: Option<&'a str>,
-    /// The address at which requests come: a host, a colon and a port.
-    pub bind: &'a str,
-    /// How many requests are answered, at least, before it ends.
-    pub requests: u64,
+pub struct SystemPages<'r, R> {
+    rt: &'r R,
+    keys: RandomState,
+}
+
+impl<'r, R> SystemPages<'r, R> {
+    /// Over the system's own, with keys for the maps of a request's fields, which a peer names.
+    pub fn new(rt: &'r R, keys: RandomState) -> SystemPages<'r, R> {
+        SystemPages { rt, keys }
+    }
 }
 
 /// Writes a line that refuses, and returns the status 1.
 fn put_refusal<W: Output>(out: &mut W, line: LineWords) -> Result<u8, WriteFault>
-    ensures told { TellsRefusal line (W.contents out.old) (W.contents out.new) result }
+    ensures told { TellsOne line (W.contents out.old) (W.contents out.new) result }
     ensures cause { OnErr result (HasFailed W.facts) }
 {
     match line.put(out) {
@@ -55,7 +59,7 @@ fn put_refusal<W: Output>(out: &mut W, line: LineWords) -> Result<u8, WriteFault
 /// Writes words that refuse, and returns the status 1.
 fn refuse<W: Output>(out: &mut W, words: &str) -> Result<u8, WriteFault>
     requires { length words.now ≤ 255 }
-    ensures told { TellsRefusal words.now (W.contents out.old) (W.contents out.new) result }
+    ensures told { TellsOne words.now (W.contents out.old) (W.contents out.new) result }
     ensures cause { OnErr result (HasFailed W.facts) }
 {
     put_refusal(out, LineWords::of(words))
@@ -63,7 +67,7 @@ fn refuse<W: Output>(out: &mut W, words: &str) -> Result<u8, WriteFault>
 
 /// Writes that the line of a manifest with this number is malformed.
 fn refuse_manifest<W: Output>(out: &mut W, line: usize) -> Result<u8, WriteFault>
-    ensures told { TellsRefusal (refused_manifest line) (W.contents out.old) (W.contents out.new) result }
+    ensures told { TellsOne (refused_manifest line) (W.contents out.old) (W.contents out.new) result }
     ensures cause { OnErr result (HasFailed W.facts) }
 {
     let mut words = LineWords::of("refused manifest ");
@@ -103,7 +107,7 @@ fn ready_text(alloc: Global, own: SocketAddr) -> Result<String, AllocError>
 
 /// Writes a text, and lets it go out.
 fn put_out<W: Output>(out: &mut W, text: &str) -> Result<u8, WriteFault>
-    ensures told { TellsText text.now 0 (W.contents out.old) (W.contents out.new) result }
+    ensures told { TellsWholeText text.now 0 (W.contents out.old) (W.contents out.new) result }
     ensures cause { OnErr result (HasFailed W.facts) }
 {
     match out.put(text.as_bytes()) {
@@ -207,27 +211,18 @@ fn serve_by<R: Clock + Net, D: Disk, W: Output>(
     }
 }
 
-/// Answers requests by the tables of a folder, each of which is read when a position asks for it, and returns the status: 0 where as many
-/// requests were answered as are wanted.
-///
-/// The first line is `ready` and the address at which requests come, and nothing else is written. What is refused is told in one line, in
-/// this order: the manifest, which can't be read or is malformed, the folder of the tables, and the address. Where memory is refused
-/// before a request the line is `refused memory`. The line `refused port` comes behind the first one where the system can't wait for requests
-/// any more. The error comes only where the writer failed.
-pub fn serve_tables<R: Clock + Net, D: Disk, W: Output>(
-    alloc: Global,
-    rt: &R,
-    keys: RandomState,
-    disk: &D,
-    task: &Serve<'_>,
-    out: &mut W,
-) -> Result<u8, WriteFault>
-    ensures told { Serves (D.facts disk.now) task.now (W.contents out.old) (W.contents out.new) result }
-    ensures cause { OnErr result (HasFailed W.facts) }
-{
-    match read_manifest(alloc, disk, task.manifest) {
-        Ok(manifest) => serve_by(alloc, rt, keys, disk, &manifest, task, out),
-        Err(ReadFault::Unreadable) => refuse(out, "refused files"),
-        Err(ReadFault::OutOfMemory) => refuse(out, "refused memory"),
+impl<'r, R: Clock + Net> Pages for SystemPages<'r, R> {
+    fn serve_requests<D: Disk, W: Output>(
+        &self,
+        alloc: Global,
+        disk: &D,
+        task: &Serve<'_>,
+        out: &mut W,
+    ) -> Result<u8, WriteFault> {
+        match read_manifest(alloc, disk, task.manifest) {
+            Ok(manifest) => serve_by(alloc, self.rt, self.keys, disk, &manifest, task, out),
+            Err(ReadFault::Unreadable) => refuse(out, "refused files"),
+            Err(ReadFault::OutOfMemory) => refuse(out, "refused memory"),
+        }
     }
 }

@@ -11,7 +11,8 @@ ghost use Rattle.adjudicate_core.specs.Misuses.{IsFirstMisuse, fault_words};
 ghost use Rattle.adjudicate_core.specs.Reply.{IsText};
 ghost use Rattle.task_files.specs.Sources.{named_by};
 
-use super::{Form, Value};
+use super::options::{DELAY, GAMES, MANIFEST, NAME, OTHER_GAMES, START, TABLES};
+use super::{Form, Group, Stands, Summary, Value};
 use crate::answers::Answer;
 use crate::answers::lines::Line;
 use crate::answers::refusals::Refusal;
@@ -50,42 +51,49 @@ pub struct Audit<'a> {
 /// The values of `audit`.
 pub(crate) const VALUES: [Value; 9] = [
     Value {
-        name: "name",
-        form: Form::Option,
+        stands: Stands::NeededInFirst,
+        ..NAME
     },
     Value {
-        name: "start",
-        form: Form::Option,
+        stands: Stands::NeededInFirst,
+        ..START
+    },
+    TABLES,
+    MANIFEST,
+    Value {
+        stands: Stands::OptionalInFirst,
+        ..DELAY
     },
     Value {
-        name: "tables",
-        form: Form::Option,
+        stands: Stands::NeededInSecond,
+        ..GAMES
     },
     Value {
-        name: "manifest",
-        form: Form::Option,
-    },
-    Value {
-        name: "delay",
-        form: Form::Option,
-    },
-    Value {
-        name: "games",
-        form: Form::Option,
-    },
-    Value {
-        name: "other",
-        form: Form::Option,
+        stands: Stands::OptionalInSecond,
+        ..OTHER_GAMES
     },
     Value {
         name: "FILE",
         form: Form::Word,
+        word: "FILE",
+        about: "a kept record",
+        stands: Stands::NeededInFirst,
     },
     Value {
         name: "OTHER",
         form: Form::Word,
+        word: "FILE",
+        about: "the record of the other arbiter, with which it is compared",
+        stands: Stands::OptionalInFirst,
     },
 ];
+
+/// What help says of `audit`.
+pub(crate) const SUMMARY: Summary = Summary {
+    group: Group::Games,
+    about: "whether kept records are those of a game, and agree",
+    example: "adjudicate audit --games east --other west --tables DIR",
+};
 
 /// The finding on one file, as an answer.
 fn answer_one(alloc: Global, one: &Audited) -> Result<Answer, AllocError>

@@ -12,7 +12,8 @@ ghost use Rattle.adjudicate_core.specs.Inside.Looking.{IsSeenOf, fault_seen, rep
 ghost use Rattle.adjudicate_core.specs.Misuses.{IsFirstMisuse, fault_words};
 ghost use Rattle.task_files.specs.Sources.{named_by};
 
-use super::{Form, Value};
+use super::options::{FOLDER, MANIFEST, PROGRESS};
+use super::{Group, Stands, Summary, Value};
 use crate::answers::Answer;
 use crate::answers::lines::Line;
 use crate::answers::refusals::Refusal;
@@ -41,18 +42,20 @@ pub struct Check<'a> {
 /// The values of `check`.
 pub(crate) const VALUES: [Value; 3] = [
     Value {
-        name: "manifest",
-        form: Form::Option,
+        about: "the manifest",
+        stands: Stands::Needed,
+        ..MANIFEST
     },
-    Value {
-        name: "progress",
-        form: Form::Flag,
-    },
-    Value {
-        name: "DIR",
-        form: Form::Word,
-    },
+    PROGRESS,
+    FOLDER,
 ];
+
+/// What help says of `check`.
+pub(crate) const SUMMARY: Summary = Summary {
+    group: Group::Tables,
+    about: "whether the tables in a folder are those of a manifest",
+    example: "adjudicate check --manifest manifest DIR",
+};
 
 /// What is found of a file: its line in a manifest, and why it is no table, if it isn't one.
 #[derive(Clone, Copy)]

@@ -5,7 +5,8 @@ ghost use Rattle.clap.specs.Words.{found_of, first_value};
 ghost use Rattle.adjudicate_core.specs.Misuses.{AreWell, IsFirstMisuse, fault_words};
 ghost use Rattle.adjudicate_core.specs.Commands.Enter.{HasValues, LacksGameWords, list_faults, one_faults, without_faults};
 
-use super::{Form, Value};
+use super::options::{DELAY, FEN, GAMES, MANIFEST_OF_GAME, NAME, START, TABLES};
+use super::{Form, Group, Stands, Summary, Value};
 use crate::words::usage::{Instead, ValueFault};
 use crate::words::values::{delay_in, game_words_in, option_in, without};
 use board_core::Delay;
@@ -49,34 +50,35 @@ pub struct OneGame<'a> {
 /// The values of `enter`.
 pub(crate) const VALUES: [Value; 7] = [
     Value {
-        name: "name",
-        form: Form::Option,
+        stands: Stands::NeededInFirst,
+        ..NAME
     },
     Value {
-        name: "start",
-        form: Form::Option,
+        stands: Stands::NeededInFirst,
+        ..START
     },
     Value {
         name: "from",
         form: Form::Option,
+        word: "FILE",
+        about: "games, one a line: name, FEN and delay, with tabs; - is standard input",
+        stands: Stands::NeededInSecond,
     },
+    TABLES,
+    MANIFEST_OF_GAME,
     Value {
-        name: "tables",
-        form: Form::Option,
+        stands: Stands::OptionalInFirst,
+        ..DELAY
     },
-    Value {
-        name: "manifest",
-        form: Form::Option,
-    },
-    Value {
-        name: "delay",
-        form: Form::Option,
-    },
-    Value {
-        name: "games",
-        form: Form::Option,
-    },
+    GAMES,
 ];
+
+/// What help says of `enter`.
+pub(crate) const SUMMARY: Summary = Summary {
+    group: Group::Games,
+    about: "enters a game in a folder, and prints its stamp; or each game of a list",
+    example: "adjudicate enter --name Game1 --start \"7k/8/6K1/8/8/8/8/1Q6 w - - 0 1\" --tables DIR --games east",
+};
 
 /// The task for one game.
 fn one_in<'a>(matches: &ArgMatches<'a>) -> Result<Enter<'a>, ValueFault<'a>>

@@ -9,7 +9,8 @@ ghost use Rattle.adjudicate_core.specs.Misuses.{IsFirstMisuse, fault_words};
 ghost use Rattle.task_files.specs.Sources.{named_by};
 ghost use Rattle.line_teller.specs.ToldLines.{HasFailed};
 
-use super::{Form, Value};
+use super::options::{DELAY, MANIFEST, SAN, START_WORD, TABLES_IF_ANY};
+use super::{Group, Summary, Value};
 use crate::answers::lines::put_refusal;
 use crate::answers::refusals::Refusal;
 use crate::answers::status_told;
@@ -43,28 +44,14 @@ pub struct Follow<'a> {
 }
 
 /// The values of `follow`.
-pub(crate) const VALUES: [Value; 5] = [
-    Value {
-        name: "tables",
-        form: Form::Option,
-    },
-    Value {
-        name: "manifest",
-        form: Form::Option,
-    },
-    Value {
-        name: "delay",
-        form: Form::Option,
-    },
-    Value {
-        name: "san",
-        form: Form::Flag,
-    },
-    Value {
-        name: "FEN",
-        form: Form::Word,
-    },
-];
+pub(crate) const VALUES: [Value; 5] = [TABLES_IF_ANY, MANIFEST, DELAY, SAN, START_WORD];
+
+/// What help says of `follow`.
+pub(crate) const SUMMARY: Summary = Summary {
+    group: Group::Games,
+    about: "each ply of the game on standard input, as its moves come",
+    example: "echo b1b8 | adjudicate follow \"7k/8/6K1/8/8/8/8/1Q6 w - - 0 1\"",
+};
 
 /// Tells the game of the input from a position by these tables, and returns the status.
 fn put_game<I: Input, W: Output>(

@@ -13,7 +13,8 @@ ghost use Rattle.adjudicate_core.specs.Commands.Game.{HasValues, IsOutcomeReply,
 ghost use Rattle.adjudicate_core.specs.Misuses.{IsFirstMisuse, fault_words};
 ghost use Rattle.task_files.specs.Sources.{named_by};
 
-use super::{Form, Value};
+use super::options::{ALL_TABLES, DELAY, MANIFEST, SAN, START_WORD, TABLES_IF_ANY};
+use super::{Group, Summary, Value};
 use crate::answers::Answer;
 use crate::answers::lines::Line;
 use crate::answers::refusals::Refusal;
@@ -50,32 +51,14 @@ pub struct FollowGame<'a> {
 }
 
 /// The values of `game`.
-pub(crate) const VALUES: [Value; 6] = [
-    Value {
-        name: "tables",
-        form: Form::Option,
-    },
-    Value {
-        name: "manifest",
-        form: Form::Option,
-    },
-    Value {
-        name: "all-tables",
-        form: Form::Flag,
-    },
-    Value {
-        name: "delay",
-        form: Form::Option,
-    },
-    Value {
-        name: "san",
-        form: Form::Flag,
-    },
-    Value {
-        name: "FEN",
-        form: Form::Word,
-    },
-];
+pub(crate) const VALUES: [Value; 6] = [TABLES_IF_ANY, MANIFEST, ALL_TABLES, DELAY, SAN, START_WORD];
+
+/// What help says of `game`.
+pub(crate) const SUMMARY: Summary = Summary {
+    group: Group::Games,
+    about: "the outcome of the moves on standard input",
+    example: "echo b1b8 | adjudicate game \"7k/8/6K1/8/8/8/8/1Q6 w - - 0 1\"",
+};
 
 /// The line of an outcome.
 fn told(outcome: GameOutcome, moves: &[Move]) -> Answer

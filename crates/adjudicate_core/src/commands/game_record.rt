@@ -1,9 +1,9 @@
 //! `record --games`: the record of a game in a folder, as it is kept.
 
 ghost use Rattle.std.specs.Prelude.{◌≡◌, IfErr, IfOk, IsErrOf, OnErr, Some, codes};
-ghost use Rattle.clap.specs.Words.{first_value, found_of};
-ghost use Rattle.adjudicate_core.specs.Commands.GameRecord.{Puts, PutsRecordBytes, named, record_path};
-ghost use Rattle.adjudicate_core.specs.Commands.Record.{faults};
+ghost use Rattle.clap.specs.Words.{Text, first_value, found_of};
+ghost use Rattle.adjudicate_core.specs.Commands.GameRecord.{Puts, PutsRecordBytes, faults, named, record_path};
+ghost use Rattle.adjudicate_core.specs.GamePaths.{SpellsStamp};
 ghost use Rattle.adjudicate_core.specs.Misuses.{IsFirstMisuse, fault_words};
 ghost use Rattle.system_io.specs.Disks.{AtFile};
 ghost use Rattle.task_files.specs.Sources.{named_by};
@@ -13,8 +13,10 @@ use crate::answers::lines::put_refusal;
 use crate::answers::refusals::Refusal;
 use crate::stores::disk_over;
 use crate::words::usage::ValueFault;
-use crate::words::values::word_in;
+use crate::words::values::stamp_word;
+use arbiter_server::kept_path;
 use clap::ArgMatches;
+use move_msg::Stamp;
 use std::alloc::Global;
 use system_io::{Disk, Host, Output, ReadFault, WriteFault};
 use task_files::InputPaths;
@@ -24,9 +26,8 @@ use task_files::InputPaths;
 pub struct GameRecord<'a> {
     /// The folder.
     pub games: &'a str,
-    /// The stamp of the game, 32 lower-case hexadecimal digits. It isn't checked: the record is that of the file `STAMP.kept`, whatever it
-    /// says.
-    pub stamp: &'a str,
+    /// The stamp of the game. The record is that of the file `STAMP.kept`, of whatever game it is.
+    pub stamp: Stamp,
 }
 
 impl<'a> GameRecord<'a> {
@@ -36,12 +37,12 @@ impl<'a> GameRecord<'a> {
         matches: &ArgMatches<'a>,
     ) -> Result<GameRecord<'a>, ValueFault<'a>>
         ensures games { IfOk result (λ task. task.games.now ≡ games.now) }
-        ensures stamp { IfOk result (λ task. Some task.stamp.now ≡ first_value (found_of matches.now) (codes "FILE")) }
+        ensures stamp { IfOk result (λ task. (text : Text) × (Some text ≡ first_value (found_of matches.now) (codes "FILE")) × SpellsStamp text task.stamp) }
         ensures err { IfErr result (λ fault. IsFirstMisuse (first_value (found_of matches.now)) faults (fault_words fault)) }
     {
         Ok(GameRecord {
             games,
-            stamp: word_in(matches, "FILE")?,
+            stamp: stamp_word(matches)?,
         })
     }
 
@@ -63,7 +64,7 @@ impl<'a> GameRecord<'a> {
         ensures bytes { IfOk result (λ bytes. (D.facts disk.now).holds (record_path self.now) bytes.items) }
         ensures cause { IsErrOf result ReadFault.Unreadable → (D.facts disk.now).fails (AtFile (record_path self.now)) }
     {
-        let Ok(path) = format!(in alloc; "{}/{}.kept", self.games, self.stamp) else {
+        let Ok(path) = kept_path(alloc, self.games, self.stamp) else {
             return Err(ReadFault::OutOfMemory);
         };
         match disk.read(alloc, path.as_str()) {

@@ -15,7 +15,8 @@ ghost use Rattle.adjudicate_core.specs.FolderAnswers.{PutsByFolder};
 ghost use Rattle.adjudicate_core.specs.TableAnswers.{PutsByTables};
 ghost use Rattle.move_msg.specs.ToldBy.{told_by};
 
-use super::{Form, Value};
+use super::options::{ALL_TABLES, DELAY, MANIFEST, PROGRESS, TABLES};
+use super::{Group, Summary, Value};
 use crate::answers::line_answers::put_told;
 use crate::answers::lines::{Line, put_line, put_refusal};
 use crate::answers::refusals::Refusal;
@@ -53,28 +54,14 @@ pub struct FollowGames<'a> {
 }
 
 /// The values of `games`.
-pub(crate) const VALUES: [Value; 5] = [
-    Value {
-        name: "tables",
-        form: Form::Option,
-    },
-    Value {
-        name: "manifest",
-        form: Form::Option,
-    },
-    Value {
-        name: "all-tables",
-        form: Form::Flag,
-    },
-    Value {
-        name: "delay",
-        form: Form::Option,
-    },
-    Value {
-        name: "progress",
-        form: Form::Flag,
-    },
-];
+pub(crate) const VALUES: [Value; 5] = [TABLES, MANIFEST, ALL_TABLES, DELAY, PROGRESS];
+
+/// What help says of `games`.
+pub(crate) const SUMMARY: Summary = Summary {
+    group: Group::Games,
+    about: "the outcome of each line on standard input: a start, a tab, moves",
+    example: "adjudicate games --tables DIR < games",
+};
 
 /// The place of the first tab of a line.
 fn tab_in(line: &[u8]) -> Option<usize>

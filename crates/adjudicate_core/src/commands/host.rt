@@ -6,7 +6,8 @@ ghost use Rattle.adjudicate_core.specs.Inside.HostingParts.{AreHostEnds, AreHost
 ghost use Rattle.adjudicate_core.specs.Commands.Host.{end_faults, term_faults};
 ghost use Rattle.adjudicate_core.specs.Misuses.{AreWell, IsFirstMisuse, fault_words};
 
-use super::{Form, Value};
+use super::options::{BIND, CACHE, DATAGRAMS, GAMES, KEY, MANIFEST, ME, RECIPIENTS, TABLES};
+use super::{Form, Group, Stands, Summary, Value};
 use crate::words::numbers::{CacheSize, StoreForm, is_set};
 use crate::words::usage::ValueFault;
 use crate::words::values::{
@@ -52,59 +53,51 @@ pub struct HostGames<'a> {
 
 /// The values of `host`.
 pub(crate) const VALUES: [Value; 13] = [
-    Value {
-        name: "games",
-        form: Form::Option,
-    },
-    Value {
-        name: "tables",
-        form: Form::Option,
-    },
-    Value {
-        name: "manifest",
-        form: Form::Option,
-    },
-    Value {
-        name: "bind",
-        form: Form::Option,
-    },
-    Value {
-        name: "to",
-        form: Form::Option,
-    },
-    Value {
-        name: "me",
-        form: Form::Option,
-    },
+    GAMES,
+    TABLES,
+    MANIFEST,
+    BIND,
+    RECIPIENTS,
+    ME,
     Value {
         name: "at-once",
         form: Form::Option,
+        word: "N",
+        about: "games that are open at once, 1 to 65535; 256 unless set",
+        stands: Stands::Optional,
     },
-    Value {
-        name: "cache",
-        form: Form::Option,
-    },
-    Value {
-        name: "datagrams",
-        form: Form::Option,
-    },
-    Value {
-        name: "key",
-        form: Form::Option,
-    },
+    CACHE,
+    DATAGRAMS,
+    KEY,
     Value {
         name: "log",
         form: Form::Option,
+        word: "all|changes|none",
+        about: "which lines are written; all unless set",
+        stands: Stands::Optional,
     },
     Value {
         name: "store",
         form: Form::Option,
+        word: "sqlite|files",
+        about: "where records are kept; sqlite, one store, unless set",
+        stands: Stands::Optional,
     },
     Value {
         name: "log-failures-ignored",
         form: Form::Flag,
+        word: "",
+        about: "goes on without lines where one can't be written; ends unless set",
+        stands: Stands::Optional,
     },
 ];
+
+/// What help says of `host`.
+pub(crate) const SUMMARY: Summary = Summary {
+    group: Group::Arbiters,
+    about: "an arbiter of each game of a folder, at one UDP port",
+    example: "adjudicate host --games east --tables DIR --me 1 --bind 127.0.0.1:7331 --to sender,127.0.0.1:7332",
+};
 
 /// The folders and the addresses.
 #[derive(Clone, Copy)]

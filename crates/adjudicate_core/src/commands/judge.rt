@@ -11,7 +11,8 @@ ghost use Rattle.adjudicate_core.specs.Misuses.{IsFirstMisuse, fault_words};
 ghost use Rattle.move_msg.specs.ToldBy.{told_by};
 ghost use Rattle.task_files.specs.Sources.{named_by};
 
-use super::{Form, Value};
+use super::options::{FEN, LAZY, MANIFEST, TABLES_IF_ANY};
+use super::{Group, Summary, Value};
 use crate::answers::Answer;
 use crate::answers::lines::Line;
 use crate::answers::refusals::Refusal;
@@ -41,24 +42,14 @@ pub struct Judge<'a> {
 }
 
 /// The values of `judge`.
-pub(crate) const VALUES: [Value; 4] = [
-    Value {
-        name: "tables",
-        form: Form::Option,
-    },
-    Value {
-        name: "manifest",
-        form: Form::Option,
-    },
-    Value {
-        name: "lazy",
-        form: Form::Flag,
-    },
-    Value {
-        name: "FEN",
-        form: Form::Word,
-    },
-];
+pub(crate) const VALUES: [Value; 4] = [TABLES_IF_ANY, MANIFEST, LAZY, FEN];
+
+/// What help says of `judge`.
+pub(crate) const SUMMARY: Summary = Summary {
+    group: Group::Positions,
+    about: "the verdict of a position, or open",
+    example: "adjudicate judge --tables DIR \"8/8/8/4k3/8/8/8/KN6 w - - 0 1\"",
+};
 
 /// The verdict by the tables of files, or that the game goes on, or the refusal of the files: of a manifest at fault, then of
 /// the first file at fault.

@@ -7,7 +7,8 @@ ghost use Rattle.adjudicate_core.specs.Inside.Asked.{reply_of};
 ghost use Rattle.adjudicate_core.specs.Misuses.{IsFirstMisuse, fault_words};
 ghost use Rattle.task_files.specs.Sources.{named_by};
 
-use super::{Form, Value};
+use super::options::{FOLDER, PROGRESS};
+use super::{Group, Summary, Value};
 use crate::answers::Answer;
 use crate::words::numbers::is_set;
 use crate::words::usage::ValueFault;
@@ -29,16 +30,14 @@ pub struct List<'a> {
 }
 
 /// The values of `list`.
-pub(crate) const VALUES: [Value; 2] = [
-    Value {
-        name: "progress",
-        form: Form::Flag,
-    },
-    Value {
-        name: "DIR",
-        form: Form::Word,
-    },
-];
+pub(crate) const VALUES: [Value; 2] = [PROGRESS, FOLDER];
+
+/// What help says of `list`.
+pub(crate) const SUMMARY: Summary = Summary {
+    group: Group::Tables,
+    about: "the manifest of the tables in a folder",
+    example: "adjudicate list DIR > manifest",
+};
 
 impl<'a> List<'a> {
     /// The task with these values, or the first thing that is wrong with them.

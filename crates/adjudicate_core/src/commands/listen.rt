@@ -6,7 +6,8 @@ ghost use Rattle.adjudicate_core.specs.Inside.ListeningParts.{AreListenEnds, Are
 ghost use Rattle.adjudicate_core.specs.Commands.Listen.{end_faults, term_faults};
 ghost use Rattle.adjudicate_core.specs.Misuses.{AreWell, IsFirstMisuse, fault_words};
 
-use super::{Form, Value};
+use super::options::{BIND, DATAGRAMS, DELAY, KEY, ME, NAME, RECIPIENTS, START, TABLES};
+use super::{Form, Group, Stands, Summary, Value};
 use crate::words::numbers::is_set;
 use crate::words::usage::ValueFault;
 use crate::words::values::{
@@ -48,55 +49,45 @@ pub struct Listen<'a> {
 
 /// The values of `listen`.
 pub(crate) const VALUES: [Value; 12] = [
-    Value {
-        name: "name",
-        form: Form::Option,
-    },
-    Value {
-        name: "start",
-        form: Form::Option,
-    },
-    Value {
-        name: "tables",
-        form: Form::Option,
-    },
-    Value {
-        name: "me",
-        form: Form::Option,
-    },
-    Value {
-        name: "bind",
-        form: Form::Option,
-    },
-    Value {
-        name: "to",
-        form: Form::Option,
-    },
+    NAME,
+    START,
+    TABLES,
+    ME,
+    BIND,
+    RECIPIENTS,
     Value {
         name: "kept",
         form: Form::Option,
+        word: "FILE",
+        about: "the file of its record, created where there is none",
+        stands: Stands::Needed,
     },
-    Value {
-        name: "datagrams",
-        form: Form::Option,
-    },
-    Value {
-        name: "delay",
-        form: Form::Option,
-    },
+    DATAGRAMS,
+    DELAY,
     Value {
         name: "fetch",
         form: Form::Flag,
+        word: "",
+        about: "asks the other arbiter once, at the start, for moves",
+        stands: Stands::Optional,
     },
     Value {
         name: "ready",
         form: Form::Flag,
+        word: "",
+        about: "writes ready and the bound address as the first line",
+        stands: Stands::Optional,
     },
-    Value {
-        name: "key",
-        form: Form::Option,
-    },
+    KEY,
 ];
+
+/// What help says of `listen`.
+pub(crate) const SUMMARY: Summary = Summary {
+    group: Group::Arbiters,
+    about: "an arbiter of one game, at a UDP port",
+    example: "adjudicate listen --name Game1 --start \"7k/8/6K1/8/8/8/8/1Q6 w - - 0 1\" --tables DIR --me 1 \\
+      --bind 127.0.0.1:7311 --to sender,127.0.0.1:7312 --kept a.kept",
+};
 
 /// The addresses and the kept file.
 #[derive(Clone, Copy)]

@@ -10,7 +10,8 @@ ghost use Rattle.adjudicate_core.specs.Reply.{IsText};
 ghost use Rattle.adjudicate_core.specs.Misuses.{IsFirstMisuse, fault_words};
 ghost use Rattle.task_files.specs.Sources.{named_by};
 
-use super::{Form, Value};
+use super::options::{FEN, SAN};
+use super::{Group, Summary, Value};
 use crate::answers::Answer;
 use crate::answers::lines::Line;
 use crate::answers::refusals::Refusal;
@@ -36,14 +37,18 @@ pub struct Moves<'a> {
 /// The values of `moves`.
 pub(crate) const VALUES: [Value; 2] = [
     Value {
-        name: "san",
-        form: Form::Flag,
+        about: "adds to each move its text in algebraic notation",
+        ..SAN
     },
-    Value {
-        name: "FEN",
-        form: Form::Word,
-    },
+    FEN,
 ];
+
+/// What help says of `moves`.
+pub(crate) const SUMMARY: Summary = Summary {
+    group: Group::Positions,
+    about: "the legal moves of a position, one a line",
+    example: "adjudicate moves \"8/8/8/4k3/8/8/8/KN6 w - - 0 1\"",
+};
 
 /// The line of a legal move.
 fn move_line(position: &Position, m: &Move, san: bool) -> Line

@@ -9,7 +9,8 @@ ghost use Rattle.adjudicate_core.specs.Commands.Pgn.{HasValues, Puts, PutsFile, 
 ghost use Rattle.adjudicate_core.specs.Lines.{refusal_words};
 ghost use Rattle.adjudicate_core.specs.Misuses.{IsFirstMisuse, fault_words};
 
-use super::{Form, Value};
+use super::options::{DELAY, JSON, MANIFEST, TABLES};
+use super::{Form, Group, Stands, Summary, Value};
 use crate::answers::lines::put_refusal;
 use crate::answers::refusals::Refusal;
 use crate::answers::status_if;
@@ -45,31 +46,32 @@ pub struct JudgePgn<'a> {
 
 /// The values of `pgn`.
 pub(crate) const VALUES: [Value; 6] = [
-    Value {
-        name: "tables",
-        form: Form::Option,
-    },
-    Value {
-        name: "manifest",
-        form: Form::Option,
-    },
-    Value {
-        name: "delay",
-        form: Form::Option,
-    },
-    Value {
-        name: "json",
-        form: Form::Flag,
-    },
+    TABLES,
+    MANIFEST,
+    DELAY,
+    JSON,
     Value {
         name: "differ",
         form: Form::Flag,
+        word: "",
+        about: "tells only the games whose result is another than the verdict",
+        stands: Stands::Optional,
     },
     Value {
         name: "FILE",
         form: Form::Word,
+        word: "FILE",
+        about: "the file of games; standard input unless given",
+        stands: Stands::Optional,
     },
 ];
+
+/// What help says of `pgn`.
+pub(crate) const SUMMARY: Summary = Summary {
+    group: Group::Games,
+    about: "the first verdict of each game of a PGN file, beside its result",
+    example: "adjudicate pgn --tables DIR games.pgn",
+};
 
 /// How lines are written.
 fn form_by(json: bool) -> LineForm

@@ -11,7 +11,8 @@ ghost use Rattle.adjudicate_core.specs.Misuses.{IsFirstMisuse, fault_words};
 ghost use Rattle.move_msg.specs.ToldBy.{told_by};
 ghost use Rattle.task_files.specs.Sources.{named_by};
 
-use super::{Form, Value};
+use super::options::{FEN, LAZY, MANIFEST, TABLES};
+use super::{Group, Summary, Value};
 use crate::answers::Answer;
 use crate::answers::lines::Line;
 use crate::answers::refusals::Refusal;
@@ -42,24 +43,14 @@ pub struct Probe<'a> {
 }
 
 /// The values of `probe`.
-pub(crate) const VALUES: [Value; 4] = [
-    Value {
-        name: "tables",
-        form: Form::Option,
-    },
-    Value {
-        name: "manifest",
-        form: Form::Option,
-    },
-    Value {
-        name: "lazy",
-        form: Form::Flag,
-    },
-    Value {
-        name: "FEN",
-        form: Form::Word,
-    },
-];
+pub(crate) const VALUES: [Value; 4] = [TABLES, MANIFEST, LAZY, FEN];
+
+/// What help says of `probe`.
+pub(crate) const SUMMARY: Summary = Summary {
+    group: Group::Positions,
+    about: "the WDL and DTZ values of a position",
+    example: "adjudicate probe --tables DIR \"8/8/8/4k3/8/8/8/KQ6 w - - 0 1\"",
+};
 
 /// Both probes, a line each.
 fn tell(alloc: Global, probed: ProbeResult) -> Result<Answer, AllocError>

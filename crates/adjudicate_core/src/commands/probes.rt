@@ -16,7 +16,8 @@ ghost use Rattle.adjudicate_core.specs.Reply.{IsText};
 ghost use Rattle.adjudicate_core.specs.TableAnswers.{PutsByTables};
 ghost use Rattle.line_teller.specs.ToldLines.{HasFailed};
 
-use super::{Form, Value};
+use super::options::{ALL_TABLES, DETERMINED, JSON, MANIFEST, PROGRESS, TABLES};
+use super::{Group, Summary, Value};
 use crate::answers::json_answers::{FolderJsonTeller, JsonTeller};
 use crate::answers::line_answers::put_told;
 use crate::answers::lines::{Line, put_line, put_refusal};
@@ -56,32 +57,14 @@ pub struct Probes<'a> {
 }
 
 /// The values of `probes`.
-pub(crate) const VALUES: [Value; 6] = [
-    Value {
-        name: "tables",
-        form: Form::Option,
-    },
-    Value {
-        name: "manifest",
-        form: Form::Option,
-    },
-    Value {
-        name: "all-tables",
-        form: Form::Flag,
-    },
-    Value {
-        name: "json",
-        form: Form::Flag,
-    },
-    Value {
-        name: "determined",
-        form: Form::Flag,
-    },
-    Value {
-        name: "progress",
-        form: Form::Flag,
-    },
-];
+pub(crate) const VALUES: [Value; 6] = [TABLES, MANIFEST, ALL_TABLES, JSON, DETERMINED, PROGRESS];
+
+/// What help says of `probes`.
+pub(crate) const SUMMARY: Summary = Summary {
+    group: Group::Positions,
+    about: "the values and the verdict of each position on standard input",
+    example: "adjudicate probes --tables DIR < positions",
+};
 
 /// The values of a position in the tables, in columns, and whether both are there.
 fn columns(

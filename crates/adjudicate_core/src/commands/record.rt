@@ -10,7 +10,8 @@ ghost use Rattle.adjudicate_core.specs.Misuses.{IsFirstMisuse, fault_words};
 ghost use Rattle.adjudicate_core.specs.Inside.Asked.{reply_of};
 ghost use Rattle.task_files.specs.Sources.{named_by};
 
-use super::{Form, Value};
+use super::options::GAMES;
+use super::{Form, Group, Stands, Summary, Value};
 use crate::answers::Answer;
 use crate::answers::refusals::Refusal;
 use crate::words::usage::ValueFault;
@@ -32,17 +33,43 @@ pub struct ShowRecord<'a> {
     pub file: &'a str,
 }
 
+/// The file of a kept record.
+const KEPT_FILE: Value = Value {
+    name: "FILE",
+    form: Form::Word,
+    word: "FILE",
+    about: "the file of a kept record",
+    stands: Stands::NeededInFirst,
+};
+
+/// The folder of a game.
+const FOLDER_OF_GAMES: Value = Value {
+    stands: Stands::NeededInSecond,
+    ..GAMES
+};
+
 /// The values of `record`.
-pub(crate) const VALUES: [Value; 2] = [
+pub(crate) const VALUES: [Value; 2] = [KEPT_FILE, FOLDER_OF_GAMES];
+
+/// The values of `record` as help shows them: with `--games` the word is a stamp.
+pub(crate) const SHOWN: [Value; 3] = [
+    KEPT_FILE,
+    FOLDER_OF_GAMES,
     Value {
         name: "FILE",
         form: Form::Word,
-    },
-    Value {
-        name: "games",
-        form: Form::Option,
+        word: "STAMP",
+        about: "the stamp of the game, 32 lower-case hexadecimal digits",
+        stands: Stands::NeededInSecond,
     },
 ];
+
+/// What help says of `record`.
+pub(crate) const SUMMARY: Summary = Summary {
+    group: Group::Games,
+    about: "what a kept record says; or the record of a game in a folder",
+    example: "adjudicate record --games DIR 72b21246fca973341bd3df781b702e9f",
+};
 
 /// Writes bytes.
 fn put<W: Write>(out: &mut W, bytes: &[u8]) -> Result<(), WriteFault>

@@ -21,7 +21,8 @@ ghost use Rattle.move_msg.specs.TextLines.{ended};
 ghost use Rattle.task_files.specs.Sources.{named_by};
 ghost use Rattle.line_teller.specs.ToldLines.{HasFailed};
 
-use super::{Form, Value};
+use super::options::{ALL_TABLES, DETERMINED, FEN, JSON, MANIFEST, TABLES};
+use super::{Group, Stands, Summary, Value};
 use crate::answers::json_answers::{FolderJsonTeller, JsonTeller, answer_as_json, refused_line};
 use crate::answers::line_answers::put_told;
 use crate::answers::lines::{Line, RootLine, put_refusal};
@@ -64,31 +65,24 @@ pub struct Root<'a> {
 
 /// The values of `root`.
 pub(crate) const VALUES: [Value; 6] = [
+    TABLES,
+    MANIFEST,
+    ALL_TABLES,
+    JSON,
+    DETERMINED,
     Value {
-        name: "tables",
-        form: Form::Option,
-    },
-    Value {
-        name: "manifest",
-        form: Form::Option,
-    },
-    Value {
-        name: "all-tables",
-        form: Form::Flag,
-    },
-    Value {
-        name: "json",
-        form: Form::Flag,
-    },
-    Value {
-        name: "determined",
-        form: Form::Flag,
-    },
-    Value {
-        name: "FEN",
-        form: Form::Word,
+        about: "the position; each line of standard input is one unless given",
+        stands: Stands::Optional,
+        ..FEN
     },
 ];
+
+/// What help says of `root`.
+pub(crate) const SUMMARY: Summary = Summary {
+    group: Group::Positions,
+    about: "the legal moves of positions by their values, the best first",
+    example: "adjudicate root --tables DIR \"8/8/8/4k3/8/8/8/KQ6 w - - 0 1\"",
+};
 
 /// A line for each move, and then the position's own.
 fn lines_of(alloc: Global, moves: &[RootMove], columns: Columns) -> Result<Answer, AllocError>

@@ -18,7 +18,8 @@ ghost use Rattle.adjudicate_core.specs.Misuses.{IsFirstMisuse, fault_words};
 ghost use Rattle.task_files.specs.Sources.{named_by};
 ghost use Rattle.adjudicate_core.specs.Schedules.{RefusesTable, counted_record, scheduled_game, side_words, world_words};
 
-use super::{Form, Value};
+use super::options::{CACHE, DELAY, TABLES_IF_ANY};
+use super::{Group, Summary, Value};
 use crate::answers::Answer;
 use crate::answers::lines::{KeptCount, Line};
 use crate::answers::refusals::Refusal;
@@ -47,20 +48,14 @@ pub struct RunSchedule<'a> {
 }
 
 /// The values of `run`.
-pub(crate) const VALUES: [Value; 3] = [
-    Value {
-        name: "tables",
-        form: Form::Option,
-    },
-    Value {
-        name: "cache",
-        form: Form::Option,
-    },
-    Value {
-        name: "delay",
-        form: Form::Option,
-    },
-];
+pub(crate) const VALUES: [Value; 3] = [TABLES_IF_ANY, CACHE, DELAY];
+
+/// What help says of `run`.
+pub(crate) const SUMMARY: Summary = Summary {
+    group: Group::Arbiters,
+    about: "two arbiters under the schedule on standard input",
+    example: "adjudicate run --tables DIR < schedule",
+};
 
 /// The schedule of a text, or why it is refused.
 fn schedule_of(alloc: Global, text: &[u8]) -> Result<Result<Schedule, Refusal>, AllocError>

@@ -6,7 +6,8 @@ ghost use Rattle.adjudicate_core.specs.Inside.SendingParts.{AreSendTerms};
 ghost use Rattle.adjudicate_core.specs.Commands.Send.{HasSentGame, IsGameInFile, IsToldGame, bind_or_any, file_faults, sent_faults, term_faults};
 ghost use Rattle.adjudicate_core.specs.Misuses.{AreWell, Beside, IsFirstMisuse, IsToldMisuse, fault_words};
 
-use super::{Form, Value};
+use super::options::{BIND, DELAY, KEY, MANIFEST_OF_GAME, NAME, RECIPIENTS, SAN, START, TABLES};
+use super::{Form, Group, Stands, Summary, Value};
 use crate::words::game_paths::stamp_in;
 use crate::words::numbers::is_set;
 use crate::words::usage::{ValueFault, Wanted};
@@ -71,54 +72,66 @@ pub struct Send<'a> {
 /// The values of `send`.
 pub(crate) const VALUES: [Value; 12] = [
     Value {
-        name: "name",
-        form: Form::Option,
+        stands: Stands::NeededInFirst,
+        ..NAME
     },
     Value {
-        name: "start",
-        form: Form::Option,
+        stands: Stands::NeededInFirst,
+        ..START
     },
     Value {
-        name: "tables",
-        form: Form::Option,
+        stands: Stands::NeededInFirst,
+        ..TABLES
     },
     Value {
-        name: "manifest",
-        form: Form::Option,
+        stands: Stands::OptionalInFirst,
+        ..MANIFEST_OF_GAME
     },
     Value {
-        name: "delay",
-        form: Form::Option,
+        stands: Stands::OptionalInFirst,
+        ..DELAY
     },
     Value {
         name: "game",
         form: Form::Option,
+        word: "FILE",
+        about: "the game by its file, FOLDER/STAMP.game, in place of name, start and tables",
+        stands: Stands::NeededInSecond,
     },
     Value {
-        name: "bind",
-        form: Form::Option,
+        about: "its own address; 0.0.0.0:0 unless set",
+        stands: Stands::Optional,
+        ..BIND
     },
     Value {
-        name: "to",
-        form: Form::Option,
+        about: "the addresses of the two arbiters, or of a relay",
+        ..RECIPIENTS
     },
     Value {
         name: "wait",
         form: Form::Option,
+        word: "MS",
+        about: "milliseconds of a move's first try, 1 to 65535; 100 unless set",
+        stands: Stands::Optional,
     },
     Value {
         name: "tries",
         form: Form::Option,
+        word: "N",
+        about: "how often a move is sent at most, 1 to 65535; 100 unless set",
+        stands: Stands::Optional,
     },
-    Value {
-        name: "key",
-        form: Form::Option,
-    },
-    Value {
-        name: "san",
-        form: Form::Flag,
-    },
+    KEY,
+    SAN,
 ];
+
+/// What help says of `send`.
+pub(crate) const SUMMARY: Summary = Summary {
+    group: Group::Games,
+    about: "sends the moves on standard input to the arbiters of a game",
+    example: "echo b1b8 | adjudicate send --game east/72b21246fca973341bd3df781b702e9f.game \\
+      --to 127.0.0.1:7331,127.0.0.1:7332",
+};
 
 /// The numbers.
 #[derive(Clone, Copy)]

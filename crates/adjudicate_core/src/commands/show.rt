@@ -7,11 +7,19 @@ ghost use Rattle.adjudicate_core.specs.Inside.Fronts.{IsFront};
 ghost use Rattle.task_files.specs.Sources.{named_by};
 ghost use Rattle.line_teller.specs.ToldLines.{HasFailed};
 
+use super::{Group, Summary};
 use crate::answers::lines::{Line, put_line, put_refusal};
 use crate::answers::refusals::Refusal;
 use move_msg::{Feeder, Message, MessageFault};
 use system_io::{Output, WriteFault};
 use task_files::{InputPaths, Inputs};
+
+/// What help says of `show`.
+pub(crate) const SUMMARY: Summary = Summary {
+    group: Group::Arbiters,
+    about: "the messages on standard input, one a line",
+    example: "adjudicate show < messages",
+};
 
 /// The messages of the input.
 #[derive(Clone, Copy)]

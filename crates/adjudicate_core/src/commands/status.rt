@@ -7,7 +7,8 @@ ghost use Rattle.adjudicate_core.specs.Misuses.{IsFirstMisuse, fault_words};
 ghost use Rattle.task_files.specs.Sources.{named_by};
 ghost use Rattle.line_teller.specs.ToldLines.{HasFailed};
 
-use super::{Form, Value};
+use super::options::{GAMES, OTHER_GAMES};
+use super::{Group, Summary, Value};
 use crate::answers::lines::put_refusal;
 use crate::answers::status_told;
 use crate::stores::disk_over;
@@ -29,16 +30,14 @@ pub struct ShowStatus<'a> {
 }
 
 /// The values of `status`.
-pub(crate) const VALUES: [Value; 2] = [
-    Value {
-        name: "games",
-        form: Form::Option,
-    },
-    Value {
-        name: "other",
-        form: Form::Option,
-    },
-];
+pub(crate) const VALUES: [Value; 2] = [GAMES, OTHER_GAMES];
+
+/// What help says of `status`.
+pub(crate) const SUMMARY: Summary = Summary {
+    group: Group::Games,
+    about: "how far the games of a folder have come, and whether two folders agree",
+    example: "adjudicate status --games east --other west",
+};
 
 impl<'a> ShowStatus<'a> {
     /// The task with these values, or the first thing that is wrong with them.

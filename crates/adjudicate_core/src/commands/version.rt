@@ -5,8 +5,16 @@ ghost use Rattle.adjudicate_core.specs.Commands.Version.{Answers, named};
 ghost use Rattle.task_files.specs.Sources.{named_by};
 ghost use Rattle.line_teller.specs.ToldLines.{HasFailed};
 
+use super::{Group, Summary};
 use system_io::{Output, WriteFault};
 use task_files::InputPaths;
+
+/// What help says of `version`.
+pub(crate) const SUMMARY: Summary = Summary {
+    group: Group::Tables,
+    about: "the version of this program",
+    example: "adjudicate version",
+};
 
 /// The program's version.
 #[derive(Clone, Copy)]

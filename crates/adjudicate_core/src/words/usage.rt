@@ -3,13 +3,14 @@
 ghost use Rattle.std.specs.Prelude.{◌≡◌, ◌++◌, codes};
 ghost use Rattle.adjudicate_core.specs.declared.words.usage.Usage.TheVariants.{OutOfMemory};
 ghost use Rattle.adjudicate_core.specs.declared.words.usage.WordsFault.TheVariants.{OutOfMemory as NoRoom};
-ghost use Rattle.adjudicate_core.specs.Misuses.{instead_name, option_name, range_of};
+ghost use Rattle.adjudicate_core.specs.Misuses.{instead_name, range_of, wanted_front};
 ghost use Rattle.adjudicate_core.specs.Usage.{usage_of};
 
+use crate::commands::Name;
 use clap::error::ErrorKind;
 use std::alloc::AllocError;
 
-/// An option that takes only some values.
+/// An option or a word that takes only some values.
 #[derive(Clone, Copy)]
 pub enum Wanted {
     /// The name of a game.
@@ -40,18 +41,23 @@ pub enum Wanted {
     Store,
     /// The file of the game that is sent.
     GameFile,
+    /// How many requests are answered.
+    Requests,
+    /// The stamp of the game whose record is shown.
+    Stamp,
 }
 
 impl Wanted {
-    /// The option's name, as it stands before a value.
+    /// The option's name, or the word for what is wanted, as it stands before a value.
     pub(crate) fn front(self) -> &'static str
-        ensures { result.now ≡ codes "--" ++ option_name self ++ codes " " }
+        ensures { result.now ≡ wanted_front self }
     {
         match self {
             Wanted::GameName => "--name ",
             Wanted::Cache => "--cache ",
             Wanted::Delay => "--delay ",
             Wanted::Datagrams => "--datagrams ",
+            Wanted::Requests => "--requests ",
             Wanted::Me => "--me ",
             Wanted::Wait => "--wait ",
             Wanted::Tries => "--tries ",
@@ -61,6 +67,7 @@ impl Wanted {
             Wanted::Log => "--log ",
             Wanted::Store => "--store ",
             Wanted::GameFile => "--game ",
+            Wanted::Stamp => "STAMP ",
         }
     }
 
@@ -72,7 +79,7 @@ impl Wanted {
             Wanted::GameName => ": 1 to 64 bytes from the space to the tilde",
             Wanted::Cache => ": 1 to 4096",
             Wanted::Delay => ": 0 to 8",
-            Wanted::Datagrams => ": 0 to 4294967295",
+            Wanted::Datagrams | Wanted::Requests => ": 0 to 4294967295",
             Wanted::Me => ": 1 or 2",
             Wanted::Wait | Wanted::Tries | Wanted::AtOnce => ": 1 to 65535",
             Wanted::Addresses | Wanted::Recipients => {
@@ -82,6 +89,7 @@ impl Wanted {
             Wanted::Log => ": all, changes or none",
             Wanted::Store => ": sqlite or files",
             Wanted::GameFile => ": FOLDER/STAMP.game, with 32 lower-case hexadecimal digits",
+            Wanted::Stamp => ": 32 lower-case hexadecimal digits",
         }
     }
 }
@@ -131,14 +139,16 @@ pub enum Misuse<'a> {
     NoCommand,
     /// The first word asks for help.
     Help,
+    /// The first word asks for help, and the second one names this command.
+    HelpOf(Name),
     /// A word is not UTF-8.
     NoText(&'a [u8]),
-    /// The first word names no command.
+    /// The first word names no command, or the one behind a request for help.
     UnknownCommand(&'a str),
-    /// The words aren't those that the command has, or ask for help.
-    Refused(clap::Error),
-    /// The command lacks a value, or doesn't take one.
-    Value(ValueFault<'a>),
+    /// The words aren't those that this command has, or ask for help.
+    Refused(Name, clap::Error),
+    /// This command lacks a value, or doesn't take one.
+    Value(Name, ValueFault<'a>),
 }
 
 /// Why words are no task.
@@ -158,13 +168,14 @@ impl<'a> From<AllocError> for Usage<'a> {
     }
 }
 
-impl<'a> From<clap::Error> for Usage<'a> {
-    ghost from_gives = { λ e u. u ≡ usage_of e };
-
-    fn from(e: clap::Error) -> Usage<'a> {
-        match e.kind() {
+impl<'a> Usage<'a> {
+    /// Why a command's parser refuses words.
+    pub(crate) fn of(name: Name, error: clap::Error) -> Usage<'a>
+        ensures { result ≡ usage_of name error }
+    {
+        match error.kind() {
             ErrorKind::OutOfMemory => Usage::OutOfMemory,
-            _ => Usage::Misuse(Misuse::Refused(e)),
+            _ => Usage::Misuse(Misuse::Refused(name, error)),
         }
     }
 }

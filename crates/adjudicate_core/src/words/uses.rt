@@ -1,50 +1,18 @@
 //! What is printed for a misuse.
 
-ghost use Rattle.std.specs.Prelude.{◌≡◌, ◌++◌, [], ◌∷◌, ℕ, List, false};
+ghost use Rattle.std.specs.Prelude.{◌≡◌, ◌++◌, [], ◌∷◌, ℕ, List, false, Some, codes};
 ghost use Rattle.hex.specs.Hex.{encode_lower};
-ghost use Rattle.adjudicate_core.specs.Inside.Putting.{IsPut, TellsLineFirst};
+ghost use Rattle.adjudicate_core.specs.Inside.Putting.{IsCommandHint, IsOptionHint, IsPut, hinted};
 ghost use Rattle.adjudicate_core.specs.Misuses.{fault_words};
-ghost use Rattle.adjudicate_core.specs.Uses.{GoesOut, TellsMisuse, is_plain_byte, shown_byte, shown_bytes, shown_line};
+ghost use Rattle.adjudicate_core.specs.Uses.{GoesOut, TellsMisuse, behind_line, help_head, help_line, is_plain_byte, near_line, shown_byte, shown_bytes, shown_line};
 
+use crate::commands::Name;
+use crate::words::help::{list_of, use_of};
+use crate::words::near::{near_command, near_option};
 use crate::words::usage::{Misuse, ValueFault};
 use clap::error::ErrorKind;
-use std::alloc::{AllocError, Global};
+use std::alloc::Global;
 use system_io::{Output, WriteFault};
-
-/// The usage: all command lines.
-const USAGE: &str = "usage: adjudicate judge [--tables DIR] [--manifest FILE] [--lazy] FEN
-       adjudicate moves [--san] FEN
-       adjudicate probe --tables DIR [--manifest FILE] [--lazy] FEN
-       adjudicate list [--progress] DIR
-       adjudicate check --manifest FILE [--progress] DIR
-       adjudicate show
-       adjudicate probes --tables DIR [--manifest FILE] [--all-tables] [--json] [--determined]
-                         [--progress]
-       adjudicate root --tables DIR [--manifest FILE] [--all-tables] [--json] [--determined] [FEN]
-       adjudicate game [--tables DIR] [--manifest FILE] [--all-tables] [--delay N] [--san] FEN
-       adjudicate games --tables DIR [--manifest FILE] [--all-tables] [--delay N] [--progress]
-       adjudicate pgn --tables DIR [--manifest FILE] [--delay N] [--json] [--differ] [FILE]
-       adjudicate follow [--tables DIR] [--manifest FILE] [--delay N] [--san] FEN
-       adjudicate run [--tables DIR] [--cache N] [--delay N]
-       adjudicate listen --name N --start FEN --tables DIR --me M --bind ADDR --to ADDR[,ADDR] --kept FILE
-                         [--datagrams N] [--delay N] [--fetch] [--ready] [--key FILE]
-       adjudicate record FILE
-       adjudicate record --games DIR STAMP
-       adjudicate audit --name N --start FEN --tables DIR [--manifest FILE] [--delay N] FILE [FILE]
-       adjudicate audit --games DIR [--other DIR] --tables DIR [--manifest FILE]
-       adjudicate status --games DIR [--other DIR]
-       adjudicate send --name N --start FEN --tables DIR [--manifest FILE] [--delay N] --to ADDR[,ADDR]
-                       [--bind ADDR] [--wait MS] [--tries N] [--key FILE] [--san]
-       adjudicate send --game FILE --to ADDR[,ADDR] [--bind ADDR] [--wait MS] [--tries N] [--key FILE]
-                       [--san]
-       adjudicate enter --name N --start FEN --tables DIR [--manifest FILE] [--delay N] --games DIR
-       adjudicate enter --from FILE --tables DIR [--manifest FILE] --games DIR
-       adjudicate host --games DIR --tables DIR [--manifest FILE] --me M --bind ADDR --to ADDR[,ADDR]
-                       [--at-once N] [--cache N] [--datagrams N] [--log FORM] [--log-failures-ignored]
-                       [--store FORM] [--key FILE]
-       adjudicate version
-       adjudicate --version
-";
 
 /// Whether a byte is printed as it is.
 fn is_plain(byte: u8) -> bool
@@ -145,11 +113,82 @@ fn put_line<E: Output>(
     }
 }
 
-/// Writes a text of the usage.
-fn tell_text<E: Output>(errors: &mut E, text: &str)
-    ensures { (usage : List ℕ) × GoesOut E.facts E.contents errors.old errors.new usage }
+/// Writes three texts as they are, one behind the other.
+fn put_texts<E: Output>(
+    errors: &mut E,
+    front: &[u8],
+    middle: &[u8],
+    rest: &[u8],
+) -> Result<(), WriteFault>
+    ensures { IsPut E.facts E.contents errors.old errors.new (front.now ++ middle.now ++ rest.now) result }
 {
-    match put(errors, text.as_bytes()) {
+    match put(errors, front) {
+        Ok(()) => match put(errors, middle) {
+            Ok(()) => put(errors, rest),
+            Err(fault) => Err(fault),
+        },
+        Err(fault) => Err(fault),
+    }
+}
+
+/// A word that may be meant.
+#[derive(Clone, Copy)]
+pub(crate) enum Hint<'w> {
+    /// There is none.
+    Nothing,
+    /// A command.
+    Command(&'w str),
+    /// An option or a flag, without `--`.
+    Option(&'w str),
+}
+
+/// Asks for a word that may be meant, in a line.
+fn put_hint<E: Output>(errors: &mut E, hint: Hint<'_>) -> Result<(), WriteFault>
+    ensures { IsPut E.facts E.contents errors.old errors.new (near_line (hinted hint.entry)) result }
+{
+    match hint {
+        Hint::Nothing => Ok(()),
+        Hint::Command(word) => put_texts(errors, b"did you mean ", word.as_bytes(), b"?\n"),
+        Hint::Option(word) => put_texts(errors, b"did you mean --", word.as_bytes(), b"?\n"),
+    }
+}
+
+/// Writes the line that names help: of a command, or all of it.
+fn put_help<E: Output>(errors: &mut E, name: Option<Name>) -> Result<(), WriteFault>
+    ensures { IsPut E.facts E.contents errors.old errors.new (help_line name) result }
+{
+    match name {
+        None => put(errors, b"see adjudicate help\n"),
+        Some(name) => {
+            put_texts(
+                errors,
+                b"see adjudicate help ",
+                name.word().as_bytes(),
+                b"\n",
+            )
+        }
+    }
+}
+
+/// Writes what stands behind the line of a misuse.
+fn put_behind<E: Output>(
+    errors: &mut E,
+    hint: Hint<'_>,
+    name: Option<Name>,
+) -> Result<(), WriteFault>
+    ensures { IsPut E.facts E.contents errors.old errors.new (behind_line (hinted hint.entry) name) result }
+{
+    match put_hint(errors, hint) {
+        Ok(()) => put_help(errors, name),
+        Err(fault) => Err(fault),
+    }
+}
+
+/// Writes what stands behind the line of a misuse, and lets it out.
+fn tell_behind<E: Output>(errors: &mut E, hint: Hint<'_>, name: Option<Name>)
+    ensures { GoesOut E.facts E.contents errors.old errors.new (behind_line (hinted hint.entry) name) }
+{
+    match put_behind(errors, hint, name) {
         Ok(()) => {
             let _out = errors.flush_all().is_ok();
         }
@@ -157,79 +196,71 @@ fn tell_text<E: Output>(errors: &mut E, text: &str)
     }
 }
 
-/// Writes the usage.
-fn tell_usage<E: Output>(errors: &mut E)
-    ensures { (usage : List ℕ) × GoesOut E.facts E.contents errors.old errors.new usage }
-{
-    tell_text(errors, USAGE)
-}
-
-/// Whether a line of the usage is of this command. A line without a command is of that of the line before.
-fn is_of(line: &str, command: &str, before: bool) -> bool {
-    let Some((_indent, words)) = line.split_once("adjudicate ") else {
-        return before;
-    };
-    match words.split_once(' ') {
-        Some((name, _values)) => name == command,
-        None => words == command,
-    }
-}
-
-/// A line of the usage from its command on; all of a line without one.
-fn from_command(line: &str) -> &str {
-    match line.split_once("adjudicate ") {
-        Some((indent, _words)) => line.strip_prefix(indent).unwrap_or(line),
-        None => line,
-    }
-}
-
-/// The lines of the usage for a command.
-fn usage_of(alloc: Global, command: &str) -> Result<String, AllocError> {
-    let mut usage = String::from_str(alloc, "usage: ")?;
-    let mut is_its = false;
-    for line in USAGE.lines() {
-        is_its = is_of(line, command, is_its);
-        if is_its {
-            usage.push_str(from_command(line))?;
-            usage.push_str("\n")?;
-        }
-    }
-    Ok(usage)
-}
-
-/// Writes the usage of a command, or all of it where memory for that is refused.
-fn tell_usage_of<E: Output>(alloc: Global, errors: &mut E, command: &str)
-    ensures { (usage : List ℕ) × GoesOut E.facts E.contents errors.old errors.new usage }
-{
-    match usage_of(alloc, command) {
-        Ok(usage) => tell_text(errors, usage.as_str()),
-        Err(_) => tell_usage(errors),
-    }
-}
-
-/// Writes words of three parts in one line, and the usage.
-fn tell_line<E: Output>(errors: &mut E, front: &str, middle: &[u8], rest: &str)
-    ensures { TellsLineFirst E.facts E.contents errors.old errors.new (shown_line (front.now ++ middle.now ++ rest.now)) }
+/// Writes words of three parts in one line, a near word, and where help is.
+fn tell_line<E: Output>(
+    errors: &mut E,
+    front: &str,
+    middle: &[u8],
+    rest: &str,
+    hint: Hint<'_>,
+    name: Option<Name>,
+)
+    ensures { GoesOut E.facts E.contents errors.old errors.new (shown_line (front.now ++ middle.now ++ rest.now) ++ behind_line (hinted hint.entry) name) }
 {
     match put_line(errors, front.as_bytes(), middle, rest.as_bytes()) {
-        Ok(()) => tell_usage(errors),
+        Ok(()) => tell_behind(errors, hint, name),
         Err(_) => {}
     }
 }
 
-/// Writes words of three parts in one line, and the usage of a command.
-fn tell_line_of<E: Output>(
-    alloc: Global,
-    errors: &mut E,
-    command: &str,
-    front: &str,
-    middle: &[u8],
-    rest: &str,
-)
-    ensures { TellsLineFirst E.facts E.contents errors.old errors.new (shown_line (front.now ++ middle.now ++ rest.now)) }
+/// Writes a text, and lets it out.
+fn tell_text<E: Output>(errors: &mut E, text: &str)
+    ensures { GoesOut E.facts E.contents errors.old errors.new text.now }
 {
-    match put_line(errors, front.as_bytes(), middle, rest.as_bytes()) {
-        Ok(()) => tell_usage_of(alloc, errors, command),
+    match put(errors, text.as_bytes()) {
+        Ok(()) => {
+            let _gone = errors.flush_all().is_ok();
+        }
+        Err(_) => {}
+    }
+}
+
+/// Writes the list of commands, or a line where memory for it is refused.
+fn tell_list<E: Output>(alloc: Global, errors: &mut E)
+    ensures { (list : List ℕ) × GoesOut E.facts E.contents errors.old errors.new list }
+{
+    match list_of(alloc) {
+        Ok(list) => tell_text(errors, list.as_str()),
+        Err(_) => tell_text(errors, "refused memory\n"),
+    }
+}
+
+/// Writes that there is no command, and the list of commands.
+fn tell_no_command<E: Output>(alloc: Global, errors: &mut E)
+    ensures { (list : List ℕ) × GoesOut E.facts E.contents errors.old errors.new (shown_line (codes "no command") ++ list) }
+{
+    match put_line(errors, b"no command", b"", b"") {
+        Ok(()) => tell_list(alloc, errors),
+        Err(_) => {}
+    }
+}
+
+/// Writes what help of a command says behind its name, or a line where memory for it is refused.
+fn tell_use<E: Output>(alloc: Global, errors: &mut E, name: Name)
+    ensures { (rest : List ℕ) × GoesOut E.facts E.contents errors.old errors.new rest }
+{
+    match use_of(alloc, name) {
+        Ok(text) => tell_text(errors, text.as_str()),
+        Err(_) => tell_text(errors, "refused memory\n"),
+    }
+}
+
+/// Writes the help of a command.
+fn tell_help_of<E: Output>(alloc: Global, errors: &mut E, name: Name)
+    ensures { (rest : List ℕ) × GoesOut E.facts E.contents errors.old errors.new (help_head name ++ rest) }
+{
+    match put_texts(errors, b"adjudicate ", name.word().as_bytes(), b": ") {
+        Ok(()) => tell_use(alloc, errors, name),
         Err(_) => {}
     }
 }
@@ -243,82 +274,112 @@ fn first_words(text: &str) -> &str {
     }
 }
 
-/// Writes why the parser of command lines refuses words: in its own words, or, where memory for these is refused, by
-/// its name for the fault.
-fn tell_refused<E: Output>(alloc: Global, errors: &mut E, error: &clap::Error, command: &str)
-    ensures { (words : List ℕ) × TellsLineFirst E.facts E.contents errors.old errors.new (shown_line words) }
+/// The option that the parser's words quote, without `--`.
+fn quoted_option(text: &str) -> Option<&str> {
+    let (_front, quoted) = text.split_once("'--")?;
+    let (option, _rest) = quoted.split_once('\'')?;
+    Some(option)
+}
+
+/// The option of a command that may be meant by one that the parser's words say is unknown.
+fn option_hint<'w>(alloc: Global, name: Name, kind: ErrorKind, text: &str) -> Hint<'w>
+    ensures { IsOptionHint name result }
 {
-    match format!(in alloc; "{error}") {
-        Ok(text) => tell_line_of(alloc, errors, command, first_words(text.as_str()), b"", ""),
-        Err(_) => tell_line(errors, error.kind().as_str().unwrap_or(""), b"", ""),
+    match (kind, quoted_option(text)) {
+        (ErrorKind::UnknownArgument, Some(option)) => match near_option(alloc, name, option) {
+            Some(word) => Hint::Option(word),
+            None => Hint::Nothing,
+        },
+        _ => Hint::Nothing,
     }
 }
 
-/// Writes a name or a value between words in one line, and the usage of a command.
-fn tell_name<E: Output>(
-    alloc: Global,
-    errors: &mut E,
-    command: &str,
-    front: &str,
-    name: &str,
-    rest: &str,
-)
-    ensures { TellsLineFirst E.facts E.contents errors.old errors.new (shown_line (front.now ++ name.now ++ rest.now)) }
+/// The command that may be meant by a word.
+fn command_hint<'w>(alloc: Global, word: &str) -> Hint<'w>
+    ensures { IsCommandHint word.now result }
 {
-    tell_line_of(alloc, errors, command, front, name.as_bytes(), rest);
+    match near_command(alloc, word) {
+        Some(word) => Hint::Command(word),
+        None => Hint::Nothing,
+    }
+}
+
+/// Writes why the parser of command lines refuses words: in its own words, or, where memory for these is refused, by
+/// its name for the fault.
+fn tell_refused<E: Output>(alloc: Global, errors: &mut E, name: Name, error: &clap::Error)
+    ensures { (words : List ℕ) × ((hint : Hint) × IsOptionHint name hint × GoesOut E.facts E.contents errors.old errors.new (shown_line words ++ behind_line (hinted hint) (Some name))) }
+{
+    match format!(in alloc; "{error}") {
+        Ok(text) => {
+            let words = first_words(text.as_str());
+            let hint = option_hint(alloc, name, error.kind(), words);
+            tell_line(errors, words, b"", "", hint, Some(name))
+        }
+        Err(_) => {
+            let words = error.kind().as_str().unwrap_or("");
+            tell_line(errors, words, b"", "", Hint::Nothing, Some(name))
+        }
+    }
+}
+
+/// Writes a name or a value between words in one line, and where help of a command is.
+fn tell_name<E: Output>(errors: &mut E, front: &str, text: &str, rest: &str, name: Name)
+    ensures { GoesOut E.facts E.contents errors.old errors.new (shown_line (front.now ++ text.now ++ rest.now) ++ help_line (Some name)) }
+{
+    tell_line(
+        errors,
+        front,
+        text.as_bytes(),
+        rest,
+        Hint::Nothing,
+        Some(name),
+    );
 }
 
 /// Writes a fault of the values of a command.
-fn tell_fault<E: Output>(alloc: Global, errors: &mut E, fault: &ValueFault<'_>, command: &str)
-    ensures { TellsLineFirst E.facts E.contents errors.old errors.new (shown_line (fault_words fault.now)) }
+fn tell_fault<E: Output>(errors: &mut E, fault: &ValueFault<'_>, name: Name)
+    ensures { GoesOut E.facts E.contents errors.old errors.new (shown_line (fault_words fault.now) ++ help_line (Some name)) }
 {
     match *fault {
-        ValueFault::NoOption(name) => tell_name(alloc, errors, command, "--", name, " is missing"),
-        ValueFault::NoWord(name) => tell_name(alloc, errors, command, "", name, " is missing"),
+        ValueFault::NoOption(option) => tell_name(errors, "--", option, " is missing", name),
+        ValueFault::NoWord(word) => tell_name(errors, "", word, " is missing", name),
         ValueFault::Unfit(wanted, text) => {
-            tell_name(alloc, errors, command, wanted.front(), text, wanted.rest())
+            tell_name(errors, wanted.front(), text, wanted.rest(), name)
         }
-        ValueFault::NotWith(instead, name) => {
-            tell_name(alloc, errors, command, "--", name, instead.rest())
+        ValueFault::NotWith(instead, option) => {
+            tell_name(errors, "--", option, instead.rest(), name)
         }
-        ValueFault::WordNotWith(instead, name) => {
-            tell_name(alloc, errors, command, "", name, instead.rest())
+        ValueFault::WordNotWith(instead, word) => {
+            tell_name(errors, "", word, instead.rest(), name)
         }
-        ValueFault::Beside(name) => {
-            tell_name(
-                alloc,
-                errors,
-                command,
-                "--",
-                name,
-                " cannot be used with --game",
-            )
+        ValueFault::Beside(option) => {
+            tell_name(errors, "--", option, " cannot be used with --game", name)
         }
     }
 }
 
-/// Writes the fault of the words in one line, and the usage: of the command, where the first word names one, and else all of it. For a
-/// request for help it writes the usage alone.
+/// Writes the fault of the words in one line; then, where a command's word or an option's is near to one that is unknown, a line that
+/// asks whether that is meant; and last the line that names help, of the command where there is one. For a request for help it
+/// writes the list of commands, or the use of a command. Where there is no word the list of commands stands behind the line.
 ///
 /// A byte outside those from the space to the tilde is printed by its number, as `\x0a`, and so is a backslash. All of
 /// it is flushed. A failure of `errors` changes nothing.
-pub(crate) fn tell_misuse<E: Output>(
-    alloc: Global,
-    errors: &mut E,
-    misuse: &Misuse<'_>,
-    command: &str,
-)
+pub(crate) fn tell_misuse<E: Output>(alloc: Global, errors: &mut E, misuse: &Misuse<'_>)
     ensures { TellsMisuse E.facts E.contents errors.old errors.new misuse.now }
 {
     match misuse {
-        Misuse::NoCommand => tell_line(errors, "no command", b"", ""),
-        Misuse::Help => tell_usage(errors),
-        Misuse::NoText(word) => tell_line(errors, "no text ", word, ""),
-        Misuse::UnknownCommand(word) => tell_line(errors, "no command ", word.as_bytes(), ""),
-        Misuse::Refused(error) => match error.kind() {
-            ErrorKind::DisplayHelp => tell_usage_of(alloc, errors, command),
-            _ => tell_refused(alloc, errors, error, command),
+        Misuse::NoCommand => tell_no_command(alloc, errors),
+        Misuse::Help => tell_list(alloc, errors),
+        Misuse::HelpOf(name) => tell_help_of(alloc, errors, *name),
+        Misuse::NoText(word) => tell_line(errors, "no text ", word, "", Hint::Nothing, None),
+        Misuse::UnknownCommand(word) => {
+            let hint = command_hint(alloc, word);
+            tell_line(errors, "no command ", word.as_bytes(), "", hint, None)
+        }
+        Misuse::Refused(name, error) => match error.kind() {
+            ErrorKind::DisplayHelp => tell_help_of(alloc, errors, *name),
+            _ => tell_refused(alloc, errors, *name, error),
         },
-        Misuse::Value(fault) => tell_fault(alloc, errors, fault, command),
+        Misuse::Value(name, fault) => tell_fault(errors, fault, *name),
     }
 }

@@ -1,10 +1,11 @@
 //! The values of a command, taken from its words, or the fault of one.
 
-ghost use Rattle.std.specs.Prelude.{◌≡◌, IfOk, IfErr, OnOk, None, Some, codes};
-ghost use Rattle.clap.specs.Words.{first_value, found_of};
+ghost use Rattle.std.specs.Prelude.{◌≡◌, [], ◌∷◌, IfOk, IfErr, OnOk, None, Some, codes};
+ghost use Rattle.clap.specs.Words.{Text, first_value, found_of};
 ghost use Rattle.move_msg.specs.Stamps.{IsGameName};
 ghost use Rattle.adjudicate_core.specs.Addresses.{AreAddresses, AreRecipients, IsAddressIfAny};
 ghost use Rattle.adjudicate_core.specs.Misuses.{AreGameWords, AreWell, IsFirstMisuse, IsToldMisuse, NoOption, NoWord, NotWith, Unfit, WordNotWith, fault_words, game_faults, me_faults, name_faults, recipient_faults, to_faults};
+ghost use Rattle.adjudicate_core.specs.GamePaths.{SpellsStamp};
 ghost use Rattle.adjudicate_core.specs.Numbers.{IsAtOnce, IsCache, IsDatagrams, IsDelay, IsHundredOr, IsLog, IsMe, IsStore};
 
 use crate::words::addresses::{are_addresses, are_recipients, is_address};
@@ -15,7 +16,8 @@ use crate::words::usage::{Instead, ValueFault, Wanted};
 use arbiter_server::LogForm;
 use board_core::Delay;
 use clap::ArgMatches;
-use move_msg::{ArbiterId, GameName};
+use game_status::stamp_of;
+use move_msg::{ArbiterId, GameName, Stamp};
 use std::num::NonZeroUsize;
 
 /// The value of an option that has to be there.
@@ -43,6 +45,18 @@ pub(crate) fn word_in<'a>(
     match matches.get_str(name) {
         Some(text) => Ok(text),
         None => Err(ValueFault::NoWord(name)),
+    }
+}
+
+/// The stamp of a game, a word that has to be there: 32 lower-case hexadecimal digits.
+pub(crate) fn stamp_word<'a>(matches: &ArgMatches<'a>) -> Result<Stamp, ValueFault<'a>>
+    ensures ok { IfOk result (λ stamp. (text : Text) × (Some text ≡ first_value (found_of matches.now) (codes "FILE")) × SpellsStamp text stamp) }
+    ensures err { IfErr result (λ fault. IsFirstMisuse (first_value (found_of matches.now)) (NoWord (codes "FILE") ∷ Unfit Wanted.Stamp ∷ []) (fault_words fault)) }
+{
+    let text = word_in(matches, "FILE")?;
+    match stamp_of(text.as_bytes()) {
+        Some(stamp) => Ok(stamp),
+        None => Err(ValueFault::Unfit(Wanted::Stamp, text)),
     }
 }
 
@@ -249,6 +263,18 @@ pub(crate) fn datagrams_in<'a>(matches: &ArgMatches<'a>) -> Result<u64, ValueFau
     match datagrams_of(text) {
         Some(datagrams) => Ok(datagrams),
         None => Err(ValueFault::Unfit(Wanted::Datagrams, text.unwrap_or(""))),
+    }
+}
+
+/// A number of requests.
+pub(crate) fn requests_in<'a>(matches: &ArgMatches<'a>) -> Result<u64, ValueFault<'a>>
+    ensures ok { IfOk result (IsDatagrams (first_value (found_of matches.now) (codes "requests"))) }
+    ensures err { IfErr result (λ fault. IsToldMisuse (first_value (found_of matches.now)) (Unfit Wanted.Requests) (fault_words fault)) }
+{
+    let text = matches.get_str("requests");
+    match datagrams_of(text) {
+        Some(requests) => Ok(requests),
+        None => Err(ValueFault::Unfit(Wanted::Requests, text.unwrap_or(""))),
     }
 }
 

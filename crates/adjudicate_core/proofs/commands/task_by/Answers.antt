@@ -10,10 +10,10 @@ use Rattle.adjudicate_core.proofs.commands.task_by.Goals as goal
 pub matches_at-requires : goal.matches_at-requires
 matches_at-requires c = ap is_simple_and_free c.in_ok-command.ensures ∙ is_simple c.args.name
 
-pub returns-clause-misuse : goal.returns-clause-misuse
-returns-clause-misuse c = λ misuse is.
+pub returns-in-Ok-clause-misuse : goal.returns-in-Ok-clause-misuse
+returns-in-Ok-clause-misuse c = λ misuse is.
     let words = map (λ w. w.now) c.args.words.now in
-    value_so words c.args.name (first_value (found_of c.in_ok-matches.matches)) c.in-Err.fault misuse c.requires
-    (subst (λ (app : App). TakesWords app words) c.in_ok-command.ensures c.in_ok-matches.ensures.taken)
-    (λ id. c.in_ok-matches.ensures.values id ∙ ap (λ (app : App). argument_value app words id) c.in_ok-command.ensures)
-    c.in-Err.ensures is
+    value_so words c.args.name (first_value (found_of c.in-Ok.matches)) c.in-Err-task_of.fault misuse c.requires
+    (subst (λ (app : App). TakesWords app words) c.in_ok-command.ensures c.in-Ok.ensures.taken)
+    (λ id. c.in-Ok.ensures.values id ∙ ap (λ (app : App). argument_value app words id) c.in_ok-command.ensures)
+    c.in-Err-task_of.ensures is

@@ -83,3 +83,6 @@ returns-in-Follow g c = record { answered = rw c.in-Follow.is c.answer-in-Follow
 
 pub returns-in-Status : goal.returns-in-Status
 returns-in-Status g c = record { answered = rw c.in-Status.is c.answer-in-Status.ensures.told; quiet = λ unasked. inl refl; made = makes_nothing _ _; cause = c.answer-in-Status.ensures.cause }
+
+pub returns-in-Serve : goal.returns-in-Serve
+returns-in-Serve g c = record { answered = rw c.in-Serve.is c.serve_requests.ensures.told; quiet = λ unasked. inl refl; made = makes_nothing _ _; cause = c.serve_requests.ensures.cause }

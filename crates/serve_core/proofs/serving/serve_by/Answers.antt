@@ -1,7 +1,7 @@
 use Rattle.std.proofs.Common.{Err, ap, subst}
 use Rattle.move_msg.specs.ToldBy.{told_by}
 use Rattle.task_files.specs.Outside.{IsToldAt}
-use Rattle.serve_core.specs.Serves.{BadManifest, NoFolder, OverFolder, manifest_path}
+use Rattle.adjudicate_core.specs.Commands.Serve.{BadManifest, NoFolder, OverFolder, manifest_path}
 use Rattle.serve_core.proofs.serving.serve_by.Goals as goal
 
 pub returns-in-BadLine-clause-told : goal.returns-in-BadLine-clause-told

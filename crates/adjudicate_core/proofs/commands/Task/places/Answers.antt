@@ -59,3 +59,6 @@ returns-in-Follow c = rw c.in-Follow.is c.places-in-Follow.ensures
 
 pub returns-in-Status : goal.returns-in-Status
 returns-in-Status c = rw c.in-Status.is c.places-in-Status.ensures
+
+pub returns-in-Serve : goal.returns-in-Serve
+returns-in-Serve c = rw c.in-Serve.is c.places-in-Serve.ensures

@@ -3,12 +3,15 @@ use Rattle.std.specs.Prelude.{codes}
 use Rattle.adjudicate_core.specs.Misuses.{instead_name}
 use Rattle.adjudicate_core.proofs.words.uses.tell_fault.Goals as goal
 
+pub returns-in-NoOption : goal.returns-in-NoOption
+returns-in-NoOption g c = rw c.in-NoOption.is c.tell_name.ensures
+
 pub returns-in-NoWord : goal.returns-in-NoWord
 returns-in-NoWord g c = rw c.in-NoWord.is c.tell_name-in-NoWord.ensures
 
 pub returns-in-NotWith : goal.returns-in-NotWith
 returns-in-NotWith g c =
-    let name = c.in-NotWith.name.now in
+    let name = c.in-NotWith.option.now in
     rw c.in-NotWith.is (
     rw (append_assoc name (codes " cannot be used with --") (instead_name c.in-NotWith.instead))
     (rw c.rest-in-NotWith.ensures at c.tell_name-in-NotWith.ensures)
@@ -16,8 +19,11 @@ returns-in-NotWith g c =
 
 pub returns-in-WordNotWith : goal.returns-in-WordNotWith
 returns-in-WordNotWith g c =
-    let name = c.in-WordNotWith.name.now in
+    let name = c.in-WordNotWith.word.now in
     rw c.in-WordNotWith.is (
     rw (append_assoc name (codes " cannot be used with --") (instead_name c.in-WordNotWith.instead))
     (rw c.rest-in-WordNotWith.ensures at c.tell_name-in-WordNotWith.ensures)
     )
+
+pub returns-in-Beside : goal.returns-in-Beside
+returns-in-Beside g c = rw c.in-Beside.is c.tell_name-in-Beside.ensures

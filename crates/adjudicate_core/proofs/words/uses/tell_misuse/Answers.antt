@@ -1,24 +1,24 @@
-use Rattle.std.proofs.Common.{◌++◌, [], ap, append-nil, codes, inl, refl, rules}
-use Rattle.adjudicate_core.specs.declared.words.usage.Misuse.TheVariants as misuse
-use Rattle.adjudicate_core.specs.Uses.{shown_line}
-use Rattle.adjudicate_core.proofs.PutLaws.{line_so, usage_alone}
+use Rattle.std.proofs.Common.{◌++◌, [], ap, append-nil, codes, inr, refl}
+use Rattle.std.specs.Prelude.{None}
+use Rattle.adjudicate_core.specs.Uses.{behind_line, shown_line}
+use Rattle.adjudicate_core.specs.Inside.Putting.{hinted}
+use Rattle.adjudicate_core.proofs.NearLaws.{command_told, option_told}
 use Rattle.adjudicate_core.proofs.words.uses.tell_misuse.Goals as goal
-
-pub returns-in-NoCommand : goal.returns-in-NoCommand
-returns-in-NoCommand g c = rw c.in-NoCommand.is (line_so g.E.Output.facts g.E.Write.contents _ _ (codes "no command" ++ [] ++ []) misuse.NoCommand c.tell_line.ensures refl)
-
-pub returns-in-Help : goal.returns-in-Help
-returns-in-Help g c = rw c.in-Help.is (usage_alone g.E.Output.facts g.E.Write.contents _ _ misuse.Help c.tell_usage.ensures refl)
-
-pub returns-in-NoText : goal.returns-in-NoText
-returns-in-NoText g c =
-    rw c.in-NoText.is (line_so g.E.Output.facts g.E.Write.contents _ _ (codes "no text " ++ c.in-NoText.word.now ++ []) (misuse.NoText c.in-NoText.word) c.tell_line-in-NoText.ensures (ap shown_line (append-nil (codes "no text " ++ c.in-NoText.word.now))))
 
 pub returns-in-UnknownCommand : goal.returns-in-UnknownCommand
 returns-in-UnknownCommand g c =
     let told = rw c.as_bytes.ensures.value at c.tell_line-in-UnknownCommand.ensures in
-    rw c.in-UnknownCommand.is (line_so g.E.Output.facts g.E.Write.contents _ _ (codes "no command " ++ c.in-UnknownCommand.word.now ++ []) (misuse.UnknownCommand c.in-UnknownCommand.word) told (ap shown_line (append-nil (codes "no command " ++ c.in-UnknownCommand.word.now))))
+    let word = c.in-UnknownCommand.word in
+    rw c.in-UnknownCommand.is (record {
+      text = shown_line (codes "no command " ++ word.now ++ []) ++ behind_line (hinted c.command_hint-hint.result) None;
+      is = (hinted c.command_hint-hint.result, command_told word c.command_hint-hint.result c.command_hint-hint.ensures, ap (λ l. shown_line l ++ behind_line (hinted c.command_hint-hint.result) None) (append-nil (codes "no command " ++ word.now)));
+      out = told;
+    })
 
-pub returns-in-DisplayHelp : goal.returns-in-DisplayHelp
-returns-in-DisplayHelp g c =
-    rw c.in-Refused.is (usage_alone g.E.Output.facts g.E.Write.contents _ _ (misuse.Refused c.in-Refused.error) c.tell_usage_of.ensures (inl (search rules, refl)))
+pub returns-in_default : goal.returns-in_default
+returns-in_default g c =
+    rw c.in-Refused.is (record {
+      text = _;
+      is = inr (c.tell_refused.ensures.0, (hinted c.tell_refused.ensures.1.0, option_told c.in-Refused.name c.in-Refused.error c.tell_refused.ensures.1.0 c.tell_refused.ensures.1.1, refl));
+      out = c.tell_refused.ensures.1.2;
+    })

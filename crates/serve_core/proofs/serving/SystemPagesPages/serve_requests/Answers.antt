@@ -1,6 +1,6 @@
 use Rattle.std.proofs.Common.{Err, ap}
-use Rattle.serve_core.specs.Serves.{NoManifest}
-use Rattle.serve_core.proofs.serving.serve_tables.Goals as goal
+use Rattle.adjudicate_core.specs.Commands.Serve.{NoManifest}
+use Rattle.serve_core.proofs.serving.SystemPagesPages.serve_requests.Goals as goal
 
 pub returns-in-Err-Unreadable-clause-told : goal.returns-in-Err-Unreadable-clause-told
 returns-in-Err-Unreadable-clause-told g c =

@@ -1,0 +1,66 @@
+-- `serve --tables DIR [--manifest FILE] --bind ADDR [--requests N]`: requests of HTTP that are answered by the tables of a folder, and what
+-- it tells (this project's own). What is answered to a request is the contract of http_answer.
+use Rattle.std.specs.Prelude.{◌≡◌, ◌++◌, ℕ, List, [], ◌∷◌, Option, Some, None, Result, Ok, Err, codes, option_map}
+use Rattle.clap.specs.Words.{Rule, Text}
+use Rattle.line_teller.specs.ToldLines.{refused_files, refused_memory}
+use Rattle.move_msg.specs.TextLines.{ended}
+use Rattle.move_msg.specs.ToldManifests.{ToldManifest}
+use Rattle.system_io.specs.Disks.{AtFile, DiskFacts}
+use Rattle.system_io.specs.declared.output.WriteFault.{WriteFault}
+use Rattle.task_files.specs.Outside.{FolderFails, IsToldAt}
+use Rattle.task_files.specs.Sources.{Named, nothing}
+use Rattle.arbiter_server.specs.ServedLines.{refused_port}
+use Rattle.adjudicate_core.specs.Lines.{refused_manifest}
+use Rattle.adjudicate_core.specs.Rules.{rule_of_form}
+use Rattle.adjudicate_core.specs.declared.commands.Form.TheVariants as form
+use Rattle.adjudicate_core.specs.Misuses.{Fault, NoOption, Unfit}
+use Rattle.adjudicate_core.specs.declared.words.usage.Wanted.TheVariants as wanted
+use Rattle.adjudicate_core.specs.Numbers.{IsDatagrams}
+use Rattle.adjudicate_core.specs.Telling.{TellsOne, TellsWholeText}
+use Rattle.adjudicate_core.specs.declared.commands.serve.Serve.{Serve}
+
+abbrev pub rules : List Rule
+rules =
+    rule_of_form form.Option (codes "tables")
+    ∷ rule_of_form form.Option (codes "manifest")
+    ∷ rule_of_form form.Option (codes "bind")
+    ∷ rule_of_form form.Option (codes "requests") ∷ []
+
+-- the values of its arguments
+pub record HasValues (value : Text → Option Text) (t : Serve) : Type 0 where
+  pub tables : Some t.tables.now ≡ value (codes "tables")
+  pub manifest : option_map (λ s. s.now) t.manifest ≡ value (codes "manifest")
+  pub bind : Some t.bind.now ≡ value (codes "bind")
+  pub requests : IsDatagrams (value (codes "requests")) t.requests
+
+-- what may be wrong with its values, in the order in which it is told
+abbrev pub faults : List Fault
+faults = NoOption (codes "tables") ∷ NoOption (codes "bind") ∷ Unfit wanted.Requests ∷ []
+
+-- nothing is read for it before it answers
+abbrev pub named : Named
+named = nothing
+
+-- the line that tells an address
+abbrev pub ready_line : List ℕ → List ℕ
+ready_line address = ended (codes "ready " ++ address)
+
+-- the manifest that is named, if one is
+abbrev pub manifest_path : Serve → Option (List ℕ)
+manifest_path t = option_map (λ s. s.now) t.manifest
+
+-- Over a folder whose tables may be read: the address can't be bound, or memory is refused; or the address at which requests come is told
+-- once it is bound, and nothing more unless the system can't wait for requests any more.
+pub data ServesFolder (old new : Option (List ℕ)) (r : Result ℕ WriteFault) : Type 0 where
+  Unbound : TellsOne refused_port old new r → ServesFolder old new r
+  LacksRoom : TellsOne refused_memory old new r → ServesFolder old new r
+  Done : (address : List ℕ) → TellsWholeText (ready_line address) 0 old new r → ServesFolder old new r
+  Lost : (address : List ℕ) → TellsWholeText (ready_line address ++ ended refused_port) 1 old new r → ServesFolder old new r
+
+-- the manifest can't be read; or it is malformed; or the folder can't be read; or what follows
+pub data Serves (disk : DiskFacts) (t : Serve) (old new : Option (List ℕ)) (r : Result ℕ WriteFault) : Type 0 where
+  NoManifest : (path : List ℕ) → manifest_path t ≡ Some path → disk.fails (AtFile path) → TellsOne refused_files old new r → Serves disk t old new r
+  NoRoomForManifest : TellsOne refused_memory old new r → Serves disk t old new r
+  BadManifest : (line : ℕ) → IsToldAt disk (manifest_path t) (Some (Err line)) → TellsOne (refused_manifest line) old new r → Serves disk t old new r
+  NoFolder : (told : Option ToldManifest) → IsToldAt disk (manifest_path t) told → FolderFails disk t.tables.now told → TellsOne refused_files old new r → Serves disk t old new r
+  OverFolder : (told : Option ToldManifest) → IsToldAt disk (manifest_path t) told → ServesFolder old new r → Serves disk t old new r
