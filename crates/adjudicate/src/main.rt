@@ -1,6 +1,6 @@
 //! The adjudicator's program: it passes the system to `adjudicate_core`, and ends with the status.
 //!
-//! `main` first sees to it that the descriptors 0 to 2 are open. Then it makes the system's disk, input, stores, host and output, calls
+//! `main` first sees to it that the descriptors 0 to 2 are open. Then it makes the system's disk, input, stores, host, pages and output, calls
 //! `run_program` with the words that the program was called with, flushes the output by `system_io::end`, and ends with the status.
 //! Memory that is refused before that is `refused memory`.
 //!
@@ -12,6 +12,7 @@
 
 use adjudicate_core::{System, WordsFault, refuse_memory, run_program};
 use game_store::MachineStores;
+use serve_core::SystemPages;
 use std::alloc::Global;
 use std::env::{Env, FillError};
 use std::process::ExitCode;
@@ -74,7 +75,13 @@ fn run_over<D: LineDisk, I: Input, H: Host, W: Output>(
     let Ok(mut errors) = BufferedOutput::new(rt.alloc(), rt.stderr()) else {
         return refuse_memory(out);
     };
-    let system = System { disk, input, host };
+    let pages = SystemPages::new(rt);
+    let system = System {
+        disk,
+        input,
+        host,
+        pages: &pages,
+    };
     let words = words_of(rt);
     run_program(rt.alloc(), &words, &system, history, out, &mut errors)
 }

@@ -1,6 +1,7 @@
 //! A case is run, and what comes of it is compared with what is wanted.
 
 use crate::case::{Call, Case};
+use crate::closed::Closed;
 use crate::counting::Counting;
 use crate::memory_host::Unwritten;
 use crate::paper::Paper;
@@ -29,6 +30,7 @@ fn ended_over(
         disk,
         input: &case.input(),
         host: &host,
+        pages: &Closed {},
     };
     let ended = run(
         alloc,

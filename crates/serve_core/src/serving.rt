@@ -20,6 +20,7 @@ use std::alloc::{AllocError, Global};
 use std::hash::RandomState;
 use std::io;
 use std::net::{Net, SocketAddr, ToSocketAddrs};
+use std::random::RandomSource;
 use std::time::{Clock, Duration};
 use system_io::{Disk, Output, ReadFault, WriteFault};
 use table_folder::TableFolder;
@@ -35,13 +36,12 @@ const BLOCKS: usize = 4096;
 #[derive(Clone, Copy)]
 pub struct SystemPages<'r, R> {
     rt: &'r R,
-    keys: RandomState,
 }
 
 impl<'r, R> SystemPages<'r, R> {
-    /// Over the system's own, with keys for the maps of a request's fields, which a peer names.
-    pub fn new(rt: &'r R, keys: RandomState) -> SystemPages<'r, R> {
-        SystemPages { rt, keys }
+    /// Over the system's own.
+    pub fn new(rt: &'r R) -> SystemPages<'r, R> {
+        SystemPages { rt }
     }
 }
 
@@ -76,12 +76,13 @@ fn refuse_manifest<W: Output>(out: &mut W, line: usize) -> Result<u8, WriteFault
 }
 
 /// A server that listens at the first address of a host name and a port that can be bound.
-fn bound<'r, R: Clock + Net>(
+fn bound<'r, R: Clock + Net + RandomSource>(
     rt: &'r R,
     alloc: Global,
-    keys: RandomState,
     address: &str,
 ) -> io::Result<Server<'r, R>> {
+    // A peer names the fields of a request, so their maps take secret keys.
+    let keys = RandomState::new(rt)?;
     let limits = Limits {
         config: Config::default(),
         connections: CONNECTIONS,
@@ -120,7 +121,7 @@ fn put_out<W: Output>(out: &mut W, text: &str) -> Result<u8, WriteFault>
 }
 
 /// Answers so many requests. The error comes where the system can't wait, or memory is refused.
-fn answer_all<R: Clock + Net, D: Disk>(
+fn answer_all<R: Clock + Net + RandomSource, D: Disk>(
     server: &mut Server<'_, R>,
     answerer: Answerer<'_, D>,
     requests: u64,
@@ -139,7 +140,7 @@ fn answer_all<R: Clock + Net, D: Disk>(
 }
 
 /// Tells the address at which a server listens, and answers requests.
-fn serve_at<R: Clock + Net, D: Disk, W: Output>(
+fn serve_at<R: Clock + Net + RandomSource, D: Disk, W: Output>(
     alloc: Global,
     server: &mut Server<'_, R>,
     answerer: Answerer<'_, D>,
@@ -166,10 +167,9 @@ fn serve_at<R: Clock + Net, D: Disk, W: Output>(
 }
 
 /// Serves over a folder.
-fn serve_folder<R: Clock + Net, D: Disk, W: Output>(
+fn serve_folder<R: Clock + Net + RandomSource, D: Disk, W: Output>(
     alloc: Global,
     rt: &R,
-    keys: RandomState,
     folder: TableFolder<'_, D>,
     task: &Serve<'_>,
     out: &mut W,
@@ -180,17 +180,16 @@ fn serve_folder<R: Clock + Net, D: Disk, W: Output>(
     let Ok(answerer) = Answerer::over(alloc, folder, BLOCKS) else {
         return refuse(out, "refused memory");
     };
-    match bound(rt, alloc, keys, task.bind) {
+    match bound(rt, alloc, task.bind) {
         Ok(mut server) => serve_at(alloc, &mut server, answerer, task.requests, out),
         Err(_) => refuse(out, "refused port"),
     }
 }
 
 /// Serves over the folder that the words name, held to this manifest.
-fn serve_by<R: Clock + Net, D: Disk, W: Output>(
+fn serve_by<R: Clock + Net + RandomSource, D: Disk, W: Output>(
     alloc: Global,
     rt: &R,
-    keys: RandomState,
     disk: &D,
     manifest: &Manifest,
     task: &Serve<'_>,
@@ -205,13 +204,13 @@ fn serve_by<R: Clock + Net, D: Disk, W: Output>(
     }
     let arena = Bump::new(alloc);
     match TableFolder::open(alloc, disk, task.tables, manifest, &arena) {
-        Ok(folder) => serve_folder(alloc, rt, keys, folder, task, out),
+        Ok(folder) => serve_folder(alloc, rt, folder, task, out),
         Err(ReadFault::Unreadable) => refuse(out, "refused files"),
         Err(ReadFault::OutOfMemory) => refuse(out, "refused memory"),
     }
 }
 
-impl<'r, R: Clock + Net> Pages for SystemPages<'r, R> {
+impl<'r, R: Clock + Net + RandomSource> Pages for SystemPages<'r, R> {
     fn serve_requests<D: Disk, W: Output>(
         &self,
         alloc: Global,
@@ -220,7 +219,7 @@ impl<'r, R: Clock + Net> Pages for SystemPages<'r, R> {
         out: &mut W,
     ) -> Result<u8, WriteFault> {
         match read_manifest(alloc, disk, task.manifest) {
-            Ok(manifest) => serve_by(alloc, self.rt, self.keys, disk, &manifest, task, out),
+            Ok(manifest) => serve_by(alloc, self.rt, disk, &manifest, task, out),
             Err(ReadFault::Unreadable) => refuse(out, "refused files"),
             Err(ReadFault::OutOfMemory) => refuse(out, "refused memory"),
         }
