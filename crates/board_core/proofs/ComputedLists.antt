@@ -9,10 +9,10 @@ use Rattle.board_core.specs.declared.piece.Piece.{Piece}
 use Rattle.board_core.specs.Attack.{man_at}
 use Rattle.board_core.specs.declared.parts.Parts.{Parts}
 use Rattle.board_core.specs.declared.moves.Move.{Move}
-use Rattle.board_core.specs.Moves.{IsLegal, HasLegal, IsEnPassant, IsCapture, IsLegalCapture, HasLegalCaptures, place_of, promotion_place}
-use Rattle.board_core.specs.ComputedMoves.{position_after, is_legal, promotion_at, move_at, moves_from, all_moves, legal_moves, has_some, has_legal_move, is_capture, legal_captures, is_en_passant, has_move_besides_en_passant}
+use Rattle.board_core.specs.Moves.{IsLegal, HasLegal, IsEnPassant, IsCapture, IsLegalCapture, HasLegalCaptures, IsLegalPawnMove, HasLegalPawnMoves, place_of, promotion_place}
+use Rattle.board_core.specs.ComputedMoves.{position_after, is_legal, promotion_at, move_at, moves_from, all_moves, legal_moves, has_some, has_legal_move, is_capture, legal_captures, is_pawn_move, legal_pawn_moves, is_en_passant, has_move_besides_en_passant}
 use Rattle.board_core.proofs.Listing.{promotion_below, same_place}
-use Rattle.board_core.proofs.ComputedMoves.{position_legal, legal_position, Decides-en_passant}
+use Rattle.board_core.proofs.ComputedMoves.{position_legal, legal_position, Decides-en_passant, Decides-pawn_of}
 
 pub promotion_back : (k : ℕ) → k < 5 → promotion_place (promotion_at k) ≡ k
 promotion_back zero lt = refl
@@ -177,6 +177,32 @@ captures_listed p xs h = one_list_of_captures p xs (legal_captures p) h (HasLega
 
 pub some_capture : (p : Parts) (m : Move) → IsLegalCapture p m → legal_captures p ≢ []
 some_capture p m l none = let c = (HasLegalCaptures-moves p).complete m l in let lt = rw none at c.1 in absurd (omega arith)
+
+-- ---- moves of pawns
+
+HasLegalPawnMoves-filter : (p : Parts) (xs : List Move) → HasLegal p xs → HasLegalPawnMoves p (filter (is_pawn_move p) xs)
+HasLegalPawnMoves-filter p xs h =
+    let kept = All-filter (is_pawn_move p) (IsLegal p) xs h.sound in
+    let pawns = filter_passes (is_pawn_move p) xs in
+    record {
+      ordered = AllPairs-filter (λ a b. place_of a < place_of b) (is_pawn_move p) xs h.ordered;
+      sound = λ k d lt. (kept k d lt, (Decides-pawn_of p.side (man_at p.men (get_or (filter (is_pawn_move p) xs) k d).from)).0 (pawns k d lt));
+      complete = λ m l. Contains-filter (is_pawn_move p) xs m (h.complete m l.0) ((Decides-pawn_of p.side (man_at p.men m.from)).1 l.1);
+    }
+
+HasLegalPawnMoves-moves : (p : Parts) → HasLegalPawnMoves p (legal_pawn_moves p)
+HasLegalPawnMoves-moves p = HasLegalPawnMoves-filter p (legal_moves p) (HasLegal-moves p)
+
+-- there is one list of the legal moves of pawns
+pub pawn_moves_listed : (p : Parts) (xs : List Move) → HasLegalPawnMoves p xs → xs ≡ legal_pawn_moves p
+pawn_moves_listed p xs h =
+    let k = HasLegalPawnMoves-moves p in
+    same_ascending xs (legal_pawn_moves p) h.ordered k.ordered
+    (λ m c. k.complete m (All-contains (IsLegalPawnMove p) xs m h.sound c))
+    (λ m c. h.complete m (All-contains (IsLegalPawnMove p) (legal_pawn_moves p) m k.sound c))
+
+pub some_pawn_move : (p : Parts) (m : Move) → IsLegalPawnMove p m → legal_pawn_moves p ≢ []
+some_pawn_move p m l none = let c = (HasLegalPawnMoves-moves p).complete m l in let lt = rw none at c.1 in absurd (omega arith)
 
 -- what decides that a move is legal is the computed test
 pub legal_computed : (p : Parts) (m : Move) (r : Bool) → Decides r (IsLegal p m) → r ≡ is_legal p m

@@ -1,4 +1,4 @@
-use Rattle.std.proofs.Common.{ℕ, zero, suc, ◌≡◌, ◌≢◌, ◌<◌, ◌≤◌, ◌⊎◌, List, [], ◌∷◌, Option, Some, None, Bool, true, false, cond, not, ◌&&◌, ◌||◌, ◌==◌, is_some, length, get_or, Decides, refl, sym, ap, ◌∙◌, arith, inl, inr, find, option_and_then}
+use Rattle.std.proofs.Common.{ℕ, zero, suc, ◌≡◌, ◌≢◌, ◌<◌, ◌≤◌, ◌⊎◌, List, [], ◌∷◌, Option, Some, None, Bool, true, false, cond, not, ◌&&◌, ◌||◌, ◌==◌, is_some, length, get_or, Decides, refl, sym, ap, subst, ◌∙◌, arith, inl, inr, find, option_and_then}
 use Rattle.std.proofs.lemmas.Bool.Decides.{nat_tests, same_from_decides, Decides-and, Decides-or, Decides-not, Decides-like, Decides-eqb, Decides-ltb}
 use Rattle.std.proofs.lemmas.Bool.{cases_Bool}
 use Rattle.board_core.specs.declared.piece.Piece.{Piece}
@@ -18,7 +18,7 @@ use Rattle.board_core.specs.Square.{file_of, rank_of, apart}
 use Rattle.board_core.specs.Attack.{man_at, Along, IsPawnAttack, Reaches, IsAttacked, IsInCheck, forward}
 use Rattle.board_core.specs.Castling.{king_home, rook_home, king_end}
 use Rattle.board_core.specs.Position.{is_king}
-use Rattle.board_core.specs.Moves.{first_rank, last_rank, IsBetween, IsOnWay, IsPlain, IsAdvance, IsDoubleStep, IsPawnCapture, IsEnPassant, IsCastle, IsMove, Legal, after}
+use Rattle.board_core.specs.Moves.{first_rank, last_rank, IsBetween, IsOnWay, IsPlain, IsAdvance, IsDoubleStep, IsPawnCapture, IsEnPassant, IsCastle, IsMove, Legal, IsLegal, after}
 use Rattle.board_core.specs.Computed.{is_in_check}
 use Rattle.board_core.specs.ComputedMoves.{is_pawn, is_pawn_of, promotes, is_square, is_plain, is_advance, is_double_step, is_pawn_capture, is_en_passant, is_between, is_on_way, is_way_empty, is_way_safe, is_castle, is_move, cases, is_on_board, case_of, position_after}
 use Rattle.board_core.proofs.Computed.{some_man, Decides-leb, Decides-each_below, Decides-none, Decides-same_side, Decides-man, Decides-king_of, Decides-of, Decides-along, Decides-clear, Decides-and_then, Decides-pawn_attack, Decides-attacks, Decides-attacked, Decides-in_check}
@@ -342,5 +342,12 @@ pub computed_some : (p : Parts) (m : Move) (q : Parts) → Legal p m q → Some 
 computed_some p m q l = sym (legal_position p m q l)
 
 -- what decides that a move goes by the rule of en passant is the computed test
+-- a legal move leads to the position after it by its case
+pub legal_as : (p : Parts) (m : Move) (q : Parts) (c : MoveCase) → IsLegal p m → IsMove p m c → q ≡ after p m c → Legal p m q
+legal_as p m q c l rule e =
+    let same : l.1.case ≡ c = one_case p m l.1.case c l.1.rule rule in
+    let there : q ≡ l.0 = e ∙ sym (l.1.becomes ∙ ap (after p m) same) in
+    subst (Legal p m) (sym there) l.1
+
 pub en_passant_computed : (p : Parts) (m : Move) (r : Bool) → Decides r (IsEnPassant p m) → r ≡ is_en_passant p m
 en_passant_computed p m r h = same_from_decides r (is_en_passant p m) h (Decides-en_passant p m)

@@ -149,6 +149,14 @@ is_capture p m = is_some (man_at p.men m.to) || is_en_passant p m
 abbrev pub legal_captures : Parts → List Move
 legal_captures p = filter (is_capture p) (legal_moves p)
 
+-- a pawn of the side to move leaves the move's square
+abbrev pub is_pawn_move : Parts → Move → Bool
+is_pawn_move p m = is_pawn_of p.side (man_at p.men m.from)
+
+-- those of the legal moves that are moves of pawns
+abbrev pub legal_pawn_moves : Parts → List Move
+legal_pawn_moves p = filter (is_pawn_move p) (legal_moves p)
+
 -- the move comes after this one in the order of moves; each does where there is none
 abbrev pub is_later : Option Move → Move → Bool
 is_later None m = true

@@ -238,3 +238,10 @@ IsLegalCapture p m = IsLegal p m × IsCapture p m
 -- the list has exactly the legal captures, each once and in order
 abbrev pub HasLegalCaptures : Parts → List Move → Type 0
 HasLegalCaptures p = Lists (IsLegalCapture p)
+
+abbrev pub IsLegalPawnMove : Parts → Move → Type 0
+IsLegalPawnMove p m = IsLegal p m × Stands p.men m.from p.side Pawn
+
+-- the list has exactly the legal moves of pawns, each once and in order
+abbrev pub HasLegalPawnMoves : Parts → List Move → Type 0
+HasLegalPawnMoves p = Lists (IsLegalPawnMove p)

@@ -6,8 +6,8 @@
 ghost use Rattle.std.specs.Prelude.{◌≡◌, ◌≢◌, ◌<◌, ◌↔◌, ◌+◌, ◌*◌, ℕ, [], IsTrue, IfOk, OnOk, OnErr, Some, None};
 ghost use Rattle.std.specs.Int.{bit_at};
 ghost use Rattle.board_core.specs.Attack.{IsInCheck, Reaches};
-ghost use Rattle.board_core.specs.Moves.{Stands, IsFree, IsTaken, IsMove, Lists, HasLegal, HasLegalCaptures, place_of, men_after};
-ghost use Rattle.board_core.specs.ComputedMoves.{legal_captures, legal_moves};
+ghost use Rattle.board_core.specs.Moves.{Stands, IsFree, IsTaken, IsMove, Lists, HasLegal, HasLegalCaptures, HasLegalPawnMoves, place_of, men_after};
+ghost use Rattle.board_core.specs.ComputedMoves.{legal_captures, legal_moves, legal_pawn_moves};
 ghost use Rattle.board_core.specs.Inside.Search.{HasListedBelow, IsCarry, IsGuard, IsListed, IsUnpinned, IsStep, IsSurvey, IsWantedMove, IsKnown, HasAttacked, emptied};
 ghost use Rattle.board_core.specs.Side.{other};
 ghost use Rattle.board_core.specs.Sides.{sides_of};
@@ -19,7 +19,7 @@ use crate::men::Men;
 use crate::moves::{Move, MoveCase, promotion_at};
 use crate::parts::Parts;
 use crate::piece::{Kind, Side};
-use crate::rules::{case_of, is_capture, places_between};
+use crate::rules::{case_of, is_capture, places_between, stands};
 use crate::sides::Sides;
 use crate::square::Square;
 use crate::{attack, playing, targets};
@@ -32,6 +32,8 @@ pub enum Which {
     Every,
     /// Those that take a man, en passant among them.
     Captures,
+    /// Those of pawns.
+    Pawns,
 }
 
 /// Where the men of the two sides stand, and the king of the side that moves.
@@ -183,6 +185,7 @@ fn is_wanted(p: &Parts, which: Which, m: &Move) -> bool
     match which {
         Which::Every => true,
         Which::Captures => is_capture(p, m),
+        Which::Pawns => stands(&p.men, m.from, p.side, Kind::Pawn),
     }
 }
 
@@ -335,6 +338,7 @@ fn steps(p: &Parts, v: &Survey, which: Which, kind: Kind, from: Square) -> Bitbo
             let set = targets::plain_targets(&p.men, p.side, kind, from);
             set & v.enemy
         }
+        Which::Pawns => Bitboard::empty(),
     }
 }
 
@@ -344,9 +348,12 @@ fn candidates(p: &Parts, v: &Survey, which: Which, kind: Kind, from: Square) -> 
     requires stands { Stands p.now.men from p.now.side kind }
     ensures { (m : Move) → IsListed which p.now m → m.from ≡ from → bit_at result m.to ≡ 1 }
 {
+    if matches!(which, Which::Pawns) && kind != Kind::Pawn {
+        return Bitboard::empty();
+    }
     let set = targets::targets(p, kind, from);
     match which {
-        Which::Every => set,
+        Which::Every | Which::Pawns => set,
         Which::Captures => match p.en_passant {
             Some(square) => set & v.enemy.with(square),
             None => set & v.enemy,
@@ -483,5 +490,17 @@ pub fn captures(p: &Parts, sides: &Sides, alloc: Global) -> Result<Vec<Move>, Al
     ensures memory { OnErr result (legal_captures p.now ≢ []) }
 {
     let moves = listed(p, sides, Which::Captures, Vec::new(alloc))?;
+    Ok(moves)
+}
+
+/// The legal moves of pawns, each once, in order of from, to and promotion.
+pub fn pawn_moves(p: &Parts, sides: &Sides, alloc: Global) -> Result<Vec<Move>, AllocError>
+    requires position { IsPosition p.now }
+    requires sides { sides.now ≡ sides_of p.now.men }
+    ensures legal { IfOk result (λ moves. HasLegalPawnMoves p.now moves.items) }
+    ensures computed { IfOk result (λ moves. moves.items ≡ legal_pawn_moves p.now) }
+    ensures memory { OnErr result (legal_pawn_moves p.now ≢ []) }
+{
+    let moves = listed(p, sides, Which::Pawns, Vec::new(alloc))?;
     Ok(moves)
 }

@@ -21,11 +21,13 @@
 //!   conditions. Otherwise the first one that fails is reported, exactly where it is the first. On a square of sets stands a man
 //!   of the first side and of the first kind that have it, and nothing where no side or no kind has it.
 //! - CLAIM: `Position::in_check`, clauses `relation`, `computed`; `Position::play`, clauses `legal`, `only`, `computed`;
-//!   `Position::is_legal`, clauses `relation`, `computed`: check is that some man of the other side attacks the mover's king, by
-//!   steps and rays. A move is legal exactly where some next position is related to it, and `play` answers that position.
-//! - CLAIM: `Position::legal`, clauses `legal`, `computed`; `Position::captures`, clauses `legal`, `computed`, `memory`: the list
-//!   has each legal move once, in order of from, to and promotion, and nothing else. The captures are that list filtered, and
-//!   lack of memory for them is reported only where there is one.
+//!   `Position::is_legal`, clauses `relation`, `computed`; `Position::play_legal`, clauses `legal`, `computed`: check is that some man
+//!   of the other side attacks the mover's king, by steps and rays. A move is legal exactly where some next position is related to
+//!   it, and `play` answers that position. So does `play_legal` for a move that is known to be legal.
+//! - CLAIM: `Position::legal`, clauses `legal`, `computed`; `Position::captures`, clauses `legal`, `computed`, `memory`;
+//!   `Position::pawn_moves`, clauses `legal`, `computed`, `memory`: the list has each legal move once, in order of from, to and
+//!   promotion, and nothing else. The captures and the moves of pawns are that list filtered, and lack of memory for them is reported
+//!   only where there is one.
 //! - CLAIM: `Position::next_capture`, clauses `next`, `later`, `below`, `none`; `Position::may_capture`;
 //!   `Position::capture_after`, clauses `next`, `after`, `none`: without memory, moves one after the other, in order, that
 //!   include every legal capture (an illegal one may be among them); or the legal captures alone, each with the position after

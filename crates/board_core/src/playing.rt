@@ -163,6 +163,7 @@ fn en_passant_after(p: &Parts, m: &Move, case: MoveCase) -> Option<Square>
 
 /// Makes the move on a copy of the position.
 #[tactic(auto, unfolding(crate::specs::Moves::after))]
+#[inline(always)]
 fn make(p: &Parts, copy: &mut Parts, m: &Move, case: MoveCase)
     requires rule { IsMove p.now m.now case }
     requires copy { copy.old ≡ p.now }
@@ -246,6 +247,20 @@ pub fn play(p: &Parts, copy: &mut Parts, sides: &mut Sides, m: &Move, case: Move
     make(p, copy, m, case);
     *sides = sides_after(p, sides, m, case);
     !is_in_check(&copy.men, sides, p.side)
+}
+
+/// Makes the move, of this case and legal, on a copy of the position and of the sets of its sides.
+pub fn play_safe(p: &Parts, copy: &mut Parts, sides: &mut Sides, m: &Move, case: MoveCase)
+    requires copy { copy.old ≡ p.now }
+    requires sides { sides.old ≡ sides_of p.now.men }
+    requires rule { IsMove p.now m.now case }
+    ensures made { copy.new ≡ after p.now m.now case }
+    ensures sides { sides.new ≡ sides_of copy.new.men }
+{
+    prove!(m.from.number() < 64);
+    prove!(m.to.number() < 64);
+    make(p, copy, m, case);
+    *sides = sides_after(p, sides, m, case);
 }
 
 /// Whether the move is legal.

@@ -3,10 +3,10 @@
 ghost use Rattle.std.specs.Prelude.{◌≡◌, ◌≢◌, ◌<◌, ◌↔◌, ◌∷◌, [], IsTrue, IsFalse, List, Option, Some, if◌then◌else◌, Ok, Err, IfOk, IfErr, OnErr, IfSome, IfNone, count_by, ◌+◌};
 ghost use Rattle.board_core.specs.Position.{is_of, is_king_of, HasOneKingEach, HasFewMen, HasNoPawnOnEdge, IsRightValid, HasValidRights, IsOpponentSafe, HasValidCounters, HasValidEnPassant, IsPassed, passed_rank, IsFirstFault, IsPosition, fault_name};
 ghost use Rattle.board_core.specs.declared.position.PositionFault.{PositionFault};
-ghost use Rattle.board_core.specs.Moves.{IsEnPassant, IsLegal, Legal, IsMove, HasLegal, HasLegalCaptures, place_of, after, men_after};
+ghost use Rattle.board_core.specs.Moves.{IsEnPassant, IsLegal, Legal, IsMove, HasLegal, HasLegalCaptures, HasLegalPawnMoves, place_of, after, men_after};
 ghost use Rattle.board_core.specs.Attack.{man_at, IsInCheck};
 ghost use Rattle.board_core.specs.Computed.{is_in_check};
-ghost use Rattle.board_core.specs.ComputedMoves.{position_after, is_legal, has_legal_move, has_move_besides_en_passant, captures_after, legal_captures, legal_moves, count_of_men};
+ghost use Rattle.board_core.specs.ComputedMoves.{position_after, is_legal, has_legal_move, has_move_besides_en_passant, captures_after, legal_captures, legal_moves, legal_pawn_moves, count_of_men};
 ghost use Rattle.board_core.specs.Side.{other};
 ghost use Rattle.board_core.specs.Inside.Census.{census_of};
 ghost use Rattle.board_core.specs.Sets.{parts_of};
@@ -356,6 +356,21 @@ impl Position {
         Some(after)
     }
 
+    /// The position after a legal move, as `play` gives it. A move that `legal` listed isn't tested again.
+    #[inline(never)]
+    pub fn play_legal(&self, m: &Move) -> Position
+        requires legal { IsLegal self.now m.now }
+        ensures legal { Legal self.now m.now result }
+        ensures computed { position_after self.now m.now ≡ Some result }
+    {
+        prove!(m.from.number() < 64);
+        prove!(m.to.number() < 64);
+        let case = rules::case_of_legal(&self.parts, m);
+        let mut after = *self;
+        playing::play_safe(&self.parts, &mut after.parts, &mut after.sides, m, case);
+        after
+    }
+
     /// The legal moves, each once, in order of from, to and promotion (queen, rook, bishop,
     /// knight). The error comes only where memory for the list is refused.
     pub fn legal(&self, alloc: Global) -> Result<Vec<Move>, AllocError>
@@ -373,6 +388,16 @@ impl Position {
         ensures memory { OnErr result (legal_captures self.now ≢ []) }
     {
         generation::captures(&self.parts, &self.sides, alloc)
+    }
+
+    /// The legal moves of pawns, in the same order. The error comes only where there is one and memory for the list is
+    /// refused.
+    pub fn pawn_moves(&self, alloc: Global) -> Result<Vec<Move>, AllocError>
+        ensures legal { IfOk result (λ moves. HasLegalPawnMoves self.now moves.items) }
+        ensures computed { IfOk result (λ moves. moves.items ≡ legal_pawn_moves self.now) }
+        ensures memory { OnErr result (legal_pawn_moves self.now ≢ []) }
+    {
+        generation::pawn_moves(&self.parts, &self.sides, alloc)
     }
 
     /// The first legal capture, en passant among them, after this move in the order of moves, and the position after

@@ -208,6 +208,55 @@ pub fn case_of(p: &Parts, m: &Move) -> Option<MoveCase>
     }
 }
 
+/// The case of a legal move of a pawn.
+fn case_of_pawn(p: &Parts, m: &Move) -> MoveCase
+    requires legal { IsLegal p.now m.now }
+    requires pawn { Stands p.now.men m.now.from p.now.side Kind.Pawn }
+    ensures { IsMove p.now m.now result }
+{
+    if is_ahead(p.side, 1, m.from, m.to) {
+        MoveCase::Advance
+    } else if is_ahead(p.side, 2, m.from, m.to) {
+        MoveCase::DoubleStep
+    } else if is_empty(&p.men, m.to) {
+        MoveCase::EnPassant
+    } else {
+        MoveCase::PawnCapture
+    }
+}
+
+/// The case of a legal move of a king.
+fn case_of_king(p: &Parts, m: &Move) -> MoveCase
+    requires legal { IsLegal p.now m.now }
+    requires king { Stands p.now.men m.now.from p.now.side Kind.King }
+    ensures { IsMove p.now m.now result }
+{
+    if m.from != castling::king_home(p.side) {
+        MoveCase::Plain
+    } else if m.to == castling::king_end(p.side, Wing::KingSide) {
+        MoveCase::Castle(Wing::KingSide)
+    } else if m.to == castling::king_end(p.side, Wing::QueenSide) {
+        MoveCase::Castle(Wing::QueenSide)
+    } else {
+        MoveCase::Plain
+    }
+}
+
+/// The case of the rules that allows a legal move.
+pub fn case_of_legal(p: &Parts, m: &Move) -> MoveCase
+    requires legal { IsLegal p.now m.now }
+    ensures { IsMove p.now m.now result }
+{
+    match p.men.at(m.from) {
+        Some(man) => match man.kind {
+            Kind::Pawn => case_of_pawn(p, m),
+            Kind::King => case_of_king(p, m),
+            _ => MoveCase::Plain,
+        },
+        None => MoveCase::Plain,
+    }
+}
+
 /// Whether the move, where it is legal, takes a man.
 pub fn is_capture(p: &Parts, m: &Move) -> bool
     ensures { IsTrue result ↔ IsCapture p.now m.now }

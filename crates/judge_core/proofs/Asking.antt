@@ -1,8 +1,8 @@
 -- Answers of the positions after some moves, one move more.
-use Rattle.std.proofs.Common.{◌≡◌, ◌∙◌, sym, ap, refl, ℕ, Bool, true, false, List, [], ◌∷◌, ◌++◌, Option, Some, None, option_map, filter, fold, Result, Ok, Err, length, take, get_or, ◌<◌, ◌+◌, if◌then◌else◌}
+use Rattle.std.proofs.Common.{◌≡◌, ◌∙◌, sym, ap, subst, refl, ℕ, All, Bool, true, false, List, [], ◌∷◌, ◌++◌, Option, Some, None, option_map, filter, fold, Result, Ok, Err, length, take, get_or, ◌<◌, ◌+◌, if◌then◌else◌}
 use Rattle.std.specs.Option.{option_or}
 use Rattle.std.proofs.lemmas.List.{take_more}
-use Rattle.std.proofs.lemmas.List.Elements.{filter_map-append, filter-append}
+use Rattle.std.proofs.lemmas.List.Elements.{All-get_or, filter_map-append, filter-append}
 use Rattle.std.proofs.lemmas.List.Sums.{fold-append}
 use Rattle.board_core.specs.declared.parts.Parts.{Parts}
 use Rattle.board_core.specs.declared.moves.Move.{Move}
@@ -43,6 +43,10 @@ faults_in-is rs = faults-is no_faults rs
 
 pub asked-append : {X : Type 0} (say : Parts → Result X ValueFault) (p : Parts) (xs ys : List Move) → asked say p (xs ++ ys) ≡ asked say p xs ++ asked say p ys
 asked-append say p xs ys = filter_map-append (λ m. option_map say (position_after p m)) xs ys
+
+-- what holds of each move of a list holds of the one at a place
+pub at_item : (P : Move → Type 0) (moves xs : List Move) (i : ℕ) (m : Move) → All P moves → xs ≡ moves → i < length xs → m ≡ get_or xs i m → P m
+at_item P moves xs i m all e lt is = subst P (sym is) (All-get_or P xs i m lt (subst (λ (ys : List Move). All P ys) (sym e) all))
 
 -- ---- a state that notes each answer
 

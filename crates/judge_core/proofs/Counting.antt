@@ -3,7 +3,7 @@ use Rattle.std.proofs.Common.{◌≡◌, ◌∙◌, sym, ap, refl, ℕ, ◌<◌,
 use Rattle.std.specs.List.{list_any}
 use Rattle.board_core.specs.declared.parts.Parts.{Parts}
 use Rattle.board_core.specs.declared.moves.Move.{Move}
-use Rattle.board_core.specs.ComputedMoves.{legal_moves, is_pawn_of}
+use Rattle.board_core.specs.ComputedMoves.{legal_moves, legal_pawn_moves, is_pawn_of}
 use Rattle.board_core.specs.Attack.{man_at}
 use Rattle.table_file.specs.declared.outcome.Outcome.{Outcome}
 use Rattle.judge_core.specs.declared.fault.Faults.{Faults}
@@ -16,7 +16,7 @@ use Rattle.judge_core.specs.Asked.{asked, fault_in, first_fault, unless, with_an
 use Rattle.judge_core.specs.Distances.{Reach, is_value, is_pawn_step, pawns_reach_where, is_quiet, move_counts, known_count, lesser, is_odd, by_quiet_moves, by_counts}
 use Rattle.judge_core.specs.Inside.Counts.{no_steps, with_reading, steps_result, no_counts, with_count, counts_result, AreWithin}
 use Rattle.judge_core.proofs.Asking.{faults_more, faults_in-is, with_all}
-use Rattle.judge_core.proofs.Quiet.{no_steps_listed}
+use Rattle.judge_core.proofs.Quiet.{no_steps_listed, steps_of_pawns}
 
 or-assoc : (a b c : Bool) → ((a || b) || c) ≡ (a || (b || c))
 or-assoc true b c = refl
@@ -36,11 +36,11 @@ steps-is : (v : Wdl) (s : Steps) (rs : List Reading) → fold (with_reading v) s
 steps-is v s [] = ap (λ (b : Bool). record { faults = s.faults; reached = b }) (sym (or-false s.reached))
 steps-is v s (r ∷ rs) = steps-is v (with_reading v s r) rs ∙ ap (λ (b : Bool). record { faults = faults_more (with_answer s.faults r) rs; reached = b }) (or-assoc s.reached (is_value v r) (list_any (is_value v) rs))
 
-pub steps_result-is : (value : Parts → Reading) (p : Parts) (v : Wdl) (steps : Steps) (moves : List Move) (r : Result Bool ValueFault) → moves ≡ legal_moves p → steps ≡ with_all (with_reading v) no_steps (λ q. opposite_reading (value q)) (is_pawn_step p) p moves → r ≡ steps_result steps → r ≡ pawns_reach_where value p v
+pub steps_result-is : (value : Parts → Reading) (p : Parts) (v : Wdl) (steps : Steps) (moves : List Move) (r : Result Bool ValueFault) → moves ≡ legal_pawn_moves p → steps ≡ with_all (with_reading v) no_steps (λ q. opposite_reading (value q)) (is_pawn_step p) p moves → r ≡ steps_result steps → r ≡ pawns_reach_where value p v
 unfolding pawns_reach_where
 steps_result-is value p v steps moves r e f g =
     let rs = asked (λ q. opposite_reading (value q)) p (filter (is_pawn_step p) (legal_moves p)) in
-    let h : steps ≡ fold (with_reading v) no_steps rs = f ∙ ap (λ ms. with_all (with_reading v) no_steps (λ q. opposite_reading (value q)) (is_pawn_step p) p ms) e in
+    let h : steps ≡ fold (with_reading v) no_steps rs = f ∙ ap (λ ms. with_all (with_reading v) no_steps (λ q. opposite_reading (value q)) (is_pawn_step p) p ms) e ∙ ap (λ ms. fold (with_reading v) no_steps (asked (λ q. opposite_reading (value q)) p ms)) (steps_of_pawns p (legal_moves p)) in
     g ∙ ap steps_result (h ∙ steps-is v no_steps rs) ∙ ap (λ (x : Faults). unless (first_fault x) (Ok (list_any (is_value v) rs))) (sym (faults_in-is rs))
 
 -- ---- quiet moves

@@ -16,7 +16,7 @@ use Rattle.board_core.specs.Moves.{IsMove}
 use Rattle.std.specs.Int.{bit_at}
 use Rattle.std.proofs.lemmas.Nat.Bits.{bit_at-zero}
 use Rattle.board_core.specs.Sides.{IsOccupied}
-use Rattle.board_core.specs.ComputedMoves.{position_after, is_en_passant, is_capture, is_pawn_of, is_legal, all_moves, legal_moves}
+use Rattle.board_core.specs.ComputedMoves.{position_after, is_en_passant, is_capture, is_pawn_of, is_pawn_move, is_legal, all_moves, legal_moves}
 use Rattle.board_core.proofs.ComputedLists.{Decides-legal}
 use Rattle.board_core.proofs.ComputedMoves.{position_legal, Decides-en_passant, Decides-pawn_of}
 use Rattle.judge_core.specs.Inside.Found.{lands_empty}
@@ -173,3 +173,17 @@ not_there p at side man a b e = rw (← a, ← b) e
 pub not_false : (b : Bool) → not b ≡ false → b ≡ true
 not_false true e = refl
 not_false false e = cc
+
+-- ---- pawn steps among the moves of pawns
+
+no_pawn_no_step : (p : Parts) (m : Move) → is_pawn_move p m ≡ false → is_pawn_step p m ≡ false
+unfolding is_pawn_step
+no_pawn_no_step p m e = rw e refl
+
+pub steps_of_pawns : (p : Parts) (ms : List Move) → filter (is_pawn_step p) (filter (is_pawn_move p) ms) ≡ filter (is_pawn_step p) ms
+steps_of_pawns p [] = refl
+steps_of_pawns p (m ∷ ms) = by_pawn (steps_of_pawns p ms) (is_pawn_move p m) refl
+  where
+    by_pawn : filter (is_pawn_step p) (filter (is_pawn_move p) ms) ≡ filter (is_pawn_step p) ms → (b : Bool) → is_pawn_move p m ≡ b → filter (is_pawn_step p) (filter (is_pawn_move p) (m ∷ ms)) ≡ filter (is_pawn_step p) (m ∷ ms)
+    by_pawn rest true e = rw e (ap (λ (xs : List Move). if is_pawn_step p m then m ∷ xs else xs) rest)
+    by_pawn rest false e = rw (e, no_pawn_no_step p m e) rest

@@ -74,7 +74,7 @@ impl<'a> Set<'a> {
         if !has_pawn(position) {
             return Ok(Ok(false));
         }
-        let moves = position.legal(alloc)?;
+        let moves = position.pawn_moves(alloc)?;
         let mut steps = Steps::new();
         for m in &moves {
             if let Some(after) = after_pawn_step(position, m) {

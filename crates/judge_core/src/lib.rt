@@ -6,7 +6,7 @@
 //! one side alone, and the other's follows from the positions after its moves. `Standing` keeps where a game stands: each position
 //! is judged once, and only this crate knows the rule of delay.
 //!
-//! Inside: `set`, `table_slots` and `table_slot` (tables in their slots), `blocks` (decoded blocks), `reading` (of both),
+//! Inside: `set`, `table_slots` and `table_slot` (tables in their slots), `blocks` (decoded blocks, and bookmarks of long ones), `reading` (of both),
 //! `located_position` (a position as its table sees it); `wdl`, `probing`, `found`, `known`, `many` for WDL; `determined`, `determined_dtz` where
 //! tables are missing; `dtz`, `counts`, `distance`, `moving`, `mobility`; `judging`, `verdict`, `answering` (all three at once),
 //! `probe_result`, `root`, `root_move`, `standing`, `game`, `display`, `ask` (strict or determined), `fault`, `laws`.

@@ -4,6 +4,7 @@ ghost use Rattle.std.specs.Prelude.{◌≡◌, ◌↔◌, ◌<◌, ℕ, false, N
 ghost use Rattle.board_core.specs.Square.{file_of};
 ghost use Rattle.board_core.specs.Attack.{man_at};
 ghost use Rattle.board_core.specs.ComputedMoves.{position_after, is_pawn_of};
+ghost use Rattle.board_core.specs.Moves.{IsLegal};
 ghost use Rattle.judge_core.specs.Inside.Found.{lands_empty};
 ghost use Rattle.judge_core.specs.Distances.{moves_pawn, is_pawn_step, is_quiet};
 
@@ -59,23 +60,25 @@ pub(crate) fn stays_on_file(m: &Move) -> bool
     m.from.file() == m.to.file()
 }
 
-/// The position after the move, where it is legal, moves a pawn and takes nothing: the pawn stays on its file.
+/// The position after a legal move, where it moves a pawn and takes nothing: the pawn stays on its file.
 pub(crate) fn after_pawn_step(position: &Position, m: &Move) -> Option<Position>
+    requires { IsLegal position.now m.now }
     ensures { result ≡ if is_pawn_step position.now m.now then position_after position.now m.now else None }
 {
     if stays_on_file(m) && moves_pawn(position, m) && lands_empty(position, m) {
-        position.play(*m)
+        Some(position.play_legal(m))
     } else {
         None
     }
 }
 
-/// The position after the move, where it is legal and neither takes a man nor moves a pawn.
+/// The position after a legal move, where it neither takes a man nor moves a pawn.
 pub(crate) fn after_quiet_move(position: &Position, m: &Move) -> Option<Position>
+    requires { IsLegal position.now m.now }
     ensures { result ≡ if is_quiet position.now m.now then position_after position.now m.now else None }
 {
     if !moves_pawn(position, m) && lands_empty(position, m) {
-        position.play(*m)
+        Some(position.play_legal(m))
     } else {
         None
     }

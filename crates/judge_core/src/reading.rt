@@ -4,13 +4,13 @@ ghost use Rattle.std.specs.Prelude.{◌≡◌, ◌<◌, ◌≤◌, Some, IfSome,
 ghost use Rattle.place_index.specs.Placed.{side_number};
 ghost use Rattle.table_file.specs.declared.kind.TableKind.TheVariants.{Dtz};
 ghost use Rattle.table_file.specs.Expansion.{expansion, real_blocks, IsSpot, IsRealSpot, IsPast};
-ghost use Rattle.judge_core.specs.Blocks.{AreBlockValues, AreRight, keyed_part};
+ghost use Rattle.judge_core.specs.Blocks.{AreBlockValues, AreRight, IsMarked, keyed_part};
 ghost use Rattle.judge_core.specs.Distances.{distance_in};
 ghost use Rattle.judge_core.specs.Inside.Placing.{IsPartFor, IsPlaceIn, IsOwnPlace, IsValueAt};
 ghost use Rattle.judge_core.specs.Tables.{entry_in, slot, table_value, value_or_damaged};
 ghost use Rattle.judge_core.specs.Values.{of_points};
 
-use crate::blocks::{BlockKey, Blocks, RequestFrequency};
+use crate::blocks::{BlockKey, Blocks, MarkedBlock, RequestFrequency};
 use crate::fault::ValueFault;
 use crate::located_position::LocatedPosition;
 use crate::table_slots::{TableSlots, slot};
@@ -170,7 +170,50 @@ impl<'a> TableSlots<'a> {
         part.value_in_block(key.block, offset).ok()
     }
 
+    /// The value of a long block at an offset, found from the bookmarks, which are then this block's.
+    fn marked_value(
+        &self,
+        marked: &mut MarkedBlock,
+        part: &TablePart<'_, 'a>,
+        key: BlockKey,
+        offset: u32,
+    ) -> Option<u16>
+        requires marked { IsMarked self.now.tables marked.old }
+        requires on { keyed_part self.now.tables key ≡ Some part.now }
+        requires real { key.block < real_blocks part.now }
+        ensures found { IsValueAt part.now key.block offset result }
+        ensures marked { IsMarked self.now.tables marked.new }
+    {
+        let _ = self;
+        marked.turn_to(key);
+        part.value_marked(key.block, offset, &mut marked.marks).ok()
+    }
+
+    /// The value of a block at an offset, in a long block from its bookmarks, where there is memory for these.
+    fn value_from_marks(
+        &self,
+        blocks: &mut Blocks,
+        alloc: Global,
+        part: &TablePart<'_, 'a>,
+        key: BlockKey,
+        offset: u32,
+    ) -> Option<u16>
+        requires right { AreRight self.now blocks.old }
+        requires on { keyed_part self.now.tables key ≡ Some part.now }
+        requires real { key.block < real_blocks part.now }
+        ensures found { IsValueAt part.now key.block offset result }
+        ensures right { AreRight self.now blocks.new }
+    {
+        if part.has_long_blocks() {
+            if let Some(place) = blocks.marked_place(alloc, key) {
+                return self.marked_value(&mut blocks.marked[place], part, key, offset);
+            }
+        }
+        self.value_in_block(blocks, alloc, part, key, offset)
+    }
+
     /// Where the part of a table of this kind has the value of placed men.
+    #[inline(always)]
     fn place_in_part(
         &self,
         kind: TableKind,
@@ -211,6 +254,29 @@ impl<'a> TableSlots<'a> {
             PlaceInPart::Known(value) => value,
             PlaceInPart::InBlock { key, offset } => {
                 self.value_in_block(blocks, alloc, part, key, offset)
+            }
+        }
+    }
+
+    /// As `read_at`, in a long block from its bookmarks.
+    fn read_from_marks(
+        &self,
+        blocks: &mut Blocks,
+        alloc: Global,
+        part: &TablePart<'_, 'a>,
+        place: PlaceInPart,
+        placed: &Placed,
+    ) -> Option<u16>
+        requires right { AreRight self.now blocks.old }
+        requires place { IsPlaceIn self.now.tables placed.now part.now place }
+        ensures is { result ≡ entry_in part.now.table placed.now }
+        ensures right { AreRight self.now blocks.new }
+    {
+        let _ = placed;
+        match place {
+            PlaceInPart::Known(value) => value,
+            PlaceInPart::InBlock { key, offset } => {
+                self.value_from_marks(blocks, alloc, part, key, offset)
             }
         }
     }
@@ -294,7 +360,8 @@ impl<'a> TableSlots<'a> {
         ensures within { IfSome result (λ n. n ≤ 131070) }
         ensures right { AreRight self.now blocks.new }
     {
-        let Some(value) = self.read(blocks, alloc, TableKind::Dtz, part, placed) else {
+        let place = self.place_in_part(TableKind::Dtz, part, placed);
+        let Some(value) = self.read_from_marks(blocks, alloc, part, place, placed) else {
             return None;
         };
         match part.plies_of(value, outcome) {

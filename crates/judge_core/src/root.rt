@@ -2,6 +2,7 @@
 
 ghost use Rattle.std.specs.Prelude.{◌≡◌, ◌≤◌, ◌++◌, ◌∷◌, [], Some, false, true, IfOk, OnOk, OnErr, option_to_list};
 ghost use Rattle.board_core.specs.ComputedMoves.{position_after};
+ghost use Rattle.board_core.specs.Moves.{IsLegal};
 ghost use Rattle.judge_core.specs.Answers.{signed_in};
 ghost use Rattle.judge_core.specs.Determined.{IsDeterminedRoot};
 ghost use Rattle.judge_core.specs.Distances.{plies};
@@ -127,7 +128,7 @@ impl<'a> Set<'a> {
         })
     }
 
-    /// Adds the move with all that is told of it, where it is legal.
+    /// Adds a legal move with all that is told of it.
     fn add_root_move(
         &mut self,
         alloc: Global,
@@ -136,12 +137,11 @@ impl<'a> Set<'a> {
         found: &mut Vec<RootMove>,
         ask: Ask,
     ) -> Result<(), AllocError>
+        requires { IsLegal position.now m.now }
         ensures added { OnOk result (found.new.items ≡ found.old.items ++ option_to_list (root_move_at (value_as ask self.old.tables) (reach_as ask self.old.tables) position.now m.now)) }
         ensures unchanged { self.new ≡ self.old }
     {
-        let Some(after) = position.play(*m) else {
-            return Ok(());
-        };
+        let after = position.play_legal(m);
         match self.root_move(alloc, position, m, &after, ask) {
             Ok(root_move) => add(found, root_move),
             Err(fault) => Err(fault),

@@ -12,8 +12,8 @@ use std::alloc::{AllocError, Global};
 use std::marker::Model;
 use table_file::{Table, TableKind};
 
-/// Opened tables, each found by its kind and its material without a search, and some of their blocks, decoded. It borrows the
-/// bytes of their files.
+/// Opened tables, each found by its kind and its material without a search, and some of their blocks, decoded. Of long blocks of DTZ
+/// tables it has bookmarks in their place. It borrows the bytes of their files.
 ///
 /// Contracts see a list of 290 slots and the number of decoded blocks that the set may keep. The slots hold the WDL
 /// tables by the keys of their materials and then the DTZ tables. Which blocks are kept changes no answer. A block is

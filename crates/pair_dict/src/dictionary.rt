@@ -284,7 +284,7 @@ impl<'a> Dictionary<'a> {
 
     /// Skips runs from a place on, four from each word, and codes that no run holds, as long as eight bytes are left.
     /// It stops at a word or a code that passes the value sought, where there is no code, and at or behind a bit.
-    #[inline]
+    #[inline(always)]
     fn skip_words(&self, block: &[u8], from: Place, until: usize) -> Place
         requires at { from.at ≤ 8 * length block.now }
         requires near { from.at + 32 * from.left < 2 ^ 40 }

@@ -3,7 +3,7 @@ use Rattle.std.specs.Prelude.{◌≡◌, ℕ, Bool, true, false, ◌+◌, ◌<�
 use Rattle.board_core.specs.declared.piece.Piece.{Piece}
 use Rattle.board_core.specs.declared.piece.Side.{Side}
 use Rattle.board_core.specs.declared.piece.Kind.{Kind}
-use Rattle.board_core.specs.declared.piece.Kind.TheVariants.{Knight, King}
+use Rattle.board_core.specs.declared.piece.Kind.TheVariants.{Pawn, Knight, King}
 use Rattle.board_core.specs.declared.piece.Promotion.{Promotion}
 use Rattle.board_core.specs.declared.parts.Parts.{Parts}
 use Rattle.board_core.specs.declared.moves.Move.{Move}
@@ -15,7 +15,7 @@ use Rattle.board_core.specs.Square.{rank_of}
 use Rattle.board_core.specs.Attack.{man_at, Along, IsClear, Reaches, IsAttacked, IsInCheck}
 use Rattle.std.specs.Int.{bit_at}
 use Rattle.board_core.specs.declared.generation.Which.{Which}
-use Rattle.board_core.specs.declared.generation.Which.TheVariants.{Every, Captures}
+use Rattle.board_core.specs.declared.generation.Which.TheVariants.{Every, Captures, Pawns}
 use Rattle.board_core.specs.declared.generation.Survey.{Survey}
 use Rattle.board_core.specs.Moves.{Stands, IsFree, IsTaken, IsLegal, IsMove, IsEnPassant, IsCapture, IsLegalCapture, men_after, place_of}
 use Rattle.board_core.specs.declared.mobility.Sought.{Sought}
@@ -94,10 +94,11 @@ rises NorthWest = true
 rises SouthEast = false
 rises SouthWest = false
 
--- a move that is asked for: any move, or a capture
+-- a move that is asked for: any move, a capture, or a move of a pawn
 abbrev pub IsWantedMove : Which → Parts → Move → Type 0
 IsWantedMove Every p m = Unit {0}
 IsWantedMove Captures p m = IsCapture p m
+IsWantedMove Pawns p m = Stands p.men m.from p.side Pawn
 
 abbrev pub IsListed : Which → Parts → Move → Type 0
 IsListed which p m = IsLegal p m × IsWantedMove which p m

@@ -4,7 +4,7 @@ use Rattle.judge_core.proofs.moving.after_pawn_step.Goals.{else-stays_on_file-vi
 use Rattle.judge_core.proofs.moving.after_pawn_step.Goals as goal
 
 pub returns-then-lands_empty : goal.returns-then-lands_empty
-returns-then-lands_empty c = step_played _ _ _ (c.stays_on_file.ensures.0 c.if-stays_on_file.true) (sym c.moves_pawn.ensures ∙ c.if-moves_pawn.true) (sym c.lands_empty.ensures ∙ c.if-lands_empty.true) c.play.ensures.computed
+returns-then-lands_empty c = step_played _ _ _ (c.stays_on_file.ensures.0 c.if-stays_on_file.true) (sym c.moves_pawn.ensures ∙ c.if-moves_pawn.true) (sym c.lands_empty.ensures ∙ c.if-lands_empty.true) (sym c.play_legal.ensures.computed)
 
 pub returns-else-stays_on_file : goal.returns-else-stays_on_file
 returns-else-stays_on_file c = elim c.else-stays_on_file.branch [

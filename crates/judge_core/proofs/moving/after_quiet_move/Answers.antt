@@ -4,7 +4,7 @@ use Rattle.judge_core.proofs.moving.after_quiet_move.Goals.{else-not-moves_pawn-
 use Rattle.judge_core.proofs.moving.after_quiet_move.Goals as goal
 
 pub returns-then-lands_empty : goal.returns-then-lands_empty
-returns-then-lands_empty c = quiet_played _ _ _ (sym c.moves_pawn.ensures ∙ c.if-not-moves_pawn.true) (sym c.lands_empty.ensures ∙ c.if-lands_empty.true) c.play.ensures.computed
+returns-then-lands_empty c = quiet_played _ _ _ (sym c.moves_pawn.ensures ∙ c.if-not-moves_pawn.true) (sym c.lands_empty.ensures ∙ c.if-lands_empty.true) (sym c.play_legal.ensures.computed)
 
 pub returns-else-not-moves_pawn : goal.returns-else-not-moves_pawn
 returns-else-not-moves_pawn c = elim c.else-not-moves_pawn.branch [

@@ -8,10 +8,11 @@ use Rattle.judge_core.specs.LookUp.{placed_of}
 use Rattle.judge_core.specs.Probing.{searched_by, wdl_of}
 use Rattle.judge_core.specs.Tables.{Holding, table_at}
 use Rattle.board_core.specs.declared.parts.Parts.{Parts}
+use Rattle.board_core.specs.Moves.{IsLegal}
 use Rattle.judge_core.specs.Distances.{is_quiet, pawns_reach, move_counts, by_quiet_moves, by_own_table, dtz_from_search, unless_reached}
 use Rattle.judge_core.specs.Inside.Determined.{distance_in_both, or_agreed_distance, reach_beyond}
 use Rattle.judge_core.specs.Inside.Counts.{no_counts, with_count}
-use Rattle.judge_core.proofs.Asking.{with_all, walk-passed, walk-added}
+use Rattle.judge_core.proofs.Asking.{at_item, with_all, walk-passed, walk-added}
 use Rattle.judge_core.proofs.Counting.{counts_result-is, within-count}
 use Rattle.judge_core.proofs.Reaching.{if_same, mate_counts, other_counts, bare_own, missing_own, stored_own, quiet_own, reached_by, reached_is, lost_is, bare_by, many_by_rules, if_told, once, never}
 use Rattle.judge_core.proofs.set.Set.+dtz.Goals.{by_moves-then-is_won+in_ok-found+in-Ok+else-reached, by_moves-else-is_won, by_quiet_moves-in-Some+in_ok-count, by_quiet_moves-in_default, move_counts-else-won-via-then-won+else-is_checkmate, move_counts-else-won-via-else-won}
@@ -27,6 +28,9 @@ move_counts-returns-clause-is t c = elim c.else-won.branch [
   | move_counts-else-won-via-else-won w ↦
       other_counts c.args.outcome (reach_beyond c.args.beyond c.args.self.now.tables) c.args.after.now c.is_won-won.result c.in_ok-reach.reach c.distance_before.result c.is_won-won.ensures (λ won. (let e = sym won ∙ w.if-won.false in cc)) c.in_ok-reach.ensures.is c.distance_before.ensures
 ]
+
+pub by_quiet_moves-after_quiet_move-requires : goal.by_quiet_moves-after_quiet_move-requires
+by_quiet_moves-after_quiet_move-requires t c = at_item (IsLegal c.args.position.now) c.in_ok-moves.moves.items c.deref-m-items.result.now c.loop-m.m-index c.m-item.result c.in_ok-moves.ensures.legal.sound c.deref-m-items.ensures.value c.loop-m-test.true c.m-item.is
 
 pub by_quiet_moves-loop-m-preserved : goal.by_quiet_moves-loop-m-preserved
 by_quiet_moves-loop-m-preserved t c =

@@ -1,18 +1,22 @@
 use Rattle.std.proofs.Common.{◌∙◌, sym, ap}
 use Rattle.std.proofs.lemmas.List.{take_all}
 use Rattle.board_core.specs.declared.parts.Parts.{Parts}
+use Rattle.board_core.specs.Moves.{IsLegalPawnMove}
 use Rattle.judge_core.specs.Values.{Reading, opposite_reading}
 use Rattle.judge_core.specs.Inside.Determined.{step_value_as}
 use Rattle.judge_core.specs.Distances.{is_pawn_step}
 use Rattle.judge_core.specs.Inside.Counts.{no_steps, with_reading}
 use Rattle.judge_core.specs.Tables.{Holding}
-use Rattle.judge_core.proofs.Asking.{with_all, walk-passed, walk-added}
+use Rattle.judge_core.proofs.Asking.{at_item, with_all, walk-passed, walk-added}
 use Rattle.judge_core.proofs.Counting.{steps_result-is, no_pawns_reach}
 use Rattle.judge_core.proofs.set.Set.pawns_reach.Goals.{in-Some, in_default}
 use Rattle.judge_core.proofs.set.Set.pawns_reach.Goals as goal
 
 pub returns-then-not-has_pawn-clause-is : goal.returns-then-not-has_pawn-clause-is
 returns-then-not-has_pawn-clause-is c = no_pawns_reach (step_value_as c.args.ask c.args.self.now.tables c.args.value) c.args.position.now c.args.value (c.has_pawn.ensures c.if-not-has_pawn.true)
+
+pub after_pawn_step-requires : goal.after_pawn_step-requires
+after_pawn_step-requires c = (at_item (IsLegalPawnMove c.args.position.now) c.in_ok-moves.moves.items c.deref-m-items.result.now c.loop-m.m-index c.m-item.result c.in_ok-moves.ensures.legal.sound c.deref-m-items.ensures.value c.loop-m-test.true c.m-item.is).0
 
 pub loop-m-preserved : goal.loop-m-preserved
 loop-m-preserved c =

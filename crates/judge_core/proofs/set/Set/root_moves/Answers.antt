@@ -2,8 +2,13 @@ use Rattle.std.proofs.Common.{◌++◌, ◌∙◌, ap, option_to_list}
 use Rattle.judge_core.specs.Root.{root_move_at}
 use Rattle.judge_core.specs.Inside.Determined.{value_as, reach_as}
 use Rattle.judge_core.specs.Tables.{Holding}
+use Rattle.board_core.specs.Moves.{IsLegal}
+use Rattle.judge_core.proofs.Asking.{at_item}
 use Rattle.judge_core.proofs.RootList.{one_longer, root-all}
 use Rattle.judge_core.proofs.set.Set.root_moves.Goals as goal
+
+pub add_root_move-requires : goal.add_root_move-requires
+add_root_move-requires c = at_item (IsLegal c.args.position.now) c.in_ok-moves.moves.items c.deref-m-items.result.now c.loop-m.m-index c.m-item.result c.in_ok-moves.ensures.legal.sound c.deref-m-items.ensures.value c.loop-m-test.true c.m-item.is
 
 pub loop-m-preserved : goal.loop-m-preserved
 loop-m-preserved c =

@@ -8,6 +8,7 @@ pub returns-in_err-values-clause-right : goal.returns-in_err-values-clause-right
 returns-in_err-values-clause-right c = record {
   cap = ap (λ x. x.cap) c.get.follows.holds-at-none ∙ c.requires.right.cap;
   places = c.requires.right.places;
+  marked = c.requires.right.marked;
   right = λ kept d. c.requires.right.right kept (Contains-promoted _ c.args.blocks.now.kept.entries kept (subst (λ x. Contains x.entries kept) c.get.follows.holds-at-none d));
 }
 
@@ -23,5 +24,6 @@ pub returns-clause-right : goal.returns-clause-right
 returns-clause-right c = record {
   cap = ap (λ x. x.cap) c.get.follows.holds-at-none ∙ c.requires.right.cap;
   places = c.requires.right.places;
+  marked = c.requires.right.marked;
   right = λ kept d. c.requires.right.right kept (Contains-promoted _ c.args.blocks.now.kept.entries kept (subst (λ x. Contains x.entries kept) c.get.follows.holds-at-none d));
 }
