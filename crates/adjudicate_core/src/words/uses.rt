@@ -23,8 +23,8 @@ const USAGE: &str = "usage: adjudicate judge [--tables DIR] [--manifest FILE] [-
        adjudicate root --tables DIR [--manifest FILE] [--all-tables] [--json] [--determined] [FEN]
        adjudicate game [--tables DIR] [--manifest FILE] [--all-tables] [--delay N] [--san] FEN
        adjudicate games --tables DIR [--manifest FILE] [--all-tables] [--delay N] [--progress]
-       adjudicate pgn --tables DIR [--manifest FILE] [--delay N] [--json] [--differ] [FILE]
-       adjudicate follow [--tables DIR] [--manifest FILE] [--delay N] [--san] FEN
+       adjudicate pgn --tables DIR [--manifest FILE] [--all-tables] [--delay N] [--json] [--differ] [FILE]
+       adjudicate follow [--tables DIR] [--manifest FILE] [--all-tables] [--delay N] [--san] FEN
        adjudicate run [--tables DIR] [--cache N] [--delay N]
        adjudicate listen --name N --start FEN --tables DIR --me M --bind ADDR --to ADDR[,ADDR] --kept FILE
                          [--datagrams N] [--delay N] [--fetch] [--ready] [--key FILE]
