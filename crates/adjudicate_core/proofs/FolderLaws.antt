@@ -28,7 +28,7 @@ use Rattle.board_core.specs.Position.{IsPosition}
 use Rattle.fen_text.specs.Fen.{SpellsPosition}
 use Rattle.judge_core.specs.ProbeResult.{has_both}
 use Rattle.judge_core.specs.Words.{columns_words}
-use Rattle.adjudicate_core.specs.FolderAnswers.{AnswersIn, BadManifest, ByFolder, ByItsTables, Finds, ForBadFile, InFolder, IsAlone, NoFolder, PutsBadManifest, PutsByFolder, PutsLinesBy, PutsNoFolder, refused_table, refused_table_in}
+use Rattle.adjudicate_core.specs.FolderAnswers.{AnswersIn, BadManifest, ByFolder, ByItsTables, Finds, ForBadFile, InFolder, IsAlone, NoFolder, PutsBadManifest, PutsByFolder, PutsIn, PutsInFolder, PutsNoFolder, refused_table, refused_table_in}
 use Rattle.adjudicate_core.specs.Telling.{TellsOne}
 use Rattle.judge_core.specs.ProbeResult.{IsProbed}
 use Rattle.judge_core.specs.Ruling.{ruling}
@@ -91,13 +91,18 @@ module _ (disk : DiskFacts) (folder : Folder) (tables : Tables) (p : Parts) wher
 
 -- ---- lines
 
-pub puts_lacking : {disk : DiskFacts} {path : List ℕ} {manifest : Option ToldManifest} {Tells : Folder → List ℕ → LineTold → Type 0} {Takes : List ℕ → Type 0} {source : InputFacts} (old new : Option (List ℕ)) (r : Result ℕ WriteFault) {refused : Refusal} → LacksFolder disk path manifest refused → TellsOne (refusal_words refused) old new r → PutsByFolder disk path manifest Tells Takes source old new r
+pub puts_lacking : {disk : DiskFacts} {path : List ℕ} {manifest : Option ToldManifest} {Puts : Folder → Option (List ℕ) → Option (List ℕ) → Result ℕ WriteFault → Type 0} (old new : Option (List ℕ)) (r : Result ℕ WriteFault) {refused : Refusal} → LacksFolder disk path manifest refused → TellsOne (refusal_words refused) old new r → PutsInFolder disk path manifest Puts old new r
 puts_lacking old new r (HasBadLine line bad e) told = PutsBadManifest line bad (subst (λ x. TellsOne (refusal_words x) old new r) e told)
 puts_lacking old new r (CannotList fails e) told = PutsNoFolder fails (subst (λ x. TellsOne (refusal_words x) old new r) e told)
 
 pub puts_by : {D : Type 0} (facts : D → DiskFacts) (a b : D) (folder : Folder) (path : List ℕ) (manifest : Option ToldManifest) (Tells : DiskFacts → Folder → List ℕ → LineTold → Type 0) (Takes : List ℕ → Type 0) (source : InputFacts) (old new : Option (List ℕ)) (r : Result ℕ WriteFault) → a ≡ b → IsFolderAt (facts b) path manifest folder → PutsLinesOrNone (Tells (facts a) folder) Takes source old new r → PutsByFolder (facts b) path manifest (Tells (facts b)) Takes source old new r
 puts_by facts a b folder path manifest Tells Takes source old new r same at lines =
-    PutsLinesBy folder at (subst (λ d. PutsLinesOrNone (Tells (facts d) folder) Takes source old new r) same lines)
+    PutsIn folder at (subst (λ d. PutsLinesOrNone (Tells (facts d) folder) Takes source old new r) same lines)
+
+-- what is written by a folder that is open
+pub puts_in : {D : Type 0} (facts : D → DiskFacts) (a b : D) (folder : Folder) (path : List ℕ) (manifest : Option ToldManifest) (Puts : DiskFacts → Folder → Option (List ℕ) → Option (List ℕ) → Result ℕ WriteFault → Type 0) (old new : Option (List ℕ)) (r : Result ℕ WriteFault) → a ≡ b → IsFolderAt (facts b) path manifest folder → Puts (facts a) folder old new r → PutsInFolder (facts b) path manifest (Puts (facts b)) old new r
+puts_in facts a b folder path manifest Puts old new r same at is =
+    PutsIn folder at (subst (λ d. Puts (facts d) folder old new r) same is)
 
 -- a line of `probes`
 module _ (disk : DiskFacts) (folder : Folder) (text : List ℕ) (p : Parts) (spelled : SpellsPosition text p) (position : IsPosition p) where

@@ -27,3 +27,4 @@ pub mod MakeLaws
 pub mod GoneLaws
 pub mod StoreLaws
 pub mod FolderLaws
+pub mod FollowLaws

@@ -14,7 +14,7 @@ use Rattle.move_msg.specs.ToldManifests.{ToldManifest}
 use Rattle.system_io.specs.Disks.{DiskFacts}
 use Rattle.table_folder.specs.declared.fault.FileRefusal.{FileRefusal}
 use Rattle.table_folder.specs.Faults.{file_fault_name}
-use Rattle.table_folder.specs.Folders.{Folder, IsFolderAt}
+use Rattle.table_folder.specs.Folders.{Folder, FolderOn, IsFolderAt}
 use Rattle.table_folder.specs.Settled.{AnswersBy, IsRefusedFor}
 use Rattle.task_files.specs.Outside.{FolderFails}
 use Rattle.adjudicate_core.specs.Lines.{refused_file, refused_manifest}
@@ -36,6 +36,11 @@ refused_table refusal = refused_file refusal.name.bytes (file_fault_name refusal
 abbrev pub refused_table_in : Bool → FileRefusal → List ℕ
 refused_table_in true refusal = json_text (error_json (refusal.name.bytes ++ codes " " ++ file_fault_name refusal.fault))
 refused_table_in false refusal = refused_table refusal
+
+-- a folder on a disk, and those of its tables that are open
+pub record TablesOn (D : Type 0) : Type 0 where
+  pub on : FolderOn D
+  pub tables : Tables
 
 -- of a position nothing is needed but what tables say of itself
 abbrev pub IsAlone : Parts → Parts → Type 0
@@ -73,9 +78,13 @@ pub data TellsByFolder {X : Type 0} (disk : DiskFacts) (folder : Folder) (Spells
   ByItsTables : (x : X) → Spells text x → AnswersBy disk folder (IsNeeded x) (λ tables. Tells tables text line) → TellsByFolder disk folder Spells IsNeeded Tells refused text line
   ForBadFile : (x : X) → Spells text x → (refusal : FileRefusal) → IsRefusedFor disk folder (IsNeeded x) refusal → line ≡ record { words = refused refusal; done = false } → TellsByFolder disk folder Spells IsNeeded Tells refused text line
 
--- the manifest is refused, or the folder; or the lines of the input were told by the folder; or memory was refused before them
-pub data PutsByFolder (disk : DiskFacts) (path : List ℕ) (manifest : Option ToldManifest) (Tells : Folder → List ℕ → LineTold → Type 0) (Takes : List ℕ → Type 0) (source : InputFacts) (old new : Option (List ℕ)) (r : Result ℕ WriteFault) : Type 0 where
-  PutsBadManifest : (line : ℕ) → manifest ≡ Some (Err line) → TellsOne (refused_manifest line) old new r → PutsByFolder disk path manifest Tells Takes source old new r
-  PutsNoFolder : FolderFails disk path manifest → TellsOne refused_files old new r → PutsByFolder disk path manifest Tells Takes source old new r
-  PutsLinesBy : (folder : Folder) → IsFolderAt disk path manifest folder → PutsLinesOrNone (Tells folder) Takes source old new r → PutsByFolder disk path manifest Tells Takes source old new r
-  PutsNoRoom : TellsOne refused_memory old new r → PutsByFolder disk path manifest Tells Takes source old new r
+-- the manifest is refused, or the folder; or this was written by the folder; or memory for the folder was refused
+pub data PutsInFolder (disk : DiskFacts) (path : List ℕ) (manifest : Option ToldManifest) (Puts : Folder → Option (List ℕ) → Option (List ℕ) → Result ℕ WriteFault → Type 0) (old new : Option (List ℕ)) (r : Result ℕ WriteFault) : Type 0 where
+  PutsBadManifest : (line : ℕ) → manifest ≡ Some (Err line) → TellsOne (refused_manifest line) old new r → PutsInFolder disk path manifest Puts old new r
+  PutsNoFolder : FolderFails disk path manifest → TellsOne refused_files old new r → PutsInFolder disk path manifest Puts old new r
+  PutsIn : (folder : Folder) → IsFolderAt disk path manifest folder → Puts folder old new r → PutsInFolder disk path manifest Puts old new r
+  PutsNoRoom : TellsOne refused_memory old new r → PutsInFolder disk path manifest Puts old new r
+
+-- so the lines of the input were told
+abbrev pub PutsByFolder : DiskFacts → List ℕ → Option ToldManifest → (Folder → List ℕ → LineTold → Type 0) → (List ℕ → Type 0) → InputFacts → Option (List ℕ) → Option (List ℕ) → Result ℕ WriteFault → Type 0
+PutsByFolder disk path manifest Tells Takes source old new r = PutsInFolder disk path manifest (λ folder. PutsLinesOrNone (Tells folder) Takes source) old new r

@@ -82,7 +82,7 @@ AnswersFrom m Told (task.Send t) given old new r = (e : Result Ended WriteFault)
 AnswersFrom m Told (task.Enter t) given old new r = Enters m.outside t old new r
 AnswersFrom m Told (task.Host t) given old new r = HostsGames (hosting_places m) (written (hosting_places m) t.games.now) t given m.outside.had m.outside.has old new r
 AnswersFrom m Told (task.Root t) given old new r = roots.Puts m.outside.disk m.outside.source t given old new r
-AnswersFrom m Told (task.Follow t) given old new r = follows.Puts m.outside.source t given old new r
+AnswersFrom m Told (task.Follow t) given old new r = follows.Puts m.outside.disk m.outside.source t given old new r
 AnswersFrom m Told (task.Status t) given old new r = statuses.PutsOver m.outside.disk m.stores t old new r
 AnswersFrom m Told (task.Serve t) given old new r = serves.Serves m.outside.disk t old new r
 

@@ -74,7 +74,7 @@ impl<'r, D: Disk> Model for OpenFolder<'r, D> {
 }
 
 /// Opens a folder; no table is read. The refusal is that of a malformed manifest, then of the folder.
-fn folder_at<'r, D: Disk>(
+pub(crate) fn folder_at<'r, D: Disk>(
     alloc: Global,
     disk: &'r D,
     path: &'r str,

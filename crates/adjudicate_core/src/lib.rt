@@ -58,9 +58,10 @@
 //! - CLAIM: `run_program`: with `--key` the ports of `listen`, `host` and `send` are sealed by the keys of the file, and all else
 //!   is as without it. What is refused of the file is told before all else, the first of: it can't be read as a regular file of at
 //!   most 130 bytes (`Disk::read_with_mode` of system_io); its group or others have some right; its first malformed line.
-//! - CLAIM: `run`, clause `runs`: `judge` and `probe` with `--lazy`, and `probes`, `root`, `game` and `games` without `--all-tables` and
-//!   `--determined`, answer by tables of the folder of which none is missing at the positions that they need, or refuse the file of one
-//!   that is needed (`ByFolder`, `PutsByFolder`).
+//! - CLAIM: `run`, clause `runs`: `judge` and `probe` with `--lazy`, and `probes`, `root`, `game`, `games` and `pgn` without `--all-tables`
+//!   and `--determined`, answer by tables of the folder of which none is missing at the positions that they need, or refuse the file of
+//!   one that is needed (`ByFolder`, `PutsByFolder`, `IsRulingIn`). What `follow` tells so stays true whatever more tables of the folder
+//!   are read (`IsFollowedIn`).
 //! - CLAIM: `run`, clause `runs`: `--json` of `probes` and `root` writes one object a line, and `--determined` tells the
 //!   determined values of judge_core in place of the strict ones.
 //! - CLAIM: `run`, clause `runs`: `follow` refuses the text of its start and its tables in this order; then each ply of the game is

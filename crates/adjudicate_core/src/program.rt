@@ -88,7 +88,7 @@ fn answer_given<'s, D: LineDisk, I: Input, H: Host, G: Pages, W: Output, E: Outp
         Task::Enter(task) => enter(alloc, task, system, history, out),
         Task::Host(task) => host_games(alloc, task, sources, system, history, out),
         Task::Root(task) => task.answer(alloc, sources, system.disk, system.input, out, err),
-        Task::Follow(task) => task.answer(alloc, sources, system.input, out),
+        Task::Follow(task) => task.answer(alloc, sources, system.disk, system.input, out),
         Task::Status(task) => task.answer(alloc, system.disk, system.host, out),
         Task::Serve(task) => system.pages.serve_requests(alloc, system.disk, task, out),
     }

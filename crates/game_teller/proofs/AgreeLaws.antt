@@ -10,6 +10,7 @@ use Rattle.board_core.specs.declared.verdict.Verdict.{Verdict}
 use Rattle.judge_core.specs.declared.game.GameOutcome.{GameOutcome}
 use Rattle.judge_core.specs.declared.game.GameOutcome.TheVariants as outcome
 use Rattle.judge_core.specs.Games.{IsIllegalAt, IsOutcome, Rules, position_after_all, verdict_after}
+use Rattle.judge_core.specs.Tables.{Tables}
 use Rattle.judge_core.specs.Words.{outcome_words}
 use Rattle.judge_core.proofs.InWords.{looks_back}
 use Rattle.judge_core.proofs.OneOutcome.{one_outcome}
@@ -24,7 +25,7 @@ use Rattle.system_io.specs.LineReaders.{ReadsLine}
 use Rattle.game_teller.specs.declared.lines.Stop.{Stop}
 use Rattle.game_teller.specs.declared.lines.Stop.TheVariants as stop
 use Rattle.game_teller.specs.Plies.{ply_words, stop_words}
-use Rattle.game_teller.specs.Followings.{Follows, FollowsTo, NotBegun, Open, Ruled, Stopped, StopsAfter, TellsPlies, TellsPly}
+use Rattle.game_teller.specs.Followings.{Follows, FollowsTo, Halts, IsNotBegun, NotBegun, Open, Ruled, Stopped, StopsAfter, TellsPlies, TellsPly}
 use Rattle.game_teller.specs.Agreements.{AgreesIfKnown, AgreesWithGame, EndsWithLine, IsCutShort, IsLastLine}
 use Rattle.game_teller.proofs.NotationLaws.{first_move, same_moves, split_moves}
 
@@ -61,7 +62,7 @@ module _ (one : NamesOneMove) where
   next_move : (notation : Notation) (at : Parts) (rest line after : List ℕ) (more : List Moves) → lines_in rest ≡ line ∷ lines_in after → AreMovesIn notation at (lines_in rest) more → (m : Moves) × (others : List Moves) × (more ≡ m ∷ others) × Spells notation at line m
   next_move notation at rest line after more is h = first_move notation at line (lines_in after) more (subst (λ ls. AreMovesIn notation at ls more) is h)
 
-  module _ (notation : Notation) (rules : Rules) (Stops : ReadFault → Type 0) (text : List ℕ) (old new : Option (List ℕ)) where
+  module _ (notation : Notation) (rules : Rules) (halts : Halts) (text : List ℕ) (old new : Option (List ℕ)) where
     -- the last ply of some moves that is told
     last_ply : (moves : List Moves) (told : List (List ℕ)) → TellsPlies rules moves told → (front : List (List ℕ)) × (words : List ℕ) × (told ≡ front ++ words ∷ []) × TellsPly rules moves words
     last_ply moves told h =
@@ -104,7 +105,7 @@ module _ (one : NamesOneMove) where
         let one_out : o ≡ outcome.Illegal place = one_outcome rules all o (outcome.Illegal place) h there in
         (told, stop_words (stop.Illegal place), wrote, subst (λ x. IsLastLine rules all x (stop_words (stop.Illegal place))) (sym one_out) (illegal_line all place))
 
-    by_stop : (now after : Option (List ℕ)) (at : Parts) (moves all : List Moves) (told : List (List ℕ)) (o : GameOutcome) (why : Stop) (rest : List ℕ) (more : List Moves) → now ≡ Some rest → position_after_all rules.start moves ≡ Some at → AreMovesIn notation at (lines_in rest) more → all ≡ moves ++ more → StopsAfter notation rules Stops now after moves why
+    by_stop : (now after : Option (List ℕ)) (at : Parts) (moves all : List Moves) (told : List (List ℕ)) (o : GameOutcome) (why : Stop) (rest : List ℕ) (more : List Moves) → now ≡ Some rest → position_after_all rules.start moves ≡ Some at → AreMovesIn notation at (lines_in rest) more → all ≡ moves ++ more → StopsAfter notation rules halts now after moves why
         → Appends old new (text_of (told ++ stop_words why ∷ [])) → IsOutcome rules all o → EndsWithLine old new (IsLastLine rules all o) ⊎ EndsWithLine old new IsCutShort
     by_stop now after at moves all told o (stop.NotAMove place) rest more here there left is (count, (line, p, read, bad)) wrote h =
         let next = read_one rest after line (subst (λ x. ReadsLine x after line) here read.0) in
@@ -118,10 +119,18 @@ module _ (one : NamesOneMove) where
         let same : n.0 ≡ m = one notation p line n.0 m (subst (λ q. Spells notation q line n.0) place_is n.3) spelled in
         let whole : all ≡ moves ++ m ∷ n.1 = is ∙ ap (λ x. moves ++ x) n.2 ∙ ap (λ x. moves ++ x ∷ n.1) same in
         inl (by_illegal moves all told o m n.1 place count out wrote whole h)
+    by_stop now after at moves all told o (stop.BadFile refusal) rest more here there left is why wrote h = inr (told, stop_words (stop.BadFile refusal), wrote, inr (inr (refusal, refl)))
     by_stop now after at moves all told o stop.Unread rest more here there left is why wrote h = inr (told, stop_words stop.Unread, wrote, inl refl)
-    by_stop now after at moves all told o stop.OutOfMemory rest more here there left is why wrote h = inr (told, stop_words stop.OutOfMemory, wrote, inr refl)
+    by_stop now after at moves all told o stop.OutOfMemory rest more here there left is why wrote h = inr (told, stop_words stop.OutOfMemory, wrote, inr (inl refl))
 
-    agrees : (done : Bool) → Follows notation rules Stops (Some text) old new done → AgreesWithGame notation rules text old new
+    cut_short : (why : Stop) → IsNotBegun rules halts why → IsCutShort (stop_words why)
+    cut_short (stop.NotAMove place) none = absurd none
+    cut_short (stop.Illegal place) none = absurd none
+    cut_short (stop.BadFile refusal) none = inr (inr (refusal, refl))
+    cut_short stop.Unread none = absurd none
+    cut_short stop.OutOfMemory none = inr (inl refl)
+
+    agrees : (done : Bool) → Follows notation rules halts (Some text) old new done → AgreesWithGame notation rules text old new
     agrees done (Ruled now moves told has v out wrote is) all o spelled h =
         let front = read_front text has.lines now has.read in
         let last = last_ply moves told has.plies in
@@ -137,12 +146,14 @@ module _ (one : NamesOneMove) where
         let last = last_ply moves told has.plies in
         let parts = fronts notation rules.start last.3.0 text has.lines front.0 moves all front.2 last.3.1 has.spelled spelled in
         by_stop now after last.3.0 moves all told o why front.0 parts.0 front.1 last.3.1 parts.2 parts.1 stops wrote h
-    agrees done (NotBegun lists wrote is) all o spelled h = inr ([], stop_words stop.OutOfMemory, subst (Appends old new) (sym (append-nil (ended (stop_words stop.OutOfMemory)))) wrote, inr refl)
+    agrees done (NotBegun why none wrote is) all o spelled h = inr ([], stop_words why, subst (Appends old new) (sym (append-nil (ended (stop_words why)))) wrote, cut_short why none)
 
-  pub agrees_if_known : (notation : Notation) (rules : Rules) (Stops : ReadFault → Type 0) (left old new : Option (List ℕ)) (done : Bool) → Follows notation rules Stops left old new done → AgreesIfKnown notation rules left old new
-  agrees_if_known notation rules Stops None old new done h = tt
-  agrees_if_known notation rules Stops (Some text) old new done h = agrees notation rules Stops text old new done h
+  pub agrees_if_known : (notation : Notation) (rules : Rules) (halts : Halts) (left old new : Option (List ℕ)) (done : Bool) → Follows notation rules halts left old new done → AgreesIfKnown notation rules left old new
+  agrees_if_known notation rules halts None old new done h = tt
+  agrees_if_known notation rules halts (Some text) old new done h = agrees notation rules halts text old new done h
 
-  pub agrees_to : (notation : Notation) (rules : Rules) (Stops : ReadFault → Type 0) (left old new : Option (List ℕ)) (r : Result Bool WriteFault) → FollowsTo notation rules Stops left old new r → IfOk r (λ done. AgreesIfKnown notation rules left old new)
-  agrees_to notation rules Stops left old new (Ok done) h = agrees_if_known notation rules Stops left old new done h
-  agrees_to notation rules Stops left old new (Err fault) h = tt
+  -- by whatever tables it is followed
+  pub agree_all : (notation : Notation) (rules : Tables → Rules) (IsBy : Tables → Type 0) (halts : Halts) (left old new : Option (List ℕ)) (r : Result Bool WriteFault) → ((tables : Tables) → IsBy tables → FollowsTo notation (rules tables) halts left old new r)
+      → IfOk r (λ done. (tables : Tables) → IsBy tables → AgreesIfKnown notation (rules tables) left old new)
+  agree_all notation rules IsBy halts left old new (Ok done) h = λ tables by. agrees_if_known notation (rules tables) halts left old new done (h tables by)
+  agree_all notation rules IsBy halts left old new (Err fault) h = tt

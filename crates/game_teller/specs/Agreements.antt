@@ -10,7 +10,8 @@ use Rattle.judge_core.specs.Words.{outcome_words}
 use Rattle.move_msg.specs.TextLines.{lines_in, text_of}
 use Rattle.move_notation.specs.declared.notation.Notation.{Notation}
 use Rattle.move_notation.specs.Notations.{AreMovesIn}
-use Rattle.game_teller.specs.declared.lines.Stop.TheVariants.{OutOfMemory, Unread}
+use Rattle.game_teller.specs.declared.lines.Stop.TheVariants.{BadFile, OutOfMemory, Unread}
+use Rattle.table_folder.specs.declared.fault.FileRefusal.{FileRefusal}
 use Rattle.game_teller.specs.Plies.{ply_words, stop_words}
 
 -- the last line of a game with this outcome, told ply by ply: of a verdict its ply; where a move isn't legal, the same line as of the
@@ -24,9 +25,9 @@ IsLastLine rules moves Going words = (p : Parts) × (position_after_all rules.st
 abbrev pub EndsWithLine : Option (List ℕ) → Option (List ℕ) → (List ℕ → Type 0) → Type 0
 EndsWithLine old new IsLine = (told : List (List ℕ)) × (words : List ℕ) × Appends old new (text_of (told ++ words ∷ [])) × IsLine words
 
--- the input couldn't be read to its end, or memory was refused
+-- the input couldn't be read to its end, or memory was refused, or the file of a table
 abbrev pub IsCutShort : List ℕ → Type 0
-IsCutShort words = (words ≡ stop_words Unread) ⊎ (words ≡ stop_words OutOfMemory)
+IsCutShort words = (words ≡ stop_words Unread) ⊎ (words ≡ stop_words OutOfMemory) ⊎ ((refusal : FileRefusal) × (words ≡ stop_words (BadFile refusal)))
 
 -- of an input whose lines all name moves in turn the last line is that of the outcome of all of its moves, unless it is cut short
 abbrev pub AgreesWithGame : Notation → Rules → List ℕ → Option (List ℕ) → Option (List ℕ) → Type 0

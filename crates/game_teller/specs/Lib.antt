@@ -1,3 +1,4 @@
+pub mod Judges
 pub mod Plies
 pub mod Followings
 pub mod Agreements

@@ -1,15 +1,17 @@
 //! A game told ply by ply, as its moves come.
 //!
-//! `follow_game` takes a notation, a set of tables, the start of a game, a delay and an input with a move a line. It writes a line for
+//! `follow_game` takes a notation, a judge of plies, the start of a game, a delay and an input with a move a line. It writes a line for
 //! ply 0 and then for the ply after each move: its number, its verdict or `open`, and its position. It goes on to the first verdict. It
 //! carries the `Standing` of judge_core from ply to ply, so that each position is judged once.
 //!
-//! Inside: `lines` (the lines), `following` (the run).
+//! Inside: `lines` (the lines), `judging` (the judge: the trait, and its instance by a set of tables), `following` (the run).
 //!
-//! Definitions, in reading order: `Plies`, `Followings` (`TellsPlies`, `StopsAfter`, `Follows`), over `IsOutcome` of judge_core;
+//! Definitions, in reading order: `Judges`, `Plies`, `Followings` (`TellsPlies`, `StopsAfter`, `Follows`), over `IsOutcome` of judge_core;
 //! `Agreements`; over `Notations` of move_notation. Its cases stand in `follow.txt` and `san.txt` of `rows`.
 //!
-//! - CLAIM: `follow_game`, clause `follows`: each ply to the first verdict, to the input's end or to the first line that gives no
+//! - CLAIM: `PlyJudge::begin`, `PlyJudge::move_on`, clauses `begun`, `on`, `refused`, `memory`, `later`; `SetJudge`: where a game stands by
+//!   the tables that were read, and by whatever more are, or the refusal of a file that a position needs.
+//! - CLAIM: `follow_game`, clauses `follows`, `later`: each ply to the first verdict, to the input's end or to the first line that gives no
 //!   legal move in its position is told in its line, and nothing else but why no more is told. What the moves that were read come to
 //!   is as `game` tells it. After an error the lines before are whole and none of them tells a verdict, and of the last a front is
 //!   written.
@@ -20,7 +22,9 @@
 #![tactic(auto)]
 
 mod following;
+mod judging;
 mod lines;
 
 pub use following::follow_game;
+pub use judging::{PlyJudge, SetJudge};
 pub use lines::Stop;

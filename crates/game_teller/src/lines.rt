@@ -5,6 +5,7 @@ ghost use Rattle.std.specs.Fmt.{decimal};
 ghost use Rattle.judge_core.specs.Words.{verdict_words};
 ghost use Rattle.move_msg.specs.TextLines.{ended};
 ghost use Rattle.game_teller.specs.Plies.{ply_words, stop_words};
+ghost use Rattle.game_teller.specs.declared.lines.Stop.TheVariants.{BadFile};
 ghost use Rattle.line_teller.specs.ToldLines.{HasFailed};
 ghost use Rattle.system_io.specs.Outputs.{WritesFront};
 
@@ -13,6 +14,7 @@ use fen_text::write;
 use judge_core::verdict_or_open;
 use line_teller::LineWords;
 use system_io::{Output, WriteFault};
+use table_folder::FileRefusal;
 
 /// Why no more is told.
 #[derive(Clone, Copy)]
@@ -21,6 +23,8 @@ pub enum Stop {
     NotAMove(usize),
     /// The move at this place isn't legal.
     Illegal(usize),
+    /// The position after the next move, or the start, needs a table whose file is refused.
+    BadFile(FileRefusal),
     /// The input can't be read.
     Unread,
     /// Memory was refused.
@@ -37,6 +41,17 @@ fn numbered(words: &str, number: usize) -> LineWords
     line
 }
 
+/// The line that refuses the file of a table.
+fn file_line(refusal: &FileRefusal) -> LineWords
+    ensures { result ≡ stop_words (BadFile refusal.now) }
+{
+    let mut line = LineWords::of("refused ");
+    line.add(refusal.name.as_str());
+    line.add(" ");
+    line.add(refusal.fault.name());
+    line
+}
+
 /// The line that says why no more is told.
 fn stop_line(stop: Stop) -> LineWords
     ensures { result ≡ stop_words stop }
@@ -44,6 +59,7 @@ fn stop_line(stop: Stop) -> LineWords
     match stop {
         Stop::NotAMove(place) => numbered("refused move ", place),
         Stop::Illegal(place) => numbered("illegal ", place),
+        Stop::BadFile(refusal) => file_line(&refusal),
         Stop::Unread => LineWords::of("refused files"),
         Stop::OutOfMemory => LineWords::of("refused memory"),
     }

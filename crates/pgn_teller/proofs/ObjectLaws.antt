@@ -1,9 +1,12 @@
 -- The objects of games.
-use Rattle.std.proofs.Common.{◌≡◌, ◌∙◌, ap, sym, ℕ, ◌+◌, List, [], ◌∷◌, ◌++◌, take}
-use Rattle.std.specs.Prelude.{Option, Some, None, option_map, string_bytes}
+use Rattle.std.proofs.Common.{◌≡◌, ◌∙◌, ap, sym, ℕ, ◌+◌, List, [], ◌∷◌, ◌++◌, take, codes}
+use Rattle.std.specs.Prelude.{Option, Some, None, option_map}
 use Rattle.std.specs.List.{fold}
 use Rattle.std.proofs.lemmas.List.Sums.{fold-append}
 use Rattle.board_core.specs.declared.moves.Move.{Move}
+use Rattle.table_folder.specs.declared.fault.FileRefusal.{FileRefusal}
+use Rattle.table_folder.specs.Faults.{file_fault_name}
+use Rattle.pgn_teller.specs.GameLines.{file_words}
 use Rattle.pgn_teller.specs.GameObjects.{lossy, moves_text, tag_or_null, text_or_null, with_move}
 
 -- a tag that stands as text, or null
@@ -16,6 +19,10 @@ pub moves_more : (moves : List Move) (i : ℕ) (m : Move) (text after : List ℕ
 unfolding moves_text
 moves_more moves i m text after at before more =
     more ∙ ap (λ t. with_move t m) before ∙ sym (fold-append with_move [] (take i moves) (m ∷ [])) ∙ ap (fold with_move []) (sym at)
+
+-- the name of a file and its fault, put together
+pub file_text : (front fault : List ℕ) (refusal : FileRefusal) → front ≡ refusal.name.bytes ++ codes " " → fault ≡ file_fault_name refusal.fault → front ++ fault ≡ file_words refusal
+file_text front fault refusal a b = ap (λ t. t ++ fault) a ∙ ap (λ t. refusal.name.bytes ++ codes " " ++ t) b
 
 pub no_moves : (text : List ℕ) → text ≡ [] → text ≡ moves_text []
 unfolding moves_text

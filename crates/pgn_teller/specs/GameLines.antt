@@ -11,6 +11,8 @@ use Rattle.pgn_games.specs.declared.fault.Cause.{Cause}
 use Rattle.pgn_games.specs.declared.fault.Cause.TheVariants.{BadTag, BadFen, BadMove, TooManyMoves, StrayToken, OpenVariation, EndlessComment, LongLine}
 use Rattle.pgn_games.specs.declared.fault.GameFault.{GameFault}
 use Rattle.pgn_games.specs.declared.game.GameResult.{GameResult}
+use Rattle.table_folder.specs.declared.fault.FileRefusal.{FileRefusal}
+use Rattle.table_folder.specs.Faults.{file_fault_name}
 use Rattle.pgn_teller.specs.declared.rating.Ruled.{Ruled}
 use Rattle.pgn_teller.specs.declared.sums.Sums.{Sums}
 use Rattle.pgn_teller.specs.Ratings.{finding_of, finding_word, result_word}
@@ -50,6 +52,14 @@ cause_words LongLine = codes "LongLine"
 abbrev pub unread_game_words : ℕ → GameFault → List ℕ
 unread_game_words number fault =
     decimal number ++ codes " refused line " ++ decimal fault.at ++ codes " ply " ++ decimal fault.plies ++ codes " " ++ cause_words fault.cause
+
+-- the name of a table's file and what is wrong with it
+abbrev pub file_words : FileRefusal → List ℕ
+file_words refusal = refusal.name.bytes ++ codes " " ++ file_fault_name refusal.fault
+
+-- a game that needs a table whose file is refused: its number, and the file
+abbrev pub refused_game_words : ℕ → FileRefusal → List ℕ
+refused_game_words number refusal = decimal number ++ codes " refused " ++ file_words refusal
 
 -- how many games there are of each kind
 abbrev pub pgn_sums_words : Sums → List ℕ

@@ -1,5 +1,5 @@
 -- The lines of games as JSON objects (RFC 8259).
-use Rattle.std.specs.Prelude.{ℕ, List, [], ◌∷◌, ◌++◌, length, Option, Some, None, codes}
+use Rattle.std.specs.Prelude.{ℕ, List, [], ◌∷◌, ◌++◌, Option, Some, None, codes}
 use Rattle.std.specs.List.{fold}
 use Rattle.std.specs.Fmt.{decimal}
 use Rattle.std.specs.Str.Lossy.{utf8_lossy}
@@ -17,7 +17,8 @@ use Rattle.pgn_teller.specs.declared.finding.Finding.{Finding}
 use Rattle.pgn_teller.specs.declared.finding.Finding.TheVariants.{Agrees, Differs, Uncompared}
 use Rattle.pgn_teller.specs.declared.rating.Ruled.{Ruled}
 use Rattle.pgn_teller.specs.declared.sums.Sums.{Sums}
-use Rattle.pgn_teller.specs.GameLines.{cause_words}
+use Rattle.table_folder.specs.declared.fault.FileRefusal.{FileRefusal}
+use Rattle.pgn_teller.specs.GameLines.{cause_words, file_words}
 use Rattle.pgn_teller.specs.Ratings.{finding_of, finding_word, result_word}
 
 -- bytes as text: what is no UTF-8 in them stands as U+FFFD
@@ -91,6 +92,13 @@ unread_game_members n fault =
     (member (codes "error") (cause_json fault.cause)
     (member (codes "at") (number (decimal fault.at))
     (member (codes "ply") (number (decimal fault.plies)) no_members))))
+
+-- a game that needs a table whose file is refused: its line, and the file
+abbrev pub refused_game_members : ℕ → ℕ → FileRefusal → Members
+refused_game_members n line refusal =
+    member (codes "game") (number (decimal n))
+    (member (codes "line") (number (decimal line))
+    (member (codes "error") (string (file_words refusal)) no_members))
 
 -- how many games there are of each kind
 abbrev pub sums_members : Sums → Members

@@ -1,5 +1,5 @@
 -- What tables say of the games of a file, and what the results that stand there are beside it (this project's own).
-use Rattle.std.specs.Prelude.{◌≡◌, ℕ, Bool, true, false, List, Option, Some, None, codes, if◌then◌else◌}
+use Rattle.std.specs.Prelude.{◌≡◌, ℕ, Bool, true, false, List, Option, Some, None, Result, Ok, Err, codes, if◌then◌else◌}
 use Rattle.board_core.specs.declared.verdict.Verdict.{Verdict}
 use Rattle.board_core.specs.declared.verdict.Verdict.TheVariants.{WhiteMates, BlackMates, Stalemate, TableDraw, TableWhite, TableBlack, Stopped}
 use Rattle.judge_core.specs.declared.game.GameOutcome.{GameOutcome}
@@ -12,6 +12,7 @@ use Rattle.pgn_games.specs.Games.{GameTold}
 use Rattle.pgn_teller.specs.declared.finding.Finding.{Finding}
 use Rattle.pgn_teller.specs.declared.finding.Finding.TheVariants.{Agrees, Differs, Uncompared}
 use Rattle.pgn_teller.specs.declared.rating.Ruled.{Ruled}
+use Rattle.table_folder.specs.declared.fault.FileRefusal.{FileRefusal}
 
 -- the verdict gives the game to White (PGN standard, section 8.2.6: 1-0)
 abbrev pub gives_white : Verdict → Bool
@@ -80,6 +81,15 @@ pub record IsFirstRuled (delay : ℕ) (tables : Tables) (game : GameTold) (ruled
   pub outcome : GameOutcome
   pub is : IsOutcome (record { start = game.start; tables = tables; delay = delay }) game.moves outcome
   pub by : ruled ≡ ruled_by outcome
+
+-- what a game is ruled as: its first verdict, or none; or the file of a table that it needs is refused
+abbrev pub RulingTold : Type 0
+RulingTold = Result (Option Ruled) FileRefusal
+
+-- by tables that are all there no file is refused
+abbrev pub IsRulingBy : ℕ → Tables → GameTold → RulingTold → Type 0
+IsRulingBy delay tables game (Ok ruled) = IsFirstRuled delay tables game ruled
+IsRulingBy delay tables game (Err refusal) = ⊥
 
 -- ---- in words
 

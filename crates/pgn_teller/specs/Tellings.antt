@@ -1,9 +1,8 @@
 -- The games of an input, told as they are read (this project's own).
-use Rattle.std.specs.Prelude.{◌≡◌, ◌⊎◌, ◌++◌, ◌==◌, ◌||◌, not, ℕ, Bool, true, false, List, [], ◌∷◌, length, take, Option, Some, None, if◌then◌else◌}
+use Rattle.std.specs.Prelude.{◌≡◌, ◌⊎◌, ◌++◌, ◌==◌, ◌||◌, not, ℕ, Bool, true, false, List, [], ◌∷◌, length, take, Option, Some, None, Ok, Err, if◌then◌else◌}
 use Rattle.std.specs.Io.KnownBytes.{Appends}
 use Rattle.json.specs.Json.{object}
 use Rattle.json_lines.specs.Objects.{json_text}
-use Rattle.judge_core.specs.Tables.{Tables}
 use Rattle.move_msg.specs.TextLines.{ended}
 use Rattle.pgn_games.specs.declared.fault.GameFault.{GameFault}
 use Rattle.pgn_games.specs.declared.game.GameResult.{GameResult}
@@ -22,9 +21,10 @@ use Rattle.pgn_teller.specs.declared.sums.Sums.{Sums}
 use Rattle.pgn_teller.specs.declared.telling.Telling.{Telling}
 use Rattle.pgn_teller.specs.declared.telling.Telling.TheVariants.{CutShort, Whole}
 use Rattle.pgn_teller.specs.declared.telling.GameTeller.{GameTeller}
-use Rattle.pgn_teller.specs.GameLines.{unread_game_words, game_words, pgn_sums_words}
-use Rattle.pgn_teller.specs.GameObjects.{unread_game_members, game_members, sums_members}
-use Rattle.pgn_teller.specs.Ratings.{IsFirstRuled, finding_of}
+use Rattle.pgn_teller.specs.GameLines.{unread_game_words, game_words, pgn_sums_words, refused_game_words}
+use Rattle.pgn_teller.specs.GameObjects.{unread_game_members, game_members, refused_game_members, sums_members}
+use Rattle.table_folder.specs.declared.fault.FileRefusal.{FileRefusal}
+use Rattle.pgn_teller.specs.Ratings.{RulingTold, finding_of}
 
 -- ---- sums
 
@@ -41,16 +41,13 @@ counted s (mark.Ruled Uncompared) = record s { games = one_more s.games; ruled =
 
 -- ---- one game
 
--- by what games are told: the tables, the delay, the form of a line, and whether only those are written whose result is another one than
--- the verdict's
+-- how games are told: the form of a line, and whether only those are written whose result is another one than the verdict's
 pub record Terms : Type 0 where
-  pub tables : Tables
-  pub delay : ℕ
   pub form : Form
   pub only_differing : Bool
 
-abbrev pub terms_of : GameTeller → Terms
-terms_of teller = record { tables = teller.set.tables; delay = teller.delay; form = teller.form; only_differing = teller.only_differing }
+abbrev pub terms_of : {R : Type 0} → GameTeller R → Terms
+terms_of teller = record { form = teller.form; only_differing = teller.only_differing }
 
 -- what counts of a game
 abbrev pub counted_as : Option Ruled → GameResult → Mark
@@ -66,14 +63,21 @@ abbrev pub pgn_fault_line : Form → ℕ → GameFault → List ℕ
 pgn_fault_line Words number fault = unread_game_words number fault
 pgn_fault_line Json number fault = json_text (object (unread_game_members number fault))
 
+-- of a game that begins on this line of the file and needs a table whose file is refused
+abbrev pub pgn_refused_line : Form → ℕ → ℕ → FileRefusal → List ℕ
+pgn_refused_line Words number line refusal = refused_game_words number refusal
+pgn_refused_line Json number line refusal = json_text (object (refused_game_members number line refusal))
+
 -- what is told of a game, and what counts of it
 pub record Line : Type 0 where
   pub words : List ℕ
   pub mark : Mark
 
-pub data IsPgnLine (t : Terms) (number : ℕ) (reading : ReadingTold) (l : Line) : Type 0 where
-  OfGame : (game : GameTold) → reading ≡ GameRead game → (ruled : Option Ruled) → IsFirstRuled t.delay t.tables game ruled → l ≡ record { words = pgn_line t.form number game ruled; mark = counted_as ruled game.result } → IsPgnLine t number reading l
-  OfFault : (fault : GameFault) → reading ≡ FaultRead fault → l ≡ record { words = pgn_fault_line t.form number fault; mark = mark.AtFault } → IsPgnLine t number reading l
+-- the line of a game: its ruling, or the refusal of a file that it needs; or why it isn't read
+pub data IsPgnLine (IsRuling : GameTold → RulingTold → Type 0) (t : Terms) (number : ℕ) (reading : ReadingTold) (l : Line) : Type 0 where
+  OfGame : (game : GameTold) → reading ≡ GameRead game → (ruled : Option Ruled) → IsRuling game (Ok ruled) → l ≡ record { words = pgn_line t.form number game ruled; mark = counted_as ruled game.result } → IsPgnLine IsRuling t number reading l
+  OfRefused : (game : GameTold) → reading ≡ GameRead game → (refusal : FileRefusal) → IsRuling game (Err refusal) → l ≡ record { words = pgn_refused_line t.form number game.line refusal; mark = mark.AtFault } → IsPgnLine IsRuling t number reading l
+  OfFault : (fault : GameFault) → reading ≡ FaultRead fault → l ≡ record { words = pgn_fault_line t.form number fault; mark = mark.AtFault } → IsPgnLine IsRuling t number reading l
 
 abbrev pub differs : Mark → Bool
 differs mark.AtFault = false
@@ -97,10 +101,10 @@ pgn_sums_line Json s = json_text (object (sums_members s))
 -- ---- games in turn
 
 -- the games are told in turn: the text of their lines, and how many there are after them
-unfoldable pub TellsPgnGames : Terms → Sums → List ReadingTold → Sums → List ℕ → Type 0
-TellsPgnGames t s [] new text = (new ≡ s) × (text ≡ [])
-TellsPgnGames t s (reading ∷ others) new text =
-    (l : Line) × (rest : List ℕ) × IsPgnLine t (one_more s.games) reading l × TellsPgnGames t (counted s l.mark) others new rest × (text ≡ written_line t.only_differing l ++ rest)
+unfoldable pub TellsPgnGames : (GameTold → RulingTold → Type 0) → Terms → Sums → List ReadingTold → Sums → List ℕ → Type 0
+TellsPgnGames IsRuling t s [] new text = (new ≡ s) × (text ≡ [])
+TellsPgnGames IsRuling t s (reading ∷ others) new text =
+    (l : Line) × (rest : List ℕ) × IsPgnLine IsRuling t (one_more s.games) reading l × TellsPgnGames IsRuling t (counted s l.mark) others new rest × (text ≡ written_line t.only_differing l ++ rest)
 
 -- these are the first games of the tokens, and what is left behind them
 unfoldable pub ReadsFront : List Token → List ReadingTold → List Token → Type 0
@@ -109,10 +113,10 @@ ReadsFront tokens (reading ∷ others) behind =
     (next : List Token) × ReadsGame tokens (Some reading) next × ReadsFront next others behind
 
 -- so many games were told, and this is left
-pub record HasToldPgn (t : Terms) (s : Sums) (tokens : List Token) (new : Sums) (behind : List Token) (text : List ℕ) : Type 0 where
+pub record HasToldPgn (IsRuling : GameTold → RulingTold → Type 0) (t : Terms) (s : Sums) (tokens : List Token) (new : Sums) (behind : List Token) (text : List ℕ) : Type 0 where
   pub readings : List ReadingTold
   pub read : ReadsFront tokens readings behind
-  pub told : TellsPgnGames t s readings new text
+  pub told : TellsPgnGames IsRuling t s readings new text
 
 -- why no more is told: the input can't be read to its end; or memory was refused
 pub data StopsBy (Fails : Type 0) : List ℕ → Type 0 where
@@ -120,25 +124,25 @@ pub data StopsBy (Fails : Type 0) : List ℕ → Type 0 where
   NoMemory : StopsBy Fails refused_memory
 
 -- the games of the tokens were told, all of them; or the first of them, until no more could be read or told, which was written last
-pub data TellsPgn (t : Terms) (s : Sums) (Fails : Type 0) (tokens : List Token) (new : Sums) (before after : Option (List ℕ)) (how : Telling) : Type 0 where
-  ToldAll : (behind rest : List Token) (text : List ℕ) → HasToldPgn t s tokens new behind text → ReadsGame behind None rest → Appends before after text → how ≡ Whole → TellsPgn t s Fails tokens new before after how
-  ToldSome : (behind : List Token) (text words : List ℕ) → HasToldPgn t s tokens new behind text → StopsBy Fails words → Appends before after (text ++ ended words) → how ≡ CutShort → TellsPgn t s Fails tokens new before after how
+pub data TellsPgn (IsRuling : GameTold → RulingTold → Type 0) (t : Terms) (s : Sums) (Fails : Type 0) (tokens : List Token) (new : Sums) (before after : Option (List ℕ)) (how : Telling) : Type 0 where
+  ToldAll : (behind rest : List Token) (text : List ℕ) → HasToldPgn IsRuling t s tokens new behind text → ReadsGame behind None rest → Appends before after text → how ≡ Whole → TellsPgn IsRuling t s Fails tokens new before after how
+  ToldSome : (behind : List Token) (text words : List ℕ) → HasToldPgn IsRuling t s tokens new behind text → StopsBy Fails words → Appends before after (text ++ ended words) → how ≡ CutShort → TellsPgn IsRuling t s Fails tokens new before after how
 
 -- what is written next: the line of the next game; or why there is none
-abbrev pub IsNextText : Terms → Sums → Type 0 → List Token → List ℕ → Type 0
-IsNextText t s Fails tokens text =
-    ((reading : ReadingTold) × (behind : List Token) × (l : Line) × ReadsGame tokens (Some reading) behind × IsPgnLine t (one_more s.games) reading l × (text ≡ written_line t.only_differing l))
+abbrev pub IsNextText : (GameTold → RulingTold → Type 0) → Terms → Sums → Type 0 → List Token → List ℕ → Type 0
+IsNextText IsRuling t s Fails tokens text =
+    ((reading : ReadingTold) × (behind : List Token) × (l : Line) × ReadsGame tokens (Some reading) behind × IsPgnLine IsRuling t (one_more s.games) reading l × (text ≡ written_line t.only_differing l))
     ⊎ ((words : List ℕ) × StopsBy Fails words × (text ≡ ended words))
 
 -- what a writer that failed leaves: the lines of the first games, and of one more line a front
-pub record CutsPgn (t : Terms) (s : Sums) (Fails : Type 0) (tokens : List Token) (before after : Option (List ℕ)) : Type 0 where
+pub record CutsPgn (IsRuling : GameTold → RulingTold → Type 0) (t : Terms) (s : Sums) (Fails : Type 0) (tokens : List Token) (before after : Option (List ℕ)) : Type 0 where
   pub new : Sums
   pub behind : List Token
   pub text : List ℕ
   pub last : List ℕ
   pub count : ℕ
-  pub has : HasToldPgn t s tokens new behind text
-  pub is_last : IsNextText t new Fails behind last
+  pub has : HasToldPgn IsRuling t s tokens new behind text
+  pub is_last : IsNextText IsRuling t new Fails behind last
   pub wrote : Appends before after (text ++ take count last)
 
 -- the sums are told in one line, and whether no game was at fault; or memory for the line was refused

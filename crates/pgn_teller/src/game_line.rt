@@ -1,7 +1,7 @@
 //! The lines of games as words.
 
 ghost use Rattle.std.specs.Prelude.{◌≡◌, ◌≤◌, ◌+◌, ◌++◌, length};
-ghost use Rattle.pgn_teller.specs.GameLines.{cause_words, unread_game_words, fen_words, game_words, ruled_words, pgn_sums_words};
+ghost use Rattle.pgn_teller.specs.GameLines.{cause_words, unread_game_words, fen_words, game_words, refused_game_words, ruled_words, pgn_sums_words};
 
 use crate::finding::{Finding, result_word};
 use crate::rating::Ruled;
@@ -9,6 +9,7 @@ use crate::sums::Sums;
 use fen_text::FenFault;
 use line_teller::LineWords;
 use pgn_games::{Cause, GameFault, GameResult};
+use table_folder::FileRefusal;
 
 /// How lines are written.
 #[derive(Clone, Copy, PartialEq, Eq, Debug)]
@@ -104,6 +105,19 @@ pub(crate) fn fault_line(number: u64, fault: &GameFault) -> LineWords
     line.add_counted(" ply ", fault.plies);
     line.add(" ");
     add_cause(&mut line, fault.cause);
+    line
+}
+
+/// The line of a game that needs a table whose file is refused: its number, and the file's name and fault.
+pub(crate) fn refused_line(number: u64, refusal: &FileRefusal) -> LineWords
+    ensures { result ≡ refused_game_words number refusal.now }
+{
+    let mut line = LineWords::new();
+    line.add_number(number);
+    line.add(" refused ");
+    line.add(refusal.name.as_str());
+    line.add(" ");
+    line.add(refusal.fault.name());
     line
 }
 

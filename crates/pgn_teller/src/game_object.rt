@@ -1,12 +1,12 @@
 //! The lines of games as JSON objects (RFC 8259).
 
-ghost use Rattle.std.specs.Prelude.{◌≡◌, IfOk, OnOk, Option, List, ℕ, option_map, string_bytes};
+ghost use Rattle.std.specs.Prelude.{◌≡◌, ◌++◌, IfOk, OnOk, Option, List, ℕ, codes, option_map, string_bytes};
 ghost use Rattle.std.specs.Io.KnownBytes.{Appends};
 ghost use Rattle.json.specs.Json.{object, string};
 ghost use Rattle.json_lines.specs.Members.{value_json};
 ghost use Rattle.json_lines.specs.Objects.{json_text};
 ghost use Rattle.pgn_games.specs.Shown.{game_of, texts_of};
-ghost use Rattle.pgn_teller.specs.GameObjects.{cause_json, unread_game_members, finding_or_null, game_members, lossy, moves_text, ply_or_null, result_or_null, sums_members, text_or_null, ruled_verdict_or_null, with_move};
+ghost use Rattle.pgn_teller.specs.GameObjects.{cause_json, unread_game_members, finding_or_null, game_members, lossy, refused_game_members, moves_text, ply_or_null, result_or_null, sums_members, text_or_null, ruled_verdict_or_null, with_move};
 ghost use Rattle.pgn_teller.specs.Inside.Texts.{AreTextsOf};
 
 use crate::finding::{Finding, result_word};
@@ -20,6 +20,7 @@ use pgn_games::{Cause, Game, GameFault, GameResult, Tags};
 use std::alloc::{AllocError, Global};
 use std::io::Write;
 use system_io::WriteFault;
+use table_folder::FileRefusal;
 
 /// The texts of a game's object.
 #[derive(Drop)]
@@ -201,6 +202,34 @@ pub(crate) fn put_fault<W: Write>(
         member("error", cause_of(fault.cause)),
         member("at", Value::Count(fault.at)),
         member("ply", Value::Count(fault.plies as u64)),
+    ];
+    put_object(out, &members)
+}
+
+/// The name of a file and a space behind it.
+fn name_of(refusal: &FileRefusal) -> ArrayString<32>
+    ensures { result.bytes ≡ refusal.now.name.bytes ++ codes " " }
+{
+    let mut name = ArrayString::new();
+    name.push_str(refusal.name.as_str());
+    name.push_str(" ");
+    name
+}
+
+/// Writes the object of a game that begins on this line of the file and needs a table whose file is refused.
+pub(crate) fn put_refused<W: Write>(
+    out: &mut W,
+    number: u64,
+    line: u64,
+    refusal: &FileRefusal,
+) -> Result<(), WriteFault>
+    ensures { OnOk result (Appends (W.contents out.old) (W.contents out.new) (json_text (object (refused_game_members number line refusal.now)))) }
+{
+    let name = name_of(refusal);
+    let members = [
+        member("game", Value::Count(number)),
+        member("line", Value::Count(line)),
+        member("error", Value::Words(name.as_str(), refusal.fault.name())),
     ];
     put_object(out, &members)
 }

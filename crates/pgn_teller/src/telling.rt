@@ -9,30 +9,27 @@ ghost use Rattle.pgn_games.specs.Shown.{game_of, reading_of};
 ghost use Rattle.pgn_games.specs.Reading.{input_of, tokens_left};
 ghost use Rattle.pgn_teller.specs.Inside.Steps.{CutsNext, CutsReading, IsTextOf, TellsNext, TellsReading};
 ghost use Rattle.pgn_games.specs.Games.{GameRead};
-ghost use Rattle.pgn_teller.specs.Tellings.{CutsPgn, CutsSums, TellsPgn, TellsSums, differs, is_written, pgn_line, pgn_fault_line, pgn_sums_line, counted_as, terms_of};
+ghost use Rattle.pgn_teller.specs.Tellings.{CutsPgn, CutsSums, TellsPgn, TellsSums, differs, is_written, pgn_line, pgn_fault_line, pgn_refused_line, pgn_sums_line, counted_as, terms_of};
 
 use crate::finding::Finding;
-use crate::game_line::{Form, fault_line, game_line, sums_line};
-use crate::game_object::{Texts, put_fault, put_game, put_sums};
-use crate::rating::{Ruled, rule};
+use crate::game_line::{Form, fault_line, game_line, refused_line, sums_line};
+use crate::game_object::{Texts, put_fault, put_game, put_refused, put_sums};
+use crate::rating::{GameRuler, Ruled};
 use crate::sums::{Mark, Sums, one_more};
-use board_core::Delay;
-use judge_core::Set;
 use line_teller::{LineWords, TellFault, tell_cut};
 use pgn_games::{Game, GameFault, GameResult, PgnReader, Reading};
 use std::alloc::{AllocError, Global};
 use std::io::Write;
 use system_io::{LineReader, Output, ReadFault, WriteFault};
+use table_folder::FileRefusal;
 
-/// Tells games by tables, and counts them.
+/// Tells games as they are ruled, and counts them.
 #[derive(Drop)]
-pub struct GameTeller<'a> {
+pub struct GameTeller<R> {
     /// The allocator.
     pub alloc: Global,
-    /// The tables.
-    pub set: Set<'a>,
-    /// For how many further plies a verdict by tables must hold.
-    pub delay: Delay,
+    /// What rules the games.
+    pub ruler: R,
     /// How lines are written.
     pub form: Form,
     /// Whether only games are told whose result is another one than the verdict's.
@@ -111,6 +108,24 @@ fn object_of_fault(alloc: Global, number: u64, fault: &GameFault) -> Result<Vec<
     Ok(text)
 }
 
+/// The object of a game that needs a table whose file is refused, with a line feed.
+fn object_of_refused(
+    alloc: Global,
+    number: u64,
+    line: u64,
+    refusal: &FileRefusal,
+) -> Result<Vec<u8>, AllocError>
+    ensures { IfOk result (λ text. text.items ≡ ended (pgn_refused_line Form.Json number line refusal.now)) }
+{
+    let mut text = Vec::new(alloc);
+    match put_refused(&mut text, number, line, refusal) {
+        Ok(()) => {}
+        Err(_) => return Err(AllocError),
+    }
+    text.push(b'\n')?;
+    Ok(text)
+}
+
 /// The object of the sums, with a line feed.
 fn object_of_sums(alloc: Global, sums: &Sums) -> Result<Vec<u8>, AllocError>
     ensures { IfOk result (λ text. text.items ≡ ended (pgn_sums_line Form.Json sums.now)) }
@@ -144,7 +159,7 @@ fn differs(mark: Mark) -> bool
     }
 }
 
-impl<'a> GameTeller<'a> {
+impl<R: GameRuler> GameTeller<R> {
     /// The line of a game.
     fn text_of_game(
         &self,
@@ -173,23 +188,48 @@ impl<'a> GameTeller<'a> {
         }
     }
 
+    /// The line of a game that begins on this line of the file and needs a table whose file is refused.
+    fn text_of_refused(
+        &self,
+        number: u64,
+        line: u64,
+        refusal: &FileRefusal,
+    ) -> Result<Vec<u8>, AllocError>
+        ensures { IfOk result (λ text. text.items ≡ ended (pgn_refused_line self.now.form number line refusal.now)) }
+    {
+        match self.form {
+            Form::Words => text_of(self.alloc, refused_line(number, refusal)),
+            Form::Json => object_of_refused(self.alloc, number, line, refusal),
+        }
+    }
+
     /// The line of a game that is read.
     fn judged(&mut self, number: u64, game: &Game) -> Result<GameText, AllocError>
-        ensures line { IfOk result (IsTextOf (terms_of self.old) number (GameRead (game_of game.now))) }
-        ensures set { self.new.set ≡ self.old.set }
-        ensures rest { (self.new.sums ≡ self.old.sums) × (self.new.delay ≡ self.old.delay) × (self.new.form ≡ self.old.form) × (self.new.only_differing ≡ self.old.only_differing) }
+        ensures line { IfOk result (IsTextOf (R.rules self.old.ruler) (terms_of self.old) number (GameRead (game_of game.now))) }
+        ensures ruler { self.new.ruler ≡ self.old.ruler }
+        ensures rest { (self.new.sums ≡ self.old.sums) × (self.new.form ≡ self.old.form) × (self.new.only_differing ≡ self.old.only_differing) }
     {
-        let ruled = rule(self.alloc, &mut self.set, self.delay, game)?;
-        let text = self.text_of_game(number, game, ruled)?;
-        let mark = counted_as(ruled, game.result);
-        Ok(GameText { text, mark })
+        match self.ruler.rule(self.alloc, game)? {
+            Ok(ruled) => {
+                let text = self.text_of_game(number, game, ruled)?;
+                let mark = counted_as(ruled, game.result);
+                Ok(GameText { text, mark })
+            }
+            Err(refusal) => {
+                let text = self.text_of_refused(number, game.line, &refusal)?;
+                Ok(GameText {
+                    text,
+                    mark: Mark::AtFault,
+                })
+            }
+        }
     }
 
     /// The line of a game that is read, or isn't.
     fn text_of_reading(&mut self, number: u64, reading: &Reading) -> Result<GameText, AllocError>
-        ensures line { IfOk result (IsTextOf (terms_of self.old) number (reading_of reading.now)) }
-        ensures set { self.new.set ≡ self.old.set }
-        ensures rest { (self.new.sums ≡ self.old.sums) × (self.new.delay ≡ self.old.delay) × (self.new.form ≡ self.old.form) × (self.new.only_differing ≡ self.old.only_differing) }
+        ensures line { IfOk result (IsTextOf (R.rules self.old.ruler) (terms_of self.old) number (reading_of reading.now)) }
+        ensures ruler { self.new.ruler ≡ self.old.ruler }
+        ensures rest { (self.new.sums ≡ self.old.sums) × (self.new.form ≡ self.old.form) × (self.new.only_differing ≡ self.old.only_differing) }
     {
         match reading {
             Reading::Game(game) => self.judged(number, game),
@@ -227,10 +267,11 @@ impl<'a> GameTeller<'a> {
         reading: &Reading,
         out: &mut W,
     ) -> Result<Step, WriteFault>
-        ensures told { IfOk result (TellsReading (terms_of self.old) self.old.sums (reading_of reading.now) self.new.sums (W.contents out.old) (W.contents out.new)) }
-        ensures front { OnErr result (CutsReading (terms_of self.old) self.old.sums (reading_of reading.now) (W.contents out.old) (W.contents out.new)) }
+        ensures told { IfOk result (TellsReading (R.rules self.old.ruler) (terms_of self.old) self.old.sums (reading_of reading.now) self.new.sums (W.contents out.old) (W.contents out.new)) }
+        ensures front { OnErr result (CutsReading (R.rules self.old.ruler) (terms_of self.old) self.old.sums (reading_of reading.now) (W.contents out.old) (W.contents out.new)) }
         ensures cause { OnErr result (HasFailed W.facts) }
         ensures same { terms_of self.new ≡ terms_of self.old }
+        ensures ruler { self.new.ruler ≡ self.old.ruler }
         ensures gone { IfOk result (λ step. step ≡ Step.Told → (W.facts out.old).gone → (W.facts out.new).gone) }
     {
         let number = one_more(self.sums.games);
@@ -250,10 +291,11 @@ impl<'a> GameTeller<'a> {
     ) -> Result<Step, WriteFault>
         // No line is awaited before what was told has gone out.
         requires { (W.facts out.old).gone }
-        ensures told { IfOk result (λ step. IfSome (tokens_left (λ l. (L.LineReader.facts l).left) reader.old) (λ tokens. TellsNext (terms_of self.old) self.old.sums (L.LineReader.facts (input_of reader.old)).fails tokens self.new.sums (tokens_left (λ l. (L.LineReader.facts l).left) reader.new) (W.contents out.old) (W.contents out.new) step)) }
-        ensures front { OnErr result (IfSome (tokens_left (λ l. (L.LineReader.facts l).left) reader.old) (λ tokens. CutsNext (terms_of self.old) self.old.sums (L.LineReader.facts (input_of reader.old)).fails tokens (W.contents out.old) (W.contents out.new))) }
+        ensures told { IfOk result (λ step. IfSome (tokens_left (λ l. (L.LineReader.facts l).left) reader.old) (λ tokens. TellsNext (R.rules self.old.ruler) (terms_of self.old) self.old.sums (L.LineReader.facts (input_of reader.old)).fails tokens self.new.sums (tokens_left (λ l. (L.LineReader.facts l).left) reader.new) (W.contents out.old) (W.contents out.new) step)) }
+        ensures front { OnErr result (IfSome (tokens_left (λ l. (L.LineReader.facts l).left) reader.old) (λ tokens. CutsNext (R.rules self.old.ruler) (terms_of self.old) self.old.sums (L.LineReader.facts (input_of reader.old)).fails tokens (W.contents out.old) (W.contents out.new))) }
         ensures cause { OnErr result (HasFailed W.facts) }
         ensures same { terms_of self.new ≡ terms_of self.old }
+        ensures ruler { self.new.ruler ≡ self.old.ruler }
         ensures gone { IfOk result (λ step. step ≡ Step.Told → (W.facts out.new).gone) }
         ensures reader { (L.LineReader.facts (input_of reader.new)).fails → (L.LineReader.facts (input_of reader.old)).fails }
     {
@@ -271,10 +313,11 @@ impl<'a> GameTeller<'a> {
         out: &mut W,
     ) -> Result<Telling, WriteFault>
         requires { (W.facts out.old).gone }
-        ensures told { IfOk result (λ how. IfSome (tokens_left (λ l. (L.LineReader.facts l).left) reader.old) (λ tokens. TellsPgn (terms_of self.old) self.old.sums (L.LineReader.facts (input_of reader.old)).fails tokens self.new.sums (W.contents out.old) (W.contents out.new) how)) }
-        ensures front { OnErr result (IfSome (tokens_left (λ l. (L.LineReader.facts l).left) reader.old) (λ tokens. CutsPgn (terms_of self.old) self.old.sums (L.LineReader.facts (input_of reader.old)).fails tokens (W.contents out.old) (W.contents out.new))) }
+        ensures told { IfOk result (λ how. IfSome (tokens_left (λ l. (L.LineReader.facts l).left) reader.old) (λ tokens. TellsPgn (R.rules self.old.ruler) (terms_of self.old) self.old.sums (L.LineReader.facts (input_of reader.old)).fails tokens self.new.sums (W.contents out.old) (W.contents out.new) how)) }
+        ensures front { OnErr result (IfSome (tokens_left (λ l. (L.LineReader.facts l).left) reader.old) (λ tokens. CutsPgn (R.rules self.old.ruler) (terms_of self.old) self.old.sums (L.LineReader.facts (input_of reader.old)).fails tokens (W.contents out.old) (W.contents out.new))) }
         ensures cause { OnErr result (HasFailed W.facts) }
         ensures same { terms_of self.new ≡ terms_of self.old }
+        ensures ruler { self.new.ruler ≡ self.old.ruler }
     {
         for _ in 0..u64::MAX {
             match self.tell_next(reader, out) {
@@ -300,10 +343,11 @@ impl<'a> GameTeller<'a> {
         reader: &mut PgnReader<L>,
         out: &mut W,
     ) -> Result<Telling, WriteFault>
-        ensures told { IfOk result (λ how. IfSome (tokens_left (λ l. (L.LineReader.facts l).left) reader.old) (λ tokens. TellsPgn (terms_of self.old) self.old.sums (L.LineReader.facts (input_of reader.old)).fails tokens self.new.sums (W.contents out.old) (W.contents out.new) how)) }
-        ensures front { OnErr result (IfSome (tokens_left (λ l. (L.LineReader.facts l).left) reader.old) (λ tokens. CutsPgn (terms_of self.old) self.old.sums (L.LineReader.facts (input_of reader.old)).fails tokens (W.contents out.old) (W.contents out.new))) }
+        ensures told { IfOk result (λ how. IfSome (tokens_left (λ l. (L.LineReader.facts l).left) reader.old) (λ tokens. TellsPgn (R.rules self.old.ruler) (terms_of self.old) self.old.sums (L.LineReader.facts (input_of reader.old)).fails tokens self.new.sums (W.contents out.old) (W.contents out.new) how)) }
+        ensures front { OnErr result (IfSome (tokens_left (λ l. (L.LineReader.facts l).left) reader.old) (λ tokens. CutsPgn (R.rules self.old.ruler) (terms_of self.old) self.old.sums (L.LineReader.facts (input_of reader.old)).fails tokens (W.contents out.old) (W.contents out.new))) }
         ensures cause { OnErr result (HasFailed W.facts) }
         ensures same { terms_of self.new ≡ terms_of self.old }
+        ensures ruler { self.new.ruler ≡ self.old.ruler }
     {
         match out.flush_all() {
             Ok(()) => self.tell_each(reader, out),

@@ -20,7 +20,8 @@ use Rattle.judge_core.specs.Probing.{wdl_of}
 use Rattle.judge_core.specs.Ruling.{is_out_of_scope}
 use Rattle.judge_core.specs.Tables.{Tables, table_at}
 use Rattle.table_folder.specs.Folders.{AreOf, Folder}
-use Rattle.table_folder.specs.Laws.{IsWhole, SettledIsAsWhole, WholeIsOne}
+use Rattle.table_folder.specs.Laws.{AnswersAlike, IsWhole, SettledIsAsWhole, WholeIsOne}
+use Rattle.table_folder.specs.Settled.{IsSettled}
 use Rattle.table_folder.proofs.Staying.{final_distance, final_value, there_or_not}
 
 -- ---- the whole folder has each table that is open
@@ -93,31 +94,32 @@ probed_alike tables whole p probed value distance h = record {
   told = h.told;
 }
 
-pub as_whole : MoreTablesAnswerTheSame → WhatIsMissingStaysMissing → (disk : DiskFacts) → SettledIsAsWhole disk
-as_whole same missing disk folder tables whole p are all settled = record {
+-- where no table of the folder is missing, more tables of it change nothing
+pub as_more : MoreTablesAnswerTheSame → WhatIsMissingStaysMissing → (disk : DiskFacts) (folder : Folder) (tables more : Tables) (p : Parts) → AreOf disk folder more → HasAll tables more → IsSettled folder tables p → AnswersAlike tables more p
+as_more same missing disk folder tables more p opened kept settled = record {
   value = value;
   distance = distance;
   verdict = answers.verdict (record {
     value = λ left in_scope. value_final in_scope;
     distance = λ left in_scope decisive. distance_final in_scope;
   });
-  probed = λ probed h. probed_alike tables whole p probed value distance h;
+  probed = λ probed h. probed_alike tables more p probed value distance h;
 }
   where
-    more : HasAll tables whole
-    more = has_all disk folder tables whole are all
+    answers : AnswersTheSame tables more p
+    answers = same tables more p kept
 
-    answers : AnswersTheSame tables whole p
-    answers = same tables whole p more
+    value_final : is_out_of_scope p ≡ false → IsFinalValue tables more (not_covered (wdl_of tables p))
+    value_final in_scope = final_value missing disk folder tables more p in_scope opened settled
 
-    value_final : is_out_of_scope p ≡ false → IsFinalValue tables whole (not_covered (wdl_of tables p))
-    value_final in_scope = final_value missing disk folder tables whole p in_scope all.opened settled
+    distance_final : is_out_of_scope p ≡ false → IsFinalDistance tables more (not_covered (dtz_of tables p))
+    distance_final in_scope = final_distance missing disk folder tables more p in_scope kept opened settled
 
-    distance_final : is_out_of_scope p ≡ false → IsFinalDistance tables whole (not_covered (dtz_of tables p))
-    distance_final in_scope = final_distance missing disk folder tables whole p in_scope more all.opened settled
-
-    value : is_out_of_scope p ≡ false → wdl_of whole p ≡ wdl_of tables p
+    value : is_out_of_scope p ≡ false → wdl_of more p ≡ wdl_of tables p
     value in_scope = answers.value (value_final in_scope)
 
-    distance : is_out_of_scope p ≡ false → dtz_of whole p ≡ dtz_of tables p
+    distance : is_out_of_scope p ≡ false → dtz_of more p ≡ dtz_of tables p
     distance in_scope = answers.distance (distance_final in_scope)
+
+pub as_whole : MoreTablesAnswerTheSame → WhatIsMissingStaysMissing → (disk : DiskFacts) → SettledIsAsWhole disk
+as_whole same missing disk folder tables whole p are all settled = as_more same missing disk folder tables whole p all.opened (has_all disk folder tables whole are all) settled

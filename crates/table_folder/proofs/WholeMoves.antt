@@ -16,14 +16,17 @@ use Rattle.system_io.specs.Disks.{DiskFacts}
 use Rattle.judge_core.specs.declared.root_move.RootMove.{RootMove}
 use Rattle.judge_core.specs.Distances.{Reach, dtz_of}
 use Rattle.judge_core.specs.Games.{position_after_all}
-use Rattle.judge_core.specs.MoreTables.{GamesDependOnRulings, MoreTablesAnswerTheSame, WhatIsMissingStaysMissing}
+use Rattle.judge_core.specs.MoreTables.{GamesDependOnRulings, HasAll, MoreTablesAnswerTheSame, WhatIsMissingStaysMissing}
 use Rattle.judge_core.specs.Probing.{wdl_of}
 use Rattle.judge_core.specs.Root.{move_rank, rank_cmp, root_move_at, root_move_by, root_moves, root_moves_by}
 use Rattle.judge_core.specs.Ruling.{is_out_of_scope, ruling}
 use Rattle.judge_core.specs.Values.{Reading}
-use Rattle.table_folder.specs.Laws.{SettledGamesAreAsWhole, SettledMovesAreAsWhole}
-use Rattle.table_folder.specs.Settled.{IsPly}
-use Rattle.table_folder.proofs.Whole.{as_whole}
+use Rattle.judge_core.specs.Tables.{Tables}
+use Rattle.table_folder.specs.Folders.{AreOf, Folder}
+use Rattle.table_folder.specs.Laws.{JudgesAlike, SettledGamesAreAsWhole, SettledGamesStay, SettledMovesAreAsWhole}
+use Rattle.table_folder.specs.Settled.{AreSettled, IsPly}
+use Rattle.table_folder.proofs.Staying.{stays_settled}
+use Rattle.table_folder.proofs.Whole.{as_more, as_whole, has_all}
 
 -- ---- a legal move stays in scope
 
@@ -118,12 +121,20 @@ is_ply (suc n) (m ∷ moves) start p e = by_position (position_after start m) re
     by_position None plays rest none = let nothing = sym (no_position (take n moves)) ∙ none in absurd cc
     by_position (Some next) plays rest there = inr (next, plays, rest next there)
 
-pub games_as_whole : GamesDependOnRulings → MoreTablesAnswerTheSame → WhatIsMissingStaysMissing → (disk : DiskFacts) → SettledGamesAreAsWhole disk
-games_as_whole depend more missing disk folder tables whole start moves delay are all settled =
-    let alike = depend (record { start = start; tables = tables; delay = delay }) whole moves in record {
+-- where no table of the folder is missing at any ply, more tables of it change nothing
+pub games_as_more : GamesDependOnRulings → MoreTablesAnswerTheSame → WhatIsMissingStaysMissing → (disk : DiskFacts) (folder : Folder) (tables more : Tables) (start : Parts) (moves : List Move) (delay : ℕ) → AreOf disk folder more → HasAll tables more → AreSettled folder tables (IsPly start moves) → JudgesAlike tables more start moves delay
+games_as_more depend same missing disk folder tables more start moves delay opened kept settled =
+    let alike = depend (record { start = start; tables = tables; delay = delay }) more moves in record {
       outcome = λ outcome. alike.0 outcome (λ ply p le plays. ruled ply p plays);
       standing = λ s. alike.1 s (λ ply p le plays. ruled ply p plays);
     }
   where
-    ruled : (ply : ℕ) (p : Parts) → position_after_all start (take ply moves) ≡ Some p → ruling whole p ≡ ruling tables p
-    ruled ply p plays = (as_whole more missing disk folder tables whole p are all (settled p (is_ply ply moves start p plays))).verdict
+    ruled : (ply : ℕ) (p : Parts) → position_after_all start (take ply moves) ≡ Some p → ruling more p ≡ ruling tables p
+    ruled ply p plays = (as_more same missing disk folder tables more p opened kept (settled p (is_ply ply moves start p plays))).verdict
+
+pub games_as_whole : GamesDependOnRulings → MoreTablesAnswerTheSame → WhatIsMissingStaysMissing → (disk : DiskFacts) → SettledGamesAreAsWhole disk
+games_as_whole depend same missing disk folder tables whole start moves delay are all settled = games_as_more depend same missing disk folder tables whole start moves delay all.opened (has_all disk folder tables whole are all) settled
+
+pub games_stay : GamesDependOnRulings → MoreTablesAnswerTheSame → WhatIsMissingStaysMissing → (disk : DiskFacts) → SettledGamesStay disk
+games_stay depend same missing disk folder tables more start moves are opened kept settled =
+    (λ delay. games_as_more depend same missing disk folder tables more start moves delay opened kept settled, λ p ply. stays_settled same missing disk folder tables more p kept opened (settled p ply))

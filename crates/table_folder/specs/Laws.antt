@@ -13,6 +13,7 @@ use Rattle.judge_core.specs.declared.probe_result.ProbeResult.{ProbeResult}
 use Rattle.judge_core.specs.declared.root_move.RootMove.{RootMove}
 use Rattle.judge_core.specs.Distances.{dtz_of}
 use Rattle.judge_core.specs.Games.{IsOutcome}
+use Rattle.judge_core.specs.MoreTables.{HasAll}
 use Rattle.judge_core.specs.ProbeResult.{IsProbed}
 use Rattle.judge_core.specs.Probing.{wdl_of}
 use Rattle.judge_core.specs.Root.{IsRoot}
@@ -75,6 +76,13 @@ abbrev pub SettledGamesAreAsWhole : DiskFacts → Type 0
 SettledGamesAreAsWhole disk =
     (folder : Folder) (tables whole : Tables) (start : Parts) (moves : List Move) (delay : ℕ) → AreOf disk folder tables → IsWhole disk folder whole
     → AreSettled folder tables (IsPly start moves) → JudgesAlike tables whole start moves delay
+
+-- A game at whose plies no table of the folder is missing comes to the same, and stands the same, when more tables of the folder are there;
+-- and none is missing then.
+abbrev pub SettledGamesStay : DiskFacts → Type 0
+SettledGamesStay disk =
+    (folder : Folder) (tables more : Tables) (start : Parts) (moves : List Move) → AreOf disk folder tables → AreOf disk folder more → HasAll tables more
+    → AreSettled folder tables (IsPly start moves) → ((delay : ℕ) → JudgesAlike tables more start moves delay) × AreSettled folder more (IsPly start moves)
 
 -- ---- refusals
 

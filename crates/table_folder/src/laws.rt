@@ -1,7 +1,8 @@
 //! Laws over the definitions of specs/, for proofs above: each function carries one law, over any disk, and does nothing.
 
-ghost use Rattle.table_folder.specs.Laws.{RefusedIsNeeded, SettledGamesAreAsWhole, SettledIsAsWhole, SettledMovesAreAsWhole, WholeIsOne, WholeIsThere};
+ghost use Rattle.table_folder.specs.Laws.{RefusedIsNeeded, SettledGamesAreAsWhole, SettledGamesStay, SettledIsAsWhole, SettledMovesAreAsWhole, WholeIsOne, WholeIsThere};
 
+use crate::folder::TableFolder;
 use board_core::laws::{
     capture_takes_one_man, other_move_keeps_the_men, position_after_is_computed,
 };
@@ -45,6 +46,16 @@ pub fn settled_moves_are_as_whole<D: Disk>(_disk: &D)
 /// folder.
 pub fn settled_games_are_as_whole<D: Disk>(_disk: &D)
     ensures { SettledGamesAreAsWhole (D.facts _disk.now) }
+{
+    games_depend_on_rulings();
+    more_tables_answer_the_same();
+    what_is_missing_stays_missing();
+}
+
+/// Where the positions of a game miss no table of the folder, its outcome, and where it stands, stay when more tables of the folder are
+/// opened; and then its positions miss none.
+pub fn settled_games_stay<D: Disk>(_folder: &TableFolder<'_, D>)
+    ensures { SettledGamesStay (D.facts _folder.now.disk) }
 {
     games_depend_on_rulings();
     more_tables_answer_the_same();

@@ -1,8 +1,10 @@
--- `pgn --tables DIR [--manifest FILE] [--delay N] [--json] [--differ] [FILE]`: what tables say of the games of a PGN file (this project's own).
-use Rattle.std.specs.Prelude.{◌≡◌, ◌⊎◌, ℕ, Bool, true, false, List, [], ◌∷◌, Option, Some, None, IfSome, IsSome, Result, Ok, Err, codes, option_map}
+-- `pgn --tables DIR [--manifest FILE] [--all-tables] [--delay N] [--json] [--differ] [FILE]`: what tables say of the games of a PGN file (this project's own).
+use Rattle.std.specs.Prelude.{◌≡◌, ◌⊎◌, not, ℕ, Bool, true, false, List, [], ◌∷◌, Option, Some, None, IfSome, IsSome, Result, Ok, Err, codes, option_map}
 use Rattle.judge_core.specs.Tables.{Tables}
 use Rattle.line_teller.specs.ToldLines.{refused_files, refused_memory}
+use Rattle.pgn_games.specs.Games.{GameTold}
 use Rattle.pgn_games.specs.Tokens.{tokens_of}
+use Rattle.pgn_teller.specs.Ratings.{IsFirstRuled, IsRulingBy, RulingTold}
 use Rattle.pgn_teller.specs.declared.sums.Sums.{Sums}
 use Rattle.pgn_teller.specs.declared.telling.Telling.TheVariants.{CutShort, Whole}
 use Rattle.pgn_teller.specs.Tellings.{CutsPgn, CutsSums, TellsPgn, TellsSums, Terms, no_sums}
@@ -11,7 +13,11 @@ use Rattle.system_io.specs.declared.reading.ReadFault.{ReadFault}
 use Rattle.system_io.specs.declared.reading.ReadFault.TheVariants as read
 use Rattle.system_io.specs.Disks.{AtFile, DiskFacts}
 use Rattle.system_io.specs.Inputs.{InputFacts}
+use Rattle.std.specs.Borrow.{Bor}
+use Rattle.table_folder.specs.Folders.{Folder}
+use Rattle.table_folder.specs.Settled.{IsPly}
 use Rattle.task_files.specs.Given.{Given}
+use Rattle.adjudicate_core.specs.FolderAnswers.{Finds, PutsInFolder, read_at_once, read_when_asked}
 use Rattle.adjudicate_core.specs.Looks.{gathered}
 use Rattle.adjudicate_core.specs.Reply.{status_if}
 use Rattle.adjudicate_core.specs.Telling.{TellsOne}
@@ -30,6 +36,7 @@ abbrev pub rules : List Rule
 rules =
     rule_of_form form.Option (codes "tables")
     ∷ rule_of_form form.Option (codes "manifest")
+    ∷ rule_of_form form.Flag (codes "all-tables")
     ∷ rule_of_form form.Option (codes "delay")
     ∷ rule_of_form form.Flag (codes "json")
     ∷ rule_of_form form.Flag (codes "differ")
@@ -39,7 +46,7 @@ rules =
 abbrev pub HasValues : (Text → Option Text) → JudgePgn → Type 0
 HasValues value t =
     (Some t.tables.now ≡ value (codes "tables")) × (option_map (λ s. s.now) t.manifest ≡ value (codes "manifest"))
-    × IsDelay (value (codes "delay")) t.delay × (t.json ≡ is_set (value (codes "json"))) × (t.differ ≡ is_set (value (codes "differ")))
+    × (t.all_tables ≡ is_set (value (codes "all-tables"))) × IsDelay (value (codes "delay")) t.delay × (t.json ≡ is_set (value (codes "json"))) × (t.differ ≡ is_set (value (codes "differ")))
     × (option_map (λ s. s.now) t.file ≡ value (codes "FILE"))
 
 -- what may be wrong with its values, in the order in which it is told
@@ -48,15 +55,15 @@ faults = NoOption (codes "tables") ∷ Unfit wanted.Delay ∷ []
 
 -- what is read for it before it answers: not its games, since they are read as they come
 abbrev pub named : JudgePgn → Named
-named t = record { folder = Some t.tables.now; manifest = option_map (λ s. s.now) t.manifest; input = false; kept = None; other_kept = None }
+named t = record { folder = option_map (λ s. s.now) (read_at_once (not t.all_tables) (Some t.tables)); manifest = option_map (λ s. s.now) t.manifest; input = false; kept = None; other_kept = None }
 
 abbrev pub form_by : Bool → Form
 form_by true = Json
 form_by false = Words
 
--- by what its games are told
-abbrev pub terms_by : JudgePgn → Tables → Terms
-terms_by t tables = record { tables = tables; delay = t.delay; form = form_by t.json; only_differing = t.differ }
+-- how its games are told
+abbrev pub terms_by : JudgePgn → Terms
+terms_by t = record { form = form_by t.json; only_differing = t.differ }
 
 -- why a file isn't read
 abbrev pub unread_words : ReadFault → List ℕ
@@ -65,34 +72,52 @@ unread_words read.OutOfMemory = refused_memory
 
 -- Of bytes, where they are known, the games were told and then the sums; or the games until no more could be read, which may be where reading
 -- fails, or told; or the writer failed at a game, or at the sums.
-pub data PutsPgn (terms : Terms) (s : Sums) (Fails : Type 0) (bytes old new : Option (List ℕ)) (r : Result ℕ WriteFault) : Type 0 where
-  PutsAll : (now : Sums) (mid : Option (List ℕ)) (well : Bool) → IfSome bytes (λ known. TellsPgn terms s Fails (tokens_of known) now old mid Whole) → TellsSums terms.form now mid new well → r ≡ Ok (status_if well) → PutsPgn terms s Fails bytes old new r
-  PutsSome : (now : Sums) → IfSome bytes (λ known. TellsPgn terms s Fails (tokens_of known) now old new CutShort) → r ≡ Ok 1 → PutsPgn terms s Fails bytes old new r
-  FailsAtGame : (fault : WriteFault) → IfSome bytes (λ known. CutsPgn terms s Fails (tokens_of known) old new) → r ≡ Err fault → PutsPgn terms s Fails bytes old new r
-  FailsAtSums : (now : Sums) (mid : Option (List ℕ)) (fault : WriteFault) → IfSome bytes (λ known. TellsPgn terms s Fails (tokens_of known) now old mid Whole) → CutsSums terms.form now mid new → r ≡ Err fault → PutsPgn terms s Fails bytes old new r
+pub data PutsPgn (IsRuling : GameTold → RulingTold → Type 0) (terms : Terms) (s : Sums) (Fails : Type 0) (bytes old new : Option (List ℕ)) (r : Result ℕ WriteFault) : Type 0 where
+  PutsAll : (now : Sums) (mid : Option (List ℕ)) (well : Bool) → IfSome bytes (λ known. TellsPgn IsRuling terms s Fails (tokens_of known) now old mid Whole) → TellsSums terms.form now mid new well → r ≡ Ok (status_if well) → PutsPgn IsRuling terms s Fails bytes old new r
+  PutsSome : (now : Sums) → IfSome bytes (λ known. TellsPgn IsRuling terms s Fails (tokens_of known) now old new CutShort) → r ≡ Ok 1 → PutsPgn IsRuling terms s Fails bytes old new r
+  FailsAtGame : (fault : WriteFault) → IfSome bytes (λ known. CutsPgn IsRuling terms s Fails (tokens_of known) old new) → r ≡ Err fault → PutsPgn IsRuling terms s Fails bytes old new r
+  FailsAtSums : (now : Sums) (mid : Option (List ℕ)) (fault : WriteFault) → IfSome bytes (λ known. TellsPgn IsRuling terms s Fails (tokens_of known) now old mid Whole) → CutsSums terms.form now mid new → r ≡ Err fault → PutsPgn IsRuling terms s Fails bytes old new r
 
 -- so it is of the bytes of a file, which are known of a disk whose contents are stated; or it can't be read; or memory for reading it was
 -- refused, or no descriptor was left
-pub data PutsFile (terms : Terms) (s : Sums) (disk : DiskFacts) (path : List ℕ) (old new : Option (List ℕ)) (r : Result ℕ WriteFault) : Type 0 where
-  OfFile : (bytes : Option (List ℕ)) → IfSome bytes (disk.holds path) → (disk.is_told ≡ true → IsSome bytes) → PutsPgn terms s (disk.fails (AtFile path)) bytes old new r → PutsFile terms s disk path old new r
-  OfNone : disk.fails (AtFile path) → TellsOne refused_files old new r → PutsFile terms s disk path old new r
-  NoRoomForFile : TellsOne refused_memory old new r → PutsFile terms s disk path old new r
+pub data PutsFile (IsRuling : GameTold → RulingTold → Type 0) (terms : Terms) (s : Sums) (disk : DiskFacts) (path : List ℕ) (old new : Option (List ℕ)) (r : Result ℕ WriteFault) : Type 0 where
+  OfFile : (bytes : Option (List ℕ)) → IfSome bytes (disk.holds path) → (disk.is_told ≡ true → IsSome bytes) → PutsPgn IsRuling terms s (disk.fails (AtFile path)) bytes old new r → PutsFile IsRuling terms s disk path old new r
+  OfNone : disk.fails (AtFile path) → TellsOne refused_files old new r → PutsFile IsRuling terms s disk path old new r
+  NoRoomForFile : TellsOne refused_memory old new r → PutsFile IsRuling terms s disk path old new r
 
 -- so it is of the bytes of the input, which are known of one whose bytes are stated and that doesn't fail; or memory for reading it was refused
-pub data PutsInput (terms : Terms) (s : Sums) (source : InputFacts) (old new : Option (List ℕ)) (r : Result ℕ WriteFault) : Type 0 where
-  OfInput : (bytes : Option (List ℕ)) → IfSome bytes source.gives → (source.is_told ≡ true → source.fails ⊎ IsSome bytes) → PutsPgn terms s source.fails bytes old new r → PutsInput terms s source old new r
-  NoRoomForInput : source.takes_memory → TellsOne refused_memory old new r → PutsInput terms s source old new r
+pub data PutsInput (IsRuling : GameTold → RulingTold → Type 0) (terms : Terms) (s : Sums) (source : InputFacts) (old new : Option (List ℕ)) (r : Result ℕ WriteFault) : Type 0 where
+  OfInput : (bytes : Option (List ℕ)) → IfSome bytes source.gives → (source.is_told ≡ true → source.fails ⊎ IsSome bytes) → PutsPgn IsRuling terms s source.fails bytes old new r → PutsInput IsRuling terms s source old new r
+  NoRoomForInput : source.takes_memory → TellsOne refused_memory old new r → PutsInput IsRuling terms s source old new r
 
 -- the games of the file that is named, or else of the input
-abbrev pub PutsFrom : DiskFacts → InputFacts → Terms → Option (List ℕ) → Option (List ℕ) → Option (List ℕ) → Result ℕ WriteFault → Type 0
-PutsFrom disk source terms None old new r = PutsInput terms no_sums source old new r
-PutsFrom disk source terms (Some path) old new r = PutsFile terms no_sums disk path old new r
+abbrev pub PutsFrom : DiskFacts → InputFacts → (GameTold → RulingTold → Type 0) → Terms → Option (List ℕ) → Option (List ℕ) → Option (List ℕ) → Result ℕ WriteFault → Type 0
+PutsFrom disk source IsRuling terms None old new r = PutsInput IsRuling terms no_sums source old new r
+PutsFrom disk source IsRuling terms (Some path) old new r = PutsFile IsRuling terms no_sums disk path old new r
 
-abbrev pub PutsOf : DiskFacts → InputFacts → JudgePgn → Tables → Option (List ℕ) → Option (List ℕ) → Result ℕ WriteFault → Type 0
-PutsOf disk source t tables old new r = PutsFrom disk source (terms_by t tables) (option_map (λ s. s.now) t.file) old new r
+abbrev pub PutsOf : DiskFacts → InputFacts → JudgePgn → (GameTold → RulingTold → Type 0) → Option (List ℕ) → Option (List ℕ) → Result ℕ WriteFault → Type 0
+PutsOf disk source t IsRuling old new r = PutsFrom disk source IsRuling (terms_by t) (option_map (λ s. s.now) t.file) old new r
+
+-- ---- by tables that were all read before, or by a folder whose tables are read when the positions of a game ask for them
+
+-- the first verdict of a game by tables of the folder, of which none is missing at its positions; or the file of one that they need is
+-- refused
+abbrev pub IsRulingIn : ℕ → DiskFacts → Folder → GameTold → RulingTold → Type 0
+IsRulingIn delay disk folder game ruling = Finds disk folder (IsPly game.start game.moves) (λ tables ruled. IsFirstRuled delay tables game ruled) ruling
 
 -- the refusal of the tables; or the games by them; or memory for the tables was refused
-pub data Puts (disk : DiskFacts) (source : InputFacts) (t : JudgePgn) (given : Given) (old new : Option (List ℕ)) (r : Result ℕ WriteFault) : Type 0 where
-  BadTables : (words : List ℕ) → gathered given ≡ Err words → TellsOne words old new r → Puts disk source t given old new r
-  ByTables : (tables : Tables) → gathered given ≡ Ok tables → PutsOf disk source t tables old new r → Puts disk source t given old new r
-  NoRoom : TellsOne refused_memory old new r → Puts disk source t given old new r
+pub data PutsByAll (disk : DiskFacts) (source : InputFacts) (t : JudgePgn) (given : Given) (old new : Option (List ℕ)) (r : Result ℕ WriteFault) : Type 0 where
+  BadTables : (words : List ℕ) → gathered given ≡ Err words → TellsOne words old new r → PutsByAll disk source t given old new r
+  ByTables : (tables : Tables) → gathered given ≡ Ok tables → PutsOf disk source t (IsRulingBy t.delay tables) old new r → PutsByAll disk source t given old new r
+  NoRoom : TellsOne refused_memory old new r → PutsByAll disk source t given old new r
+
+-- the games by a folder
+abbrev pub PutsOfFolder : DiskFacts → InputFacts → JudgePgn → Folder → Option (List ℕ) → Option (List ℕ) → Result ℕ WriteFault → Type 0
+PutsOfFolder disk source t folder old new r = PutsOf disk source t (IsRulingIn t.delay disk folder) old new r
+
+abbrev pub PutsBy : DiskFacts → InputFacts → JudgePgn → Given → Option (Bor (List ℕ)) → Option (List ℕ) → Option (List ℕ) → Result ℕ WriteFault → Type 0
+PutsBy disk source t given (Some path) old new r = PutsInFolder disk path.now given.told (PutsOfFolder disk source t) old new r
+PutsBy disk source t given None old new r = PutsByAll disk source t given old new r
+
+abbrev pub Puts : DiskFacts → InputFacts → JudgePgn → Given → Option (List ℕ) → Option (List ℕ) → Result ℕ WriteFault → Type 0
+Puts disk source t given old new r = PutsBy disk source t given (read_when_asked (not t.all_tables) (Some t.tables)) old new r

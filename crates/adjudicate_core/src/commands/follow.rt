@@ -1,31 +1,43 @@
 //! `follow`: the game of the moves of the input, ply by ply as they come.
 
-ghost use Rattle.std.specs.Prelude.{◌≡◌, IfErr, IfOk, Ok, OnErr};
-ghost use Rattle.board_core.specs.Position.{IsPosition};
+ghost use Rattle.std.specs.Prelude.{◌≡◌, [], IfErr, IfOk, OnErr, not};
+ghost use Rattle.game_teller.specs.Judges.{IsLater, JudgesOn, StandsBy};
+ghost use Rattle.judge_core.specs.MoreTables.{HasAll};
+ghost use Rattle.judge_core.specs.Tables.{Tables};
+ghost use Rattle.move_msg.specs.ToldBy.{told_by};
+ghost use Rattle.table_folder.specs.Folders.{AreOf, IsFolderAt};
+ghost use Rattle.table_folder.specs.Settled.{IsRefusedAt, IsSettled};
 ghost use Rattle.clap.specs.Words.{first_value, found_of};
-ghost use Rattle.fen_text.specs.Fen.{SpellsPosition};
-ghost use Rattle.adjudicate_core.specs.Commands.Follow.{HasValues, Puts, PutsFollowed, faults, named};
+ghost use Rattle.adjudicate_core.specs.Commands.Follow.{HasValues, IsFollowedBy, Puts, PutsBy, PutsByAll, PutsFollowed, PutsOfFolder, by_folder, faults, named};
+ghost use Rattle.adjudicate_core.specs.FolderAnswers.{PutsInFolder, read_when_asked};
+ghost use Rattle.adjudicate_core.specs.Inside.LookingUp.{LacksFolder};
 ghost use Rattle.adjudicate_core.specs.Misuses.{IsFirstMisuse, fault_words};
 ghost use Rattle.task_files.specs.Sources.{named_by};
 ghost use Rattle.line_teller.specs.ToldLines.{HasFailed};
 
-use super::options::{DELAY, MANIFEST, SAN, START_WORD, TABLES_IF_ANY};
+use super::options::{ALL_TABLES, DELAY, MANIFEST, SAN, START_WORD, TABLES_IF_ANY};
 use super::{Group, Summary, Value};
 use crate::answers::lines::put_refusal;
 use crate::answers::refusals::Refusal;
 use crate::answers::status_told;
+use crate::folders::{FolderPlace, folder_at, read_at_once, read_when_asked};
 use crate::tables::gather;
 use crate::words::numbers::{CacheSize, is_set};
 use crate::words::usage::ValueFault;
 use crate::words::values::{delay_in, word_in};
 use board_core::{Delay, Position};
+use bumpalo::Bump;
 use clap::ArgMatches;
 use fen_text::read;
-use game_teller::follow_game;
-use judge_core::Set;
+use game_teller::{PlyJudge, SetJudge, follow_game};
+use judge_core::{Set, Standing};
+use move_msg::Manifest;
 use move_notation::Notation;
-use std::alloc::Global;
-use system_io::{Input, Output, WriteFault};
+use std::alloc::{AllocError, Global};
+use std::marker::Model;
+use system_io::{Disk, Input, Output, WriteFault};
+use table_folder::laws::settled_games_stay;
+use table_folder::{FileRefusal, TableFolder};
 use task_files::{InputPaths, Inputs};
 
 /// The game of the input, ply by ply.
@@ -35,6 +47,8 @@ pub struct Follow<'a> {
     pub tables: Option<&'a str>,
     /// The file of the manifest that the tables are held to, if one is named.
     pub manifest: Option<&'a str>,
+    /// Whether all tables are read before the first ply.
+    pub all_tables: bool,
     /// For how many further plies a verdict by tables must hold.
     pub delay: Delay,
     /// Whether the moves are written in standard algebraic notation.
@@ -44,7 +58,7 @@ pub struct Follow<'a> {
 }
 
 /// The values of `follow`.
-pub(crate) const VALUES: [Value; 5] = [TABLES_IF_ANY, MANIFEST, DELAY, SAN, START_WORD];
+pub(crate) const VALUES: [Value; 6] = [TABLES_IF_ANY, MANIFEST, ALL_TABLES, DELAY, SAN, START_WORD];
 
 /// What help says of `follow`.
 pub(crate) const SUMMARY: Summary = Summary {
@@ -53,23 +67,153 @@ pub(crate) const SUMMARY: Summary = Summary {
     example: "echo b1b8 | adjudicate follow \"7k/8/6K1/8/8/8/8/1Q6 w - - 0 1\"",
 };
 
-/// Tells the game of the input from a position by these tables, and returns the status.
-fn put_game<I: Input, W: Output>(
+/// Opens the tables that a position misses and a folder has.
+fn settle<'r, D: Disk>(
+    alloc: Global,
+    folder: &TableFolder<'r, D>,
+    set: &mut Set<'r>,
+    position: &Position,
+) -> Result<Result<(), FileRefusal>, AllocError>
+    requires { AreOf (D.facts folder.now.disk) folder.now.folder set.old.tables }
+    ensures opened { AreOf (D.facts folder.now.disk) folder.now.folder set.new.tables }
+    ensures kept { HasAll set.old.tables set.new.tables }
+    ensures settled { IfOk result (λ settled. IfOk settled (λ _. IsSettled folder.now.folder set.new.tables position.now)) }
+    ensures refused { IfOk result (λ settled. IfErr settled (IsRefusedAt (D.facts folder.now.disk) folder.now.folder position.now)) }
+{
+    folder.settle_game(alloc, set, position, &[])
+}
+
+/// Where a game stands before its first move, by the tables of a folder that the start asks for.
+fn begin<'r, D: Disk>(
+    alloc: Global,
+    folder: &TableFolder<'r, D>,
+    set: &mut Set<'r>,
+    start: &Position,
+) -> Result<Result<Standing, FileRefusal>, AllocError>
+    requires { AreOf (D.facts folder.now.disk) folder.now.folder set.old.tables }
+    ensures opened { AreOf (D.facts folder.now.disk) folder.now.folder set.new.tables }
+    ensures begun { IfOk result (λ found. IfOk found (StandsBy (by_folder (D.facts folder.now.disk) folder.now.folder set.new.tables) start.now [])) }
+    ensures refused { IfOk result (λ found. IfErr found (IsRefusedAt (D.facts folder.now.disk) folder.now.folder start.now)) }
+    ensures later { IsLater (by_folder (D.facts folder.now.disk) folder.now.folder set.old.tables) (by_folder (D.facts folder.now.disk) folder.now.folder set.new.tables) }
+{
+    settled_games_stay(folder);
+    if let Err(refusal) = settle(alloc, folder, set, start)? {
+        return Ok(Err(refusal));
+    }
+    match set.begin(alloc, start) {
+        Ok(standing) => Ok(Ok(standing)),
+        Err(fault) => Err(fault),
+    }
+}
+
+/// Where a game stands one legal move later, which led to this position, by the tables of a folder that the position asks for.
+fn move_on<'r, D: Disk>(
+    alloc: Global,
+    folder: &TableFolder<'r, D>,
+    set: &mut Set<'r>,
+    standing: &Standing,
+    position: Position,
+) -> Result<Result<Standing, FileRefusal>, AllocError>
+    requires { AreOf (D.facts folder.now.disk) folder.now.folder set.old.tables }
+    ensures opened { AreOf (D.facts folder.now.disk) folder.now.folder set.new.tables }
+    ensures on { IfOk result (λ found. IfOk found (JudgesOn (by_folder (D.facts folder.now.disk) folder.now.folder set.old.tables) (by_folder (D.facts folder.now.disk) folder.now.folder set.new.tables) standing.now position)) }
+    ensures refused { IfOk result (λ found. IfErr found (IsRefusedAt (D.facts folder.now.disk) folder.now.folder position)) }
+    ensures later { IsLater (by_folder (D.facts folder.now.disk) folder.now.folder set.old.tables) (by_folder (D.facts folder.now.disk) folder.now.folder set.new.tables) }
+{
+    settled_games_stay(folder);
+    if let Err(refusal) = settle(alloc, folder, set, &position)? {
+        return Ok(Err(refusal));
+    }
+    match set.move_on(alloc, standing, position) {
+        Ok(standing) => Ok(Ok(standing)),
+        Err(fault) => Err(fault),
+    }
+}
+
+/// Judges the plies of a game by the tables of a folder, of which those are read that a ply asks for.
+///
+/// Contracts see the disk, the folder and the tables that are open, which are tables of the folder.
+#[derive(Drop)]
+struct FolderJudge<'r, D: Disk> {
+    folder: TableFolder<'r, D>,
+    set: Set<'r>,
+}
+
+impl<'r, D: Disk> Model for FolderJudge<'r, D> {
+    ghost use Rattle.adjudicate_core.specs.FolderAnswers.{TablesOn};
+    ghost use Rattle.table_folder.specs.Folders.{AreOf};
+
+    ghost Value = { TablesOn D };
+
+    ghost view = { λ j. record { on = j.folder; tables = j.set.tables } };
+
+    ghost invariant = { λ j. AreOf (D.facts j.folder.disk) j.folder.folder j.set.tables };
+}
+
+impl<'r, D: Disk> FolderJudge<'r, D> {
+    /// Opens a folder; no table is read. The refusal is that of a malformed manifest, then of the folder.
+    fn at(
+        alloc: Global,
+        disk: &'r D,
+        path: &'r str,
+        manifest: &'r Manifest,
+        arena: &'r Bump,
+    ) -> Result<Result<FolderJudge<'r, D>, Refusal>, AllocError>
+        ensures disk { IfOk result (λ found. IfOk found (λ j. j.on.disk ≡ disk.now)) }
+        ensures folder { IfOk result (λ found. IfOk found (λ j. IsFolderAt (D.facts disk.now) path.now (told_by manifest.now) j.on.folder)) }
+        ensures opened { IfOk result (λ found. IfOk found (λ j. AreOf (D.facts j.on.disk) j.on.folder j.tables)) }
+        ensures refused { IfOk result (λ found. IfErr found (LacksFolder (D.facts disk.now) path.now (told_by manifest.now))) }
+    {
+        let folder = match folder_at(alloc, disk, path, manifest, arena)? {
+            Ok(folder) => folder,
+            Err(refusal) => return Ok(Err(refusal)),
+        };
+        let set = folder.new_set(alloc, CacheSize::usual().blocks())?;
+        Ok(Ok(FolderJudge { folder, set }))
+    }
+}
+
+impl<'r, D: Disk> PlyJudge for FolderJudge<'r, D> {
+    ghost use Rattle.adjudicate_core.specs.Commands.Follow.{by_folder};
+
+    ghost facts = { λ j. by_folder (D.facts j.on.disk) j.on.folder j.tables };
+
+    fn begin(
+        &mut self,
+        alloc: Global,
+        start: &Position,
+    ) -> Result<Result<Standing, FileRefusal>, AllocError> {
+        begin(alloc, &self.folder, &mut self.set, start)
+    }
+
+    fn move_on(
+        &mut self,
+        alloc: Global,
+        standing: &Standing,
+        position: Position,
+    ) -> Result<Result<Standing, FileRefusal>, AllocError> {
+        move_on(alloc, &self.folder, &mut self.set, standing, position)
+    }
+}
+
+/// Tells the game of the input from a position by this judge, and returns the status.
+fn put_game<J: PlyJudge, I: Input, W: Output>(
     alloc: Global,
     notation: Notation,
-    set: Set<'_>,
+    judge: &mut J,
     start: &Position,
     delay: Delay,
     input: &I,
     out: &mut W,
 ) -> Result<u8, WriteFault>
-    ensures told { PutsFollowed (I.facts input.now) notation delay start.now set.entry.tables (W.contents out.old) (W.contents out.new) result }
+    ensures told { PutsFollowed (I.facts input.now) (λ left told. (tables : Tables) → (J.facts judge.new).is_by tables → IsFollowedBy (J.facts judge.old) (I.facts input.now) notation delay start.now tables (W.contents out.old) (W.contents out.new) left told) (W.contents out.old) (W.contents out.new) result }
     ensures cause { OnErr result (HasFailed W.facts) }
+    ensures later { IsLater (J.facts judge.old) (J.facts judge.new) }
 {
     let Ok(mut lines) = input.lines(alloc) else {
         return put_refusal(out, Refusal::Memory);
     };
-    status_told(follow_game(alloc, notation, set, start, delay, &mut lines, out))
+    status_told(follow_game(alloc, notation, judge, start, delay, &mut lines, out))
 }
 
 impl<'a> Follow<'a> {
@@ -81,6 +225,7 @@ impl<'a> Follow<'a> {
         Ok(Follow {
             tables: matches.get_str("tables"),
             manifest: matches.get_str("manifest"),
+            all_tables: is_set(matches.get_str("all-tables")),
             delay: delay_in(matches)?,
             san: is_set(matches.get_str("san")),
             fen: word_in(matches, "FEN")?,
@@ -92,7 +237,7 @@ impl<'a> Follow<'a> {
         ensures { named_by result ≡ named self.now }
     {
         InputPaths {
-            folder: self.tables,
+            folder: read_at_once(!self.all_tables, self.tables),
             manifest: self.manifest,
             reads_input: false,
             kept: None,
@@ -109,42 +254,91 @@ impl<'a> Follow<'a> {
         input: &I,
         out: &mut W,
     ) -> Result<u8, WriteFault>
-        requires spelled { SpellsPosition self.now.fen.now start.now }
-        requires position { IsPosition start.now }
-        ensures told { Puts (I.facts input.now) self.now sources.now (W.contents out.old) (W.contents out.new) result }
+        ensures told { PutsByAll (I.facts input.now) self.now sources.now start.now (W.contents out.old) (W.contents out.new) result }
         ensures cause { OnErr result (HasFailed W.facts) }
     {
         match gather(alloc, sources, CacheSize::usual()) {
-            Ok(Ok(set)) => put_game(
-                alloc,
-                Notation::by_flag(self.san),
-                set,
-                start,
-                self.delay,
-                input,
-                out,
-            ),
+            Ok(Ok(set)) => {
+                let notation = Notation::by_flag(self.san);
+                let mut judge = SetJudge { set };
+                put_game(alloc, notation, &mut judge, start, self.delay, input, out)
+            }
             Ok(Err(refusal)) => put_refusal(out, refusal),
             Err(_) => put_refusal(out, Refusal::Memory),
         }
     }
 
-    /// Tells the game of the input from the position of the text, a line for ply 0 and for the ply after each move, as
-    /// `game_teller::follow_game` has it. Returns the status, 0 where the game came to a verdict or to the input's end, else
-    /// 1. A text that is no position is refused first, then the tables.
-    pub(crate) fn answer<I: Input, W: Output>(
+    /// Tells the game of the input from a position by the folder at a path, or the refusal of its manifest or of the folder.
+    fn answer_in<D: Disk, I: Input, W: Output>(
         &self,
         alloc: Global,
-        sources: &Inputs,
+        place: &FolderPlace<'_, D>,
+        start: &Position,
         input: &I,
         out: &mut W,
     ) -> Result<u8, WriteFault>
-        ensures told { Puts (I.facts input.now) self.now sources.now (W.contents out.old) (W.contents out.new) result }
+        ensures told { PutsInFolder (D.facts place.now.disk.now) place.now.path.now (told_by place.now.manifest.now) (PutsOfFolder (D.facts place.now.disk.now) (I.facts input.now) self.now start.now) (W.contents out.old) (W.contents out.new) result }
+        ensures cause { OnErr result (HasFailed W.facts) }
+    {
+        let arena = Bump::new(alloc);
+        match FolderJudge::at(alloc, place.disk, place.path, place.manifest, &arena) {
+            Ok(Ok(judge)) => {
+                let notation = Notation::by_flag(self.san);
+                let mut judge = judge;
+                put_game(alloc, notation, &mut judge, start, self.delay, input, out)
+            }
+            Ok(Err(refusal)) => put_refusal(out, refusal),
+            Err(_) => put_refusal(out, Refusal::Memory),
+        }
+    }
+
+    /// Tells the game of the input from a position, by the tables of a folder or by those that were read.
+    fn answer_at<D: Disk, I: Input, W: Output>(
+        &self,
+        alloc: Global,
+        sources: &Inputs,
+        disk: &D,
+        start: &Position,
+        input: &I,
+        out: &mut W,
+    ) -> Result<u8, WriteFault>
+        ensures told { PutsBy (D.facts disk.now) (I.facts input.now) self.now sources.now start.now (read_when_asked (not self.now.all_tables) self.now.tables) (W.contents out.old) (W.contents out.new) result }
+        ensures cause { OnErr result (HasFailed W.facts) }
+    {
+        match read_when_asked(!self.all_tables, self.tables) {
+            Some(path) => {
+                let manifest = sources.manifest();
+                let place = FolderPlace {
+                    disk,
+                    path,
+                    manifest,
+                };
+                self.answer_in(alloc, &place, start, input, out)
+            }
+            None => self.answer_from(alloc, sources, start, input, out),
+        }
+    }
+
+    /// Tells the game of the input from the position of the text, a line for ply 0 and for the ply after each move, as
+    /// `game_teller::follow_game` has it. Returns the status, 0 where the game came to a verdict or to the input's end, else
+    /// 1. A text that is no position is refused first, then the folder.
+    ///
+    /// A table is read when a ply asks for it. Where its file is at fault, that is told in the ply's place, and nothing more. With
+    /// `--all-tables` all are read before, and the first file at fault is refused.
+    pub(crate) fn answer<D: Disk, I: Input, W: Output>(
+        &self,
+        alloc: Global,
+        sources: &Inputs,
+        disk: &D,
+        input: &I,
+        out: &mut W,
+    ) -> Result<u8, WriteFault>
+        ensures told { Puts (D.facts disk.now) (I.facts input.now) self.now sources.now (W.contents out.old) (W.contents out.new) result }
         ensures cause { OnErr result (HasFailed W.facts) }
     {
         match read(self.fen.as_bytes()) {
             Err(fault) => put_refusal(out, Refusal::Fen(fault)),
-            Ok(start) => self.answer_from(alloc, sources, &start, input, out),
+            Ok(start) => self.answer_at(alloc, sources, disk, &start, input, out),
         }
     }
 }

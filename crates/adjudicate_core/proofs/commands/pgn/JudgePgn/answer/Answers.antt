@@ -1,13 +1,12 @@
-use Rattle.std.proofs.Common.{sym}
-use Rattle.adjudicate_core.specs.Commands.Pgn.{BadTables, ByTables, NoRoom}
-use Rattle.adjudicate_core.specs.Lines.{refusal_words}
+use Rattle.std.proofs.Common.{sym, ◌∙◌}
 use Rattle.adjudicate_core.proofs.commands.pgn.JudgePgn.answer.Goals as goal
 
-pub returns-in-Ok-Ok-clause-told : goal.returns-in-Ok-Ok-clause-told
-returns-in-Ok-Ok-clause-told g c = ByTables c.in-Ok-Ok.set.tables (sym (rw c.in-Ok-Ok.field-0-is at c.in-Ok-Ok.ensures.tables)) c.tell.ensures.told
+pub returns-in-Some-clause-told : goal.returns-in-Some-clause-told
+returns-in-Some-clause-told g c =
+    let asked = sym c.read_when_asked.ensures ∙ c.in-Some.is in
+    rw asked (rw c.manifest-manifest.ensures at c.answer_in.ensures.told)
 
-pub returns-in-Ok-Err-clause-told : goal.returns-in-Ok-Err-clause-told
-returns-in-Ok-Err-clause-told g c = BadTables (refusal_words c.in-Ok-Err.refusal) (sym (rw c.in-Ok-Err.field-0-is at c.in-Ok-Err.ensures.tables)) c.put_refusal.ensures.told
-
-pub returns-in-Err-clause-told : goal.returns-in-Err-clause-told
-returns-in-Err-clause-told g c = NoRoom c.put_refusal-in-Err.ensures.told
+pub returns-in-None-clause-told : goal.returns-in-None-clause-told
+returns-in-None-clause-told g c =
+    let asked = sym c.read_when_asked.ensures ∙ c.in-None.is in
+    rw asked c.answer_from.ensures.told

@@ -6,8 +6,8 @@ use Rattle.adjudicate_core.proofs.commands.pgn.JudgePgn.tell_file.Goals as goal
 
 pub returns-in-Ok-clause-told : goal.returns-in-Ok-clause-told
 returns-in-Ok-clause-told g c =
-    OfFile _ c.in-Ok.ensures.held c.in-Ok.ensures.known (puts_back _ _ c.in-Ok.ensures.broken _ _ _ _ _ c.tell_games.result c.tell_games.ensures.told)
+    OfFile _ c.in-Ok.ensures.held c.in-Ok.ensures.known (puts_back (g.R.GameRuler.rules c.args.teller.now.ruler) _ _ c.in-Ok.ensures.broken _ _ _ _ _ c.tell_games.result c.tell_games.ensures.told)
 
 pub returns-in-Err-clause-told : goal.returns-in-Err-clause-told
 returns-in-Err-clause-told g c =
-    unread_file _ _ _ _ _ _ _ c.put_refusal.result c.in-Err.fault c.unread.ensures (λ is. c.in-Err.ensures.cause (ap Err is)) c.put_refusal.ensures.told
+    unread_file (g.R.GameRuler.rules c.args.teller.now.ruler) _ _ _ _ _ _ _ c.put_refusal.result c.in-Err.fault c.unread.ensures (λ is. c.in-Err.ensures.cause (ap Err is)) c.put_refusal.ensures.told

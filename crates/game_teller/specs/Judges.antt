@@ -1,0 +1,51 @@
+-- What judges the plies of a game (this project's own).
+use Rattle.std.specs.Prelude.{◌≡◌, ◌++◌, ℕ, List, [], ◌∷◌, Some}
+use Rattle.board_core.specs.declared.parts.Parts.{Parts}
+use Rattle.board_core.specs.declared.moves.Move.{Move as Moves}
+use Rattle.board_core.specs.ComputedMoves.{position_after}
+use Rattle.judge_core.specs.Answers.{ListsMovesForVerdict}
+use Rattle.judge_core.specs.Games.{Rules}
+use Rattle.judge_core.specs.MoreTables.{HasAll}
+use Rattle.judge_core.specs.Standings.{IsAt, Reached}
+use Rattle.judge_core.specs.Tables.{Tables}
+use Rattle.table_folder.specs.declared.fault.FileRefusal.{FileRefusal}
+
+-- what is known of a judge: the tables that are open; by which tables a game may be told, which are these or have more; where games
+-- stand by the open ones, whatever more come; at which positions a verdict takes memory; and which file is refused where a position needs
+-- it
+pub record JudgeFacts : Type 1 where
+  pub opened : Tables
+  pub is_by : Tables → Type 0
+  pub stands : Parts → List Moves → Reached → Type 0
+  pub takes_memory : Parts → Type 0
+  pub refuses : Parts → FileRefusal → Type 0
+
+-- by a set of tables that stays
+abbrev pub by_set : Tables → JudgeFacts
+by_set tables = record {
+  opened = tables;
+  is_by = λ t. t ≡ tables;
+  stands = λ start moves s. (delay : ℕ) → IsAt (record { start = start; tables = tables; delay = delay }) moves s;
+  takes_memory = ListsMovesForVerdict tables;
+  refuses = λ p refusal. ⊥;
+}
+
+-- a judge later, which has kept its tables: whatever holds of it then held before, and what held before of tables that have those holds
+-- then
+pub record IsLater (was now : JudgeFacts) : Type 0 where
+  pub kept : HasAll was.opened now.opened
+  pub is_by : (tables : Tables) → now.is_by tables → was.is_by tables
+  pub back : (tables : Tables) → was.is_by tables → HasAll now.opened tables → now.is_by tables
+  pub there : was.is_by was.opened → now.is_by now.opened
+  pub takes_memory : (p : Parts) → now.takes_memory p → was.takes_memory p
+  pub refuses : (p : Parts) (refusal : FileRefusal) → now.refuses p refusal → was.refuses p refusal
+
+-- a game stands so after these moves, by what is read, and by whatever more is
+pub record StandsBy (now : JudgeFacts) (start : Parts) (moves : List Moves) (s : Reached) : Type 0 where
+  pub stands : now.stands start moves s
+  pub at : (rules : Rules) → rules.start ≡ start → now.is_by rules.tables → IsAt rules moves s
+
+-- a game that stood so stands so after one legal move more, which leads to this position
+abbrev pub JudgesOn : JudgeFacts → JudgeFacts → Reached → Parts → Reached → Type 0
+JudgesOn was now s q t =
+    (start : Parts) (moves : List Moves) (m : Moves) → was.stands start moves s → position_after s.position m ≡ Some q → StandsBy now start (moves ++ m ∷ []) t
