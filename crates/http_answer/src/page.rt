@@ -76,7 +76,8 @@ const FLIP = { win: \"loss\", loss: \"win\", \"cursed-win\": \"blessed-loss\", \
 const WORDS = { win: \"wins\", loss: \"loses\", draw: \"draw\", \"cursed-win\": \"wins, but for the fifty-move rule\", \"blessed-loss\": \"loses, but for the fifty-move rule\", \"maybe-win\": \"wins, perhaps too late\", \"maybe-loss\": \"loses, perhaps too late\", unknown: \"not in the tables\" };\n\
 const KIND = c => /win$/.test(c) && c !== \"cursed-win\" ? \"win\" : /loss$/.test(c) && c !== \"blessed-loss\" ? \"loss\" : \"draw\";\n\
 const by = id => document.getElementById(id);\n\
-let line = [decodeURIComponent(location.hash.slice(1)).replace(/_/g, \" \") || START], at = 0, held = null, moves = [], turned = false, focus = 60;\n\
+const linked = () => decodeURIComponent(location.hash.slice(1)).replace(/_/g, \" \");\n\
+let line = [linked() || START], at = 0, held = null, moves = [], turned = false, focus = 60;\n\
 \n\
 const fen = () => line[at];\n\
 const cells = f => [...f.split(\" \")[0].replace(/\\d/g, n => \".\".repeat(n)).replace(/\\//g, \"\")].concat(Array(64).fill(\".\")).slice(0, 64);\n\
@@ -197,6 +198,7 @@ by(\"back\").onclick = () => { if (at) { at--; show(); } };\n\
 by(\"forth\").onclick = () => { if (at < line.length - 1) { at++; show(); } };\n\
 by(\"turn\").onclick = () => { turned = !turned; draw(); };\n\
 by(\"setup\").onclick = () => { by(\"setup\").setAttribute(\"aria-pressed\", String(!isSetup())); held = null; draw(); };\n\
+window.onhashchange = () => { if (linked() && linked() !== fen()) go(linked()); };\n\
 by(\"clear\").onclick = () => go(\"8/8/8/8/8/8/8/8 w - - 0 1\");\n\
 by(\"side\").onchange = () => { const w = fen().split(\" \"); go([w[0], by(\"side\").value, w[2] || \"-\", \"-\", 0, 1].join(\" \")); };\n\
 show();\n\
