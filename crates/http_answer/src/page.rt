@@ -15,8 +15,8 @@ body { font: 16px/1.45 system-ui, sans-serif; margin: 1rem auto; max-width: 62re
 main { display: flex; flex-wrap: wrap; gap: 1.5rem; align-items: flex-start; }\n\
 section { flex: 1 1 20rem; min-width: 0; }\n\
 h1 { font-size: 1.1rem; margin: 0 0 .8rem; }\n\
-#board { display: grid; grid-template-columns: repeat(8, 1fr); max-width: 30rem; aspect-ratio: 1; border: 1px solid var(--line); }\n\
-#board button { border: 0; padding: 0; margin: 0; background: var(--light); cursor: pointer; position: relative; min-width: 0; border-radius: 0; }\n\
+#board { display: grid; grid-template: repeat(8, 1fr) / repeat(8, 1fr); max-width: 30rem; aspect-ratio: 1; border: 1px solid var(--line); }\n\
+#board button { border: 0; padding: 0; margin: 0; background: var(--light); cursor: pointer; position: relative; min-width: 0; min-height: 0; overflow: hidden; border-radius: 0; }\n\
 #board button.dark { background: var(--dark); }\n\
 #board button:focus-visible, #box button:focus-visible { outline: 3px solid var(--on); outline-offset: -3px; z-index: 1; }\n\
 #board button.held, #box button.held { box-shadow: inset 0 0 0 4px var(--on); }\n\
@@ -30,6 +30,7 @@ svg { width: 100%; height: 100%; display: block; pointer-events: none; }\n\
 .row { display: flex; flex-wrap: wrap; gap: .5rem; margin: .7rem 0; align-items: center; max-width: 30rem; }\n\
 input[type=text] { flex: 1 1 14rem; font: 14px monospace; padding: .35rem; min-width: 0; }\n\
 button { font: inherit; padding: .25rem .7rem; }\n\
+button[aria-pressed=true] { outline: 2px solid var(--on); }\n\
 #verdict { font-size: 1.25rem; min-height: 1.8rem; margin: 0 0 .2rem; font-weight: 600; }\n\
 #detail { margin: 0 0 .8rem; min-height: 1.4rem; }\n\
 table { border-collapse: collapse; width: 100%; }\n\
