@@ -9,10 +9,11 @@ _adjudicate_options()
         probes) echo '--tables=DIR --manifest=FILE --all-tables --json --determined --progress' ;;
         root) echo '--tables=DIR --manifest=FILE --all-tables --json --determined' ;;
         moves) echo '--san' ;;
+        serve) echo '--tables=DIR --manifest=FILE --bind=ADDR --requests=N' ;;
         game) echo '--tables=DIR --manifest=FILE --all-tables --delay=N --san' ;;
         games) echo '--tables=DIR --manifest=FILE --all-tables --delay=N --progress' ;;
-        follow) echo '--tables=DIR --manifest=FILE --delay=N --san' ;;
-        pgn) echo '--tables=DIR --manifest=FILE --delay=N --json --differ' ;;
+        follow) echo '--tables=DIR --manifest=FILE --all-tables --delay=N --san' ;;
+        pgn) echo '--tables=DIR --manifest=FILE --all-tables --delay=N --json --differ' ;;
         enter) echo '--name=NAME --start=FEN --from=FILE --tables=DIR --manifest=FILE --delay=N --games=DIR' ;;
         send) echo '--name=NAME --start=FEN --tables=DIR --manifest=FILE --delay=N --game=FILE --bind=ADDR --to=ADDR[,ADDR] --wait=MS --tries=N --key=FILE --san' ;;
         status) echo '--games=DIR --other=DIR' ;;
@@ -74,7 +75,7 @@ _adjudicate()
     local word=${COMP_WORDS[COMP_CWORD]} before=${COMP_WORDS[COMP_CWORD - 1]} options value
     COMPREPLY=()
     if ((COMP_CWORD == 1)) || [[ $COMP_CWORD == 2 && $before == help ]]; then
-        mapfile -t COMPREPLY < <(compgen -W 'judge probe probes root moves game games follow pgn enter send status record audit listen host run show list check version help' -- "$word")
+        mapfile -t COMPREPLY < <(compgen -W 'judge probe probes root moves serve game games follow pgn enter send status record audit listen host run show list check version help' -- "$word")
         return
     fi
     options=$(_adjudicate_options "${COMP_WORDS[1]}")
