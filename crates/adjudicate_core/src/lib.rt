@@ -9,7 +9,7 @@
 //! once, in their `VALUES`, and help is made from it. `answers` writes: `line_answers`,
 //! `json_answers`, `lines`, `refusals`, each line laid out by `LineWords` of `line_teller` (its parts in `line_parts`), which doesn't
 //! fail, and written at once. `keys` reads files of keys, `entries` the lines of a list; `tables` and `manifests` make sets of files; `folders` reads
-//! a table when a position asks for it;
+//! a table when a position asks for it; `pages` is what answers requests of HTTP;
 //! `listening`, `hosting`, `entering`, `sending`, `binding`, `locking`, `silence`, `stores` run the commands that touch ports and
 //! files; `program` over a `system`, of which `machine` has all that is known as one argument; `laws`.
 //!
@@ -69,6 +69,9 @@
 //!   move is awaited is in the contract of that function alone.
 //! - CLAIM: `run`, clause `runs`: `status` tells the games of its folders as `game_status::tell_status` has it; the status is 0 only
 //!   where all are told, nothing is at fault and nothing differs.
+//! - CLAIM: `Pages::serve_requests`, clauses `told`, `cause`: of `serve` a manifest that can't be read or is malformed, a folder that can't
+//!   be read, an address that can't be bound and refused memory, the first in this order is told in one line, with status 1; else the line
+//!   is `ready` and the address, and nothing more is written but that the port was lost.
 //! - CLAIM: `CacheSize::of`, clauses `some`, `none`: the number of `--cache` is read exactly where it is decimal digits, perhaps after a
 //!   plus, in its range. So is that of `--delay`, by the private `delay_of` of `numbers`.
 #![tactic(auto)]

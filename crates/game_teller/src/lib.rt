@@ -9,7 +9,7 @@
 //! Definitions, in reading order: `Judges`, `Plies`, `Followings` (`TellsPlies`, `StopsAfter`, `Follows`), over `IsOutcome` of judge_core;
 //! `Agreements`; over `Notations` of move_notation. Its cases stand in `follow.txt` and `san.txt` of `rows`.
 //!
-//! - CLAIM: `PlyJudge::begin`, `PlyJudge::move_on`, clauses `begun`, `on`, `refused`, `memory`, `later`; `SetJudge`: where a game stands by
+//! - CLAIM: `PlyJudge::begin`, clauses `begun`, `refused`, `memory`, `later`; `PlyJudge::move_on`, clauses `on`, `refused`, `memory`, `later`: where a game stands by
 //!   the tables that were read, and by whatever more are, or the refusal of a file that a position needs.
 //! - CLAIM: `follow_game`, clauses `follows`, `later`: each ply to the first verdict, to the input's end or to the first line that gives no
 //!   legal move in its position is told in its line, and nothing else but why no more is told. What the moves that were read come to

@@ -7,7 +7,7 @@
 //!
 //! Definitions, in reading order: `Queries`, `Replies`.
 //!
-//! - CLAIM: `Answerer::call`, clause `ok` (member `answers`): the response is the reply to the request (`IsReply`), and the folder stays
+//! - CLAIM: `Answerer`, clause `answers`: the response is the reply to the request (`IsReply`), and the folder stays
 //!   the same. For a position it is an object of the tablebase API with each legal move, by tables of the folder of which none is missing
 //!   at the position and after its moves; or the refusal of the file of one that is needed.
 //! - CLAIM: `asked_text`, clause `text`: the text of the first member `fen` of the query, decoded, with a space for each `_`, and with
