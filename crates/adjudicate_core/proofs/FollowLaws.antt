@@ -1,5 +1,5 @@
 -- Games that are followed by the tables of a folder, each read when a ply asks for it.
-use Rattle.std.proofs.Common.{◌≡◌, ◌⊎◌, ◌∙◌, ap, inl, inr, refl, subst, sym, ℕ, Bool, List, [], ◌∷◌, ◌++◌, Option, Some, None, Result, Ok, Err}
+use Rattle.std.proofs.Common.{◌≡◌, ◌⊎◌, ◌∙◌, ap, inl, inr, refl, subst, sym, ℕ, Bool, List, [], ◌∷◌, ◌++◌, Option, Some, Result, Ok, Err}
 use Rattle.std.specs.Prelude.{IfErr, IfOk}
 use Rattle.std.specs.List.{fold}
 use Rattle.std.specs.Option.{option_and_then}
@@ -11,7 +11,6 @@ use Rattle.judge_core.specs.Games.{Rules, position_after_all}
 use Rattle.judge_core.specs.MoreTables.{HasAll}
 use Rattle.judge_core.specs.Standings.{IsAt, Reached}
 use Rattle.judge_core.specs.Tables.{Tables}
-use Rattle.move_msg.specs.ToldManifests.{ToldManifest}
 use Rattle.move_notation.specs.declared.notation.Notation.{Notation}
 use Rattle.system_io.specs.Disks.{DiskFacts}
 use Rattle.system_io.specs.Inputs.{InputFacts}

@@ -1,5 +1,5 @@
 -- The games of a PGN file, told as they are read.
-use Rattle.std.proofs.Common.{◌≡◌, ap, sym, refl, subst, ◌⊎◌, inl, inr, ℕ, List}
+use Rattle.std.proofs.Common.{◌≡◌, sym, refl, subst, ◌⊎◌, inl, inr, ℕ, List}
 use Rattle.std.specs.Prelude.{Option, Some, None, Result, IfSome, option_map}
 use Rattle.pgn_games.specs.Games.{GameTold}
 use Rattle.pgn_games.specs.Tokens.{Token, tokens_of}
