@@ -1,14 +1,12 @@
 -- Games of a host, from how a writer and a folder of any type see them to what is written and kept.
-use Rattle.std.proofs.Common.{◌≡◌, ◌⊎◌, ◌++◌, ℕ, List, [], ◌∷◌, Option, Some, None, inl, inr, subst, sym}
+use Rattle.std.proofs.Common.{◌≡◌, ℕ, List, [], Option, inl, inr, subst, sym}
 use Rattle.std.specs.Prelude.{Result, Ok, Err}
-use Rattle.std.specs.declared.net.socket_addr.SocketAddr.{SocketAddr}
 use Rattle.system_io.specs.Disks.{DiskFacts}
 use Rattle.system_io.specs.Histories.{Passes}
 use Rattle.system_io.specs.Hosts.{Made}
 use Rattle.system_io.specs.Ports.{PortFacts}
 use Rattle.system_io.specs.Records.{StoreFacts}
 use Rattle.system_io.specs.declared.output.WriteFault.{WriteFault}
-use Rattle.arbiter_core.specs.Memory.{Memory}
 use Rattle.arbiter_server.specs.Acts.{Action}
 use Rattle.arbiter_server.specs.GoingOut.{Writers}
 use Rattle.arbiter_server.specs.Folders.{GivesKeepers, Keepers}
@@ -16,14 +14,14 @@ use Rattle.arbiter_server.specs.Games.{CommonView}
 use Rattle.arbiter_server.specs.Hosts.{CommitsEach, Hosts}
 use Rattle.arbiter_server.specs.LineLogs.{logged}
 use Rattle.arbiter_server.specs.Rounds.{Round}
-use Rattle.arbiter_server.specs.StoreGames.{StoredGames, store_finds, store_games_facts, store_keepers}
+use Rattle.arbiter_server.specs.StoreGames.{store_finds, store_games_facts, store_keepers}
 use Rattle.arbiter_server.specs.declared.line_log.LogForm.{LogForm}
 use Rattle.arbiter_server.specs.declared.line_log.LogForm.TheVariants.{Nothing}
 use Rattle.adjudicate_core.specs.declared.commands.host.HostGames.{HostGames}
 use Rattle.adjudicate_core.specs.declared.words.numbers.StoreForm.{StoreForm}
 use Rattle.adjudicate_core.specs.declared.words.numbers.StoreForm.TheVariants as form
 use Rattle.task_files.specs.Given.{Given}
-use Rattle.adjudicate_core.specs.Hostings.{BadTables, BindsAndHosts, Bound, Clashing, Unlogged, Hosting, HostsAndWrites, HostsAt, HostsGames, HostsInLines, HostsNow, Imported, InUse, Keeping, KeepsAndHosts, Locked, LocksAndHosts, NoAddress, NoFolder, NoLock, NoRoom, NoRoomForGames, NoRoomForLine, NoRoomForStore, NoRoomToBind, NoRoomToLock, NoStore, NotImported, HostOutside, Ready, HostedRuns, Served, StoresAndHosts, FilesOrStore, Unbound, Unready, common_for, in_files, in_store, seen_as, seen_by, ways_by, written, written_by}
+use Rattle.adjudicate_core.specs.Hostings.{BadTables, BindsAndHosts, Bound, Clashing, Unlogged, Hosting, HostsAndWrites, HostsAt, HostsGames, HostsInLines, HostsNow, Imported, InUse, Keeping, KeepsAndHosts, Locked, LocksAndHosts, NoAddress, NoFolder, NoLock, NoRoom, NoRoomForGames, NoRoomForLine, NoRoomForStore, NoRoomToBind, NoRoomToLock, NoStore, NotImported, HostOutside, Ready, Served, StoresAndHosts, FilesOrStore, Unbound, Unready, common_for, in_files, in_store, seen_as, seen_by, ways_by, written, written_by}
 use Rattle.adjudicate_core.specs.Inside.HostingParts.{IsUnlisted}
 use Rattle.adjudicate_core.specs.Lines.{ready_words, refusal_words}
 use Rattle.adjudicate_core.specs.Listens.{Hosted}

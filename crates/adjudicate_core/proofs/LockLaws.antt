@@ -1,5 +1,5 @@
 -- What is told of files that aren't locked.
-use Rattle.std.proofs.Common.{◌≡◌, ℕ, List, [], Option, inl, inr, subst}
+use Rattle.std.proofs.Common.{ℕ, List, [], Option, inl, inr}
 use Rattle.std.specs.Prelude.{Result}
 use Rattle.arbiter_core.specs.Setups.{SetupView}
 use Rattle.arbiter_server.specs.Games.{CommonView}

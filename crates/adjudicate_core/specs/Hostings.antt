@@ -1,5 +1,5 @@
 -- What `host` makes of its words and of what it reads (this project's own).
-use Rattle.std.specs.Prelude.{◌≡◌, ◌⊎◌, ◌++◌, ℕ, true, false, OnErr, List, [], ◌∷◌, length, Option, Some, None, Result, Ok, Err, codes}
+use Rattle.std.specs.Prelude.{◌≡◌, ◌⊎◌, ℕ, true, false, OnErr, List, [], ◌∷◌, length, Option, Some, None, Result, Ok, Err}
 use Rattle.std.specs.List.{Contains, flat_map}
 use Rattle.std.specs.Io.KnownBytes.{Appends}
 use Rattle.std.specs.NonZero.{non_zero_usize_get}
@@ -10,7 +10,6 @@ use Rattle.move_msg.specs.Manifests.{SpellsManifest}
 use Rattle.move_msg.specs.Senders.{who_number}
 use Rattle.move_msg.specs.TextLines.{ended}
 use Rattle.system_io.specs.Disks.{AtFolder, DiskFacts}
-use Rattle.system_io.specs.Failures.{Risen}
 use Rattle.system_io.specs.Histories.{Passes}
 use Rattle.system_io.specs.Hosts.{FileAt, HostFacts, LockAt, Made, PortAt, StoreAt}
 use Rattle.system_io.specs.KeptFiles.{KeptFacts}

@@ -35,8 +35,6 @@ use Rattle.adjudicate_core.specs.Commands.AuditGames as game_audits
 use Rattle.adjudicate_core.specs.Commands.GameRecord as game_records
 use Rattle.adjudicate_core.specs.Commands.Version as versions
 use Rattle.adjudicate_core.specs.Commands.Probes as of_probes
-use Rattle.adjudicate_core.specs.TableAnswers.{PutsByTables}
-use Rattle.judge_core.specs.Ask.{ask_of}
 use Rattle.adjudicate_core.specs.Commands.Root as roots
 use Rattle.adjudicate_core.specs.Commands.Follow as follows
 use Rattle.adjudicate_core.specs.Commands.Status as statuses

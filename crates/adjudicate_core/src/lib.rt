@@ -88,8 +88,8 @@ pub mod laws;
 mod listening;
 mod locking;
 mod machine;
-mod pages;
 mod manifests;
+mod pages;
 mod program;
 mod sending;
 mod silence;
@@ -101,8 +101,8 @@ mod words;
 pub use commands::{
     Audit, AuditGames, Check, Enter, Entries, Follow, FollowGame, FollowGames, Form, GameFile,
     GameRecord, HostGames, Judge, JudgePgn, List, Listen, Moves, Name, OneGame, Probe, Probes,
-    Root, RunSchedule, Send, SentGame, Serve, Show, ShowRecord, ShowStatus, Stands, Task, ToldGame, Value,
-    Version, parse,
+    Root, RunSchedule, Send, SentGame, Serve, Show, ShowRecord, ShowStatus, Stands, Task, ToldGame,
+    Value, Version, parse,
 };
 pub use machine::Machine;
 pub use pages::Pages;

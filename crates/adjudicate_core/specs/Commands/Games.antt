@@ -1,5 +1,5 @@
 -- `games --tables DIR [--manifest FILE] [--all-tables] [--delay N] [--progress]`: what the games of the input come to, a line each (this project's own).
-use Rattle.std.specs.Prelude.{◌≡◌, ◌==◌, ◌+◌, not, ℕ, Bool, true, false, List, [], ◌∷◌, length, Option, Some, None, Result, codes, drop, option_map, position, take}
+use Rattle.std.specs.Prelude.{◌≡◌, ◌==◌, ◌+◌, not, ℕ, false, List, [], ◌∷◌, length, Option, Some, None, Result, codes, drop, option_map, position, take}
 use Rattle.board_core.specs.declared.parts.Parts.{Parts}
 use Rattle.board_core.specs.declared.moves.Move.{Move}
 use Rattle.board_core.specs.Position.{IsPosition}

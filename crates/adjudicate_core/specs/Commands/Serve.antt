@@ -1,6 +1,6 @@
 -- `serve --tables DIR [--manifest FILE] --bind ADDR [--requests N]`: requests of HTTP that are answered by the tables of a folder, and what
 -- it tells (this project's own). What is answered to a request is the contract of http_answer.
-use Rattle.std.specs.Prelude.{◌≡◌, ◌++◌, ℕ, List, [], ◌∷◌, Option, Some, None, Result, Ok, Err, codes, option_map}
+use Rattle.std.specs.Prelude.{◌≡◌, ◌++◌, ℕ, List, [], ◌∷◌, Option, Some, Result, Err, codes, option_map}
 use Rattle.clap.specs.Words.{Rule, Text}
 use Rattle.line_teller.specs.ToldLines.{refused_files, refused_memory}
 use Rattle.move_msg.specs.TextLines.{ended}

@@ -1,5 +1,5 @@
 -- What is looked up in a folder whose tables are read when a position asks for them; cited by private functions alone.
-use Rattle.std.specs.Prelude.{◌≡◌, ℕ, List, Option, Some, None, Result, Ok, Err}
+use Rattle.std.specs.Prelude.{◌≡◌, ℕ, List, Option, Some, Result, Ok, Err}
 use Rattle.board_core.specs.declared.parts.Parts.{Parts}
 use Rattle.judge_core.specs.declared.display.Columns.{Columns}
 use Rattle.judge_core.specs.ProbeResult.{IsProbed}

@@ -1,5 +1,4 @@
-use Rattle.std.proofs.Common.{inl, inr, refl}
-use Rattle.adjudicate_core.specs.Inside.Asked.{reply_of}
+use Rattle.std.proofs.Common.{inr, refl}
 use Rattle.adjudicate_core.proofs.FolderLaws.{game_in, in_folder, lacks_folder}
 use Rattle.adjudicate_core.proofs.commands.game.outcome_in.Goals as goal
 

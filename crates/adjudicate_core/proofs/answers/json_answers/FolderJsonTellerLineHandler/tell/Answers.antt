@@ -1,6 +1,4 @@
-use Rattle.std.proofs.Common.{Bool, subst}
 use Rattle.json_lines.specs.Objects.{json_text, line_json}
-use Rattle.adjudicate_core.specs.JsonAnswers.{TellsJsonByFolder}
 use Rattle.adjudicate_core.proofs.JsonLaws.{other_err}
 use Rattle.adjudicate_core.proofs.answers.json_answers.FolderJsonTellerLineHandler.tell.Goals as goal
 

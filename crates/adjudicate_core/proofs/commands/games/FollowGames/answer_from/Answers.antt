@@ -1,4 +1,4 @@
-use Rattle.std.proofs.Common.{sym, refl}
+use Rattle.std.proofs.Common.{sym}
 use Rattle.adjudicate_core.specs.Lines.{refusal_words}
 use Rattle.adjudicate_core.specs.TableAnswers.{PutsLinesOf, PutsRefusal}
 use Rattle.adjudicate_core.proofs.commands.games.FollowGames.answer_from.Goals as goal

@@ -1,4 +1,3 @@
-use Rattle.std.proofs.Common.{Bool, refl, subst}
 use Rattle.adjudicate_core.specs.Inside.Asked.{reply_of}
 use Rattle.adjudicate_core.proofs.commands.root.FolderRankerLineHandler.tell.Goals as goal
 
