@@ -77,11 +77,14 @@ const FLIP = { win: \"loss\", loss: \"win\", \"cursed-win\": \"blessed-loss\", \
 const WORDS = { win: \"wins\", loss: \"loses\", draw: \"draw\", \"cursed-win\": \"wins, but for the fifty-move rule\", \"blessed-loss\": \"loses, but for the fifty-move rule\", \"maybe-win\": \"wins, perhaps too late\", \"maybe-loss\": \"loses, perhaps too late\", unknown: \"not in the tables\" };\n\
 const KIND = c => /win$/.test(c) && c !== \"cursed-win\" ? \"win\" : /loss$/.test(c) && c !== \"blessed-loss\" ? \"loss\" : \"draw\";\n\
 const by = id => document.getElementById(id);\n\
-const linked = () => decodeURIComponent(location.hash.slice(1)).replace(/_/g, \" \");\n\
+const linked = () => {\n\
+  const text = location.hash.slice(1);\n\
+  try { return decodeURIComponent(text).replace(/_/g, \" \"); } catch (e) { return text; }\n\
+};\n\
 let line = [linked() || START], at = 0, held = null, moves = [], turned = false, focus = 60;\n\
 \n\
 const fen = () => line[at];\n\
-const cells = f => [...f.split(\" \")[0].replace(/\\d/g, n => \".\".repeat(n)).replace(/\\//g, \"\")].concat(Array(64).fill(\".\")).slice(0, 64);\n\
+const cells = f => [...f.split(\" \")[0].replace(/\\d/g, n => \".\".repeat(n)).replace(/\\//g, \"\").replace(/[^pnbrqkPNBRQK.]/g, \".\")].concat(Array(64).fill(\".\")).slice(0, 64);\n\
 const placed = c => Array.from({ length: 8 }, (_, r) => c.slice(8 * r, 8 * r + 8).join(\"\").replace(/\\.+/g, e => e.length)).join(\"/\");\n\
 const square = i => \"abcdefgh\"[i % 8] + (8 - (i >> 3));\n\
 const drawn = man => man === \".\" ? \"\" : `<svg viewBox=\"0 0 40 40\" class=\"${man < \"a\" ? \"white\" : \"black\"}\" aria-hidden=\"true\">${SHAPES[man.toLowerCase()]}</svg>`;\n\
@@ -112,8 +115,9 @@ function pick(i) {\n\
 function play(move, all) {\n\
   let m = move;\n\
   if (all && all.length > 1) {\n\
-    const letter = (prompt(\"Promote to q, r, b or n\", \"q\") || \"\").toLowerCase();\n\
-    m = all.find(x => x.uci.endsWith(letter)) || move;\n\
+    const letter = prompt(\"Promote to q, r, b or n\", \"q\");\n\
+    if (letter === null) { draw(); return; }\n\
+    m = all.find(x => x.uci[4] === letter.toLowerCase()) || move;\n\
   }\n\
   go(after(fen(), m));\n\
 }\n\

@@ -24,15 +24,6 @@ pub enum Fate {
     Ends,
 }
 
-/// What a turn came to.
-#[derive(Clone, Copy)]
-pub struct Turn {
-    /// What becomes of the connection.
-    pub fate: Fate,
-    /// Whether all that waited to be sent has gone out in this turn.
-    pub answered: bool,
-}
-
 /// A connection with its socket.
 #[derive(Drop)]
 pub struct Peer {
@@ -86,14 +77,15 @@ fn step<R: Read, W: Write>(connection: &mut Connection, reader: &mut R, writer: 
     }
 }
 
-/// Answers, reads and writes until the socket would wait or the connection is done, with at most so many calls of the system.
+/// Answers, reads and writes until all that waited to be sent has gone out, the socket would wait or the connection is done, with at most
+/// so many calls of the system.
 pub fn take_turn<S: Service, R: Read, W: Write>(
     connection: &mut Connection,
     service: &mut S,
     reader: &mut R,
     writer: &mut W,
     most: usize,
-) -> Turn
+) -> Fate
     ensures read { (more : List ℕ)
         × Consumes (R.remaining reader.old) (R.remaining reader.new) more
         × ((history connection.new).received ≡ (history connection.old).received ++ more) }
@@ -104,15 +96,12 @@ pub fn take_turn<S: Service, R: Read, W: Write>(
         (history connection.old).calls (history connection.new).calls }
     ensures config { config_of connection.new ≡ config_of connection.old }
 {
-    let mut answered = false;
     for _ in 0..most {
         connection.advance(service);
         match step(connection, reader, writer) {
             Fate::GoesOn => {}
-            Fate::Answered => answered = true,
-            fate => return Turn { fate, answered },
+            fate => return fate,
         }
     }
-    let fate = Fate::GoesOn;
-    Turn { fate, answered }
+    Fate::GoesOn
 }

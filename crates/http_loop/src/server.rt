@@ -15,7 +15,7 @@ use std::time::{Clock, Duration, Instant};
 /// The token of the listener.
 const LISTENER: Token = Token(usize::MAX);
 
-/// How many calls of the system a connection has in a turn.
+/// How many calls of the system a connection has in a turn, at most.
 const TURN: usize = 32;
 
 /// Limits of a server.
@@ -137,19 +137,19 @@ impl<'r, C: Clock + Net> Server<'r, C> {
         };
         let mut reader = &peer.stream;
         let mut writer = &peer.stream;
-        let turn = take_turn(
+        match take_turn(
             &mut peer.connection,
             service,
             &mut reader,
             &mut writer,
             TURN,
-        );
-        if turn.answered {
-            peer.since = self.now;
-        }
-        match turn.fate {
+        ) {
             Fate::Waits => {}
-            Fate::GoesOn | Fate::Answered => self.note_ready(key),
+            Fate::GoesOn => self.note_ready(key),
+            Fate::Answered => {
+                peer.since = self.now;
+                self.note_ready(key);
+            }
             Fate::Ends => {
                 let _closed = self.peers.try_remove(key);
             }

@@ -84,7 +84,11 @@ fn bound<'r, R: Clock + Net + RandomSource>(
     // A peer names the fields of a request, so their maps take secret keys.
     let keys = RandomState::new(rt)?;
     let limits = Limits {
-        config: Config::default(),
+        // One request of a connection is answered in a turn.
+        config: Config {
+            max_pending: 0,
+            ..Config::default()
+        },
         connections: CONNECTIONS,
         exchange: Duration::from_secs(10),
         sweep: Duration::from_secs(1),

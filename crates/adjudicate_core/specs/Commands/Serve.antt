@@ -1,15 +1,17 @@
 -- `serve --tables DIR [--manifest FILE] --bind ADDR [--requests N]`: requests of HTTP that are answered by the tables of a folder, and what
 -- it tells (this project's own). What is answered to a request is the contract of http_answer.
-use Rattle.std.specs.Prelude.{◌≡◌, ◌++◌, ℕ, List, [], ◌∷◌, Option, Some, Result, Err, codes, option_map}
+use Rattle.std.specs.Prelude.{◌≡◌, ◌≢◌, ◌++◌, ℕ, List, [], ◌∷◌, Option, Some, Result, Err, codes, option_map}
 use Rattle.clap.specs.Words.{Rule, Text}
 use Rattle.line_teller.specs.ToldLines.{refused_files, refused_memory}
 use Rattle.move_msg.specs.TextLines.{ended}
 use Rattle.move_msg.specs.ToldManifests.{ToldManifest}
 use Rattle.system_io.specs.Disks.{AtFile, DiskFacts}
 use Rattle.system_io.specs.declared.output.WriteFault.{WriteFault}
+use Rattle.table_folder.specs.Folders.{Folder, IsFolderAt}
 use Rattle.task_files.specs.Outside.{FolderFails, IsToldAt}
 use Rattle.task_files.specs.Sources.{Named, nothing}
 use Rattle.arbiter_server.specs.ServedLines.{refused_port}
+use Rattle.adjudicate_core.specs.Addresses.{IsAddressIfAny}
 use Rattle.adjudicate_core.specs.Lines.{refused_manifest}
 use Rattle.adjudicate_core.specs.Rules.{rule_of_form}
 use Rattle.adjudicate_core.specs.declared.commands.Form.TheVariants as form
@@ -31,11 +33,12 @@ pub record HasValues (value : Text → Option Text) (t : Serve) : Type 0 where
   pub tables : Some t.tables.now ≡ value (codes "tables")
   pub manifest : option_map (λ s. s.now) t.manifest ≡ value (codes "manifest")
   pub bind : Some t.bind.now ≡ value (codes "bind")
+  pub address : IsAddressIfAny (value (codes "bind"))
   pub requests : IsDatagrams (value (codes "requests")) t.requests
 
 -- what may be wrong with its values, in the order in which it is told
 abbrev pub faults : List Fault
-faults = NoOption (codes "tables") ∷ NoOption (codes "bind") ∷ Unfit wanted.Requests ∷ []
+faults = NoOption (codes "tables") ∷ NoOption (codes "bind") ∷ Unfit wanted.Address ∷ Unfit wanted.Requests ∷ []
 
 -- nothing is read for it before it answers
 abbrev pub named : Named
@@ -57,10 +60,14 @@ pub data ServesFolder (old new : Option (List ℕ)) (r : Result ℕ WriteFault) 
   Done : (address : List ℕ) → TellsWholeText (ready_line address) 0 old new r → ServesFolder old new r
   Lost : (address : List ℕ) → TellsWholeText (ready_line address ++ ended refused_port) 1 old new r → ServesFolder old new r
 
--- the manifest can't be read; or it is malformed; or the folder can't be read; or what follows
+-- no line of a manifest that is named is malformed
+abbrev pub IsSound : Option ToldManifest → Type 0
+IsSound told = (line : ℕ) → told ≢ Some (Err line)
+
+-- the manifest can't be read; or it is malformed; or else the folder can't be read; or it is served
 pub data Serves (disk : DiskFacts) (t : Serve) (old new : Option (List ℕ)) (r : Result ℕ WriteFault) : Type 0 where
   NoManifest : (path : List ℕ) → manifest_path t ≡ Some path → disk.fails (AtFile path) → TellsOne refused_files old new r → Serves disk t old new r
   NoRoomForManifest : TellsOne refused_memory old new r → Serves disk t old new r
   BadManifest : (line : ℕ) → IsToldAt disk (manifest_path t) (Some (Err line)) → TellsOne (refused_manifest line) old new r → Serves disk t old new r
-  NoFolder : (told : Option ToldManifest) → IsToldAt disk (manifest_path t) told → FolderFails disk t.tables.now told → TellsOne refused_files old new r → Serves disk t old new r
-  OverFolder : (told : Option ToldManifest) → IsToldAt disk (manifest_path t) told → ServesFolder old new r → Serves disk t old new r
+  NoFolder : (told : Option ToldManifest) → IsToldAt disk (manifest_path t) told → IsSound told → FolderFails disk t.tables.now told → TellsOne refused_files old new r → Serves disk t old new r
+  OverFolder : (told : Option ToldManifest) → IsToldAt disk (manifest_path t) told → IsSound told → (folder : Folder) → IsFolderAt disk t.tables.now told folder → ServesFolder old new r → Serves disk t old new r

@@ -9,7 +9,7 @@ ghost use Rattle.task_files.specs.Sources.{named_by};
 use super::options::{BIND, MANIFEST, TABLES};
 use super::{Form, Group, Stands, Summary, Value};
 use crate::words::usage::ValueFault;
-use crate::words::values::{option_in, requests_in};
+use crate::words::values::{check_bind, option_in, requests_in};
 use clap::ArgMatches;
 use task_files::InputPaths;
 
@@ -51,10 +51,13 @@ impl<'a> Serve<'a> {
         ensures ok { IfOk result (HasValues (first_value (found_of matches.now))) }
         ensures err { IfErr result (λ fault. IsFirstMisuse (first_value (found_of matches.now)) faults (fault_words fault)) }
     {
+        let tables = option_in(matches, "tables")?;
+        let bind = option_in(matches, "bind")?;
+        check_bind(matches)?;
         Ok(Serve {
-            tables: option_in(matches, "tables")?,
+            tables,
             manifest: matches.get_str("manifest"),
-            bind: option_in(matches, "bind")?,
+            bind,
             requests: requests_in(matches)?,
         })
     }
