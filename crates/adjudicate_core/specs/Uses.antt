@@ -1,5 +1,5 @@
 -- What is printed for a misuse: one line, perhaps a near word, and the line that names help (this project's own).
-use Rattle.std.specs.Prelude.{◌≡◌, ◌≤◌, ◌<◌, ◌*◌, ◌⊎◌, ◌++◌, ◌==◌, ◌&&◌, not, nat_le, cond, ℕ, Bool, List, [], ◌∷◌, length, Option, Some, None, codes}
+use Rattle.std.specs.Prelude.{◌≡◌, ◌≢◌, ◌≤◌, ◌<◌, ◌*◌, ◌⊎◌, ◌++◌, ◌==◌, ◌&&◌, not, nat_le, cond, ℕ, Bool, List, [], ◌∷◌, length, Option, Some, None, codes}
 use Rattle.std.specs.List.{Contains, flat_map}
 use Rattle.std.specs.Str.{chars}
 use Rattle.strsim.specs.Edits.{osa_table}
@@ -92,7 +92,7 @@ IsToldSo (misuse.HelpOf command) text = IsHelpOf command text
 IsToldSo (misuse.NoText word) text = IsToldAs (misuse.NoText word) None (shown_line (codes "no text " ++ word.now)) text
 IsToldSo (misuse.UnknownCommand word) text = IsToldAs (misuse.UnknownCommand word) None (shown_line (codes "no command " ++ word.now)) text
 IsToldSo (misuse.Refused command e) text =
-    ((kind_of e ≡ DisplayHelp) × IsHelpOf command text) ⊎ ((words : List ℕ) × IsToldAs (misuse.Refused command e) (Some command) (shown_line words) text)
+    ((kind_of e ≡ DisplayHelp) × IsHelpOf command text) ⊎ ((kind_of e ≢ DisplayHelp) × ((words : List ℕ) × IsToldAs (misuse.Refused command e) (Some command) (shown_line words) text))
 IsToldSo (misuse.Value command fault) text = IsToldAs (misuse.Value command fault) (Some command) (shown_line (fault_words fault)) text
 
 -- ---- on an output

@@ -1,4 +1,4 @@
-use Rattle.std.proofs.Common.{◌++◌, [], ap, append-nil, codes, inr, refl}
+use Rattle.std.proofs.Common.{◌++◌, ◌∙◌, [], ap, append-nil, codes, inr, refl}
 use Rattle.std.specs.Prelude.{None}
 use Rattle.adjudicate_core.specs.Uses.{behind_line, shown_line}
 use Rattle.adjudicate_core.specs.Inside.Putting.{hinted}
@@ -19,6 +19,6 @@ pub returns-in_default : goal.returns-in_default
 returns-in_default g c =
     rw c.in-Refused.is (record {
       text = _;
-      is = inr (c.tell_refused.ensures.0, (hinted c.tell_refused.ensures.1.0, option_told c.in-Refused.name c.in-Refused.error c.tell_refused.ensures.1.0 c.tell_refused.ensures.1.1, refl));
+      is = inr (λ is. c.in_default.not-DisplayHelp (c.kind.ensures ∙ is), (c.tell_refused.ensures.0, (hinted c.tell_refused.ensures.1.0, option_told c.in-Refused.name c.in-Refused.error c.tell_refused.ensures.1.0 c.tell_refused.ensures.1.1, refl)));
       out = c.tell_refused.ensures.1.2;
     })
