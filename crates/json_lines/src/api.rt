@@ -33,7 +33,7 @@ fn winning(plies: u32) -> &'static str
     }
 }
 
-/// The same of a loss.
+/// Whether a loss comes in time that takes so many plies from the last capture or pawn move to the next, in a word.
 fn losing(plies: u32) -> &'static str
     ensures { result.now ≡ losing plies }
 {
