@@ -1,5 +1,5 @@
 -- A game's file by what was found in it, and the lines of a list that are entered so far.
-use Rattle.std.proofs.Common.{◌≡◌, ◌≢◌, ◌≤◌, ◌<◌, ◌+◌, ◌++◌, ◌⊎◌, ℕ, Bool, true, false, List, [], ◌∷◌, Option, length, refl, sym, ap, subst, ◌∙◌, append_assoc, append-nil, inl, inr, arith}
+use Rattle.std.proofs.Common.{◌≡◌, ◌≢◌, ◌≤◌, ◌<◌, ◌+◌, ◌++◌, ◌⊎◌, ℕ, Bool, true, false, List, [], ◌∷◌, Option, Some, None, length, refl, sym, ap, subst, ◌∙◌, append_assoc, append-nil, inl, inr, arith}
 use Rattle.std.specs.Prelude.{◌&&◌, Result, Ok, Err, IfErr, IfOk, OnOk, Vec, codes, take}
 use Rattle.std.specs.Global.{Global}
 use Rattle.std.specs.Io.KnownBytes.{Appends}
@@ -20,36 +20,41 @@ use Rattle.line_teller.specs.ToldLines.{HasFront, LineTold, WritesTold, all_told
 use Rattle.adjudicate_core.specs.declared.entering.KeepFault.{KeepFault}
 use Rattle.adjudicate_core.specs.declared.entering.KeepFault.TheVariants as keep
 use Rattle.adjudicate_core.specs.declared.entries.EntryFault.{EntryFault}
-use Rattle.adjudicate_core.specs.Enters.{AreMadeForTold, ComesOf, CutsEntries, CutsLine, EntersFirst, EntersLine, EntersLines, EntersNoGame, Failed, HasList, HasText, HasTextAt, LacksText, LacksTextAt, Left, MakesForTold, OfFile, OfInput, OverFile, Place, Put, PutsEntries, told_entry}
-use Rattle.adjudicate_core.specs.Inside.Entering.{HasOver, LacksOver, MakesForLine, Replaced, Same}
+use Rattle.adjudicate_core.specs.Enters.{AreMadeForTold, ComesOf, CutsEntries, CutsLine, EntersFirst, EntersLine, EntersLines, EntersNoGame, Exists, Failed, HasList, HasText, HasTextAt, LacksText, LacksTextAt, Left, MakesForTold, OfFile, OfInput, OverFile, Place, Put, PutsEntries, told_entry}
+use Rattle.adjudicate_core.specs.Inside.Entering.{Barred, HasOver, LacksOver, MakesForLine, Replaced, Same, Unreplaced}
 use Rattle.adjudicate_core.specs.Listens.{Hosted}
 use Rattle.adjudicate_core.specs.Reply.{status_if}
 
 -- ---- a file
 
 -- what was found at a start is one of those that may have been there
-found_has : {F : Type 0} (facts : F → KeptFacts) (file mid file' : F) (found : Option (List ℕ)) (text : List ℕ) → IsOneOfFound (facts file) found → ((a b : Option (List ℕ)) → (facts file).finds a b → (facts mid).finds a b) → (facts mid).finds found found → HasOver facts mid file' found text → HasText facts file file' text
-found_has facts file mid file' found text one keeps lasts (Same is same) =
-    Left (subst (IsOneOfFound (facts file)) is one)
+found_has : {F : Type 0} (facts : F → KeptFacts) (is_new : Bool) (file mid file' : F) (found : Option (List ℕ)) (text : List ℕ) → IsOneOfFound (facts file) found → ((a b : Option (List ℕ)) → (facts file).finds a b → (facts mid).finds a b) → (facts mid).finds found found → HasOver facts is_new mid file' found text → HasText facts is_new file file' text
+found_has facts is_new file mid file' found text one keeps lasts (Same old is same) =
+    Left old (subst (IsOneOfFound (facts file)) is one)
     (λ a b h. subst (λ f. (facts f).finds a b) (sym same) (keeps a b h))
     (subst (λ o. (facts file').finds o o) is (subst (λ f. (facts f).finds found found) (sym same) lasts))
-found_has facts file mid file' found text one keeps lasts (Replaced other finds) = Put found one other finds
+found_has facts is_new file mid file' found text one keeps lasts (Replaced other finds) = Put found one other finds
 
-pub found_kept : {F : Type 0} (facts : F → KeptFacts) (file mid file' : F) (found : Option (List ℕ)) (text : List ℕ) (r : Result Unit KeepFault) → IsOneOfFound (facts file) found → ((a b : Option (List ℕ)) → (facts file).finds a b → (facts mid).finds a b) → (facts mid).finds found found → OnOk r (HasOver facts mid file' found text) → OnOk r (HasText facts file file' text)
-found_kept facts file mid file' found text (Ok u) one keeps lasts h = found_has facts file mid file' found text one keeps lasts h
-found_kept facts file mid file' found text (Err fault) one keeps lasts h = tt
+pub found_kept : {F T : Type 0} (facts : F → KeptFacts) (is_new : Bool) (file mid file' : F) (found : Option (List ℕ)) (text : List ℕ) (r : Result T KeepFault) → IsOneOfFound (facts file) found → ((a b : Option (List ℕ)) → (facts file).finds a b → (facts mid).finds a b) → (facts mid).finds found found → OnOk r (HasOver facts is_new mid file' found text) → OnOk r (HasText facts is_new file file' text)
+found_kept facts is_new file mid file' found text (Ok u) one keeps lasts h = found_has facts is_new file mid file' found text one keeps lasts h
+found_kept facts is_new file mid file' found text (Err fault) one keeps lasts h = tt
 
-pub found_unkept : {F : Type 0} (facts : F → KeptFacts) (file mid file' : F) (found : Option (List ℕ)) (text : List ℕ) (r : Result Unit KeepFault) → IsOneOfFound (facts file) found → (facts mid).faults ≡ (facts file).faults → IfErr r (LacksOver facts mid file' found text) → IfErr r (LacksText facts file file' text)
-found_unkept facts file mid file' found text (Ok u) one same h = tt
-found_unkept facts file mid file' found text (Err fault) one same h = Failed found one h.other h.either (subst (λ (n : ℕ). Risen n (facts file').faults) same h.failed) h.is
+found_lacks : {F : Type 0} (facts : F → KeptFacts) (is_new : Bool) (file mid file' : F) (found : Option (List ℕ)) (text : List ℕ) (fault : KeepFault) → IsOneOfFound (facts file) found → ((a b : Option (List ℕ)) → (facts file).finds a b → (facts mid).finds a b) → (facts mid).faults ≡ (facts file).faults → LacksOver facts is_new mid file' found text fault → LacksText facts is_new file file' text fault
+found_lacks facts is_new file mid file' None text fault one keeps count (Barred new some same is) = absurd some
+found_lacks facts is_new file mid file' (Some bytes) text fault one keeps count (Barred new some same is) = Exists new bytes one (λ a b h. subst (λ f. (facts f).finds a b) (sym same) (keeps a b h)) is
+found_lacks facts is_new file mid file' found text fault one keeps count (Unreplaced other either failed is) = Failed found one other either (subst (λ (n : ℕ). Risen n (facts file').faults) count failed) is
 
-pub kept_at : {P F : Type 0} (host : Hosted P F) (path text : List ℕ) (file file' : F) (r : Result Unit KeepFault) → host.host.is_at path file → OnOk r (HasText host.file file file' text) → OnOk r (HasTextAt host path text)
-kept_at host path text file file' (Ok u) at h = record { file = file; after = file'; at = at; has = h }
-kept_at host path text file file' (Err fault) at h = tt
+pub found_unkept : {F T : Type 0} (facts : F → KeptFacts) (is_new : Bool) (file mid file' : F) (found : Option (List ℕ)) (text : List ℕ) (r : Result T KeepFault) → IsOneOfFound (facts file) found → ((a b : Option (List ℕ)) → (facts file).finds a b → (facts mid).finds a b) → (facts mid).faults ≡ (facts file).faults → IfErr r (LacksOver facts is_new mid file' found text) → IfErr r (LacksText facts is_new file file' text)
+found_unkept facts is_new file mid file' found text (Ok u) one keeps count h = tt
+found_unkept facts is_new file mid file' found text (Err fault) one keeps count h = found_lacks facts is_new file mid file' found text fault one keeps count h
 
-pub unkept_at : {P F : Type 0} (host : Hosted P F) (path text : List ℕ) (file file' : F) (r : Result Unit KeepFault) → host.host.is_at path file → IfErr r (LacksText host.file file file' text) → IfErr r (LacksTextAt host path text)
-unkept_at host path text file file' (Ok u) at h = tt
-unkept_at host path text file file' (Err fault) at h = OverFile file file' at h
+pub kept_at : {P F T : Type 0} (p : Place P F) (path text : List ℕ) (file file' : F) (r : Result T KeepFault) → p.host.host.is_at path file → OnOk r (HasText p.host.file p.is_new file file' text) → OnOk r (HasTextAt p path text)
+kept_at p path text file file' (Ok u) at h = record { file = file; after = file'; at = at; has = h }
+kept_at p path text file file' (Err fault) at h = tt
+
+pub unkept_at : {P F T : Type 0} (p : Place P F) (path text : List ℕ) (file file' : F) (r : Result T KeepFault) → p.host.host.is_at path file → IfErr r (LacksText p.host.file p.is_new file file' text) → IfErr r (LacksTextAt p path text)
+unkept_at p path text file file' (Ok u) at h = tt
+unkept_at p path text file file' (Err fault) at h = OverFile file file' at h
 
 -- ---- the text of a list
 

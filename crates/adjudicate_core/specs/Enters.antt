@@ -1,5 +1,5 @@
 -- What `enter` makes of its words and of what it reads (this project's own).
-use Rattle.std.specs.Prelude.{◌≡◌, ◌≢◌, ◌⊎◌, ◌+◌, ◌++◌, ℕ, true, false, List, [], ◌∷◌, Option, Some, Result, Ok, Err, codes, option_map}
+use Rattle.std.specs.Prelude.{◌≡◌, ◌≢◌, ◌⊎◌, ◌+◌, ◌++◌, ℕ, Bool, true, false, List, [], ◌∷◌, Option, Some, None, Result, Ok, Err, codes, option_map}
 use Rattle.std.specs.Io.KnownBytes.{Appends}
 use Rattle.hex.specs.Hex.{encode_lower}
 use Rattle.board_core.specs.declared.parts.Parts.{Parts}
@@ -30,7 +30,7 @@ use Rattle.adjudicate_core.specs.declared.entering.KeepFault.TheVariants as keep
 use Rattle.adjudicate_core.specs.declared.entries.EntryFault.{EntryFault}
 use Rattle.adjudicate_core.specs.declared.entries.EntryFault.TheVariants as entry
 use Rattle.adjudicate_core.specs.Entries.{IsFirstEntryFault, SpellsEntry}
-use Rattle.adjudicate_core.specs.Lines.{refused_entry, refused_fen}
+use Rattle.adjudicate_core.specs.Lines.{refused_entry, refused_exists, refused_fen}
 use Rattle.adjudicate_core.specs.Listens.{Hosted}
 use Rattle.adjudicate_core.specs.Manifests.{IsNamedManifest, LacksManifest}
 use Rattle.adjudicate_core.specs.Outsides.{Outside}
@@ -38,14 +38,15 @@ use Rattle.adjudicate_core.specs.Reply.{IsText, status_if}
 use Rattle.adjudicate_core.specs.Telling.{TellsOne, TellsWholeText}
 use Rattle.source_core.specs.Lines.{IsCut}
 
--- where games are entered: the host of their files, the folder, and the manifest by which they are stamped
+-- where games are entered: the host of their files, the folder, the manifest by which they are stamped, and whether each has to be new
 pub record Place (P F : Type 0) : Type 1 where
   pub host : Hosted P F
   pub games : List ℕ
   pub manifest : List ℕ
+  pub is_new : Bool
 
-abbrev pub place : {P F : Type 0} → Hosted P F → List ℕ → List ℕ → Place P F
-place host games manifest = record { host = host; games = games; manifest = manifest }
+abbrev pub place : {P F : Type 0} → Hosted P F → List ℕ → List ℕ → Bool → Place P F
+place host games manifest is_new = record { host = host; games = games; manifest = manifest; is_new = is_new }
 
 -- ---- the text of a game in a file
 
@@ -53,28 +54,34 @@ place host games manifest = record { host = host; games = games; manifest = mani
 abbrev pub IsFileLeft : {F : Type 0} → (F → KeptFacts) → F → F → Type 0
 IsFileLeft facts file file' = (a b : Option (List ℕ)) → (facts file).finds a b → (facts file').finds a b
 
--- it had this text already, and is left; or the text takes its place, and each later start finds it
-pub data HasText {F : Type 0} (facts : F → KeptFacts) (file file' : F) (text : List ℕ) : Type 0 where
-  Left : IsOneOfFound (facts file) (Some text) → IsFileLeft facts file file' → (facts file').finds (Some text) (Some text) → HasText facts file file' text
-  Put : (found : Option (List ℕ)) → IsOneOfFound (facts file) found → found ≢ Some text → (facts file').finds (Some text) (Some text) → HasText facts file file' text
+-- what was found may be replaced: a game that has to be new has no file
+abbrev pub IsReplaceable : Bool → Option (List ℕ) → List ℕ → Type 0
+IsReplaceable is_new found text = (found ≢ Some text) × (is_new ≡ true → found ≡ None)
 
--- why it hasn't: it can't be brought to the disk or read, and is left; or the text can't take its place, since a call for the file failed,
--- and a start finds what was there before, or the text
-pub data LacksText {F : Type 0} (facts : F → KeptFacts) (file file' : F) (text : List ℕ) (fault : KeepFault) : Type 0 where
-  Unreadable : CannotStart (facts file) read.Unreadable → IsFileLeft facts file file' → fault ≡ keep.Keeper → LacksText facts file file' text fault
-  NoRoomToRead : CannotStart (facts file) read.OutOfMemory → IsFileLeft facts file file' → fault ≡ keep.OutOfMemory → LacksText facts file file' text fault
-  Failed : (found : Option (List ℕ)) → IsOneOfFound (facts file) found → found ≢ Some text → FindsOldOrNew (facts file') found text → Risen (facts file).faults (facts file').faults → fault ≡ keep.Keeper → LacksText facts file file' text fault
+-- it had this text already, need not be new, and is left; or the text takes the place of what may be replaced, and each later start finds
+-- it
+pub data HasText {F : Type 0} (facts : F → KeptFacts) (is_new : Bool) (file file' : F) (text : List ℕ) : Type 0 where
+  Left : is_new ≡ false → IsOneOfFound (facts file) (Some text) → IsFileLeft facts file file' → (facts file').finds (Some text) (Some text) → HasText facts is_new file file' text
+  Put : (found : Option (List ℕ)) → IsOneOfFound (facts file) found → IsReplaceable is_new found text → (facts file').finds (Some text) (Some text) → HasText facts is_new file file' text
+
+-- why it hasn't: it can't be brought to the disk or read, and is left; or the game has to be new and the file is there, whatever its text,
+-- and is left; or the text can't take its place, since a call for the file failed, and a start finds what was there before, or the text
+pub data LacksText {F : Type 0} (facts : F → KeptFacts) (is_new : Bool) (file file' : F) (text : List ℕ) (fault : KeepFault) : Type 0 where
+  Unreadable : CannotStart (facts file) read.Unreadable → IsFileLeft facts file file' → fault ≡ keep.Keeper → LacksText facts is_new file file' text fault
+  NoRoomToRead : CannotStart (facts file) read.OutOfMemory → IsFileLeft facts file file' → fault ≡ keep.OutOfMemory → LacksText facts is_new file file' text fault
+  Exists : is_new ≡ true → (found : List ℕ) → IsOneOfFound (facts file) (Some found) → IsFileLeft facts file file' → fault ≡ keep.Exists → LacksText facts is_new file file' text fault
+  Failed : (found : Option (List ℕ)) → IsOneOfFound (facts file) found → IsReplaceable is_new found text → FindsOldOrNew (facts file') found text → Risen (facts file).faults (facts file').faults → fault ≡ keep.Keeper → LacksText facts is_new file file' text fault
 
 -- so it is of the file at this path
-pub record HasTextAt {P F : Type 0} (host : Hosted P F) (path text : List ℕ) : Type 0 where
+pub record HasTextAt {P F : Type 0} (p : Place P F) (path text : List ℕ) : Type 0 where
   pub file : F
   pub after : F
-  pub at : host.host.is_at path file
-  pub has : HasText host.file file after text
+  pub at : p.host.host.is_at path file
+  pub has : HasText p.host.file p.is_new file after text
 
-pub data LacksTextAt {P F : Type 0} (host : Hosted P F) (path text : List ℕ) (fault : KeepFault) : Type 0 where
-  OverFile : (file file' : F) → host.host.is_at path file → LacksText host.file file file' text fault → LacksTextAt host path text fault
-  NoRoomForFile : host.host.takes_memory path → fault ≡ keep.OutOfMemory → LacksTextAt host path text fault
+pub data LacksTextAt {P F : Type 0} (p : Place P F) (path text : List ℕ) (fault : KeepFault) : Type 0 where
+  OverFile : (file file' : F) → p.host.host.is_at path file → LacksText p.host.file p.is_new file file' text fault → LacksTextAt p path text fault
+  NoRoomForFile : p.host.host.takes_memory path → fault ≡ keep.OutOfMemory → LacksTextAt p path text fault
 
 -- ---- a game in a folder
 
@@ -83,11 +90,11 @@ pub record IsEntered {P F : Type 0} (p : Place P F) (g : GameContents) (stamp : 
   pub is : stamp ≡ game_stamp g p.manifest
   pub text : List ℕ
   pub spells : SpellsGame text g
-  pub has : HasTextAt p.host (game_path p.games stamp) text
+  pub has : HasTextAt p (game_path p.games stamp) text
 
 -- why it isn't: the file hasn't its text; or memory for the file's path was refused
 pub data IsUnentered {P F : Type 0} (p : Place P F) (g : GameContents) (fault : KeepFault) : Type 0 where
-  NoText : (text : List ℕ) → SpellsGame text g → LacksTextAt p.host (game_path p.games (game_stamp g p.manifest)) text fault → IsUnentered p g fault
+  NoText : (text : List ℕ) → SpellsGame text g → LacksTextAt p (game_path p.games (game_stamp g p.manifest)) text fault → IsUnentered p g fault
   NoRoomForPath : fault ≡ keep.OutOfMemory → IsUnentered p g fault
 
 -- the file of a game in the folder, by its stamp
@@ -96,6 +103,7 @@ file_of_game p g = FileAt (game_path p.games (game_stamp g p.manifest))
 
 abbrev pub keep_fault_words : KeepFault → List ℕ
 keep_fault_words keep.Keeper = refused_keeper
+keep_fault_words keep.Exists = refused_exists
 keep_fault_words keep.OutOfMemory = refused_memory
 
 -- ---- the game of the words
@@ -119,7 +127,7 @@ pub data EntersOne {P F : Type 0} (out : Outside P F) (t : Enter) (g : OneGame) 
   BadStart : Passes out.had out.has [] → (fault : FenFault) → IsFirstFenFault g.start.now fault → TellsOne (refused_fen fault) old new r → EntersOne out t g old new r
   NoManifest : Passes out.had out.has [] → IsText g.start.now → (words : List ℕ) → LacksManifest out.disk (option_map (λ s. s.now) t.manifest) t.tables.now words → TellsOne words old new r → EntersOne out t g old new r
   NoRoom : Passes out.had out.has [] → IsText g.start.now → TellsOne refused_memory old new r → EntersOne out t g old new r
-  Entered : (start : Parts) → SpellsPosition g.start.now start → IsPosition start → (manifest : List ℕ) → IsNamedManifest out.disk (option_map (λ s. s.now) t.manifest) t.tables.now manifest → PutsGame (place out.host t.games.now manifest) (entered g start) out.had out.has old new r → EntersOne out t g old new r
+  Entered : (start : Parts) → SpellsPosition g.start.now start → IsPosition start → (manifest : List ℕ) → IsNamedManifest out.disk (option_map (λ s. s.now) t.manifest) t.tables.now manifest → PutsGame (place out.host t.games.now manifest t.is_new) (entered g start) out.had out.has old new r → EntersOne out t g old new r
 
 -- ---- the games of a list
 
@@ -127,10 +135,16 @@ pub data EntersOne {P F : Type 0} (out : Outside P F) (t : Enter) (g : OneGame) 
 abbrev pub EntersNoGame : {P F : Type 0} → Place P F → List ℕ → KeepFault → Type 0
 EntersNoGame p line fault = (g : GameContents) × SpellsEntry line g × IsUnentered p g fault
 
+-- what is at fault with a game's file, as it is told of a line; want of memory isn't
+abbrev pub IsFileFault : EntryFault → KeepFault → Type 0
+IsFileFault fault keep.Keeper = fault ≡ entry.Keeper
+IsFileFault fault keep.Exists = fault ≡ entry.Exists
+IsFileFault fault keep.OutOfMemory = ⊥
+
 -- what comes of a line: its game is entered under this stamp; or the line is at fault, or the game's file
 abbrev pub ComesOf : {P F : Type 0} → Place P F → List ℕ → Result Stamp EntryFault → Type 0
 ComesOf p line (Ok stamp) = (g : GameContents) × SpellsEntry line g × IsEntered p g stamp
-ComesOf p line (Err fault) = IsFirstEntryFault line fault ⊎ ((fault ≡ entry.Keeper) × EntersNoGame p line keep.Keeper)
+ComesOf p line (Err fault) = IsFirstEntryFault line fault ⊎ ((f : KeepFault) × IsFileFault fault f × EntersNoGame p line f)
 
 -- what is told of the line with this number, and whether its game is entered
 abbrev pub told_entry : ℕ → Result Stamp EntryFault → LineTold
@@ -196,7 +210,7 @@ PutsGames p lines had has old new (Err fault) = CutsEntries p lines had has old 
 pub data EntersList {P F : Type 0} (out : Outside P F) (t : Enter) (text : List ℕ) (old new : Option (List ℕ)) (r : Result ℕ WriteFault) : Type 0 where
   Unstamped : Passes out.had out.has [] → (words : List ℕ) → LacksManifest out.disk (option_map (λ s. s.now) t.manifest) t.tables.now words → TellsOne words old new r → EntersList out t text old new r
   NoRoomForManifest : Passes out.had out.has [] → TellsOne refused_memory old new r → EntersList out t text old new r
-  Listed : (manifest : List ℕ) → IsNamedManifest out.disk (option_map (λ s. s.now) t.manifest) t.tables.now manifest → PutsGames (place out.host t.games.now manifest) (lines_in text) out.had out.has old new r → EntersList out t text old new r
+  Listed : (manifest : List ℕ) → IsNamedManifest out.disk (option_map (λ s. s.now) t.manifest) t.tables.now manifest → PutsGames (place out.host t.games.now manifest t.is_new) (lines_in text) out.had out.has old new r → EntersList out t text old new r
 
 -- the list is what the input gives where the path is `-`, and else what the file has
 pub data HasList (disk : DiskFacts) (source : InputFacts) (path text : List ℕ) : Type 0 where

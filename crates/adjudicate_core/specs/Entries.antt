@@ -7,7 +7,7 @@ use Rattle.fen_text.specs.Fen.{IsFirstFenFault, SpellsPosition}
 use Rattle.move_msg.specs.Stamps.{IsGameName}
 use Rattle.arbiter_server.specs.GameFiles.{GameContents, IsPossibleGame}
 use Rattle.adjudicate_core.specs.declared.entries.EntryFault.{EntryFault}
-use Rattle.adjudicate_core.specs.declared.entries.EntryFault.TheVariants.{Fields, Name, Start, Delay, Keeper}
+use Rattle.adjudicate_core.specs.declared.entries.EntryFault.TheVariants.{Fields, Name, Start, Delay, Keeper, Exists}
 use Rattle.adjudicate_core.specs.Numbers.{IsDelayDigit}
 use Rattle.adjudicate_core.specs.Reply.{IsText}
 
@@ -36,3 +36,4 @@ IsFirstEntryFault line (Start fault) =
 IsFirstEntryFault line Delay =
     (name start delay : List ℕ) × HasThreeFields line name start delay × IsGameName name × IsText start × ((n : ℕ) → IsDelayDigit delay n → ⊥)
 IsFirstEntryFault line Keeper = ⊥
+IsFirstEntryFault line Exists = ⊥

@@ -58,6 +58,7 @@ entry_fault_words entry.Name = codes "name"
 entry_fault_words (entry.Start fault) = fault_text fault
 entry_fault_words entry.Delay = codes "delay"
 entry_fault_words entry.Keeper = codes "keeper"
+entry_fault_words entry.Exists = codes "exists"
 
 -- ---- lines
 
@@ -128,6 +129,10 @@ abbrev pub refused_line : ℕ → List ℕ
 refused_line number = codes "refused line " ++ decimal number
 
 -- the refusal of a game of a list by the number of its line, the first being 1
+-- a game has to be new, and its file is there
+abbrev pub refused_exists : List ℕ
+refused_exists = codes "refused exists"
+
 abbrev pub refused_entry : ℕ → EntryFault → List ℕ
 refused_entry number fault = refused_line number ++ codes " " ++ entry_fault_words fault
 
@@ -147,6 +152,7 @@ refusal_words (refusal.Move place) = refused_move place
 refusal_words (refusal.Record fault) = refused_record fault
 refusal_words refusal.Port = refused_port
 refusal_words refusal.Keeper = refused_keeper
+refusal_words refusal.Exists = refused_exists
 refusal_words refusal.InUse = refused_in_use
 refusal_words refusal.Store = refused_store
 refusal_words refusal.Files = refused_files

@@ -21,6 +21,7 @@ use Rattle.system_io.specs.Ports.{Passed, PortFacts}
 use Rattle.source_core.specs.declared.lines.Ended.{Ended}
 use Rattle.source_core.specs.declared.lines.Ended.TheVariants as run
 use Rattle.source_core.specs.declared.turn.SendConfig.{SendConfig}
+use Rattle.source_core.specs.Origins.{origin_by}
 use Rattle.source_core.specs.Sendings.{IsSending, Sending, WritesLines, causes, game_at_port}
 use Rattle.arbiter_server.specs.declared.game_lines.GameFileFault.{GameFileFault}
 use Rattle.arbiter_server.specs.GameFiles.{GameContents, IsFirstGameFault, SpellsGame, line_number}
@@ -87,10 +88,11 @@ LacksSent disk t (sent.InFile f) words = LacksFile disk f words
 
 -- ---- all of it
 
--- the terms on which the moves of a game with this stamp are sent: the words tell how they are written, how often, and how many milliseconds the first try
--- of a move waits
+-- the terms on which the moves of a game with this stamp are sent: the words tell whether the game has to be new, how the moves are
+-- written, how often, and how many milliseconds the first try of a move waits
 pub record IsOnTerms (t : Send) (stamp : Stamp) (terms : SendConfig) : Type 0 where
   pub is : terms.stamp ≡ stamp
+  pub origin : terms.origin ≡ origin_by t.is_new
   pub notation : terms.notation ≡ notation_by t.san
   pub tries : terms.tries ≡ t.tries
   pub wait : as_nanos terms.wait ≡ t.wait * 1_000_000

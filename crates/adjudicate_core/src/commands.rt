@@ -577,6 +577,36 @@ impl<'a> Task<'a> {
 }
 
 impl<'a> Task<'a> {
+    /// The folder of the tables of the task, if it has one.
+    pub(crate) fn tables(&self) -> Option<&'a str> {
+        match self {
+            Task::Judge(task) => task.tables,
+            Task::Probe(task) => Some(task.tables),
+            Task::Probes(task) => Some(task.tables),
+            Task::Root(task) => Some(task.tables),
+            Task::Game(task) => task.tables,
+            Task::Games(task) => Some(task.tables),
+            Task::Pgn(task) => Some(task.tables),
+            Task::Follow(task) => task.tables,
+            Task::Run(task) => task.tables,
+            Task::Audit(task) => Some(task.tables),
+            Task::AuditGames(task) => Some(task.tables),
+            Task::List(task) => Some(task.folder),
+            Task::Check(task) => Some(task.folder),
+            Task::Listen(task) => Some(task.tables),
+            Task::Host(task) => Some(task.tables),
+            Task::Serve(task) => Some(task.tables),
+            Task::Enter(task) => Some(task.tables),
+            Task::Send(task) => match &task.game {
+                SentGame::Told(told) => Some(told.tables),
+                SentGame::InFile(_) => None,
+            },
+            _ => None,
+        }
+    }
+}
+
+impl<'a> Task<'a> {
     /// The file of the keys by which the datagrams of the task are sealed, if they are.
     pub(crate) fn key(&self) -> Option<&'a str>
         ensures { option_map (λ s. s.now) result ≡ key_in self.now }

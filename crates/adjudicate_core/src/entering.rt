@@ -1,6 +1,6 @@
 //! Games that are entered in a folder.
 
-ghost use Rattle.std.specs.Prelude.{◌≡◌, ◌↔◌, Some, IsTrue, IfOk, IfErr, IsErrOf, OnErr, OnOk, codes};
+ghost use Rattle.std.specs.Prelude.{◌≡◌, ◌↔◌, Some, true, IsSome, IsTrue, IfOk, IfErr, IsErrOf, OnErr, OnOk, codes};
 ghost use Rattle.move_msg.specs.TextLines.{ended, lines_in};
 ghost use Rattle.arbiter_server.specs.GameFiles.{game_as_told};
 ghost use Rattle.adjudicate_core.specs.Enters.{ComesOf, Enters, EntersList, EntersOne, HasList, HasText, HasTextAt, IsEntered, IsUnentered};
@@ -18,6 +18,7 @@ use crate::answers::lines::put_refusal;
 use crate::answers::refusals::Refusal;
 use crate::answers::status_if;
 use crate::commands::{Enter, Entries, OneGame};
+use crate::earlier::{EarlierGames, GameText};
 use crate::entries::{EntryFault, first_line, read_entry};
 use crate::manifests::manifest_for;
 use crate::system::System;
@@ -34,6 +35,8 @@ use system_io::{Disk, Host, Input, KeptFile, Output, ReadFault, WriteFault, begi
 pub(crate) enum KeepFault {
     /// The file can't be read or written.
     Keeper,
+    /// The game has to be new, and its file is there.
+    Exists,
     /// Memory was refused.
     OutOfMemory,
 }
@@ -49,6 +52,7 @@ impl KeepFault {
     {
         match self {
             KeepFault::Keeper => Refusal::Keeper,
+            KeepFault::Exists => Refusal::Exists,
             KeepFault::OutOfMemory => Refusal::Memory,
         }
     }
@@ -63,6 +67,8 @@ pub(crate) struct GamePlace<'a, H> {
     games: &'a str,
     /// The manifest by which they are stamped.
     manifest: &'a [u8],
+    /// Whether each of them has to be new.
+    is_new: bool,
 }
 
 // ---- a game
@@ -77,32 +83,51 @@ fn has_bytes(found: &Option<Vec<u8>>, text: &[u8]) -> bool
     }
 }
 
-/// Lets a text take the place of what was found in a file, if it isn't that.
+/// Whether a game that has to be new has a file already.
+fn is_barred(is_new: bool, found: &Option<Vec<u8>>) -> bool
+    ensures { IsTrue result ↔ ((is_new ≡ true) × IsSome (bytes_of found.now)) }
+{
+    match found {
+        Some(_) => is_new,
+        None => false,
+    }
+}
+
+/// Lets a text take the place of what was found in a file, if it isn't that. Nothing is found in the file of a game that has to be new.
 fn keep_over<F: KeptFile>(
     file: &mut F,
+    is_new: bool,
     found: &Option<Vec<u8>>,
     text: &[u8],
-) -> Result<(), KeepFault>
+) -> Result<GameText, KeepFault>
     requires { (F.facts file.old).finds (bytes_of found.now) (bytes_of found.now) }
-    ensures ok { OnOk result (HasOver F.facts file.old file.new (bytes_of found.now) text.now) }
-    ensures err { IfErr result (LacksOver F.facts file.old file.new (bytes_of found.now) text.now) }
+    ensures ok { OnOk result (HasOver F.facts is_new file.old file.new (bytes_of found.now) text.now) }
+    ensures err { IfErr result (LacksOver F.facts is_new file.old file.new (bytes_of found.now) text.now) }
 {
+    if is_barred(is_new, found) {
+        return Err(KeepFault::Exists);
+    }
     if has_bytes(found, text) {
-        return Ok(());
+        return Ok(GameText::Stood);
     }
     match replace(file, text) {
-        Ok(()) => Ok(()),
+        Ok(()) => Ok(GameText::Written),
         Err(_) => Err(KeepFault::Keeper),
     }
 }
 
 /// Keeps the text of a game in its file.
-fn keep_game<F: KeptFile>(alloc: Global, file: &mut F, text: &[u8]) -> Result<(), KeepFault>
-    ensures ok { OnOk result (HasText F.facts file.old file.new text.now) }
-    ensures err { IfErr result (LacksText F.facts file.old file.new text.now) }
+fn keep_game<F: KeptFile>(
+    alloc: Global,
+    file: &mut F,
+    is_new: bool,
+    text: &[u8],
+) -> Result<GameText, KeepFault>
+    ensures ok { OnOk result (HasText F.facts is_new file.old file.new text.now) }
+    ensures err { IfErr result (LacksText F.facts is_new file.old file.new text.now) }
 {
     match begin(alloc, file) {
-        Ok(found) => keep_over(file, &found, text),
+        Ok(found) => keep_over(file, is_new, &found, text),
         Err(ReadFault::Unreadable) => Err(KeepFault::Keeper),
         Err(ReadFault::OutOfMemory) => Err(KeepFault::OutOfMemory),
     }
@@ -111,25 +136,27 @@ fn keep_game<F: KeptFile>(alloc: Global, file: &mut F, text: &[u8]) -> Result<()
 /// Keeps it in the file at a path.
 fn keep_at<H: Host>(
     alloc: Global,
-    host: &H,
+    place: &GamePlace<'_, H>,
     history: &mut H::History,
     path: &str,
     text: &[u8],
-) -> Result<(), KeepFault>
-    ensures ok { OnOk result (HasTextAt (hosted (H.facts host.now) H.Port.facts H.File.facts) path.now text.now) }
-    ensures err { IfErr result (LacksTextAt (hosted (H.facts host.now) H.Port.facts H.File.facts) path.now text.now) }
+) -> Result<GameText, KeepFault>
+    ensures ok { OnOk result (HasTextAt (entering H.facts H.Port.facts H.File.facts place.now) path.now text.now) }
+    ensures err { IfErr result (LacksTextAt (entering H.facts H.Port.facts H.File.facts place.now) path.now text.now) }
     ensures made { MakesOnce (H.made history.old) (H.made history.new) (FileAt path.now) }
 {
-    match host.file(alloc, history, path) {
-        Ok(mut file) => keep_game(alloc, &mut file, text),
+    match place.host.file(alloc, history, path) {
+        Ok(mut file) => keep_game(alloc, &mut file, place.is_new, text),
         Err(_) => Err(KeepFault::OutOfMemory),
     }
 }
 
-/// Enters a game under its stamp. What is at fault with its file is `Keeper`.
-fn enter_game<H: Host>(
+/// Enters a game under its stamp. A host is told of one that was there before. What is at fault with its file is `Keeper`; where the game
+/// has to be new and its file is there, that is `Exists`.
+fn enter_game<D: Disk, H: Host>(
     alloc: Global,
     place: &GamePlace<'_, H>,
+    earlier: &mut EarlierGames<'_, D, H>,
     history: &mut H::History,
     name: &GameName<'_>,
     start: &Position,
@@ -144,8 +171,11 @@ fn enter_game<H: Host>(
         return Err(KeepFault::OutOfMemory);
     };
     let text = write_game(name, start, delay);
-    match keep_at(alloc, place.host, history, path.as_str(), text.as_slice()) {
-        Ok(()) => Ok(stamp),
+    match keep_at(alloc, place, history, path.as_str(), text.as_slice()) {
+        Ok(kept) => {
+            earlier.note(alloc, kept, stamp);
+            Ok(stamp)
+        }
         Err(fault) => Err(fault),
     }
 }
@@ -165,9 +195,10 @@ fn put_stamp<W: Output>(out: &mut W, stamp: Stamp) -> Result<u8, WriteFault>
 }
 
 /// Enters the game of the words from this start, and tells its stamp.
-fn put_game<H: Host, W: Output>(
+fn put_game<D: Disk, H: Host, W: Output>(
     alloc: Global,
     place: &GamePlace<'_, H>,
+    earlier: &mut EarlierGames<'_, D, H>,
     history: &mut H::History,
     game: &OneGame<'_>,
     start: &Position,
@@ -176,7 +207,7 @@ fn put_game<H: Host, W: Output>(
     ensures told { PutsGame (entering H.facts H.Port.facts H.File.facts place.now) (entered game.now start.now) (H.made history.old) (H.made history.new) (W.contents out.old) (W.contents out.new) result }
     ensures cause { OnErr result (HasFailed W.facts) }
 {
-    match enter_game(alloc, place, history, &game.name, start, game.delay) {
+    match enter_game(alloc, place, earlier, history, &game.name, start, game.delay) {
         Ok(stamp) => put_stamp(out, stamp),
         Err(fault) => put_refusal(out, fault.refusal()),
     }
@@ -204,8 +235,10 @@ fn enter_one<D: Disk, I: Input, H: Host, W: Output, G>(
                 host: system.host,
                 games: task.games,
                 manifest: &manifest,
+                is_new: task.is_new,
             };
-            put_game(alloc, &place, history, game, &start, out)
+            let mut earlier = EarlierGames::new(system.disk, system.host, task.games);
+            put_game(alloc, &place, &mut earlier, history, game, &start, out)
         }
         Err(refusal) => put_refusal(out, refusal),
     }
@@ -223,9 +256,10 @@ pub(crate) enum Step {
 }
 
 /// Enters the game of a line. The error comes only where memory is refused for a game; a line that tells none takes no memory.
-fn enter_line<H: Host>(
+fn enter_line<D: Disk, H: Host>(
     alloc: Global,
     place: &GamePlace<'_, H>,
+    earlier: &mut EarlierGames<'_, D, H>,
     history: &mut H::History,
     line: &[u8],
 ) -> Result<Result<Stamp, EntryFault>, AllocError>
@@ -237,9 +271,10 @@ fn enter_line<H: Host>(
         Ok(game) => game,
         Err(fault) => return Ok(Err(fault)),
     };
-    match enter_game(alloc, place, history, &game.name, &game.start, game.delay) {
+    match enter_game(alloc, place, earlier, history, &game.name, &game.start, game.delay) {
         Ok(stamp) => Ok(Ok(stamp)),
         Err(KeepFault::Keeper) => Ok(Err(EntryFault::Keeper)),
+        Err(KeepFault::Exists) => Ok(Err(EntryFault::Exists)),
         Err(KeepFault::OutOfMemory) => Err(AllocError),
     }
 }
@@ -267,9 +302,10 @@ fn put_entered<W: Output>(
 }
 
 /// Enters the game of the line with this number, and tells what came of it. Where memory is refused the line is `refused memory`.
-fn enter_next<H: Host, W: Output>(
+fn enter_next<D: Disk, H: Host, W: Output>(
     alloc: Global,
     place: &GamePlace<'_, H>,
+    earlier: &mut EarlierGames<'_, D, H>,
     history: &mut H::History,
     number: usize,
     line: &[u8],
@@ -279,7 +315,7 @@ fn enter_next<H: Host, W: Output>(
     ensures made { MakesForLine (entering H.facts H.Port.facts H.File.facts place.now) line.now (H.made history.old) (H.made history.new) }
     ensures cause { OnErr result (HasFailed W.facts) }
 {
-    match enter_line(alloc, place, history, line) {
+    match enter_line(alloc, place, earlier, history, line) {
         Ok(entered) => match put_entered(out, number, entered) {
             Ok(done) => Ok(Step::Told(done)),
             Err(fault) => Err(fault),
@@ -293,9 +329,10 @@ fn enter_next<H: Host, W: Output>(
 
 /// Enters the games of the lines of a list in turn, and tells what came of each in a line, and the status, 0 where all are entered. After
 /// a line that can't be told no game is entered.
-fn enter_lines<H: Host, W: Output>(
+fn enter_lines<D: Disk, H: Host, W: Output>(
     alloc: Global,
     place: &GamePlace<'_, H>,
+    earlier: &mut EarlierGames<'_, D, H>,
     history: &mut H::History,
     list: &[u8],
     out: &mut W,
@@ -307,7 +344,7 @@ fn enter_lines<H: Host, W: Output>(
     let mut before: usize = 0;
     let mut done = true;
     while let Some((line, tail)) = first_line(rest) {
-        match enter_next(alloc, place, history, before + 1, line, out) {
+        match enter_next(alloc, place, earlier, history, before + 1, line, out) {
             Ok(Step::Told(is_entered)) => done &= is_entered,
             Ok(Step::Cut) => return Ok(1),
             Err(fault) => return Err(fault),
@@ -360,8 +397,10 @@ fn enter_list<D: Disk, I: Input, H: Host, W: Output, G>(
                 host: system.host,
                 games: task.games,
                 manifest: &manifest,
+                is_new: task.is_new,
             };
-            enter_lines(alloc, &place, history, list, out)
+            let mut earlier = EarlierGames::new(system.disk, system.host, task.games);
+            enter_lines(alloc, &place, &mut earlier, history, list, out)
         }
         Err(refusal) => put_refusal(out, refusal),
     }
@@ -369,11 +408,13 @@ fn enter_list<D: Disk, I: Input, H: Host, W: Output, G>(
 
 /// Enters games in a folder as the words say, and tells the status.
 ///
-/// A game's file is `FOLDER/STAMP.game`. A file that has the game's text already is left. Tables are read for the stamp alone, once,
-/// and none where a manifest is named.
+/// A game's file is `FOLDER/STAMP.game`. A file that has the game's text already is left, and the host's note tells that the game was
+/// there, with the number of its recorded moves where that can be read. Tables are read for the stamp alone, once, and none where a
+/// manifest is named.
 ///
 /// Of one game the line is its stamp. What is refused is told in one line, in this order: the text of the start, the manifest or the
-/// folder of the tables, and the game's file, which can't be read or written, as `refused keeper`.
+/// folder of the tables, and the game's file: it can't be read, as `refused keeper`; it is there though the game has to be new, as
+/// `refused exists`, and is left; it can't be written, as `refused keeper`.
 ///
 /// Of a list a line is told for each of its lines: the stamp, or `refused line N` and why, and the next line follows. The status is 0
 /// only where all games are entered. A list that can't be read is told first, as `refused files`, then the manifest or the folder of

@@ -24,6 +24,8 @@ pub(crate) enum EntryFault {
     Delay,
     /// The file of the game can't be read or written.
     Keeper,
+    /// The game has to be new, and its file is there.
+    Exists,
 }
 
 /// A game that a line tells.

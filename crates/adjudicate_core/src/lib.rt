@@ -79,6 +79,7 @@
 mod answers;
 mod binding;
 mod commands;
+mod earlier;
 mod entering;
 mod entries;
 mod folders;
@@ -89,6 +90,7 @@ mod listening;
 mod locking;
 mod machine;
 mod manifests;
+mod noting;
 mod pages;
 mod program;
 mod sending;
@@ -96,6 +98,7 @@ mod silence;
 mod stores;
 mod system;
 mod tables;
+mod watching;
 mod words;
 
 pub use commands::{

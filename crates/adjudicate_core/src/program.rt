@@ -20,6 +20,7 @@ use crate::hosting::host_games;
 use crate::keys::keys_at;
 use crate::listening::listen;
 use crate::machine::Machine;
+use crate::noting::TablesNoted;
 use crate::pages::Pages;
 use crate::sending::send;
 use crate::silence::tell_silence;
@@ -94,7 +95,7 @@ fn answer_given<'s, D: LineDisk, I: Input, H: Host, G: Pages, W: Output, E: Outp
     }
 }
 
-/// Answers a task from what it reads.
+/// Answers a task from what it reads. A host is told where the folder of its tables has none.
 fn run_task<'s, D: LineDisk, I: Input, H: Host, G: Pages, W: Output, E: Output>(
     alloc: Global,
     task: &Task,
@@ -108,6 +109,13 @@ fn run_task<'s, D: LineDisk, I: Input, H: Host, G: Pages, W: Output, E: Output>(
     ensures made { MakesFor task.now (H.made history.old) (H.made history.new) }
     ensures cause { OnErr result (HasFailed W.facts) }
 {
+    let disk = TablesNoted::over(system.disk, system.host, task.tables());
+    let system = &System {
+        disk: &disk,
+        input: system.input,
+        host: system.host,
+        pages: system.pages,
+    };
     let places = task.places();
     match Inputs::read(alloc, system.disk, system.input, &places) {
         Ok(sources) => {

@@ -10,6 +10,7 @@ ghost use Rattle.adjudicate_core.specs.Inside.SendingParts.{BindsFrom};
 ghost use Rattle.adjudicate_core.specs.Sends.{EndsOnce, IsFiled, IsSent, IsStamped, LacksFile, LacksSent, LacksTold, SendsGame, SendsOver};
 ghost use Rattle.line_teller.specs.ToldLines.{HasFailed};
 ghost use Rattle.move_notation.specs.Notations.{notation_by};
+ghost use Rattle.source_core.specs.Origins.{origin_by};
 
 use crate::answers::lines::put_refusal;
 use crate::answers::refusals::Refusal;
@@ -17,12 +18,13 @@ use crate::binding::bind;
 use crate::commands::{GameFile, Send, SentGame, ToldGame};
 use crate::manifests::manifest_for;
 use crate::system::System;
+use crate::watching::Watched;
 use arbiter_server::{MOST_GAME_BYTES, read_game};
 use board_core::Position;
 use fen_text::read;
 use move_msg::Stamp;
 use move_notation::Notation;
-use source_core::{Ended, SendConfig, send_game};
+use source_core::{Ended, Origin, SendConfig, send_game};
 use std::alloc::Global;
 use std::time::Duration;
 use system_io::{BindFault, Disk, Host, Input, Output, Port, ReadFault, WriteFault};
@@ -118,12 +120,14 @@ fn refuse<W: Output>(out: &mut W, refusal: Refusal) -> Result<Ended, WriteFault>
 /// The terms on which the moves are sent.
 fn terms_of(task: &Send<'_>, stamp: Stamp) -> SendConfig
     ensures stamp { result.stamp ≡ stamp }
+    ensures origin { result.origin ≡ origin_by task.now.is_new }
     ensures notation { result.notation ≡ notation_by task.now.san }
     ensures tries { result.tries ≡ task.now.tries }
     ensures wait { as_nanos result.wait ≡ task.now.wait * 1_000_000 }
 {
     SendConfig {
         stamp,
+        origin: Origin::by_flag(task.is_new),
         notation: Notation::by_flag(task.san),
         tries: u32::from(task.tries),
         wait: Duration::from_millis(u64::from(task.wait)),
@@ -162,7 +166,10 @@ fn bind_and_send<D: Disk, I: Input, H: Host, W: Output, G>(
 {
     let terms = terms_of(task, game.stamp);
     match bind(alloc, system.host, history, task.bind, task.to) {
-        Ok(mut port) => send_over(alloc, terms, game.start, system.input, &mut port, out),
+        Ok(port) => {
+            let mut watched = Watched::over(alloc, port, system.host, &terms, task.to);
+            send_over(alloc, terms, game.start, system.input, &mut watched, out)
+        }
         Err(BindFault::Unbound) => refuse(out, Refusal::Port),
         Err(BindFault::OutOfMemory) => refuse(out, Refusal::Memory),
     }
@@ -176,7 +183,8 @@ fn bind_and_send<D: Disk, I: Input, H: Host, W: Output, G>(
 /// are read for the stamp of a game that words tell alone, and none where a manifest is named. A game's file has its stamp in its
 /// name. That the text of the file is of the game with this stamp can't be checked without the manifest of its tables, so it isn't:
 /// under a wrong name no arbiter answers. What follows is as in `source_core::send_game`. At the host the port is opened, and nothing
-/// else is. The error comes only where the writer failed.
+/// else is. The host's notes tell which arbiters don't answer, and, where the game need not be new, that one has more moves than were sent.
+/// The error comes only where the writer failed.
 pub fn send<D: Disk, I: Input, H: Host, W: Output, G>(
     alloc: Global,
     task: &Send<'_>,

@@ -2,6 +2,7 @@
 use Rattle.std.proofs.Common.{◌≡◌, ◌≢◌, ◌⊎◌, ℕ, ◌+◌, ◌≤◌, ◌<◌, max, false, List, [], ◌∷◌, ◌++◌, Option, Some, None, IfSome, refl, sym, ap, subst, ◌∙◌, append_assoc, append-nil, arith, inl, inr}
 use Rattle.std.specs.Prelude.{◌&&◌, is_some}
 use Rattle.std.specs.List.{AllByRecursion}
+use Rattle.std.specs.declared.net.socket_addr.SocketAddr.{SocketAddr}
 use Rattle.std.proofs.lemmas.List.Elements.{Contains-append_left, Contains-push, Contains-push_cases}
 use Rattle.std.proofs.lemmas.Option.{same_Some}
 use Rattle.move_msg.specs.declared.stamp.Stamp.{Stamp}
@@ -80,8 +81,8 @@ untouched stamp who all bytes said told says not_counts not_rules h = record {
   only = λ r c. elim (came_or_said stamp all bytes said (Rules who r) says c) [ inl before ↦ h.only r before | inr is ↦ absurd (not_rules r is) ];
 }
 
-counts_now : (stamp : Stamp) (who : ArbiterId) (all : List Passing) (bytes : List ℕ) (count : ℕ) (told : Reported) → IsReport stamp bytes (Acknowledges who count) → IsReportedBy stamp who all told → IsReportedBy stamp who (all ++ Came bytes ∷ []) (record { count = max told.count count; ruling = told.ruling })
-counts_now stamp who all bytes count told says h = record {
+counts_now : (stamp : Stamp) (who : ArbiterId) (all : List Passing) (bytes : List ℕ) (count : ℕ) (told : Reported) (from : Option SocketAddr) → IsReport stamp bytes (Acknowledges who count) → IsReportedBy stamp who all told → IsReportedBy stamp who (all ++ Came bytes ∷ []) (record { count = max told.count count; ruling = told.ruling; from = from })
+counts_now stamp who all bytes count told from says h = record {
   counted = λ some. elim (greatest told.count count) [
     | inl first ↦ let more : 0 < told.count = subst (λ n. 0 < n) first some in let c = h.counted more in (c.0, come_still all (Came bytes ∷ []) (message_of stamp (Acknowledges who c.0)) c.1, subst (λ n. n ≤ c.0) (sym first) c.2)
     | inr second ↦ (count, said_now stamp all bytes (Acknowledges who count) says, omega (arith, second))
@@ -97,8 +98,8 @@ counts_now stamp who all bytes count told says h = record {
     greatest : (m n : ℕ) → (max m n ≡ m) ⊎ (max m n ≡ n)
     greatest m n = grind arith
 
-rules_now : (stamp : Stamp) (who : ArbiterId) (all : List Passing) (bytes : List ℕ) (r : Ruling) (told : Reported) → IsReport stamp bytes (Rules who r) → FitsRuling told.ruling r → IsReportedBy stamp who all told → IsReportedBy stamp who (all ++ Came bytes ∷ []) (record { count = told.count; ruling = Some r })
-rules_now stamp who all bytes r told says fits h = record {
+rules_now : (stamp : Stamp) (who : ArbiterId) (all : List Passing) (bytes : List ℕ) (r : Ruling) (told : Reported) (from : Option SocketAddr) → IsReport stamp bytes (Rules who r) → FitsRuling told.ruling r → IsReportedBy stamp who all told → IsReportedBy stamp who (all ++ Came bytes ∷ []) (record { count = told.count; ruling = Some r; from = from })
+rules_now stamp who all bytes r told from says fits h = record {
   counted = λ some. let c = h.counted some in (c.0, come_still all (Came bytes ∷ []) (message_of stamp (Acknowledges who c.0)) c.1, c.2);
   most = λ n c. elim (came_or_said stamp all bytes (Rules who r) (Acknowledges who c.0) says c.1) [ inl before ↦ h.most n (c.0, before, c.2) | inr is ↦ absurd cc ];
   ruled = said_now stamp all bytes (Rules who r) says;
@@ -116,25 +117,25 @@ fits_some : (o : Option Ruling) (r s : Ruling) → FitsRuling o r → o ≡ Some
 fits_some None r s f e = absurd cc
 fits_some (Some x) r s f e = sym (same_Some x s e) ∙ f
 
-pub knows_now : (stamp : Stamp) (all : List Passing) (bytes : List ℕ) (said : Report) (old new : Known) → IsReport stamp bytes said → AddsReport old said new → Knows stamp all old → Knows stamp (all ++ Came bytes ∷ []) new
-knows_now stamp all bytes (Acknowledges A count) old new says adds h = subst (λ k. Knows stamp (all ++ Came bytes ∷ []) k) (sym adds) (record {
-  a = counts_now stamp A all bytes count old.a says h.a;
+pub knows_now : (stamp : Stamp) (all : List Passing) (bytes : List ℕ) (said : Report) (from : Option SocketAddr) (old new : Known) → IsReport stamp bytes said → AddsReport old said from new → Knows stamp all old → Knows stamp (all ++ Came bytes ∷ []) new
+knows_now stamp all bytes (Acknowledges A count) from old new says adds h = subst (λ k. Knows stamp (all ++ Came bytes ∷ []) k) (sym adds) (record {
+  a = counts_now stamp A all bytes count old.a from says h.a;
   b = untouched stamp B all bytes (Acknowledges A count) old.b says (λ n e. cc) (λ r e. cc) h.b;
   agreed = h.agreed;
 })
-knows_now stamp all bytes (Acknowledges B count) old new says adds h = subst (λ k. Knows stamp (all ++ Came bytes ∷ []) k) (sym adds) (record {
+knows_now stamp all bytes (Acknowledges B count) from old new says adds h = subst (λ k. Knows stamp (all ++ Came bytes ∷ []) k) (sym adds) (record {
   a = untouched stamp A all bytes (Acknowledges B count) old.a says (λ n e. cc) (λ r e. cc) h.a;
-  b = counts_now stamp B all bytes count old.b says h.b;
+  b = counts_now stamp B all bytes count old.b from says h.b;
   agreed = h.agreed;
 })
-knows_now stamp all bytes (Rules A r) old new says (is, fits_a, fits_b) h = subst (λ k. Knows stamp (all ++ Came bytes ∷ []) k) (sym is) (record {
-  a = rules_now stamp A all bytes r old.a says fits_a h.a;
+knows_now stamp all bytes (Rules A r) from old new says (is, fits_a, fits_b) h = subst (λ k. Knows stamp (all ++ Came bytes ∷ []) k) (sym is) (record {
+  a = rules_now stamp A all bytes r old.a from says fits_a h.a;
   b = untouched stamp B all bytes (Rules A r) old.b says (λ n e. cc) (λ s e. cc) h.b;
   agreed = λ x s e f. sym (same_Some r x e) ∙ sym (fits_some old.b.ruling r s fits_b f);
 })
-knows_now stamp all bytes (Rules B r) old new says (is, fits_a, fits_b) h = subst (λ k. Knows stamp (all ++ Came bytes ∷ []) k) (sym is) (record {
+knows_now stamp all bytes (Rules B r) from old new says (is, fits_a, fits_b) h = subst (λ k. Knows stamp (all ++ Came bytes ∷ []) k) (sym is) (record {
   a = untouched stamp A all bytes (Rules B r) old.a says (λ n e. cc) (λ s e. cc) h.a;
-  b = rules_now stamp B all bytes r old.b says fits_b h.b;
+  b = rules_now stamp B all bytes r old.b from says fits_b h.b;
   agreed = λ x s e f. fits_some old.a.ruling r x fits_a e ∙ same_Some r s f;
 })
 
@@ -200,10 +201,10 @@ is_unsettled stamp number all known h (not_acked, not_ruled) = record {
 }
 
 -- nothing has passed
-pub knows_nothing : (stamp : Stamp) → Knows stamp [] (record { a = record { count = 0; ruling = None }; b = record { count = 0; ruling = None } })
+pub knows_nothing : (stamp : Stamp) → Knows stamp [] (record { a = record { count = 0; ruling = None; from = None }; b = record { count = 0; ruling = None; from = None } })
 knows_nothing stamp = record { a = none A; b = none B; agreed = λ r s e f. absurd cc }
   where
-    none : (who : ArbiterId) → IsReportedBy stamp who [] (record { count = 0; ruling = None })
+    none : (who : ArbiterId) → IsReportedBy stamp who [] (record { count = 0; ruling = None; from = None })
     none who = record {
       counted = λ some. absurd (omega arith);
       most = λ n c. let lt = c.1.1.1 in absurd (omega arith);

@@ -18,6 +18,9 @@ use Rattle.move_msg.specs.TextLines.{ended, text_of}
 use Rattle.move_msg.proofs.LineLaws.{more_lines}
 use Rattle.move_notation.specs.declared.notation.Notation.{Notation}
 use Rattle.source_core.specs.declared.known.Known.{Known}
+use Rattle.source_core.specs.declared.origin.Origin.{Origin}
+use Rattle.source_core.specs.declared.origin.Origin.TheVariants.{New}
+use Rattle.source_core.specs.declared.origin.Started.{Started}
 use Rattle.source_core.specs.declared.lines.End.{End}
 use Rattle.source_core.specs.declared.sending.SendState.{SendState}
 use Rattle.source_core.specs.declared.known.Clash.{Clash}
@@ -41,7 +44,8 @@ use Rattle.source_core.specs.Boards.{AreBelieved, IsBelieved}
 use Rattle.source_core.proofs.BoardLaws.{believed_first, is_belied}
 use Rattle.std.proofs.lemmas.Option.{same_Some}
 use Rattle.source_core.specs.Sendings.{SendingState, AckedMove, AsksOnce, ClosesSo, again, EndsIfAny, SendingEndsWith, Unread, Refused, Closed, Sent, SendingGame, AckedInTurn, IsAckedTurn, IsClosed, IsLastMove, IsRefusedLine, IsSending, IsUnread, OnlyHands, Sending, WritesLines, causes, game_at_port, last_lines, last_of, acked_line, sending_lines, sent_in, text_in}
-use Rattle.source_core.specs.Inside.Steps.{Closes, IsEndOfTry, IsPlayedLine, SendingSteps, StandsAtInputEnd, StepsOn, StepsSo, begun_at, end_by, is_ruled, no_cause}
+use Rattle.source_core.specs.Inside.Steps.{Closes, IsBeyond, IsEndOfTry, IsPlayedLine, IsWithin, SendingSteps, StandsAtInputEnd, StepsOn, StepsSo, begun_at, end_by, is_ruled, no_cause}
+use Rattle.source_core.proofs.OriginLaws.{is_own, is_started}
 use Rattle.source_core.proofs.PortLaws.{Passed-nil, Passed-trans}
 use Rattle.source_core.proofs.ReportLaws.{all_agreed, is_acked, is_ruled_so, is_unsettled, knows_nothing, knows_past, not_both}
 use Rattle.source_core.proofs.TurnLaws.{again_reports_nothing, all_more}
@@ -65,7 +69,7 @@ turned cause terms input input' line position after m known known' port port' at
     let done = t.ends before k in
     let sent : List Passing = tries_of port.addresses (message_text (move_message terms.stamp (length moves) m)) tries in (
       record { line = line; move = m; tries = tries; after = record { input = input'; position = after; moves = moves ++ m ∷ []; passed = before ++ sent } },
-      record { read = read; spelled = r.spelled; legal = r.legal; room = r.room; spelling = t.spelling; tries = record { few = t.few; received = t.received; again = t.again; waited = t.waited before k }; moves = refl; passed = refl; acked = done.0 },
+      record { read = read; spelled = r.spelled; legal = r.legal; room = r.room; spelling = t.spelling; tries = record { few = t.few; received = t.received; again = t.again; waited = t.waited before k }; moves = refl; passed = refl; acked = done.0; own = done.2 },
       refl,
       refl,
       refl,
@@ -78,8 +82,11 @@ turned cause terms input input' line position after m known known' port port' (a
     (m ∷ [], _, Sent (last_move _ _ input' line after m known known' port port' (at_turn.Clashed c) tries k read r t refl) (t.ends before k) (λ e. absurd (let x : at_end.Clashed c ≡ at_end.Lost = e in cc)), t.passed, λ e. absurd (let x : at_end.Clashed c ≡ at_end.Lost = e in cc))
 turned cause terms input input' line position after m known known' port port' (at_turn.Belied r') tries before moves read r t k =
     (m ∷ [], _, Sent (last_move _ _ input' line after m known known' port port' (at_turn.Belied r') tries k read r t refl) (t.ends before k) (λ e. absurd (let x : at_end.Belied r' ≡ at_end.Lost = e in cc)), t.passed, λ e. absurd (let x : at_end.Belied r' ≡ at_end.Lost = e in cc))
+turned cause terms input input' line position after m known known' port port' (at_turn.Started s) tries before moves read r t k =
+    (m ∷ [], _, Sent (last_move _ _ input' line after m known known' port port' (at_turn.Started s) tries k read r t refl) (t.ends before k) (λ e. absurd (let x : at_end.Started s ≡ at_end.Lost = e in cc)), t.passed, λ e. absurd (let x : at_end.Started s ≡ at_end.Lost = e in cc))
 turned cause terms input input' line position after m known known' port port' at_turn.Lost tries before moves read r t k =
-    (m ∷ [], _, Sent (last_move _ _ input' line after m known known' port port' at_turn.Lost tries k read r t refl) (t.ends before k).0 (λ e. t.lost refl), t.passed, λ e. (t.ends before k).1)
+    let done = t.ends before k in
+    (m ∷ [], _, Sent (last_move _ _ input' line after m known known' port port' at_turn.Lost tries k read r t refl) (done.0, done.2) (λ e. t.lost refl), t.passed, λ e. done.1)
 turned cause terms input input' line position after m known known' port port' at_turn.PortLost tries before moves read r t k =
     (m ∷ [], _, Sent (last_move _ _ input' line after m known known' port port' at_turn.PortLost tries k read r t refl) (t.ends before k) (λ e. absurd (let x : at_end.PortLost ≡ at_end.Lost = e in cc)), t.passed, λ e. absurd (let x : at_end.PortLost ≡ at_end.Lost = e in cc))
 
@@ -113,19 +120,19 @@ closed_at : (terms : SendConfig) (number : ℕ) (position : Parts) (moves : List
 closed_at terms number position moves last known port port' end e f h = subst (λ l. Closes terms (length moves) position l known port port' end) f (subst (λ n. Closes terms n position last known port port' end) e h)
 
 -- after the input's end no arbiter counts as silent
-not_closed : (stamp : Stamp) (number : ℕ) (position : Parts) (all : List Passing) (end : End) → ClosesSo stamp number position all end → end ≡ at_end.Lost → ⊥
-not_closed stamp number position all end h is = subst (ClosesSo stamp number position all) is h
+not_closed : (origin : Origin) (stamp : Stamp) (number : ℕ) (position : Parts) (all : List Passing) (end : End) → ClosesSo origin stamp number position all end → end ≡ at_end.Lost → ⊥
+not_closed origin stamp number position all end h is = subst (ClosesSo origin stamp number position all) is h
 
 closed_with : (cause : ReadFault → Type 0) (g : SendingGame) (input input' : Option (List ℕ)) (course : SendState) (known' : Known) (port port' : PortFacts) (before : List Passing) (moves : List Moves) (end : End) → IsAtEnd input → Knows g.terms.stamp before course.known → Closes g.terms (length moves) course.position (last_of moves) course.known port port' end → port.addresses ≡ g.addresses
     → (sent : List Moves) × (more : List Passing) × SendingEndsWith cause g (record { input = input; position = course.position; moves = moves; passed = before }) input' sent more end × Passed port port' more × (end ≡ at_end.Lost → Knows g.terms.stamp (before ++ more) known')
 closed_with cause g input input' course known' port port' before moves end done k h e =
     let handed : ℕ → List Passing = λ n. again g.terms.stamp n (length moves - 1) (last_of moves) in
-    let stands : ClosesSo g.terms.stamp (length moves) course.position (before ++ (handed g.addresses ++ h.came)) end = subst (λ n. ClosesSo g.terms.stamp (length moves) course.position (before ++ (handed n ++ h.came)) end) e (h.stands before k) in (
+    let stands : ClosesSo g.terms.origin g.terms.stamp (length moves) course.position (before ++ (handed g.addresses ++ h.came)) end = subst (λ n. ClosesSo g.terms.origin g.terms.stamp (length moves) course.position (before ++ (handed n ++ h.came)) end) e (h.stands before k) in (
       [],
       handed g.addresses ++ h.came,
       Closed refl done (record { came = h.came; spelling = h.spelling; passed = refl; received = h.received; waits = subst (λ n. WaitsSoLong g.terms 0 (length moves) (before ++ handed n) h.came) e (h.waits before k); waited = h.waited; stands = stands }),
       subst (λ n. Passed port port' (handed n ++ h.came)) e h.passed,
-      λ is. absurd (not_closed g.terms.stamp (length moves) course.position _ end stands is),
+      λ is. absurd (not_closed g.terms.origin g.terms.stamp (length moves) course.position _ end stands is),
     )
 
 pub steps_closed : (cause : ReadFault → Type 0) (terms : SendConfig) (number : ℕ) (input input' : Option (List ℕ)) (course course' : SendState) (port port' : PortFacts) (end : End) → IsAtEnd input → Closes terms number course.position course.last course.known port port' end → SendingSteps cause terms number input input' course course' port port' (Some end)
@@ -144,6 +151,7 @@ still_unread : (U V : ReadFault → Type 0) (end : End) → ((fault : ReadFault)
 still_unread U V (at_end.Open count) f h = h
 still_unread U V (at_end.Ruled r) f h = h
 still_unread U V (at_end.Clashed c) f h = h
+still_unread U V (at_end.Started s) f h = h
 still_unread U V (at_end.Belied r) f h = h
 still_unread U V (at_end.NotAMove place) f h = h
 still_unread U V (at_end.Illegal place) f h = h
@@ -180,7 +188,7 @@ has_again stamp n number last port port' e spelling passed = subst (λ k. HasAga
 
 closes_so : (terms : SendConfig) (number : ℕ) (position : Parts) (last : Option Moves) (old new : Known) (port mid port' : PortFacts) (end : Next) (h : IsEndOfTry terms 0 number old new mid port' end)
     → HasAgain terms.stamp (number - 1) last port mid
-    → (so_ends : End) → ((count : ℕ) → so_ends ≡ at_end.Open count → HasWaited h.came) → ((all : List Passing) → ComesTo terms.stamp all new end → ClosesSo terms.stamp number position all so_ends) → Closes terms number position last old port port' so_ends
+    → (so_ends : End) → ((count : ℕ) → so_ends ≡ at_end.Open count → HasWaited h.came) → ((all : List Passing) → ComesTo terms.stamp all new end → ClosesSo terms.origin terms.stamp number position all so_ends) → Closes terms number position last old port port' so_ends
 closes_so terms number position last old new port mid port' end h sent so_ends waits so =
     let handed : List Passing = again terms.stamp port.addresses (number - 1) last in
     let knows : (before : List Passing) → Knows terms.stamp before old → Knows terms.stamp (before ++ handed) old = λ before k. knows_past terms.stamp before handed old (again_reports_nothing terms.stamp port.addresses (number - 1) last) k in record {
@@ -201,7 +209,7 @@ ended_waiting : (terms : SendConfig) (index number : ℕ) (old new : Known) (por
 ended_waiting terms index number old new port port' end (inl e) h = let never = subst (IsEndOfTry terms index number old new port port') e h in absurd never.waits
 ended_waiting terms index number old new port port' end (inr e) h = subst (IsEndOfTry terms index number old new port port') e h
 
-pub closes_waited : (terms : SendConfig) (n number : ℕ) (position : Parts) (last : Option Moves) (old new : Known) (port mid port' : PortFacts) (next' : Next) (end : End) → n ≡ number - 1 → IfSome last (HasSpelling terms.stamp n) → Passed port mid (again terms.stamp port.addresses n last) → (next' ≡ next.GoesOn) ⊎ (next' ≡ next.Waited) → IsEndOfTry terms 0 number old new mid port' next' → StandsAtInputEnd number position new end → Closes terms number position last old port port' end
+pub closes_waited : (terms : SendConfig) (n number : ℕ) (position : Parts) (last : Option Moves) (old new : Known) (port mid port' : PortFacts) (next' : Next) (end : End) → n ≡ number - 1 → IfSome last (HasSpelling terms.stamp n) → Passed port mid (again terms.stamp port.addresses n last) → (next' ≡ next.GoesOn) ⊎ (next' ≡ next.Waited) → IsEndOfTry terms 0 number old new mid port' next' → StandsAtInputEnd terms.origin number position new end → Closes terms number position last old port port' end
 closes_waited terms n number position last old new port mid port' next' end e spelling sent is ended ends =
     let h = ended_waiting terms 0 number old new mid port' next' is ended in
     closes_so terms number position last old new port mid port' next.Waited h (has_again terms.stamp n (number - 1) last port mid e spelling sent) end (λ count is_open. has_waited h.came new (ends.0 count is_open) h.waits) (λ all k. ends.1 terms.stamp all k)
@@ -214,18 +222,21 @@ closes_missed terms n number position last old new port mid port' e spelling sen
 
 -- ---- how a game stands at the input's end
 
-pub open_acked : (number : ℕ) (position : Parts) (known : Known) → StandsSo known number standing.Acked → StandsAtInputEnd number position known (at_end.Open number)
-open_acked number position known (lt_a, lt_b, none_a, none_b) =
-    (λ count is. not_both known.a.ruling known.b.ruling (λ r s e f. absurd cc), λ stamp all k. let acked = is_acked stamp number all known k (lt_a, lt_b, none_a, none_b) in (refl, λ r ruled. acked.open_yet A r ruled.a, all_agreed stamp all known k))
+pub open_acked : (origin : Origin) (number : ℕ) (position : Parts) (known : Known) → IsWithin origin number known → StandsSo known number standing.Acked → StandsAtInputEnd origin number position known (at_end.Open number)
+open_acked origin number position known le (lt_a, lt_b, none_a, none_b) =
+    (λ count is. not_both known.a.ruling known.b.ruling (λ r s e f. absurd cc), λ stamp all k. let acked = is_acked stamp number all known k (lt_a, lt_b, none_a, none_b) in (refl, λ r ruled. acked.open_yet A r ruled.a, all_agreed stamp all known k, is_own origin stamp number all known k le))
 
-pub open_yet : (number : ℕ) (position : Parts) (known : Known) → StandsSo known number standing.Open → StandsAtInputEnd number position known (at_end.Open number)
-open_yet number position known h = (λ count is. not_both known.a.ruling known.b.ruling h.1, λ stamp all k. let u = is_unsettled stamp number all known k h in (refl, u.not_ruled, u.agreed))
+pub open_yet : (origin : Origin) (number : ℕ) (position : Parts) (known : Known) → IsWithin origin number known → StandsSo known number standing.Open → StandsAtInputEnd origin number position known (at_end.Open number)
+open_yet origin number position known le h = (λ count is. not_both known.a.ruling known.b.ruling h.1, λ stamp all k. let u = is_unsettled stamp number all known k h in (refl, u.not_ruled, u.agreed, is_own origin stamp number all known k le))
 
-pub ruled_at : (number : ℕ) (position : Parts) (known : Known) (r : Ruling) → AreBelieved number position known → StandsSo known number (standing.Ruled r) → StandsAtInputEnd number position known (at_end.Ruled r)
-ruled_at number position known r are h = (λ count is. cc, λ stamp all k. (is_ruled_so stamp number all known r k h, believed_first number position known r are h.0))
+pub ruled_at : (origin : Origin) (number : ℕ) (position : Parts) (known : Known) (r : Ruling) → IsWithin origin number known → AreBelieved number position known → StandsSo known number (standing.Ruled r) → StandsAtInputEnd origin number position known (at_end.Ruled r)
+ruled_at origin number position known r le are h = (λ count is. cc, λ stamp all k. ((is_ruled_so stamp number all known r k h, believed_first number position known r are h.0), is_own origin stamp number all known k le))
 
-pub belied_at : (number : ℕ) (position : Parts) (known : Known) (r : Ruling) → (known.a.ruling ≡ Some r) ⊎ (known.b.ruling ≡ Some r) → (IsBelieved number position r → ⊥) → StandsAtInputEnd number position known (at_end.Belied r)
-belied_at number position known r is not_so = (λ count e. cc, λ stamp all k. is_belied stamp number position all known r k is not_so)
+pub belied_at : (origin : Origin) (number : ℕ) (position : Parts) (known : Known) (r : Ruling) → IsWithin origin number known → (known.a.ruling ≡ Some r) ⊎ (known.b.ruling ≡ Some r) → (IsBelieved number position r → ⊥) → StandsAtInputEnd origin number position known (at_end.Belied r)
+belied_at origin number position known r le is not_so = (λ count e. cc, λ stamp all k. (is_belied stamp number position all known r k is not_so, is_own origin stamp number all known k le))
+
+pub started_at : (origin : Origin) (number : ℕ) (position : Parts) (known : Known) (s : Started) → origin ≡ New → IsBeyond number known s → StandsAtInputEnd origin number position known (at_end.Started s)
+started_at origin number position known s new beyond = (λ count e. cc, λ stamp all k. (new, is_started stamp number all known s k beyond))
 
 -- ---- one list of moves
 

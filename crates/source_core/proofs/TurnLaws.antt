@@ -167,8 +167,8 @@ tried_once terms index number addresses bytes old new port mid port' end sent h 
     learned : (e : Next) (all : List Passing) → ComesTo terms.stamp all new e → TryLearns terms.stamp all new (loss_by e)
     learned next.GoesOn all k = k
     learned next.Waited all k = k
-    learned (next.Clashed c) all k = λ number plies position. k
-    learned next.PortLost all k = λ number plies position. k
+    learned (next.Clashed c) all k = λ origin number plies position. k
+    learned next.PortLost all k = λ origin number plies position. k
 
 -- ---- tries one after the other
 
@@ -262,7 +262,7 @@ tried_more terms number addresses bytes old mid new port port1 port2 k h open_ye
 abbrev pub spelled_move : Stamp → ℕ → Moves → List ℕ
 spelled_move stamp number m = message_text (move_message stamp number m)
 
-pub turn_ended : (terms : SendConfig) (number : ℕ) (m : Moves) (plies : ℕ) (position : Parts) (old new : Known) (port port' : PortFacts) (k : ℕ) (end : Turn) → HasSpelling terms.stamp number m → HasTried terms number port.addresses (spelled_move terms.stamp number m) old new port port' k → k ≤ terms.tries → EndsIf number plies position new (Some end) → (tries : List (List Passing)) × IsTurn terms number m plies position port port' old new end tries
+pub turn_ended : (terms : SendConfig) (number : ℕ) (m : Moves) (plies : ℕ) (position : Parts) (old new : Known) (port port' : PortFacts) (k : ℕ) (end : Turn) → HasSpelling terms.stamp number m → HasTried terms number port.addresses (spelled_move terms.stamp number m) old new port port' k → k ≤ terms.tries → EndsIf terms.origin number plies position new (Some end) → (tries : List (List Passing)) × IsTurn terms number m plies position port port' old new end tries
 turn_ended terms number m plies position old new port port' k end say h le ends =
     let counted = h.count in (
       h.tries,
@@ -290,11 +290,11 @@ turn_cut terms number m plies position old mid new port port1 port2 k end say h 
         waited = more_long terms number port.addresses (spelled_move terms.stamp number m) old mid new port port1 port2 k (Some end) h t;
         lost = λ is. absurd (t.waits is);
         passed = more_passed terms number port.addresses (spelled_move terms.stamp number m) old mid new port port1 port2 k (Some end) h t;
-        ends = λ before known. more_learned terms number port.addresses (spelled_move terms.stamp number m) old mid new port port1 port2 k (Some end) h t before known number plies position;
+        ends = λ before known. more_learned terms number port.addresses (spelled_move terms.stamp number m) old mid new port port1 port2 k (Some end) h t before known terms.origin number plies position;
       },
     )
 
-pub turn_lost : (terms : SendConfig) (number : ℕ) (m : Moves) (plies : ℕ) (position : Parts) (old new : Known) (port port' : PortFacts) (k : ℕ) → HasSpelling terms.stamp number m → HasTried terms number port.addresses (spelled_move terms.stamp number m) old new port port' k → k ≡ terms.tries → EndsIf number plies position new None → (tries : List (List Passing)) × IsTurn terms number m plies position port port' old new at_turn.Lost tries
+pub turn_lost : (terms : SendConfig) (number : ℕ) (m : Moves) (plies : ℕ) (position : Parts) (old new : Known) (port port' : PortFacts) (k : ℕ) → HasSpelling terms.stamp number m → HasTried terms number port.addresses (spelled_move terms.stamp number m) old new port port' k → k ≡ terms.tries → EndsIf terms.origin number plies position new None → (tries : List (List Passing)) × IsTurn terms number m plies position port port' old new at_turn.Lost tries
 turn_lost terms number m plies position old new port port' k say h all ends =
     let counted = h.count in (
       h.tries,
@@ -306,7 +306,7 @@ turn_lost terms number m plies position old new port port' k say h all ends =
         waited = h.long;
         lost = λ is. (h.count ∙ all, all_waited h.tries new h.waited ends.0);
         passed = h.passed;
-        ends = λ before known. (ends.1 terms.stamp _ (h.learned before known), h.learned before known);
+        ends = λ before known. let now = ends.1 terms.stamp _ (h.learned before known) in (now.0, h.learned before known, now.1);
       },
     )
 

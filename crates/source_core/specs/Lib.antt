@@ -1,4 +1,5 @@
 pub mod Reports
+pub mod Origins
 pub mod Boards
 pub mod Turns
 pub mod Lines

@@ -1,6 +1,7 @@
 -- What arbiters have reported by the datagrams that came (this project's own).
 use Rattle.std.specs.Prelude.{◌≡◌, ◌≢◌, ◌≤◌, ◌<◌, ◌+◌, ◌⊎◌, ℕ, max, List, Option, Some, None, IfSome}
 use Rattle.std.specs.List.{Contains}
+use Rattle.std.specs.declared.net.socket_addr.SocketAddr.{SocketAddr}
 use Rattle.move_msg.specs.declared.stamp.Stamp.{Stamp}
 use Rattle.move_msg.specs.declared.arbiter_id.ArbiterId.{ArbiterId}
 use Rattle.move_msg.specs.declared.arbiter_id.ArbiterId.TheVariants.{A, B}
@@ -91,10 +92,10 @@ with_reported known B reported = record known { b = reported }
 abbrev pub FitsRuling : Option Ruling → Ruling → Type 0
 FitsRuling kept r = IfSome kept (λ s. s ≡ r)
 
--- what is known after a report that clashes with nothing
-abbrev pub AddsReport : Known → Report → Known → Type 0
-AddsReport old (Acknowledges who count) new = new ≡ with_reported old who (record { count = max (reported_by old who).count count; ruling = (reported_by old who).ruling })
-AddsReport old (Rules who r) new = (new ≡ with_reported old who (record { count = (reported_by old who).count; ruling = Some r })) × FitsRuling old.a.ruling r × FitsRuling old.b.ruling r
+-- what is known after a report that clashes with nothing and came from this address
+abbrev pub AddsReport : Known → Report → Option SocketAddr → Known → Type 0
+AddsReport old (Acknowledges who count) from new = new ≡ with_reported old who (record { count = max (reported_by old who).count count; ruling = (reported_by old who).ruling; from = from })
+AddsReport old (Rules who r) from new = (new ≡ with_reported old who (record { count = (reported_by old who).count; ruling = Some r; from = from })) × FitsRuling old.a.ruling r × FitsRuling old.b.ruling r
 
 -- the report clashes with what is known
 abbrev pub Clashes : Known → Report → Clash → Type 0

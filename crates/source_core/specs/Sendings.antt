@@ -21,6 +21,8 @@ use Rattle.source_core.specs.declared.report.Ruling.{Ruling}
 use Rattle.source_core.specs.declared.lines.End.{End}
 use Rattle.source_core.specs.declared.lines.End.TheVariants as at_end
 use Rattle.source_core.specs.Reports.{IsAcked, IsAgreed, IsRuled, IsClash, IsUnsettled, Knows}
+use Rattle.source_core.specs.declared.origin.Origin.{Origin}
+use Rattle.source_core.specs.Origins.{EndsStarted, IsOwn}
 use Rattle.source_core.specs.Boards.{IsBelied, IsBelievedRuling}
 use Rattle.source_core.specs.Turns.{AllButLastWaited, EachWaitsSoLong, HasSpelling, HasWaited, IsReceived, WaitsSoLong, move_message, tries_of}
 use Rattle.source_core.specs.Lines.{IsCut, acked_words, end_words, ended_by}
@@ -78,6 +80,8 @@ pub record IsAckedTurn (g : SendingGame) (old : SendingState) (t : AckedMove) : 
   pub moves : t.after.moves ≡ old.moves ++ t.move ∷ []
   pub passed : t.after.passed ≡ old.passed ++ sent_in g old.moves t.move t.tries
   pub acked : IsAcked g.terms.stamp (length old.moves) t.after.passed
+  -- of a new game no arbiter has reported a move that this run hasn't sent
+  pub own : IsOwn g.terms.origin g.terms.stamp (length old.moves + 1) t.after.passed
 
 -- each turn begins where the one before it left the run
 unfoldable pub AckedInTurn : SendingGame → SendingState → List AckedMove → SendingState → Type 0
@@ -102,24 +106,26 @@ pub record IsLastMove (g : SendingGame) (at : SendingState) (input : Option (Lis
   pub passed : more ≡ sent_in g at.moves move tries
 
 -- how the last move stands, by all that has passed, with this position after it
-abbrev pub IsSentLast : Stamp → ℕ → Parts → List Passing → End → Type 0
-IsSentLast stamp number after all (at_end.Open count) = ⊥
-IsSentLast stamp number after all (at_end.Ruled r) = IsBelievedRuling stamp (number + 1) after r all
-IsSentLast stamp number after all (at_end.Clashed c) = IsClash stamp c all
-IsSentLast stamp number after all (at_end.Belied r) = IsBelied stamp (number + 1) after r all
-IsSentLast stamp number after all (at_end.NotAMove place) = ⊥
-IsSentLast stamp number after all (at_end.Illegal place) = ⊥
-IsSentLast stamp number after all at_end.TooLong = ⊥
-IsSentLast stamp number after all at_end.Lost = IsUnsettled stamp number all
-IsSentLast stamp number after all at_end.PortLost = Contains all Missed
-IsSentLast stamp number after all at_end.Unread = ⊥
-IsSentLast stamp number after all at_end.OutOfMemory = ⊥
+abbrev pub IsSentLast : Origin → Stamp → ℕ → Parts → List Passing → End → Type 0
+IsSentLast origin stamp number after all (at_end.Open count) = ⊥
+IsSentLast origin stamp number after all (at_end.Ruled r) = IsBelievedRuling stamp (number + 1) after r all × IsOwn origin stamp (number + 1) all
+IsSentLast origin stamp number after all (at_end.Clashed c) = IsClash stamp c all
+IsSentLast origin stamp number after all (at_end.Started s) = EndsStarted origin stamp (number + 1) s all
+IsSentLast origin stamp number after all (at_end.Belied r) = IsBelied stamp (number + 1) after r all × IsOwn origin stamp (number + 1) all
+IsSentLast origin stamp number after all (at_end.NotAMove place) = ⊥
+IsSentLast origin stamp number after all (at_end.Illegal place) = ⊥
+IsSentLast origin stamp number after all at_end.TooLong = ⊥
+IsSentLast origin stamp number after all at_end.Lost = IsUnsettled stamp number all × IsOwn origin stamp (number + 1) all
+IsSentLast origin stamp number after all at_end.PortLost = Contains all Missed
+IsSentLast origin stamp number after all at_end.Unread = ⊥
+IsSentLast origin stamp number after all at_end.OutOfMemory = ⊥
 
 -- why the move of a line isn't sent: the line is none, or no legal one, or there are as many as a game may have
 abbrev pub IsRefusedLine : Notation → Parts → ℕ → List ℕ → End → Type 0
 IsRefusedLine notation position number line (at_end.Open count) = ⊥
 IsRefusedLine notation position number line (at_end.Ruled r) = ⊥
 IsRefusedLine notation position number line (at_end.Clashed c) = ⊥
+IsRefusedLine notation position number line (at_end.Started s) = ⊥
 IsRefusedLine notation position number line (at_end.Belied r) = ⊥
 IsRefusedLine notation position number line (at_end.NotAMove place) = (place ≡ number) × (number < most_moves) × ((m : Moves) → Spells notation position line m → ⊥)
 IsRefusedLine notation position number line (at_end.Illegal place) = (place ≡ number) × (number < most_moves) × ((m : Moves) × Spells notation position line m × (IsLegal position m → ⊥))
@@ -139,6 +145,7 @@ abbrev pub IsUnread : (ReadFault → Type 0) → End → Type 0
 IsUnread cause (at_end.Open count) = ⊥
 IsUnread cause (at_end.Ruled r) = ⊥
 IsUnread cause (at_end.Clashed c) = ⊥
+IsUnread cause (at_end.Started s) = ⊥
 IsUnread cause (at_end.Belied r) = ⊥
 IsUnread cause (at_end.NotAMove place) = ⊥
 IsUnread cause (at_end.Illegal place) = ⊥
@@ -150,18 +157,19 @@ IsUnread cause at_end.OutOfMemory = cause fault.OutOfMemory
 
 -- how a game stands at the input's end, by all that has passed and by the position after so many moves: open where no verdict was
 -- reported by both
-abbrev pub ClosesSo : Stamp → ℕ → Parts → List Passing → End → Type 0
-ClosesSo stamp number position all (at_end.Open count) = (count ≡ number) × ((r : Ruling) → IsRuled stamp r all → ⊥) × IsAgreed stamp all
-ClosesSo stamp number position all (at_end.Ruled r) = IsBelievedRuling stamp number position r all
-ClosesSo stamp number position all (at_end.Clashed c) = IsClash stamp c all
-ClosesSo stamp number position all (at_end.Belied r) = IsBelied stamp number position r all
-ClosesSo stamp number position all (at_end.NotAMove place) = ⊥
-ClosesSo stamp number position all (at_end.Illegal place) = ⊥
-ClosesSo stamp number position all at_end.TooLong = ⊥
-ClosesSo stamp number position all at_end.Lost = ⊥
-ClosesSo stamp number position all at_end.PortLost = Contains all Missed
-ClosesSo stamp number position all at_end.Unread = ⊥
-ClosesSo stamp number position all at_end.OutOfMemory = ⊥
+abbrev pub ClosesSo : Origin → Stamp → ℕ → Parts → List Passing → End → Type 0
+ClosesSo origin stamp number position all (at_end.Open count) = (count ≡ number) × ((r : Ruling) → IsRuled stamp r all → ⊥) × IsAgreed stamp all × IsOwn origin stamp number all
+ClosesSo origin stamp number position all (at_end.Ruled r) = IsBelievedRuling stamp number position r all × IsOwn origin stamp number all
+ClosesSo origin stamp number position all (at_end.Clashed c) = IsClash stamp c all
+ClosesSo origin stamp number position all (at_end.Started s) = EndsStarted origin stamp number s all
+ClosesSo origin stamp number position all (at_end.Belied r) = IsBelied stamp number position r all × IsOwn origin stamp number all
+ClosesSo origin stamp number position all (at_end.NotAMove place) = ⊥
+ClosesSo origin stamp number position all (at_end.Illegal place) = ⊥
+ClosesSo origin stamp number position all at_end.TooLong = ⊥
+ClosesSo origin stamp number position all at_end.Lost = ⊥
+ClosesSo origin stamp number position all at_end.PortLost = Contains all Missed
+ClosesSo origin stamp number position all at_end.Unread = ⊥
+ClosesSo origin stamp number position all at_end.OutOfMemory = ⊥
 
 -- the last of the moves
 abbrev pub last_of : List Moves → Option Moves
@@ -181,7 +189,7 @@ pub record IsClosed (g : SendingGame) (position : Parts) (moves : List Moves) (b
   pub received : AllByRecursion IsReceived came
   pub waits : WaitsSoLong g.terms 0 (length moves) (before ++ again g.terms.stamp g.addresses (length moves - 1) (last_of moves)) came
   pub waited : (count : ℕ) → end ≡ at_end.Open count → HasWaited came
-  pub stands : ClosesSo g.terms.stamp (length moves) position (before ++ more) end
+  pub stands : ClosesSo g.terms.origin g.terms.stamp (length moves) position (before ++ more) end
 
 -- it was sent as often as it may be, and each try has waited
 abbrev pub IsTriedOut : SendingGame → List (List Passing) → Type 0
@@ -196,7 +204,7 @@ pub data SendingEndsWith (cause : ReadFault → Type 0) (g : SendingGame) (at : 
   -- the input has ended
   Closed : sent ≡ [] → IsAtEnd at.input → IsClosed g at.position at.moves at.passed more end → SendingEndsWith cause g at input sent more end
   -- one more move is sent; an arbiter counts as silent only when all tries are used up
-  Sent : (last : IsLastMove g at input sent more) → IsSentLast g.terms.stamp (length at.moves) last.after (at.passed ++ more) end → (end ≡ at_end.Lost → IsTriedOut g last.tries) → SendingEndsWith cause g at input sent more end
+  Sent : (last : IsLastMove g at input sent more) → IsSentLast g.terms.origin g.terms.stamp (length at.moves) last.after (at.passed ++ more) end → (end ≡ at_end.Lost → IsTriedOut g last.tries) → SendingEndsWith cause g at input sent more end
 
 abbrev pub EndsIfAny : (ReadFault → Type 0) → SendingGame → SendingState → Option (List ℕ) → List Moves → List Passing → Option End → Type 0
 EndsIfAny cause g at input sent more None = (sent ≡ []) × (more ≡ [])

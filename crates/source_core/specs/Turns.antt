@@ -17,6 +17,8 @@ use Rattle.source_core.specs.declared.turn.SendConfig.{SendConfig}
 use Rattle.source_core.specs.declared.turn.Turn.{Turn}
 use Rattle.source_core.specs.declared.turn.Turn.TheVariants as at_turn
 use Rattle.system_io.specs.Ports.{Passing, Came, Quiet, Missed, Handed, PortFacts, Passed, to_each}
+use Rattle.source_core.specs.declared.origin.Origin.{Origin}
+use Rattle.source_core.specs.Origins.{EndsStarted, IsOwn}
 use Rattle.source_core.specs.Reports.{Knows, IsAcked, IsClash, IsUnsettled}
 use Rattle.source_core.specs.Boards.{IsBelied, IsBelievedRuling}
 
@@ -89,14 +91,16 @@ ComesTo stamp all known next.PortLost = Contains all Missed
 abbrev pub Learns : Stamp → Known → Known → List Passing → Next → Type 0
 Learns stamp old new came then' = (before : List Passing) → Knows stamp before old → ComesTo stamp (before ++ came) new then'
 
--- how a turn ended, by all that has passed, with so many moves and this position on the board
-abbrev pub TurnEndsSo : Stamp → ℕ → ℕ → Parts → List Passing → Known → Turn → Type 0
-TurnEndsSo stamp number plies position all known at_turn.Acked = IsAcked stamp number all × Knows stamp all known
-TurnEndsSo stamp number plies position all known (at_turn.Ruled r) = IsBelievedRuling stamp plies position r all
-TurnEndsSo stamp number plies position all known (at_turn.Clashed c) = IsClash stamp c all
-TurnEndsSo stamp number plies position all known (at_turn.Belied r) = IsBelied stamp plies position r all
-TurnEndsSo stamp number plies position all known at_turn.Lost = IsUnsettled stamp number all × Knows stamp all known
-TurnEndsSo stamp number plies position all known at_turn.PortLost = Contains all Missed
+-- How a turn ended, by all that has passed, with so many moves and this position on the board. A report of more moves of a new game comes
+-- before all that is known of the move.
+abbrev pub TurnEndsSo : Origin → Stamp → ℕ → ℕ → Parts → List Passing → Known → Turn → Type 0
+TurnEndsSo origin stamp number plies position all known at_turn.Acked = IsAcked stamp number all × Knows stamp all known × IsOwn origin stamp plies all
+TurnEndsSo origin stamp number plies position all known (at_turn.Ruled r) = IsBelievedRuling stamp plies position r all × IsOwn origin stamp plies all
+TurnEndsSo origin stamp number plies position all known (at_turn.Clashed c) = IsClash stamp c all
+TurnEndsSo origin stamp number plies position all known (at_turn.Started s) = EndsStarted origin stamp plies s all
+TurnEndsSo origin stamp number plies position all known (at_turn.Belied r) = IsBelied stamp plies position r all × IsOwn origin stamp plies all
+TurnEndsSo origin stamp number plies position all known at_turn.Lost = IsUnsettled stamp number all × Knows stamp all known × IsOwn origin stamp plies all
+TurnEndsSo origin stamp number plies position all known at_turn.PortLost = Contains all Missed
 
 -- a turn: tries of the one move, at most so many, each of which waited so long
 pub record IsTurn (terms : SendConfig) (number : ℕ) (m : Moves) (plies : ℕ) (position : Parts) (old new : PortFacts) (known known' : Known) (end : Turn) (tries : List (List Passing)) : Type 0 where
@@ -107,4 +111,4 @@ pub record IsTurn (terms : SendConfig) (number : ℕ) (m : Moves) (plies : ℕ) 
   pub waited : (before : List Passing) → Knows terms.stamp before known → EachWaitsSoLong terms number old.addresses (message_text (move_message terms.stamp number m)) before tries
   pub lost : end ≡ at_turn.Lost → (length tries ≡ terms.tries) × AllByRecursion HasWaited tries
   pub passed : Passed old new (tries_of old.addresses (message_text (move_message terms.stamp number m)) tries)
-  pub ends : (before : List Passing) → Knows terms.stamp before known → TurnEndsSo terms.stamp number plies position (before ++ tries_of old.addresses (message_text (move_message terms.stamp number m)) tries) known' end
+  pub ends : (before : List Passing) → Knows terms.stamp before known → TurnEndsSo terms.origin terms.stamp number plies position (before ++ tries_of old.addresses (message_text (move_message terms.stamp number m)) tries) known' end

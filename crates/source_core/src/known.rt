@@ -5,6 +5,7 @@ ghost use Rattle.source_core.specs.Reports.{AddsReport, Clashes, FitsRuling, Sta
 
 use crate::report::{Report, Ruling};
 use move_msg::ArbiterId;
+use std::net::SocketAddr;
 
 /// What one arbiter has reported.
 #[derive(Clone, Copy)]
@@ -13,6 +14,8 @@ pub struct Reported {
     pub count: u32,
     /// Its verdict.
     pub ruling: Option<Ruling>,
+    /// The address from which its last report came, where that is known.
+    pub from: Option<SocketAddr>,
 }
 
 /// What both arbiters have reported.
@@ -58,11 +61,12 @@ fn other_than(known: Option<Ruling>, ruling: Ruling) -> Option<Ruling>
 impl Known {
     /// Nothing was reported.
     pub fn nothing() -> Known
-        ensures { result ≡ record { a = record { count = 0; ruling = None }; b = record { count = 0; ruling = None } } }
+        ensures { result ≡ record { a = record { count = 0; ruling = None; from = None }; b = record { count = 0; ruling = None; from = None } } }
     {
         let reported = Reported {
             count: 0,
             ruling: None,
+            from: None,
         };
         Known {
             a: reported,
@@ -107,9 +111,10 @@ impl Known {
         }
     }
 
-    /// Adds a report. The error comes where it is a verdict that differs from a reported one; nothing is added then.
-    pub fn add(&mut self, report: Report) -> Result<(), Clash>
-        ensures added { OnOk result (AddsReport self.old report self.new) }
+    /// Adds a report that came from an address. The error comes where it is a verdict that differs from a reported one; nothing is added
+    /// then.
+    pub fn add(&mut self, report: Report, from: Option<SocketAddr>) -> Result<(), Clash>
+        ensures added { OnOk result (AddsReport self.old report from self.new) }
         ensures clash { IfErr result (Clashes self.old report) }
         ensures same { IfErr result (λ c. self.new ≡ self.old) }
     {
@@ -121,6 +126,7 @@ impl Known {
                     Reported {
                         count: before.count.max(count),
                         ruling: before.ruling,
+                        from,
                     },
                 );
                 Ok(())
@@ -138,6 +144,7 @@ impl Known {
                     Reported {
                         count: before.count,
                         ruling: Some(ruling),
+                        from,
                     },
                 );
                 Ok(())

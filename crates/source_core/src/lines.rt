@@ -6,9 +6,10 @@ ghost use Rattle.board_core.specs.Verdicts.{verdict_name};
 ghost use Rattle.line_teller.specs.ToldLines.{HasFailed};
 ghost use Rattle.move_msg.specs.TextLines.{ended};
 ghost use Rattle.system_io.specs.Outputs.{WritesFront};
-ghost use Rattle.source_core.specs.Lines.{acked_words, clash_words, end_words, ended_by, ended_status, ruling_words, sending_line_words, status_by};
+ghost use Rattle.source_core.specs.Lines.{acked_words, clash_words, end_words, ended_by, ended_status, ruling_words, sending_line_words, started_words, status_by};
 
 use crate::known::{Clash, Known};
+use crate::origin::Started;
 use crate::report::Ruling;
 use board_core::Verdict;
 use line_teller::LineWords;
@@ -23,6 +24,8 @@ pub enum End {
     Ruled(Ruling),
     /// Two verdicts were reported that differ.
     Clashed(Clash),
+    /// The game is new, and an arbiter has more moves than were sent.
+    Started(Started),
     /// This verdict was reported, and the source's own board doesn't show it.
     Belied(Ruling),
     /// The line at this place, counted from 0, is no move.
@@ -133,6 +136,17 @@ fn clash_line(clash: &Clash) -> LineWords
     line
 }
 
+/// The words for an arbiter that has more moves than were sent.
+fn started_line(started: &Started) -> LineWords
+    ensures { result ≡ started_words started.now }
+{
+    let mut line = LineWords::new();
+    line.add_counted("refused started ", started.count);
+    line.add(" ");
+    line.add(started.at.as_str());
+    line
+}
+
 /// Words, and a number behind them.
 fn numbered(words: &str, number: u32) -> LineWords
     requires { length words.now ≤ 20 }
@@ -151,6 +165,7 @@ fn end_line(end: &End) -> LineWords
         End::Open(count) => numbered("open ", *count),
         End::Ruled(ruling) => ruled("verdict ", *ruling),
         End::Clashed(clash) => clash_line(clash),
+        End::Started(started) => started_line(started),
         End::Belied(ruling) => ruled("disagree ", *ruling),
         End::NotAMove(number) => numbered("refused move ", *number),
         End::Illegal(number) => numbered("illegal ", *number),

@@ -11,6 +11,7 @@ ghost use Rattle.move_msg.specs.TextLines.{ended};
 use crate::board::Board;
 use crate::known::{Known, Standing};
 use crate::lines::{End, Ended, Line, put_now};
+use crate::origin::Origin;
 use crate::turn::{Next, SendConfig, Turn, receive_all, send_again, take_turn};
 use board_core::{Move, Position};
 use move_msg::{Count, MOST_MOVES};
@@ -72,6 +73,7 @@ fn end_of(turn: Turn) -> Option<End>
         Turn::Acked => None,
         Turn::Ruled(ruling) => Some(End::Ruled(ruling)),
         Turn::Clashed(clash) => Some(End::Clashed(clash)),
+        Turn::Started(started) => Some(End::Started(started)),
         Turn::Belied(ruling) => Some(End::Belied(ruling)),
         Turn::Lost => Some(End::Lost),
         Turn::PortLost => Some(End::PortLost),
@@ -103,11 +105,14 @@ fn send_line<P: Port>(
     }
 }
 
-/// The end of a run by a verdict that the board belies, or by the one that both have reported; otherwise the game is open after this
-/// many moves.
-fn end_at(known: &Known, number: u32, position: &Position) -> End
-    ensures { StandsAtInputEnd number position.now known.now result }
+/// The end of a run by an arbiter that has more moves of a new game, by a verdict that the board belies, or by the one that both have
+/// reported; otherwise the game is open after this many moves.
+fn end_at(origin: Origin, known: &Known, number: u32, position: &Position) -> End
+    ensures { StandsAtInputEnd origin number position.now known.now result }
 {
+    if let Some(started) = origin.started_in(known, number) {
+        return End::Started(started);
+    }
     let board = Board {
         plies: number,
         position,
@@ -128,7 +133,7 @@ fn close<P: Port>(terms: &SendConfig, number: u32, course: &mut SendState, port:
 {
     send_again(terms.stamp, number.saturating_sub(1), &course.last, port);
     match receive_all(terms, 0, number, &mut course.known, port) {
-        Next::GoesOn | Next::Waited => end_at(&course.known, number, &course.position),
+        Next::GoesOn | Next::Waited => end_at(terms.origin, &course.known, number, &course.position),
         Next::Clashed(clash) => End::Clashed(clash),
         Next::PortLost => End::PortLost,
     }
@@ -184,7 +189,8 @@ fn finish<W: Output>(out: &mut W, end: End, known: &Known) -> Result<Ended, Writ
 /// With status 1 it is one of these. `refused move 2`: a line that is no move in the notation of the terms, counted from 0; in
 /// algebraic notation also one whose move isn't legal, or is one of two. `illegal 2`: a move in coordinates that isn't legal, which isn't sent. `refused TooLong`: a 4097th move. `refused lost`: an arbiter doesn't answer. `refused
 /// port`, `refused memory`, and `refused files`: the input can't be read. `disagree 2 BlackMates 2 Stalemate`: two
-/// verdicts that differ. `disagree 2 BlackMates`: a mate or a stalemate that is reported and that the source's own board doesn't
+/// verdicts that differ. `refused started 3 127.0.0.1:7331`: the game is to be new, and the arbiter at this address has 3 moves of it, more
+/// than were sent; where the address isn't known, `-` stands in its place. `disagree 2 BlackMates`: a mate or a stalemate that is reported and that the source's own board doesn't
 /// show at that ply. The error comes only where the writer failed.
 pub fn send_game<L: LineReader, P: Port, W: Output>(
     alloc: Global,

@@ -11,10 +11,12 @@ ghost use Rattle.source_core.specs.Inside.Steps.{EndsIf, HasTriedOnce, IsEndOfTr
 
 use crate::board::Board;
 use crate::known::{Clash, Known, Standing};
+use crate::origin::{Origin, Started};
 use crate::report::{Ruling, report_of};
 use board_core::Move;
 use move_msg::{Message, Sender, Stamp};
 use move_notation::Notation;
+use std::net::SocketAddr;
 use std::time::Duration;
 use system_io::Port;
 
@@ -27,6 +29,8 @@ const MOST_ANSWERS: u64 = u64::MAX;
 pub struct SendConfig {
     /// The stamp of the game, which each of its messages carries.
     pub stamp: Stamp,
+    /// Whether the arbiters may have moves of the game that this run doesn't send.
+    pub origin: Origin,
     /// How the moves are written that are read.
     pub notation: Notation,
     /// How often a turn sends its move at most, each time to all addresses: 1 to 2^32 - 1 times. The last acknowledged move is sent
@@ -48,6 +52,8 @@ pub enum Turn {
     Ruled(Ruling),
     /// Two verdicts were reported that differ.
     Clashed(Clash),
+    /// The game is new, and an arbiter has more moves than were sent.
+    Started(Started),
     /// This verdict was reported, and the source's own board doesn't show it.
     Belied(Ruling),
     /// The move was sent as often as the terms allow, without either.
@@ -76,15 +82,15 @@ fn send<P: Port>(port: &mut P, bytes: &[u8])
     let _sent = port.send(bytes);
 }
 
-/// Adds the report of a datagram, if it has one.
-fn take_in(stamp: Stamp, known: &mut Known, datagram: &[u8]) -> Next
+/// Adds the report of a datagram that came from an address, if it has one.
+fn take_in(stamp: Stamp, known: &mut Known, datagram: &[u8], from: Option<SocketAddr>) -> Next
     ensures learns { Learns stamp known.old known.new (Came datagram.now ∷ []) result }
     ensures last { (nanos : ℕ) → IsLast nanos (Came datagram.now) result }
 {
     let Some(report) = report_of(stamp, datagram) else {
         return Next::GoesOn;
     };
-    match known.add(report) {
+    match known.add(report, from) {
         Ok(()) => Next::GoesOn,
         Err(clash) => Next::Clashed(clash),
     }
@@ -96,7 +102,7 @@ fn receive_one<P: Port>(stamp: Stamp, wait: Duration, known: &mut Known, port: &
 {
     let mut buffer = [0u8; 64];
     match port.receive_in_time(wait, &mut buffer) {
-        Ok(Some(length)) => take_in(stamp, known, &buffer[..length]),
+        Ok(Some(length)) => take_in(stamp, known, &buffer[..length], port.sender()),
         Ok(None) => Next::Waited,
         Err(_) => Next::PortLost,
     }
@@ -156,9 +162,12 @@ pub(crate) fn receive_all<P: Port>(
 }
 
 /// The state of a move as the end of its turn; none where it is open.
-fn turn_of(known: &Known, number: u32, board: Board<'_>) -> Option<Turn>
-    ensures { EndsIf number board.entry.plies board.entry.position.now known.now result }
+fn turn_of(origin: Origin, known: &Known, number: u32, board: Board<'_>) -> Option<Turn>
+    ensures { EndsIf origin number board.entry.plies board.entry.position.now known.now result }
 {
+    if let Some(started) = origin.started_in(known, board.plies) {
+        return Some(Turn::Started(started));
+    }
     if let Some(ruling) = board.belied_in(known) {
         return Some(Turn::Belied(ruling));
     }
@@ -221,8 +230,8 @@ pub(crate) fn send_again<P: Port>(stamp: Stamp, number: u32, last: &Option<Move>
 /// Sends a move to each address until both arbiters have acknowledged it, or both have reported a verdict, at most as
 /// often as the terms say. Its number is that of the moves before it, 0 to 4095, and the board is the one after it.
 ///
-/// A move that is acknowledged already isn't sent. Nothing else is sent. A reported verdict that the board belies ends the turn after
-/// its try.
+/// A move that is acknowledged already isn't sent. Nothing else is sent. Two kinds of reports end the turn after their try: of a new game
+/// one by which an arbiter has more moves than the board, and a verdict that the board belies.
 pub fn take_turn<P: Port>(
     terms: &SendConfig,
     number: u32,
@@ -235,14 +244,14 @@ pub fn take_turn<P: Port>(
 {
     let bytes = datagram_of(terms.stamp, number, m);
     for index in 0..terms.tries {
-        if let Some(turn) = turn_of(known, number, board) {
+        if let Some(turn) = turn_of(terms.origin, known, number, board) {
             return turn;
         }
         if let Some(turn) = try_once(terms, index, number, known, port, &bytes) {
             return turn;
         }
     }
-    match turn_of(known, number, board) {
+    match turn_of(terms.origin, known, number, board) {
         Some(turn) => turn,
         None => Turn::Lost,
     }

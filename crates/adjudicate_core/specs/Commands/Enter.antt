@@ -1,5 +1,5 @@
--- `enter --name N --start FEN --tables DIR [--manifest FILE] [--delay N] --games DIR`: a game of a folder.
--- `enter --from FILE --tables DIR [--manifest FILE] --games DIR`: the games of a list; specs/Enters.antt has what it makes of them
+-- `enter --name N --start FEN --tables DIR [--manifest FILE] [--delay N] --games DIR [--new]`: a game of a folder.
+-- `enter --from FILE --tables DIR [--manifest FILE] --games DIR [--new]`: the games of a list; specs/Enters.antt has what it makes of them
 -- (this project's own).
 use Rattle.std.specs.Prelude.{◌≡◌, ◌++◌, List, [], ◌∷◌, Option, Some, None, codes, option_map}
 use Rattle.clap.specs.Words.{Rule, Text}
@@ -9,7 +9,7 @@ use Rattle.adjudicate_core.specs.Misuses.{AreGameWords, Fault, NoOption, NotWith
 use Rattle.adjudicate_core.specs.declared.words.usage.Instead.TheVariants as instead
 use Rattle.adjudicate_core.specs.declared.words.usage.Wanted.TheVariants as wanted
 use Rattle.task_files.specs.Sources.{Named, nothing}
-use Rattle.adjudicate_core.specs.Numbers.{IsDelay}
+use Rattle.adjudicate_core.specs.Numbers.{IsDelay, is_set}
 use Rattle.adjudicate_core.specs.declared.commands.enter.Enter.{Enter}
 use Rattle.adjudicate_core.specs.declared.commands.enter.Entries.{Entries}
 use Rattle.adjudicate_core.specs.declared.commands.enter.Entries.TheVariants.{One, From}
@@ -22,7 +22,8 @@ rules =
     ∷ rule_of_form form.Option (codes "tables")
     ∷ rule_of_form form.Option (codes "manifest")
     ∷ rule_of_form form.Option (codes "delay")
-    ∷ rule_of_form form.Option (codes "games") ∷ []
+    ∷ rule_of_form form.Option (codes "games")
+    ∷ rule_of_form form.Flag (codes "new") ∷ []
 
 -- what only one game has
 abbrev pub LacksGameWords : (Text → Option Text) → Type 0
@@ -38,6 +39,7 @@ pub record HasValues (value : Text → Option Text) (t : Enter) : Type 0 where
   pub entries : HasEntries value t.tables.now t.entries
   pub manifest : option_map (λ s. s.now) t.manifest ≡ value (codes "manifest")
   pub games : Some t.games.now ≡ value (codes "games")
+  pub is_new : t.is_new ≡ is_set (value (codes "new"))
 
 -- what may be wrong with its values, in the order in which it is told: without `--from`, and with it
 abbrev pub one_faults : List Fault

@@ -1,5 +1,5 @@
 -- `send --name N --start FEN --tables DIR [--manifest FILE] [--delay N] --to ADDR[,ADDR] [--bind ADDR] [--wait MS] [--tries N]
--- [--key FILE] [--san]`, or with `--game FILE` in place of what is before `--to`: the source of a game at a port; specs/Sends.antt has what it
+-- [--key FILE] [--san] [--new]`, or with `--game FILE` in place of what is before `--to`: the source of a game at a port; specs/Sends.antt has what it
 -- makes of its input (this project's own).
 use Rattle.std.specs.Prelude.{◌≡◌, ◌++◌, ℕ, List, [], ◌∷◌, map, Option, Some, None, codes, option_map}
 use Rattle.clap.specs.Words.{Rule, Text}
@@ -30,7 +30,8 @@ rules =
     ∷ rule_of_form form.Option (codes "wait")
     ∷ rule_of_form form.Option (codes "tries")
     ∷ rule_of_form form.Option (codes "key")
-    ∷ rule_of_form form.Flag (codes "san") ∷ []
+    ∷ rule_of_form form.Flag (codes "san")
+    ∷ rule_of_form form.Flag (codes "new") ∷ []
 
 -- the words that tell a game
 abbrev pub IsToldGame : (Text → Option Text) → ToldGame → Type 0
@@ -62,6 +63,7 @@ pub record HasValues (value : Text → Option Text) (t : Send) : Type 0 where
   pub tries : IsHundredOr (value (codes "tries")) t.tries
   pub key : option_map (λ s. s.now) t.key ≡ value (codes "key")
   pub san : t.san ≡ is_set (value (codes "san"))
+  pub is_new : t.is_new ≡ is_set (value (codes "new"))
 
 -- what may be wrong with its values, in the order in which it is told: without `--game` the words on a game; with it its path, and
 -- what stands beside it

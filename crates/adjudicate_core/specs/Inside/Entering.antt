@@ -1,5 +1,5 @@
 -- A game's file by what was found in it, and what comes of the next line of a list; cited by private functions alone.
-use Rattle.std.specs.Prelude.{◌≡◌, ◌≢◌, ◌⊎◌, ℕ, List, Option, Some, Result, Ok, Err}
+use Rattle.std.specs.Prelude.{◌≡◌, ◌≢◌, ◌⊎◌, ℕ, Bool, true, false, List, Option, Some, IsSome, Result, Ok, Err}
 use Rattle.std.specs.Io.KnownBytes.{Appends}
 use Rattle.move_msg.specs.TextLines.{ended}
 use Rattle.system_io.specs.declared.output.WriteFault.{WriteFault}
@@ -14,24 +14,22 @@ use Rattle.adjudicate_core.specs.declared.entering.KeepFault.{KeepFault}
 use Rattle.adjudicate_core.specs.declared.entering.KeepFault.TheVariants as keep
 use Rattle.adjudicate_core.specs.declared.entering.Step.{Step}
 use Rattle.adjudicate_core.specs.declared.entering.Step.TheVariants as step
-use Rattle.adjudicate_core.specs.Enters.{CutsLine, EntersLine, EntersNoGame, IsMadeForLine, Place, place}
+use Rattle.adjudicate_core.specs.Enters.{CutsLine, EntersLine, EntersNoGame, IsMadeForLine, IsReplaceable, Place, place}
 use Rattle.adjudicate_core.specs.Listens.{hosted}
 
 -- the place where games are entered
 abbrev pub entering : {H P F : Type 0} → (H → HostFacts P F) → (P → PortFacts) → (F → KeptFacts) → GamePlace H → Place P F
-entering host port file p = place (hosted (host p.host.now) port file) p.games.now p.manifest.now
+entering host port file p = place (hosted (host p.host.now) port file) p.games.now p.manifest.now p.is_new
 
 -- a file has the text, and is left; or the text takes its place
-pub data HasOver {F : Type 0} (facts : F → KeptFacts) (file file' : F) (found : Option (List ℕ)) (text : List ℕ) : Type 0 where
-  Same : found ≡ Some text → file' ≡ file → HasOver facts file file' found text
-  Replaced : found ≢ Some text → (facts file').finds (Some text) (Some text) → HasOver facts file file' found text
+pub data HasOver {F : Type 0} (facts : F → KeptFacts) (is_new : Bool) (file file' : F) (found : Option (List ℕ)) (text : List ℕ) : Type 0 where
+  Same : is_new ≡ false → found ≡ Some text → file' ≡ file → HasOver facts is_new file file' found text
+  Replaced : IsReplaceable is_new found text → (facts file').finds (Some text) (Some text) → HasOver facts is_new file file' found text
 
--- that fails, as a call for the file does
-pub record LacksOver {F : Type 0} (facts : F → KeptFacts) (file file' : F) (found : Option (List ℕ)) (text : List ℕ) (fault : KeepFault) : Type 0 where
-  pub other : found ≢ Some text
-  pub either : FindsOldOrNew (facts file') found text
-  pub failed : Risen (facts file).faults (facts file').faults
-  pub is : fault ≡ keep.Keeper
+-- it is there though it has to be new; or that fails, as a call for the file does
+pub data LacksOver {F : Type 0} (facts : F → KeptFacts) (is_new : Bool) (file file' : F) (found : Option (List ℕ)) (text : List ℕ) (fault : KeepFault) : Type 0 where
+  Barred : is_new ≡ true → IsSome found → file' ≡ file → fault ≡ keep.Exists → LacksOver facts is_new file file' found text fault
+  Unreplaced : IsReplaceable is_new found text → FindsOldOrNew (facts file') found text → Risen (facts file).faults (facts file').faults → fault ≡ keep.Keeper → LacksOver facts is_new file file' found text fault
 
 -- what came of the line with this number is told, and whether its game is entered; or memory was refused for it; or the writer failed at
 -- what is told of it

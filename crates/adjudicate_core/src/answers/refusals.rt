@@ -37,6 +37,8 @@ pub(crate) enum Refusal {
     Port,
     /// What is kept can't be read or isn't that of the game, or the keeper failed at the start.
     Keeper,
+    /// A game has to be new, and its file is there.
+    Exists,
     /// Another process has what is kept.
     InUse,
     /// The store of a folder can't be opened, read or written.
@@ -76,6 +78,7 @@ fn add_entry_fault(line: &mut LineWords, fault: EntryFault)
         EntryFault::Start(fault) => add_text_fault(line, fault),
         EntryFault::Delay => line.add("delay"),
         EntryFault::Keeper => line.add("keeper"),
+        EntryFault::Exists => line.add("exists"),
     }
 }
 
@@ -153,6 +156,7 @@ impl Refusal {
             Refusal::Record(fault) => record_line(*fault),
             Refusal::Port => LineWords::of("refused port"),
             Refusal::Keeper => LineWords::of("refused keeper"),
+            Refusal::Exists => LineWords::of("refused exists"),
             Refusal::InUse => LineWords::of("refused in use"),
             Refusal::Store => LineWords::of("refused store"),
             Refusal::Files => LineWords::of("refused files"),

@@ -7,6 +7,7 @@ ghost use Rattle.adjudicate_core.specs.Commands.Enter.{HasValues, LacksGameWords
 
 use super::options::{DELAY, FEN, GAMES, MANIFEST_OF_GAME, NAME, START, TABLES};
 use super::{Form, Group, Stands, Summary, Value};
+use crate::words::numbers::is_set;
 use crate::words::usage::{Instead, ValueFault};
 use crate::words::values::{delay_in, game_words_in, option_in, without};
 use board_core::Delay;
@@ -25,6 +26,8 @@ pub struct Enter<'a> {
     pub manifest: Option<&'a str>,
     /// The folder of games.
     pub games: &'a str,
+    /// Whether a game is refused that is there already.
+    pub is_new: bool,
 }
 
 /// Which games are entered.
@@ -48,7 +51,7 @@ pub struct OneGame<'a> {
 }
 
 /// The values of `enter`.
-pub(crate) const VALUES: [Value; 7] = [
+pub(crate) const VALUES: [Value; 8] = [
     Value {
         stands: Stands::NeededInFirst,
         ..NAME
@@ -71,6 +74,13 @@ pub(crate) const VALUES: [Value; 7] = [
         ..DELAY
     },
     GAMES,
+    Value {
+        name: "new",
+        form: Form::Flag,
+        word: "",
+        about: "refuses a game that is there already",
+        stands: Stands::Optional,
+    },
 ];
 
 /// What help says of `enter`.
@@ -96,6 +106,7 @@ fn one_in<'a>(matches: &ArgMatches<'a>) -> Result<Enter<'a>, ValueFault<'a>>
         tables: game.tables,
         manifest: matches.get_str("manifest"),
         games: option_in(matches, "games")?,
+        is_new: is_set(matches.get_str("new")),
     })
 }
 
@@ -122,6 +133,7 @@ fn list_in<'a>(matches: &ArgMatches<'a>, path: &'a str) -> Result<Enter<'a>, Val
         tables: option_in(matches, "tables")?,
         manifest: matches.get_str("manifest"),
         games: option_in(matches, "games")?,
+        is_new: is_set(matches.get_str("new")),
     })
 }
 

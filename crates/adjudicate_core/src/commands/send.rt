@@ -67,10 +67,12 @@ pub struct Send<'a> {
     pub key: Option<&'a str>,
     /// Whether the moves of the input are written in standard algebraic notation.
     pub san: bool,
+    /// Whether the game is refused where an arbiter has moves of it that this run hasn't sent.
+    pub is_new: bool,
 }
 
 /// The values of `send`.
-pub(crate) const VALUES: [Value; 12] = [
+pub(crate) const VALUES: [Value; 13] = [
     Value {
         stands: Stands::NeededInFirst,
         ..NAME
@@ -123,6 +125,13 @@ pub(crate) const VALUES: [Value; 12] = [
     },
     KEY,
     SAN,
+    Value {
+        name: "new",
+        form: Form::Flag,
+        word: "",
+        about: "refuses a game of which an arbiter has a move that this run hasn't sent",
+        stands: Stands::Optional,
+    },
 ];
 
 /// What help says of `send`.
@@ -255,6 +264,7 @@ impl<'a> Send<'a> {
             tries: terms.tries,
             key: matches.get_str("key"),
             san: is_set(matches.get_str("san")),
+            is_new: is_set(matches.get_str("new")),
         })
     }
 

@@ -1,6 +1,12 @@
 -- One step of a turn and of a run; cited by private functions alone.
-use Rattle.std.specs.Prelude.{◌≡◌, ◌++◌, ◌⊎◌, ◌&&◌, ◌<◌, ◌-◌, ℕ, Bool, true, false, List, length, Option, Some, None, IfSome, is_some}
+use Rattle.std.specs.Prelude.{◌≡◌, ◌++◌, ◌⊎◌, ◌&&◌, ◌<◌, ◌≤◌, ◌-◌, ℕ, Bool, max, true, false, List, length, Option, Some, None, IfSome, is_some}
 use Rattle.move_msg.specs.declared.stamp.Stamp.{Stamp}
+use Rattle.move_msg.specs.declared.arbiter_id.ArbiterId.{ArbiterId}
+use Rattle.source_core.specs.declared.report.Ruling.{Ruling}
+use Rattle.source_core.specs.declared.origin.Origin.{Origin}
+use Rattle.source_core.specs.declared.origin.Origin.TheVariants.{Any, New}
+use Rattle.source_core.specs.declared.origin.Started.{Started}
+use Rattle.source_core.specs.declared.known.Reported.{Reported}
 use Rattle.source_core.specs.declared.known.Known.{Known}
 use Rattle.source_core.specs.declared.known.Standing.{Standing}
 use Rattle.source_core.specs.declared.known.Standing.TheVariants as standing
@@ -22,7 +28,8 @@ use Rattle.system_io.specs.declared.reading.ReadFault.{ReadFault}
 use Rattle.system_io.specs.Ports.{Passing, Came, Quiet, Missed, PortFacts, Passed, to_each}
 use Rattle.system_io.specs.LineReaders.{LineFacts, ReadsLine}
 use Rattle.source_core.specs.Sendings.{SendingGame, SendingState, AckedMove, IsAckedTurn, ClosesSo, SendingEndsWith, again, causes, game_at_port, last_of, sent_in}
-use Rattle.source_core.specs.Reports.{Knows, IsUnsettled, StandsSo}
+use Rattle.source_core.specs.Origins.{IsAddressText, IsOwn}
+use Rattle.source_core.specs.Reports.{Knows, IsUnsettled, StandsSo, reported_by}
 use Rattle.source_core.specs.Turns.{HasSpelling, HasWaited, IsReceived, Learns, TurnEndsSo, WaitsSoLong, one_try, try_nanos}
 use Rattle.std.specs.List.{AllByRecursion}
 use Rattle.std.specs.declared.time.Duration.{Duration}
@@ -55,6 +62,27 @@ Waits came known next.Waited = HasWaited came ⊎ (is_ruled known ≡ true)
 Waits came known (next.Clashed c) = Unit {0}
 Waits came known next.PortLost = Unit {0}
 
+-- ---- moves that were sent in no run but this
+
+-- how many moves an arbiter has by what it has reported
+abbrev pub ply_of : Option Ruling → ℕ
+ply_of None = 0
+ply_of (Some r) = r.ply
+
+abbrev pub moves_of : Reported → ℕ
+moves_of reported = max reported.count (ply_of reported.ruling)
+
+-- an arbiter has more than were sent
+abbrev pub IsBeyond : ℕ → Known → Started → Type 0
+IsBeyond sent known s = (who : ArbiterId) × (s.count ≡ moves_of (reported_by known who)) × (sent < s.count) × IsAddressText (reported_by known who).from s.at.bytes
+
+-- neither has more of a new game
+abbrev pub IsWithin : Origin → ℕ → Known → Type 0
+IsWithin Any sent known = Unit {0}
+IsWithin New sent known = (moves_of known.a ≤ sent) × (moves_of known.b ≤ sent)
+
+-- ---- a try
+
 -- the try with this number has come to its end
 pub record IsEndOfTry (terms : SendConfig) (index number : ℕ) (old new : Known) (port port' : PortFacts) (end : Next) : Type 0 where
   pub came : List Passing
@@ -77,7 +105,7 @@ TryWaits came known (Some end) = end ≡ at_turn.Lost → ⊥
 
 abbrev pub TryLearns : Stamp → List Passing → Known → Option Turn → Type 0
 TryLearns stamp all known None = Knows stamp all known
-TryLearns stamp all known (Some end) = (number plies : ℕ) (position : Parts) → TurnEndsSo stamp number plies position all known end
+TryLearns stamp all known (Some end) = (origin : Origin) (number plies : ℕ) (position : Parts) → TurnEndsSo origin stamp number plies position all known end
 
 -- the try with this number: it has waited, unless both have reported a verdict, or it ends the turn, whichever move it was
 pub record HasTriedOnce (terms : SendConfig) (index number addresses : ℕ) (bytes : List ℕ) (old new : Known) (port port' : PortFacts) (end : Option Turn) : Type 0 where
@@ -89,15 +117,16 @@ pub record HasTriedOnce (terms : SendConfig) (index number addresses : ℕ) (byt
   pub learns : (before : List Passing) → Knows terms.stamp before old → TryLearns terms.stamp (before ++ one_try addresses bytes came) new end
 
 -- how a move stands, by all that has passed and by the board: the end of its turn other than a loss, or none where it is unsettled
-abbrev pub EndsIf : ℕ → ℕ → Parts → Known → Option Turn → Type 0
-EndsIf number plies position known None = (is_ruled known ≡ false) × ((stamp : Stamp) (all : List Passing) → Knows stamp all known → IsUnsettled stamp number all)
-EndsIf number plies position known (Some end) = (end ≡ at_turn.Lost → ⊥) × ((stamp : Stamp) (all : List Passing) → Knows stamp all known → TurnEndsSo stamp number plies position all known end)
+abbrev pub EndsIf : Origin → ℕ → ℕ → Parts → Known → Option Turn → Type 0
+EndsIf origin number plies position known None = (is_ruled known ≡ false) × ((stamp : Stamp) (all : List Passing) → Knows stamp all known → IsUnsettled stamp number all × IsOwn origin stamp plies all)
+EndsIf origin number plies position known (Some end) = (end ≡ at_turn.Lost → ⊥) × ((stamp : Stamp) (all : List Passing) → Knows stamp all known → TurnEndsSo origin stamp number plies position all known end)
 
 -- with what a run ends after a turn; none where it goes on
 abbrev pub end_by : Turn → Option End
 end_by at_turn.Acked = None
 end_by (at_turn.Ruled r) = Some (at_end.Ruled r)
 end_by (at_turn.Clashed c) = Some (at_end.Clashed c)
+end_by (at_turn.Started s) = Some (at_end.Started s)
 end_by (at_turn.Belied r) = Some (at_end.Belied r)
 end_by at_turn.Lost = Some at_end.Lost
 end_by at_turn.PortLost = Some at_end.PortLost
@@ -109,8 +138,8 @@ pub record IsPlayedLine (notation : Notation) (position : Parts) (number : ℕ) 
   pub room : number < most_moves
 
 -- how a game stands at the input's end, whatever has passed by which so much is known
-abbrev pub StandsAtInputEnd : ℕ → Parts → Known → End → Type 0
-StandsAtInputEnd number position known end = ((count : ℕ) → end ≡ at_end.Open count → is_ruled known ≡ false) × ((stamp : Stamp) (all : List Passing) → Knows stamp all known → ClosesSo stamp number position all end)
+abbrev pub StandsAtInputEnd : Origin → ℕ → Parts → Known → End → Type 0
+StandsAtInputEnd origin number position known end = ((count : ℕ) → end ≡ at_end.Open count → is_ruled known ≡ false) × ((stamp : Stamp) (all : List Passing) → Knows stamp all known → ClosesSo origin stamp number position all end)
 
 -- after the input's end the last move is handed over once more, and what still comes in time is received
 pub record Closes (terms : SendConfig) (number : ℕ) (position : Parts) (last : Option Moves) (known : Known) (port port' : PortFacts) (end : End) : Type 0 where
@@ -120,7 +149,7 @@ pub record Closes (terms : SendConfig) (number : ℕ) (position : Parts) (last :
   pub waits : (before : List Passing) → Knows terms.stamp before known → WaitsSoLong terms 0 number (before ++ again terms.stamp port.addresses (number - 1) last) came
   pub waited : (count : ℕ) → end ≡ at_end.Open count → HasWaited came
   pub passed : Passed port port' (again terms.stamp port.addresses (number - 1) last ++ came)
-  pub stands : (before : List Passing) → Knows terms.stamp before known → ClosesSo terms.stamp number position (before ++ (again terms.stamp port.addresses (number - 1) last ++ came)) end
+  pub stands : (before : List Passing) → Knows terms.stamp before known → ClosesSo terms.origin terms.stamp number position (before ++ (again terms.stamp port.addresses (number - 1) last ++ came)) end
 
 -- one more turn: a move was acknowledged, or the run ends
 unfoldable pub StepsSo : (ReadFault → Type 0) → SendingGame → SendingState → Option (List ℕ) → SendState → PortFacts → PortFacts → Option End → Type 0
@@ -150,4 +179,4 @@ StepsOn terms number line course course' port port' end =
 
 -- a game of which nothing is sent yet
 abbrev pub begun_at : Parts → SendState
-begun_at start = record { position = start; known = record { a = record { count = 0; ruling = None }; b = record { count = 0; ruling = None } }; last = None }
+begun_at start = record { position = start; known = record { a = record { count = 0; ruling = None; from = None }; b = record { count = 0; ruling = None; from = None } }; last = None }

@@ -4,10 +4,10 @@ use Rattle.adjudicate_core.proofs.EnterLaws.{found_kept, found_unkept}
 use Rattle.adjudicate_core.proofs.entering.keep_game.Goals as goal
 
 pub returns-in-Ok-clause-ok : goal.returns-in-Ok-clause-ok
-returns-in-Ok-clause-ok g c = found_kept g.F.KeptFile.facts c.args.file.now _ _ _ _ _ c.in-Ok.ensures.one c.in-Ok.ensures.same c.in-Ok.ensures.lasts c.keep_over.ensures.ok
+returns-in-Ok-clause-ok g c = found_kept g.F.KeptFile.facts c.args.is_new c.args.file.now _ _ _ _ _ c.in-Ok.ensures.one c.in-Ok.ensures.same c.in-Ok.ensures.lasts c.keep_over.ensures.ok
 
 pub returns-in-Ok-clause-err : goal.returns-in-Ok-clause-err
-returns-in-Ok-clause-err g c = found_unkept g.F.KeptFile.facts c.args.file.now _ _ _ _ _ c.in-Ok.ensures.one c.in-Ok.ensures.count c.keep_over.ensures.err
+returns-in-Ok-clause-err g c = found_unkept g.F.KeptFile.facts c.args.is_new c.args.file.now _ _ _ _ _ c.in-Ok.ensures.one c.in-Ok.ensures.same c.in-Ok.ensures.count c.keep_over.ensures.err
 
 pub returns-in-Err-Unreadable-clause-err : goal.returns-in-Err-Unreadable-clause-err
 returns-in-Err-Unreadable-clause-err g c = Unreadable (rw c.in-Err-Unreadable.field-0-is at c.in-Err-Unreadable.ensures.cause) c.in-Err-Unreadable.ensures.same refl
