@@ -258,13 +258,13 @@ module _ {P F : Type 0} (out : Outside P F) (t : Enter) (old new : Option (List 
   list_makes : (text : List ℕ) → EntersList out t text old new r → (more : List Made) × Passes out.had out.has more × AllByRecursion (IsGameIn t.games.now) more
   list_makes text (Unstamped made words lacks told) = ([], made, tt)
   list_makes text (NoRoomForManifest made told) = ([], made, tt)
-  list_makes text (Listed manifest is puts) = puts_makes (place out.host t.games.now manifest) (lines_in text) out.had out.has old new r puts
+  list_makes text (Listed manifest is puts) = puts_makes (place out.host t.games.now manifest t.is_new) (lines_in text) out.had out.has old new r puts
 
   as_makes : (e : Entries) → EntersAs out t e old new r → (more : List Made) × Passes out.had out.has more × IsOfEntries t.games.now e more
   as_makes (One g) (BadStart made fault first told) = ([], made, inl refl)
   as_makes (One g) (NoManifest made text words lacks told) = ([], made, inl refl)
   as_makes (One g) (NoRoom made text told) = ([], made, inl refl)
-  as_makes (One g) (Entered start spells legal manifest is puts) = put_makes (place out.host t.games.now manifest) g (entered g start) out.had out.has old new r puts
+  as_makes (One g) (Entered start spells legal manifest is puts) = put_makes (place out.host t.games.now manifest t.is_new) g (entered g start) out.had out.has old new r puts
   as_makes (From path) (NoList made lacks told) = ([], made, tt)
   as_makes (From path) (NoRoomForList made told) = ([], made, tt)
   as_makes (From path) (OfList text is h) = list_makes text h

@@ -45,7 +45,7 @@ fn moves_on<D: Disk>(alloc: Global, disk: &D, folder: &str, stamp: Stamp) -> Opt
         return None;
     };
     match Record::decode(alloc, &bytes) {
-        Ok(record) if record.stamp == stamp => Some(record.moves.len()),
+        Ok(record) if record.stamp == stamp => Some(record.moves.as_slice().len()),
         _ => None,
     }
 }

@@ -7,10 +7,12 @@ use system_io::{Disk, FileWithMode, Host, LineDisk, ReadFault};
 /// A disk over another one. A host is told where the folder of a task's tables is listed and has no file of a table.
 #[derive(Drop)]
 pub(crate) struct TablesNoted<'a, D, H> {
-    disk: &'a D,
-    host: &'a H,
+    /// The other disk.
+    pub(crate) disk: &'a D,
+    /// The host.
+    pub(crate) host: &'a H,
     /// The folder of the tables, if the task has one.
-    tables: Option<&'a str>,
+    pub(crate) tables: Option<&'a str>,
 }
 
 /// Whether one of these names is that of a table's file.
@@ -24,17 +26,6 @@ fn has_table(names: &[String]) -> bool {
 }
 
 impl<'a, D: Disk, H: Host> TablesNoted<'a, D, H> {
-    /// The disk over another one, for a task whose tables are in this folder.
-    pub(crate) fn over(
-        disk: &'a D,
-        host: &'a H,
-        tables: Option<&'a str>,
-    ) -> TablesNoted<'a, D, H>
-        ensures { result.disk.now ≡ disk.entry.now }
-    {
-        TablesNoted { disk, host, tables }
-    }
-
     /// Notes that a folder has no table, where it is that of the tables and these are its names.
     fn note_names(&self, alloc: Global, folder: &str, names: &[String]) {
         if self.tables != Some(folder) || has_table(names) {

@@ -109,7 +109,11 @@ fn run_task<'s, D: LineDisk, I: Input, H: Host, G: Pages, W: Output, E: Output>(
     ensures made { MakesFor task.now (H.made history.old) (H.made history.new) }
     ensures cause { OnErr result (HasFailed W.facts) }
 {
-    let disk = TablesNoted::over(system.disk, system.host, task.tables());
+    let disk = TablesNoted {
+        disk: system.disk,
+        host: system.host,
+        tables: task.tables(),
+    };
     let system = &System {
         disk: &disk,
         input: system.input,

@@ -9,8 +9,8 @@ use std::net::SocketAddr;
 use std::time::Duration;
 use system_io::{Host, Port, PortFault};
 
-/// How long answers are awaited in vain between two notes that one is missing.
-const BETWEEN_NOTES: Duration = Duration::from_secs(10);
+/// For how many seconds answers are awaited in vain between two notes that one is missing.
+const BETWEEN_NOTES: u64 = 10;
 
 /// The answer of an arbiter to the last move.
 #[derive(Clone, Copy)]
@@ -132,7 +132,7 @@ impl<'w, H: Host> Watch<'w, H> {
         if !is_awaited(self.first) && !is_awaited(self.second) {
             return;
         }
-        if self.silent >= BETWEEN_NOTES {
+        if self.silent >= Duration::from_secs(BETWEEN_NOTES) {
             self.silent = Duration::ZERO;
             self.note_silent();
         }
@@ -206,7 +206,7 @@ impl<'w, P: Port + Drop, H: Host> Watched<'w, P, H> {
                 first: Answer::Awaited,
                 second: Answer::Awaited,
                 notes_started: terms.origin == Origin::Any,
-                silent: BETWEEN_NOTES,
+                silent: Duration::from_secs(BETWEEN_NOTES),
                 stray: None,
             },
         }

@@ -5,9 +5,9 @@
 //! each; `Report` is what a datagram of the game reports. After the input's end the last move is sent once more. What it sends is the
 //! list of moves with which a world begins (`theorems::sends_the_log`).
 //!
-//! Inside: `sending` (a run), `turn` (one move), `board` (the source's own), `known`, `report`, `lines`, `laws`.
+//! Inside: `sending` (a run), `turn` (one move), `board` (the source's own), `known`, `origin`, `report`, `lines`, `laws`.
 //!
-//! Definitions, in reading order: `Reports`, `Boards` (`IsBelieved`), `Turns` (`IsWait`), `Sendings` (`IsSending`, `OnlyHands`), `Lines`,
+//! Definitions, in reading order: `Reports`, `Origins` (`RestsOnSent`), `Boards` (`IsBelieved`), `Turns` (`IsWait`), `Sendings` (`IsSending`, `OnlyHands`), `Lines`,
 //! `Laws`. Its tests stand in `checks_io` (`source_tests`).
 //!
 //! - CLAIM: `send_game`, clause `sends`: a run sends the legal moves of its input, each with its number to each address, at most
@@ -28,6 +28,9 @@
 //!   or a verdict with its stamp.
 //! - CLAIM: `Known::add`, clauses `added`, `clash`, `same`; `Known::standing`: a report is added to what is known, and a verdict
 //!   that differs from a known one is a clash.
+//! - CLAIM: `send_game`, clause `sends`; `laws::new_rests_on_sent`: of a game that has to be new (`Origin::New`) no acknowledged move,
+//!   verdict or open end is told while an arbiter has reported more moves than were sent; then the run ends as `refused started`, with the
+//!   most moves that this arbiter has reported (`IsOwn`, `IsStarted`).
 //! - CLAIM: `laws::one_move`: one number never has two moves.
 #![tactic(auto)]
 

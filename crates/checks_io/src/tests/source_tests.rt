@@ -6,7 +6,7 @@ use board_core::Position;
 use check_helpers::{Failing, START};
 use fen_text::read;
 use move_notation::Notation;
-use source_core::{SendConfig, send_game};
+use source_core::{Origin, SendConfig, send_game};
 use std::alloc::Global;
 use std::io::BufReader;
 use std::process::Abort;
@@ -30,9 +30,10 @@ struct Row {
     passed: &'static str,
 }
 
-fn terms(tries: u32) -> SendConfig {
+fn terms(origin: Origin, tries: u32) -> SendConfig {
     SendConfig {
         stamp: STAMP,
+        origin,
         notation: Notation::Coordinates,
         tries,
         wait: Duration::from_millis(1),
@@ -63,12 +64,12 @@ fn sent<P: Port, W: Output>(
     rt: &impl Abort,
     alloc: Global,
     reader: &mut BufReader<Given<'_>, Global>,
-    tries: u32,
+    terms: SendConfig,
     port: &mut P,
     out: &mut W,
 ) -> Result<u8, WriteFault> {
     let first = first_position(rt);
-    match send_game(alloc, terms(tries), first, reader, port, out) {
+    match send_game(alloc, terms, first, reader, port, out) {
         Ok(ended) => Ok(ended.status()),
         Err(fault) => Err(fault),
     }
@@ -99,26 +100,33 @@ fn check_passed(rt: &impl Abort, alloc: Global, port: &MemoryPort<'_>, passed: &
 }
 
 /// The lines and the status of a run of a row.
-fn check_run(rt: &impl Abort, alloc: Global, row: &Row, port: &mut MemoryPort<'_>) {
+fn check_run(
+    rt: &impl Abort,
+    alloc: Global,
+    origin: Origin,
+    row: &Row,
+    port: &mut MemoryPort<'_>,
+) {
     let mut lines = Vec::new(alloc);
     let mut reader = reader_of(rt, alloc, row.input, row.after);
-    let ended = sent(rt, alloc, &mut reader, row.tries, port, &mut lines);
+    let terms = terms(origin, row.tries);
+    let ended = sent(rt, alloc, &mut reader, terms, port, &mut lines);
     check_bytes(rt, &lines, row.lines.as_bytes(), row.words);
     check_same(rt, ended, Ok(row.status), row.words);
 }
 
 /// A run of a row.
-fn check_row(rt: &impl Abort, alloc: Global, row: &Row) {
+fn check_row(rt: &impl Abort, alloc: Global, origin: Origin, row: &Row) {
     let coming = Coming::of(rt, alloc, STAMP, row.words);
     let datagrams = coming.datagrams(rt, alloc);
     let mut port = coming.port(alloc, &datagrams);
-    check_run(rt, alloc, row, &mut port);
+    check_run(rt, alloc, origin, row, &mut port);
     check_passed(rt, alloc, &port, row.passed);
 }
 
-fn check_rows(rt: &impl Abort, alloc: Global, rows: &[Row]) {
+fn check_rows(rt: &impl Abort, alloc: Global, origin: Origin, rows: &[Row]) {
     for row in rows {
-        check_row(rt, alloc, row);
+        check_row(rt, alloc, origin, row);
     }
 }
 
@@ -330,24 +338,79 @@ const INPUTS: [Row; 8] = [
     },
 ];
 
+/// Of a game that has to be new: one that is; arbiters that have a move of an earlier run, or its verdict; one of them, while a later
+/// move is sent; a verdict after the input's end.
+const NEW: [Row; 5] = [
+    Row {
+        input: MATE,
+        after: After::End,
+        tries: 9,
+        words: "a1b1--b2a2--a3b3--a4A4b4B4",
+        lines: "1 acked\n2 acked\n3 acked\nverdict 4 BlackMates\n",
+        status: 0,
+        passed: "00ccq11ccq22ccq33cccc",
+    },
+    Row {
+        input: "f2f3\ne7e5\n",
+        after: After::End,
+        tries: 9,
+        words: "a1b2--",
+        lines: "refused started 2 -\n",
+        status: 1,
+        passed: "00ccq",
+    },
+    Row {
+        input: MATE,
+        after: After::End,
+        tries: 9,
+        words: "a4A4b4B4",
+        lines: "refused started 4 -\n",
+        status: 1,
+        passed: "00cccc",
+    },
+    Row {
+        input: MATE,
+        after: After::End,
+        tries: 9,
+        words: "a1b1--b3a2--",
+        lines: "1 acked\nrefused started 3 -\n",
+        status: 1,
+        passed: "00ccq11ccq",
+    },
+    Row {
+        input: "f2f3\n",
+        after: After::End,
+        tries: 9,
+        words: "a1b1--A2--",
+        lines: "1 acked\nrefused started 2 -\n",
+        status: 1,
+        passed: "00ccq00cq",
+    },
+];
+
 #[test]
 fn sends_until_both_have_acknowledged(rt: HostRuntime) {
-    check_rows(&rt, rt.alloc(), &ANSWERED);
+    check_rows(&rt, rt.alloc(), Origin::Any, &ANSWERED);
 }
 
 #[test]
 fn sends_again_what_is_lost(rt: HostRuntime) {
-    check_rows(&rt, rt.alloc(), &LOST);
+    check_rows(&rt, rt.alloc(), Origin::Any, &LOST);
 }
 
 #[test]
 fn tells_verdicts_that_differ(rt: HostRuntime) {
-    check_rows(&rt, rt.alloc(), &CLASHES);
+    check_rows(&rt, rt.alloc(), Origin::Any, &CLASHES);
 }
 
 #[test]
 fn tells_where_it_reads_no_legal_move(rt: HostRuntime) {
-    check_rows(&rt, rt.alloc(), &INPUTS);
+    check_rows(&rt, rt.alloc(), Origin::Any, &INPUTS);
+}
+
+#[test]
+fn refuses_moves_of_an_earlier_run(rt: HostRuntime) {
+    check_rows(&rt, rt.alloc(), Origin::New, &NEW);
 }
 
 /// 4096 moves and one more: the knights go out and back.
@@ -368,7 +431,7 @@ fn push_text(rt: &impl Abort, text: &mut String, more: &str) {
 fn check_end(rt: &impl Abort, alloc: Global, input: &str, port: &mut MemoryPort<'_>, end: &[u8]) {
     let mut lines = Vec::new(alloc);
     let mut reader = reader_of(rt, alloc, input, After::End);
-    let ended = sent(rt, alloc, &mut reader, 1, port, &mut lines);
+    let ended = sent(rt, alloc, &mut reader, terms(Origin::Any, 1), port, &mut lines);
     check_same(rt, ended, Ok(1), "status");
     check_same(rt, lines.ends_with(end), true, "the last lines");
 }
@@ -387,7 +450,7 @@ fn refuses_a_move_too_many(rt: HostRuntime) {
 /// A run whose writer fails at a line.
 fn check_failing(rt: &impl Abort, alloc: Global, fails_at: u32, port: &mut MemoryPort<'_>) {
     let mut reader = reader_of(rt, alloc, MATE, After::End);
-    let ended = sent(rt, alloc, &mut reader, 9, port, &mut Failing::at(fails_at));
+    let ended = sent(rt, alloc, &mut reader, terms(Origin::Any, 9), port, &mut Failing::at(fails_at));
     check_same(rt, ended, Err(WriteFault::Io), "a writer that fails");
 }
 
@@ -414,7 +477,7 @@ fn check_waits(rt: &impl Abort, alloc: Global, port: MemoryPort<'_>, waits: &[u8
         waits: Vec::new(alloc),
     };
     let mut reader = reader_of(rt, alloc, "f2f3\n", After::End);
-    let ended = sent(rt, alloc, &mut reader, 9, &mut timed, &mut Vec::new(alloc));
+    let ended = sent(rt, alloc, &mut reader, terms(Origin::Any, 9), &mut timed, &mut Vec::new(alloc));
     check_same(rt, ended, Ok(0), "status");
     check_bytes(rt, &timed.waits, waits, "waits");
 }
