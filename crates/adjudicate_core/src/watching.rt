@@ -225,13 +225,18 @@ impl<'w, P: Port + Drop, H: Host> Port for Watched<'w, P, H> {
         wait: Duration,
         buffer: &mut [u8; 64],
     ) -> Result<Option<usize>, PortFault> {
-        let came = self.port.receive_in_time(wait, buffer);
-        match came {
-            Ok(Some(length)) => self.watch.note_came(&buffer[..length], self.port.sender()),
-            Ok(None) => self.watch.note_quiet(wait),
-            Err(_) => {}
+        match self.port.receive_in_time(wait, buffer) {
+            Ok(Some(length)) => {
+                self.watch
+                    .note_came(&buffer[..length], self.port.sender());
+                Ok(Some(length))
+            }
+            Ok(None) => {
+                self.watch.note_quiet(wait);
+                Ok(None)
+            }
+            Err(fault) => Err(fault),
         }
-        came
     }
 
     fn sender(&self) -> Option<SocketAddr> {

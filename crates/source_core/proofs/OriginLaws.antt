@@ -10,7 +10,7 @@ use Rattle.source_core.specs.declared.origin.Origin.TheVariants.{Any, New}
 use Rattle.source_core.specs.declared.origin.Started.{Started}
 use Rattle.source_core.specs.declared.known.Reported.{Reported}
 use Rattle.source_core.specs.declared.known.Known.{Known}
-use Rattle.source_core.specs.Reports.{HasRuled, IsReportedBy, Knows, reported_by}
+use Rattle.source_core.specs.Reports.{HasAcknowledged, HasRuled, IsReportedBy, Knows, reported_by}
 use Rattle.source_core.specs.Origins.{EndsStarted, HasMoves, IsOwn, IsStarted}
 use Rattle.source_core.specs.Inside.Steps.{IsBeyond, IsWithin, moves_of, ply_of}
 
@@ -28,17 +28,20 @@ ruled_at stamp who all (Some r) n k more is = inr (r, k, omega (arith, is))
 
 has_moves : (stamp : Stamp) (who : ArbiterId) (all : List Passing) (told : Reported) → IsReportedBy stamp who all told → 0 < moves_of told → HasMoves stamp who (moves_of told) all
 has_moves stamp who all told h more = elim (greatest told.count (ply_of told.ruling)) [
-  | inl first ↦ inl (subst (λ n. (0 < n → _)) (sym first) h.counted more)
+  | inl first ↦ inl (subst (λ n. HasAcknowledged stamp who n all) (sym first) (h.counted (subst (λ n. 0 < n) first more)))
   | inr second ↦ ruled_at stamp who all told.ruling (moves_of told) h.ruled more second
 ]
   where
     greatest : (m n : ℕ) → (max m n ≡ m) ⊎ (max m n ≡ n)
     greatest m n = grind arith
 
+rests : (stamp : Stamp) (sent : ℕ) (all : List Passing) (known : Known) → Knows stamp all known → IsWithin New sent known → (who : ArbiterId) (n : ℕ) → HasMoves stamp who n all → n ≤ sent
+rests stamp sent all known h le A n has = let most = within stamp A all known.a n h.a has in let few = le.0 in omega arith
+rests stamp sent all known h le B n has = let most = within stamp B all known.b n h.b has in let few = le.1 in omega arith
+
 pub is_own : (origin : Origin) (stamp : Stamp) (sent : ℕ) (all : List Passing) (known : Known) → Knows stamp all known → IsWithin origin sent known → IsOwn origin stamp sent all
 is_own Any stamp sent all known h le = tt
-is_own New stamp sent all known h le A n has = let most = within stamp A all known.a n h.a has in let few = le.0 in omega arith
-is_own New stamp sent all known h le B n has = let most = within stamp B all known.b n h.b has in let few = le.1 in omega arith
+is_own New stamp sent all known h le = rests stamp sent all known h le
 
 started_by : (stamp : Stamp) (sent : ℕ) (all : List Passing) (who : ArbiterId) (told : Reported) (s : Started) → IsReportedBy stamp who all told → s.count ≡ moves_of told → sent < s.count → IsStarted stamp sent s all
 started_by stamp sent all who told s h is more = record {
