@@ -133,7 +133,12 @@ fn close<P: Port>(terms: &SendConfig, number: u32, course: &mut SendState, port:
 {
     send_again(terms.stamp, number.saturating_sub(1), &course.last, port);
     match receive_all(terms, 0, number, &mut course.known, port) {
-        Next::GoesOn | Next::Waited => end_at(terms.origin, &course.known, number, &course.position),
+        Next::GoesOn | Next::Waited => end_at(
+            terms.origin,
+            &course.known,
+            number,
+            &course.position,
+        ),
         Next::Clashed(clash) => End::Clashed(clash),
         Next::PortLost => End::PortLost,
     }
