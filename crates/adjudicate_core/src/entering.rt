@@ -10,7 +10,6 @@ ghost use Rattle.adjudicate_core.specs.Outsides.{outside_of};
 ghost use Rattle.arbiter_server.specs.Folders.{MakesOnce};
 ghost use Rattle.system_io.specs.Hosts.{FileAt};
 ghost use Rattle.system_io.specs.Outputs.{WritesFront};
-ghost use Rattle.adjudicate_core.specs.Listens.{hosted};
 ghost use Rattle.system_io.specs.KeptFiles.{bytes_of};
 ghost use Rattle.line_teller.specs.ToldLines.{HasFailed};
 
@@ -207,7 +206,9 @@ fn put_game<D: Disk, H: Host, W: Output>(
     ensures told { PutsGame (entering H.facts H.Port.facts H.File.facts place.now) (entered game.now start.now) (H.made history.old) (H.made history.new) (W.contents out.old) (W.contents out.new) result }
     ensures cause { OnErr result (HasFailed W.facts) }
 {
-    match enter_game(alloc, place, earlier, history, &game.name, start, game.delay) {
+    match enter_game(
+        alloc, place, earlier, history, &game.name, start, game.delay,
+    ) {
         Ok(stamp) => put_stamp(out, stamp),
         Err(fault) => put_refusal(out, fault.refusal()),
     }
@@ -271,7 +272,15 @@ fn enter_line<D: Disk, H: Host>(
         Ok(game) => game,
         Err(fault) => return Ok(Err(fault)),
     };
-    match enter_game(alloc, place, earlier, history, &game.name, &game.start, game.delay) {
+    match enter_game(
+        alloc,
+        place,
+        earlier,
+        history,
+        &game.name,
+        &game.start,
+        game.delay,
+    ) {
         Ok(stamp) => Ok(Ok(stamp)),
         Err(KeepFault::Keeper) => Ok(Err(EntryFault::Keeper)),
         Err(KeepFault::Exists) => Ok(Err(EntryFault::Exists)),

@@ -11,7 +11,7 @@
 //! fail, and written at once. `keys` reads files of keys, `entries` the lines of a list; `tables` and `manifests` make sets of files; `folders` reads
 //! a table when a position asks for it; `pages` is what answers requests of HTTP;
 //! `listening`, `hosting`, `entering`, `sending`, `binding`, `locking`, `silence`, `stores` run the commands that touch ports and
-//! files; `program` over a `system`, of which `machine` has all that is known as one argument; `laws`.
+//! files, with `watching` (notes of `send`), `earlier` (notes of `enter`) and `noting` (of a folder without tables); `program` over a `system`, of which `machine` has all that is known as one argument; `laws`.
 //!
 //! Definitions, in reading order: `Numbers`, `Rules`, `Commands`, `Tasks`, `Misuses`, `Usage`, `Uses`, `Addresses`, `Keys` for words;
 //! `Looks`, `Lines`, `Reply`, `Telling`, `Schedules`, `LineAnswers`, `TableAnswers`, `FolderAnswers`, `JsonAnswers`, `Audits`, `AuditAgreements` for

@@ -121,8 +121,9 @@ impl<'w, H: Host> Watch<'w, H> {
             return;
         }
         self.stray = Some(address);
-        if let Ok(line) = format!(in self.alloc; "answers come from {address}, which isn't among --to")
-        {
+        if let Ok(line) = format!(in self.alloc;
+            "answers come from {address}, which isn't among --to"
+        ) {
             self.host.note(line.as_str());
         }
     }
@@ -227,8 +228,7 @@ impl<'w, P: Port + Drop, H: Host> Port for Watched<'w, P, H> {
     ) -> Result<Option<usize>, PortFault> {
         match self.port.receive_in_time(wait, buffer) {
             Ok(Some(length)) => {
-                self.watch
-                    .note_came(&buffer[..length], self.port.sender());
+                self.watch.note_came(&buffer[..length], self.port.sender());
                 Ok(Some(length))
             }
             Ok(None) => {

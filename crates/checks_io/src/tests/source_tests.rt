@@ -100,13 +100,7 @@ fn check_passed(rt: &impl Abort, alloc: Global, port: &MemoryPort<'_>, passed: &
 }
 
 /// The lines and the status of a run of a row.
-fn check_run(
-    rt: &impl Abort,
-    alloc: Global,
-    origin: Origin,
-    row: &Row,
-    port: &mut MemoryPort<'_>,
-) {
+fn check_run(rt: &impl Abort, alloc: Global, origin: Origin, row: &Row, port: &mut MemoryPort<'_>) {
     let mut lines = Vec::new(alloc);
     let mut reader = reader_of(rt, alloc, row.input, row.after);
     let terms = terms(origin, row.tries);
@@ -431,7 +425,14 @@ fn push_text(rt: &impl Abort, text: &mut String, more: &str) {
 fn check_end(rt: &impl Abort, alloc: Global, input: &str, port: &mut MemoryPort<'_>, end: &[u8]) {
     let mut lines = Vec::new(alloc);
     let mut reader = reader_of(rt, alloc, input, After::End);
-    let ended = sent(rt, alloc, &mut reader, terms(Origin::Any, 1), port, &mut lines);
+    let ended = sent(
+        rt,
+        alloc,
+        &mut reader,
+        terms(Origin::Any, 1),
+        port,
+        &mut lines,
+    );
     check_same(rt, ended, Ok(1), "status");
     check_same(rt, lines.ends_with(end), true, "the last lines");
 }
@@ -450,7 +451,14 @@ fn refuses_a_move_too_many(rt: HostRuntime) {
 /// A run whose writer fails at a line.
 fn check_failing(rt: &impl Abort, alloc: Global, fails_at: u32, port: &mut MemoryPort<'_>) {
     let mut reader = reader_of(rt, alloc, MATE, After::End);
-    let ended = sent(rt, alloc, &mut reader, terms(Origin::Any, 9), port, &mut Failing::at(fails_at));
+    let ended = sent(
+        rt,
+        alloc,
+        &mut reader,
+        terms(Origin::Any, 9),
+        port,
+        &mut Failing::at(fails_at),
+    );
     check_same(rt, ended, Err(WriteFault::Io), "a writer that fails");
 }
 
@@ -477,7 +485,14 @@ fn check_waits(rt: &impl Abort, alloc: Global, port: MemoryPort<'_>, waits: &[u8
         waits: Vec::new(alloc),
     };
     let mut reader = reader_of(rt, alloc, "f2f3\n", After::End);
-    let ended = sent(rt, alloc, &mut reader, terms(Origin::Any, 9), &mut timed, &mut Vec::new(alloc));
+    let ended = sent(
+        rt,
+        alloc,
+        &mut reader,
+        terms(Origin::Any, 9),
+        &mut timed,
+        &mut Vec::new(alloc),
+    );
     check_same(rt, ended, Ok(0), "status");
     check_bytes(rt, &timed.waits, waits, "waits");
 }
