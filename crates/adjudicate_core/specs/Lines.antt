@@ -128,11 +128,11 @@ refused_move place = codes "refused move " ++ decimal place
 abbrev pub refused_line : ℕ → List ℕ
 refused_line number = codes "refused line " ++ decimal number
 
--- the refusal of a game of a list by the number of its line, the first being 1
 -- a game has to be new, and its file is there
 abbrev pub refused_exists : List ℕ
 refused_exists = codes "refused exists"
 
+-- the refusal of a game of a list by the number of its line, the first being 1
 abbrev pub refused_entry : ℕ → EntryFault → List ℕ
 refused_entry number fault = refused_line number ++ codes " " ++ entry_fault_words fault
 

@@ -7,11 +7,11 @@ use Rattle.adjudicate_core.proofs.entering.keep_over.Goals as goal
 
 none_found : (found : Option (List ℕ)) → (IsSome found → ⊥) → found ≡ None
 none_found None free = refl
-none_found (Some text) free = absurd (free tt)
+none_found (Some text) free = absurd (free refl)
 
 -- what has to be new and isn't barred has no text
 not_new : (is_new : Bool) (found : Option (List ℕ)) (text : List ℕ) → found ≡ Some text → ((is_new ≡ true) × IsSome found → ⊥) → is_new ≡ false
-not_new true found text is free = absurd (free (refl, subst IsSome (sym is) tt))
+not_new true found text is free = absurd (free (refl, subst IsSome (sym is) refl))
 not_new false found text is free = refl
 
 pub returns-then-is_barred-clause-err : goal.returns-then-is_barred-clause-err
