@@ -4,6 +4,7 @@ use Rattle.std.specs.Prelude.{◌&&◌, Result, Ok, Err, IfErr, IfOk, OnOk, Vec,
 use Rattle.std.specs.Global.{Global}
 use Rattle.std.specs.Io.KnownBytes.{Appends}
 use Rattle.std.proofs.KnownBytes.{Appends-nil, Appends-trans}
+use Rattle.std.proofs.lemmas.Bool.{false≢true}
 use Rattle.std.proofs.lemmas.List.{map-append}
 use Rattle.move_msg.specs.TextLines.{ended, lines_in, text_of}
 use Rattle.move_msg.proofs.LineLaws.{more_lines}
@@ -40,7 +41,7 @@ found_kept facts is_new file mid file' found text (Ok u) one keeps lasts h = fou
 found_kept facts is_new file mid file' found text (Err fault) one keeps lasts h = tt
 
 found_lacks : {F : Type 0} (facts : F → KeptFacts) (is_new : Bool) (file mid file' : F) (found : Option (List ℕ)) (text : List ℕ) (fault : KeepFault) → IsOneOfFound (facts file) found → ((a b : Option (List ℕ)) → (facts file).finds a b → (facts mid).finds a b) → (facts mid).faults ≡ (facts file).faults → LacksOver facts is_new mid file' found text fault → LacksText facts is_new file file' text fault
-found_lacks facts is_new file mid file' None text fault one keeps count (Barred new some same is) = absurd some
+found_lacks facts is_new file mid file' None text fault one keeps count (Barred new some same is) = absurd (false≢true some)
 found_lacks facts is_new file mid file' (Some bytes) text fault one keeps count (Barred new some same is) = Exists new bytes one (λ a b h. subst (λ f. (facts f).finds a b) (sym same) (keeps a b h)) is
 found_lacks facts is_new file mid file' found text fault one keeps count (Unreplaced other either failed is) = Failed found one other either (subst (λ (n : ℕ). Risen n (facts file').faults) count failed) is
 
