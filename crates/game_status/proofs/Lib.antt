@@ -7,3 +7,6 @@ pub mod LineLaws
 pub mod StoreLaws
 pub mod StoredLaws
 pub mod ImportLaws
+pub mod TotalLaws
+pub mod MetricLaws
+pub mod FolderLaws

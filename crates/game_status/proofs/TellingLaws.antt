@@ -19,7 +19,7 @@ use Rattle.game_status.specs.Inside.Counting.{AddsMark, CanCountOneMore, CutsSom
 
 -- ---- counts
 
-at_most : (test : Mark → Bool) (told : List GameTold) → count_marked test told ≤ length told
+pub at_most : (test : Mark → Bool) (told : List GameTold) → count_marked test told ≤ length told
 at_most test [] = omega arith
 at_most test (t ∷ told) = by_test (test t.mark) refl (at_most test told)
   where
@@ -27,7 +27,7 @@ at_most test (t ∷ told) = by_test (test t.mark) refl (at_most test told)
     by_test true e h = rw e (omega (arith, h))
     by_test false e h = rw e (omega (arith, h))
 
-count_more : (test : Mark → Bool) (told : List GameTold) (t : GameTold) → count_marked test (told ++ t ∷ []) ≡ count_marked test told + cond (test t.mark) 1 0
+pub count_more : (test : Mark → Bool) (told : List GameTold) (t : GameTold) → count_marked test (told ++ t ∷ []) ≡ count_marked test told + cond (test t.mark) 1 0
 count_more test told t =
     ap length (filter-append (λ x. test x.mark) told (t ∷ [])) ∙ length-append (filter (λ x. test x.mark) told) (filter (λ x. test x.mark) (t ∷ [])) ∙ ap (λ n. count_marked test told + n) (one (test t.mark))
   where
@@ -41,14 +41,14 @@ same_made a b c d a' b' c' d' e f g h = cc
 same_sums : (a b : Sums) → a.games ≡ b.games → a.ruled ≡ b.ruled → a.faults ≡ b.faults → a.differ ≡ b.differ → a ≡ b
 same_sums a b e f g h = same_made a.games a.ruled a.faults a.differ b.games b.ruled b.faults b.differ e f g h
 
-sums_more : (told : List GameTold) (t : GameTold) (s new : Sums) → s ≡ sums_of told → AddsMark s t.mark new → new ≡ sums_of (told ++ t ∷ [])
+pub sums_more : (told : List GameTold) (t : GameTold) (s new : Sums) → s ≡ sums_of told → AddsMark s t.mark new → new ≡ sums_of (told ++ t ∷ [])
 sums_more told t s new is h = same_sums new (sums_of (told ++ t ∷ []))
     (h.games ∙ ap (λ (x : Sums). x.games + 1) is ∙ sym (length-append told (t ∷ [])))
     (h.ruled ∙ ap (λ (x : Sums). x.ruled + cond (is_ruled_mark t.mark) 1 0) is ∙ sym (count_more is_ruled_mark told t))
     (h.faults ∙ ap (λ (x : Sums). x.faults + cond (is_fault t.mark) 1 0) is ∙ sym (count_more is_fault told t))
     (h.differ ∙ ap (λ (x : Sums). x.differ + cond (is_apart t.mark) 1 0) is ∙ sym (count_more is_apart told t))
 
-zip_more : {A B : Type 0} (R : A → B → Type 0) (xs : List A) (ys : List B) (x : A) (y : B) → AllZip R xs ys → R x y → AllZip R (xs ++ x ∷ []) (ys ++ y ∷ [])
+pub zip_more : {A B : Type 0} (R : A → B → Type 0) (xs : List A) (ys : List B) (x : A) (y : B) → AllZip R xs ys → R x y → AllZip R (xs ++ x ∷ []) (ys ++ y ∷ [])
 zip_more R [] [] x y h k = (k, tt)
 zip_more R [] (b ∷ ys) x y h k = absurd h
 zip_more R (a ∷ xs) [] x y h k = absurd h

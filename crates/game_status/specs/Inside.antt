@@ -3,3 +3,4 @@ pub mod Decoding
 pub mod Listing
 pub mod Parting
 pub mod StoreReading
+pub mod Totalling

@@ -4,6 +4,9 @@ pub mod Sides
 pub mod Comparisons
 pub mod Tellings
 pub mod Statuses
+pub mod Totals
+pub mod Metrics
+pub mod Reports
 pub mod GameAudits
 pub mod StoreReadings
 pub mod StoredDisks

@@ -12,6 +12,7 @@ use Rattle.game_status.specs.declared.entry.EntryFault.TheVariants.{OtherGame}
 use Rattle.game_status.specs.declared.side.Side.{Side}
 use Rattle.game_status.specs.declared.status_lines.Look.{Look}
 use Rattle.game_status.specs.declared.status_lines.Look.TheVariants as look
+use Rattle.game_status.specs.declared.telling.Mark.{Mark}
 use Rattle.game_status.specs.declared.telling.Mark.TheVariants as mark
 use Rattle.game_status.specs.Comparisons.{IsComparedAs, compared_words, mark_of, mark_of_two}
 use Rattle.game_status.specs.Entries.{game_told, listed_fault_words}
@@ -48,6 +49,13 @@ game_told_by stamp (look.One side) = record { words = line_of_one stamp side; ma
 game_told_by stamp (look.Both side other compared) = record { words = line_of_two stamp side other compared; mark = mark_of_two side.kept compared }
 game_told_by stamp (look.AtFault fault) = record { words = fault_line stamp fault; mark = mark.AtFault }
 game_told_by stamp (look.OtherAtFault fault) = record { words = other_fault_line stamp fault; mark = mark.AtFault }
+
+-- how it is counted
+abbrev pub status_mark : Look → Mark
+status_mark (look.One side) = mark_of side.kept
+status_mark (look.Both side other compared) = mark_of_two side.kept compared
+status_mark (look.AtFault fault) = mark.AtFault
+status_mark (look.OtherAtFault fault) = mark.AtFault
 
 -- ---- one game
 

@@ -60,7 +60,7 @@ pub struct Sums {
 
 impl Sums {
     /// None was told.
-    fn none() -> Sums
+    pub(crate) fn none() -> Sums
         ensures { result ≡ sums_of [] }
     {
         Sums {
@@ -72,7 +72,7 @@ impl Sums {
     }
 
     /// One more was told, which is counted so.
-    fn with(self, mark: Mark) -> Sums
+    pub(crate) fn with(self, mark: Mark) -> Sums
         requires { CanCountOneMore self }
         ensures { AddsMark self mark result }
     {
@@ -98,7 +98,7 @@ impl Sums {
     }
 
     /// Whether nothing is at fault and nothing differs.
-    fn are_well(&self) -> bool
+    pub(crate) fn are_well(&self) -> bool
         ensures { result ≡ are_well self.now }
     {
         self.faults == 0 && self.differ == 0

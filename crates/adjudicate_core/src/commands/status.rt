@@ -1,21 +1,22 @@
-//! `status`: how far the games of a folder have come, or those of two.
+//! `status`: how far the games of a folder have come, or those of two, as lines or as metrics.
 
-ghost use Rattle.std.specs.Prelude.{◌≡◌, IfErr, IfOk, OnErr};
+ghost use Rattle.std.specs.Prelude.{◌≡◌, IfErr, IfOk, OnErr, option_map};
 ghost use Rattle.clap.specs.Words.{first_value, found_of};
-ghost use Rattle.adjudicate_core.specs.Commands.Status.{HasValues, Puts, PutsOver, faults, named};
+ghost use Rattle.adjudicate_core.specs.Commands.Status.{HasValues, Puts, PutsOver, ReportsAs, faults, named};
 ghost use Rattle.adjudicate_core.specs.Misuses.{IsFirstMisuse, fault_words};
 ghost use Rattle.task_files.specs.Sources.{named_by};
 ghost use Rattle.line_teller.specs.ToldLines.{HasFailed};
 
 use super::options::{GAMES, OTHER_GAMES};
-use super::{Group, Summary, Value};
+use super::{Form, Group, Stands, Summary, Value};
 use crate::answers::lines::put_refusal;
 use crate::answers::status_told;
 use crate::stores::disk_over;
+use crate::words::numbers::is_set;
 use crate::words::usage::ValueFault;
 use crate::words::values::option_in;
 use clap::ArgMatches;
-use game_status::tell_status;
+use game_status::{tell_status, write_status_metrics};
 use std::alloc::Global;
 use system_io::{Disk, Host, Output, WriteFault};
 use task_files::InputPaths;
@@ -27,10 +28,22 @@ pub struct ShowStatus<'a> {
     pub games: &'a str,
     /// A second one, if it is named.
     pub other: Option<&'a str>,
+    /// Whether it is shown as metrics, in the text format of Prometheus, in place of lines.
+    pub metrics: bool,
 }
 
 /// The values of `status`.
-pub(crate) const VALUES: [Value; 2] = [GAMES, OTHER_GAMES];
+pub(crate) const VALUES: [Value; 3] = [
+    GAMES,
+    OTHER_GAMES,
+    Value {
+        name: "prometheus",
+        form: Form::Flag,
+        word: "",
+        about: "writes how many games there are of each kind, as metrics",
+        stands: Stands::Optional,
+    },
+];
 
 /// What help says of `status`.
 pub(crate) const SUMMARY: Summary = Summary {
@@ -48,6 +61,7 @@ impl<'a> ShowStatus<'a> {
         Ok(ShowStatus {
             games: option_in(matches, "games")?,
             other: matches.get_str("other"),
+            metrics: is_set(matches.get_str("prometheus")),
         })
     }
 
@@ -58,7 +72,24 @@ impl<'a> ShowStatus<'a> {
         InputPaths::none()
     }
 
-    /// Tells how far the games have come on a disk, as `game_status::tell_status` has it.
+    /// Reports how far the games have come on a disk, as `game_status` has it.
+    fn report<D: Disk, W: Output>(
+        &self,
+        alloc: Global,
+        disk: &D,
+        out: &mut W,
+    ) -> Result<bool, WriteFault>
+        ensures told { ReportsAs self.now.metrics (D.facts disk.now) self.now.games.now (option_map (λ s. s.now) self.now.other) (W.contents out.old) (W.contents out.new) result }
+        ensures cause { OnErr result (HasFailed W.facts) }
+    {
+        if self.metrics {
+            write_status_metrics(alloc, disk, self.games, self.other, out)
+        } else {
+            tell_status(alloc, disk, self.games, self.other, out)
+        }
+    }
+
+    /// Reports how far the games have come on a disk, with the status.
     fn tell<D: Disk, W: Output>(
         &self,
         alloc: Global,
@@ -68,11 +99,11 @@ impl<'a> ShowStatus<'a> {
         ensures told { Puts (D.facts disk.now) self.now (W.contents out.old) (W.contents out.new) result }
         ensures cause { OnErr result (HasFailed W.facts) }
     {
-        status_told(tell_status(alloc, disk, self.games, self.other, out))
+        status_told(self.report(alloc, disk, out))
     }
 
     /// Tells how far the games have come, by the stores of their folders. Returns the status, 0 where nothing is at fault and nothing
-    /// differs, else 1.
+    /// differs, else 1; of metrics 0 where they are written.
     pub(crate) fn answer<D: Disk, H: Host, W: Output>(
         &self,
         alloc: Global,
