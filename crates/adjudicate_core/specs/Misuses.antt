@@ -6,7 +6,7 @@ use Rattle.move_msg.specs.declared.arbiter_id.ArbiterId.{ArbiterId}
 use Rattle.move_msg.specs.Stamps.{IsGameName}
 use Rattle.adjudicate_core.specs.Addresses.{AreAddresses, AreRecipients, IsAddress}
 use Rattle.adjudicate_core.specs.GamePaths.{NamesGame, SpellsStamp}
-use Rattle.adjudicate_core.specs.Numbers.{IsAtOnce, IsCache, IsDatagrams, IsDelay, IsHundredOr, IsLog, IsMe, IsStore}
+use Rattle.adjudicate_core.specs.Numbers.{IsAtOnce, IsCache, IsDatagrams, IsDelay, IsHundredOr, IsLog, IsMe, IsMegabytes, IsStore}
 use Rattle.arbiter_server.specs.declared.line_log.LogForm.{LogForm}
 use Rattle.adjudicate_core.specs.declared.words.numbers.StoreForm.{StoreForm}
 use Rattle.adjudicate_core.specs.declared.words.usage.Instead.{Instead}
@@ -22,6 +22,7 @@ use Rattle.adjudicate_core.specs.declared.words.usage.ValueFault.TheVariants as 
 abbrev pub option_name : Wanted → Text
 option_name wanted.GameName = codes "name"
 option_name wanted.Cache = codes "cache"
+option_name wanted.Memory = codes "memory"
 option_name wanted.Delay = codes "delay"
 option_name wanted.Datagrams = codes "datagrams"
 option_name wanted.Requests = codes "requests"
@@ -46,6 +47,7 @@ wanted_front option = codes "--" ++ option_name option ++ codes " "
 abbrev pub range_of : Wanted → List ℕ
 range_of wanted.GameName = codes "1 to 64 bytes from the space to the tilde"
 range_of wanted.Cache = codes "1 to 4096"
+range_of wanted.Memory = codes "1 to 1000000"
 range_of wanted.Delay = codes "0 to 8"
 range_of wanted.Datagrams = codes "0 to 4294967295"
 range_of wanted.Requests = codes "0 to 4294967295"
@@ -115,6 +117,7 @@ pub data Fault : Type 0 where
 abbrev pub IsUnfit : (Text → Option Text) → Wanted → Type 0
 IsUnfit value wanted.GameName = (name : List ℕ) → Some name ≡ value (codes "name") → IsGameName name → ⊥
 IsUnfit value wanted.Cache = (n : ℕ) → IsCache (value (codes "cache")) n → ⊥
+IsUnfit value wanted.Memory = (text : List ℕ) × (value (codes "memory") ≡ Some text) × ((n : ℕ) → IsMegabytes text n → ⊥)
 IsUnfit value wanted.Delay = (n : ℕ) → IsDelay (value (codes "delay")) n → ⊥
 IsUnfit value wanted.Datagrams = (n : ℕ) → IsDatagrams (value (codes "datagrams")) n → ⊥
 IsUnfit value wanted.Requests = (n : ℕ) → IsDatagrams (value (codes "requests")) n → ⊥

@@ -20,6 +20,16 @@ abbrev pub IsCache : Option (List ℕ) → ℕ → Type 0
 IsCache None blocks = blocks ≡ 64
 IsCache (Some text) blocks = IsDecimalNumber text blocks × (1 ≤ blocks) × (blocks ≤ 4096)
 
+-- a number of megabytes is 1 to 1,000,000
+abbrev pub IsMegabytes : List ℕ → ℕ → Type 0
+IsMegabytes text n = IsDecimalNumber text n × (1 ≤ n) × (n ≤ 1000000)
+
+-- so many are kept at most, and any number where none is given
+abbrev pub IsMemory : Option (List ℕ) → Option ℕ → Type 0
+IsMemory None most = most ≡ None
+IsMemory (Some text) None = ⊥
+IsMemory (Some text) (Some n) = IsMegabytes text n
+
 -- a delay has 0 to 8 plies, and 0 where no number is given
 abbrev pub IsDelay : Option (List ℕ) → ℕ → Type 0
 IsDelay None plies = plies ≡ 0

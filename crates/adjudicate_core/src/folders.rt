@@ -16,7 +16,7 @@ ghost use Rattle.adjudicate_core.specs.Inside.LookingUp.{AreColumns, FindsColumn
 use crate::answers::Answer;
 use crate::answers::refusals::Refusal;
 use crate::commands::root::told_by;
-use crate::words::numbers::CacheSize;
+use crate::words::numbers::{CacheSize, Megabytes};
 use board_core::{Delay, Move, Position};
 use bumpalo::Bump;
 use json_lines::{JsonLine, PositionTold};
@@ -41,6 +41,15 @@ pub(crate) fn read_when_asked(lazy: bool, folder: Option<&str>) -> Option<&str>
     if lazy { folder } else { None }
 }
 
+/// An arena for the tables that a command keeps: of so many megabytes at most, where a number is given.
+pub(crate) fn arena_for(alloc: Global, memory: Option<Megabytes>) -> Bump {
+    let arena = Bump::new(alloc);
+    if let Some(most) = memory {
+        arena.set_allocation_limit(Some(most.bytes()));
+    }
+    arena
+}
+
 /// Where a folder of tables is, and the manifest that it is held to.
 #[derive(Drop)]
 pub(crate) struct FolderPlace<'r, D> {
@@ -55,7 +64,8 @@ pub(crate) struct FolderPlace<'r, D> {
 /// A folder whose tables are read when a position asks for them, and those of them that are open.
 ///
 /// Contracts see the disk and the folder. What is found is found by tables of the folder, of which none is missing at the positions that
-/// it needs; or the file of one of these is refused.
+/// it needs; or the file of one of these is refused. Tables stay open while the arena has room; where it has none for a table, all that
+/// the question needs are read for it alone, and go after the answer.
 #[derive(Drop)]
 pub(crate) struct OpenFolder<'r, D: Disk> {
     alloc: Global,
@@ -112,12 +122,46 @@ impl<'r, D: Disk> OpenFolder<'r, D> {
             Ok(folder) => folder,
             Err(refusal) => return Ok(Err(refusal)),
         };
+        let open = OpenFolder::over(alloc, folder)?;
+        Ok(Ok(open))
+    }
+
+    /// A folder of which no table is open.
+    fn over(alloc: Global, folder: TableFolder<'r, D>) -> Result<OpenFolder<'r, D>, AllocError>
+        ensures { IfOk result (λ o. o ≡ folder.entry) }
+    {
         let set = folder.new_set(alloc, CacheSize::usual().blocks())?;
-        Ok(Ok(OpenFolder { alloc, folder, set }))
+        Ok(OpenFolder { alloc, folder, set })
+    }
+
+    /// The same folder over another arena, of which no table is open.
+    fn apart<'s>(&self, arena: &'s Bump) -> Result<OpenFolder<'s, D>, AllocError>
+    where
+        'r: 's,
+        ensures { IfOk result (λ o. o ≡ self.now) }
+    {
+        let folder = self.folder.apart(arena)?;
+        OpenFolder::over(self.alloc, folder)
     }
 
     /// Both probes of a position, and the verdict on it.
     pub(crate) fn columns(
+        &mut self,
+        position: &Position,
+    ) -> Result<Result<Columns, FileRefusal>, AllocError>
+        ensures found { IfOk result (Finds (D.facts self.old.disk) self.old.folder (IsAlone position.now) (AreColumns position.now)) }
+        ensures folder { self.new ≡ self.old }
+    {
+        if let Ok(found) = self.kept_columns(position) {
+            return Ok(found);
+        }
+        let arena = Bump::new(self.alloc);
+        let mut apart = self.apart(&arena)?;
+        apart.kept_columns(position)
+    }
+
+    /// These by the tables that stay open.
+    fn kept_columns(
         &mut self,
         position: &Position,
     ) -> Result<Result<Columns, FileRefusal>, AllocError>
@@ -129,6 +173,22 @@ impl<'r, D: Disk> OpenFolder<'r, D> {
 
     /// What is told of the legal moves of a position, and of the position.
     pub(crate) fn moves_told(
+        &mut self,
+        position: &Position,
+    ) -> Result<Result<Answer, FileRefusal>, AllocError>
+        ensures found { IfOk result (Finds (D.facts self.old.disk) self.old.folder (IsWithMoves position.now) (λ tables a. IsRootReply Strict tables position.now (reply_of a))) }
+        ensures folder { self.new ≡ self.old }
+    {
+        if let Ok(found) = self.kept_moves_told(position) {
+            return Ok(found);
+        }
+        let arena = Bump::new(self.alloc);
+        let mut apart = self.apart(&arena)?;
+        apart.kept_moves_told(position)
+    }
+
+    /// This by the tables that stay open.
+    fn kept_moves_told(
         &mut self,
         position: &Position,
     ) -> Result<Result<Answer, FileRefusal>, AllocError>
@@ -149,6 +209,22 @@ impl<'r, D: Disk> OpenFolder<'r, D> {
 
     /// What is told of a position and of its legal moves, to be written as JSON.
     fn json_with_moves(
+        &mut self,
+        position: &Position,
+    ) -> Result<Result<JsonLine, FileRefusal>, AllocError>
+        ensures found { IfOk result (Finds (D.facts self.old.disk) self.old.folder (IsWithMoves position.now) (λ tables l. IsLineOf Strict true tables position.now l)) }
+        ensures folder { self.new ≡ self.old }
+    {
+        if let Ok(found) = self.kept_json_with_moves(position) {
+            return Ok(found);
+        }
+        let arena = Bump::new(self.alloc);
+        let mut apart = self.apart(&arena)?;
+        apart.kept_json_with_moves(position)
+    }
+
+    /// This by the tables that stay open.
+    fn kept_json_with_moves(
         &mut self,
         position: &Position,
     ) -> Result<Result<JsonLine, FileRefusal>, AllocError>
@@ -202,6 +278,24 @@ impl<'r, D: Disk> OpenFolder<'r, D> {
 
     /// What a game comes to whose verdicts by tables must hold for so many further plies.
     pub(crate) fn outcome(
+        &mut self,
+        start: &Position,
+        moves: &[Move],
+        delay: Delay,
+    ) -> Result<Result<GameOutcome, FileRefusal>, AllocError>
+        ensures found { IfOk result (Finds (D.facts self.old.disk) self.old.folder (IsPly start.now moves.now) (λ tables outcome. IsOutcome (record { start = start.now; tables = tables; delay = delay }) moves.now outcome)) }
+        ensures folder { self.new ≡ self.old }
+    {
+        if let Ok(found) = self.kept_outcome(start, moves, delay) {
+            return Ok(found);
+        }
+        let arena = Bump::new(self.alloc);
+        let mut apart = self.apart(&arena)?;
+        apart.kept_outcome(start, moves, delay)
+    }
+
+    /// This by the tables that stay open.
+    fn kept_outcome(
         &mut self,
         start: &Position,
         moves: &[Move],

@@ -112,5 +112,5 @@ pub use machine::Machine;
 pub use pages::Pages;
 pub use program::{refuse_memory, run, run_program};
 pub use system::System;
-pub use words::numbers::{CacheSize, StoreForm};
+pub use words::numbers::{CacheSize, Megabytes, StoreForm};
 pub use words::usage::{Instead, Misuse, Usage, ValueFault, Wanted, WordsFault};

@@ -15,6 +15,7 @@ use move_msg::{Line, Manifest, file_digest};
 use place_index::Material;
 use std::alloc::{AllocError, Global};
 use std::marker::Model;
+use std::rc::RcSlice;
 use system_io::{Disk, ReadFault};
 use table_file::{Table, TableFault, TableKind, file_name, open};
 use task_files::{FileName, names_in, read_file};
@@ -22,23 +23,25 @@ use task_files::{FileName, names_in, read_file};
 /// A folder of tables whose files are read when they are asked for.
 ///
 /// Contracts see the disk and the folder: its path, the names of the files that it lists, and the manifest. The bytes of the tables
-/// that are opened stay in the arena until that is dropped.
+/// that are opened stay in the arena until that is dropped. An arena with a limit bounds them: where a table has no more room in it,
+/// memory is refused.
 #[derive(Drop)]
 pub struct TableFolder<'r, D> {
     disk: &'r D,
     path: &'r str,
     manifest: &'r Manifest,
-    names: Vec<FileName>,
+    names: RcSlice<FileName>,
     arena: &'r Bump,
 }
 
 impl<'r, D> Model for TableFolder<'r, D> {
+    ghost use Rattle.std.specs.Rc.{rc_slice_items};
     ghost use Rattle.move_msg.specs.ToldBy.{told_by};
     ghost use Rattle.table_folder.specs.Folders.{FolderOn};
 
     ghost Value = { FolderOn D };
 
-    ghost view = { λ f. record { disk = f.disk.now; folder = record { path = f.path.now; names = f.names.items; manifest = told_by f.manifest.now } } };
+    ghost view = { λ f. record { disk = f.disk.now; folder = record { path = f.path.now; names = rc_slice_items f.names; manifest = told_by f.manifest.now } } };
 }
 
 /// The table of a file.
@@ -84,7 +87,11 @@ impl<'r, D: Disk> TableFolder<'r, D> {
         ensures folder { IfOk result (λ f. IsFolderAt (D.facts disk.now) path.now (told_by manifest.now) f.folder) }
         ensures cause { IsErrOf result ReadFault.Unreadable → FolderFails (D.facts disk.now) path.now (told_by manifest.now) }
     {
-        match names_in(alloc, disk, path, manifest) {
+        let names = match names_in(alloc, disk, path, manifest) {
+            Ok(names) => names,
+            Err(fault) => return Err(fault),
+        };
+        match RcSlice::from_vec(names) {
             Ok(names) => Ok(TableFolder {
                 disk,
                 path,
@@ -92,8 +99,24 @@ impl<'r, D: Disk> TableFolder<'r, D> {
                 names,
                 arena,
             }),
-            Err(fault) => Err(fault),
+            Err(_) => Err(ReadFault::OutOfMemory),
         }
+    }
+
+    /// The same folder over another arena, where the bytes of the tables stay that it opens. The error comes where memory is refused.
+    pub fn apart<'s>(&self, arena: &'s Bump) -> Result<TableFolder<'s, D>, AllocError>
+    where
+        'r: 's,
+        ensures { IfOk result (λ folder. folder ≡ self.now) }
+    {
+        let names = self.names.clone()?;
+        Ok(TableFolder {
+            disk: self.disk,
+            path: self.path,
+            manifest: self.manifest,
+            names,
+            arena,
+        })
     }
 
     /// The name of a file that the folder lists.
@@ -101,7 +124,7 @@ impl<'r, D: Disk> TableFolder<'r, D> {
         ensures some { IfSome result (λ listed. (listed.now ≡ name.now) × Contains self.now.folder.names name.now) }
         ensures none { IfNone result (Contains self.now.folder.names name.now → ⊥) }
     {
-        for listed in &self.names {
+        for listed in self.names.as_slice() {
             if listed.as_str() == name {
                 return Some(listed);
             }

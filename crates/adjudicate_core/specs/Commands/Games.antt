@@ -1,4 +1,4 @@
--- `games --tables DIR [--manifest FILE] [--all-tables] [--delay N] [--progress]`: what the games of the input come to, a line each (this project's own).
+-- `games --tables DIR [--manifest FILE] [--all-tables] [--memory MB] [--delay N] [--progress]`: what the games of the input come to, a line each (this project's own).
 use Rattle.std.specs.Prelude.{◌≡◌, ◌==◌, ◌+◌, not, ℕ, false, List, [], ◌∷◌, length, Option, Some, None, Result, codes, drop, option_map, position, take}
 use Rattle.board_core.specs.declared.parts.Parts.{Parts}
 use Rattle.board_core.specs.declared.moves.Move.{Move}
@@ -28,7 +28,7 @@ use Rattle.adjudicate_core.specs.declared.commands.Form.TheVariants as form
 use Rattle.adjudicate_core.specs.Lines.{refused_fen, refused_move}
 use Rattle.adjudicate_core.specs.Misuses.{Fault, NoOption, Unfit}
 use Rattle.adjudicate_core.specs.declared.words.usage.Wanted.TheVariants as wanted
-use Rattle.adjudicate_core.specs.Numbers.{IsDelay, is_set}
+use Rattle.adjudicate_core.specs.Numbers.{IsDelay, IsMemory, is_set}
 use Rattle.adjudicate_core.specs.Reply.{IsText}
 use Rattle.adjudicate_core.specs.declared.commands.games.FollowGames.{FollowGames}
 
@@ -37,6 +37,7 @@ rules =
     rule_of_form form.Option (codes "tables")
     ∷ rule_of_form form.Option (codes "manifest")
     ∷ rule_of_form form.Flag (codes "all-tables")
+    ∷ rule_of_form form.Option (codes "memory")
     ∷ rule_of_form form.Option (codes "delay")
     ∷ rule_of_form form.Flag (codes "progress") ∷ []
 
@@ -44,11 +45,11 @@ rules =
 abbrev pub HasValues : (Text → Option Text) → FollowGames → Type 0
 HasValues value t =
     (Some t.tables.now ≡ value (codes "tables")) × (option_map (λ s. s.now) t.manifest ≡ value (codes "manifest"))
-    × (t.all_tables ≡ is_set (value (codes "all-tables"))) × IsDelay (value (codes "delay")) t.delay × (t.progress ≡ is_set (value (codes "progress")))
+    × (t.all_tables ≡ is_set (value (codes "all-tables"))) × IsMemory (value (codes "memory")) t.memory × IsDelay (value (codes "delay")) t.delay × (t.progress ≡ is_set (value (codes "progress")))
 
 -- what may be wrong with its values, in the order in which it is told
 abbrev pub faults : List Fault
-faults = NoOption (codes "tables") ∷ Unfit wanted.Delay ∷ []
+faults = NoOption (codes "tables") ∷ Unfit wanted.Memory ∷ Unfit wanted.Delay ∷ []
 
 -- what is read for it before it answers
 abbrev pub named : FollowGames → Named

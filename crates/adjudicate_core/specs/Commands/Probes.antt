@@ -1,4 +1,4 @@
--- `probes --tables DIR [--manifest FILE] [--all-tables] [--json] [--determined] [--progress]`: what tables tell of the positions of the input (this project's own).
+-- `probes --tables DIR [--manifest FILE] [--all-tables] [--memory MB] [--json] [--determined] [--progress]`: what tables tell of the positions of the input (this project's own).
 use Rattle.std.specs.Prelude.{◌≡◌, ◌||◌, not, ℕ, Bool, true, false, List, [], ◌∷◌, Option, Some, None, Result, codes, option_map}
 use Rattle.std.specs.Borrow.{Bor}
 use Rattle.system_io.specs.Disks.{DiskFacts}
@@ -21,11 +21,12 @@ use Rattle.judge_core.specs.Tables.{Tables}
 use Rattle.clap.specs.Words.{Rule, Text}
 use Rattle.adjudicate_core.specs.Rules.{rule_of_form}
 use Rattle.adjudicate_core.specs.declared.commands.Form.TheVariants as form
-use Rattle.adjudicate_core.specs.Misuses.{Fault, NoOption}
+use Rattle.adjudicate_core.specs.Misuses.{Fault, NoOption, Unfit}
+use Rattle.adjudicate_core.specs.declared.words.usage.Wanted.TheVariants as wanted
 use Rattle.task_files.specs.Sources.{Named}
 use Rattle.adjudicate_core.specs.JsonAnswers.{TellsJson, TellsJsonByFolder}
 use Rattle.adjudicate_core.specs.Lines.{refused_fen}
-use Rattle.adjudicate_core.specs.Numbers.{is_set}
+use Rattle.adjudicate_core.specs.Numbers.{IsMemory, is_set}
 use Rattle.judge_core.specs.Ask.{IsAnswered, ask_of}
 use Rattle.judge_core.specs.declared.ask.Ask.{Ask}
 use Rattle.judge_core.specs.declared.ask.Ask.TheVariants.{Strict}
@@ -37,6 +38,7 @@ rules =
     rule_of_form form.Option (codes "tables")
     ∷ rule_of_form form.Option (codes "manifest")
     ∷ rule_of_form form.Flag (codes "all-tables")
+    ∷ rule_of_form form.Option (codes "memory")
     ∷ rule_of_form form.Flag (codes "json")
     ∷ rule_of_form form.Flag (codes "determined")
     ∷ rule_of_form form.Flag (codes "progress") ∷ []
@@ -45,11 +47,11 @@ rules =
 abbrev pub HasValues : (Text → Option Text) → Probes → Type 0
 HasValues value t =
     (Some t.tables.now ≡ value (codes "tables")) × (option_map (λ s. s.now) t.manifest ≡ value (codes "manifest"))
-    × (t.all_tables ≡ is_set (value (codes "all-tables"))) × (t.json ≡ is_set (value (codes "json"))) × (t.determined ≡ is_set (value (codes "determined"))) × (t.progress ≡ is_set (value (codes "progress")))
+    × (t.all_tables ≡ is_set (value (codes "all-tables"))) × IsMemory (value (codes "memory")) t.memory × (t.json ≡ is_set (value (codes "json"))) × (t.determined ≡ is_set (value (codes "determined"))) × (t.progress ≡ is_set (value (codes "progress")))
 
 -- what may be wrong with its values, in the order in which it is told
 abbrev pub faults : List Fault
-faults = NoOption (codes "tables") ∷ []
+faults = NoOption (codes "tables") ∷ Unfit wanted.Memory ∷ []
 
 -- a table is read when a position asks for it, unless all are wanted at once, or determined values
 abbrev pub is_lazy : Probes → Bool

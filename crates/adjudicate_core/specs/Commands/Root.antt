@@ -1,4 +1,4 @@
--- `root --tables DIR [--manifest FILE] [--all-tables] [--json] [--determined] [FEN]`: what tables tell of the legal moves of a position, or of the positions of the input
+-- `root --tables DIR [--manifest FILE] [--all-tables] [--memory MB] [--json] [--determined] [FEN]`: what tables tell of the legal moves of a position, or of the positions of the input
 -- (this project's own).
 use Rattle.std.specs.Prelude.{◌≡◌, ◌⊎◌, ◌++◌, ◌&&◌, ◌||◌, ◌==◌, not, ℕ, Bool, true, false, List, [], ◌∷◌, map, Option, Some, None, Result, codes, option_map}
 use Rattle.std.specs.Borrow.{Bor}
@@ -19,14 +19,15 @@ use Rattle.table_folder.specs.Settled.{IsWithMoves}
 use Rattle.clap.specs.Words.{Rule, Text}
 use Rattle.adjudicate_core.specs.Rules.{rule_of_form}
 use Rattle.adjudicate_core.specs.declared.commands.Form.TheVariants as form
-use Rattle.adjudicate_core.specs.Misuses.{Fault, NoOption}
+use Rattle.adjudicate_core.specs.Misuses.{Fault, NoOption, Unfit}
+use Rattle.adjudicate_core.specs.declared.words.usage.Wanted.TheVariants as wanted
 use Rattle.task_files.specs.Sources.{Named}
 use Rattle.task_files.specs.Given.{Given}
 use Rattle.adjudicate_core.specs.FolderAnswers.{ByFolder, IsSpelledBy, PutsByFolder, TellsByFolder, read_at_once, read_when_asked, refused_table, refused_table_in}
 use Rattle.adjudicate_core.specs.JsonAnswers.{IsForTextIn, IsJsonTold, TellsJson, TellsJsonByFolder}
 use Rattle.adjudicate_core.specs.Lines.{probed_of, root_words}
 use Rattle.adjudicate_core.specs.Looks.{gathered}
-use Rattle.adjudicate_core.specs.Numbers.{is_set}
+use Rattle.adjudicate_core.specs.Numbers.{IsMemory, is_set}
 use Rattle.adjudicate_core.specs.Reply.{AnswersOnce, ByTables, IsForText, IsText, Reply, status_if}
 use Rattle.adjudicate_core.specs.TableAnswers.{PutsByTables}
 use Rattle.judge_core.specs.Ask.{IsAnswered, IsRanked, ask_of}
@@ -40,6 +41,7 @@ rules =
     rule_of_form form.Option (codes "tables")
     ∷ rule_of_form form.Option (codes "manifest")
     ∷ rule_of_form form.Flag (codes "all-tables")
+    ∷ rule_of_form form.Option (codes "memory")
     ∷ rule_of_form form.Flag (codes "json")
     ∷ rule_of_form form.Flag (codes "determined")
     ∷ rule_of_form form.Word (codes "FEN") ∷ []
@@ -48,12 +50,12 @@ rules =
 abbrev pub HasValues : (Text → Option Text) → Root → Type 0
 HasValues value t =
     (Some t.tables.now ≡ value (codes "tables")) × (option_map (λ s. s.now) t.manifest ≡ value (codes "manifest"))
-    × (t.all_tables ≡ is_set (value (codes "all-tables"))) × (t.json ≡ is_set (value (codes "json"))) × (t.determined ≡ is_set (value (codes "determined")))
+    × (t.all_tables ≡ is_set (value (codes "all-tables"))) × IsMemory (value (codes "memory")) t.memory × (t.json ≡ is_set (value (codes "json"))) × (t.determined ≡ is_set (value (codes "determined")))
     × (option_map (λ s. s.now) t.fen ≡ value (codes "FEN"))
 
 -- what may be wrong with its values, in the order in which it is told
 abbrev pub faults : List Fault
-faults = NoOption (codes "tables") ∷ []
+faults = NoOption (codes "tables") ∷ Unfit wanted.Memory ∷ []
 
 -- a table is read when a position asks for it, unless all are wanted at once, or determined values
 abbrev pub is_lazy : Root → Bool

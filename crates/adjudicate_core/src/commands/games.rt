@@ -15,19 +15,18 @@ ghost use Rattle.adjudicate_core.specs.FolderAnswers.{PutsByFolder};
 ghost use Rattle.adjudicate_core.specs.TableAnswers.{PutsByTables};
 ghost use Rattle.move_msg.specs.ToldBy.{told_by};
 
-use super::options::{ALL_TABLES, DELAY, MANIFEST, PROGRESS, TABLES};
+use super::options::{ALL_TABLES, DELAY, MANIFEST, MEMORY, PROGRESS, TABLES};
 use super::{Group, Summary, Value};
 use crate::answers::line_answers::put_told;
 use crate::answers::lines::{Line, put_line, put_refusal};
 use crate::answers::refusals::Refusal;
 use crate::commands::game::are_all_legal;
-use crate::folders::{FolderPlace, OpenFolder, read_at_once, read_when_asked};
+use crate::folders::{FolderPlace, OpenFolder, arena_for, read_at_once, read_when_asked};
 use crate::tables::gather;
-use crate::words::numbers::{CacheSize, is_set};
+use crate::words::numbers::{CacheSize, Megabytes, is_set};
 use crate::words::usage::ValueFault;
-use crate::words::values::{delay_in, option_in};
+use crate::words::values::{delay_in, memory_in, option_in};
 use board_core::{Delay, Move, Position};
-use bumpalo::Bump;
 use clap::ArgMatches;
 use fen_text::read;
 use judge_core::{Outcome, Set};
@@ -47,6 +46,8 @@ pub struct FollowGames<'a> {
     pub manifest: Option<&'a str>,
     /// Whether all tables are read before the first answer.
     pub all_tables: bool,
+    /// How many megabytes of tables are kept at most, where each is read when it is asked for.
+    pub memory: Option<Megabytes>,
     /// For how many further plies a verdict by tables must hold.
     pub delay: Delay,
     /// Whether the progress is written.
@@ -54,7 +55,7 @@ pub struct FollowGames<'a> {
 }
 
 /// The values of `games`.
-pub(crate) const VALUES: [Value; 5] = [TABLES, MANIFEST, ALL_TABLES, DELAY, PROGRESS];
+pub(crate) const VALUES: [Value; 6] = [TABLES, MANIFEST, ALL_TABLES, MEMORY, DELAY, PROGRESS];
 
 /// What help says of `games`.
 pub(crate) const SUMMARY: Summary = Summary {
@@ -267,6 +268,7 @@ impl<'a> FollowGames<'a> {
             tables: option_in(matches, "tables")?,
             manifest: matches.get_str("manifest"),
             all_tables: is_set(matches.get_str("all-tables")),
+            memory: memory_in(matches)?,
             delay: delay_in(matches)?,
             progress: is_set(matches.get_str("progress")),
         })
@@ -322,7 +324,7 @@ impl<'a> FollowGames<'a> {
         ensures quiet { self.now.progress ≡ false → errors.new ≡ errors.old }
         ensures cause { OnErr result (HasFailed W.facts) }
     {
-        let arena = Bump::new(alloc);
+        let arena = arena_for(alloc, self.memory);
         match OpenFolder::at(alloc, place.disk, place.path, place.manifest, &arena) {
             Ok(Ok(folder)) => {
                 let delay = self.delay;

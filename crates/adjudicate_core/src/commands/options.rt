@@ -52,6 +52,15 @@ pub(crate) const ALL_TABLES: Value = Value {
     stands: Stands::Optional,
 };
 
+/// How many megabytes of tables are kept.
+pub(crate) const MEMORY: Value = Value {
+    name: "memory",
+    form: Form::Option,
+    word: "MB",
+    about: "MB of tables kept, 1 to 1000000, if not all are read first; no bound unless set",
+    stands: Stands::Optional,
+};
+
 /// The delay of a verdict.
 pub(crate) const DELAY: Value = Value {
     name: "delay",

@@ -16,19 +16,18 @@ ghost use Rattle.adjudicate_core.specs.Reply.{IsText};
 ghost use Rattle.adjudicate_core.specs.TableAnswers.{PutsByTables};
 ghost use Rattle.line_teller.specs.ToldLines.{HasFailed};
 
-use super::options::{ALL_TABLES, DETERMINED, JSON, MANIFEST, PROGRESS, TABLES};
+use super::options::{ALL_TABLES, DETERMINED, JSON, MANIFEST, MEMORY, PROGRESS, TABLES};
 use super::{Group, Summary, Value};
 use crate::answers::json_answers::{FolderJsonTeller, JsonTeller};
 use crate::answers::line_answers::put_told;
 use crate::answers::lines::{Line, put_line, put_refusal};
 use crate::answers::refusals::Refusal;
-use crate::folders::{FolderPlace, OpenFolder, read_at_once, read_when_asked};
+use crate::folders::{FolderPlace, OpenFolder, arena_for, read_at_once, read_when_asked};
 use crate::tables::gather;
-use crate::words::numbers::{CacheSize, is_set};
+use crate::words::numbers::{CacheSize, Megabytes, is_set};
 use crate::words::usage::ValueFault;
-use crate::words::values::option_in;
+use crate::words::values::{memory_in, option_in};
 use board_core::Position;
-use bumpalo::Bump;
 use clap::ArgMatches;
 use fen_text::read;
 use json_lines::Ask;
@@ -48,6 +47,8 @@ pub struct Probes<'a> {
     pub manifest: Option<&'a str>,
     /// Whether all tables are read before the first answer.
     pub all_tables: bool,
+    /// How many megabytes of tables are kept at most, where each is read when it is asked for.
+    pub memory: Option<Megabytes>,
     /// Whether the answers are written as JSON.
     pub json: bool,
     /// Whether values are wanted that are the same whatever the missing tables hold.
@@ -57,7 +58,9 @@ pub struct Probes<'a> {
 }
 
 /// The values of `probes`.
-pub(crate) const VALUES: [Value; 6] = [TABLES, MANIFEST, ALL_TABLES, JSON, DETERMINED, PROGRESS];
+pub(crate) const VALUES: [Value; 7] = [
+    TABLES, MANIFEST, ALL_TABLES, MEMORY, JSON, DETERMINED, PROGRESS,
+];
 
 /// What help says of `probes`.
 pub(crate) const SUMMARY: Summary = Summary {
@@ -196,6 +199,7 @@ impl<'a> Probes<'a> {
             tables: option_in(matches, "tables")?,
             manifest: matches.get_str("manifest"),
             all_tables: is_set(matches.get_str("all-tables")),
+            memory: memory_in(matches)?,
             json: is_set(matches.get_str("json")),
             determined: is_set(matches.get_str("determined")),
             progress: is_set(matches.get_str("progress")),
@@ -291,7 +295,7 @@ impl<'a> Probes<'a> {
         ensures quiet { self.now.progress ≡ false → errors.new ≡ errors.old }
         ensures cause { OnErr result (HasFailed W.facts) }
     {
-        let arena = Bump::new(alloc);
+        let arena = arena_for(alloc, self.memory);
         match OpenFolder::at(alloc, place.disk, place.path, place.manifest, &arena) {
             Ok(Ok(folder)) => self.answer_by_folder(alloc, folder, input, out, errors),
             Ok(Err(refusal)) => put_refusal(out, refusal),

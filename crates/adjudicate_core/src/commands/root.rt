@@ -21,18 +21,18 @@ ghost use Rattle.move_msg.specs.TextLines.{ended};
 ghost use Rattle.task_files.specs.Sources.{named_by};
 ghost use Rattle.line_teller.specs.ToldLines.{HasFailed};
 
-use super::options::{ALL_TABLES, DETERMINED, FEN, JSON, MANIFEST, TABLES};
+use super::options::{ALL_TABLES, DETERMINED, FEN, JSON, MANIFEST, MEMORY, TABLES};
 use super::{Group, Stands, Summary, Value};
 use crate::answers::json_answers::{FolderJsonTeller, JsonTeller, answer_as_json, refused_line};
 use crate::answers::line_answers::put_told;
 use crate::answers::lines::{Line, RootLine, put_refusal};
 use crate::answers::refusals::Refusal;
 use crate::answers::{Answer, put_answer, put_answered};
-use crate::folders::{FolderPlace, OpenFolder, read_at_once, read_when_asked};
+use crate::folders::{FolderPlace, OpenFolder, arena_for, read_at_once, read_when_asked};
 use crate::tables::gather;
-use crate::words::numbers::{CacheSize, is_set};
+use crate::words::numbers::{CacheSize, Megabytes, is_set};
 use crate::words::usage::ValueFault;
-use crate::words::values::option_in;
+use crate::words::values::{memory_in, option_in};
 use board_core::Position;
 use bumpalo::Bump;
 use clap::ArgMatches;
@@ -55,6 +55,8 @@ pub struct Root<'a> {
     pub manifest: Option<&'a str>,
     /// Whether all tables are read before the first answer.
     pub all_tables: bool,
+    /// How many megabytes of tables are kept at most, where each is read when it is asked for.
+    pub memory: Option<Megabytes>,
     /// Whether the answers are written as JSON.
     pub json: bool,
     /// Whether values are wanted that are the same whatever the missing tables hold.
@@ -64,10 +66,11 @@ pub struct Root<'a> {
 }
 
 /// The values of `root`.
-pub(crate) const VALUES: [Value; 6] = [
+pub(crate) const VALUES: [Value; 7] = [
     TABLES,
     MANIFEST,
     ALL_TABLES,
+    MEMORY,
     JSON,
     DETERMINED,
     Value {
@@ -354,6 +357,7 @@ impl<'a> Root<'a> {
             tables: option_in(matches, "tables")?,
             manifest: matches.get_str("manifest"),
             all_tables: is_set(matches.get_str("all-tables")),
+            memory: memory_in(matches)?,
             json: is_set(matches.get_str("json")),
             determined: is_set(matches.get_str("determined")),
             fen: matches.get_str("FEN"),
@@ -470,7 +474,7 @@ impl<'a> Root<'a> {
         ensures quiet { errors.new ≡ errors.old }
         ensures cause { OnErr result (HasFailed W.facts) }
     {
-        let arena = Bump::new(alloc);
+        let arena = arena_for(alloc, self.memory);
         match OpenFolder::at(alloc, place.disk, place.path, place.manifest, &arena) {
             Ok(Ok(folder)) => self.answer_lines_in(alloc, folder, input, out, errors),
             Ok(Err(refusal)) => put_refusal(out, refusal),

@@ -1,9 +1,9 @@
 //! Numbers of the command line.
 
-ghost use Rattle.std.specs.Prelude.{◌≡◌, ◌≤◌, ℕ, option_map, IfSome, IfNone, Some};
+ghost use Rattle.std.specs.Prelude.{◌≡◌, ◌≤◌, ◌*◌, ℕ, option_map, IfSome, IfNone, Some};
 ghost use Rattle.move_msg.specs.declared.arbiter_id.ArbiterId.{ArbiterId};
 ghost use Rattle.arbiter_server.specs.declared.line_log.LogForm.{LogForm};
-ghost use Rattle.adjudicate_core.specs.Numbers.{IsAtOnce, IsCache, IsDatagrams, IsDelay, IsHundredOr, IsLog, IsMe, IsStore, is_set};
+ghost use Rattle.adjudicate_core.specs.Numbers.{IsAtOnce, IsCache, IsDatagrams, IsDelay, IsHundredOr, IsLog, IsMe, IsMegabytes, IsStore, is_set};
 
 use arbiter_server::LogForm;
 use board_core::Delay;
@@ -62,6 +62,47 @@ impl CacheSize {
         ensures most { result ≤ 4096 }
     {
         usize::from(self.blocks)
+    }
+}
+
+/// How many megabytes of tables a command keeps at most, 1 to 1,000,000, of 1,000,000 bytes each; contracts see the number.
+#[derive(Clone, Copy)]
+pub struct Megabytes {
+    number: usize,
+}
+
+impl Model for Megabytes {
+    ghost use Rattle.std.specs.Prelude.{ℕ, ◌≤◌};
+
+    ghost Value = { ℕ };
+
+    ghost view = { λ m. m.number };
+
+    ghost invariant = { λ m. (1 ≤ m.number) × (m.number ≤ 1000000) };
+
+    ghost inverse = { λ n. record { number = n } };
+}
+
+impl Megabytes {
+    /// The number in a text; none outside 1 to 1,000,000.
+    pub fn of(text: &str) -> Option<Megabytes>
+        ensures some { IfSome result (IsMegabytes text.now) }
+        ensures none { IfNone result ((n : ℕ) → IsMegabytes text.now n → ⊥) }
+    {
+        let Ok(number) = text.parse::<usize>() else {
+            return None;
+        };
+        if number == 0 || number > 1_000_000 {
+            return None;
+        }
+        Some(Megabytes { number })
+    }
+
+    /// The number of bytes.
+    pub fn bytes(self) -> usize
+        ensures { result ≡ self * 1000000 }
+    {
+        self.number * 1_000_000
     }
 }
 

@@ -17,6 +17,8 @@ pub enum Wanted {
     GameName,
     /// How many decoded blocks a cache may have.
     Cache,
+    /// How many megabytes of tables are kept.
+    Memory,
     /// For how many further plies a verdict by tables must hold.
     Delay,
     /// How many datagrams are answered.
@@ -55,6 +57,7 @@ impl Wanted {
         match self {
             Wanted::GameName => "--name ",
             Wanted::Cache => "--cache ",
+            Wanted::Memory => "--memory ",
             Wanted::Delay => "--delay ",
             Wanted::Datagrams => "--datagrams ",
             Wanted::Requests => "--requests ",
@@ -78,6 +81,7 @@ impl Wanted {
         match self {
             Wanted::GameName => ": 1 to 64 bytes from the space to the tilde",
             Wanted::Cache => ": 1 to 4096",
+            Wanted::Memory => ": 1 to 1000000",
             Wanted::Delay => ": 0 to 8",
             Wanted::Datagrams | Wanted::Requests => ": 0 to 4294967295",
             Wanted::Me => ": 1 or 2",

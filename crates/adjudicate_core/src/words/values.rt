@@ -6,11 +6,12 @@ ghost use Rattle.move_msg.specs.Stamps.{IsGameName};
 ghost use Rattle.adjudicate_core.specs.Addresses.{AreAddresses, AreRecipients, IsAddressIfAny};
 ghost use Rattle.adjudicate_core.specs.Misuses.{AreGameWords, AreWell, IsFirstMisuse, IsToldMisuse, NoOption, NoWord, NotWith, Unfit, WordNotWith, fault_words, game_faults, me_faults, name_faults, recipient_faults, to_faults};
 ghost use Rattle.adjudicate_core.specs.GamePaths.{SpellsStamp};
-ghost use Rattle.adjudicate_core.specs.Numbers.{IsAtOnce, IsCache, IsDatagrams, IsDelay, IsHundredOr, IsLog, IsMe, IsStore};
+ghost use Rattle.adjudicate_core.specs.Numbers.{IsAtOnce, IsCache, IsDatagrams, IsDelay, IsHundredOr, IsLog, IsMe, IsMemory, IsStore};
 
 use crate::words::addresses::{are_addresses, are_recipients, is_address};
 use crate::words::numbers::{
-    CacheSize, StoreForm, at_once_of, datagrams_of, delay_of, hundred_or, log_of, me_of, store_of,
+    CacheSize, Megabytes, StoreForm, at_once_of, datagrams_of, delay_of, hundred_or, log_of, me_of,
+    store_of,
 };
 use crate::words::usage::{Instead, ValueFault, Wanted};
 use arbiter_server::LogForm;
@@ -179,6 +180,20 @@ pub(crate) fn cache_in<'a>(matches: &ArgMatches<'a>) -> Result<CacheSize, ValueF
     match CacheSize::of(text) {
         Some(cache) => Ok(cache),
         None => Err(ValueFault::Unfit(Wanted::Cache, text.unwrap_or(""))),
+    }
+}
+
+/// How many megabytes of tables are kept at most, if that is told.
+pub(crate) fn memory_in<'a>(matches: &ArgMatches<'a>) -> Result<Option<Megabytes>, ValueFault<'a>>
+    ensures ok { IfOk result (IsMemory (first_value (found_of matches.now) (codes "memory"))) }
+    ensures err { IfErr result (λ fault. IsToldMisuse (first_value (found_of matches.now)) (Unfit Wanted.Memory) (fault_words fault)) }
+{
+    let Some(text) = matches.get_str("memory") else {
+        return Ok(None);
+    };
+    match Megabytes::of(text) {
+        Some(most) => Ok(Some(most)),
+        None => Err(ValueFault::Unfit(Wanted::Memory, text)),
     }
 }
 
