@@ -14,6 +14,7 @@
 //! - CLAIM: `TableFolder::open`, clauses `disk`, `folder`, `cause`; `TableFolder::has`; `open_file`: the names are those of table files
 //!   that the folder lists, with a manifest those that it names. The folder has a table where its manifest names the file, or without
 //!   one where the file is listed. `open_file` gives the table that a file of this name and these bytes is, or why it is none.
+//! - CLAIM: `TableFolder::apart`: the same folder, whose tables stay in another arena.
 //! - CLAIM: `TableFolder::new_set`, clauses `opened`, `empty`, `cache`: an empty set for the tables of a folder.
 //! - CLAIM: `TableFolder::settle`, clauses `opened`, `kept`, `only`, `probed`, `verdict`, `settled`, `refused`, `cache`: the set keeps its
 //!   tables and gets tables of the folder alone, each as its file says it, and none that the position doesn't miss. Then the position misses no table of the folder, and the result
