@@ -4,7 +4,10 @@ use Rattle.std.specs.Prelude.{IfOk, IfErr}
 use Rattle.board_core.specs.declared.parts.Parts.{Parts}
 use Rattle.judge_core.specs.declared.display.Columns.{Columns}
 use Rattle.judge_core.specs.Tables.{Tables}
+use Rattle.move_msg.specs.ToldBy.{told_by}
 use Rattle.move_msg.specs.ToldManifests.{ToldManifest}
+use Rattle.move_msg.specs.declared.told.Manifest.{Manifest}
+use Rattle.move_msg.specs.declared.told.Manifest.TheVariants.{BadLine, Lines, Unnamed}
 use Rattle.system_io.specs.Disks.{DiskFacts}
 use Rattle.adjudicate_core.specs.declared.answers.refusals.Refusal.{Refusal}
 use Rattle.adjudicate_core.specs.declared.answers.refusals.Refusal.TheVariants as refusal
@@ -28,7 +31,7 @@ use Rattle.board_core.specs.Position.{IsPosition}
 use Rattle.fen_text.specs.Fen.{SpellsPosition}
 use Rattle.judge_core.specs.ProbeResult.{has_both}
 use Rattle.judge_core.specs.Words.{columns_words}
-use Rattle.adjudicate_core.specs.FolderAnswers.{AnswersIn, BadManifest, ByFolder, ByItsTables, Finds, ForBadFile, InFolder, IsAlone, NoFolder, PutsBadManifest, PutsByFolder, PutsIn, PutsInFolder, PutsNoFolder, refused_table, refused_table_in}
+use Rattle.adjudicate_core.specs.FolderAnswers.{AnswersIn, BadManifest, ByFolder, ByItsTables, Finds, ForBadFile, InFolder, IsAlone, IsOpenAt, IsSound, NoFolder, PutsBadManifest, PutsByFolder, PutsIn, PutsInFolder, PutsNoFolder, refused_table, refused_table_in}
 use Rattle.adjudicate_core.specs.Telling.{TellsOne}
 use Rattle.judge_core.specs.ProbeResult.{IsProbed}
 use Rattle.judge_core.specs.Ruling.{ruling}
@@ -36,7 +39,7 @@ use Rattle.line_teller.specs.ToldLines.{LineTold}
 use Rattle.system_io.specs.Inputs.{InputFacts}
 use Rattle.system_io.specs.declared.output.WriteFault.{WriteFault}
 use Rattle.table_folder.specs.declared.fault.FileRefusal.{FileRefusal}
-use Rattle.table_folder.specs.Folders.{AreOf, Folder, IsFolderAt}
+use Rattle.table_folder.specs.Folders.{AreOf, Folder, FolderOn}
 use Rattle.adjudicate_core.specs.LineAnswers.{PutsLinesOrNone}
 use Rattle.table_folder.specs.Settled.{AnswersBy, AreSettled, IsPly, IsRefusedAt, IsRefusedFor, IsSettled, IsWithMoves}
 use Rattle.adjudicate_core.specs.Inside.LookingUp.{AreColumns, CannotList, FindsAll, FindsBadFile, FindsColumns, FindsNoFolder, HasBadLine, LacksFolder}
@@ -47,13 +50,36 @@ use Rattle.std.specs.Borrow.{Bor}
 use Rattle.task_files.specs.Given.{Given}
 use Rattle.adjudicate_core.specs.Reply.{Reply, refusal_reply}
 
+-- ---- a manifest
+
+-- it isn't the number of a malformed line
+abbrev IsFine : Option ToldManifest → Type 0
+IsFine None = Unit {0}
+IsFine (Some (Ok entries)) = Unit {0}
+IsFine (Some (Err line)) = ⊥
+
+is_fine : (m : Manifest) → ((line : ℕ) → m ≡ BadLine line → ⊥) → IsFine (told_by m)
+is_fine Unnamed _ = tt
+is_fine (Lines lines) _ = tt
+is_fine (BadLine line) not = not line refl
+
+pub is_sound : (m : Manifest) → ((line : ℕ) → m ≡ BadLine line → ⊥) → IsSound (told_by m)
+is_sound m not line is = subst IsFine is (is_fine m not)
+
+-- ---- a folder
+
+-- what is found by the same folder over another arena
+pub found_apart : {D X E : Type 0} (facts : D → DiskFacts) {a b c : FolderOn D} {r : Result (Result X FileRefusal) E} {IsNeeded : Parts → Type 0} {Is : Tables → X → Type 0} → a ≡ b → b ≡ c → IfOk r (Finds (facts a.disk) a.folder IsNeeded Is) → IfOk r (Finds (facts c.disk) c.folder IsNeeded Is)
+found_apart facts {r = r} {IsNeeded = IsNeeded} {Is = Is} same kept found =
+    subst (λ o. IfOk r (Finds (facts o.disk) o.folder IsNeeded Is)) (same ∙ kept) found
+
 -- the refusal of a folder is a reply
 pub lacks_folder : {disk : DiskFacts} {path : List ℕ} {manifest : Option ToldManifest} {IsNeeded : Parts → Parts → Type 0} {refused : FileRefusal → List ℕ} {IsAnswer : Tables → Parts → Reply → Type 0} {p : Parts} {r : Reply} {why : Refusal} → LacksFolder disk path manifest why → r ≡ refusal_reply (refusal_words why) → ByFolder disk path manifest IsNeeded refused IsAnswer p r
 lacks_folder (HasBadLine line bad e) is = BadManifest line bad (is ∙ ap (λ x. refusal_reply (refusal_words x)) e)
-lacks_folder (CannotList fails e) is = NoFolder fails (is ∙ ap (λ x. refusal_reply (refusal_words x)) e)
+lacks_folder (CannotList sound fails e) is = NoFolder sound fails (is ∙ ap (λ x. refusal_reply (refusal_words x)) e)
 
 -- a reply by the tables of a folder that is open
-pub in_folder : {D : Type 0} (facts : D → DiskFacts) (a b : D) (folder : Folder) (path : List ℕ) (manifest : Option ToldManifest) (IsNeeded : Parts → Parts → Type 0) (refused : FileRefusal → List ℕ) (IsAnswer : Tables → Parts → Reply → Type 0) (p : Parts) (r : Reply) → a ≡ b → IsFolderAt (facts b) path manifest folder → AnswersIn (facts a) folder IsNeeded refused IsAnswer p r → ByFolder (facts b) path manifest IsNeeded refused IsAnswer p r
+pub in_folder : {D : Type 0} (facts : D → DiskFacts) (a b : D) (folder : Folder) (path : List ℕ) (manifest : Option ToldManifest) (IsNeeded : Parts → Parts → Type 0) (refused : FileRefusal → List ℕ) (IsAnswer : Tables → Parts → Reply → Type 0) (p : Parts) (r : Reply) → a ≡ b → IsOpenAt (facts b) path manifest folder → AnswersIn (facts a) folder IsNeeded refused IsAnswer p r → ByFolder (facts b) path manifest IsNeeded refused IsAnswer p r
 in_folder facts a b folder path manifest IsNeeded refused IsAnswer p r same at is =
     InFolder folder at (subst (λ d. AnswersIn (facts d) folder IsNeeded refused IsAnswer p r) same is)
 
@@ -93,14 +119,14 @@ module _ (disk : DiskFacts) (folder : Folder) (tables : Tables) (p : Parts) wher
 
 pub puts_lacking : {disk : DiskFacts} {path : List ℕ} {manifest : Option ToldManifest} {Puts : Folder → Option (List ℕ) → Option (List ℕ) → Result ℕ WriteFault → Type 0} (old new : Option (List ℕ)) (r : Result ℕ WriteFault) {refused : Refusal} → LacksFolder disk path manifest refused → TellsOne (refusal_words refused) old new r → PutsInFolder disk path manifest Puts old new r
 puts_lacking old new r (HasBadLine line bad e) told = PutsBadManifest line bad (subst (λ x. TellsOne (refusal_words x) old new r) e told)
-puts_lacking old new r (CannotList fails e) told = PutsNoFolder fails (subst (λ x. TellsOne (refusal_words x) old new r) e told)
+puts_lacking old new r (CannotList sound fails e) told = PutsNoFolder sound fails (subst (λ x. TellsOne (refusal_words x) old new r) e told)
 
-pub puts_by : {D : Type 0} (facts : D → DiskFacts) (a b : D) (folder : Folder) (path : List ℕ) (manifest : Option ToldManifest) (Tells : DiskFacts → Folder → List ℕ → LineTold → Type 0) (Takes : List ℕ → Type 0) (source : InputFacts) (old new : Option (List ℕ)) (r : Result ℕ WriteFault) → a ≡ b → IsFolderAt (facts b) path manifest folder → PutsLinesOrNone (Tells (facts a) folder) Takes source old new r → PutsByFolder (facts b) path manifest (Tells (facts b)) Takes source old new r
+pub puts_by : {D : Type 0} (facts : D → DiskFacts) (a b : D) (folder : Folder) (path : List ℕ) (manifest : Option ToldManifest) (Tells : DiskFacts → Folder → List ℕ → LineTold → Type 0) (Takes : List ℕ → Type 0) (source : InputFacts) (old new : Option (List ℕ)) (r : Result ℕ WriteFault) → a ≡ b → IsOpenAt (facts b) path manifest folder → PutsLinesOrNone (Tells (facts a) folder) Takes source old new r → PutsByFolder (facts b) path manifest (Tells (facts b)) Takes source old new r
 puts_by facts a b folder path manifest Tells Takes source old new r same at lines =
     PutsIn folder at (subst (λ d. PutsLinesOrNone (Tells (facts d) folder) Takes source old new r) same lines)
 
 -- what is written by a folder that is open
-pub puts_in : {D : Type 0} (facts : D → DiskFacts) (a b : D) (folder : Folder) (path : List ℕ) (manifest : Option ToldManifest) (Puts : DiskFacts → Folder → Option (List ℕ) → Option (List ℕ) → Result ℕ WriteFault → Type 0) (old new : Option (List ℕ)) (r : Result ℕ WriteFault) → a ≡ b → IsFolderAt (facts b) path manifest folder → Puts (facts a) folder old new r → PutsInFolder (facts b) path manifest (Puts (facts b)) old new r
+pub puts_in : {D : Type 0} (facts : D → DiskFacts) (a b : D) (folder : Folder) (path : List ℕ) (manifest : Option ToldManifest) (Puts : DiskFacts → Folder → Option (List ℕ) → Option (List ℕ) → Result ℕ WriteFault → Type 0) (old new : Option (List ℕ)) (r : Result ℕ WriteFault) → a ≡ b → IsOpenAt (facts b) path manifest folder → Puts (facts a) folder old new r → PutsInFolder (facts b) path manifest (Puts (facts b)) old new r
 puts_in facts a b folder path manifest Puts old new r same at is =
     PutsIn folder at (subst (λ d. Puts (facts d) folder old new r) same is)
 

@@ -1,5 +1,5 @@
 -- Answers by the tables of a folder that are read when a position asks for them (this project's own).
-use Rattle.std.specs.Prelude.{◌≡◌, ◌⊎◌, ◌++◌, ℕ, Bool, true, false, List, Option, Some, None, Result, Ok, Err, codes}
+use Rattle.std.specs.Prelude.{◌≡◌, ◌≢◌, ◌⊎◌, ◌++◌, ℕ, Bool, true, false, List, Option, Some, None, Result, Ok, Err, codes}
 use Rattle.board_core.specs.declared.parts.Parts.{Parts}
 use Rattle.judge_core.specs.Tables.{Tables}
 use Rattle.board_core.specs.Position.{IsPosition}
@@ -58,12 +58,21 @@ AnswersIn disk folder IsNeeded refused IsAnswer p r =
     AnswersBy disk folder (IsNeeded p) (λ tables. IsAnswer tables p r)
     ⊎ ((refusal : FileRefusal) × IsRefusedFor disk folder (IsNeeded p) refusal × (r ≡ refusal_reply (refused refusal)))
 
--- a reply by the folder at a path: the refusal of a malformed manifest; or of the folder, which can't be listed or lists a file twice; or
--- a reply by its tables
+-- no line of a manifest that is named is malformed
+abbrev pub IsSound : Option ToldManifest → Type 0
+IsSound told = (line : ℕ) → told ≢ Some (Err line)
+
+-- the folder at a path, held to a manifest without fault where there is one
+pub record IsOpenAt (disk : DiskFacts) (path : List ℕ) (manifest : Option ToldManifest) (folder : Folder) : Type 0 where
+  pub sound : IsSound manifest
+  pub at : IsFolderAt disk path manifest folder
+
+-- a reply by the folder at a path: the refusal of a malformed manifest; or else of the folder, which can't be listed or lists a file twice;
+-- or a reply by its tables
 pub data ByFolder (disk : DiskFacts) (path : List ℕ) (manifest : Option ToldManifest) (IsNeeded : Parts → Parts → Type 0) (refused : FileRefusal → List ℕ) (IsAnswer : Tables → Parts → Reply → Type 0) (p : Parts) (r : Reply) : Type 0 where
   BadManifest : (line : ℕ) → manifest ≡ Some (Err line) → r ≡ refusal_reply (refused_manifest line) → ByFolder disk path manifest IsNeeded refused IsAnswer p r
-  NoFolder : FolderFails disk path manifest → r ≡ refusal_reply refused_files → ByFolder disk path manifest IsNeeded refused IsAnswer p r
-  InFolder : (folder : Folder) → IsFolderAt disk path manifest folder → AnswersIn disk folder IsNeeded refused IsAnswer p r → ByFolder disk path manifest IsNeeded refused IsAnswer p r
+  NoFolder : IsSound manifest → FolderFails disk path manifest → r ≡ refusal_reply refused_files → ByFolder disk path manifest IsNeeded refused IsAnswer p r
+  InFolder : (folder : Folder) → IsOpenAt disk path manifest folder → AnswersIn disk folder IsNeeded refused IsAnswer p r → ByFolder disk path manifest IsNeeded refused IsAnswer p r
 
 -- ---- the lines of an input
 
@@ -78,11 +87,11 @@ pub data TellsByFolder {X : Type 0} (disk : DiskFacts) (folder : Folder) (Spells
   ByItsTables : (x : X) → Spells text x → AnswersBy disk folder (IsNeeded x) (λ tables. Tells tables text line) → TellsByFolder disk folder Spells IsNeeded Tells refused text line
   ForBadFile : (x : X) → Spells text x → (refusal : FileRefusal) → IsRefusedFor disk folder (IsNeeded x) refusal → line ≡ record { words = refused refusal; done = false } → TellsByFolder disk folder Spells IsNeeded Tells refused text line
 
--- the manifest is refused, or the folder; or this was written by the folder; or memory for the folder was refused
+-- the manifest is refused, or else the folder; or this was written by the folder; or memory for the folder was refused
 pub data PutsInFolder (disk : DiskFacts) (path : List ℕ) (manifest : Option ToldManifest) (Puts : Folder → Option (List ℕ) → Option (List ℕ) → Result ℕ WriteFault → Type 0) (old new : Option (List ℕ)) (r : Result ℕ WriteFault) : Type 0 where
   PutsBadManifest : (line : ℕ) → manifest ≡ Some (Err line) → TellsOne (refused_manifest line) old new r → PutsInFolder disk path manifest Puts old new r
-  PutsNoFolder : FolderFails disk path manifest → TellsOne refused_files old new r → PutsInFolder disk path manifest Puts old new r
-  PutsIn : (folder : Folder) → IsFolderAt disk path manifest folder → Puts folder old new r → PutsInFolder disk path manifest Puts old new r
+  PutsNoFolder : IsSound manifest → FolderFails disk path manifest → TellsOne refused_files old new r → PutsInFolder disk path manifest Puts old new r
+  PutsIn : (folder : Folder) → IsOpenAt disk path manifest folder → Puts folder old new r → PutsInFolder disk path manifest Puts old new r
   PutsNoRoom : TellsOne refused_memory old new r → PutsInFolder disk path manifest Puts old new r
 
 -- so the lines of the input were told

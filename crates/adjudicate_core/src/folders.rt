@@ -1,14 +1,13 @@
 //! The tables of a folder that are read when a position asks for them.
 
 ghost use Rattle.std.specs.Prelude.{◌≡◌, IfOk, IfErr, false, true};
-ghost use Rattle.table_folder.specs.Folders.{IsFolderAt};
 ghost use Rattle.table_folder.specs.Settled.{IsPly, IsWithMoves};
 ghost use Rattle.move_msg.specs.ToldBy.{told_by};
 ghost use Rattle.json_lines.specs.Told.{IsLineOf};
 ghost use Rattle.judge_core.specs.Games.{IsOutcome};
 ghost use Rattle.judge_core.specs.declared.ask.Ask.TheVariants.{Strict};
 ghost use Rattle.adjudicate_core.specs.Commands.Root.{IsRootReply};
-ghost use Rattle.adjudicate_core.specs.FolderAnswers.{Finds, IsAlone, read_at_once, read_when_asked};
+ghost use Rattle.adjudicate_core.specs.FolderAnswers.{Finds, IsAlone, IsOpenAt, read_at_once, read_when_asked};
 ghost use Rattle.adjudicate_core.specs.JsonAnswers.{needed_by};
 ghost use Rattle.adjudicate_core.specs.Inside.Asked.{reply_of};
 ghost use Rattle.adjudicate_core.specs.Inside.LookingUp.{AreColumns, FindsColumns, LacksFolder};
@@ -92,7 +91,7 @@ pub(crate) fn folder_at<'r, D: Disk>(
     arena: &'r Bump,
 ) -> Result<Result<TableFolder<'r, D>, Refusal>, AllocError>
     ensures disk { IfOk result (λ found. IfOk found (λ folder. folder.disk ≡ disk.now)) }
-    ensures folder { IfOk result (λ found. IfOk found (λ folder. IsFolderAt (D.facts disk.now) path.now (told_by manifest.now) folder.folder)) }
+    ensures folder { IfOk result (λ found. IfOk found (λ folder. IsOpenAt (D.facts disk.now) path.now (told_by manifest.now) folder.folder)) }
     ensures refused { IfOk result (λ found. IfErr found (LacksFolder (D.facts disk.now) path.now (told_by manifest.now))) }
 {
     if let Manifest::BadLine(line) = manifest {
@@ -115,7 +114,7 @@ impl<'r, D: Disk> OpenFolder<'r, D> {
         arena: &'r Bump,
     ) -> Result<Result<OpenFolder<'r, D>, Refusal>, AllocError>
         ensures disk { IfOk result (λ found. IfOk found (λ o. o.disk ≡ disk.now)) }
-        ensures folder { IfOk result (λ found. IfOk found (λ o. IsFolderAt (D.facts disk.now) path.now (told_by manifest.now) o.folder)) }
+        ensures folder { IfOk result (λ found. IfOk found (λ o. IsOpenAt (D.facts disk.now) path.now (told_by manifest.now) o.folder)) }
         ensures refused { IfOk result (λ found. IfErr found (LacksFolder (D.facts disk.now) path.now (told_by manifest.now))) }
     {
         let folder = match folder_at(alloc, disk, path, manifest, arena)? {

@@ -1,6 +1,6 @@
 -- `serve --tables DIR [--manifest FILE] --bind ADDR [--requests N]`: requests of HTTP that are answered by the tables of a folder, and what
 -- it tells (this project's own). What is answered to a request is the contract of http_answer.
-use Rattle.std.specs.Prelude.{◌≡◌, ◌≢◌, ◌++◌, ℕ, List, [], ◌∷◌, Option, Some, Result, Err, codes, option_map}
+use Rattle.std.specs.Prelude.{◌≡◌, ◌++◌, ℕ, List, [], ◌∷◌, Option, Some, Result, Err, codes, option_map}
 use Rattle.clap.specs.Words.{Rule, Text}
 use Rattle.line_teller.specs.ToldLines.{refused_files, refused_memory}
 use Rattle.move_msg.specs.TextLines.{ended}
@@ -12,6 +12,7 @@ use Rattle.task_files.specs.Outside.{FolderFails, IsToldAt}
 use Rattle.task_files.specs.Sources.{Named, nothing}
 use Rattle.arbiter_server.specs.ServedLines.{refused_port}
 use Rattle.adjudicate_core.specs.Addresses.{IsAddressIfAny}
+use Rattle.adjudicate_core.specs.FolderAnswers.{IsSound}
 use Rattle.adjudicate_core.specs.Lines.{refused_manifest}
 use Rattle.adjudicate_core.specs.Rules.{rule_of_form}
 use Rattle.adjudicate_core.specs.declared.commands.Form.TheVariants as form
@@ -59,10 +60,6 @@ pub data ServesFolder (old new : Option (List ℕ)) (r : Result ℕ WriteFault) 
   LacksRoom : TellsOne refused_memory old new r → ServesFolder old new r
   Done : (address : List ℕ) → TellsWholeText (ready_line address) 0 old new r → ServesFolder old new r
   Lost : (address : List ℕ) → TellsWholeText (ready_line address ++ ended refused_port) 1 old new r → ServesFolder old new r
-
--- no line of a manifest that is named is malformed
-abbrev pub IsSound : Option ToldManifest → Type 0
-IsSound told = (line : ℕ) → told ≢ Some (Err line)
 
 -- the manifest can't be read; or it is malformed; or else the folder can't be read; or it is served
 pub data Serves (disk : DiskFacts) (t : Serve) (old new : Option (List ℕ)) (r : Result ℕ WriteFault) : Type 0 where

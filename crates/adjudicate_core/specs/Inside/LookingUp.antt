@@ -8,10 +8,10 @@ use Rattle.judge_core.specs.Tables.{Tables}
 use Rattle.move_msg.specs.ToldManifests.{ToldManifest}
 use Rattle.system_io.specs.Disks.{DiskFacts}
 use Rattle.table_folder.specs.declared.fault.FileRefusal.{FileRefusal}
-use Rattle.table_folder.specs.Folders.{Folder, IsFolderAt}
+use Rattle.table_folder.specs.Folders.{Folder}
 use Rattle.table_folder.specs.Settled.{AnswersBy, IsRefusedFor}
 use Rattle.task_files.specs.Outside.{FolderFails}
-use Rattle.adjudicate_core.specs.FolderAnswers.{IsAlone}
+use Rattle.adjudicate_core.specs.FolderAnswers.{IsAlone, IsOpenAt, IsSound}
 use Rattle.adjudicate_core.specs.declared.answers.refusals.Refusal.{Refusal}
 use Rattle.adjudicate_core.specs.declared.answers.refusals.Refusal.TheVariants as refusal
 
@@ -22,10 +22,10 @@ AreColumns p tables columns = IsProbed tables p columns.probed × (columns.verdi
 -- the manifest is at fault, or else the folder can't be listed or lists a file twice
 pub data LacksFolder (disk : DiskFacts) (path : List ℕ) (manifest : Option ToldManifest) (refused : Refusal) : Type 0 where
   HasBadLine : (line : ℕ) → manifest ≡ Some (Err line) → refused ≡ refusal.Manifest line → LacksFolder disk path manifest refused
-  CannotList : FolderFails disk path manifest → refused ≡ refusal.Files → LacksFolder disk path manifest refused
+  CannotList : IsSound manifest → FolderFails disk path manifest → refused ≡ refusal.Files → LacksFolder disk path manifest refused
 
 -- what a folder's tables say of a position, or why they say nothing
 pub data FindsColumns (disk : DiskFacts) (path : List ℕ) (manifest : Option ToldManifest) (p : Parts) (found : Result Columns Refusal) : Type 0 where
   FindsNoFolder : (refused : Refusal) → LacksFolder disk path manifest refused → found ≡ Err refused → FindsColumns disk path manifest p found
-  FindsBadFile : (folder : Folder) → IsFolderAt disk path manifest folder → (file : FileRefusal) → IsRefusedFor disk folder (IsAlone p) file → found ≡ Err (refusal.File file.name file.fault) → FindsColumns disk path manifest p found
-  FindsAll : (folder : Folder) → IsFolderAt disk path manifest folder → (columns : Columns) → AnswersBy disk folder (IsAlone p) (λ tables. AreColumns p tables columns) → found ≡ Ok columns → FindsColumns disk path manifest p found
+  FindsBadFile : (folder : Folder) → IsOpenAt disk path manifest folder → (file : FileRefusal) → IsRefusedFor disk folder (IsAlone p) file → found ≡ Err (refusal.File file.name file.fault) → FindsColumns disk path manifest p found
+  FindsAll : (folder : Folder) → IsOpenAt disk path manifest folder → (columns : Columns) → AnswersBy disk folder (IsAlone p) (λ tables. AreColumns p tables columns) → found ≡ Ok columns → FindsColumns disk path manifest p found

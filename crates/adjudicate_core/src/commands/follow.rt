@@ -5,11 +5,11 @@ ghost use Rattle.game_teller.specs.Judges.{IsLater, JudgesOn, StandsBy};
 ghost use Rattle.judge_core.specs.MoreTables.{HasAll};
 ghost use Rattle.judge_core.specs.Tables.{Tables};
 ghost use Rattle.move_msg.specs.ToldBy.{told_by};
-ghost use Rattle.table_folder.specs.Folders.{AreOf, IsFolderAt};
+ghost use Rattle.table_folder.specs.Folders.{AreOf};
 ghost use Rattle.table_folder.specs.Settled.{IsRefusedAt, IsSettled};
 ghost use Rattle.clap.specs.Words.{first_value, found_of};
 ghost use Rattle.adjudicate_core.specs.Commands.Follow.{HasValues, IsFollowedBy, Puts, PutsBy, PutsByAll, PutsFollowed, PutsOfFolder, by_folder, faults, named};
-ghost use Rattle.adjudicate_core.specs.FolderAnswers.{PutsInFolder, read_when_asked};
+ghost use Rattle.adjudicate_core.specs.FolderAnswers.{IsOpenAt, PutsInFolder, read_when_asked};
 ghost use Rattle.adjudicate_core.specs.Inside.LookingUp.{LacksFolder};
 ghost use Rattle.adjudicate_core.specs.Misuses.{IsFirstMisuse, fault_words};
 ghost use Rattle.task_files.specs.Sources.{named_by};
@@ -160,7 +160,7 @@ impl<'r, D: Disk> FolderJudge<'r, D> {
         arena: &'r Bump,
     ) -> Result<Result<FolderJudge<'r, D>, Refusal>, AllocError>
         ensures disk { IfOk result (λ found. IfOk found (λ j. j.on.disk ≡ disk.now)) }
-        ensures folder { IfOk result (λ found. IfOk found (λ j. IsFolderAt (D.facts disk.now) path.now (told_by manifest.now) j.on.folder)) }
+        ensures folder { IfOk result (λ found. IfOk found (λ j. IsOpenAt (D.facts disk.now) path.now (told_by manifest.now) j.on.folder)) }
         ensures opened { IfOk result (λ found. IfOk found (λ j. AreOf (D.facts j.on.disk) j.on.folder j.tables)) }
         ensures refused { IfOk result (λ found. IfErr found (LacksFolder (D.facts disk.now) path.now (told_by manifest.now))) }
     {

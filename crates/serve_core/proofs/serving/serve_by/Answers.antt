@@ -1,25 +1,9 @@
-use Rattle.std.proofs.Common.{◌≡◌, ℕ, Option, Some, None, Ok, Err, ap, refl, subst}
+use Rattle.std.proofs.Common.{Err, ap, subst}
 use Rattle.move_msg.specs.ToldBy.{told_by}
-use Rattle.move_msg.specs.ToldManifests.{ToldManifest}
-use Rattle.move_msg.specs.declared.told.Manifest.{Manifest}
-use Rattle.move_msg.specs.declared.told.Manifest.TheVariants.{Unnamed, Lines, BadLine}
 use Rattle.task_files.specs.Outside.{IsToldAt}
-use Rattle.adjudicate_core.specs.Commands.Serve.{BadManifest, IsSound, NoFolder, OverFolder, manifest_path}
+use Rattle.adjudicate_core.specs.Commands.Serve.{BadManifest, NoFolder, OverFolder, manifest_path}
+use Rattle.adjudicate_core.proofs.FolderLaws.{is_sound}
 use Rattle.serve_core.proofs.serving.serve_by.Goals as goal
-
--- it isn't the number of a malformed line
-abbrev IsFine : Option ToldManifest → Type 0
-IsFine None = Unit {0}
-IsFine (Some (Ok entries)) = Unit {0}
-IsFine (Some (Err line)) = ⊥
-
-is_fine : (m : Manifest) → ((line : ℕ) → m ≡ BadLine line → ⊥) → IsFine (told_by m)
-is_fine Unnamed _ = tt
-is_fine (Lines lines) _ = tt
-is_fine (BadLine line) not = not line refl
-
-is_sound : (m : Manifest) → ((line : ℕ) → m ≡ BadLine line → ⊥) → IsSound (told_by m)
-is_sound m not line is = subst IsFine is (is_fine m not)
 
 pub returns-in-BadLine-clause-told : goal.returns-in-BadLine-clause-told
 returns-in-BadLine-clause-told g c = BadManifest c.in-BadLine.line (subst (IsToldAt (g.D.Disk.facts c.args.disk.now) (manifest_path c.args.task.now)) (ap told_by c.in-BadLine.is) c.requires) c.refuse_manifest.ensures.told
