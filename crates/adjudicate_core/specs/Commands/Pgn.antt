@@ -1,4 +1,4 @@
--- `pgn --tables DIR [--manifest FILE] [--all-tables] [--delay N] [--json] [--differ] [FILE]`: what tables say of the games of a PGN file (this project's own).
+-- `pgn --tables DIR [--manifest FILE] [--all-tables] [--memory MB] [--delay N] [--json] [--differ] [FILE]`: what tables say of the games of a PGN file (this project's own).
 use Rattle.std.specs.Prelude.{◌≡◌, ◌⊎◌, not, ℕ, Bool, true, false, List, [], ◌∷◌, Option, Some, None, IfSome, IsSome, Result, Ok, Err, codes, option_map}
 use Rattle.judge_core.specs.Tables.{Tables}
 use Rattle.line_teller.specs.ToldLines.{refused_files, refused_memory}
@@ -29,7 +29,7 @@ use Rattle.adjudicate_core.specs.Rules.{rule_of_form}
 use Rattle.adjudicate_core.specs.declared.commands.Form.TheVariants as form
 use Rattle.adjudicate_core.specs.Misuses.{Fault, NoOption, Unfit}
 use Rattle.adjudicate_core.specs.declared.words.usage.Wanted.TheVariants as wanted
-use Rattle.adjudicate_core.specs.Numbers.{IsDelay, is_set}
+use Rattle.adjudicate_core.specs.Numbers.{IsDelay, IsMemory, is_set}
 use Rattle.adjudicate_core.specs.declared.commands.pgn.JudgePgn.{JudgePgn}
 
 abbrev pub rules : List Rule
@@ -37,6 +37,7 @@ rules =
     rule_of_form form.Option (codes "tables")
     ∷ rule_of_form form.Option (codes "manifest")
     ∷ rule_of_form form.Flag (codes "all-tables")
+    ∷ rule_of_form form.Option (codes "memory")
     ∷ rule_of_form form.Option (codes "delay")
     ∷ rule_of_form form.Flag (codes "json")
     ∷ rule_of_form form.Flag (codes "differ")
@@ -46,12 +47,12 @@ rules =
 abbrev pub HasValues : (Text → Option Text) → JudgePgn → Type 0
 HasValues value t =
     (Some t.tables.now ≡ value (codes "tables")) × (option_map (λ s. s.now) t.manifest ≡ value (codes "manifest"))
-    × (t.all_tables ≡ is_set (value (codes "all-tables"))) × IsDelay (value (codes "delay")) t.delay × (t.json ≡ is_set (value (codes "json"))) × (t.differ ≡ is_set (value (codes "differ")))
+    × (t.all_tables ≡ is_set (value (codes "all-tables"))) × IsMemory (value (codes "memory")) t.memory × IsDelay (value (codes "delay")) t.delay × (t.json ≡ is_set (value (codes "json"))) × (t.differ ≡ is_set (value (codes "differ")))
     × (option_map (λ s. s.now) t.file ≡ value (codes "FILE"))
 
 -- what may be wrong with its values, in the order in which it is told
 abbrev pub faults : List Fault
-faults = NoOption (codes "tables") ∷ Unfit wanted.Delay ∷ []
+faults = NoOption (codes "tables") ∷ Unfit wanted.Memory ∷ Unfit wanted.Delay ∷ []
 
 -- what is read for it before it answers: not its games, since they are read as they come
 abbrev pub named : JudgePgn → Named

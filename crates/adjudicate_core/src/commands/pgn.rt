@@ -12,18 +12,17 @@ ghost use Rattle.adjudicate_core.specs.FolderAnswers.{PutsInFolder};
 ghost use Rattle.adjudicate_core.specs.Lines.{refusal_words};
 ghost use Rattle.adjudicate_core.specs.Misuses.{IsFirstMisuse, fault_words};
 
-use super::options::{ALL_TABLES, DELAY, JSON, MANIFEST, TABLES};
+use super::options::{ALL_TABLES, DELAY, JSON, MANIFEST, MEMORY, TABLES};
 use super::{Form, Group, Stands, Summary, Value};
 use crate::answers::lines::put_refusal;
 use crate::answers::refusals::Refusal;
 use crate::answers::status_if;
-use crate::folders::{FolderPlace, OpenFolder, read_at_once, read_when_asked};
+use crate::folders::{FolderPlace, OpenFolder, arena_for, read_at_once, read_when_asked};
 use crate::tables::gather;
-use crate::words::numbers::{CacheSize, is_set};
+use crate::words::numbers::{CacheSize, Megabytes, is_set};
 use crate::words::usage::ValueFault;
-use crate::words::values::{delay_in, option_in};
+use crate::words::values::{delay_in, memory_in, option_in};
 use board_core::Delay;
-use bumpalo::Bump;
 use clap::ArgMatches;
 use pgn_games::{Game, PgnReader};
 use pgn_teller::{
@@ -43,6 +42,8 @@ pub struct JudgePgn<'a> {
     pub manifest: Option<&'a str>,
     /// Whether all tables are read before the first game.
     pub all_tables: bool,
+    /// How many megabytes of tables are kept at most, where each is read when it is asked for.
+    pub memory: Option<Megabytes>,
     /// For how many further plies a verdict by tables must hold.
     pub delay: Delay,
     /// Whether the answers are written as JSON.
@@ -54,10 +55,11 @@ pub struct JudgePgn<'a> {
 }
 
 /// The values of `pgn`.
-pub(crate) const VALUES: [Value; 7] = [
+pub(crate) const VALUES: [Value; 8] = [
     TABLES,
     MANIFEST,
     ALL_TABLES,
+    MEMORY,
     DELAY,
     JSON,
     Value {
@@ -161,6 +163,7 @@ impl<'a> JudgePgn<'a> {
             tables: option_in(matches, "tables")?,
             manifest: matches.get_str("manifest"),
             all_tables: is_set(matches.get_str("all-tables")),
+            memory: memory_in(matches)?,
             delay: delay_in(matches)?,
             json: is_set(matches.get_str("json")),
             differ: is_set(matches.get_str("differ")),
@@ -281,7 +284,7 @@ impl<'a> JudgePgn<'a> {
         ensures told { PutsInFolder (D.facts place.now.disk.now) place.now.path.now (told_by place.now.manifest.now) (PutsOfFolder (D.facts place.now.disk.now) (I.facts input.now) self.now) (W.contents out.old) (W.contents out.new) result }
         ensures cause { OnErr result (HasFailed W.facts) }
     {
-        let arena = Bump::new(alloc);
+        let arena = arena_for(alloc, self.memory);
         match OpenFolder::at(alloc, place.disk, place.path, place.manifest, &arena) {
             Ok(Ok(folder)) => {
                 let delay = self.delay;
