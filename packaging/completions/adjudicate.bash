@@ -6,14 +6,14 @@ _adjudicate_options()
     case $1 in
         judge) echo '--tables=DIR --manifest=FILE --lazy' ;;
         probe) echo '--tables=DIR --manifest=FILE --lazy' ;;
-        probes) echo '--tables=DIR --manifest=FILE --all-tables --json --determined --progress' ;;
-        root) echo '--tables=DIR --manifest=FILE --all-tables --json --determined' ;;
+        probes) echo '--tables=DIR --manifest=FILE --all-tables --memory=MB --json --determined --progress' ;;
+        root) echo '--tables=DIR --manifest=FILE --all-tables --memory=MB --json --determined' ;;
         moves) echo '--san' ;;
         serve) echo '--tables=DIR --manifest=FILE --bind=ADDR --requests=N' ;;
         game) echo '--tables=DIR --manifest=FILE --all-tables --delay=N --san' ;;
-        games) echo '--tables=DIR --manifest=FILE --all-tables --delay=N --progress' ;;
+        games) echo '--tables=DIR --manifest=FILE --all-tables --memory=MB --delay=N --progress' ;;
         follow) echo '--tables=DIR --manifest=FILE --all-tables --delay=N --san' ;;
-        pgn) echo '--tables=DIR --manifest=FILE --all-tables --delay=N --json --differ' ;;
+        pgn) echo '--tables=DIR --manifest=FILE --all-tables --memory=MB --delay=N --json --differ' ;;
         enter) echo '--name=NAME --start=FEN --from=FILE --tables=DIR --manifest=FILE --delay=N --games=DIR --new' ;;
         send) echo '--name=NAME --start=FEN --tables=DIR --manifest=FILE --delay=N --game=FILE --bind=ADDR --to=ADDR[,ADDR] --wait=MS --tries=N --key=FILE --san --new' ;;
         status) echo '--games=DIR --other=DIR --prometheus' ;;

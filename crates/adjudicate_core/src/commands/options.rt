@@ -57,7 +57,7 @@ pub(crate) const MEMORY: Value = Value {
     name: "memory",
     form: Form::Option,
     word: "MB",
-    about: "MB of tables kept, 1 to 1000000, if not all are read first; no bound unless set",
+    about: "MB of tables kept if not all are read first, 1 to 1000000; no bound unless set",
     stands: Stands::Optional,
 };
 
