@@ -11,5 +11,5 @@ loop-listed-preserved g c =
 
 pub returns-clause-none : goal.returns-clause-none
 returns-clause-none g c = λ h.
-    let names = c.deref-listed-items.ensures.value ∙ ap (λ v. v.folder.names) c.self.view_is in
+    let names = c.as_slice-listed-items.ensures.value ∙ ap (λ v. v.folder.names) c.self.view_is in
     c.loop-listed.invariant (subst (λ ns. Contains ns c.args.name.now) (sym names ∙ sym (take_all c.loop-listed.listed-index _ c.loop-listed-test.false)) h)
