@@ -18,7 +18,7 @@ ghost use Rattle.system_io.specs.Records.{IsSettled};
 
 use crate::answers::lines::put_refusal;
 use crate::answers::refusals::Refusal;
-use crate::binding::bind;
+use crate::binding::{bind, note_unbound};
 use crate::commands::HostGames;
 use crate::listening::{manifest_for, ready_line_at};
 use crate::locking::{IN_GAMES, lock};
@@ -171,7 +171,10 @@ fn bind_and_serve<'a, G: Games<History = H::History> + Drop, D, H: Host, W: Outp
 {
     match bind(alloc, plan.host, history, plan.task.bind, plan.task.to) {
         Ok(mut port) => start_at(alloc, plan, served, history, &mut port, out),
-        Err(BindFault::Unbound) => put_refusal(out, Refusal::Port),
+        Err(BindFault::Unbound) => {
+            note_unbound(alloc, plan.host, plan.task.bind);
+            put_refusal(out, Refusal::Port)
+        }
         Err(BindFault::OutOfMemory) => put_refusal(out, Refusal::Memory),
     }
 }

@@ -1,14 +1,14 @@
-//! What a port tells of those to whom it sends, and a port, a disk or a file of what the system refuses.
+//! What a port tells of those to whom it sends, and a disk or a file of what the system refuses.
 
 use crate::recipient::Recipient;
 use std::alloc::{AllocError, Global};
 use std::io::{self, Write};
 use std::net::SocketAddr;
 
-/// Tells in a line what the system said of a path or an address: that in double quotes, escaped, a colon and its words. A line that can't
-/// be written is left out.
-pub(crate) fn tell_refused<W: Write + Drop>(mut writer: W, place: &str, error: &io::Error) {
-    let _told = writeln!(writer, "{place:?}: {error}");
+/// Tells in a line what the system said of a path: the path in double quotes, escaped, a colon and its words. A line that can't be written
+/// is left out.
+pub(crate) fn tell_refused<W: Write + Drop>(mut writer: W, path: &str, error: &io::Error) {
+    let _told = writeln!(writer, "{path:?}: {error}");
 }
 
 /// A writer for notes, and for each place of a port the address to which the last send failed. A note that can't be written is left

@@ -8,7 +8,7 @@ ghost use Rattle.system_io.specs.Recipients.{address_named};
 ghost use Rattle.system_io.specs.Sockets.{Sent};
 ghost use Rattle.system_io.specs.UdpPorts.{Hears, HearsNothing, HearsOrNothing, passed_on, sent_to, udp_facts, who_at};
 
-use crate::notes::{Notes, tell_refused};
+use crate::notes::Notes;
 use crate::port::{NO_TAG, Port, PortFault};
 use crate::recipient::{Addressed, Recipient, all_addressed};
 use crate::shared_wait::SharedWait;
@@ -78,8 +78,8 @@ fn tell_names<W: Write + Drop>(notes: &mut Notes<W>, to: &[Addressed]) {
 impl<'a, C: Clock, W: Write + Drop> UdpPort<'a, C, UdpSocket, W> {
     /// A port bound to an address that sends to those whom these words name: `sender`, or an IP address or a host name, a colon and a
     /// port number. The address is an IP address or a host name, a colon and a port number too. The error comes where it can't be bound,
-    /// which is noted with the system's reason, or memory is refused. A host name names its first address of the kind, IPv4 or IPv6, of
-    /// the port's own; where there is none, each send to it fails.
+    /// or memory is refused. A host name names its first address of the kind, IPv4 or IPv6, of the port's own; where there is none, each
+    /// send to it fails.
     pub fn bind(
         rt: &'a C,
         alloc: Global,
@@ -91,13 +91,7 @@ impl<'a, C: Clock, W: Write + Drop> UdpPort<'a, C, UdpSocket, W> {
         C: Net,
         ensures { IfOk result (IsBound address.now (map (λ s. s.now) to.now)) }
     {
-        let socket = match UdpSocket::bind(rt, address) {
-            Ok(socket) => socket,
-            Err(error) => {
-                tell_refused(notes, address, &error);
-                return Err(error);
-            }
-        };
+        let socket = UdpSocket::bind(rt, address)?;
         Ok(UdpPort::over(rt, alloc, socket, notes, address, to)?)
     }
 }
