@@ -63,7 +63,7 @@ fn words_of(rt: &HostRuntime) -> Result<Vec<String>, WordsFault> {
 }
 
 /// Runs the program on its words over this disk, input and host. Standard error is buffered; where memory for that is refused,
-/// nothing is run.
+/// nothing is run. Output that can't be written is noted.
 fn run_over<D: LineDisk, I: Input, H: Host, W: Output>(
     rt: &HostRuntime,
     disk: &D,
@@ -83,7 +83,15 @@ fn run_over<D: LineDisk, I: Input, H: Host, W: Output>(
         pages: &pages,
     };
     let words = words_of(rt);
-    run_program(rt.alloc(), &words, &system, history, out, &mut errors)
+    let answered = run_program(rt.alloc(), &words, &system, history, out, &mut errors);
+    // What is buffered goes out here, so that a failure can be noted.
+    match (answered, out.flush_all()) {
+        (Ok(status), Ok(())) => Ok(status),
+        _ => {
+            host.note("the output can't be written");
+            Err(WriteFault::Io)
+        }
+    }
 }
 
 /// Runs the program, and ends with its status, 1 where the output can't be written. Its output is buffered. Nothing that it opens

@@ -40,7 +40,7 @@ use Rattle.adjudicate_core.specs.declared.commands.host.HostGames.{HostGames}
 use Rattle.adjudicate_core.specs.declared.words.numbers.StoreForm.{StoreForm}
 use Rattle.adjudicate_core.specs.declared.words.numbers.StoreForm.TheVariants as form
 use Rattle.game_status.specs.Imports.{CannotImport, IsImported}
-use Rattle.game_status.specs.StoreReadings.{log_name, store_name, store_path}
+use Rattle.game_status.specs.StoreReadings.{HasHalfStore, store_name, store_path}
 use Rattle.game_status.specs.declared.importing.ImportFault.{ImportFault}
 use Rattle.game_status.specs.declared.importing.ImportFault.TheVariants as import
 use Rattle.adjudicate_core.specs.declared.hosting.HostPlan.{HostPlan}
@@ -143,10 +143,10 @@ pub record HostOutside (P F S : Type 0) : Type 1 where
   pub stores : StorePlaces S
   pub store : S → StoreFacts
 
--- a folder with these names has a store, or the log of one, and records are to be in files; or it has the log without its database
+-- a folder with these names has a store, and records are to be in files; or it has half of one
 abbrev pub StoreClashes : StoreForm → List (List ℕ) → Type 0
-StoreClashes form.Files names = Contains names store_name ⊎ Contains names log_name
-StoreClashes form.Sqlite names = (Contains names store_name → ⊥) × Contains names log_name
+StoreClashes form.Files names = Contains names store_name ⊎ HasHalfStore names
+StoreClashes form.Sqlite names = HasHalfStore names
 
 -- how the runs of either way to keep records are seen
 pub record FilesOrStore (T : Type 0) : Type 1 where

@@ -33,6 +33,13 @@ fn bind_to_all<H: Host>(
     }
 }
 
+/// Notes that an address can't be bound.
+pub(crate) fn note_unbound<H: Host>(alloc: Global, host: &H, address: &str) {
+    if let Ok(line) = format!(in alloc; "{address} can't be bound") {
+        host.note(line.as_str());
+    }
+}
+
 /// A port bound to an address that sends to the addresses of a word, separated by commas. A single address takes no
 /// memory here.
 pub(crate) fn bind<H: Host>(

@@ -1,6 +1,6 @@
 //! Arbiters of any number of games, from their words to their status.
 
-ghost use Rattle.std.specs.Prelude.{◌≡◌, ◌↔◌, ℕ, IfErr, IfOk, IsTrue, List, OnErr, map, string_bytes};
+ghost use Rattle.std.specs.Prelude.{◌≡◌, ℕ, IfErr, IfNone, IfOk, IfSome, List, OnErr, map, string_bytes};
 ghost use Rattle.std.specs.NonZero.{non_zero_usize_get};
 ghost use Rattle.arbiter_server.specs.Games.{common_with};
 ghost use Rattle.arbiter_server.specs.LineLogs.{IsLogOf};
@@ -18,7 +18,7 @@ ghost use Rattle.system_io.specs.Records.{IsSettled};
 
 use crate::answers::lines::put_refusal;
 use crate::answers::refusals::Refusal;
-use crate::binding::bind;
+use crate::binding::{bind, note_unbound};
 use crate::commands::HostGames;
 use crate::listening::{manifest_for, ready_line_at};
 use crate::locking::{IN_GAMES, lock};
@@ -26,7 +26,7 @@ use crate::system::System;
 use crate::tables::gather;
 use crate::words::numbers::StoreForm;
 use arbiter_server::{DiskGames, Games, LineLog, Server, ServerConfig, StoreGames, put_line};
-use game_status::{ImportFault, STORE_LOG_NAME, STORE_NAME, has_name, import_records};
+use game_status::{ImportFault, STORE_NAME, has_half_store, has_name, import_records};
 use judge_core::Set;
 use std::alloc::Global;
 use std::num::NonZeroUsize;
@@ -54,12 +54,8 @@ struct Served<'a, G: Drop> {
 /// What is told where the log can't be written and the games go on.
 const LOG_LOST: &str = "the log can't be written: the games go on without it";
 
-/// What is told where a folder has a store, or the log of one, that wouldn't be used.
-const STORE_CLASHES: &str = "the folder has games.db with --store files, or games.db-wal alone";
-
-/// What is told where a store can't be opened.
-const STORE_UNOPENED: &str =
-    "games.db can't be opened: no store of games, held by another process, or at fault";
+/// What a folder with half of a store has.
+const HALF_STORE: &str = "games.db-wal without games.db, or games.db-journal: half of a store";
 
 /// How many datagrams are answered together, at most.
 fn most_together(form: StoreForm) -> NonZeroUsize
@@ -175,7 +171,10 @@ fn bind_and_serve<'a, G: Games<History = H::History> + Drop, D, H: Host, W: Outp
 {
     match bind(alloc, plan.host, history, plan.task.bind, plan.task.to) {
         Ok(mut port) => start_at(alloc, plan, served, history, &mut port, out),
-        Err(BindFault::Unbound) => put_refusal(out, Refusal::Port),
+        Err(BindFault::Unbound) => {
+            note_unbound(alloc, plan.host, plan.task.bind);
+            put_refusal(out, Refusal::Port)
+        }
         Err(BindFault::OutOfMemory) => put_refusal(out, Refusal::Memory),
     }
 }
@@ -197,10 +196,7 @@ fn open_store<H: Host>(
     };
     match host.store(alloc, history, path.as_str()) {
         Ok(store) => Ok(store),
-        Err(StoreFault::Unreadable) => {
-            host.note(STORE_UNOPENED);
-            Err(Refusal::Store)
-        }
+        Err(StoreFault::Unreadable) => Err(Refusal::Store),
         Err(StoreFault::OutOfMemory) => Err(Refusal::Memory),
     }
 }
@@ -287,16 +283,24 @@ fn lock_and_serve<'a, D: Disk, H: Host, W: Output>(
     }
 }
 
-/// Whether a folder with these names can't be served so: it has a store, or the log of one, and records are to be in files; or it has
-/// the log without its database.
-fn is_clash(names: &[String], form: StoreForm) -> bool
-    ensures { IsTrue result ↔ StoreClashes form (map string_bytes names.now) }
+/// Why a folder with these names can't be served so, if it can't: it has half of a store, or one, and records are to be in files.
+fn clash_of(names: &[String], form: StoreForm) -> Option<&'static str>
+    ensures some { IfSome result (λ _. StoreClashes form (map string_bytes names.now)) }
+    ensures none { IfNone result (StoreClashes form (map string_bytes names.now) → ⊥) }
 {
-    let has_store = has_name(names, STORE_NAME);
-    let has_log = has_name(names, STORE_LOG_NAME);
+    if has_half_store(names) {
+        return Some(HALF_STORE);
+    }
     match form {
-        StoreForm::Files => has_store || has_log,
-        StoreForm::Sqlite => !has_store && has_log,
+        StoreForm::Files if has_name(names, STORE_NAME) => Some("games.db, and --store is files"),
+        StoreForm::Files | StoreForm::Sqlite => None,
+    }
+}
+
+/// Notes what a folder has that bars it from being served.
+fn note_clash<H: Host>(alloc: Global, host: &H, folder: &str, clash: &str) {
+    if let Ok(line) = format!(in alloc; "{folder} has {clash}") {
+        host.note(line.as_str());
     }
 }
 
@@ -311,14 +315,17 @@ fn list_games<D: Disk, I, H: Host, G>(
     ensures ok { IfOk result (λ _. (names : List (List ℕ)) × (D.facts system.now.disk.now).lists folder.now names × (StoreClashes form names → ⊥)) }
     ensures err { IfErr result (IsUnlisted (D.facts system.now.disk.now) folder.now form) }
 {
-    match system.disk.names(alloc, folder) {
-        Ok(names) if is_clash(&names, form) => {
-            system.host.note(STORE_CLASHES);
+    let names = match system.disk.names(alloc, folder) {
+        Ok(names) => names,
+        Err(ReadFault::Unreadable) => return Err(Refusal::Files),
+        Err(ReadFault::OutOfMemory) => return Err(Refusal::Memory),
+    };
+    match clash_of(&names, form) {
+        Some(clash) => {
+            note_clash(alloc, system.host, folder, clash);
             Err(Refusal::Store)
         }
-        Ok(_) => Ok(()),
-        Err(ReadFault::Unreadable) => Err(Refusal::Files),
-        Err(ReadFault::OutOfMemory) => Err(Refusal::Memory),
+        None => Ok(()),
     }
 }
 

@@ -16,7 +16,7 @@ ghost use Rattle.line_teller.specs.ToldLines.{HasFailed};
 
 use crate::answers::lines::put_refusal;
 use crate::answers::refusals::Refusal;
-use crate::binding::bind;
+use crate::binding::{bind, note_unbound};
 use crate::commands::Listen;
 use crate::locking::{BESIDE_KEPT, lock};
 use crate::tables::gather;
@@ -212,7 +212,10 @@ fn bind_and_serve<H: Host, W: Output>(
 {
     match bind(alloc, at.host, history, at.listening.bind, at.listening.to) {
         Ok(mut port) => start_at(alloc, at, setup, history, &mut port, out),
-        Err(BindFault::Unbound) => put_refusal(out, Refusal::Port),
+        Err(BindFault::Unbound) => {
+            note_unbound(alloc, at.host, at.listening.bind);
+            put_refusal(out, Refusal::Port)
+        }
         Err(BindFault::OutOfMemory) => put_refusal(out, Refusal::Memory),
     }
 }

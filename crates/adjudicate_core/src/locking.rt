@@ -15,6 +15,13 @@ pub(crate) const IN_GAMES: &str = "/lock";
 /// What stands behind a kept file in the path of the file by which it is locked.
 pub(crate) const BESIDE_KEPT: &str = ".lock";
 
+/// Notes that another process holds a lock.
+fn note_held<H: Host>(alloc: Global, host: &H, path: &str) {
+    if let Ok(line) = format!(in alloc; "{path} is locked by another process") {
+        host.note(line.as_str());
+    }
+}
+
 /// Locks the file at a path with this end. The error is `InUse` where another process holds its lock, `Keeper` where it can't be locked,
 /// and `Memory` where memory is refused.
 pub(crate) fn lock<H: Host>(
@@ -33,7 +40,10 @@ pub(crate) fn lock<H: Host>(
     };
     match host.lock(alloc, history, name.as_str()) {
         Ok(lock) => Ok(lock),
-        Err(LockFault::Held) => Err(Refusal::InUse),
+        Err(LockFault::Held) => {
+            note_held(alloc, host, name.as_str());
+            Err(Refusal::InUse)
+        }
         Err(LockFault::Failed) => Err(Refusal::Keeper),
         Err(LockFault::OutOfMemory) => Err(Refusal::Memory),
     }

@@ -14,7 +14,7 @@ ghost use Rattle.source_core.specs.Origins.{origin_by};
 
 use crate::answers::lines::put_refusal;
 use crate::answers::refusals::Refusal;
-use crate::binding::bind;
+use crate::binding::{bind, note_unbound};
 use crate::commands::{GameFile, Send, SentGame, ToldGame};
 use crate::manifests::manifest_for;
 use crate::system::System;
@@ -170,7 +170,10 @@ fn bind_and_send<D: Disk, I: Input, H: Host, W: Output, G>(
             let mut watched = Watched::over(alloc, port, system.host, &terms, task.to);
             send_over(alloc, terms, game.start, system.input, &mut watched, out)
         }
-        Err(BindFault::Unbound) => refuse(out, Refusal::Port),
+        Err(BindFault::Unbound) => {
+            note_unbound(alloc, system.host, task.bind);
+            refuse(out, Refusal::Port)
+        }
         Err(BindFault::OutOfMemory) => refuse(out, Refusal::Memory),
     }
 }

@@ -9,9 +9,14 @@ use game_status::{StoredDisk, records_in};
 use std::alloc::Global;
 use system_io::{Disk, Host, ReadFault, StoreFault};
 
-/// What is told where a store can't be read.
-const STORE_UNREAD: &str =
-    "games.db can't be read: no store of games, at fault, or written too often meanwhile";
+/// Notes that the store of a folder can't be read.
+fn note_unread<H: Host>(alloc: Global, host: &H, folder: &str) {
+    if let Ok(line) = format!(in alloc;
+        "{folder}/games.db can't be read: no store of games, half of one, at fault, or written too often meanwhile"
+    ) {
+        host.note(line.as_str());
+    }
+}
 
 /// The disk on which the records of a folder are those of its store, where it has one: as its last commit left them, also while a host
 /// writes it. A folder that can't be listed is told as `refused files`, a store that can't be read as `refused store`.
@@ -32,7 +37,7 @@ pub(crate) fn disk_over<'a, D: Disk, H: Host>(
     let entries = match records_in(alloc, disk, host, folder) {
         Ok(entries) => entries,
         Err(StoreFault::Unreadable) => {
-            host.note(STORE_UNREAD);
+            note_unread(alloc, host, folder);
             return Err(Refusal::Store);
         }
         Err(StoreFault::OutOfMemory) => return Err(Refusal::Memory),

@@ -16,6 +16,14 @@ store_name = codes "games.db"
 abbrev pub log_name : List ℕ
 log_name = codes "games.db-wal"
 
+-- that of the journal which SQLite leaves beside a database that it wrote without a log, where it was stopped
+abbrev pub journal_name : List ℕ
+journal_name = codes "games.db-journal"
+
+-- among these names is half of a store: the log without the database; or a journal, without which the database isn't what it was
+abbrev pub HasHalfStore : List (List ℕ) → Type 0
+HasHalfStore names = (Contains names log_name × (Contains names store_name → ⊥)) ⊎ Contains names journal_name
+
 -- the file of this name in the folder
 abbrev pub path_in : List ℕ → List ℕ → List ℕ
 path_in folder name = folder ++ 47 ∷ name
@@ -53,19 +61,28 @@ pub record BeginsAnew (disk : DiskFacts) (folder : List ℕ) : Type 0 where
   pub second : IsStoreLog disk folder other
   pub differ : log_head one ≢ log_head other
 
--- why the files of a store aren't read: the folder can't be listed, one of them can't be read, or the log began anew meanwhile
+-- why the files of a store aren't read: the folder can't be listed, or has half of a store; one of them can't be read, or the log began anew
+-- meanwhile
 pub data CannotReadStore (disk : DiskFacts) (folder : List ℕ) : Type 0 where
   NoList : disk.fails (AtFolder folder) → CannotReadStore disk folder
+  HalfStore : (names : List (List ℕ)) → disk.lists folder names → HasHalfStore names → CannotReadStore disk folder
   NoDatabase : disk.fails (AtFile (path_in folder store_name)) → CannotReadStore disk folder
   NoLog : disk.fails (AtFile (path_in folder log_name)) → CannotReadStore disk folder
   NoMoment : BeginsAnew disk folder → CannotReadStore disk folder
 
 -- ---- records
 
+-- the folder has half of no store; whether it has a whole one
+abbrev pub HasStore : List (List ℕ) → Type 0
+HasStore names = Contains names store_name × (HasHalfStore names → ⊥)
+
+abbrev pub HasNoStore : List (List ℕ) → Type 0
+HasNoStore names = (Contains names store_name → ⊥) × (HasHalfStore names → ⊥)
+
 -- the records of the folder's store: none where the folder lists no store, and else those that its files hold
 pub data AreRecordsIn {S : Type 0} (disk : DiskFacts) (stores : StorePlaces S) (folder : List ℕ) (entries : List Entry) : Type 0 where
-  NoStore : LacksName disk folder store_name → entries ≡ [] → AreRecordsIn disk stores folder entries
-  InStore : (db log : List ℕ) → ListsName disk folder store_name → AreStoreFiles disk folder db log → stores.holds db log (records_of entries) → AreRecordsIn disk stores folder entries
+  NoStore : (names : List (List ℕ)) → disk.lists folder names → HasNoStore names → entries ≡ [] → AreRecordsIn disk stores folder entries
+  InStore : (names : List (List ℕ)) → disk.lists folder names → HasStore names → (db log : List ℕ) → AreStoreFiles disk folder db log → stores.holds db log (records_of entries) → AreRecordsIn disk stores folder entries
 
 -- its files hold what isn't told, for this reason
 abbrev pub WithholdsRecords : {S : Type 0} → DiskFacts → StorePlaces S → List ℕ → StoreFault → Type 0

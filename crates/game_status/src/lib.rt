@@ -62,7 +62,7 @@ pub use metrics::write_status_metrics;
 pub use side::Side;
 pub use status::tell_status;
 pub use status_lines::{Look, add_moves, add_refused_record};
-pub use store_reading::{STORE_LOG_NAME, STORE_NAME, has_name, records_in};
+pub use store_reading::{STORE_NAME, has_half_store, has_name, records_in};
 pub use stored_disk::StoredDisk;
 pub use telling::{GameTeller, Mark, Sums};
 pub use totals::Totals;

@@ -11,7 +11,7 @@
 ghost use Rattle.std.specs.Prelude.{◌≡◌, ◌↔◌, map, string_bytes, IfErr, IfNone, IfOk, IfSome, IsErrOf, IsTrue};
 ghost use Rattle.std.specs.List.{Contains};
 ghost use Rattle.system_io.specs.Disks.{AtFile, AtFolder};
-ghost use Rattle.game_status.specs.StoreReadings.{AreRecordsIn, AreStoreFiles, BeginsAnew, CannotReadStore, IsStoreLog, LacksRecords, log_head, path_in};
+ghost use Rattle.game_status.specs.StoreReadings.{AreRecordsIn, AreStoreFiles, BeginsAnew, CannotReadStore, HasHalfStore, IsStoreLog, LacksRecords, log_head, path_in};
 ghost use Rattle.game_status.specs.Inside.StoreReading.{TellsListed};
 
 use std::alloc::{AllocError, Global};
@@ -21,7 +21,10 @@ use system_io::{Disk, Entry, Host, ReadFault, StoreFault};
 pub const STORE_NAME: &str = "games.db";
 
 /// The name of the log beside it.
-pub const STORE_LOG_NAME: &str = "games.db-wal";
+const STORE_LOG_NAME: &str = "games.db-wal";
+
+/// The name of the journal that SQLite leaves beside it, where it was stopped while it wrote the database without a log.
+const STORE_JOURNAL_NAME: &str = "games.db-journal";
 
 /// How many bytes the head of a log has.
 const LOG_HEAD: usize = 32;
@@ -58,6 +61,15 @@ pub fn has_name(names: &[String], name: &str) -> bool
     ensures { IsTrue result ↔ Contains (map string_bytes names.now) name.now }
 {
     names.iter().any(|listed| listed.as_str() == name)
+}
+
+/// Whether half of a store is among these names: the log without the database; or a journal, without which the database isn't what it
+/// was.
+pub fn has_half_store(names: &[String]) -> bool
+    ensures { IsTrue result ↔ HasHalfStore (map string_bytes names.now) }
+{
+    let has_log_alone = has_name(names, STORE_LOG_NAME) && !has_name(names, STORE_NAME);
+    has_log_alone || has_name(names, STORE_JOURNAL_NAME)
 }
 
 /// Whether a folder lists a name.
@@ -182,10 +194,11 @@ fn store_fault(fault: ReadFault) -> StoreFault
 }
 
 /// The records that a folder's store holds, `games.db` and `games.db-wal` beside it, at one moment while a host may be writing it.
-/// None where the folder lists no `games.db`. No lock is taken, and neither file is changed.
+/// None where the folder lists nothing of a store. No lock is taken, and neither file is changed.
 ///
-/// `Unreadable` where the folder or one of the files can't be read or is gone since it was listed, where the log began anew at each
-/// of eight tries, and where the files are none of a store. `OutOfMemory` comes only where memory is refused.
+/// `Unreadable` where the folder or one of the files can't be read or is gone since it was listed, where it has the log alone or a
+/// journal, where the log began anew at each of eight tries, and where the files are none of a store. `OutOfMemory` comes only where
+/// memory is refused.
 pub fn records_in<D: Disk, H: Host>(
     alloc: Global,
     disk: &D,
@@ -195,11 +208,14 @@ pub fn records_in<D: Disk, H: Host>(
     ensures ok { IfOk result (λ entries. AreRecordsIn (D.facts disk.now) (H.stores host.now) folder.now entries.items) }
     ensures err { IfErr result (LacksRecords (D.facts disk.now) (H.stores host.now) folder.now) }
 {
-    let is_there = match lists(alloc, disk, folder, STORE_NAME) {
-        Ok(is_there) => is_there,
+    let names = match disk.names(alloc, folder) {
+        Ok(names) => names,
         Err(fault) => return Err(store_fault(fault)),
     };
-    if !is_there {
+    if has_half_store(&names) {
+        return Err(StoreFault::Unreadable);
+    }
+    if !has_name(&names, STORE_NAME) {
         return Ok(Vec::new(alloc));
     }
     let files = match read_files(alloc, disk, folder) {

@@ -1,6 +1,7 @@
 //! Why a store can't be had, or a batch not be put.
 
 use sqlite::{Error, ErrorCode};
+use std::fmt;
 
 /// Why a store can't be had, or a batch not be put.
 #[derive(Clone, Copy, Debug, PartialEq, Eq)]
@@ -15,6 +16,18 @@ pub enum DatabaseFault {
     SameStamp,
     /// A game that has no row yet can't get a number below 2^32.
     NoNumber,
+}
+
+impl fmt::Display for DatabaseFault {
+    fn fmt<W: fmt::Write>(&self, f: &mut fmt::Formatter<W>) -> fmt::Result {
+        match self {
+            DatabaseFault::Sqlite(error) => write!(f, "{error}"),
+            DatabaseFault::OtherTables => f.write_str("it has other tables than that of the games"),
+            DatabaseFault::BadRow => f.write_str("a row is none of a game"),
+            DatabaseFault::SameStamp => f.write_str("two rows have one stamp"),
+            DatabaseFault::NoNumber => f.write_str("no number is left for a game"),
+        }
+    }
 }
 
 /// Memory was refused.

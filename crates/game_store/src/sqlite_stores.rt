@@ -1,6 +1,6 @@
 //! Where stores of records are opened, and how the two files of one are read.
 
-ghost use Rattle.std.specs.Prelude.{◌≡◌, IfOk, IsTrue, map};
+ghost use Rattle.std.specs.Prelude.{◌≡◌, ◌⊎◌, ◌++◌, IfOk, IsTrue, codes, map, string_bytes};
 ghost use Rattle.sqlite.specs.Files.{image_of};
 ghost use Rattle.sqlite_disk.specs.Memory.{memory_bytes, memory_is_usable};
 ghost use Rattle.system_io.specs.Records.{records_of};
@@ -12,6 +12,7 @@ use crate::store::Store;
 use sqlite::{Error, ErrorCode, FileFrom, FileStore, Files, Options, Start};
 use sqlite_disk::{Disk, Memory};
 use std::alloc::{AllocError, Global};
+use std::io::Write;
 use system_io::{Entry, StoreFault, Stores};
 
 /// The files of a store as they are opened, of which nothing is known: for `main` to name. As with the kit's `Unknown`, a torn write is
@@ -47,6 +48,18 @@ impl<'r, S: Start + Copy> SqliteStores<'r, S> {
     pub fn new(rt: &'r HostRuntime, start: S) -> SqliteStores<'r, S> {
         SqliteStores { rt, start }
     }
+
+    /// What is told of a store at a path that can't be opened. But for memory, standard error says why.
+    fn unopened(&self, path: &str, fault: DatabaseFault) -> StoreFault
+        ensures { result ≡ store_fault_of fault }
+    {
+        let told = told(fault);
+        if let StoreFault::Unreadable = told {
+            let mut notes = self.rt.stderr();
+            let _told = writeln!(notes, "{path:?}: {fault}");
+        }
+        told
+    }
 }
 
 impl<'r, S: Start + Copy> Stores for SqliteStores<'r, S> {
@@ -59,12 +72,15 @@ impl<'r, S: Start + Copy> Stores for SqliteStores<'r, S> {
 
     fn open(
         &self,
-        _alloc: Global,
+        alloc: Global,
         path: &str,
     ) -> Result<Store<FileStore<FileFrom<S>>>, StoreFault> {
-        match Store::open_at(self.rt, path, self.start) {
+        let Ok(plain) = plain_path(alloc, path) else {
+            return Err(StoreFault::OutOfMemory);
+        };
+        match Store::open_at(self.rt, plain.as_str(), self.start) {
             Ok(store) => Ok(store),
-            Err(fault) => Err(told(fault)),
+            Err(fault) => Err(self.unopened(path, fault)),
         }
     }
 
@@ -73,6 +89,18 @@ impl<'r, S: Start + Copy> Stores for SqliteStores<'r, S> {
             return Err(StoreFault::OutOfMemory);
         };
         entries_in(alloc, files)
+    }
+}
+
+/// The same path in a form that SQLite takes for a path. One that begins with `file:` it takes for a URI
+/// (<https://www.sqlite.org/uri.html>), so that one begins with `./` then. The error comes only where memory is refused.
+fn plain_path(alloc: Global, path: &str) -> Result<String, AllocError>
+    ensures { IfOk result (λ plain. string_bytes plain ≡ path.now ⊎ (string_bytes plain ≡ codes "./" ++ path.now)) }
+{
+    if path.starts_with("file:") {
+        format!(in alloc; "./{path}")
+    } else {
+        String::from_str(alloc, path)
     }
 }
 

@@ -1,13 +1,6 @@
-use Rattle.std.proofs.Common.{rules, IsTrue}
-use Rattle.game_status.specs.StoreReadings.{InStore}
+use Rattle.game_status.specs.StoreReadings.{HalfStore, InStore, NoStore}
 use Rattle.game_status.proofs.StoreLaws.{withheld}
 use Rattle.game_status.proofs.store_reading.records_in.Goals as goal
-
-pub returns-in-Ok-stored-clause-ok : goal.returns-in-Ok-stored-clause-ok
-returns-in-Ok-stored-clause-ok g c =
-    let (names, listed, tells) = c.in-Ok.ensures.ok in
-    let yes : IsTrue c.in-Ok.is_there = search rules in
-    InStore c.in-Ok-read_files.files.db.items c.in-Ok-read_files.files.log.items (names, listed, tells.0 yes) c.in-Ok-read_files.ensures.ok c.in-Ok-stored.ensures.held
 
 pub returns-in-Err-stored-clause-err : goal.returns-in-Err-stored-clause-err
 returns-in-Err-stored-clause-err g c =
