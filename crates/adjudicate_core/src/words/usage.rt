@@ -101,6 +101,8 @@ pub enum Instead {
     From,
     /// A folder of games.
     Games,
+    /// Metrics.
+    Prometheus,
 }
 
 impl Instead {
@@ -111,6 +113,7 @@ impl Instead {
         match self {
             Instead::From => " cannot be used with --from",
             Instead::Games => " cannot be used with --games",
+            Instead::Prometheus => " cannot be used with --prometheus",
         }
     }
 }
