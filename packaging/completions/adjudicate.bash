@@ -16,7 +16,7 @@ _adjudicate_options()
         pgn) echo '--tables=DIR --manifest=FILE --all-tables --memory=MB --delay=N --json --differ' ;;
         enter) echo '--name=NAME --start=FEN --from=FILE --tables=DIR --manifest=FILE --delay=N --games=DIR --new' ;;
         send) echo '--name=NAME --start=FEN --tables=DIR --manifest=FILE --delay=N --game=FILE --bind=ADDR --to=ADDR[,ADDR] --wait=MS --tries=N --key=FILE --san --new' ;;
-        status) echo '--games=DIR --other=DIR --prometheus' ;;
+        status) echo '--games=DIR --other=DIR --prometheus --json' ;;
         record) echo '--games=DIR' ;;
         audit) echo '--name=NAME --start=FEN --tables=DIR --manifest=FILE --delay=N --games=DIR --other=DIR' ;;
         listen) echo '--name=NAME --start=FEN --tables=DIR --me=1|2 --bind=ADDR --to=ADDR[,ADDR] --kept=FILE --datagrams=N --delay=N --fetch --ready --key=FILE' ;;

@@ -131,6 +131,7 @@ complete -c adjudicate -n '__adjudicate_is send' -l help -d 'the use of the comm
 complete -c adjudicate -n '__adjudicate_is status' -l games -x -a '(__fish_complete_directories)' -d 'the folder of games'
 complete -c adjudicate -n '__adjudicate_is status' -l other -x -a '(__fish_complete_directories)' -d 'a second folder of games, with which the first is compared'
 complete -c adjudicate -n '__adjudicate_is status' -l prometheus -d 'writes how many games there are of each kind, as metrics'
+complete -c adjudicate -n '__adjudicate_is status' -l json -d 'writes one JSON object with all games, on a line'
 complete -c adjudicate -n '__adjudicate_is status' -l help -d 'the use of the command'
 complete -c adjudicate -n '__adjudicate_is record' -l games -x -a '(__fish_complete_directories)' -d 'the folder of games'
 complete -c adjudicate -n '__adjudicate_is record' -a '(__adjudicate_stamps)'

@@ -9,7 +9,9 @@ use Rattle.system_io.specs.declared.output.WriteFault.{WriteFault}
 use Rattle.system_io.specs.declared.reading.ReadFault.{ReadFault}
 use Rattle.system_io.specs.declared.reading.ReadFault.TheVariants as read
 use Rattle.game_status.specs.Listings.{AreListed, CannotList, Listing}
-use Rattle.game_status.specs.Reports.{All, First, Form, IsReport, Listed, metrics_form, NoRoomToList, Reports, ReportsStatus, Unlisted}
+use Rattle.game_status.specs.Reports.{All, First, Form, IsReport, Listed, form_of, metrics_form, NoRoomToList, Reports, ReportsStatus, Unlisted}
+use Rattle.game_status.specs.declared.report.ReportForm.{ReportForm}
+use Rattle.game_status.specs.declared.report.ReportForm.TheVariants.{Metrics, Json}
 use Rattle.game_status.specs.Statuses.{IsLook}
 use Rattle.game_status.specs.declared.status_lines.Look.{Look}
 use Rattle.game_status.specs.declared.totals.Totals.{Totals}
@@ -33,6 +35,8 @@ pub counted_report : (F : List ℕ → Look → Type 0) (stamps : List (List ℕ
 counted_report F stamps compares t text (found, are, is) written = All found are (written ∙ ap (metrics_text compares) is, refl)
 
 -- none, since memory was refused
-pub no_metrics : (F : List ℕ → Look → Type 0) (stamps : List (List ℕ)) (compares : Bool) (old new : Option (List ℕ)) (r : Result Bool WriteFault) → IfOk r (λ done. (done ≡ false) × Appends old new (ended refused_memory)) → OnErr r (HasFront old new (ended refused_memory)) → Reports (IsReport metrics_form F stamps compares) old new r
-no_metrics F stamps compares old new (Ok done) h front = (ended refused_memory, First 0 [] tt refl h.0, h.1)
-no_metrics F stamps compares old new (Err fault) h front = (ended refused_memory, false, First 0 [] tt refl refl, front)
+pub no_report : (form : ReportForm) (F : List ℕ → Look → Type 0) (stamps : List (List ℕ)) (compares : Bool) (old new : Option (List ℕ)) (r : Result Bool WriteFault) → IfOk r (λ done. (done ≡ false) × Appends old new (ended refused_memory)) → OnErr r (HasFront old new (ended refused_memory)) → Reports (IsReport (form_of form) F stamps compares) old new r
+no_report Metrics F stamps compares old new (Ok done) h front = (ended refused_memory, First 0 [] tt refl h.0, h.1)
+no_report Metrics F stamps compares old new (Err fault) h front = (ended refused_memory, false, First 0 [] tt refl refl, front)
+no_report Json F stamps compares old new (Ok done) h front = (ended refused_memory, First 0 [] tt refl h.0, h.1)
+no_report Json F stamps compares old new (Err fault) h front = (ended refused_memory, false, First 0 [] tt refl refl, front)

@@ -10,3 +10,6 @@ pub mod ImportLaws
 pub mod TotalLaws
 pub mod MetricLaws
 pub mod FolderLaws
+pub mod NameLaws
+pub mod ObjectLaws
+pub mod ObjectDepth

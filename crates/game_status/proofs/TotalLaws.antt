@@ -43,7 +43,7 @@ same_totals a b e f g h = same_parts a.sums b.sums a.open_games b.open_games a.b
 at_last : (s m t : ℕ) → t ≡ s + m → min (min s most_total + m) most_total ≡ min t most_total
 at_last s m t is = omega (arith, is)
 
-totals_more : (found : List FoundGame) (f : FoundGame) (t new : Totals) → t ≡ totals_of found → AddsLook t f.look new → new ≡ totals_of (found ++ f ∷ [])
+pub totals_more : (found : List FoundGame) (f : FoundGame) (t new : Totals) → t ≡ totals_of found → AddsLook t f.look new → new ≡ totals_of (found ++ f ∷ [])
 totals_more found f t new is h =
     let told : GameTold = game_told_by f.stamp f.look in
     let mark = mark_of_told f.stamp f.look in

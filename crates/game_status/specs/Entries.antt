@@ -2,7 +2,7 @@
 use Rattle.std.specs.Prelude.{◌⊎◌, ◌++◌, ℕ, List, Option, Some, None, codes}
 use Rattle.std.specs.List.{Contains}
 use Rattle.std.specs.Fmt.{decimal}
-use Rattle.record_audit.specs.Findings.{refused_record}
+use Rattle.move_msg.specs.Records.{record_fault_name}
 use Rattle.system_io.specs.Disks.{AtFile, DiskFacts, HasMore}
 use Rattle.arbiter_server.specs.declared.folder.FindFault.TheVariants as find
 use Rattle.arbiter_server.specs.declared.game_file.Game.{Game}
@@ -42,10 +42,14 @@ LacksEntry disk f stamp (BadRecord fault) = ⊥
 LacksEntry disk f stamp OtherStamp = ⊥
 LacksEntry disk f stamp OtherGame = ⊥
 
+-- what is at fault, and how a line tells it
+abbrev pub fault_words : EntryFault → List ℕ
+fault_words NoGame = codes "NoGame"
+fault_words (BadGame fault) = codes "line " ++ decimal (line_number fault)
+fault_words Keeper = codes "keeper"
+fault_words (BadRecord fault) = codes "record " ++ record_fault_name fault
+fault_words OtherStamp = codes "stamp"
+fault_words OtherGame = codes "OtherGame"
+
 abbrev pub listed_fault_words : EntryFault → List ℕ
-listed_fault_words NoGame = codes "refused NoGame"
-listed_fault_words (BadGame fault) = codes "refused line " ++ decimal (line_number fault)
-listed_fault_words Keeper = codes "refused keeper"
-listed_fault_words (BadRecord fault) = refused_record fault
-listed_fault_words OtherStamp = codes "refused stamp"
-listed_fault_words OtherGame = codes "refused OtherGame"
+listed_fault_words fault = codes "refused " ++ fault_words fault

@@ -6,6 +6,7 @@ pub mod Tellings
 pub mod Statuses
 pub mod Totals
 pub mod Metrics
+pub mod StatusObjects
 pub mod Reports
 pub mod GameAudits
 pub mod StoreReadings

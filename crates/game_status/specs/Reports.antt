@@ -1,13 +1,17 @@
 -- What is found of the games of a folder, or of two, as it is reported to a program (this project's own).
-use Rattle.std.specs.Prelude.{◌≡◌, ℕ, Bool, true, false, List, Option, is_some, take, Result, Ok, Err}
+use Rattle.std.specs.Prelude.{◌≡◌, ℕ, Bool, true, false, List, Option, Some, is_some, take, Result, Ok, Err}
 use Rattle.std.specs.Io.KnownBytes.{Appends}
+use Rattle.json.specs.Json.{document}
 use Rattle.line_teller.specs.ToldLines.{HasFront, refused_files, refused_memory}
 use Rattle.move_msg.specs.TextLines.{ended}
 use Rattle.system_io.specs.declared.output.WriteFault.{WriteFault}
 use Rattle.system_io.specs.Disks.{DiskFacts}
+use Rattle.game_status.specs.declared.report.ReportForm.{ReportForm}
+use Rattle.game_status.specs.declared.report.ReportForm.TheVariants.{Metrics, Json}
 use Rattle.game_status.specs.declared.status_lines.Look.{Look}
 use Rattle.game_status.specs.Listings.{AreListed, CannotList, Listing}
 use Rattle.game_status.specs.Metrics.{metrics_text}
+use Rattle.game_status.specs.StatusObjects.{json_text, status_json}
 use Rattle.game_status.specs.Statuses.{IsLook}
 use Rattle.game_status.specs.Totals.{AreFound, FoundGame, totals_of}
 
@@ -24,6 +28,18 @@ metrics_form = record {
   Whole = λ compares found text done. (text ≡ metrics_text compares (totals_of found)) × (done ≡ true);
   Short = λ found text. text ≡ ended refused_memory;
 }
+
+-- a line with one object, which a JSON parser reads back, or none of it; all is done where it is written, whatever it says
+abbrev pub json_form : Form
+json_form = record {
+  Whole = λ compares found text done.
+      (text ≡ ended (json_text (status_json compares found))) × (document (json_text (status_json compares found)) ≡ Some (status_json compares found)) × (done ≡ true);
+  Short = λ found text. text ≡ ended refused_memory;
+}
+
+abbrev pub form_of : ReportForm → Form
+form_of Metrics = metrics_form
+form_of Json = json_form
 
 -- the games of these stamps are reported; or the first ones, since memory was refused
 pub data IsReport (form : Form) (Finds : List ℕ → Look → Type 0) (stamps : List (List ℕ)) (compares : Bool) (text : List ℕ) (done : Bool) : Type 0 where

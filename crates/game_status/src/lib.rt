@@ -2,11 +2,12 @@
 //!
 //! A game is one whose file a folder lists as `STAMP.game`; its record is `STAMP.kept`, where that is listed too. `tell_status` lists
 //! the folders, reads of one game after the other its file and its record, and writes a line for each and then their sums. No move is
-//! judged and no table is read. `write_status_metrics` writes the sums for programs. `tell_audit` also judges each record by a set of
-//! tables. Memory is that of the names of a folder, of the stamps, and of one game.
+//! judged and no table is read. `write_status_report` writes it for programs, the sums as metrics or all as a JSON object. `tell_audit`
+//! also judges each record by a set of tables. Memory is that of the names of a folder, of the stamps, and of one game.
 //!
 //! Inside: `listing` (the stamps that names tell), `entry` (a game's file and the bytes of its record), `side` (the record),
-//! `comparing` (two records), `status_lines`, `telling` (games in turn, and sums: `GameTeller`), `status`; `totals`, `metrics`;
+//! `comparing` (two records), `status_lines`, `telling` (games in turn, and sums: `GameTeller`), `status`; `totals`, `metrics`,
+//! `objects`, `report`;
 //! `audit_lines`, `game_audit`.
 //! Where a host keeps the records of a folder in a store, `store_reading` reads them, also while the host writes, and `stored_disk` is
 //! the disk on which they stand as files: what tells of a folder's files then tells of them, with no change of its own. `importing`
@@ -15,7 +16,7 @@
 //!
 //! Definitions, in reading order: `Listings` (`AreListed`), `Entries` (`HasEntry`, `LacksEntry`), `Sides` (`HasGameAndRecord`,
 //! `LacksSide`), `Comparisons` (`IsComparedAs`), `Tellings` (`TellsGames`, `TellsFolders`), `Statuses` (`IsStatus`, `TellsStatus`),
-//! `Totals` (`AreFound`, `totals_of`), `Metrics` (`metrics_text`), `Reports` (`ReportsStatus`);
+//! `Totals` (`AreFound`, `totals_of`), `Metrics` (`metrics_text`), `StatusObjects` (`status_json`), `Reports` (`ReportsStatus`);
 //! `GameAudits` (`TellsAudit`); `StoreReadings` (`AreRecordsIn`, `LacksRecords`), `StoredDisks` (`disk_over`), `Imports`. Its cases
 //! stand in `status.txt` and `game_audits.txt` of `rows`.
 //!
@@ -26,8 +27,9 @@
 //!   can't be listed. Refused memory has no cause; the whole lines before it stay. After an error the lines before are whole, and of
 //!   the last a front is written; it comes only of a type of writer that may refuse a write, or from which
 //!   some can't go out.
-//! - CLAIM: `write_status_metrics`, clause `written`: the metrics are those of what is found of each game, by the same
-//!   definition as the lines (`IsLook`), and are written at once. After an error a front of such a text is written.
+//! - CLAIM: `write_status_report`, clause `written`: the metrics, or the JSON object, are those of what is found of each game, by the
+//!   same definition as the lines (`IsLook`), and are written at once. A JSON parser reads the object back. After an error a front of
+//!   such a text is written.
 //! - CLAIM: `tell_audit`: the same games, whose files have to be those of their stamps by the tables; a game is well only where an
 //!   arbiter of it resumes from each of its records, and both are equal; nothing kept is no fault.
 //! - CLAIM: `records_in`, clauses `ok`, `err`: the records are what the two files of the folder's store hold, and none only where the
@@ -44,6 +46,8 @@ mod game_audit;
 mod importing;
 mod listing;
 mod metrics;
+mod objects;
+mod report;
 mod side;
 mod status;
 mod status_lines;
@@ -58,7 +62,7 @@ pub use entry::{Entry, EntryFault};
 pub use game_audit::{AuditTables, tell_audit};
 pub use importing::{ImportFault, import_records};
 pub use listing::{Folder, Folders, stamp_of};
-pub use metrics::write_status_metrics;
+pub use report::{ReportForm, write_status_report};
 pub use side::Side;
 pub use status::tell_status;
 pub use status_lines::{Look, add_moves, add_refused_record};

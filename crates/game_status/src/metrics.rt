@@ -1,20 +1,17 @@
 //! How many games there are of each kind, in the text format of Prometheus.
 
-ghost use Rattle.std.specs.Prelude.{◌≡◌, ◌++◌, true, IfOk, OnErr, OnOk, option_map};
-ghost use Rattle.line_teller.specs.ToldLines.{HasFailed};
+ghost use Rattle.std.specs.Prelude.{◌≡◌, ◌++◌, true, IfOk, OnOk};
 ghost use Rattle.std.specs.Fmt.{decimal};
-ghost use Rattle.game_status.specs.Reports.{IsReport, Reports, ReportsStatus, metrics_form};
+ghost use Rattle.game_status.specs.Reports.{IsReport, metrics_form};
 ghost use Rattle.game_status.specs.Inside.Totalling.{CountsEach, looks_of};
 ghost use Rattle.game_status.specs.Metrics.{compared_metrics, gauge, metric, metrics_if_compared, metrics_text, sample, state_metrics};
 
-use crate::listing::list_folders;
 use crate::status::StatusTeller;
-use crate::telling::put_cut;
 use crate::totals::Totals;
 use itoa::Buffer;
 use move_msg::Stamp;
 use std::alloc::{AllocError, Global};
-use system_io::{Disk, Output, ReadFault, WriteFault};
+use system_io::Disk;
 
 /// Adds a text.
 fn add(text: &mut Vec<u8>, more: &str) -> Result<(), AllocError>
@@ -153,7 +150,7 @@ fn count_each<D: Disk>(teller: &StatusTeller<'_, D>, stamps: &[Stamp]) -> Result
 }
 
 /// The metrics of the games with these stamps.
-fn metrics_of<D: Disk>(
+pub(crate) fn metrics_of<D: Disk>(
     teller: &StatusTeller<'_, D>,
     stamps: &[Stamp],
     compares: bool,
@@ -162,52 +159,4 @@ fn metrics_of<D: Disk>(
 {
     let totals = count_each(teller, stamps)?;
     metrics_text(teller.alloc, &totals, compares)
-}
-
-/// Writes the metrics of the games with these stamps.
-fn write_metrics<D: Disk, W: Output>(
-    teller: &StatusTeller<'_, D>,
-    stamps: &[Stamp],
-    compares: bool,
-    out: &mut W,
-) -> Result<bool, WriteFault>
-    ensures written { Reports (IsReport metrics_form (looks_of D.facts teller.now) stamps.now compares) (W.contents out.old) (W.contents out.new) result }
-    ensures cause { OnErr result (HasFailed W.facts) }
-{
-    let Ok(text) = metrics_of(teller, stamps, compares) else {
-        return put_cut(out, ReadFault::OutOfMemory);
-    };
-    match out.put(&text) {
-        Ok(()) => Ok(true),
-        Err(fault) => Err(fault),
-    }
-}
-
-/// Writes how many games of a folder there are of each kind, and how many moves are kept, in the text format of Prometheus; with a second
-/// folder also how many differ, and of how many one is behind. Returns whether they are written, whatever they say.
-///
-/// Nothing is written before all games are counted. Memory is that of the stamps, and of one game. `refused files` comes alone where a
-/// folder can't be listed, and `refused memory` alone where memory was refused. The error comes only where the writer failed; a front of
-/// such a text is written then.
-pub fn write_status_metrics<D: Disk, W: Output>(
-    alloc: Global,
-    disk: &D,
-    folder: &str,
-    other: Option<&str>,
-    out: &mut W,
-) -> Result<bool, WriteFault>
-    ensures written { ReportsStatus metrics_form (D.facts disk.now) folder.now (option_map (λ s. s.now) other.entry) (W.contents out.old) (W.contents out.new) result }
-    ensures cause { OnErr result (HasFailed W.facts) }
-{
-    let folders = match list_folders(alloc, disk, folder, other) {
-        Ok(folders) => folders,
-        Err(fault) => return put_cut(out, fault),
-    };
-    let teller = StatusTeller {
-        alloc,
-        disk,
-        one: &folders.one,
-        other: folders.other.as_ref(),
-    };
-    write_metrics(&teller, &folders.stamps, other.is_some(), out)
 }

@@ -7,14 +7,15 @@ ghost use Rattle.hex.specs.Hex.{encode_lower};
 ghost use Rattle.move_msg.specs.Records.{record_fault_name};
 ghost use Rattle.record_audit.specs.Findings.{refused_record};
 ghost use Rattle.game_status.specs.Comparisons.{compared_words};
-ghost use Rattle.game_status.specs.Entries.{listed_fault_words};
+ghost use Rattle.arbiter_server.specs.GameFiles.{line_number};
+ghost use Rattle.game_status.specs.Entries.{fault_words, listed_fault_words};
 ghost use Rattle.game_status.specs.Statuses.{fault_line, game_told_by, kept_words, line_of_one, line_of_two, other_fault_line};
 
 use crate::comparing::{Compared, mark_of, mark_of_two};
 use crate::entry::EntryFault;
 use crate::side::Side;
 use crate::telling::{GameTold, Mark};
-use arbiter_server::verdict_or_none;
+use arbiter_server::{GameFileFault, verdict_or_none};
 use board_core::Verdict;
 use line_teller::LineWords;
 use move_msg::{Record, RecordFault, Stamp};
@@ -80,12 +81,45 @@ pub(crate) fn add_compared(line: &mut LineWords, compared: Compared)
     }
 }
 
-/// The name of what is wrong with a record's bytes.
-fn record_fault(fault: RecordFault) -> &'static str
-    ensures is { result.now ≡ record_fault_name fault }
-    ensures short { length result.now ≤ 16 }
+/// The line at fault of a game's file, in words.
+fn line_words(fault: GameFileFault) -> &'static str
+    ensures is { result.now ≡ codes "line " ++ decimal (line_number fault) }
+    ensures short { length result.now ≤ 20 }
 {
-    fault.name()
+    match fault {
+        GameFileFault::Name => "line 1",
+        GameFileFault::Start => "line 2",
+        GameFileFault::Delay => "line 3",
+        GameFileFault::More => "line 4",
+    }
+}
+
+/// Why bytes are no record, in words.
+fn record_words(fault: RecordFault) -> &'static str
+    ensures is { result.now ≡ codes "record " ++ record_fault_name fault }
+    ensures short { length result.now ≤ 20 }
+{
+    match fault {
+        RecordFault::BadLength => "record BadLength",
+        RecordFault::BadHead => "record BadHead",
+        RecordFault::BadField => "record BadField",
+        RecordFault::OutOfMemory => "record OutOfMemory",
+    }
+}
+
+/// What is at fault, in words.
+pub(crate) fn fault_words(fault: EntryFault) -> &'static str
+    ensures is { result.now ≡ fault_words fault }
+    ensures short { length result.now ≤ 20 }
+{
+    match fault {
+        EntryFault::NoGame => "NoGame",
+        EntryFault::BadGame(fault) => line_words(fault),
+        EntryFault::Keeper => "keeper",
+        EntryFault::BadRecord(fault) => record_words(fault),
+        EntryFault::OtherStamp => "stamp",
+        EntryFault::OtherGame => "OtherGame",
+    }
 }
 
 /// Adds the refusal of bytes that are no record.
@@ -94,8 +128,8 @@ pub fn add_refused_record(line: &mut LineWords, fault: RecordFault)
     ensures is { line.new ≡ line.old ++ refused_record fault }
     ensures size { length line.new ≤ length line.old + 31 }
 {
-    line.add("refused record ");
-    line.add(record_fault(fault));
+    line.add("refused ");
+    line.add(record_words(fault));
 }
 
 /// Adds what is at fault.
@@ -103,14 +137,8 @@ fn add_fault(line: &mut LineWords, fault: EntryFault)
     requires { length line.old ≤ 200 }
     ensures { line.new ≡ line.old ++ listed_fault_words fault }
 {
-    match fault {
-        EntryFault::NoGame => line.add("refused NoGame"),
-        EntryFault::BadGame(fault) => line.add_counted("refused line ", fault.line()),
-        EntryFault::Keeper => line.add("refused keeper"),
-        EntryFault::BadRecord(fault) => add_refused_record(line, fault),
-        EntryFault::OtherStamp => line.add("refused stamp"),
-        EntryFault::OtherGame => line.add("refused OtherGame"),
-    }
+    line.add("refused ");
+    line.add(fault_words(fault));
 }
 
 /// The line of a game of one folder.

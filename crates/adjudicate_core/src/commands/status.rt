@@ -1,9 +1,11 @@
-//! `status`: how far the games of a folder have come, or those of two, as lines or as metrics.
+//! `status`: how far the games of a folder have come, or those of two, as lines, as metrics or as JSON.
 
-ghost use Rattle.std.specs.Prelude.{◌≡◌, IfErr, IfOk, OnErr, option_map};
+ghost use Rattle.std.specs.Prelude.{◌≡◌, IfErr, IfOk, OnErr, OnOk, codes, option_map, true};
 ghost use Rattle.clap.specs.Words.{first_value, found_of};
-ghost use Rattle.adjudicate_core.specs.Commands.Status.{HasValues, Puts, PutsOver, ReportsAs, faults, named};
-ghost use Rattle.adjudicate_core.specs.Misuses.{IsFirstMisuse, fault_words};
+ghost use Rattle.adjudicate_core.specs.Commands.Status.{HasValues, Puts, PutsOver, ReportsAs, faults, named, report_by};
+ghost use Rattle.adjudicate_core.specs.declared.words.usage.Instead.TheVariants.{Prometheus};
+ghost use Rattle.adjudicate_core.specs.Misuses.{IsFirstMisuse, IsToldMisuse, Holds, NotBoth, fault_words, not_with_words};
+ghost use Rattle.adjudicate_core.specs.Numbers.{is_set};
 ghost use Rattle.task_files.specs.Sources.{named_by};
 ghost use Rattle.line_teller.specs.ToldLines.{HasFailed};
 
@@ -13,10 +15,10 @@ use crate::answers::lines::put_refusal;
 use crate::answers::status_told;
 use crate::stores::disk_over;
 use crate::words::numbers::is_set;
-use crate::words::usage::ValueFault;
+use crate::words::usage::{Instead, ValueFault};
 use crate::words::values::option_in;
 use clap::ArgMatches;
-use game_status::{tell_status, write_status_metrics};
+use game_status::{ReportForm, tell_status, write_status_report};
 use std::alloc::Global;
 use system_io::{Disk, Host, Output, WriteFault};
 use task_files::InputPaths;
@@ -28,12 +30,12 @@ pub struct ShowStatus<'a> {
     pub games: &'a str,
     /// A second one, if it is named.
     pub other: Option<&'a str>,
-    /// Whether it is shown as metrics, in the text format of Prometheus, in place of lines.
-    pub metrics: bool,
+    /// As which report for programs it is shown, if not in lines.
+    pub report: Option<ReportForm>,
 }
 
 /// The values of `status`.
-pub(crate) const VALUES: [Value; 3] = [
+pub(crate) const VALUES: [Value; 4] = [
     GAMES,
     OTHER_GAMES,
     Value {
@@ -41,6 +43,13 @@ pub(crate) const VALUES: [Value; 3] = [
         form: Form::Flag,
         word: "",
         about: "writes how many games there are of each kind, as metrics",
+        stands: Stands::Optional,
+    },
+    Value {
+        name: "json",
+        form: Form::Flag,
+        word: "",
+        about: "writes one JSON object with all games, on a line",
         stands: Stands::Optional,
     },
 ];
@@ -52,6 +61,35 @@ pub(crate) const SUMMARY: Summary = Summary {
     example: "adjudicate status --games east --other west",
 };
 
+/// As which report it is shown, by whether metrics and JSON are asked for; not as both.
+fn report_of<'a>(metrics: bool, json: bool) -> Result<Option<ReportForm>, ValueFault<'a>>
+    ensures ok { IfOk result (λ report. report ≡ report_by metrics json) }
+    ensures one { OnOk result ((metrics ≡ true) × (json ≡ true) → ⊥) }
+    ensures err { IfErr result (λ fault. (metrics ≡ true) × (json ≡ true) × (fault_words fault ≡ not_with_words Prometheus (codes "json"))) }
+{
+    if metrics && json {
+        return Err(ValueFault::NotWith(Instead::Prometheus, "json"));
+    }
+    if metrics {
+        return Ok(Some(ReportForm::Metrics));
+    }
+    if json {
+        return Ok(Some(ReportForm::Json));
+    }
+    Ok(None)
+}
+
+/// As which report it is shown, by the words.
+fn report_in<'a>(matches: &ArgMatches<'a>) -> Result<Option<ReportForm>, ValueFault<'a>>
+    ensures ok { IfOk result (λ report. report ≡ report_by (is_set (first_value (found_of matches.now) (codes "prometheus"))) (is_set (first_value (found_of matches.now) (codes "json")))) }
+    ensures well { OnOk result (Holds (first_value (found_of matches.now)) (NotBoth Prometheus (codes "json")) → ⊥) }
+    ensures err { IfErr result (λ fault. IsToldMisuse (first_value (found_of matches.now)) (NotBoth Prometheus (codes "json")) (fault_words fault)) }
+{
+    let metrics = is_set(matches.get_str("prometheus"));
+    let json = is_set(matches.get_str("json"));
+    report_of(metrics, json)
+}
+
 impl<'a> ShowStatus<'a> {
     /// The task with these values, or the first thing that is wrong with them.
     pub(crate) fn of(matches: &ArgMatches<'a>) -> Result<ShowStatus<'a>, ValueFault<'a>>
@@ -61,7 +99,7 @@ impl<'a> ShowStatus<'a> {
         Ok(ShowStatus {
             games: option_in(matches, "games")?,
             other: matches.get_str("other"),
-            metrics: is_set(matches.get_str("prometheus")),
+            report: report_in(matches)?,
         })
     }
 
@@ -79,13 +117,12 @@ impl<'a> ShowStatus<'a> {
         disk: &D,
         out: &mut W,
     ) -> Result<bool, WriteFault>
-        ensures told { ReportsAs self.now.metrics (D.facts disk.now) self.now.games.now (option_map (λ s. s.now) self.now.other) (W.contents out.old) (W.contents out.new) result }
+        ensures told { ReportsAs self.now.report (D.facts disk.now) self.now.games.now (option_map (λ s. s.now) self.now.other) (W.contents out.old) (W.contents out.new) result }
         ensures cause { OnErr result (HasFailed W.facts) }
     {
-        if self.metrics {
-            write_status_metrics(alloc, disk, self.games, self.other, out)
-        } else {
-            tell_status(alloc, disk, self.games, self.other, out)
+        match self.report {
+            Some(form) => write_status_report(alloc, disk, self.games, self.other, form, out),
+            None => tell_status(alloc, disk, self.games, self.other, out),
         }
     }
 
@@ -103,7 +140,7 @@ impl<'a> ShowStatus<'a> {
     }
 
     /// Tells how far the games have come, by the stores of their folders. Returns the status, 0 where nothing is at fault and nothing
-    /// differs, else 1; of metrics 0 where they are written.
+    /// differs, else 1; of a report 0 where it is written.
     pub(crate) fn answer<D: Disk, H: Host, W: Output>(
         &self,
         alloc: Global,

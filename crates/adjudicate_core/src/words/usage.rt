@@ -105,6 +105,8 @@ pub enum Instead {
     From,
     /// A folder of games.
     Games,
+    /// Metrics.
+    Prometheus,
 }
 
 impl Instead {
@@ -115,6 +117,7 @@ impl Instead {
         match self {
             Instead::From => " cannot be used with --from",
             Instead::Games => " cannot be used with --games",
+            Instead::Prometheus => " cannot be used with --prometheus",
         }
     }
 }

@@ -1,15 +1,7 @@
-use Rattle.std.proofs.Common.{◌∙◌, ◌++◌, ap, append_assoc, codes}
-use Rattle.std.specs.Fmt.{decimal}
+use Rattle.std.proofs.Common.{codes}
+use Rattle.game_status.specs.Entries.{fault_words}
+use Rattle.game_status.proofs.LineLaws.{added_two}
 use Rattle.game_status.proofs.status_lines.add_fault.Goals as goal
 
-pub returns-in-BadGame : goal.returns-in-BadGame
-returns-in-BadGame c =
-    let old = c.args.line.now in
-    let words = codes "refused line " in
-    rw c.in-BadGame.is (c.add_counted.ensures.is ∙ append_assoc old words (decimal c.line.result) ∙ ap (λ n. old ++ (words ++ decimal n)) c.line.ensures)
-
-pub returns-in-OtherStamp : goal.returns-in-OtherStamp
-returns-in-OtherStamp c = rw c.in-OtherStamp.is c.add-in-OtherStamp.ensures.is
-
-pub returns-in-OtherGame : goal.returns-in-OtherGame
-returns-in-OtherGame c = rw c.in-OtherGame.is c.add-in-OtherGame.ensures.is
+pub returns : goal.returns
+returns c = added_two c.args.line.now c.add.new.self c.add-2.new.self (codes "refused ") c.fault_words.result.now (fault_words c.args.fault) c.add.ensures.is c.add-2.ensures.is c.fault_words.ensures.is

@@ -1,7 +1,7 @@
 use Rattle.adjudicate_core.proofs.commands.status.ShowStatus.report.Goals as goal
 
-pub returns-then-self-clause-told : goal.returns-then-self-clause-told
-returns-then-self-clause-told g c = rw c.if-self.true c.write_status_metrics.ensures.written
+pub returns-in-Some-clause-told : goal.returns-in-Some-clause-told
+returns-in-Some-clause-told g c = rw c.in-Some.is c.write_status_report.ensures.written
 
-pub returns-else-self-clause-told : goal.returns-else-self-clause-told
-returns-else-self-clause-told g c = rw c.if-self.false c.tell_status.ensures.told
+pub returns-in-None-clause-told : goal.returns-in-None-clause-told
+returns-in-None-clause-told g c = rw c.in-None.is c.tell_status.ensures.told

@@ -1,0 +1,57 @@
+-- Objects that are written member by member; cited by private functions alone.
+use Rattle.std.specs.Prelude.{◌≡◌, ◌++◌, ℕ, Bool, List, codes, flat_map}
+use Rattle.json.specs.Json.{Members, array, member}
+use Rattle.json.specs.Token.{Token}
+use Rattle.json.specs.Tree.{json_tokens, members_tokens}
+use Rattle.json.specs.Written.{Written}
+use Rattle.move_msg.specs.Stamps.{IsGameName}
+use Rattle.game_status.specs.declared.side.Side.{Side}
+use Rattle.game_status.specs.declared.status_lines.Look.{Look}
+use Rattle.game_status.specs.declared.status_lines.Look.TheVariants as look
+use Rattle.game_status.specs.declared.totals.Totals.{Totals}
+use Rattle.game_status.specs.StatusObjects.{game_json, games_items, status_json}
+use Rattle.game_status.specs.Totals.{AreFound, FoundGame, totals_of}
+
+-- these tokens were written
+pub record AddsTokens (old new : Written) (ts : List Token) : Type 0 where
+  pub before : new.before ≡ old.before
+  pub tokens : new.tokens ≡ old.tokens ++ ts
+
+-- these members were written: whatever comes next comes behind them
+pub record AddsMembers (old new : Written) (ms : Members → Members) : Type 0 where
+  pub before : new.before ≡ old.before
+  pub tokens : (more : Members) → new.tokens ++ members_tokens more ≡ old.tokens ++ members_tokens (ms more)
+
+-- the names in it are those of games
+abbrev pub IsNamed : Side → Type 0
+IsNamed side = IsGameName side.game.name.items
+
+abbrev pub AreNamed : Look → Type 0
+AreNamed (look.One side) = IsNamed side
+AreNamed (look.Both side other compared) = IsNamed side × IsNamed other
+AreNamed (look.AtFault fault) = Unit {0}
+AreNamed (look.OtherAtFault fault) = Unit {0}
+
+-- the tokens of games, one behind the other
+abbrev pub games_tokens : Bool → List FoundGame → List Token
+games_tokens compares = flat_map (λ f. json_tokens (game_json compares f))
+
+-- what is found of the games of these stamps was written, and counted
+pub record AddsGames (Finds : List ℕ → Look → Type 0) (stamps : List (List ℕ)) (compares : Bool) (old new : Written) (t : Totals) : Type 0 where
+  pub found : List FoundGame
+  pub are : AreFound Finds stamps found
+  pub written : AddsTokens old new (games_tokens compares found)
+  pub counted : t ≡ totals_of found
+
+-- the list of them was written as a member, and they were counted
+pub record AddsList (Finds : List ℕ → Look → Type 0) (stamps : List (List ℕ)) (compares : Bool) (old new : Written) (t : Totals) : Type 0 where
+  pub found : List FoundGame
+  pub are : AreFound Finds stamps found
+  pub written : AddsMembers old new (member (codes "games") (array (games_items compares found)))
+  pub counted : t ≡ totals_of found
+
+-- the object of all of them was written
+pub record AddsStatus (Finds : List ℕ → Look → Type 0) (stamps : List (List ℕ)) (compares : Bool) (old new : Written) : Type 0 where
+  pub found : List FoundGame
+  pub are : AreFound Finds stamps found
+  pub written : AddsTokens old new (json_tokens (status_json compares found))

@@ -1,0 +1,92 @@
+//! What is found of the games of folders, as it is reported to a program.
+
+ghost use Rattle.std.specs.Prelude.{true, IfOk, OnErr, option_map};
+ghost use Rattle.line_teller.specs.ToldLines.{HasFailed};
+ghost use Rattle.game_status.specs.Reports.{IsReport, Reports, ReportsStatus, form_of};
+ghost use Rattle.game_status.specs.Inside.Totalling.{looks_of};
+
+use crate::listing::list_folders;
+use crate::metrics::metrics_of;
+use crate::objects::object_of;
+use crate::status::StatusTeller;
+use crate::telling::put_cut;
+use move_msg::Stamp;
+use std::alloc::{AllocError, Global};
+use system_io::{Disk, Output, ReadFault, WriteFault};
+
+/// How a report is written.
+#[derive(Clone, Copy)]
+pub enum ReportForm {
+    /// How many games there are of each kind, in the text format of Prometheus.
+    Metrics,
+    /// The games and how many there are of each kind, as one JSON object (RFC 8259) on a line.
+    Json,
+}
+
+/// The text on the games with these stamps. The error comes only where memory is refused.
+fn text_of<D: Disk>(
+    teller: &StatusTeller<'_, D>,
+    stamps: &[Stamp],
+    compares: bool,
+    form: ReportForm,
+) -> Result<Vec<u8>, AllocError>
+    ensures { IfOk result (λ text. IsReport (form_of form) (looks_of D.facts teller.now) stamps.now compares text.items true) }
+{
+    match form {
+        ReportForm::Metrics => metrics_of(teller, stamps, compares),
+        ReportForm::Json => object_of(teller, stamps, compares),
+    }
+}
+
+/// Writes the text on the games with these stamps.
+fn write_report<D: Disk, W: Output>(
+    teller: &StatusTeller<'_, D>,
+    stamps: &[Stamp],
+    compares: bool,
+    form: ReportForm,
+    out: &mut W,
+) -> Result<bool, WriteFault>
+    ensures written { Reports (IsReport (form_of form) (looks_of D.facts teller.now) stamps.now compares) (W.contents out.old) (W.contents out.new) result }
+    ensures cause { OnErr result (HasFailed W.facts) }
+{
+    let Ok(text) = text_of(teller, stamps, compares, form) else {
+        return put_cut(out, ReadFault::OutOfMemory);
+    };
+    match out.put(&text) {
+        Ok(()) => Ok(true),
+        Err(fault) => Err(fault),
+    }
+}
+
+/// Writes what is found of the games of a folder, or of two, in this form. Returns whether it is written, whatever it says.
+///
+/// As metrics: how many games there are of each kind, and how many moves are kept; with a second folder also how many differ, and of
+/// how many one is behind. As JSON: these sums, and for each game, in rising order of the stamps, its name, its start, how many moves
+/// its record has, the verdict and what is at fault; with a second folder also what that has, and what comes of comparing both.
+///
+/// Nothing is written before all games are looked at. Memory is that of the stamps, of one game, and of the text. `refused files` comes
+/// alone where a folder can't be listed, and `refused memory` alone where memory was refused. The error comes only where the writer
+/// failed; a front of such a text is written then.
+pub fn write_status_report<D: Disk, W: Output>(
+    alloc: Global,
+    disk: &D,
+    folder: &str,
+    other: Option<&str>,
+    form: ReportForm,
+    out: &mut W,
+) -> Result<bool, WriteFault>
+    ensures written { ReportsStatus (form_of form) (D.facts disk.now) folder.now (option_map (λ s. s.now) other.entry) (W.contents out.old) (W.contents out.new) result }
+    ensures cause { OnErr result (HasFailed W.facts) }
+{
+    let folders = match list_folders(alloc, disk, folder, other) {
+        Ok(folders) => folders,
+        Err(fault) => return put_cut(out, fault),
+    };
+    let teller = StatusTeller {
+        alloc,
+        disk,
+        one: &folders.one,
+        other: folders.other.as_ref(),
+    };
+    write_report(&teller, &folders.stamps, other.is_some(), form, out)
+}
