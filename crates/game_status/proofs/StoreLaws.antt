@@ -1,5 +1,5 @@
 -- Names among others, logs that are read twice, and stores that aren't told.
-use Rattle.std.proofs.Common.{Global, ◌≡◌, ◌<◌, ◌∙◌, ◌↔◌, ℕ, zero, suc, Bool, true, List, [], ◌∷◌, length, map, get_or, refl, sym, ap, string_bytes, arith, IsTrue, inl, inr}
+use Rattle.std.proofs.Common.{Global, ◌≡◌, ◌<◌, ◌∙◌, ◌↔◌, ℕ, zero, suc, Bool, true, false, false≢true, List, [], ◌∷◌, length, map, get_or, refl, sym, ap, string_bytes, arith, IsTrue, inl, inr}
 use Rattle.std.specs.Prelude.{String}
 use Rattle.std.specs.List.{Contains, list_any}
 use Rattle.std.specs.Str.{bytes_eq}
@@ -9,7 +9,8 @@ use Rattle.system_io.specs.declared.record_store.StoreFault.{StoreFault}
 use Rattle.system_io.specs.declared.record_store.StoreFault.TheVariants.{Unreadable, OutOfMemory}
 use Rattle.system_io.specs.Disks.{DiskFacts}
 use Rattle.system_io.specs.Records.{StorePlaces}
-use Rattle.game_status.specs.StoreReadings.{AreStoreFiles, BeginsAnew, IsStoreLog, LacksRecords, log_head}
+use Rattle.game_status.specs.Inside.StoreReading.{LacksStore, TellsStore}
+use Rattle.game_status.specs.StoreReadings.{AreStoreFiles, BeginsAnew, CannotReadStore, HasHalfStore, IsStoreLog, LacksRecords, NoList, log_head, store_name}
 
 -- ---- names
 
@@ -48,5 +49,22 @@ begins_anew disk folder one other a b r first second p q same apart = record {
 -- ---- records
 
 pub withheld : {S : Type 0} (disk : DiskFacts) (stores : StorePlaces S) (folder db log : List ℕ) (fault : StoreFault) → AreStoreFiles disk folder db log → stores.withholds db log fault → LacksRecords disk stores folder fault
-withheld disk stores folder db log Unreadable files h = inr (db, log, files, h)
+withheld disk stores folder db log Unreadable files h = inr (inr (db, log, files, h))
 withheld disk stores folder db log OutOfMemory files h = tt
+
+-- what a folder lists of a store
+pub tells_store : (disk : DiskFacts) (folder : List ℕ) (names : List (List ℕ)) (has : Bool) → disk.lists folder names → IsTrue has ↔ Contains names store_name → (HasHalfStore names → ⊥) → TellsStore disk folder has
+tells_store disk folder names true lists decides whole = (names, lists, decides.0 refl, whole)
+tells_store disk folder names false lists decides whole = (names, lists, (λ there. false≢true (decides.1 there)), whole)
+
+-- why a store isn't there to be read, or isn't read
+pub lacking : {S : Type 0} (disk : DiskFacts) (stores : StorePlaces S) (folder : List ℕ) (fault : StoreFault) → (fault ≡ Unreadable → LacksStore disk folder) → LacksRecords disk stores folder fault
+lacking disk stores folder Unreadable why = elim (why refl) [
+  | inl fails ↦ inl (NoList fails)
+  | inr half ↦ inr (inl half)
+]
+lacking disk stores folder OutOfMemory why = tt
+
+pub unread : {S : Type 0} (disk : DiskFacts) (stores : StorePlaces S) (folder : List ℕ) (fault : StoreFault) → (fault ≡ Unreadable → CannotReadStore disk folder) → LacksRecords disk stores folder fault
+unread disk stores folder Unreadable why = inl (why refl)
+unread disk stores folder OutOfMemory why = tt

@@ -32,10 +32,6 @@ path_in folder name = folder ++ 47 ∷ name
 abbrev pub store_path : List ℕ → List ℕ
 store_path folder = path_in folder store_name
 
--- the folder lists this name
-abbrev pub ListsName : DiskFacts → List ℕ → List ℕ → Type 0
-ListsName disk folder name = (names : List (List ℕ)) × disk.lists folder names × Contains names name
-
 -- the folder can be listed, and lists no such name
 abbrev pub LacksName : DiskFacts → List ℕ → List ℕ → Type 0
 LacksName disk folder name = (names : List (List ℕ)) × disk.lists folder names × (Contains names name → ⊥)
@@ -61,34 +57,36 @@ pub record BeginsAnew (disk : DiskFacts) (folder : List ℕ) : Type 0 where
   pub second : IsStoreLog disk folder other
   pub differ : log_head one ≢ log_head other
 
--- why the files of a store aren't read: the folder can't be listed, or has half of a store; one of them can't be read, or the log began anew
--- meanwhile
+-- why the files of a store aren't read: the folder can't be listed, one of them can't be read, or the log began anew meanwhile
 pub data CannotReadStore (disk : DiskFacts) (folder : List ℕ) : Type 0 where
   NoList : disk.fails (AtFolder folder) → CannotReadStore disk folder
-  HalfStore : (names : List (List ℕ)) → disk.lists folder names → HasHalfStore names → CannotReadStore disk folder
   NoDatabase : disk.fails (AtFile (path_in folder store_name)) → CannotReadStore disk folder
   NoLog : disk.fails (AtFile (path_in folder log_name)) → CannotReadStore disk folder
   NoMoment : BeginsAnew disk folder → CannotReadStore disk folder
 
 -- ---- records
 
--- the folder has half of no store; whether it has a whole one
-abbrev pub HasStore : List (List ℕ) → Type 0
-HasStore names = Contains names store_name × (HasHalfStore names → ⊥)
+-- the folder lists a whole store; nothing of one; or half of one
+abbrev pub ListsStore : DiskFacts → List ℕ → Type 0
+ListsStore disk folder = (names : List (List ℕ)) × disk.lists folder names × Contains names store_name × (HasHalfStore names → ⊥)
 
-abbrev pub HasNoStore : List (List ℕ) → Type 0
-HasNoStore names = (Contains names store_name → ⊥) × (HasHalfStore names → ⊥)
+abbrev pub ListsNoStore : DiskFacts → List ℕ → Type 0
+ListsNoStore disk folder = (names : List (List ℕ)) × disk.lists folder names × (Contains names store_name → ⊥) × (HasHalfStore names → ⊥)
+
+abbrev pub ListsHalfStore : DiskFacts → List ℕ → Type 0
+ListsHalfStore disk folder = (names : List (List ℕ)) × disk.lists folder names × HasHalfStore names
 
 -- the records of the folder's store: none where the folder lists no store, and else those that its files hold
 pub data AreRecordsIn {S : Type 0} (disk : DiskFacts) (stores : StorePlaces S) (folder : List ℕ) (entries : List Entry) : Type 0 where
-  NoStore : (names : List (List ℕ)) → disk.lists folder names → HasNoStore names → entries ≡ [] → AreRecordsIn disk stores folder entries
-  InStore : (names : List (List ℕ)) → disk.lists folder names → HasStore names → (db log : List ℕ) → AreStoreFiles disk folder db log → stores.holds db log (records_of entries) → AreRecordsIn disk stores folder entries
+  NoStore : ListsNoStore disk folder → entries ≡ [] → AreRecordsIn disk stores folder entries
+  InStore : (db log : List ℕ) → ListsStore disk folder → AreStoreFiles disk folder db log → stores.holds db log (records_of entries) → AreRecordsIn disk stores folder entries
 
 -- its files hold what isn't told, for this reason
 abbrev pub WithholdsRecords : {S : Type 0} → DiskFacts → StorePlaces S → List ℕ → StoreFault → Type 0
 WithholdsRecords disk stores folder fault = (db : List ℕ) × (log : List ℕ) × AreStoreFiles disk folder db log × stores.withholds db log fault
 
--- why they can't be had: a file of the store can't be read, or holds what isn't told; or memory was refused
+-- why they can't be had: a file of the store can't be read, half of the store is missing, or its files hold what isn't told; or memory was
+-- refused
 abbrev pub LacksRecords : {S : Type 0} → DiskFacts → StorePlaces S → List ℕ → StoreFault → Type 0
-LacksRecords disk stores folder Unreadable = CannotReadStore disk folder ⊎ WithholdsRecords disk stores folder Unreadable
+LacksRecords disk stores folder Unreadable = CannotReadStore disk folder ⊎ (ListsHalfStore disk folder ⊎ WithholdsRecords disk stores folder Unreadable)
 LacksRecords disk stores folder OutOfMemory = Unit {0}

@@ -12,7 +12,7 @@ ghost use Rattle.std.specs.Prelude.{◌≡◌, ◌↔◌, map, string_bytes, IfE
 ghost use Rattle.std.specs.List.{Contains};
 ghost use Rattle.system_io.specs.Disks.{AtFile, AtFolder};
 ghost use Rattle.game_status.specs.StoreReadings.{AreRecordsIn, AreStoreFiles, BeginsAnew, CannotReadStore, HasHalfStore, IsStoreLog, LacksRecords, log_head, path_in};
-ghost use Rattle.game_status.specs.Inside.StoreReading.{TellsListed};
+ghost use Rattle.game_status.specs.Inside.StoreReading.{LacksStore, TellsListed, TellsStore};
 
 use std::alloc::{AllocError, Global};
 use system_io::{Disk, Entry, Host, ReadFault, StoreFault};
@@ -193,6 +193,21 @@ fn store_fault(fault: ReadFault) -> StoreFault
     }
 }
 
+/// Whether a folder has a store. One that can't be listed, or has half of a store, is `Unreadable`.
+fn has_store<D: Disk>(alloc: Global, disk: &D, folder: &str) -> Result<bool, StoreFault>
+    ensures ok { IfOk result (TellsStore (D.facts disk.now) folder.now) }
+    ensures err { IfErr result (λ fault. fault ≡ StoreFault.Unreadable → LacksStore (D.facts disk.now) folder.now) }
+{
+    let names = match disk.names(alloc, folder) {
+        Ok(names) => names,
+        Err(fault) => return Err(store_fault(fault)),
+    };
+    if has_half_store(&names) {
+        return Err(StoreFault::Unreadable);
+    }
+    Ok(has_name(&names, STORE_NAME))
+}
+
 /// The records that a folder's store holds, `games.db` and `games.db-wal` beside it, at one moment while a host may be writing it.
 /// None where the folder lists nothing of a store. No lock is taken, and neither file is changed.
 ///
@@ -208,15 +223,10 @@ pub fn records_in<D: Disk, H: Host>(
     ensures ok { IfOk result (λ entries. AreRecordsIn (D.facts disk.now) (H.stores host.now) folder.now entries.items) }
     ensures err { IfErr result (LacksRecords (D.facts disk.now) (H.stores host.now) folder.now) }
 {
-    let names = match disk.names(alloc, folder) {
-        Ok(names) => names,
-        Err(fault) => return Err(store_fault(fault)),
-    };
-    if has_half_store(&names) {
-        return Err(StoreFault::Unreadable);
-    }
-    if !has_name(&names, STORE_NAME) {
-        return Ok(Vec::new(alloc));
+    match has_store(alloc, disk, folder) {
+        Ok(true) => {}
+        Ok(false) => return Ok(Vec::new(alloc)),
+        Err(fault) => return Err(fault),
     }
     let files = match read_files(alloc, disk, folder) {
         Ok(files) => files,
