@@ -1,6 +1,6 @@
 -- Texts that are ASCII.
-use Rattle.std.proofs.Common.{◌≡◌, ◌<◌, ℕ, true, List, [], ◌∷◌, Option, Result, Ok, Err, sym, subst, arith}
-use Rattle.std.specs.Prelude.{IsOk, IsUtf8, MatchResult}
+use Rattle.std.proofs.Common.{◌≡◌, ◌<◌, ℕ, Bool, true, List, [], ◌∷◌, Option, Result, Ok, Err, refl, sym, subst, arith}
+use Rattle.std.specs.Prelude.{IsOk, IsUtf8, MatchResult, nat_lt}
 use Rattle.std.specs.List.{list_all}
 use Rattle.std.specs.Str.{IsAscii}
 use Rattle.std.proofs.lemmas.Bool.{and_parts}
@@ -23,29 +23,24 @@ pub read_ok : {T E U : Type 0} (P : T → Type 0) (Q : E → Type 0) (r : Result
 read_ok P Q (Ok x) m u = search
 read_ok P Q (Err e) m u = absurd (m.0 u)
 
--- ---- names
+-- bytes that pass a test of ASCII
+ascii_by : (test : ℕ → Bool) → ((b : ℕ) → test b ≡ true → b < 128) → (bs : List ℕ) → list_all test bs ≡ true → IsAscii bs
+ascii_by test small [] h = IsAscii-nil
+ascii_by test small (b ∷ bs) h = let (first, others) = and_parts _ _ h in IsAscii-cons b bs (small b first) (ascii_by test small bs others)
 
-small : (b : ℕ) → is_printable b ≡ true → b < 128
-small b h = grind (arith, nat_tests)
+-- ---- names and stamps
 
-printable_ascii : (bs : List ℕ) → list_all is_printable bs ≡ true → IsAscii bs
-printable_ascii [] h = IsAscii-nil
-printable_ascii (b ∷ bs) h = let (first, others) = and_parts _ _ h in IsAscii-cons b bs (small b first) (printable_ascii bs others)
+printable_small : (b : ℕ) → is_printable b ≡ true → b < 128
+printable_small b h = grind (arith, nat_tests)
 
 pub name_utf8 : (name : List ℕ) → IsGameName name → IsUtf8 name
-name_utf8 name h = IsUtf8-from_ascii name (printable_ascii name h.2)
+name_utf8 name h = IsUtf8-from_ascii name (ascii_by is_printable printable_small name h.2)
 
--- ---- stamps
-
-digits_ascii : IsAscii lower_digits
-digits_ascii =
-    IsAscii-cons _ _ (omega arith) (IsAscii-cons _ _ (omega arith) (IsAscii-cons _ _ (omega arith) (IsAscii-cons _ _ (omega arith)
-    (IsAscii-cons _ _ (omega arith) (IsAscii-cons _ _ (omega arith) (IsAscii-cons _ _ (omega arith) (IsAscii-cons _ _ (omega arith)
-    (IsAscii-cons _ _ (omega arith) (IsAscii-cons _ _ (omega arith) (IsAscii-cons _ _ (omega arith) (IsAscii-cons _ _ (omega arith)
-    (IsAscii-cons _ _ (omega arith) (IsAscii-cons _ _ (omega arith) (IsAscii-cons _ _ (omega arith) (IsAscii-cons _ _ (omega arith) IsAscii-nil)))))))))))))))
+below_small : (b : ℕ) → nat_lt b 128 ≡ true → b < 128
+below_small b h = grind (arith, nat_tests)
 
 pub stamp_utf8 : (stamp : List ℕ) → IsUtf8 (encode_lower stamp)
-stamp_utf8 stamp = IsUtf8-from_ascii _ (IsAscii-encode_with lower_digits stamp digits_ascii)
+stamp_utf8 stamp = IsUtf8-from_ascii _ (IsAscii-encode_with lower_digits stamp (ascii_by (λ b. nat_lt b 128) below_small lower_digits refl))
 
 -- ---- what is found of games
 

@@ -86,11 +86,15 @@ compared_members (Behind more) = comparison_members (Some false) (Some more) Non
 compared_members Unopened = comparison_members (Some false) None None
 compared_members (Differ ply) = comparison_members (Some false) None (Some ply)
 
--- in the second folder, null where that isn't known, and what comes of comparing both
+-- that isn't looked at
+abbrev pub unlooked_members : Members → Members
+unlooked_members more = member (codes "other") null (comparison_members None None None more)
+
+-- in the second folder, and what comes of comparing both
 abbrev pub second_members : Look → Members → Members
-second_members (look.One side) more = member (codes "other") null (comparison_members None None None more)
+second_members (look.One side) more = unlooked_members more
 second_members (look.Both side other compared) more = member (codes "other") (object (side_members other no_members)) (compared_members compared more)
-second_members (look.AtFault fault) more = member (codes "other") null (comparison_members None None None more)
+second_members (look.AtFault fault) more = unlooked_members more
 second_members (look.OtherAtFault fault) more = member (codes "other") (object (unknown_members (Some fault) no_members)) (comparison_members None None None more)
 
 -- a game: its stamp, and what is found of it; also in the second folder, where two are compared

@@ -1,17 +1,16 @@
 //! What is found of games, as one JSON object (RFC 8259).
 
-ghost use Rattle.std.specs.Prelude.{◌≡◌, ◌++◌, IfOk, OnOk, Some, codes, option_map, true};
+ghost use Rattle.std.specs.Prelude.{◌≡◌, ◌++◌, IfOk, IsUtf8, OnOk, Some, codes, option_map, true};
 ghost use Rattle.board_core.specs.Verdicts.{verdict_name};
 ghost use Rattle.hex.specs.Hex.{encode_lower};
 ghost use Rattle.json.specs.Json.{member, no_members, object, string};
 ghost use Rattle.json.specs.Lex.{tokens};
 ghost use Rattle.json.specs.Print.{print};
 ghost use Rattle.json.specs.Tree.{json_tokens};
-ghost use Rattle.move_msg.specs.Stamps.{IsGameName};
 ghost use Rattle.move_msg.specs.TextLines.{ended};
 ghost use Rattle.game_status.specs.Entries.{fault_words};
 ghost use Rattle.game_status.specs.Reports.{IsReport, json_form};
-ghost use Rattle.game_status.specs.StatusObjects.{compared_members, compared_totals, comparison_members, count_or_null, first_members, game_json, kept_members, members_if, record_members, second_members, side_members, text_or_null, totals_json, totals_members, truth_or_null, unknown_members};
+ghost use Rattle.game_status.specs.StatusObjects.{compared_members, compared_totals, comparison_members, count_or_null, first_members, game_json, kept_members, members_if, record_members, second_members, side_members, text_or_null, totals_json, totals_members, truth_or_null, unknown_members, unlooked_members};
 ghost use Rattle.game_status.specs.Inside.Objects.{AddsGames, AddsList, AddsMembers, AddsStatus, AddsTokens, AreNamed, IsNamed};
 ghost use Rattle.game_status.specs.Inside.Totalling.{looks_of};
 
@@ -110,12 +109,12 @@ fn add_record(text: &mut Writer, kept: &Option<Record>) -> Result<(), AllocError
     }
 }
 
-/// A game's name as text.
-fn name_text(name: &[u8]) -> &str
-    requires { IsGameName name.now }
-    ensures { result.now ≡ name.now }
+/// Bytes that are UTF-8, as text.
+fn utf8_text(bytes: &[u8]) -> &str
+    requires { IsUtf8 bytes.now }
+    ensures { result.now ≡ bytes.now }
 {
-    str::from_utf8(name).unwrap()
+    str::from_utf8(bytes).unwrap()
 }
 
 /// Adds what a folder has of a game.
@@ -123,7 +122,7 @@ fn add_side(text: &mut Writer, side: &Side) -> Result<(), AllocError>
     requires { IsNamed side.now }
     ensures { OnOk result (AddsMembers text.old text.new (side_members side.now)) }
 {
-    add_text(text, "name", Some(name_text(side.game.name.as_slice())))?;
+    add_text(text, "name", Some(utf8_text(side.game.name.as_slice())))?;
     add_text(text, "start", Some(write(&side.game.start).as_str()))?;
     add_record(text, &side.kept)
 }
@@ -197,6 +196,14 @@ fn add_other_fault(text: &mut Writer, fault: EntryFault) -> Result<(), AllocErro
     text.end_object()
 }
 
+/// Adds that the second folder isn't looked at.
+fn add_unlooked(text: &mut Writer) -> Result<(), AllocError>
+    ensures { OnOk result (AddsMembers text.old text.new unlooked_members) }
+{
+    add_text(text, "other", None)?;
+    add_comparison(text, None, None, None)
+}
+
 /// Adds what is found in the second folder, and what comes of comparing both.
 fn add_second(text: &mut Writer, look: &Look) -> Result<(), AllocError>
     requires { AreNamed look.now }
@@ -211,10 +218,8 @@ fn add_second(text: &mut Writer, look: &Look) -> Result<(), AllocError>
             add_other_fault(text, *fault)?;
             add_comparison(text, None, None, None)
         }
-        Look::One(_) | Look::AtFault(_) => {
-            add_text(text, "other", None)?;
-            add_comparison(text, None, None, None)
-        }
+        Look::One(_) => add_unlooked(text),
+        Look::AtFault(_) => add_unlooked(text),
     }
 }
 
@@ -244,7 +249,7 @@ fn add_stamp(text: &mut Writer, stamp: Stamp) -> Result<(), AllocError>
     ensures { OnOk result (AddsMembers text.old text.new (member (codes "stamp") (string (encode_lower stamp)))) }
 {
     let digits = stamp_digits(stamp);
-    add_text(text, "stamp", Some(str::from_utf8(&digits).unwrap()))
+    add_text(text, "stamp", Some(utf8_text(&digits)))
 }
 
 /// Adds the object of a game, of which this is found.
