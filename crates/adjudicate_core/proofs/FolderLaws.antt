@@ -69,8 +69,8 @@ is_sound m not line is = subst IsFine is (is_fine m not)
 -- ---- a folder
 
 -- what is found by the same folder over another arena
-pub found_apart : {D X E : Type 0} (facts : D → DiskFacts) {a b c : FolderOn D} {r : Result (Result X FileRefusal) E} {IsNeeded : Parts → Type 0} {Is : Tables → X → Type 0} → a ≡ b → b ≡ c → IfOk r (Finds (facts a.disk) a.folder IsNeeded Is) → IfOk r (Finds (facts c.disk) c.folder IsNeeded Is)
-found_apart facts {r = r} {IsNeeded = IsNeeded} {Is = Is} same kept found =
+pub found_apart : {D X E : Type 0} (facts : D → DiskFacts) {a b c : FolderOn D} (r : Result (Result X FileRefusal) E) (IsNeeded : Parts → Type 0) (Is : Tables → X → Type 0) → a ≡ b → b ≡ c → IfOk r (Finds (facts a.disk) a.folder IsNeeded Is) → IfOk r (Finds (facts c.disk) c.folder IsNeeded Is)
+found_apart facts r IsNeeded Is same kept found =
     subst (λ o. IfOk r (Finds (facts o.disk) o.folder IsNeeded Is)) (same ∙ kept) found
 
 -- the refusal of a folder is a reply
