@@ -1,16 +1,16 @@
 -- Names among others, logs that are read twice, and stores that aren't told.
-use Rattle.std.proofs.Common.{Global, ◌≡◌, ◌<◌, ◌∙◌, ◌↔◌, ℕ, zero, suc, Bool, true, false, false≢true, List, [], ◌∷◌, length, map, get_or, refl, sym, ap, string_bytes, arith, IsTrue, inl, inr}
+use Rattle.std.proofs.Common.{Global, ◌≡◌, ◌<◌, ◌∙◌, ◌↔◌, ℕ, zero, suc, Bool, true, false, List, [], ◌∷◌, length, map, get_or, refl, sym, ap, string_bytes, arith, IsTrue, inl, inr}
 use Rattle.std.specs.Prelude.{String}
 use Rattle.std.specs.List.{Contains, list_any}
 use Rattle.std.specs.Str.{bytes_eq}
-use Rattle.std.proofs.lemmas.Bool.{cases_Bool}
+use Rattle.std.proofs.lemmas.Bool.{cases_Bool, false≢true}
 use Rattle.std.proofs.lemmas.Slice.Eq.{bytes_eq-Decides}
 use Rattle.system_io.specs.declared.record_store.StoreFault.{StoreFault}
 use Rattle.system_io.specs.declared.record_store.StoreFault.TheVariants.{Unreadable, OutOfMemory}
 use Rattle.system_io.specs.Disks.{DiskFacts}
 use Rattle.system_io.specs.Records.{StorePlaces}
 use Rattle.game_status.specs.Inside.StoreReading.{LacksStore, TellsStore}
-use Rattle.game_status.specs.StoreReadings.{AreStoreFiles, BeginsAnew, CannotReadStore, HasHalfStore, IsStoreLog, LacksRecords, NoList, log_head, store_name}
+use Rattle.game_status.specs.StoreReadings.{AreStoreFiles, BeginsAnew, HasHalfStore, IsStoreLog, LacksRecords, NoList, log_head, store_name}
 
 -- ---- names
 
@@ -64,7 +64,3 @@ lacking disk stores folder Unreadable why = elim (why refl) [
   | inr half ↦ inr (inl half)
 ]
 lacking disk stores folder OutOfMemory why = tt
-
-pub unread : {S : Type 0} (disk : DiskFacts) (stores : StorePlaces S) (folder : List ℕ) (fault : StoreFault) → (fault ≡ Unreadable → CannotReadStore disk folder) → LacksRecords disk stores folder fault
-unread disk stores folder Unreadable why = inl (why refl)
-unread disk stores folder OutOfMemory why = tt
