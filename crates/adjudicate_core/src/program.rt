@@ -135,7 +135,7 @@ fn run_task<'s, D: LineDisk, I: Input, H: Host, G: Pages, W: Output, E: Output>(
 }
 
 /// Notes which file of keys is refused. Of one that can't be read the disk has said so.
-fn note_refused<H: Host>(alloc: Global, host: &H, path: &str, refusal: Refusal) {
+fn note_refused<H: Host>(alloc: Global, host: &H, path: &str, refusal: &Refusal) {
     let line = match refusal {
         Refusal::SharedKey => format!(in alloc; "{path}: the group or others have rights to it"),
         Refusal::Key(line) => format!(in alloc; "{path}: line {line} is no key"),
@@ -175,7 +175,7 @@ fn run_by_key<'s, D: LineDisk, I: Input, H: Host, G: Pages, W: Output, E: Output
                 run_task(alloc, task, &sealed, history, out, err)
             }
             Ok(Err(refusal)) => {
-                note_refused(alloc, system.host, path, refusal);
+                note_refused(alloc, system.host, path, &refusal);
                 put_refusal(out, refusal)
             }
             Err(_) => put_refusal(out, Refusal::Memory),
