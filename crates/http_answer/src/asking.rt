@@ -89,11 +89,7 @@ fn values_by(
     if method == "POST" {
         values_of_lines(body)
     } else {
-        Ok(by_method(
-            Place::Standard,
-            method,
-            values_in(alloc, query)?,
-        ))
+        Ok(by_method(Place::Standard, method, values_in(alloc, query)?))
     }
 }
 

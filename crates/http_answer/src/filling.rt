@@ -7,11 +7,11 @@ ghost use Rattle.http_answer.specs.Replies.{HasLine, allowed, fields, json_field
 ghost use Rattle.move_msg.specs.TextLines.{ended};
 
 use crate::asking::Place;
+use bytes::BufMut;
 use http::{HeaderName, HeaderValue, StatusCode, header};
 use http_server::Response;
 use json_lines::{JsonLine, put_api_line};
 use judge_core::ProbeFault;
-use bytes::BufMut;
 use std::alloc::{AllocError, Global};
 
 /// Adds the fields of a response with a body of this type.
