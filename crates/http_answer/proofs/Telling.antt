@@ -1,13 +1,18 @@
 -- What is told of texts, one after another.
 use Rattle.std.proofs.Common.{◌≡◌, ℕ, List, [], ◌∷◌, ◌++◌, refl, sym, ap, subst, ◌∙◌, append_assoc, append-nil, map}
 use Rattle.std.proofs.lemmas.List.{flat_map_more, map-append}
+use Rattle.board_core.specs.declared.parts.Parts.{Parts}
 use Rattle.json_lines.specs.declared.told.JsonLine.{JsonLine}
 use Rattle.move_msg.specs.TextLines.{ended}
 use Rattle.system_io.specs.Disks.{DiskFacts}
 use Rattle.table_folder.specs.Folders.{Folder, FolderOn}
 use Rattle.http_answer.specs.Inside.{AddsObject}
 use Rattle.http_answer.specs.Queries.{position_text}
-use Rattle.http_answer.specs.Replies.{TellsEach, TellsText, object_text, objects_text}
+use Rattle.http_answer.specs.Replies.{TellsEach, TellsPosition, TellsText, object_text, objects_text}
+
+-- by a folder, as contracts see it
+pub seen_so : {D : Type 0} (facts : D → DiskFacts) (inside now : FolderOn D) (p : Parts) (l : JsonLine) → inside ≡ now → TellsPosition (facts inside.disk) inside.folder p l → TellsPosition (facts now.disk) now.folder p l
+seen_so {D} facts inside now p l same tells = subst (λ (on : FolderOn D). TellsPosition (facts on.disk) on.folder p l) same tells
 
 each_more : (disk : DiskFacts) (folder : Folder) (texts : List (List ℕ)) (ls : List JsonLine) (text : List ℕ) (l : JsonLine) → TellsEach disk folder texts ls → TellsText disk folder text l → TellsEach disk folder (texts ++ text ∷ []) (ls ++ l ∷ [])
 each_more disk folder [] [] text l each one = (one, tt)

@@ -7,4 +7,4 @@ pub returns-in-Err-clause-told : goal.returns-in-Err-clause-told
 returns-in-Err-clause-told g c = ForNone c.in-Err.fault c.in-Err.ensures.err refl
 
 pub returns-in-Ok-clause-told : goal.returns-in-Ok-clause-told
-returns-in-Ok-clause-told g c = IfOk-weaker c.line_of.result _ _ (λ l told. ForPosition c.in-Ok.position.now c.in-Ok.ensures.ok c.in-Ok.ensures.position told) c.line_of.ensures.told
+returns-in-Ok-clause-told g c = IfOk-weaker c.line_of.result _ _ (λ l told. ForPosition c.in-Ok.position c.in-Ok.ensures.ok c.in-Ok.ensures.position told) c.line_of.ensures.told
