@@ -1,32 +1,30 @@
 -- What is answered to a request (RFC 9110; names and meanings as in the tablebase API of Lichess, where it has them).
-use Rattle.std.specs.Prelude.{◌≡◌, ℕ, true, List, [], ◌∷◌, ◌++◌, ◌||◌, Option, Some, None, Result, Ok, Err, codes, if◌then◌else◌}
+use Rattle.std.specs.Prelude.{◌≡◌, ℕ, true, List, [], ◌∷◌, ◌++◌, ◌||◌, Option, Some, None, Result, Ok, Err, codes, if◌then◌else◌, length, nat_le}
+use Rattle.std.specs.List.{flat_map}
 use Rattle.std.specs.Str.{bytes_eq}
 use Rattle.board_core.specs.declared.parts.Parts.{Parts}
-use Rattle.board_core.specs.Position.{IsPosition}
-use Rattle.fen_text.specs.declared.fault.FenFault.{FenFault}
-use Rattle.fen_text.specs.Fen.{SpellsPosition, IsFirstFenFault}
 use Rattle.http.specs.declared.request.Request.{Request}
-use Rattle.http.specs.Request.{head_of}
+use Rattle.http.specs.Request.{body_of, head_of}
 use Rattle.http1.specs.Fields.{Header}
 use Rattle.http_uri.specs.Uri.{uri_path, uri_query}
 use Rattle.http_server.specs.declared.response.Response.{Response}
 use Rattle.http_server.specs.Exchange.{Call}
 use Rattle.http_server.specs.Response.{IsResponse}
-use Rattle.judge_core.specs.Tables.{Tables}
 use Rattle.judge_core.specs.declared.ask.Ask.TheVariants.{Strict}
 use Rattle.judge_core.specs.declared.fault.ProbeFault.{ProbeFault}
 use Rattle.judge_core.specs.declared.fault.ProbeFault.TheVariants as probe
 use Rattle.json_lines.specs.Api.{api_json}
-use Rattle.json_lines.specs.Objects.{error_json, fault_json, json_text}
-use Rattle.json_lines.specs.Told.{IsLineOf}
+use Rattle.json_lines.specs.Objects.{json_text}
+use Rattle.json_lines.specs.Told.{IsLineFor, IsLineOf}
 use Rattle.json_lines.specs.declared.told.JsonLine.{JsonLine}
 use Rattle.json_lines.specs.declared.told.JsonLine.TheVariants as line
+use Rattle.move_msg.specs.TextLines.{ended, lines_in}
 use Rattle.system_io.specs.Disks.{DiskFacts}
 use Rattle.table_folder.specs.declared.fault.FileRefusal.{FileRefusal}
 use Rattle.table_folder.specs.Faults.{file_fault_name}
 use Rattle.table_folder.specs.Folders.{Folder, FolderOn}
 use Rattle.table_folder.specs.Settled.{AnswersBy, IsRefusedFor, IsWithMoves}
-use Rattle.http_answer.specs.Queries.{asked_text}
+use Rattle.http_answer.specs.Queries.{asked_lines, asked_text}
 use Rattle.http_answer.specs.declared.page.TheConstants.{PAGE}
 
 -- ---- what is asked for
@@ -38,10 +36,14 @@ pub data Asked : Type 0 where
   Values : (text : List ℕ) → Asked
   -- values, of no text
   NoText : Asked
-  -- which methods there are
-  Methods : Asked
-  -- it by another method
-  OtherMethod : Asked
+  -- the values of the position of each of these texts, and of its moves
+  ValuesOfEach : (texts : List (List ℕ)) → Asked
+  -- those of more texts than one request may have
+  TooMany : Asked
+  -- which methods there are, namely these
+  Methods : (methods : List ℕ) → Asked
+  -- it by another method than these
+  OtherMethod : (methods : List ℕ) → Asked
   -- what isn't here
   Elsewhere : Asked
 
@@ -53,21 +55,38 @@ abbrev pub values_in : Option (List ℕ) → Asked
 values_in None = NoText
 values_in (Some query) = values_of (asked_text query)
 
-abbrev pub by_method : List ℕ → Asked → Asked
-by_method method told =
-    if bytes_eq method (codes "GET") || bytes_eq method (codes "HEAD") then told
-    else if bytes_eq method (codes "OPTIONS") then Methods
-    else OtherMethod
+-- a body has at most a hundred lines
+abbrev pub values_of_lines : List ℕ → Asked
+values_of_lines body = if nat_le (length (lines_in body)) 100 then ValuesOfEach (asked_lines body) else TooMany
 
-abbrev pub asked_of : List ℕ → List ℕ → Option (List ℕ) → Asked
-asked_of method path query =
-    if bytes_eq path (codes "/standard") then by_method method (values_in query)
-    else if bytes_eq path (codes "/") then by_method method Page
+abbrev pub page_methods : List ℕ
+page_methods = codes "GET, HEAD, OPTIONS"
+
+abbrev pub standard_methods : List ℕ
+standard_methods = codes "GET, HEAD, POST, OPTIONS"
+
+-- by one of these methods
+abbrev pub by_method : List ℕ → List ℕ → Asked → Asked
+by_method methods method told =
+    if bytes_eq method (codes "GET") || bytes_eq method (codes "HEAD") then told
+    else if bytes_eq method (codes "OPTIONS") then Methods methods
+    else OtherMethod methods
+
+-- of the one position of a query, or of each of a body
+abbrev pub values_by : List ℕ → Option (List ℕ) → List ℕ → Asked
+values_by method query body =
+    if bytes_eq method (codes "POST") then values_of_lines body
+    else by_method standard_methods method (values_in query)
+
+abbrev pub asked_of : List ℕ → List ℕ → Option (List ℕ) → List ℕ → Asked
+asked_of method path query body =
+    if bytes_eq path (codes "/standard") then values_by method query body
+    else if bytes_eq path (codes "/") then by_method page_methods method Page
     else Elsewhere
 
 -- what this request asks for
 abbrev pub asked : Request (List ℕ) → Asked
-asked r = asked_of (head_of r).method (uri_path (head_of r).uri) (uri_query (head_of r).uri)
+asked r = asked_of (head_of r).method (uri_path (head_of r).uri) (uri_query (head_of r).uri) (body_of r)
 
 -- ---- what is answered
 
@@ -79,8 +98,8 @@ abbrev pub json_fields : List Header
 json_fields = fields (codes "application/json")
 
 -- which methods there are
-abbrev pub allowed : Header
-allowed = (codes "allow", codes "GET, HEAD, OPTIONS")
+abbrev pub allowed : List ℕ → Header
+allowed methods = (codes "allow", methods)
 
 -- a position out of the tables' scope isn't found
 abbrev pub value_status : {A : Type 0} → Result A ProbeFault → ℕ
@@ -96,37 +115,55 @@ status_of (line.Refused words) = 500
 status_of (line.Position t) = value_status t.columns.probed.wdl
 status_of (line.Root t moves) = value_status t.columns.probed.wdl
 
+-- the object of a line
+abbrev pub object_text : JsonLine → List ℕ
+object_text l = json_text (api_json l)
+
+-- the objects of lines, a line each
+abbrev pub objects_text : List JsonLine → List ℕ
+objects_text = flat_map (λ l. ended (object_text l))
+
 -- the response that has a line
 abbrev pub HasLine : JsonLine → Response → Type 0
-HasLine l r = IsResponse (status_of l) json_fields (json_text (api_json l)) r
+HasLine l r = IsResponse (status_of l) json_fields (object_text l) r
 
--- the response that refuses the file of a table
-abbrev pub HasRefusal : FileRefusal → Response → Type 0
-HasRefusal refusal r = IsResponse 500 json_fields (json_text (error_json (refusal.name.bytes ++ codes " " ++ file_fault_name refusal.fault))) r
+-- the response that has lines (as in the Newline Delimited JSON of the API of Lichess)
+abbrev pub HasLines : List JsonLine → Response → Type 0
+HasLines ls r = IsResponse 200 (fields (codes "application/x-ndjson")) (objects_text ls) r
 
--- the one or the other
-abbrev pub HasFound : Result JsonLine FileRefusal → Response → Type 0
-HasFound (Ok l) r = HasLine l r
-HasFound (Err refusal) r = HasRefusal refusal r
+-- the line that refuses the file of a table: its name, and what is wrong with it
+abbrev pub RefusesFile : FileRefusal → JsonLine → Type 0
+RefusesFile refusal (line.Fault fault) = ⊥
+RefusesFile refusal (line.Refused words) = words.bytes ≡ refusal.name.bytes ++ codes " " ++ file_fault_name refusal.fault
+RefusesFile refusal (line.Position t) = ⊥
+RefusesFile refusal (line.Root t moves) = ⊥
 
--- what tables say of a position and of its legal moves
-abbrev pub TellsBy : Tables → Parts → Response → Type 0
-TellsBy tables p r = (l : JsonLine) × IsLineOf Strict true tables p l × HasLine l r
+-- What tables of the folder say of a position and of its legal moves, of which none is missing at these; or the refusal of a file of one
+-- that is needed.
+pub data TellsPosition (disk : DiskFacts) (folder : Folder) (p : Parts) (l : JsonLine) : Type 0 where
+  ByTables : AnswersBy disk folder (IsWithMoves p) (λ tables. IsLineOf Strict true tables p l) → TellsPosition disk folder p l
+  ByRefusal : (refusal : FileRefusal) → IsRefusedFor disk folder (IsWithMoves p) refusal → RefusesFile refusal l → TellsPosition disk folder p l
 
--- Why a text is no position. Or what tables of the folder say of the position and of its legal moves, of which none is missing at these;
--- or the refusal of a file of one that is needed.
-pub data TellsText (disk : DiskFacts) (folder : Folder) (text : List ℕ) (r : Response) : Type 0 where
-  OfNone : (fault : FenFault) → IsFirstFenFault text fault → IsResponse 400 json_fields (json_text (fault_json fault)) r → TellsText disk folder text r
-  OfPosition : (p : Parts) → SpellsPosition text p → IsPosition p → AnswersBy disk folder (IsWithMoves p) (λ tables. TellsBy tables p r) → TellsText disk folder text r
-  OfBadFile : (p : Parts) → SpellsPosition text p → IsPosition p → (refusal : FileRefusal) → IsRefusedFor disk folder (IsWithMoves p) refusal → HasRefusal refusal r → TellsText disk folder text r
+-- why a text is no position, or what is told of the position
+abbrev pub TellsText : DiskFacts → Folder → List ℕ → JsonLine → Type 0
+TellsText disk folder text l = IsLineFor text (TellsPosition disk folder) l
+
+-- what is told of each text, in turn
+abbrev pub TellsEach : DiskFacts → Folder → List (List ℕ) → List JsonLine → Type 0
+TellsEach disk folder [] [] = Unit {0}
+TellsEach disk folder [] (l ∷ ls) = ⊥
+TellsEach disk folder (text ∷ texts) [] = ⊥
+TellsEach disk folder (text ∷ texts) (l ∷ ls) = TellsText disk folder text l × TellsEach disk folder texts ls
 
 -- the response to what is asked for, by the tables of this folder
 abbrev pub IsReplyTo : DiskFacts → Folder → Asked → Response → Type 0
 IsReplyTo disk folder Page r = IsResponse 200 (fields (codes "text/html; charset=utf-8")) PAGE.now r
-IsReplyTo disk folder (Values text) r = TellsText disk folder text r
+IsReplyTo disk folder (Values text) r = (l : JsonLine) × TellsText disk folder text l × HasLine l r
 IsReplyTo disk folder NoText r = IsResponse 400 json_fields (codes "{\"error\":\"FEN missing\"}") r
-IsReplyTo disk folder Methods r = IsResponse 204 (allowed ∷ (codes "access-control-allow-origin", codes "*") ∷ (codes "access-control-allow-methods", codes "GET, HEAD, OPTIONS") ∷ []) [] r
-IsReplyTo disk folder OtherMethod r = IsResponse 405 (json_fields ++ allowed ∷ []) (codes "{\"error\":\"method not allowed\"}") r
+IsReplyTo disk folder (ValuesOfEach texts) r = (ls : List JsonLine) × TellsEach disk folder texts ls × HasLines ls r
+IsReplyTo disk folder TooMany r = IsResponse 413 json_fields (codes "{\"error\":\"too many lines\"}") r
+IsReplyTo disk folder (Methods methods) r = IsResponse 204 (allowed methods ∷ (codes "access-control-allow-origin", codes "*") ∷ (codes "access-control-allow-methods", methods) ∷ []) [] r
+IsReplyTo disk folder (OtherMethod methods) r = IsResponse 405 (json_fields ++ allowed methods ∷ []) (codes "{\"error\":\"method not allowed\"}") r
 IsReplyTo disk folder Elsewhere r = IsResponse 404 json_fields (codes "{\"error\":\"not found\"}") r
 
 -- the response to a request, by the tables of a folder on a disk

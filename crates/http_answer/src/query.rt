@@ -1,8 +1,8 @@
-//! The text of a position in the query of a URL.
+//! The text of a position in the query of a URL, or in a line of a body.
 
 ghost use Rattle.std.specs.Prelude.{◌≡◌, ◌==◌, IfOk, OnOk, map, option_map, length};
 ghost use Rattle.std.specs.List.{filter};
-ghost use Rattle.http_answer.specs.Queries.{asked_text, spaced, text_of, with_counters};
+ghost use Rattle.http_answer.specs.Queries.{asked_text, position_text, spaced, text_of, with_counters};
 
 use std::alloc::{AllocError, Global};
 
@@ -38,12 +38,19 @@ fn with_counters(text: Vec<u8>) -> Result<Vec<u8>, AllocError>
     Ok(text)
 }
 
+/// The text of a position, as it is asked for: with a space for each `_` and with both counters.
+pub(crate) fn position_text(alloc: Global, words: &[u8]) -> Result<Vec<u8>, AllocError>
+    ensures { IfOk result (λ v. v.items ≡ position_text words.now) }
+{
+    with_counters(all_spaced(alloc, words)?)
+}
+
 /// The text of a value, decoded, with a space for each `_` and with both counters.
 fn text_of(alloc: Global, value: &[u8]) -> Result<Vec<u8>, AllocError>
     ensures { IfOk result (λ v. v.items ≡ text_of value.now) }
 {
     let decoded = form_urlencoded::decode(alloc, value)?;
-    with_counters(all_spaced(alloc, decoded.as_str().as_bytes())?)
+    position_text(alloc, decoded.as_str().as_bytes())
 }
 
 /// The text that the first member `fen` of a query has, decoded, with a space for each `_` and with both counters; none where there is no

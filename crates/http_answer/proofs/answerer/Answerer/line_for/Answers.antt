@@ -1,0 +1,10 @@
+use Rattle.std.proofs.Common.{refl}
+use Rattle.std.proofs.lemmas.Result.{IfOk-weaker}
+use Rattle.json_lines.specs.Told.{ForNone, ForPosition}
+use Rattle.http_answer.proofs.answerer.Answerer.line_for.Goals as goal
+
+pub returns-in-Err-clause-told : goal.returns-in-Err-clause-told
+returns-in-Err-clause-told g c = ForNone c.in-Err.fault c.in-Err.ensures.err refl
+
+pub returns-in-Ok-clause-told : goal.returns-in-Ok-clause-told
+returns-in-Ok-clause-told g c = IfOk-weaker c.line_of.result _ _ (λ l told. ForPosition c.in-Ok.position c.in-Ok.ensures.ok c.in-Ok.ensures.position told) c.line_of.ensures.told
