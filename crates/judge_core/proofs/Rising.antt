@@ -44,7 +44,7 @@ same_points Win Draw e = cc
 same_points Win CursedWin e = cc
 same_points Win Win e = refl
 
-opposite_points : (v : Wdl) → points (opposite v) + points v ≡ 4
+pub opposite_points : (v : Wdl) → points (opposite v) + points v ≡ 4
 opposite_points Loss = refl
 opposite_points BlessedLoss = refl
 opposite_points Draw = refl
