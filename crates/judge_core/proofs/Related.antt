@@ -118,7 +118,7 @@ module _ (R : Wdl → Wdl → Type 0) where
           forced = refl;
         })
 
-    worth_too : (a b : CaptureSearch) → Searches R a b → R (worth a) (worth b)
+    pub worth_too : (a b : CaptureSearch) → Searches R a b → R (worth a) (worth b)
     worth_too a b h = step a.forced refl
       where
         step : (t : Bool) → a.forced ≡ t → R (worth a) (worth b)
