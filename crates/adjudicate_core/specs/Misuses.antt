@@ -1,12 +1,12 @@
 -- The faults of the values of a command, and which one is reported (this project's own).
-use Rattle.std.specs.Prelude.{◌≡◌, ◌≢◌, ◌⊎◌, ◌++◌, ℕ, List, [], ◌∷◌, Option, Some, None, codes}
+use Rattle.std.specs.Prelude.{◌≡◌, ◌≢◌, ◌⊎◌, ◌++◌, ℕ, true, List, [], ◌∷◌, Option, Some, None, codes}
 use Rattle.std.specs.List.{AllByRecursion}
 use Rattle.clap.specs.Words.{Text}
 use Rattle.move_msg.specs.declared.arbiter_id.ArbiterId.{ArbiterId}
 use Rattle.move_msg.specs.Stamps.{IsGameName}
 use Rattle.adjudicate_core.specs.Addresses.{AreAddresses, AreRecipients, IsAddress}
 use Rattle.adjudicate_core.specs.GamePaths.{NamesGame, SpellsStamp}
-use Rattle.adjudicate_core.specs.Numbers.{IsAtOnce, IsCache, IsDatagrams, IsDelay, IsHundredOr, IsLog, IsMe, IsStore}
+use Rattle.adjudicate_core.specs.Numbers.{IsAtOnce, IsCache, IsDatagrams, IsDelay, IsHundredOr, IsLog, IsMe, IsStore, is_set}
 use Rattle.arbiter_server.specs.declared.line_log.LogForm.{LogForm}
 use Rattle.adjudicate_core.specs.declared.words.numbers.StoreForm.{StoreForm}
 use Rattle.adjudicate_core.specs.declared.words.usage.Instead.{Instead}
@@ -65,6 +65,7 @@ range_of wanted.Stamp = codes "32 lower-case hexadecimal digits"
 abbrev pub instead_name : Instead → Text
 instead_name instead.From = codes "from"
 instead_name instead.Games = codes "games"
+instead_name instead.Soon = codes "soon"
 
 abbrev pub not_with_words : Instead → Text → List ℕ
 not_with_words other name = codes "--" ++ name ++ codes " cannot be used with --" ++ instead_name other
@@ -91,6 +92,7 @@ fault_words (told.Unfit wanted text) = unfit_words wanted text.now
 fault_words (told.NotWith other name) = not_with_words other name.now
 fault_words (told.WordNotWith other name) = word_not_with_words other name.now
 fault_words (told.Beside name) = beside_words name.now
+fault_words (told.FlagNotWith other name) = not_with_words other name.now
 
 -- ---- a wish for help
 
@@ -100,8 +102,8 @@ AsksForHelp word = (word ≡ codes "help") ⊎ ((word ≡ codes "--help") ⊎ (w
 -- ---- the first that is wrong
 
 -- what may be wrong: an option or a word that has to be there has no value; or the value is none that the option takes; or an option
--- or a word is there beside another one that takes its place, or an option beside `--game`, whose file tells it. `Untold` is wrong only where there is no
--- `--game`.
+-- or a word is there beside another one that takes its place, or an option beside `--game`, whose file tells it, or a flag is given beside one that excludes it.
+-- `Untold` is wrong only where there is no `--game`.
 pub data Fault : Type 0 where
   NoOption : Text → Fault
   NoWord : Text → Fault
@@ -109,6 +111,7 @@ pub data Fault : Type 0 where
   NotWith : Instead → Text → Fault
   WordNotWith : Instead → Text → Fault
   Beside : Text → Fault
+  FlagNotWith : Instead → Text → Fault
   Untold : Fault → Fault
 
 -- the value of the option is none that it takes
@@ -137,6 +140,7 @@ Holds value (Unfit wanted) = IsUnfit value wanted
 Holds value (NotWith other name) = value name ≢ None
 Holds value (WordNotWith other name) = value name ≢ None
 Holds value (Beside name) = ((path : Text) × (value (codes "game") ≡ Some path)) × ((text : Text) × (value name ≡ Some text))
+Holds value (FlagNotWith other name) = (is_set (value (instead_name other)) ≡ true) × (is_set (value name) ≡ true)
 Holds value (Untold fault) = (value (codes "game") ≡ None) × Holds value fault
 
 abbrev pub text_or_empty : Option Text → Text
@@ -151,6 +155,7 @@ misuse_line value (Unfit wanted) = unfit_words wanted (text_or_empty (value (opt
 misuse_line value (NotWith other name) = not_with_words other name
 misuse_line value (WordNotWith other name) = word_not_with_words other name
 misuse_line value (Beside name) = beside_words name
+misuse_line value (FlagNotWith other name) = not_with_words other name
 misuse_line value (Untold fault) = misuse_line value fault
 
 -- it is wrong, and the line tells it

@@ -101,9 +101,22 @@ pub enum Instead {
     From,
     /// A folder of games.
     Games,
+    /// Values that are told as soon as they are known.
+    Soon,
 }
 
 impl Instead {
+    /// The option itself.
+    pub(crate) fn name(self) -> &'static str
+        ensures { result.now ≡ instead_name self }
+    {
+        match self {
+            Instead::From => "from",
+            Instead::Games => "games",
+            Instead::Soon => "soon",
+        }
+    }
+
     /// That another option isn't for this one, as it is printed after that option.
     pub(crate) fn rest(self) -> &'static str
         ensures { result.now ≡ codes " cannot be used with --" ++ instead_name self }
@@ -111,6 +124,7 @@ impl Instead {
         match self {
             Instead::From => " cannot be used with --from",
             Instead::Games => " cannot be used with --games",
+            Instead::Soon => " cannot be used with --soon",
         }
     }
 }
@@ -130,6 +144,8 @@ pub enum ValueFault<'a> {
     WordNotWith(Instead, &'a str),
     /// An option stands beside `--game`, whose file tells it.
     Beside(&'a str),
+    /// A flag is given beside one that excludes it.
+    FlagNotWith(Instead, &'a str),
 }
 
 /// A fault of the words of a command line.
