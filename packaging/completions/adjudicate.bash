@@ -6,7 +6,7 @@ _adjudicate_options()
     case $1 in
         judge) echo '--tables=DIR --manifest=FILE --lazy' ;;
         probe) echo '--tables=DIR --manifest=FILE --lazy' ;;
-        probes) echo '--tables=DIR --manifest=FILE --all-tables --memory=MB --json --determined --progress' ;;
+        probes) echo '--tables=DIR --manifest=FILE --all-tables --memory=MB --json --determined --soon --progress' ;;
         root) echo '--tables=DIR --manifest=FILE --all-tables --memory=MB --json --determined' ;;
         moves) echo '--san' ;;
         serve) echo '--tables=DIR --manifest=FILE --bind=ADDR --requests=N' ;;

@@ -61,6 +61,7 @@ complete -c adjudicate -n '__adjudicate_is probes' -l all-tables -d 'reads all t
 complete -c adjudicate -n '__adjudicate_is probes' -l memory -x -d 'MB of tables kept if not all are read first, 1 to 1000000; no bound unless set'
 complete -c adjudicate -n '__adjudicate_is probes' -l json -d 'writes JSON objects, one a line'
 complete -c adjudicate -n '__adjudicate_is probes' -l determined -d 'tells a value also where a table is missing, if the others determine it'
+complete -c adjudicate -n '__adjudicate_is probes' -l soon -d 'tells the value alone, as soon as it is known; not with --json or --determined'
 complete -c adjudicate -n '__adjudicate_is probes' -l progress -d 'tells on standard error how much is done'
 complete -c adjudicate -n '__adjudicate_is probes' -l help -d 'the use of the command'
 complete -c adjudicate -n '__adjudicate_is root' -l tables -x -a '(__fish_complete_directories)' -d 'the folder of the table files'

@@ -202,5 +202,6 @@ words_of (line.Sent number) = sent_words number
 words_of (line.Finding finding) = finding_words finding
 words_of (line.Compared compared) = agreement_words compared
 words_of (line.Outcome o) = outcome_words o.outcome o.plies
+words_of (line.Value told) = column_words told.0
 words_of (line.Columns c) = columns_words c.probed.wdl c.probed.dtz c.verdict
 words_of (line.Root l) = root_line_words l

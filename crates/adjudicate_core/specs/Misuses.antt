@@ -68,6 +68,7 @@ abbrev pub instead_name : Instead → Text
 instead_name instead.From = codes "from"
 instead_name instead.Games = codes "games"
 instead_name instead.Prometheus = codes "prometheus"
+instead_name instead.Soon = codes "soon"
 
 abbrev pub not_with_words : Instead → Text → List ℕ
 not_with_words other name = codes "--" ++ name ++ codes " cannot be used with --" ++ instead_name other
@@ -94,6 +95,7 @@ fault_words (told.Unfit wanted text) = unfit_words wanted text.now
 fault_words (told.NotWith other name) = not_with_words other name.now
 fault_words (told.WordNotWith other name) = word_not_with_words other name.now
 fault_words (told.Beside name) = beside_words name.now
+fault_words (told.FlagNotWith other name) = not_with_words other name.now
 
 -- ---- a wish for help
 
@@ -103,16 +105,16 @@ AsksForHelp word = (word ≡ codes "help") ⊎ ((word ≡ codes "--help") ⊎ (w
 -- ---- the first that is wrong
 
 -- what may be wrong: an option or a word that has to be there has no value; or the value is none that the option takes; or an option
--- or a word is there beside another one that takes its place, or so is a flag, or an option beside `--game`, whose file tells it. `Untold` is wrong only
--- where there is no `--game`.
+-- or a word is there beside another one that takes its place, or an option beside `--game`, whose file tells it, or a flag is given beside one that excludes it.
+-- `Untold` is wrong only where there is no `--game`.
 pub data Fault : Type 0 where
   NoOption : Text → Fault
   NoWord : Text → Fault
   Unfit : Wanted → Fault
   NotWith : Instead → Text → Fault
   WordNotWith : Instead → Text → Fault
-  NotBoth : Instead → Text → Fault
   Beside : Text → Fault
+  FlagNotWith : Instead → Text → Fault
   Untold : Fault → Fault
 
 -- the value of the option is none that it takes
@@ -141,8 +143,8 @@ Holds value (NoWord name) = value name ≡ None
 Holds value (Unfit wanted) = IsUnfit value wanted
 Holds value (NotWith other name) = value name ≢ None
 Holds value (WordNotWith other name) = value name ≢ None
-Holds value (NotBoth other name) = (is_set (value (instead_name other)) ≡ true) × (is_set (value name) ≡ true)
 Holds value (Beside name) = ((path : Text) × (value (codes "game") ≡ Some path)) × ((text : Text) × (value name ≡ Some text))
+Holds value (FlagNotWith other name) = (is_set (value (instead_name other)) ≡ true) × (is_set (value name) ≡ true)
 Holds value (Untold fault) = (value (codes "game") ≡ None) × Holds value fault
 
 abbrev pub text_or_empty : Option Text → Text
@@ -156,8 +158,8 @@ misuse_line value (NoWord name) = no_word_words name
 misuse_line value (Unfit wanted) = unfit_words wanted (text_or_empty (value (option_name wanted)))
 misuse_line value (NotWith other name) = not_with_words other name
 misuse_line value (WordNotWith other name) = word_not_with_words other name
-misuse_line value (NotBoth other name) = not_with_words other name
 misuse_line value (Beside name) = beside_words name
+misuse_line value (FlagNotWith other name) = not_with_words other name
 misuse_line value (Untold fault) = misuse_line value fault
 
 -- it is wrong, and the line tells it

@@ -6,8 +6,8 @@ use Rattle.board_core.specs.declared.moves.Move.{Move}
 use Rattle.board_core.specs.Position.{IsPosition}
 use Rattle.board_core.specs.ComputedMoves.{position_after, is_capture, count_of_men}
 use Rattle.board_core.proofs.ComputedMen.{men_of_position}
-use Rattle.judge_core.specs.declared.ask.Ask.{Ask}
-use Rattle.judge_core.specs.declared.ask.Ask.TheVariants.{Determined}
+use Rattle.judge_core.specs.declared.determined.ReachedIn.{ReachedIn}
+use Rattle.judge_core.specs.declared.determined.ReachedIn.TheVariants.{EachCompletion, SomeCompletion}
 use Rattle.judge_core.specs.declared.fault.ValueFault.{ValueFault}
 use Rattle.judge_core.specs.declared.fault.ValueFault.TheVariants.{NotCovered, Damaged}
 use Rattle.judge_core.specs.declared.found.CaptureSearch.{CaptureSearch}
@@ -17,14 +17,14 @@ use Rattle.judge_core.specs.Values.{Reading, points, is_same, opposite}
 use Rattle.judge_core.specs.Tables.{Tables, table_value}
 use Rattle.judge_core.specs.Probing.{searched_where, wdl_from_search, wdl_where}
 use Rattle.judge_core.specs.Determined.{Completes, IsCompletion, IsDetermined, IsUndetermined}
-use Rattle.judge_core.specs.Inside.Determined.{is_won_here, fill, in_stead, extreme, extreme_value, extreme_searched, agreed, in_both, value_in_both, step_value_as}
+use Rattle.judge_core.specs.Inside.Determined.{is_won_here, fill, in_stead, extreme, extreme_value, extreme_searched, agreed, in_both, value_in_both, in_some, value_in_some, step_value_in}
 use Rattle.judge_core.proofs.Captures.{falls}
 use Rattle.judge_core.proofs.Rule.{where_meets_rule, still}
 use Rattle.judge_core.proofs.Rising.{AtMost, AtMostSearched, at_most-turned, points_most, same_points, value_rises, searched_rises}
 
 -- ---- the two completions
 
-completed_by : (r : Reading) (v : Wdl) → Completes r (in_stead r v)
+pub completed_by : (r : Reading) (v : Wdl) → Completes r (in_stead r v)
 completed_by (Ok u) v = refl
 completed_by (Err (NotCovered key)) v = refl
 completed_by (Err (Damaged key)) v = refl
@@ -47,7 +47,7 @@ not_not true = refl
 not_not false = refl
 
 -- where there is one man fewer the other side has the missing tables
-turns : (odd : Bool) (n k : ℕ) → n + 1 ≡ k → is_won_here odd n ≡ not (is_won_here odd k)
+pub turns : (odd : Bool) (n k : ℕ) → n + 1 ≡ k → is_won_here odd n ≡ not (is_won_here odd k)
 turns true n k e = sym (ap not (ap (λ x. eqb (x % 2) 1) (sym e) ∙ odd_next n) ∙ not_not (eqb (n % 2) 1))
 turns false n k e = ap not (sym (ap not (ap (λ x. eqb (x % 2) 1) (sym e) ∙ odd_next n) ∙ not_not (eqb (n % 2) 1)))
 
@@ -157,6 +157,11 @@ pub extreme-is : (tables : Tables) (p q : Parts) (odd : Bool) (own : Reading) (m
 unfolding extreme
 extreme-is tables p q odd own men v r eo eq em ev er = er ∙ ap (λ (x : Reading). in_stead x v) eo ∙ ap (λ (x : Wdl). in_stead (table_value tables p) x) (ev ∙ ap (fill odd) (em ∙ ap count_of_men eq))
 
-pub step-is : (ask : Ask) (tables : Tables) (v : Wdl) (p : Parts) (odd even : Reading) (turned : Wdl) (r : Reading) → ask ≡ Determined → odd ≡ extreme_value tables true p → even ≡ extreme_value tables false p → turned ≡ opposite v → r ≡ in_both turned odd even → r ≡ step_value_as ask tables v p
-unfolding value_in_both
-step-is ask tables v p odd even turned r ea eo ee et er = rw ea (er ∙ ap (λ (x : Wdl). in_both x odd even) et ∙ ap (λ (x : Reading). in_both (opposite v) x even) eo ∙ ap (λ (x : Reading). in_both (opposite v) (extreme_value tables true p) x) ee)
+module _ (within : ReachedIn) (tables : Tables) (v : Wdl) (p : Parts) (odd even : Reading) (turned : Wdl) (r : Reading) where
+  pub each-is : within ≡ EachCompletion → odd ≡ extreme_value tables true p → even ≡ extreme_value tables false p → turned ≡ opposite v → r ≡ in_both turned odd even → r ≡ step_value_in within tables v p
+  unfolding value_in_both
+  each-is ew eo ee et er = rw ew (er ∙ ap (λ (x : Wdl). in_both x odd even) et ∙ ap (λ (x : Reading). in_both (opposite v) x even) eo ∙ ap (λ (x : Reading). in_both (opposite v) (extreme_value tables true p) x) ee)
+
+  pub some-is : within ≡ SomeCompletion → odd ≡ extreme_value tables true p → even ≡ extreme_value tables false p → turned ≡ opposite v → r ≡ in_some turned odd even → r ≡ step_value_in within tables v p
+  unfolding value_in_some
+  some-is ew eo ee et er = rw ew (er ∙ ap (λ (x : Wdl). in_some x odd even) et ∙ ap (λ (x : Reading). in_some (opposite v) x even) eo ∙ ap (λ (x : Reading). in_some (opposite v) (extreme_value tables true p) x) ee)

@@ -33,7 +33,7 @@ same_told tables p r s d e a b = elim (a.only d e) [
   | inl own ↦ b.kept d own
   | inr by ↦ elim by [
     | inl value ↦ told_by_value tables p s d b value
-    | inr quiet ↦ b.quiet d quiet
+    | inr own ↦ b.own_table d own
   ]
 ]
 

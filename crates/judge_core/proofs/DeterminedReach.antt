@@ -7,14 +7,14 @@ use Rattle.judge_core.specs.declared.distance.Distance.{Distance}
 use Rattle.judge_core.specs.declared.distance.Distance.TheVariants.{Draw as NoDistance}
 use Rattle.judge_core.specs.declared.fault.ValueFault.{ValueFault}
 use Rattle.judge_core.specs.Tables.{Tables}
-use Rattle.judge_core.specs.Distances.{Reach, dtz_by, dtz_to, dtz_of}
-use Rattle.judge_core.specs.Determined.{IsDeterminedDistance, IsDeterminedReach, IsDistanceByValue, OfDraw, OfCapture, OfPawnMove, IsDistanceByQuietMoves}
-use Rattle.judge_core.specs.Inside.Determined.{distance_in_both, extreme_searched, or_agreed_distance, told_reach, reach_after, or_reach, determined_reach}
+use Rattle.judge_core.specs.Distances.{Reach, dtz_to, dtz_of}
+use Rattle.judge_core.specs.Determined.{IsDeterminedDistance, IsDeterminedReach, IsDistanceByValue, OfDraw, OfCapture, OfPawnMove, IsDistanceByOwnTable}
+use Rattle.judge_core.specs.Inside.Determined.{distance_in_both, extreme_searched, or_agreed_distance, told_reach, distance_by_own_table, determined_reach}
 use Rattle.judge_core.proofs.Kept.{strict_distance}
 use Rattle.judge_core.proofs.Zeroing.{IsMany, opened, told}
 use Rattle.judge_core.proofs.ByValue.{by_value}
 use Rattle.judge_core.proofs.ValueTold.{by_value_told}
-use Rattle.judge_core.proofs.QuietReach.{by_told_moves, left_to_them, by_them_told}
+use Rattle.judge_core.proofs.OwnTableTold.{from_own_table, to_own_table, by_own_table_determined}
 use Rattle.judge_core.proofs.Completing.{one_distance}
 
 module _ (tables : Tables) (p : Parts) (position : IsPosition p) where
@@ -56,49 +56,49 @@ module _ (tables : Tables) (p : Parts) (position : IsPosition p) where
       step (Err fault) er None eo e = absurd (cc)
       step (Err fault) er (Some x) eo e = (let same : x ≡ d = cc in told tables p position (never_few fault er) d (eo ∙ ap (λ (y : Distance). Some y) same))
 
-  -- ---- what the quiet moves tell
+  -- ---- what the own table tells
 
-  quiet_told : (d : Distance) → IsDistanceByQuietMoves tables p d → or_reach (told_reach tables p) (dtz_by tables (reach_after tables) p) ≡ Ok d
-  quiet_told d by = step (told_reach tables p) refl (by_them_told tables p d position by)
+  own_table_told : (d : Distance) → IsDistanceByOwnTable tables p d → or_agreed_distance (told_reach tables p) (distance_by_own_table tables p) ≡ Ok d
+  own_table_told d by = step (told_reach tables p) refl (to_own_table tables p position d by)
     where
-      step : (r : Reach) → told_reach tables p ≡ r → dtz_by tables (reach_after tables) p ≡ Ok d → or_reach r (dtz_by tables (reach_after tables) p) ≡ Ok d
-      step (Ok x) er e = ap (λ (y : Distance). Ok y) (one_distance tables p x d (told_determined x er) (by_told_moves tables p d position e))
+      step : (r : Reach) → told_reach tables p ≡ r → distance_by_own_table tables p ≡ Some d → or_agreed_distance r (distance_by_own_table tables p) ≡ Ok d
+      step (Ok x) er e = ap (λ (y : Distance). Ok y) (one_distance tables p x d (told_determined x er) (by_own_table_determined tables p position d by))
       step (Err fault) er e = rw e refl
 
 pub is_determined_reach : (tables : Tables) (p : Parts) → IsPosition p → IsDeterminedReach tables p (determined_reach tables p)
 unfolding determined_reach
 is_determined_reach tables p position = record {
   kept = kept;
-  determined = λ d. all_determined d (told_reach tables p) refl (dtz_by tables (reach_after tables) p) refl;
-  fault_is = λ fault. faulty fault (told_reach tables p) refl (dtz_by tables (reach_after tables) p);
-  only = λ d. only_by d (told_reach tables p) refl (dtz_by tables (reach_after tables) p) refl;
+  determined = λ d. all_determined d (told_reach tables p) refl (distance_by_own_table tables p) refl;
+  fault_is = λ fault. faulty fault (told_reach tables p) refl (distance_by_own_table tables p);
+  only = λ d. only_by d (told_reach tables p) refl (distance_by_own_table tables p) refl;
   draw = λ is. by_its_value NoDistance (OfDraw is refl);
   capture = λ v outcome is eo captures. by_its_value _ (OfCapture v outcome is eo captures refl);
   pawn = λ v outcome is eo won by. by_its_value _ (OfPawnMove v outcome is eo won by refl);
-  quiet = quiet_told tables p position;
+  own_table = own_table_told tables p position;
 }
   where
-    kept : (d : Distance) → dtz_of tables p ≡ Ok d → or_reach (told_reach tables p) (dtz_by tables (reach_after tables) p) ≡ Ok d
+    kept : (d : Distance) → dtz_of tables p ≡ Ok d → or_agreed_distance (told_reach tables p) (distance_by_own_table tables p) ≡ Ok d
     kept d e = rw e refl
 
-    by_its_value : (d : Distance) → IsDistanceByValue tables p d → or_reach (told_reach tables p) (dtz_by tables (reach_after tables) p) ≡ Ok d
-    by_its_value d by = ap (λ (r : Reach). or_reach r (dtz_by tables (reach_after tables) p)) (value_told tables p position d by)
+    by_its_value : (d : Distance) → IsDistanceByValue tables p d → or_agreed_distance (told_reach tables p) (distance_by_own_table tables p) ≡ Ok d
+    by_its_value d by = ap (λ (r : Reach). or_agreed_distance r (distance_by_own_table tables p)) (value_told tables p position d by)
 
-    all_determined : (d : Distance) (r : Reach) → told_reach tables p ≡ r → (s : Reach) → dtz_by tables (reach_after tables) p ≡ s → or_reach r s ≡ Ok d → IsDeterminedDistance tables p d
-    all_determined d (Ok x) er s es e = told_determined tables p position d (er ∙ e)
-    all_determined d (Err fault) er (Ok x) es e = by_told_moves tables p d position (es ∙ e)
-    all_determined d (Err fault) er (Err other) es e = absurd (cc)
+    all_determined : (d : Distance) (r : Reach) → told_reach tables p ≡ r → (o : Option Distance) → distance_by_own_table tables p ≡ o → or_agreed_distance r o ≡ Ok d → IsDeterminedDistance tables p d
+    all_determined d (Ok x) er o eo e = told_determined tables p position d (er ∙ e)
+    all_determined d (Err fault) er (Some x) eo e = (let same : x ≡ d = cc in by_own_table_determined tables p position d (from_own_table tables p position d (eo ∙ ap (λ (y : Distance). Some y) same)))
+    all_determined d (Err fault) er None eo e = absurd (cc)
 
-    only_by : (d : Distance) (r : Reach) → told_reach tables p ≡ r → (s : Reach) → dtz_by tables (reach_after tables) p ≡ s → or_reach r s ≡ Ok d
-        → (dtz_of tables p ≡ Ok d) ⊎ (IsDistanceByValue tables p d ⊎ IsDistanceByQuietMoves tables p d)
-    only_by d (Ok x) er s es e = elim (from_value tables p position d (er ∙ e)) [
+    only_by : (d : Distance) (r : Reach) → told_reach tables p ≡ r → (o : Option Distance) → distance_by_own_table tables p ≡ o → or_agreed_distance r o ≡ Ok d
+        → (dtz_of tables p ≡ Ok d) ⊎ (IsDistanceByValue tables p d ⊎ IsDistanceByOwnTable tables p d)
+    only_by d (Ok x) er o eo e = elim (from_value tables p position d (er ∙ e)) [
       | inl own ↦ inl own
       | inr by ↦ inr (inl by)
     ]
-    only_by d (Err fault) er (Ok x) es e = inr (inr (left_to_them tables p d fault position (told_fault tables p position fault er) (es ∙ e)))
-    only_by d (Err fault) er (Err other) es e = absurd (cc)
+    only_by d (Err fault) er (Some x) eo e = (let same : x ≡ d = cc in inr (inr (from_own_table tables p position d (eo ∙ ap (λ (y : Distance). Some y) same))))
+    only_by d (Err fault) er None eo e = absurd (cc)
 
-    faulty : (fault : ValueFault) (r : Reach) → told_reach tables p ≡ r → (s : Reach) → or_reach r s ≡ Err fault → dtz_of tables p ≡ Err fault
-    faulty fault (Ok x) er s e = absurd (cc)
-    faulty fault (Err other) er (Ok x) e = absurd (cc)
-    faulty fault (Err other) er (Err third) e = told_fault tables p position fault (er ∙ e)
+    faulty : (fault : ValueFault) (r : Reach) → told_reach tables p ≡ r → (o : Option Distance) → or_agreed_distance r o ≡ Err fault → dtz_of tables p ≡ Err fault
+    faulty fault (Ok x) er o e = absurd (cc)
+    faulty fault (Err other) er (Some x) e = absurd (cc)
+    faulty fault (Err other) er None e = told_fault tables p position fault (er ∙ e)

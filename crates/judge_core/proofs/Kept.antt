@@ -184,15 +184,15 @@ module _ (f g : Parts → Reach) (p : Parts) (h : (m : Move) (q : Parts) → is_
       by_side true is e = rw is (rw is at e)
       by_side false is e = rw is (quiet_kept key outcome d (rw is at e))
 
-  module _ (tables more : Tables) (c : IsCompletedBy tables more) (position : IsPosition p) where
-    own_table_kept : (outcome : Outcome) → Keeps (by_own_table tables f p outcome) (by_own_table more g p outcome)
-    unfolding by_own_table
-    own_table_kept outcome = by_key (material_of p)
-      where
-        by_key : (o : Option ℕ) → Keeps (by_material tables o f p outcome) (by_material more o g p outcome)
-        by_key None d e = e
-        by_key (Some key) d e = table_kept key outcome (table_at tables Dtz key) (table_at more Dtz key) (c.distances key) d e
+  pub own_table_kept : (tables more : Tables) → ((key : ℕ) (t : Contents) → table_at tables Dtz key ≡ Some t → table_at more Dtz key ≡ Some t) → (outcome : Outcome) → Keeps (by_own_table tables f p outcome) (by_own_table more g p outcome)
+  unfolding by_own_table
+  own_table_kept tables more there outcome = by_key (material_of p)
+    where
+      by_key : (o : Option ℕ) → Keeps (by_material tables o f p outcome) (by_material more o g p outcome)
+      by_key None d e = e
+      by_key (Some key) d e = table_kept key outcome (table_at tables Dtz key) (table_at more Dtz key) (there key) d e
 
+  module _ (tables more : Tables) (c : IsCompletedBy tables more) (position : IsPosition p) where
     pawns_kept : (v : Wdl) → Keeps (pawns_reach_where (wdl_of tables) p v) (pawns_reach_where (wdl_of more) p v)
     unfolding pawns_reach_where
     pawns_kept v b e =
@@ -208,11 +208,11 @@ module _ (f g : Parts → Reach) (p : Parts) (h : (m : Move) (q : Parts) → is_
         by_pawns : (r s : Result Bool ValueFault) → Keeps r s → Keeps (unless_reached r outcome (by_own_table tables f p outcome)) (unless_reached s outcome (by_own_table more g p outcome))
         by_pawns (Err fault) s k d e = absurd (cc)
         by_pawns (Ok true) s k d e = rw (k true refl) e
-        by_pawns (Ok false) s k d e = rw (k false refl) (own_table_kept outcome d e)
+        by_pawns (Ok false) s k d e = rw (k false refl) (own_table_kept tables more c.distances outcome d e)
 
         step : (b : Bool) → Keeps (cond b (unless_reached (pawns_reach_where (wdl_of tables) p v) outcome (by_own_table tables f p outcome)) (by_own_table tables f p outcome)) (cond b (unless_reached (pawns_reach_where (wdl_of more) p v) outcome (by_own_table more g p outcome)) (by_own_table more g p outcome))
         step true = by_pawns (pawns_reach_where (wdl_of tables) p v) (pawns_reach_where (wdl_of more) p v) (pawns_kept v)
-        step false = own_table_kept outcome
+        step false = own_table_kept tables more c.distances outcome
 
     outcome_kept : (w : CaptureSearch) (o : Option Outcome) → Keeps (by_outcome tables f p w o) (by_outcome more g p w o)
     outcome_kept w None d e = e

@@ -32,7 +32,10 @@ pub mod PawnWins
 pub mod Zeroing
 pub mod ByValue
 pub mod ValueTold
-pub mod QuietReach
+pub mod Related
+pub mod Aimed
+pub mod OutOfReach
+pub mod OwnTableTold
 pub mod DeterminedReach
 pub mod AskedPawns
 pub mod Completing

@@ -64,7 +64,7 @@ module _ (f g h : Parts → Reading) (p : Parts) (t : Move → Bool) (each : (q 
           let both = each q one.0.0 other.0.0 one.0.1 other.0.1 in
           rw (eb, eo, both.1) (rest one.1 other.1)
 
-turned-ok : (r : Reading) (x : Wdl) → opposite_reading r ≡ Ok x → (y : Wdl) × (r ≡ Ok y) × (opposite y ≡ x)
+pub turned-ok : (r : Reading) (x : Wdl) → opposite_reading r ≡ Ok x → (y : Wdl) × (r ≡ Ok y) × (opposite y ≡ x)
 turned-ok (Ok y) x e = (y, refl, cc)
 turned-ok (Err fault) x e = absurd (cc)
 

@@ -18,7 +18,7 @@ use Rattle.judge_core.specs.ProbeResult.{wdl_number}
 use Rattle.judge_core.specs.Root.{IsRootBy, IsInScope}
 use Rattle.judge_core.specs.Ruling.{is_out_of_scope}
 use Rattle.judge_core.specs.Determined.{IsDeterminedWdl, IsDeterminedDtz, AreDetermined, IsDeterminedRoot}
-use Rattle.judge_core.specs.Inside.Determined.{agreed, or_agreed, extreme_value, distance_in_both, or_agreed_distance, or_reach, reach_after, determined_value, determined_reach, value_as, reach_as}
+use Rattle.judge_core.specs.Inside.Determined.{agreed, or_agreed, extreme_value, distance_in_both, or_agreed_distance, distance_by_own_table, reach_after, determined_value, determined_reach, value_as, reach_as}
 use Rattle.judge_core.proofs.ByReadings.{answered, is_probe, is_numbered}
 use Rattle.judge_core.proofs.Zeroing.{is_determined}
 use Rattle.judge_core.proofs.DeterminedReach.{is_determined_reach}
@@ -28,9 +28,9 @@ module _ (tables : Tables) (p : Parts) where
   unfolding determined_value
   value_from strict r e er = er ∙ ap (λ (x : Reading). or_agreed x (agreed (extreme_value tables true p) (extreme_value tables false p))) e
 
-  pub reach_from : (strict told r : Reach) → strict ≡ dtz_of tables p → told ≡ or_agreed_distance strict (distance_in_both tables p) → r ≡ or_reach told (dtz_by tables (reach_after tables) p) → r ≡ determined_reach tables p
+  pub reach_from : (strict told r : Reach) → strict ≡ dtz_of tables p → told ≡ or_agreed_distance strict (distance_in_both tables p) → r ≡ or_agreed_distance told (distance_by_own_table tables p) → r ≡ determined_reach tables p
   unfolding determined_reach
-  reach_from strict told r e et er = er ∙ ap (λ (x : Reach). or_reach x (dtz_by tables (reach_after tables) p)) (et ∙ ap (λ (x : Reach). or_agreed_distance x (distance_in_both tables p)) e)
+  reach_from strict told r e et er = er ∙ ap (λ (x : Reach). or_agreed_distance x (distance_by_own_table tables p)) (et ∙ ap (λ (x : Reach). or_agreed_distance x (distance_in_both tables p)) e)
 
   -- what is asked of a position after a quiet move
   pub after_from : (own r : Reach) → own ≡ dtz_by tables (dtz_to tables 0) p → r ≡ or_agreed_distance own (distance_in_both tables p) → r ≡ reach_after tables p

@@ -9,7 +9,6 @@ use Rattle.board_core.specs.Position.{IsPosition}
 use Rattle.table_file.specs.declared.kind.TableKind.TheVariants.{Dtz}
 use Rattle.table_file.specs.declared.outcome.Outcome.{Outcome}
 use Rattle.table_file.specs.Tables.{Contents}
-use Rattle.table_file.specs.Distances.{stores}
 use Rattle.judge_core.specs.declared.wdl.Wdl.{Wdl}
 use Rattle.judge_core.specs.declared.wdl.Wdl.TheVariants.{Draw}
 use Rattle.judge_core.specs.declared.distance.Distance.{Distance}
@@ -22,11 +21,10 @@ use Rattle.judge_core.specs.declared.fault.ProbeFault.TheVariants.{OutOfMemory}
 use Rattle.judge_core.specs.declared.probe_result.ProbeResult.{ProbeResult}
 use Rattle.judge_core.specs.declared.root_move.RootMove.{RootMove}
 use Rattle.judge_core.specs.Values.{Reading, is_winning, opposite, outcome_of}
-use Rattle.judge_core.specs.LookUp.{material_of, placed_of}
-use Rattle.judge_core.specs.Tables.{Tables, table_at, table_value, part_asked}
+use Rattle.judge_core.specs.Tables.{Tables, table_at, table_value}
 use Rattle.judge_core.specs.Asked.{fault_in}
 use Rattle.judge_core.specs.Probing.{values_after, searched_where, searched_by, wdl_where, wdl_of, worth}
-use Rattle.judge_core.specs.Distances.{Reach, is_by_capture, is_pawn_step, is_quiet, is_won, pawns_reach, by_quiet_moves, towards, zeroing, dtz_to, dtz_of}
+use Rattle.judge_core.specs.Distances.{Reach, is_by_capture, is_pawn_step, is_quiet, is_won, pawns_reach_where, by_own_table, towards, zeroing, dtz_to, dtz_of}
 use Rattle.judge_core.specs.Answers.{IsProbe, ListsMoves, signed_in}
 use Rattle.judge_core.specs.ProbeResult.{numbered}
 use Rattle.judge_core.specs.Root.{IsRootBy}
@@ -79,43 +77,42 @@ pub record IsByPawnMove (tables : Tables) (p : Parts) (v : Wdl) : Type 0 where
       (own : Parts → Reading) → IsCompletion tables own
       → fault_in (values_after (wdl_where own) p (filter (is_pawn_step p) (legal_moves p))) ≡ None
 
+-- in no completion a pawn move that takes nothing reaches this value, and in each the values after all such moves are there
+abbrev pub IsOutOfReach : Tables → Parts → Wdl → Type 0
+IsOutOfReach tables p v = (own : Parts → Reading) → IsCompletion tables own → pawns_reach_where (wdl_where own) p v ≡ Ok false
+
 -- The value is determined, and a draw, by a capture, or a win by a pawn move: then this is the distance.
 pub data IsDistanceByValue (tables : Tables) (p : Parts) (d : Distance) : Type 0 where
   OfDraw : IsDetermined tables p Draw → d ≡ NoDistance → IsDistanceByValue tables p d
   OfCapture : (v : Wdl) (outcome : Outcome) → IsDetermined tables p v → outcome_of v ≡ Some outcome → IsByCapture tables p → d ≡ towards outcome (zeroing outcome) → IsDistanceByValue tables p d
   OfPawnMove : (v : Wdl) (outcome : Outcome) → IsDetermined tables p v → outcome_of v ≡ Some outcome → is_won outcome ≡ true → IsByPawnMove tables p v → d ≡ towards outcome (zeroing outcome) → IsDistanceByValue tables p d
 
--- ---- distances by quiet moves
+-- ---- distances by the own table
 
--- The quiet moves alone are left to tell the distance: what is searched at the position is there in the set itself, no draw and
--- not by a capture. Where it wins, no pawn move that takes nothing does, and the values after all of these are there. The own
--- DTZ table is there, and stores the other side alone.
-pub record IsLeftToQuietMoves (tables : Tables) (p : Parts) (key : ℕ) (outcome : Outcome) : Type 0 where
+-- The own DTZ table alone is left to tell the distance: what is searched at the position is there in the set itself, no draw and
+-- not by a capture. Where it wins, no pawn move that takes nothing does so in any completion.
+pub record IsLeftToOwnTable (tables : Tables) (p : Parts) (outcome : Outcome) : Type 0 where
   pub many : 2 < count_of_men p
   pub searched : CaptureSearch
   pub there : searched_by tables (wdl_of tables) p ≡ Ok searched
   pub decided : outcome_of (worth searched) ≡ Some outcome
   pub no_capture : is_by_capture searched ≡ false
-  pub no_pawn_move : is_won outcome ≡ true → pawns_reach tables p (worth searched) ≡ Ok false
-  pub material : material_of p ≡ Some key
-  pub table : Contents
-  pub has : table_at tables Dtz key ≡ Some table
-  pub other_side : stores (part_asked table (placed_of key p)) ≡ false
+  pub no_pawn_move : is_won outcome ≡ true → IsOutOfReach tables p (worth searched)
 
 -- A distance after a quiet move: what the set itself says where one position is visited, or the one by the value.
 abbrev pub IsToldAfter : Tables → Parts → Distance → Type 0
 IsToldAfter tables q d = (dtz_to tables 1 q ≡ Ok d) ⊎ IsDistanceByValue tables q d
 
--- The quiet moves alone are left, each has a distance that is told, and from these this one follows.
-pub record IsDistanceByQuietMoves (tables : Tables) (p : Parts) (d : Distance) : Type 0 where
-  pub key : ℕ
+-- The own DTZ table alone is left, and stores this distance. Or it stores the other side alone, each quiet move has a distance
+-- that is told, and from these this one follows.
+pub record IsDistanceByOwnTable (tables : Tables) (p : Parts) (d : Distance) : Type 0 where
   pub outcome : Outcome
-  pub left : IsLeftToQuietMoves tables p key outcome
+  pub left : IsLeftToOwnTable tables p outcome
   pub reach : Parts → Reach
   pub told :
       (m : Move) (q : Parts) (c : Distance) → is_quiet p m ≡ true → position_after p m ≡ Some q → reach q ≡ Ok c
       → IsToldAfter tables q c
-  pub is : by_quiet_moves key outcome reach p ≡ Ok d
+  pub is : by_own_table tables reach p outcome ≡ Ok d
 
 -- ---- readings
 
@@ -127,14 +124,14 @@ pub record IsDeterminedReading (tables : Tables) (p : Parts) (reading : Reading)
   pub fault_is : (fault : ValueFault) → reading ≡ Err fault → (wdl_of tables p ≡ Err fault) × IsUndetermined tables p
 
 -- The distance of the set, or else one that is determined, exactly where the value is a draw, by a capture, or a win by a pawn
--- move, or where the quiet moves tell it. Else the fault is the set's.
+-- move, or where the own table tells it. Else the fault is the set's.
 pub record IsDeterminedReach (tables : Tables) (p : Parts) (reach : Reach) : Type 0 where
   pub kept : (d : Distance) → dtz_of tables p ≡ Ok d → reach ≡ Ok d
   pub determined : (d : Distance) → reach ≡ Ok d → IsDeterminedDistance tables p d
   pub fault_is : (fault : ValueFault) → reach ≡ Err fault → dtz_of tables p ≡ Err fault
   pub only :
       (d : Distance) → reach ≡ Ok d
-      → (dtz_of tables p ≡ Ok d) ⊎ (IsDistanceByValue tables p d ⊎ IsDistanceByQuietMoves tables p d)
+      → (dtz_of tables p ≡ Ok d) ⊎ (IsDistanceByValue tables p d ⊎ IsDistanceByOwnTable tables p d)
   pub draw : IsDetermined tables p Draw → reach ≡ Ok NoDistance
   pub capture :
       (v : Wdl) (outcome : Outcome) → IsDetermined tables p v → outcome_of v ≡ Some outcome → IsByCapture tables p
@@ -142,7 +139,7 @@ pub record IsDeterminedReach (tables : Tables) (p : Parts) (reach : Reach) : Typ
   pub pawn :
       (v : Wdl) (outcome : Outcome) → IsDetermined tables p v → outcome_of v ≡ Some outcome → is_won outcome ≡ true
       → IsByPawnMove tables p v → reach ≡ Ok (towards outcome (zeroing outcome))
-  pub quiet : (d : Distance) → IsDistanceByQuietMoves tables p d → reach ≡ Ok d
+  pub own_table : (d : Distance) → IsDistanceByOwnTable tables p d → reach ≡ Ok d
 
 -- ---- lists of moves
 

@@ -8,7 +8,7 @@
 ghost use Rattle.std.specs.Prelude.{◌≡◌, ◌≢◌, true, false};
 ghost use Rattle.board_core.specs.ComputedMoves.{legal_captures};
 ghost use Rattle.judge_core.specs.Determined.{IsDeterminedWdl};
-ghost use Rattle.judge_core.specs.Inside.Determined.{is_won_here, fill, in_stead, extreme, extreme_value, extreme_searched, agreed, value_of_both, or_agreed, in_both, value_in_both, determined_value, value_as, step_value_as};
+ghost use Rattle.judge_core.specs.Inside.Determined.{is_won_here, fill, in_stead, extreme, extreme_value, extreme_searched, agreed, value_of_both, or_agreed, in_both, lies_outside, in_some, determined_value, value_as, step_value_in};
 ghost use Rattle.judge_core.specs.Inside.Found.{found_by_captures};
 
 use crate::ask::Ask;
@@ -80,6 +80,44 @@ fn in_both(
         }
         Err(fault) => Err(fault),
     }
+}
+
+/// Whether it is less than both, or more than both.
+fn lies_outside(value: Wdl, a: Wdl, b: Wdl) -> bool
+    ensures { result ≡ lies_outside value a b }
+{
+    value.is_below(a) && value.is_below(b) || a.is_below(value) && b.is_below(value)
+}
+
+/// This value unless it lies outside both readings, or the fault of one.
+fn in_some(
+    value: Wdl,
+    a: Result<Wdl, ValueFault>,
+    b: Result<Wdl, ValueFault>,
+) -> Result<Wdl, ValueFault>
+    ensures { result ≡ in_some value a b }
+{
+    match (a, b) {
+        (Ok(first), Ok(second)) => {
+            if lies_outside(value, first, second) {
+                Ok(first)
+            } else {
+                Ok(value)
+            }
+        }
+        (Err(fault), _) | (_, Err(fault)) => Err(fault),
+    }
+}
+
+/// Where a pawn move is to reach a value.
+#[derive(Clone, Copy)]
+pub(crate) enum ReachedIn {
+    /// By the tables of the set.
+    TheSet,
+    /// Whatever the missing tables hold.
+    EachCompletion,
+    /// By something that the missing tables may hold.
+    SomeCompletion,
 }
 
 impl<'a> Set<'a> {
@@ -203,24 +241,29 @@ impl<'a> Set<'a> {
         }
     }
 
-    /// The value of a position after a pawn move that is to reach this one; where a determined value is asked for, only
-    /// if it does so in both sets.
+    /// The value of a position after a pawn move that is to reach this one. By completions it is the opposite value only
+    /// where the move reaches it.
     pub(crate) fn step_value(
         &mut self,
         alloc: Global,
         after: &Position,
         value: Wdl,
-        ask: Ask,
+        within: ReachedIn,
     ) -> Result<Wdl, ValueFault>
-        ensures is { result ≡ step_value_as ask self.old.tables value after.now }
+        ensures is { result ≡ step_value_in within self.old.tables value after.now }
         ensures unchanged { self.new ≡ self.old }
     {
-        match ask {
-            Ask::Strict => self.wdl_of(alloc, after),
-            Ask::Determined => {
+        match within {
+            ReachedIn::TheSet => self.wdl_of(alloc, after),
+            ReachedIn::EachCompletion => {
                 let odd = self.wdl_extreme(alloc, after, true);
                 let even = self.wdl_extreme(alloc, after, false);
                 in_both(value.opposite(), odd, even)
+            }
+            ReachedIn::SomeCompletion => {
+                let odd = self.wdl_extreme(alloc, after, true);
+                let even = self.wdl_extreme(alloc, after, false);
+                in_some(value.opposite(), odd, even)
             }
         }
     }

@@ -2,11 +2,11 @@
 
 ghost use Rattle.std.specs.Prelude.{◌≡◌, ◌≤◌, ◌&&◌, true, false, Err, IfOk, IfSome, OnErr};
 ghost use Rattle.board_core.specs.Position.{IsPosition};
-ghost use Rattle.judge_core.specs.Answers.{ListsMoves};
+ghost use Rattle.judge_core.specs.Answers.{IsLeftOpen, ListsMoves};
 ghost use Rattle.judge_core.specs.Determined.{AreDetermined, IsDeterminedDtz, ListsMovesDetermined};
 ghost use Rattle.judge_core.specs.declared.fault.ProbeFault.TheVariants.{OutOfMemory};
-ghost use Rattle.judge_core.specs.Distances.{dtz_by, dtz_of, is_by_capture, is_won, plies};
-ghost use Rattle.judge_core.specs.Inside.Determined.{AskPawns, BothAskPawns, LackAndAsk, ListsMovesInside, determined_reach, determined_value, distance_in_both, is_zeroing, or_agreed_distance, or_reach, reach_after, reach_as, value_as, zeroing_distance};
+ghost use Rattle.judge_core.specs.Distances.{dtz_of, is_by_capture, is_won, plies};
+ghost use Rattle.judge_core.specs.Inside.Determined.{AskPawns, BothAskPawns, LackAndAsk, ListsMovesInside, determined_reach, determined_value, distance_by_own_table, distance_in_both, is_missed, is_zeroing, or_agreed_distance, outcome_left_in, pawns_reach_in_some, reach_as, value_as, zeroing_distance};
 ghost use Rattle.judge_core.specs.Probing.{wdl_of, worth};
 ghost use Rattle.judge_core.specs.Ruling.{is_out_of_scope, ruling};
 ghost use Rattle.judge_core.specs.Tables.{AreFiled};
@@ -14,14 +14,16 @@ ghost use Rattle.judge_core.specs.Values.{outcome_of};
 
 use crate::answering::{Readings, columns_outside};
 use crate::ask::Ask;
+use crate::determined::ReachedIn;
 use crate::display::Columns;
 use crate::distance::{Distance, is_won, towards, zeroing};
 use crate::dtz::{Beyond, signed_in};
 use crate::fault::{ProbeFault, ValueFault};
 use crate::found::CaptureSearch;
-use crate::located_position::LocatedPosition;
+use crate::located_position::{LocatedPosition, is_bare};
 use crate::set::Set;
 use crate::verdict::is_out_of_scope;
+use crate::wdl::Wdl;
 use board_core::Position;
 use std::alloc::{AllocError, Global};
 use table_file::Outcome;
@@ -47,7 +49,7 @@ impl<'a> Set<'a> {
         if !is_won(outcome) {
             return Ok(false);
         }
-        match self.pawns_reach(alloc, position, odd.worth(), Ask::Determined)? {
+        match self.pawns_reach(alloc, position, odd.worth(), ReachedIn::EachCompletion)? {
             Ok(reached) => Ok(reached),
             Err(_) => Ok(false),
         }
@@ -103,15 +105,84 @@ impl<'a> Set<'a> {
         }
     }
 
-    /// This distance, or else the one by the quiet moves, where the position leaves it to them and each has one.
-    fn or_by_quiet_moves(
+    /// Whether no pawn move that takes nothing reaches the value, whatever the missing tables hold.
+    fn pawns_miss(
+        &mut self,
+        alloc: Global,
+        position: &Position,
+        value: Wdl,
+    ) -> Result<bool, AllocError>
+        ensures is { IfOk result (λ b. b ≡ is_missed (pawns_reach_in_some self.old.tables position.now value)) }
+        ensures unchanged { self.new ≡ self.old }
+    {
+        match self.pawns_reach(alloc, position, value, ReachedIn::SomeCompletion)? {
+            Ok(reached) => Ok(!reached),
+            Err(_) => Ok(false),
+        }
+    }
+
+    /// What a won or lost position is, where neither a capture nor a pawn move tells its distance, whatever the missing
+    /// tables hold.
+    fn outcome_left(
+        &mut self,
+        alloc: Global,
+        position: &Position,
+        searched: &Result<CaptureSearch, ValueFault>,
+    ) -> Result<Option<Outcome>, AllocError>
+        ensures is { IfOk result (λ o. o ≡ outcome_left_in self.old.tables position.now searched.now) }
+        ensures left { IfOk result (λ o. IfSome o (λ outcome. IsLeftOpen searched.now)) }
+        ensures memory { OnErr result (IsLeftOpen searched.now) }
+        ensures unchanged { self.new ≡ self.old }
+    {
+        let Ok(searched) = searched else {
+            return Ok(None);
+        };
+        let value = searched.worth();
+        let Some(outcome) = value.outcome() else {
+            return Ok(None);
+        };
+        if searched.is_by_capture() {
+            return Ok(None);
+        }
+        if is_won(outcome) && !self.pawns_miss(alloc, position, value)? {
+            return Ok(None);
+        }
+        Ok(Some(outcome))
+    }
+
+    /// The distance of the own table, where that alone is left to tell it, whatever the missing tables hold.
+    fn distance_by_own_table(
+        &mut self,
+        alloc: Global,
+        position: &Position,
+    ) -> Result<Option<Distance>, AllocError>
+        ensures is { IfOk result (λ d. d ≡ distance_by_own_table self.old.tables position.now) }
+        ensures memory { OnErr result (ListsMoves self.old.tables position.now) }
+        ensures within { IfOk result (λ o. IfSome o (λ d. plies d ≤ 131174)) }
+        ensures unchanged { self.new ≡ self.old }
+    {
+        if is_bare(position) {
+            return Ok(None);
+        }
+        let probe = LocatedPosition::of(position);
+        let searched = self.capture_search(alloc, &probe);
+        let left = self.outcome_left(alloc, position, &searched)?;
+        let Some(outcome) = left else {
+            return Ok(None);
+        };
+        let told = self.by_own_table(alloc, &probe, outcome, Beyond::Told)?;
+        Ok(told.ok())
+    }
+
+    /// This distance, or else the one of the own table, where that alone is left to tell it.
+    fn or_by_own_table(
         &mut self,
         alloc: Global,
         position: &Position,
         told: &Result<Distance, ValueFault>,
     ) -> Result<Result<Distance, ValueFault>, AllocError>
         requires within { IfOk told.now (λ d. plies d ≤ 131174) }
-        ensures is { IfOk result (λ r. r ≡ or_reach told.now (dtz_by self.old.tables (reach_after self.old.tables) position.now)) }
+        ensures is { IfOk result (λ r. r ≡ or_agreed_distance told.now (distance_by_own_table self.old.tables position.now)) }
         ensures memory { OnErr result (ListsMoves self.old.tables position.now) }
         ensures within { IfOk result (λ r. IfOk r (λ d. plies d ≤ 131174)) }
         ensures unchanged { self.new ≡ self.old }
@@ -120,9 +191,9 @@ impl<'a> Set<'a> {
             Ok(distance) => return Ok(Ok(*distance)),
             Err(fault) => *fault,
         };
-        match self.dtz_from(alloc, position, Beyond::Told)? {
-            Ok(distance) => Ok(Ok(distance)),
-            Err(_) => Ok(Err(fault)),
+        match self.distance_by_own_table(alloc, position)? {
+            Some(distance) => Ok(Ok(distance)),
+            None => Ok(Err(fault)),
         }
     }
 
@@ -144,7 +215,7 @@ impl<'a> Set<'a> {
     {
         let wdl = self.or_agreed(alloc, position, &strict.wdl);
         let told = self.or_agreed_distance(alloc, position, &strict.dtz)?;
-        let dtz = self.or_by_quiet_moves(alloc, position, &told)?;
+        let dtz = self.or_by_own_table(alloc, position, &told)?;
         Ok(Readings { wdl, dtz })
     }
 
@@ -195,10 +266,12 @@ impl<'a> Set<'a> {
     /// tables hold.
     ///
     /// It tells the distance where the value is the same whatever they hold, and is a draw, by a capture, or a win by a
-    /// pawn move. It also does where by the set itself only the quiet moves are left to tell it, and after each the
-    /// distance is that of the set or told so by the value. No other missing table is made up for. Else the error is that
-    /// of `dtz`. `OutOfMemory` comes only where memory for a list of moves is refused: where `dtz` may report it, and
-    /// where the value is a win that is not by a capture and `dtz` has a fault. The set stays as it was but for its cache.
+    /// pawn move. It also does where the own table is left to tell it: the set itself has the value, which is not by a
+    /// capture, and whatever the missing tables hold, no pawn move brings a win about. Where the table stores the other
+    /// side alone, each distance after a quiet move has to be that of the set or told so by the value. No other missing
+    /// table is made up for. Else the error is that of `dtz`. `OutOfMemory` comes only where memory for a list of moves is
+    /// refused: where `dtz` may report it, and where the value is a win that is not by a capture and `dtz` has a fault.
+    /// The set stays as it was but for its cache.
     pub fn determined_dtz(&mut self, alloc: Global, position: &Position) -> Result<i32, ProbeFault>
         ensures answer { IsDeterminedDtz self.old.tables position.now result }
         ensures memory { result ≡ Err OutOfMemory → ListsMovesDetermined self.old.tables position.now }

@@ -6,10 +6,10 @@ ghost use Rattle.judge_core.specs.Distances.{plies, pawns_reach_where, move_coun
 ghost use Rattle.judge_core.specs.Ruling.{is_out_of_scope};
 ghost use Rattle.judge_core.specs.Answers.{IsLeftOpen, IsProbe, ListsMoves, as_probe, signed_in};
 ghost use Rattle.judge_core.specs.declared.fault.ProbeFault.TheVariants.{OutOfMemory};
-ghost use Rattle.judge_core.specs.Inside.Determined.{reach_after, reach_beyond, step_value_as, visits};
+ghost use Rattle.judge_core.specs.Inside.Determined.{reach_after, reach_beyond, step_value_in, visits};
 
-use crate::ask::Ask;
 use crate::counts::{Counts, Steps};
+use crate::determined::ReachedIn;
 use crate::distance::{Distance, distance_before, is_won, towards, zeroing};
 use crate::fault::{ProbeFault, ValueFault};
 use crate::found::CaptureSearch;
@@ -66,9 +66,9 @@ impl<'a> Set<'a> {
         alloc: Global,
         position: &Position,
         value: Wdl,
-        ask: Ask,
+        within: ReachedIn,
     ) -> Result<Result<bool, ValueFault>, AllocError>
-        ensures is { IfOk result (λ reached. reached ≡ pawns_reach_where (step_value_as ask self.old.tables value) position.now value) }
+        ensures is { IfOk result (λ reached. reached ≡ pawns_reach_where (step_value_in within self.old.tables value) position.now value) }
         ensures unchanged { self.new ≡ self.old }
     {
         if !has_pawn(position) {
@@ -78,7 +78,7 @@ impl<'a> Set<'a> {
         let mut steps = Steps::new();
         for m in &moves {
             if let Some(after) = after_pawn_step(position, m) {
-                let reading = self.step_value(alloc, &after, value, ask);
+                let reading = self.step_value(alloc, &after, value, within);
                 steps = steps.with(value, &turned(reading));
             }
         }
@@ -136,7 +136,7 @@ impl<'a> Set<'a> {
 
     /// The distance by the own table, or by the quiet moves where that stores the other side alone.
     #[cycle(dtz)]
-    fn by_own_table(
+    pub(crate) fn by_own_table(
         &mut self,
         alloc: Global,
         probe: &LocatedPosition<'_>,
@@ -179,7 +179,7 @@ impl<'a> Set<'a> {
         ensures unchanged { self.new ≡ self.old }
     {
         if is_won(outcome) {
-            let found = self.pawns_reach(alloc, probe.position(), value, Ask::Strict)?;
+            let found = self.pawns_reach(alloc, probe.position(), value, ReachedIn::TheSet)?;
             let reached = match found {
                 Ok(reached) => reached,
                 Err(fault) => return Ok(Err(fault)),

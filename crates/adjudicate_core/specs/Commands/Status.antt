@@ -10,7 +10,7 @@ use Rattle.game_status.specs.Reports.{ReportsStatus, form_of}
 use Rattle.game_status.specs.Statuses.{TellsStatusTo}
 use Rattle.adjudicate_core.specs.Rules.{rule_of_form}
 use Rattle.adjudicate_core.specs.declared.commands.Form.TheVariants as form
-use Rattle.adjudicate_core.specs.Misuses.{Fault, NoOption, NotBoth}
+use Rattle.adjudicate_core.specs.Misuses.{Fault, FlagNotWith, NoOption}
 use Rattle.adjudicate_core.specs.declared.words.usage.Instead.TheVariants as instead
 use Rattle.adjudicate_core.specs.Numbers.{is_set}
 use Rattle.adjudicate_core.specs.Reply.{status_told}
@@ -39,7 +39,7 @@ HasValues value t =
 
 -- what may be wrong with its values, in the order in which it is told
 abbrev pub faults : List Fault
-faults = NoOption (codes "games") ∷ NotBoth instead.Prometheus (codes "json") ∷ []
+faults = NoOption (codes "games") ∷ FlagNotWith instead.Prometheus (codes "json") ∷ []
 
 -- nothing is read for it before it answers: it reads its folders itself
 abbrev pub named : Named

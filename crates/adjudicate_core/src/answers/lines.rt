@@ -4,7 +4,7 @@ ghost use Rattle.std.specs.Prelude.{◌≡◌, ◌≤◌, ◌++◌, ◌∷◌, O
 ghost use Rattle.std.specs.Fmt.{decimal};
 ghost use Rattle.board_core.specs.Verdicts.{verdict_name};
 ghost use Rattle.fen_text.specs.Coordinates.{move_text};
-ghost use Rattle.judge_core.specs.Words.{columns_words, outcome_words};
+ghost use Rattle.judge_core.specs.Words.{column_words, columns_words, outcome_words};
 ghost use Rattle.line_teller.specs.ToldLines.{HasFailed};
 ghost use Rattle.move_msg.specs.MessageWords.{message_words};
 ghost use Rattle.move_msg.specs.TextLines.{ended};
@@ -131,6 +131,8 @@ pub(crate) enum Line {
     Compared(Option<usize>),
     /// The outcome of a game.
     Outcome(Outcome),
+    /// The value in the tables alone, or why there is none.
+    Value(Column),
     /// Both probes of a position, and the verdict on it.
     Columns(Columns),
     /// A legal move and what tables tell of it.
@@ -306,6 +308,15 @@ fn outcome_line(outcome: &Outcome) -> LineWords
     }
 }
 
+/// The line of a number of the tables, or why there is none.
+fn value_line(told: Result<i32, ProbeFault>) -> LineWords
+    ensures { result ≡ column_words told }
+{
+    let mut line = LineWords::new();
+    add_column(&mut line, told);
+    line
+}
+
 /// The line of both probes of a position and the verdict on it, with a tab between two of them.
 fn columns_line(columns: &Columns) -> LineWords
     ensures { result ≡ columns_words columns.now.probed.wdl columns.now.probed.dtz columns.now.verdict }
@@ -339,6 +350,7 @@ impl Line {
             Line::Compared(None) => LineWords::of("agree"),
             Line::Compared(Some(ply)) => numbered("differ ", *ply),
             Line::Outcome(outcome) => outcome_line(outcome),
+            Line::Value(told) => value_line(told.0),
             Line::Columns(columns) => columns_line(columns),
             Line::Root(line) => line.words(),
         }

@@ -4,20 +4,21 @@ ghost use Rattle.std.specs.Prelude.{◌≡◌, false, IfOk, OnErr, IfErr};
 ghost use Rattle.clap.specs.Words.{first_value, found_of};
 ghost use Rattle.board_core.specs.Position.{IsPosition};
 ghost use Rattle.fen_text.specs.Fen.{SpellsPosition};
-ghost use Rattle.adjudicate_core.specs.Commands.Probes.{HasValues, Puts, TellsFolderLineIn, TellsLine, TellsLineByFolder, TellsLineIn, faults, is_lazy, named};
+ghost use Rattle.adjudicate_core.specs.Commands.Probes.{HasValues, Puts, TellsAskedIn, TellsFolderLineIn, TellsKnown, TellsLine, TellsLineByFolder, TellsLineIn, faults, is_lazy, named};
 ghost use Rattle.adjudicate_core.specs.FolderAnswers.{PutsByFolder};
 ghost use Rattle.move_msg.specs.ToldBy.{told_by};
 ghost use Rattle.adjudicate_core.specs.LineAnswers.{PutsLinesOrNone};
 ghost use Rattle.adjudicate_core.specs.Lines.{words_of};
 ghost use Rattle.adjudicate_core.specs.Misuses.{IsFirstMisuse, fault_words};
 ghost use Rattle.judge_core.specs.Ask.{ask_of};
+ghost use Rattle.judge_core.specs.ProbeResult.{numbered};
 ghost use Rattle.task_files.specs.Sources.{named_by};
 ghost use Rattle.adjudicate_core.specs.Reply.{IsText};
 ghost use Rattle.adjudicate_core.specs.TableAnswers.{PutsByTables};
 ghost use Rattle.line_teller.specs.ToldLines.{HasFailed};
 
 use super::options::{ALL_TABLES, DETERMINED, JSON, MANIFEST, MEMORY, PROGRESS, TABLES};
-use super::{Group, Summary, Value};
+use super::{Form, Group, Stands, Summary, Value};
 use crate::answers::json_answers::{FolderJsonTeller, JsonTeller};
 use crate::answers::line_answers::put_told;
 use crate::answers::lines::{Line, put_line, put_refusal};
@@ -25,13 +26,13 @@ use crate::answers::refusals::Refusal;
 use crate::folders::{FolderPlace, OpenFolder, arena_for, read_at_once, read_when_asked};
 use crate::tables::gather;
 use crate::words::numbers::{CacheSize, Megabytes, is_set};
-use crate::words::usage::ValueFault;
-use crate::words::values::{memory_in, option_in};
+use crate::words::usage::{Instead, ValueFault};
+use crate::words::values::{memory_in, option_in, without_flag};
 use board_core::Position;
 use clap::ArgMatches;
 use fen_text::read;
 use json_lines::Ask;
-use judge_core::Set;
+use judge_core::{Column, ProbeFault, Set, Wdl};
 use line_teller::{LineHandler, TellFault};
 use std::alloc::{AllocError, Global};
 use std::io::Write;
@@ -53,13 +54,24 @@ pub struct Probes<'a> {
     pub json: bool,
     /// Whether values are wanted that are the same whatever the missing tables hold.
     pub determined: bool,
+    /// Whether the value alone is wanted, as soon as it is known.
+    pub soon: bool,
     /// Whether the progress is written.
     pub progress: bool,
 }
 
+/// Values as soon as they are known.
+const SOON: Value = Value {
+    name: "soon",
+    form: Form::Flag,
+    word: "",
+    about: "tells the value alone, as soon as it is known; not with --json or --determined",
+    stands: Stands::Optional,
+};
+
 /// The values of `probes`.
-pub(crate) const VALUES: [Value; 7] = [
-    TABLES, MANIFEST, ALL_TABLES, MEMORY, JSON, DETERMINED, PROGRESS,
+pub(crate) const VALUES: [Value; 8] = [
+    TABLES, MANIFEST, ALL_TABLES, MEMORY, JSON, DETERMINED, SOON, PROGRESS,
 ];
 
 /// What help says of `probes`.
@@ -133,6 +145,65 @@ impl<'a> LineHandler for Prober<'a> {
     }
 }
 
+/// A value as a number, or why there is none.
+fn number_of(told: Result<Wdl, ProbeFault>) -> Result<i32, ProbeFault>
+    ensures { result ≡ numbered told }
+{
+    match told {
+        Ok(value) => Ok(i32::from(value.number())),
+        Err(fault) => Err(fault),
+    }
+}
+
+/// The value of a position as soon as it is known, and whether there is one.
+fn known(alloc: Global, set: &mut Set<'_>, text: &[u8], position: &Position) -> (Line, bool)
+    requires spelled { SpellsPosition text.now position.now }
+    requires position { IsPosition position.now }
+    ensures told { TellsKnown set.old.tables text.now (record { words = words_of result.0; done = result.1 }) }
+    ensures unchanged { set.new.tables ≡ set.old.tables }
+{
+    let told = set.known_wdl(alloc, position);
+    let is_told = told.is_ok();
+    (Line::Value(Column(number_of(told))), is_told)
+}
+
+/// The answer to a line by the value as soon as it is known, and whether it is complete.
+fn known_line(alloc: Global, set: &mut Set<'_>, text: &[u8]) -> (Line, bool)
+    ensures told { TellsKnown set.old.tables text.now (record { words = words_of result.0; done = result.1 }) }
+    ensures unchanged { set.new.tables ≡ set.old.tables }
+{
+    match read(text) {
+        Ok(position) => known(alloc, set, text, &position),
+        Err(fault) => (Line::Refused(Refusal::Fen(fault)), false),
+    }
+}
+
+/// Answers a line with the value of its position as soon as it is known.
+#[derive(Drop)]
+struct SoonProber<'a> {
+    /// The allocator.
+    alloc: Global,
+    /// The tables.
+    set: Set<'a>,
+}
+
+impl<'a> LineHandler for SoonProber<'a> {
+    ghost use Rattle.adjudicate_core.specs.Reply.{IsText};
+    ghost use Rattle.adjudicate_core.specs.Commands.Probes.{TellsKnown};
+
+    ghost tells = { λ p. TellsKnown p.set.tables };
+
+    ghost takes_memory = { IsText };
+
+    fn tell<W: Output>(&mut self, line: &[u8], out: &mut W) -> Result<bool, TellFault> {
+        let (told, is_told) = known_line(self.alloc, &mut self.set, line);
+        match put_line(out, &told) {
+            Ok(()) => Ok(is_told),
+            Err(_) => Err(TellFault::Io),
+        }
+    }
+}
+
 /// Answers a line with the values of its position in the tables of a folder, of which those are read that it asks for.
 #[derive(Drop)]
 struct FolderProber<'r, D: Disk> {
@@ -195,13 +266,18 @@ impl<'a> Probes<'a> {
         ensures ok { IfOk result (HasValues (first_value (found_of matches.now))) }
         ensures err { IfErr result (λ fault. IsFirstMisuse (first_value (found_of matches.now)) faults (fault_words fault)) }
     {
+        let tables = option_in(matches, "tables")?;
+        let memory = memory_in(matches)?;
+        without_flag(matches, "json", Instead::Soon)?;
+        without_flag(matches, "determined", Instead::Soon)?;
         Ok(Probes {
-            tables: option_in(matches, "tables")?,
+            tables,
             manifest: matches.get_str("manifest"),
             all_tables: is_set(matches.get_str("all-tables")),
-            memory: memory_in(matches)?,
+            memory,
             json: is_set(matches.get_str("json")),
             determined: is_set(matches.get_str("determined")),
+            soon: is_set(matches.get_str("soon")),
             progress: is_set(matches.get_str("progress")),
         })
     }
@@ -210,7 +286,7 @@ impl<'a> Probes<'a> {
     fn is_lazy(&self) -> bool
         ensures { result ≡ is_lazy self.now }
     {
-        !(self.all_tables || self.determined)
+        !(self.all_tables || self.determined || self.soon)
     }
 
     /// What is read for it before it answers.
@@ -226,8 +302,8 @@ impl<'a> Probes<'a> {
         }
     }
 
-    /// Writes the answer to each line of the input as it comes, by tables.
-    fn answer_lines<I: Input, W: Output, E: Write>(
+    /// Writes the value of each line's position as soon as it is known, as the lines come.
+    fn answer_soon<I: Input, W: Output, E: Write>(
         &self,
         alloc: Global,
         set: Set<'_>,
@@ -235,7 +311,24 @@ impl<'a> Probes<'a> {
         out: &mut W,
         errors: &mut E,
     ) -> Result<u8, WriteFault>
-        ensures written { PutsLinesOrNone (TellsLineIn self.now.json (ask_of self.now.determined) set.entry.tables) IsText (I.facts input.now) (W.contents out.old) (W.contents out.new) result }
+        ensures written { PutsLinesOrNone (TellsKnown set.entry.tables) IsText (I.facts input.now) (W.contents out.old) (W.contents out.new) result }
+        ensures quiet { self.now.progress ≡ false → errors.new ≡ errors.old }
+        ensures cause { OnErr result (HasFailed W.facts) }
+    {
+        let mut prober = SoonProber { alloc, set };
+        put_told(alloc, &mut prober, input, out, errors, self.progress)
+    }
+
+    /// Writes both values of each line's position and the verdict, or an object, as the lines come.
+    fn answer_asked<I: Input, W: Output, E: Write>(
+        &self,
+        alloc: Global,
+        set: Set<'_>,
+        input: &I,
+        out: &mut W,
+        errors: &mut E,
+    ) -> Result<u8, WriteFault>
+        ensures written { PutsLinesOrNone (TellsAskedIn self.now.json (ask_of self.now.determined) set.entry.tables) IsText (I.facts input.now) (W.contents out.old) (W.contents out.new) result }
         ensures quiet { self.now.progress ≡ false → errors.new ≡ errors.old }
         ensures cause { OnErr result (HasFailed W.facts) }
     {
@@ -252,6 +345,26 @@ impl<'a> Probes<'a> {
         } else {
             let mut prober = Prober { ask, alloc, set };
             put_told(alloc, &mut prober, input, out, errors, self.progress)
+        }
+    }
+
+    /// Writes the answer to each line of the input as it comes, by tables.
+    fn answer_lines<I: Input, W: Output, E: Write>(
+        &self,
+        alloc: Global,
+        set: Set<'_>,
+        input: &I,
+        out: &mut W,
+        errors: &mut E,
+    ) -> Result<u8, WriteFault>
+        ensures written { PutsLinesOrNone (TellsLineIn self.now.soon self.now.json (ask_of self.now.determined) set.entry.tables) IsText (I.facts input.now) (W.contents out.old) (W.contents out.new) result }
+        ensures quiet { self.now.progress ≡ false → errors.new ≡ errors.old }
+        ensures cause { OnErr result (HasFailed W.facts) }
+    {
+        if self.soon {
+            self.answer_soon(alloc, set, input, out, errors)
+        } else {
+            self.answer_asked(alloc, set, input, out, errors)
         }
     }
 
@@ -312,7 +425,7 @@ impl<'a> Probes<'a> {
         out: &mut W,
         errors: &mut E,
     ) -> Result<u8, WriteFault>
-        ensures written { PutsByTables (TellsLineIn self.now.json (ask_of self.now.determined)) IsText (I.facts input.now) sources.now (W.contents out.old) (W.contents out.new) result }
+        ensures written { PutsByTables (TellsLineIn self.now.soon self.now.json (ask_of self.now.determined)) IsText (I.facts input.now) sources.now (W.contents out.old) (W.contents out.new) result }
         ensures quiet { self.now.progress ≡ false → errors.new ≡ errors.old }
         ensures cause { OnErr result (HasFailed W.facts) }
     {
@@ -326,7 +439,7 @@ impl<'a> Probes<'a> {
     /// Writes the answer to each line of the input as it comes, by the tables of a folder, or the refusal of these.
     /// Returns the status, 0 where all answers are complete, else 1. With `--json` an answer is one object (RFC 8259).
     /// With `--determined` values and distances are also those that are the same whatever the missing tables hold; the
-    /// verdict stays.
+    /// verdict stays. With `--soon` an answer is the value alone, as soon as it is known.
     ///
     /// Each line is answered before the next one has to arrive, and memory is that of the longest line. Where memory is
     /// refused, the line `refused memory` follows the whole lines before it; where the input fails, `refused files`.
@@ -334,7 +447,7 @@ impl<'a> Probes<'a> {
     /// there.
     ///
     /// A table is read when a position asks for it, and the file of one that is at fault is refused as the answer of each position
-    /// that needs it. With `--all-tables` or `--determined` all are read before, and the first file at fault is refused.
+    /// that needs it. With `--all-tables`, `--determined` or `--soon` all are read before, and the first file at fault is refused.
     pub(crate) fn answer<D: Disk, I: Input, W: Output, E: Write>(
         &self,
         alloc: Global,

@@ -1,10 +1,10 @@
 //! `status`: how far the games of a folder have come, or those of two, as lines, as metrics or as JSON.
 
-ghost use Rattle.std.specs.Prelude.{◌≡◌, IfErr, IfOk, OnErr, OnOk, codes, option_map, true};
+ghost use Rattle.std.specs.Prelude.{◌≡◌, IfErr, IfOk, OnErr, OnOk, codes, option_map};
 ghost use Rattle.clap.specs.Words.{first_value, found_of};
 ghost use Rattle.adjudicate_core.specs.Commands.Status.{HasValues, Puts, PutsOver, ReportsAs, faults, named, report_by};
 ghost use Rattle.adjudicate_core.specs.declared.words.usage.Instead.TheVariants.{Prometheus};
-ghost use Rattle.adjudicate_core.specs.Misuses.{IsFirstMisuse, IsToldMisuse, Holds, NotBoth, fault_words, not_with_words};
+ghost use Rattle.adjudicate_core.specs.Misuses.{IsFirstMisuse, IsToldMisuse, Holds, FlagNotWith, fault_words};
 ghost use Rattle.adjudicate_core.specs.Numbers.{is_set};
 ghost use Rattle.task_files.specs.Sources.{named_by};
 ghost use Rattle.line_teller.specs.ToldLines.{HasFailed};
@@ -16,7 +16,7 @@ use crate::answers::status_told;
 use crate::stores::disk_over;
 use crate::words::numbers::is_set;
 use crate::words::usage::{Instead, ValueFault};
-use crate::words::values::option_in;
+use crate::words::values::{option_in, without_flag};
 use clap::ArgMatches;
 use game_status::{ReportForm, tell_status, write_status_report};
 use std::alloc::Global;
@@ -61,33 +61,29 @@ pub(crate) const SUMMARY: Summary = Summary {
     example: "adjudicate status --games east --other west",
 };
 
-/// As which report it is shown, by whether metrics and JSON are asked for; not as both.
-fn report_of<'a>(metrics: bool, json: bool) -> Result<Option<ReportForm>, ValueFault<'a>>
-    ensures ok { IfOk result (λ report. report ≡ report_by metrics json) }
-    ensures one { OnOk result ((metrics ≡ true) × (json ≡ true) → ⊥) }
-    ensures err { IfErr result (λ fault. (metrics ≡ true) × (json ≡ true) × (fault_words fault ≡ not_with_words Prometheus (codes "json"))) }
+/// As which report it is shown, by whether metrics and JSON are asked for.
+fn report_of(metrics: bool, json: bool) -> Option<ReportForm>
+    ensures { result ≡ report_by metrics json }
 {
-    if metrics && json {
-        return Err(ValueFault::NotWith(Instead::Prometheus, "json"));
-    }
     if metrics {
-        return Ok(Some(ReportForm::Metrics));
+        return Some(ReportForm::Metrics);
     }
     if json {
-        return Ok(Some(ReportForm::Json));
+        return Some(ReportForm::Json);
     }
-    Ok(None)
+    None
 }
 
-/// As which report it is shown, by the words.
+/// As which report it is shown, by the words; not as both.
 fn report_in<'a>(matches: &ArgMatches<'a>) -> Result<Option<ReportForm>, ValueFault<'a>>
     ensures ok { IfOk result (λ report. report ≡ report_by (is_set (first_value (found_of matches.now) (codes "prometheus"))) (is_set (first_value (found_of matches.now) (codes "json")))) }
-    ensures well { OnOk result (Holds (first_value (found_of matches.now)) (NotBoth Prometheus (codes "json")) → ⊥) }
-    ensures err { IfErr result (λ fault. IsToldMisuse (first_value (found_of matches.now)) (NotBoth Prometheus (codes "json")) (fault_words fault)) }
+    ensures well { OnOk result (Holds (first_value (found_of matches.now)) (FlagNotWith Prometheus (codes "json")) → ⊥) }
+    ensures err { IfErr result (λ fault. IsToldMisuse (first_value (found_of matches.now)) (FlagNotWith Prometheus (codes "json")) (fault_words fault)) }
 {
+    without_flag(matches, "json", Instead::Prometheus)?;
     let metrics = is_set(matches.get_str("prometheus"));
     let json = is_set(matches.get_str("json"));
-    report_of(metrics, json)
+    Ok(report_of(metrics, json))
 }
 
 impl<'a> ShowStatus<'a> {

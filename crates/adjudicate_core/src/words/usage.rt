@@ -107,9 +107,23 @@ pub enum Instead {
     Games,
     /// Metrics.
     Prometheus,
+    /// Values that are told as soon as they are known.
+    Soon,
 }
 
 impl Instead {
+    /// The option itself.
+    pub(crate) fn name(self) -> &'static str
+        ensures { result.now ≡ instead_name self }
+    {
+        match self {
+            Instead::From => "from",
+            Instead::Games => "games",
+            Instead::Prometheus => "prometheus",
+            Instead::Soon => "soon",
+        }
+    }
+
     /// That another option isn't for this one, as it is printed after that option.
     pub(crate) fn rest(self) -> &'static str
         ensures { result.now ≡ codes " cannot be used with --" ++ instead_name self }
@@ -118,6 +132,7 @@ impl Instead {
             Instead::From => " cannot be used with --from",
             Instead::Games => " cannot be used with --games",
             Instead::Prometheus => " cannot be used with --prometheus",
+            Instead::Soon => " cannot be used with --soon",
         }
     }
 }
@@ -137,6 +152,8 @@ pub enum ValueFault<'a> {
     WordNotWith(Instead, &'a str),
     /// An option stands beside `--game`, whose file tells it.
     Beside(&'a str),
+    /// A flag is given beside one that excludes it.
+    FlagNotWith(Instead, &'a str),
 }
 
 /// A fault of the words of a command line.

@@ -355,6 +355,9 @@ fn tell_fault<E: Output>(errors: &mut E, fault: &ValueFault<'_>, name: Name)
         ValueFault::Beside(option) => {
             tell_name(errors, "--", option, " cannot be used with --game", name)
         }
+        ValueFault::FlagNotWith(instead, flag) => {
+            tell_name(errors, "--", flag, instead.rest(), name)
+        }
     }
 }
 

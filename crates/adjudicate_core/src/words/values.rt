@@ -4,14 +4,14 @@ ghost use Rattle.std.specs.Prelude.{◌≡◌, [], ◌∷◌, IfOk, IfErr, OnOk,
 ghost use Rattle.clap.specs.Words.{Text, first_value, found_of};
 ghost use Rattle.move_msg.specs.Stamps.{IsGameName};
 ghost use Rattle.adjudicate_core.specs.Addresses.{AreAddresses, AreRecipients, IsAddressIfAny};
-ghost use Rattle.adjudicate_core.specs.Misuses.{AreGameWords, AreWell, IsFirstMisuse, IsToldMisuse, NoOption, NoWord, NotWith, Unfit, WordNotWith, fault_words, game_faults, me_faults, name_faults, recipient_faults, to_faults};
+ghost use Rattle.adjudicate_core.specs.Misuses.{AreGameWords, AreWell, FlagNotWith, Holds, IsFirstMisuse, IsToldMisuse, NoOption, NoWord, NotWith, Unfit, WordNotWith, fault_words, game_faults, me_faults, name_faults, recipient_faults, to_faults};
 ghost use Rattle.adjudicate_core.specs.GamePaths.{SpellsStamp};
 ghost use Rattle.adjudicate_core.specs.Numbers.{IsAtOnce, IsCache, IsDatagrams, IsDelay, IsHundredOr, IsLog, IsMe, IsMemory, IsStore};
 
 use crate::words::addresses::{are_addresses, are_recipients, is_address};
 use crate::words::numbers::{
-    CacheSize, Megabytes, StoreForm, at_once_of, datagrams_of, delay_of, hundred_or, log_of, me_of,
-    store_of,
+    CacheSize, Megabytes, StoreForm, at_once_of, datagrams_of, delay_of, hundred_or, is_set, log_of,
+    me_of, store_of,
 };
 use crate::words::usage::{Instead, ValueFault, Wanted};
 use arbiter_server::LogForm;
@@ -89,6 +89,21 @@ pub(crate) fn without_word<'a>(
         None => Ok(()),
         Some(_) => Err(ValueFault::WordNotWith(instead, name)),
     }
+}
+
+/// That a flag isn't given beside another one that excludes it.
+pub(crate) fn without_flag<'a>(
+    matches: &ArgMatches<'a>,
+    name: &'static str,
+    other: Instead,
+) -> Result<(), ValueFault<'a>>
+    ensures ok { OnOk result (Holds (first_value (found_of matches.now)) (FlagNotWith other name.now) → ⊥) }
+    ensures err { IfErr result (λ fault. IsToldMisuse (first_value (found_of matches.now)) (FlagNotWith other name.now) (fault_words fault)) }
+{
+    if is_set(matches.get_str(other.name())) && is_set(matches.get_str(name)) {
+        return Err(ValueFault::FlagNotWith(other, name));
+    }
+    Ok(())
 }
 
 /// The name of a game, of an option that has to be there.

@@ -1,10 +1,13 @@
 -- The two completions between which all others lie, and what follows from both.
-use Rattle.std.specs.Prelude.{◌≡◌, ◌⊎◌, ℕ, ◌%◌, ◌==◌, Bool, true, false, not, ◌&&◌, ◌||◌, Option, Some, None, Result, Ok, Err, if◌then◌else◌}
+use Rattle.std.specs.Prelude.{◌≡◌, ◌⊎◌, ℕ, ◌%◌, ◌==◌, nat_le, Bool, true, false, not, ◌&&◌, ◌||◌, Option, Some, None, Result, Ok, Err, if◌then◌else◌}
+use Rattle.std.specs.Result.{result_ok}
 use Rattle.board_core.specs.declared.parts.Parts.{Parts}
 use Rattle.board_core.specs.ComputedMoves.{count_of_men}
 use Rattle.table_file.specs.declared.outcome.Outcome.{Outcome}
 use Rattle.judge_core.specs.declared.ask.Ask.{Ask}
 use Rattle.judge_core.specs.declared.ask.Ask.TheVariants.{Strict, Determined}
+use Rattle.judge_core.specs.declared.determined.ReachedIn.{ReachedIn}
+use Rattle.judge_core.specs.declared.determined.ReachedIn.TheVariants.{TheSet, EachCompletion, SomeCompletion}
 use Rattle.judge_core.specs.declared.dtz.Beyond.{Beyond}
 use Rattle.judge_core.specs.declared.dtz.Beyond.TheVariants.{Unvisited, Visited, Told}
 use Rattle.judge_core.specs.declared.wdl.Wdl.{Wdl}
@@ -14,11 +17,11 @@ use Rattle.judge_core.specs.declared.distance.Distance.TheVariants.{Draw}
 use Rattle.judge_core.specs.declared.found.CaptureSearch.{CaptureSearch}
 use Rattle.judge_core.specs.declared.fault.ValueFault.{ValueFault}
 use Rattle.judge_core.specs.declared.fault.ValueFault.TheVariants.{NotCovered, Damaged}
-use Rattle.judge_core.specs.Values.{Reading, is_same, opposite, outcome_of}
+use Rattle.judge_core.specs.Values.{Reading, is_below, is_same, opposite, outcome_of}
 use Rattle.judge_core.specs.Tables.{Tables, table_value}
-use Rattle.judge_core.specs.Probing.{searched_where, wdl_where, wdl_of, worth}
+use Rattle.judge_core.specs.Probing.{searched_where, searched_by, wdl_where, wdl_of, worth}
 use Rattle.judge_core.specs.Answers.{ListsMoves}
-use Rattle.judge_core.specs.Distances.{Reach, is_by_capture, is_won, towards, zeroing, pawns_reach_where, dtz_by, dtz_to, dtz_of}
+use Rattle.judge_core.specs.Distances.{Reach, is_by_capture, is_won, towards, zeroing, pawns_reach_where, by_own_table, dtz_to, dtz_of}
 
 -- ---- values
 
@@ -112,14 +115,51 @@ told_reach tables p = or_agreed_distance (dtz_of tables p) (distance_in_both tab
 unfoldable pub reach_after : Tables → Parts → Reach
 reach_after tables q = or_agreed_distance (dtz_to tables 1 q) (distance_in_both tables q)
 
-abbrev pub or_reach : Reach → Reach → Reach
-or_reach (Ok d) other = Ok d
-or_reach (Err fault) (Ok d) = Ok d
-or_reach (Err fault) (Err other) = Err fault
+-- ---- by the own table
 
--- the distance that is told, or else the one by the quiet moves
+-- a value that is less than both, or more than both
+abbrev pub lies_outside : Wdl → Wdl → Wdl → Bool
+lies_outside v a b = (is_below v a && is_below v b) || (is_below a v && is_below b v)
+
+-- this value unless it lies outside both, and a fault where one has
+abbrev pub in_some : Wdl → Reading → Reading → Reading
+in_some v (Ok a) (Ok b) = if lies_outside v a b then Ok a else Ok v
+in_some v (Ok a) (Err fault) = Err fault
+in_some v (Err fault) r = Err fault
+
+unfoldable pub value_in_some : Tables → Wdl → Parts → Reading
+value_in_some tables v p = in_some v (extreme_value tables true p) (extreme_value tables false p)
+
+-- whether some pawn move reaches the value in some completion
+abbrev pub pawns_reach_in_some : Tables → Parts → Wdl → Result Bool ValueFault
+pawns_reach_in_some tables p v = pawns_reach_where (value_in_some tables (opposite v)) p v
+
+abbrev pub is_missed : Result Bool ValueFault → Bool
+is_missed (Ok reached) = not reached
+is_missed (Err fault) = false
+
+-- what a won or lost position is, where neither a capture nor a pawn move tells its distance
+abbrev pub outcome_left : Tables → Parts → CaptureSearch → Option Outcome → Option Outcome
+outcome_left tables p w None = None
+outcome_left tables p w (Some outcome) =
+    if is_by_capture w || (is_won outcome && not (is_missed (pawns_reach_in_some tables p (worth w)))) then None else Some outcome
+
+abbrev pub outcome_left_in : Tables → Parts → Result CaptureSearch ValueFault → Option Outcome
+outcome_left_in tables p (Ok w) = outcome_left tables p w (outcome_of (worth w))
+outcome_left_in tables p (Err fault) = None
+
+abbrev pub by_table_told : Tables → Parts → Option Outcome → Option Distance
+by_table_told tables p None = None
+by_table_told tables p (Some outcome) = result_ok (by_own_table tables (reach_after tables) p outcome)
+
+-- the distance of the own table, where that alone is left
+unfoldable pub distance_by_own_table : Tables → Parts → Option Distance
+distance_by_own_table tables p =
+    if nat_le (count_of_men p) 2 then None else by_table_told tables p (outcome_left_in tables p (searched_by tables (wdl_of tables) p))
+
+-- the distance that is told, or else the one by the own table
 unfoldable pub determined_reach : Tables → Parts → Reach
-determined_reach tables p = or_reach (told_reach tables p) (dtz_by tables (reach_after tables) p)
+determined_reach tables p = or_agreed_distance (told_reach tables p) (distance_by_own_table tables p)
 
 -- how positions after quiet moves are asked
 abbrev pub reach_beyond : Beyond → Tables → Parts → Reach
@@ -175,6 +215,7 @@ reach_as Strict tables = dtz_of tables
 reach_as Determined tables = determined_reach tables
 
 -- the values in which pawn moves are to reach this one
-abbrev pub step_value_as : Ask → Tables → Wdl → Parts → Reading
-step_value_as Strict tables v = wdl_of tables
-step_value_as Determined tables v = value_in_both tables (opposite v)
+abbrev pub step_value_in : ReachedIn → Tables → Wdl → Parts → Reading
+step_value_in TheSet tables v = wdl_of tables
+step_value_in EachCompletion tables v = value_in_both tables (opposite v)
+step_value_in SomeCompletion tables v = value_in_some tables (opposite v)

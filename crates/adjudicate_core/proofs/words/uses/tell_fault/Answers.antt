@@ -27,3 +27,11 @@ returns-in-WordNotWith g c =
 
 pub returns-in-Beside : goal.returns-in-Beside
 returns-in-Beside g c = rw c.in-Beside.is c.tell_name-in-Beside.ensures
+
+pub returns-in-FlagNotWith : goal.returns-in-FlagNotWith
+returns-in-FlagNotWith g c =
+    let name = c.in-FlagNotWith.flag.now in
+    rw c.in-FlagNotWith.is (
+    rw (append_assoc name (codes " cannot be used with --") (instead_name c.in-FlagNotWith.instead))
+    (rw c.rest-in-FlagNotWith.ensures at c.tell_name-in-FlagNotWith.ensures)
+    )

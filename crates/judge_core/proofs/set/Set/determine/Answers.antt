@@ -1,6 +1,5 @@
 use Rattle.std.proofs.Common.{◌∙◌, ap}
-use Rattle.judge_core.specs.Distances.{dtz_by}
-use Rattle.judge_core.specs.Inside.Determined.{distance_in_both, or_agreed_distance, or_reach, reach_after}
+use Rattle.judge_core.specs.Inside.Determined.{distance_in_both, distance_by_own_table, or_agreed_distance}
 use Rattle.judge_core.specs.Tables.{Holding}
 use Rattle.judge_core.proofs.Told.{value_from, reach_from}
 use Rattle.judge_core.proofs.set.Set.determine.Goals as goal
@@ -12,5 +11,5 @@ pub returns-clause-dtz : goal.returns-clause-dtz
 returns-clause-dtz c =
     let p = c.args.position.now in
     let told = c.in_ok-told.ensures.is ∙ ap (λ (h : Holding). or_agreed_distance c.args.strict.now.dtz (distance_in_both h.tables p)) c.or_agreed-wdl.ensures.unchanged in
-    let is = c.in_ok-dtz.ensures.is ∙ ap (λ (h : Holding). or_reach c.in_ok-told.told (dtz_by h.tables (reach_after h.tables) p)) (c.in_ok-told.ensures.unchanged ∙ c.or_agreed-wdl.ensures.unchanged) in
+    let is = c.in_ok-dtz.ensures.is ∙ ap (λ (h : Holding). or_agreed_distance c.in_ok-told.told (distance_by_own_table h.tables p)) (c.in_ok-told.ensures.unchanged ∙ c.or_agreed-wdl.ensures.unchanged) in
     reach_from c.args.self.now.tables p c.args.strict.now.dtz c.in_ok-told.told _ c.requires.dtz told is

@@ -1,6 +1,6 @@
 use Rattle.std.proofs.Common.{◌∙◌, sym, ap, refl}
 use Rattle.judge_core.specs.Known.{known_of, known_answer}
-use Rattle.judge_core.specs.Probing.{is_forced, worth_in}
+use Rattle.judge_core.specs.Probing.{worth_in}
 use Rattle.judge_core.specs.Tables.{table_value}
 use Rattle.judge_core.proofs.KnownValue.{known_answered, known_bare, known_unwon, known_won}
 use Rattle.judge_core.proofs.Readings.{with_own}
