@@ -63,7 +63,7 @@ pub(crate) struct FolderPlace<'r, D> {
 /// A folder whose tables are read when a position asks for them, and those of them that are open.
 ///
 /// Contracts see the disk and the folder. What is found is found by tables of the folder, of which none is missing at the positions that
-/// it needs; or the file of one of these is refused. Tables stay open while the arena has room; where it has none for a table, all that
+/// it needs; or the file of one of these is refused. Tables stay open while the arena has room; where memory is refused, as where it has none, all that
 /// the question needs are read for it alone, and go after the answer.
 #[derive(Drop)]
 pub(crate) struct OpenFolder<'r, D: Disk> {

@@ -58,18 +58,19 @@
 //! - CLAIM: `run_program`: with `--key` the ports of `listen`, `host` and `send` are sealed by the keys of the file, and all else
 //!   is as without it. What is refused of the file is told before all else, the first of: it can't be read as a regular file of at
 //!   most 130 bytes (`Disk::read_with_mode` of system_io); its group or others have some right; its first malformed line.
-//! - CLAIM: `run`, clause `runs`: `judge` and `probe` with `--lazy`, and `probes`, `root`, `game`, `games` and `pgn` without `--all-tables`
-//!   and `--determined`, answer by tables of the folder of which none is missing at the positions that they need, or refuse the file of
+//! - CLAIM: `run`, clause `runs`: `judge` and `probe` with `--lazy`, and `probes`, `root`, `game`, `games` and `pgn` without
+//!   `--all-tables`, `--determined` and `--soon`, answer by tables of the folder of which none is missing at the positions that they need, or refuse the file of
 //!   one that is needed (`ByFolder`, `PutsByFolder`, `IsRulingIn`). What `follow` tells so stays true whatever more tables of the folder
 //!   are read (`IsFollowedIn`).
 //! - CLAIM: `run`, clause `runs`: `--json` of `probes` and `root` writes one object a line, and `--determined` tells the
-//!   determined values of judge_core in place of the strict ones.
+//!   determined values of judge_core in place of the strict ones. `--soon` of `probes` tells the value alone, by the rule of
+//!   `Set::known_wdl`; beside `--json` or `--determined` it is a misuse.
 //! - CLAIM: `run`, clause `runs`: `follow` refuses the text of its start and its tables in this order; then each ply of the game is
 //!   told as `game_teller::follow_game` has it, by what `game` tells of the same moves. That each line has gone out before the next
 //!   move is awaited is in the contract of that function alone.
 //! - CLAIM: `run`, clause `runs`: `status` tells the games of its folders as `game_status::tell_status` has it; the status is 0 only
 //!   where all are told, nothing is at fault and nothing differs. With `--prometheus` it writes metrics, and with `--json` an object, as
-//!   `write_status_report` has it; the status is 0 only where they are written. Both together are a misuse.
+//!   `write_status_report` has it; the status is 0 only where they are written. `--json` beside `--prometheus` is a misuse.
 //! - CLAIM: `Pages::serve_requests`, clauses `told`, `cause`: of `serve` a manifest that can't be read or is malformed, a folder that can't
 //!   be read, an address that can't be bound and refused memory, the first in this order is told in one line, with status 1; else the line
 //!   is `ready` and the address, and nothing more is written but that the port was lost.

@@ -85,7 +85,7 @@ pub data AreRecordsIn {S : Type 0} (disk : DiskFacts) (stores : StorePlaces S) (
 abbrev pub WithholdsRecords : {S : Type 0} → DiskFacts → StorePlaces S → List ℕ → StoreFault → Type 0
 WithholdsRecords disk stores folder fault = (db : List ℕ) × (log : List ℕ) × AreStoreFiles disk folder db log × stores.withholds db log fault
 
--- why they can't be had: a file of the store can't be read, half of the store is missing, or its files hold what isn't told; or memory was
+-- why they can't be had: a file of the store can't be read, half of a store is there, or the files hold what isn't told; or memory was
 -- refused
 abbrev pub LacksRecords : {S : Type 0} → DiskFacts → StorePlaces S → List ℕ → StoreFault → Type 0
 LacksRecords disk stores folder Unreadable = CannotReadStore disk folder ⊎ (ListsHalfStore disk folder ⊎ WithholdsRecords disk stores folder Unreadable)

@@ -33,8 +33,8 @@
 //! - CLAIM: `tell_audit`: the same games, whose files have to be those of their stamps by the tables; a game is well only where an
 //!   arbiter of it resumes from each of its records, and both are equal; nothing kept is no fault.
 //! - CLAIM: `records_in`, clauses `ok`, `err`: the records are what the two files of the folder's store hold, and none only where the
-//!   folder lists no store. An unreadable store has a cause: the folder or a file can't be read, the files hold what isn't told, or the
-//!   log began anew meanwhile. That the files are of one moment follows from the order of the reads, of which no clause speaks.
+//!   folder lists nothing of a store. An unreadable store has a cause: the folder or a file can't be read, half of a store is there, the
+//!   files hold what isn't told, or the log began anew meanwhile. That the files are of one moment follows from the order of the reads, of which no clause speaks.
 //! - CLAIM: `StoredDisk`, clause `facts`; `StoredDisk::over`: the disk over another has the store's records, the later one of two of
 //!   a game, each as `STAMP.kept` of the folder in place of the file below; all else is as below.
 #![tactic(auto)]

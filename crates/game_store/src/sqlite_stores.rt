@@ -1,6 +1,7 @@
 //! Where stores of records are opened, and how the two files of one are read.
 
-ghost use Rattle.std.specs.Prelude.{◌≡◌, ◌⊎◌, ◌++◌, IfOk, IsTrue, codes, map, string_bytes};
+ghost use Rattle.std.specs.Prelude.{◌≡◌, ◌++◌, IfOk, IsTrue, codes, map, string_bytes};
+ghost use Rattle.std.specs.Io.{StartsWith};
 ghost use Rattle.sqlite.specs.Files.{image_of};
 ghost use Rattle.sqlite_disk.specs.Memory.{memory_bytes, memory_is_usable};
 ghost use Rattle.system_io.specs.Records.{records_of};
@@ -95,7 +96,8 @@ impl<'r, S: Start + Copy> Stores for SqliteStores<'r, S> {
 /// The same path in a form that SQLite takes for a path. One that begins with `file:` it takes for a URI
 /// (<https://www.sqlite.org/uri.html>), so that one begins with `./` then. The error comes only where memory is refused.
 fn plain_path(alloc: Global, path: &str) -> Result<String, AllocError>
-    ensures { IfOk result (λ plain. string_bytes plain ≡ path.now ⊎ (string_bytes plain ≡ codes "./" ++ path.now)) }
+    ensures uri { IfOk result (λ plain. StartsWith path.now (codes "file:") → string_bytes plain ≡ codes "./" ++ path.now) }
+    ensures path { IfOk result (λ plain. (StartsWith path.now (codes "file:") → ⊥) → string_bytes plain ≡ path.now) }
 {
     if path.starts_with("file:") {
         format!(in alloc; "./{path}")

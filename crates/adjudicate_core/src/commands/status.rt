@@ -49,7 +49,7 @@ pub(crate) const VALUES: [Value; 4] = [
         name: "json",
         form: Form::Flag,
         word: "",
-        about: "writes one JSON object with all games, on a line",
+        about: "writes one JSON object with all games, on a line; not with --prometheus",
         stands: Stands::Optional,
     },
 ];
