@@ -71,11 +71,7 @@ impl<'r, S: Start + Copy> Stores for SqliteStores<'r, S> {
 
     ghost facts = { λ _. store_places (image_at S.Start) };
 
-    fn open(
-        &self,
-        alloc: Global,
-        path: &str,
-    ) -> Result<Store<FileStore<FileFrom<S>>>, StoreFault> {
+    fn open(&self, alloc: Global, path: &str) -> Result<Store<FileStore<FileFrom<S>>>, StoreFault> {
         let Ok(plain) = plain_path(alloc, path) else {
             return Err(StoreFault::OutOfMemory);
         };
