@@ -10,7 +10,7 @@ use Rattle.game_status.specs.Reports.{ReportsStatus, form_of}
 use Rattle.game_status.specs.Statuses.{TellsStatusTo}
 use Rattle.adjudicate_core.specs.Rules.{rule_of_form}
 use Rattle.adjudicate_core.specs.declared.commands.Form.TheVariants as form
-use Rattle.adjudicate_core.specs.Misuses.{Fault, FlagNotWith, Holds, NoOption}
+use Rattle.adjudicate_core.specs.Misuses.{Fault, FlagNotWith, NoOption}
 use Rattle.adjudicate_core.specs.declared.words.usage.Instead.TheVariants as instead
 use Rattle.adjudicate_core.specs.Numbers.{is_set}
 use Rattle.adjudicate_core.specs.Reply.{status_told}
@@ -31,12 +31,11 @@ report_by true json = Some Metrics
 report_by false true = Some Json
 report_by false false = None
 
--- the values of its arguments; it isn't asked for as both
+-- the values of its arguments
 abbrev pub HasValues : (Text → Option Text) → ShowStatus → Type 0
 HasValues value t =
     (Some t.games.now ≡ value (codes "games")) × (option_map (λ s. s.now) t.other ≡ value (codes "other"))
     × (t.report ≡ report_by (is_set (value (codes "prometheus"))) (is_set (value (codes "json"))))
-    × (Holds value (FlagNotWith instead.Prometheus (codes "json")) → ⊥)
 
 -- what may be wrong with its values, in the order in which it is told
 abbrev pub faults : List Fault
