@@ -10,8 +10,8 @@ ghost use Rattle.adjudicate_core.specs.Numbers.{IsAtOnce, IsCache, IsDatagrams, 
 
 use crate::words::addresses::{are_addresses, are_recipients, is_address};
 use crate::words::numbers::{
-    CacheSize, Megabytes, StoreForm, at_once_of, datagrams_of, delay_of, hundred_or, is_set, log_of,
-    me_of, store_of,
+    CacheSize, Megabytes, StoreForm, at_once_of, datagrams_of, delay_of, hundred_or, is_set,
+    log_of, me_of, store_of,
 };
 use crate::words::usage::{Instead, ValueFault, Wanted};
 use arbiter_server::LogForm;
