@@ -133,7 +133,7 @@ impl<'r, D: Disk> OpenFolder<'r, D> {
         Ok(OpenFolder { alloc, folder, set })
     }
 
-    /// The same folder over another arena, of which no table is open.
+    /// This folder over another arena, of which no table is open.
     fn apart<'s>(&self, arena: &'s Bump) -> Result<OpenFolder<'s, D>, AllocError>
     where
         'r: 's,

@@ -70,7 +70,7 @@
 //!   move is awaited is in the contract of that function alone.
 //! - CLAIM: `run`, clause `runs`: `status` tells the games of its folders as `game_status::tell_status` has it; the status is 0 only
 //!   where all are told, nothing is at fault and nothing differs. With `--prometheus` it writes metrics, and with `--json` an object, as
-//!   `write_status_report` has it; the status is 0 only where they are written. `--json` beside `--prometheus` is a misuse.
+//!   `write_status_report` has it; the status is 0 only where they are written.
 //! - CLAIM: `Pages::serve_requests`, clauses `told`, `cause`: of `serve` a manifest that can't be read or is malformed, a folder that can't
 //!   be read, an address that can't be bound and refused memory, the first in this order is told in one line, with status 1; else the line
 //!   is `ready` and the address, and nothing more is written but that the port was lost.

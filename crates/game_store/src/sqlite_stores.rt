@@ -89,7 +89,7 @@ impl<'r, S: Start + Copy> Stores for SqliteStores<'r, S> {
     }
 }
 
-/// The same path in a form that SQLite takes for a path. One that begins with `file:` it takes for a URI
+/// A path in a form that SQLite takes for a path. One that begins with `file:` it takes for a URI
 /// (<https://www.sqlite.org/uri.html>), so that one begins with `./` then. The error comes only where memory is refused.
 fn plain_path(alloc: Global, path: &str) -> Result<String, AllocError>
     ensures uri { IfOk result (λ plain. StartsWith path.now (codes "file:") → string_bytes plain ≡ codes "./" ++ path.now) }

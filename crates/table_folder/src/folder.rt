@@ -103,7 +103,7 @@ impl<'r, D: Disk> TableFolder<'r, D> {
         }
     }
 
-    /// The same folder over another arena, where the bytes of the tables stay that it opens. The error comes where memory is refused.
+    /// This folder over another arena, where the bytes of the tables stay that it opens. The error comes where memory is refused.
     pub fn apart<'s>(&self, arena: &'s Bump) -> Result<TableFolder<'s, D>, AllocError>
     where
         'r: 's,
