@@ -11,7 +11,7 @@ use Rattle.move_msg.specs.declared.told.Manifest.TheVariants.{BadLine, Lines, Un
 use Rattle.system_io.specs.Disks.{DiskFacts}
 use Rattle.adjudicate_core.specs.declared.answers.refusals.Refusal.{Refusal}
 use Rattle.adjudicate_core.specs.declared.answers.refusals.Refusal.TheVariants as refusal
-use Rattle.adjudicate_core.specs.Commands.Game.{BadWord, BadWordIn, IsOutcomeReply, IsPlayedBy, are_all_legal, outcome_reply, plies_of}
+use Rattle.adjudicate_core.specs.Commands.Game.{BadWord, BadWordIn, IsOutcomeReply, IsPlayedBy, are_all_legal, in_play, outcome_reply}
 use Rattle.adjudicate_core.specs.declared.commands.game.FollowGame.{FollowGame}
 use Rattle.adjudicate_core.specs.Commands.Games.{Played, TellsGameByFolder, moves_in, start_in}
 use Rattle.adjudicate_core.specs.Commands.Probes.{OfPosition, TellsLineByFolder}
@@ -31,7 +31,7 @@ use Rattle.board_core.specs.Position.{IsPosition}
 use Rattle.fen_text.specs.Fen.{SpellsPosition}
 use Rattle.judge_core.specs.ProbeResult.{has_both}
 use Rattle.judge_core.specs.Words.{columns_words}
-use Rattle.adjudicate_core.specs.FolderAnswers.{AnswersIn, BadManifest, ByFolder, ByItsTables, Finds, ForBadFile, InFolder, IsAlone, IsOpenAt, IsSound, NoFolder, PutsBadManifest, PutsByFolder, PutsIn, PutsInFolder, PutsNoFolder, refused_table, refused_table_in}
+use Rattle.adjudicate_core.specs.FolderAnswers.{AnswersIn, BadManifest, ByFolder, ByItsTables, Finds, ForBadFile, InFolder, IsOpenAt, IsSound, NoFolder, PutsBadManifest, PutsByFolder, PutsIn, PutsInFolder, PutsNoFolder, refused_table, refused_table_in}
 use Rattle.adjudicate_core.specs.Telling.{TellsOne}
 use Rattle.judge_core.specs.ProbeResult.{IsProbed}
 use Rattle.judge_core.specs.Ruling.{ruling}
@@ -41,7 +41,7 @@ use Rattle.system_io.specs.declared.output.WriteFault.{WriteFault}
 use Rattle.table_folder.specs.declared.fault.FileRefusal.{FileRefusal}
 use Rattle.table_folder.specs.Folders.{AreOf, Folder, FolderOn}
 use Rattle.adjudicate_core.specs.LineAnswers.{PutsLinesOrNone}
-use Rattle.table_folder.specs.Settled.{AnswersBy, AreSettled, IsPly, IsRefusedAt, IsRefusedFor, IsSettled, IsWithMoves}
+use Rattle.table_folder.specs.Settled.{AnswersBy, AreSettled, IsAlone, IsInPlayBy, IsRefusedAt, IsRefusedFor, IsSettled, IsWithMoves}
 use Rattle.adjudicate_core.specs.Inside.LookingUp.{AreColumns, CannotList, FindsAll, FindsBadFile, FindsColumns, FindsNoFolder, HasBadLine, LacksFolder}
 use Rattle.adjudicate_core.specs.Lines.{refusal_words, refused_move}
 use Rattle.move_msg.specs.GameTexts.{words_in}
@@ -69,17 +69,17 @@ is_sound m not line is = subst IsFine is (is_fine m not)
 -- ---- a folder
 
 -- what is found by the same folder over another arena
-pub found_apart : {D X E : Type 0} (facts : D → DiskFacts) {a b c : FolderOn D} (r : Result (Result X FileRefusal) E) (IsNeeded : Parts → Type 0) (Is : Tables → X → Type 0) → a ≡ b → b ≡ c → IfOk r (Finds (facts a.disk) a.folder IsNeeded Is) → IfOk r (Finds (facts c.disk) c.folder IsNeeded Is)
+pub found_apart : {D X E : Type 0} (facts : D → DiskFacts) {a b c : FolderOn D} (r : Result (Result X FileRefusal) E) (IsNeeded : Tables → Parts → Type 0) (Is : Tables → X → Type 0) → a ≡ b → b ≡ c → IfOk r (Finds (facts a.disk) a.folder IsNeeded Is) → IfOk r (Finds (facts c.disk) c.folder IsNeeded Is)
 found_apart facts r IsNeeded Is same kept found =
     subst (λ o. IfOk r (Finds (facts o.disk) o.folder IsNeeded Is)) (same ∙ kept) found
 
 -- the refusal of a folder is a reply
-pub lacks_folder : {disk : DiskFacts} {path : List ℕ} {manifest : Option ToldManifest} {IsNeeded : Parts → Parts → Type 0} {refused : FileRefusal → List ℕ} {IsAnswer : Tables → Parts → Reply → Type 0} {p : Parts} {r : Reply} {why : Refusal} → LacksFolder disk path manifest why → r ≡ refusal_reply (refusal_words why) → ByFolder disk path manifest IsNeeded refused IsAnswer p r
+pub lacks_folder : {disk : DiskFacts} {path : List ℕ} {manifest : Option ToldManifest} {IsNeeded : Parts → Tables → Parts → Type 0} {refused : FileRefusal → List ℕ} {IsAnswer : Tables → Parts → Reply → Type 0} {p : Parts} {r : Reply} {why : Refusal} → LacksFolder disk path manifest why → r ≡ refusal_reply (refusal_words why) → ByFolder disk path manifest IsNeeded refused IsAnswer p r
 lacks_folder (HasBadLine line bad e) is = BadManifest line bad (is ∙ ap (λ x. refusal_reply (refusal_words x)) e)
 lacks_folder (CannotList sound fails e) is = NoFolder sound fails (is ∙ ap (λ x. refusal_reply (refusal_words x)) e)
 
 -- a reply by the tables of a folder that is open
-pub in_folder : {D : Type 0} (facts : D → DiskFacts) (a b : D) (folder : Folder) (path : List ℕ) (manifest : Option ToldManifest) (IsNeeded : Parts → Parts → Type 0) (refused : FileRefusal → List ℕ) (IsAnswer : Tables → Parts → Reply → Type 0) (p : Parts) (r : Reply) → a ≡ b → IsOpenAt (facts b) path manifest folder → AnswersIn (facts a) folder IsNeeded refused IsAnswer p r → ByFolder (facts b) path manifest IsNeeded refused IsAnswer p r
+pub in_folder : {D : Type 0} (facts : D → DiskFacts) (a b : D) (folder : Folder) (path : List ℕ) (manifest : Option ToldManifest) (IsNeeded : Parts → Tables → Parts → Type 0) (refused : FileRefusal → List ℕ) (IsAnswer : Tables → Parts → Reply → Type 0) (p : Parts) (r : Reply) → a ≡ b → IsOpenAt (facts b) path manifest folder → AnswersIn (facts a) folder IsNeeded refused IsAnswer p r → ByFolder (facts b) path manifest IsNeeded refused IsAnswer p r
 in_folder facts a b folder path manifest IsNeeded refused IsAnswer p r same at is =
     InFolder folder at (subst (λ d. AnswersIn (facts d) folder IsNeeded refused IsAnswer p r) same is)
 
@@ -113,7 +113,7 @@ module _ (disk : DiskFacts) (folder : Folder) (tables : Tables) (p : Parts) wher
       → IfOk r (Finds disk folder (IsAlone p) (AreColumns p))
   finds_columns (Err e) opened probed verdict settled refused = tt
   finds_columns (Ok (Ok c)) opened probed verdict settled refused = record { tables = tables; opened = opened; settled = alone settled; answers = (probed, verdict) }
-  finds_columns (Ok (Err refusal)) opened probed verdict settled refused = record { position = p; needed = refl; refused = refused }
+  finds_columns (Ok (Err refusal)) opened probed verdict settled refused = record { position = p; tables = tables; opened = opened; needed = λ more are kept. refl; refused = refused }
 
 -- ---- lines
 
@@ -181,7 +181,7 @@ json_in disk folder p l r by is = inl (record { tables = by.tables; opened = by.
 
 -- a line of `games`
 module _ (disk : DiskFacts) (folder : Folder) (delay : ℕ) (line : List ℕ) (start : Parts) (spelled : SpellsPosition (start_in line) start) (position : IsPosition start) (moves : List Move) (told : TellsMoves (moves_in line) moves) where
-  pub game_found : (outcome : GameOutcome) (legal : Bool) → AnswersBy disk folder (IsPly start moves) (λ tables. IsOutcome (record { start = start; tables = tables; delay = delay }) moves outcome) → legal ≡ are_all_legal outcome → TellsGameByFolder delay disk folder line (record { words = outcome_words outcome (length moves); done = legal })
+  pub game_found : (outcome : GameOutcome) (legal : Bool) → AnswersBy disk folder (IsInPlayBy start moves delay) (λ tables. IsOutcome (record { start = start; tables = tables; delay = delay }) moves outcome) → legal ≡ are_all_legal outcome → TellsGameByFolder delay disk folder line (record { words = outcome_words outcome (length moves); done = legal })
   game_found outcome legal by is =
       ByItsTables (record { start = start; moves = moves }) (spelled, position, told) (record {
         tables = by.tables;
@@ -190,11 +190,11 @@ module _ (disk : DiskFacts) (folder : Folder) (delay : ℕ) (line : List ℕ) (s
         answers = Played start spelled position moves told outcome by.answers (ap (λ (b : Bool). record { words = outcome_words outcome (length moves); done = b }) is);
       })
 
-  pub game_refused : (refusal : FileRefusal) → IsRefusedFor disk folder (IsPly start moves) refusal → TellsGameByFolder delay disk folder line (record { words = refused_table refusal; done = false })
+  pub game_refused : (refusal : FileRefusal) → IsRefusedFor disk folder (IsInPlayBy start moves delay) refusal → TellsGameByFolder delay disk folder line (record { words = refused_table refusal; done = false })
   game_refused refusal refused = ForBadFile (record { start = start; moves = moves }) (spelled, position, told) refusal refused refl
 
 -- the reply of `game`
-pub game_in : (disk : DiskFacts) (folder : Folder) (delay : ℕ) (start : Parts) (moves : List Move) (outcome : GameOutcome) (r : Reply) → AnswersBy disk folder (IsPly start moves) (λ tables. IsOutcome (record { start = start; tables = tables; delay = delay }) moves outcome) → r ≡ outcome_reply outcome moves → AnswersIn disk folder (plies_of moves) refused_table (IsOutcomeReply delay moves) start r
+pub game_in : (disk : DiskFacts) (folder : Folder) (delay : ℕ) (start : Parts) (moves : List Move) (outcome : GameOutcome) (r : Reply) → AnswersBy disk folder (IsInPlayBy start moves delay) (λ tables. IsOutcome (record { start = start; tables = tables; delay = delay }) moves outcome) → r ≡ outcome_reply outcome moves → AnswersIn disk folder (in_play delay moves) refused_table (IsOutcomeReply delay moves) start r
 game_in disk folder delay start moves outcome r by is = inl (record { tables = by.tables; opened = by.opened; settled = by.settled; answers = (outcome, by.answers, is) })
 
 -- the refusal of a word that is no move comes before the tables, wherever these are

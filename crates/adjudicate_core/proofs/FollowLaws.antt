@@ -1,6 +1,5 @@
 -- Games that are followed by the tables of a folder, each read when a ply asks for it.
-use Rattle.std.proofs.Common.{◌≡◌, ◌⊎◌, ◌∙◌, ap, inl, inr, refl, subst, sym, ℕ, Bool, List, [], ◌∷◌, ◌++◌, Option, Some, Result, Ok, Err}
-use Rattle.std.specs.Prelude.{IfErr, IfOk}
+use Rattle.std.proofs.Common.{◌≡◌, ◌⊎◌, ◌∙◌, ap, inl, inr, refl, subst, sym, ℕ, Bool, List, [], ◌∷◌, ◌++◌, Option, Some, Result}
 use Rattle.std.specs.List.{fold}
 use Rattle.std.specs.Option.{option_and_then}
 use Rattle.board_core.specs.declared.moves.Move.{Move}
@@ -15,10 +14,9 @@ use Rattle.move_notation.specs.declared.notation.Notation.{Notation}
 use Rattle.system_io.specs.Disks.{DiskFacts}
 use Rattle.system_io.specs.Inputs.{InputFacts}
 use Rattle.system_io.specs.declared.output.WriteFault.{WriteFault}
-use Rattle.table_folder.specs.declared.fault.FileRefusal.{FileRefusal}
 use Rattle.table_folder.specs.Folders.{AreOf, Folder}
 use Rattle.table_folder.specs.Laws.{SettledGamesStay}
-use Rattle.table_folder.specs.Settled.{AreSettled, IsPly, IsRefusedAt, IsRefusedFor, IsSettled}
+use Rattle.table_folder.specs.Settled.{AreSettled, IsPly, IsSettled}
 use Rattle.adjudicate_core.specs.Commands.Follow.{IsFollowedBy, IsFollowedIn, PutsFollowed, PutsNone, PutsPlies, by_folder}
 
 -- ---- where a game stands
@@ -42,7 +40,7 @@ last_ply start (n ∷ moves) m r q p there plays (inr (next, on, ply)) =
 
 module _ (disk : DiskFacts) (stay : SettledGamesStay disk) (folder : Folder) where
   -- where no table is missing at a ply, a game stands so by whatever more tables come
-  stands_by : (tables : Tables) (start : Parts) (moves : List Move) (s : Reached) → AreOf disk folder tables → AreSettled folder tables (IsPly start moves) → ((delay : ℕ) → IsAt (record { start = start; tables = tables; delay = delay }) moves s) → StandsBy (by_folder disk folder tables) start moves s
+  stands_by : (tables : Tables) (start : Parts) (moves : List Move) (s : Reached) → AreOf disk folder tables → AreSettled folder tables (λ _. IsPly start moves) → ((delay : ℕ) → IsAt (record { start = start; tables = tables; delay = delay }) moves s) → StandsBy (by_folder disk folder tables) start moves s
   stands_by tables start moves s opened settled at = record {
     stands = (settled, at);
     at = λ rules from by.
@@ -60,22 +58,11 @@ module _ (disk : DiskFacts) (stay : SettledGamesStay disk) (folder : Folder) whe
   on_in old mid new s q t same before opened kept settled on start moves m stood legal =
       let alike = stay folder old mid start moves before opened kept stood.0 in
       let at : (delay : ℕ) → IsAt (record { start = start; tables = mid; delay = delay }) (moves ++ m ∷ []) t = λ delay. on (record { start = start; tables = mid; delay = delay }) moves m refl ((alike.0 delay).standing s (stood.1 delay)) legal in
-      let plies : AreSettled folder mid (IsPly start (moves ++ m ∷ [])) = λ p ply. elim (last_ply start moves m s.position q p (stood.1 0).position legal ply) [
+      let plies : AreSettled folder mid (λ _. IsPly start (moves ++ m ∷ [])) = λ p ply. elim (last_ply start moves m s.position q p (stood.1 0).position legal ply) [
         | inl one ↦ alike.1 p one
         | inr is ↦ subst (IsSettled folder mid) (sym is) settled
       ] in
       subst (λ tables. StandsBy (by_folder disk folder tables) start (moves ++ m ∷ []) t) (sym same) (stands_by mid start (moves ++ m ∷ []) t opened plies at)
-
--- the file of a table that the start of no moves needs
-pub refused_alone : {A E : Type 0} (disk : DiskFacts) (folder : Folder) (position : Parts) (r : Result (Result A FileRefusal) E) → IfOk r (λ settled. IfErr settled (IsRefusedFor disk folder (IsPly position []))) → IfOk r (λ settled. IfErr settled (IsRefusedAt disk folder position))
-refused_alone disk folder position (Ok (Ok x)) h = tt
-refused_alone disk folder position (Ok (Err refusal)) h = subst (λ p. IsRefusedAt disk folder p refusal) h.needed h.refused
-refused_alone disk folder position (Err e) h = tt
-
-pub settled_alone : {A E : Type 0} (folder : Folder) (tables : Tables) (position : Parts) (r : Result (Result A FileRefusal) E) → IfOk r (λ settled. IfOk settled (λ x. AreSettled folder tables (IsPly position []))) → IfOk r (λ settled. IfOk settled (λ x. IsSettled folder tables position))
-settled_alone folder tables position (Ok (Ok x)) h = h position refl
-settled_alone folder tables position (Ok (Err refusal)) h = tt
-settled_alone folder tables position (Err e) h = tt
 
 -- ---- a judge that has read more
 

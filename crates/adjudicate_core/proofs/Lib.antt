@@ -28,3 +28,4 @@ pub mod GoneLaws
 pub mod StoreLaws
 pub mod FolderLaws
 pub mod FollowLaws
+pub mod GameInPlay

@@ -42,18 +42,14 @@ pub record TablesOn (D : Type 0) : Type 0 where
   pub on : FolderOn D
   pub tables : Tables
 
--- of a position nothing is needed but what tables say of itself
-abbrev pub IsAlone : Parts → Parts → Type 0
-IsAlone p q = q ≡ p
-
 -- what is found by tables of the folder, of which none is missing at the positions that are needed; or the file of one that is needed is
 -- refused
-abbrev pub Finds : {X : Type 0} → DiskFacts → Folder → (Parts → Type 0) → (Tables → X → Type 0) → Result X FileRefusal → Type 0
+abbrev pub Finds : {X : Type 0} → DiskFacts → Folder → (Tables → Parts → Type 0) → (Tables → X → Type 0) → Result X FileRefusal → Type 0
 Finds disk folder IsNeeded Is (Ok x) = AnswersBy disk folder IsNeeded (λ tables. Is tables x)
 Finds disk folder IsNeeded Is (Err refusal) = IsRefusedFor disk folder IsNeeded refusal
 
 -- a reply to a position so: an answer, or the refusal of a file
-abbrev pub AnswersIn : DiskFacts → Folder → (Parts → Parts → Type 0) → (FileRefusal → List ℕ) → (Tables → Parts → Reply → Type 0) → Parts → Reply → Type 0
+abbrev pub AnswersIn : DiskFacts → Folder → (Parts → Tables → Parts → Type 0) → (FileRefusal → List ℕ) → (Tables → Parts → Reply → Type 0) → Parts → Reply → Type 0
 AnswersIn disk folder IsNeeded refused IsAnswer p r =
     AnswersBy disk folder (IsNeeded p) (λ tables. IsAnswer tables p r)
     ⊎ ((refusal : FileRefusal) × IsRefusedFor disk folder (IsNeeded p) refusal × (r ≡ refusal_reply (refused refusal)))
@@ -69,7 +65,7 @@ pub record IsOpenAt (disk : DiskFacts) (path : List ℕ) (manifest : Option Told
 
 -- a reply by the folder at a path: the refusal of a malformed manifest; or else of the folder, which can't be listed or lists a file twice;
 -- or a reply by its tables
-pub data ByFolder (disk : DiskFacts) (path : List ℕ) (manifest : Option ToldManifest) (IsNeeded : Parts → Parts → Type 0) (refused : FileRefusal → List ℕ) (IsAnswer : Tables → Parts → Reply → Type 0) (p : Parts) (r : Reply) : Type 0 where
+pub data ByFolder (disk : DiskFacts) (path : List ℕ) (manifest : Option ToldManifest) (IsNeeded : Parts → Tables → Parts → Type 0) (refused : FileRefusal → List ℕ) (IsAnswer : Tables → Parts → Reply → Type 0) (p : Parts) (r : Reply) : Type 0 where
   BadManifest : (line : ℕ) → manifest ≡ Some (Err line) → r ≡ refusal_reply (refused_manifest line) → ByFolder disk path manifest IsNeeded refused IsAnswer p r
   NoFolder : IsSound manifest → FolderFails disk path manifest → r ≡ refusal_reply refused_files → ByFolder disk path manifest IsNeeded refused IsAnswer p r
   InFolder : (folder : Folder) → IsOpenAt disk path manifest folder → AnswersIn disk folder IsNeeded refused IsAnswer p r → ByFolder disk path manifest IsNeeded refused IsAnswer p r
@@ -82,7 +78,7 @@ IsSpelledBy text p = SpellsPosition text p × IsPosition p
 
 -- A line whose answer is the same by all tables; or what it spells is answered by tables of the folder, of which none is missing at the
 -- positions that it needs; or the file of one that is needed is refused.
-pub data TellsByFolder {X : Type 0} (disk : DiskFacts) (folder : Folder) (Spells : List ℕ → X → Type 0) (IsNeeded : X → Parts → Type 0) (Tells : Tables → List ℕ → LineTold → Type 0) (refused : FileRefusal → List ℕ) (text : List ℕ) (line : LineTold) : Type 0 where
+pub data TellsByFolder {X : Type 0} (disk : DiskFacts) (folder : Folder) (Spells : List ℕ → X → Type 0) (IsNeeded : X → Tables → Parts → Type 0) (Tells : Tables → List ℕ → LineTold → Type 0) (refused : FileRefusal → List ℕ) (text : List ℕ) (line : LineTold) : Type 0 where
   ByNoTable : ((tables : Tables) → Tells tables text line) → TellsByFolder disk folder Spells IsNeeded Tells refused text line
   ByItsTables : (x : X) → Spells text x → AnswersBy disk folder (IsNeeded x) (λ tables. Tells tables text line) → TellsByFolder disk folder Spells IsNeeded Tells refused text line
   ForBadFile : (x : X) → Spells text x → (refusal : FileRefusal) → IsRefusedFor disk folder (IsNeeded x) refusal → line ≡ record { words = refused refusal; done = false } → TellsByFolder disk folder Spells IsNeeded Tells refused text line

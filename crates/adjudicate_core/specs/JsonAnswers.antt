@@ -15,8 +15,8 @@ use Rattle.move_msg.specs.TextLines.{ended}
 use Rattle.judge_core.specs.declared.ask.Ask.TheVariants.{Strict}
 use Rattle.system_io.specs.Disks.{DiskFacts}
 use Rattle.table_folder.specs.Folders.{Folder}
-use Rattle.table_folder.specs.Settled.{IsWithMoves}
-use Rattle.adjudicate_core.specs.FolderAnswers.{IsAlone, IsSpelledBy, TellsByFolder, refused_table_in}
+use Rattle.table_folder.specs.Settled.{IsAlone, IsWithMoves}
+use Rattle.adjudicate_core.specs.FolderAnswers.{IsSpelledBy, TellsByFolder, refused_table_in}
 use Rattle.adjudicate_core.specs.Lines.{refused_fen}
 use Rattle.adjudicate_core.specs.Reply.{Reply, refusal_reply, status_if}
 
@@ -25,7 +25,7 @@ abbrev pub TellsJson : Ask → Bool → Tables → List ℕ → LineTold → Typ
 TellsJson ask with_moves tables text told = (l : JsonLine) × IsLineFor text (IsLineOf ask with_moves tables) l × (told ≡ record { words = json_text (line_json l); done = is_done l })
 
 -- what tables say of the positions after its moves is needed too where these are told
-abbrev pub needed_by : Bool → Parts → Parts → Type 0
+abbrev pub needed_by : Bool → Parts → Tables → Parts → Type 0
 needed_by true = IsWithMoves
 needed_by false = IsAlone
 

@@ -1,13 +1,13 @@
 //! The tables of a folder that are read when a position asks for them.
 
 ghost use Rattle.std.specs.Prelude.{◌≡◌, IfOk, IfErr, false, true};
-ghost use Rattle.table_folder.specs.Settled.{IsPly, IsWithMoves};
+ghost use Rattle.table_folder.specs.Settled.{IsAlone, IsInPlayBy, IsWithMoves};
 ghost use Rattle.move_msg.specs.ToldBy.{told_by};
 ghost use Rattle.json_lines.specs.Told.{IsLineOf};
 ghost use Rattle.judge_core.specs.Games.{IsOutcome};
 ghost use Rattle.judge_core.specs.declared.ask.Ask.TheVariants.{Strict};
 ghost use Rattle.adjudicate_core.specs.Commands.Root.{IsRootReply};
-ghost use Rattle.adjudicate_core.specs.FolderAnswers.{Finds, IsAlone, IsOpenAt, read_at_once, read_when_asked};
+ghost use Rattle.adjudicate_core.specs.FolderAnswers.{Finds, IsOpenAt, read_at_once, read_when_asked};
 ghost use Rattle.adjudicate_core.specs.JsonAnswers.{needed_by};
 ghost use Rattle.adjudicate_core.specs.Inside.Asked.{reply_of};
 ghost use Rattle.adjudicate_core.specs.Inside.LookingUp.{AreColumns, FindsColumns, LacksFolder};
@@ -15,6 +15,7 @@ ghost use Rattle.adjudicate_core.specs.Inside.LookingUp.{AreColumns, FindsColumn
 use crate::answers::Answer;
 use crate::answers::refusals::Refusal;
 use crate::commands::root::told_by;
+use crate::judging::judge_game;
 use crate::words::numbers::{CacheSize, Megabytes};
 use board_core::{Delay, Move, Position};
 use bumpalo::Bump;
@@ -282,7 +283,7 @@ impl<'r, D: Disk> OpenFolder<'r, D> {
         moves: &[Move],
         delay: Delay,
     ) -> Result<Result<GameOutcome, FileRefusal>, AllocError>
-        ensures found { IfOk result (Finds (D.facts self.old.disk) self.old.folder (IsPly start.now moves.now) (λ tables outcome. IsOutcome (record { start = start.now; tables = tables; delay = delay }) moves.now outcome)) }
+        ensures found { IfOk result (Finds (D.facts self.old.disk) self.old.folder (IsInPlayBy start.now moves.now delay) (λ tables outcome. IsOutcome (record { start = start.now; tables = tables; delay = delay }) moves.now outcome)) }
         ensures folder { self.new ≡ self.old }
     {
         if let Ok(found) = self.kept_outcome(start, moves, delay) {
@@ -300,19 +301,10 @@ impl<'r, D: Disk> OpenFolder<'r, D> {
         moves: &[Move],
         delay: Delay,
     ) -> Result<Result<GameOutcome, FileRefusal>, AllocError>
-        ensures found { IfOk result (Finds (D.facts self.old.disk) self.old.folder (IsPly start.now moves.now) (λ tables outcome. IsOutcome (record { start = start.now; tables = tables; delay = delay }) moves.now outcome)) }
+        ensures found { IfOk result (Finds (D.facts self.old.disk) self.old.folder (IsInPlayBy start.now moves.now delay) (λ tables outcome. IsOutcome (record { start = start.now; tables = tables; delay = delay }) moves.now outcome)) }
         ensures folder { self.new ≡ self.old }
     {
-        if let Err(refusal) = self
-            .folder
-            .settle_game(self.alloc, &mut self.set, start, moves)?
-        {
-            return Ok(Err(refusal));
-        }
-        match self.set.judge_game(self.alloc, start, moves, delay.plies()) {
-            Ok(outcome) => Ok(Ok(outcome)),
-            Err(_) => Err(AllocError),
-        }
+        judge_game(self.alloc, &self.folder, &mut self.set, start, moves, delay)
     }
 }
 

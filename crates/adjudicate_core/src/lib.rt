@@ -9,7 +9,7 @@
 //! once, in their `VALUES`, and help is made from it. `answers` writes: `line_answers`,
 //! `json_answers`, `lines`, `refusals`, each line laid out by `LineWords` of `line_teller` (its parts in `line_parts`), which doesn't
 //! fail, and written at once. `keys` reads files of keys, `entries` the lines of a list; `tables` and `manifests` make sets of files; `folders` reads
-//! a table when a position asks for it; `pages` is what answers requests of HTTP;
+//! a table when a position asks for it, `judging` those that the plies of a game ask for; `pages` is what answers requests of HTTP;
 //! `listening`, `hosting`, `entering`, `sending`, `binding`, `locking`, `silence`, `stores` run the commands that touch ports and
 //! files, with `watching` (notes of `send`), `earlier` (notes of `enter`) and `noting` (of a folder without tables); `program` over a `system`, of which `machine` has all that is known as one argument; `laws`.
 //!
@@ -86,6 +86,7 @@ mod entering;
 mod entries;
 mod folders;
 mod hosting;
+mod judging;
 mod keys;
 pub mod laws;
 mod listening;

@@ -1,6 +1,9 @@
 -- Root moves and games by the whole folder.
-use Rattle.std.proofs.Common.{◌≡◌, ◌≤◌, ℕ, zero, suc, nat_lt, Bool, true, false, ◌||◌, List, [], ◌∷◌, filter_map, fold, take, Option, Some, None, option_map, refl, sym, ap, subst, ◌∙◌, inl, inr, arith}
-use Rattle.std.proofs.lemmas.Bool.{le-ltb, ltb-false, or_parts}
+use Rattle.std.proofs.Common.{◌≡◌, ◌<◌, ◌≤◌, ◌+◌, ◌-◌, ℕ, zero, suc, nat_lt, Bool, true, false, ◌||◌, List, [], ◌∷◌, ◌++◌, length, drop, filter_map, fold, take, Option, Some, None, option_map, refl, sym, ap, subst, ◌∙◌, inl, inr, arith}
+use Rattle.std.proofs.Math.Seq.{take-add}
+use Rattle.std.proofs.lemmas.Bool.{cases_lt, le-ltb, ltb-false, or_parts}
+use Rattle.std.proofs.lemmas.List.{take-take, take_all}
+use Rattle.std.proofs.lemmas.List.Sums.{fold-append}
 use Rattle.std.proofs.lemmas.List.Elements.{Contains-append_right}
 use Rattle.std.specs.List.{Contains, cons_option}
 use Rattle.std.specs.List.Sorted.{IsPermutation, IsStableByKey}
@@ -15,7 +18,10 @@ use Rattle.board_core.specs.Position.{IsPosition}
 use Rattle.system_io.specs.Disks.{DiskFacts}
 use Rattle.judge_core.specs.declared.root_move.RootMove.{RootMove}
 use Rattle.judge_core.specs.Distances.{Reach, dtz_of}
-use Rattle.judge_core.specs.Games.{position_after_all}
+use Rattle.judge_core.specs.Games.{IsOutcome, IsUnruled, Rules, plies_to, position_after_all, verdict_after}
+use Rattle.judge_core.specs.declared.game.GameOutcome.{GameOutcome}
+use Rattle.judge_core.specs.declared.game.GameOutcome.TheVariants.{Ruled, Illegal, Going}
+use Rattle.board_core.specs.declared.verdict.Verdict.{Verdict}
 use Rattle.judge_core.specs.MoreTables.{GamesDependOnRulings, HasAll, MoreTablesAnswerTheSame, WhatIsMissingStaysMissing}
 use Rattle.judge_core.specs.Probing.{wdl_of}
 use Rattle.judge_core.specs.Root.{move_rank, rank_cmp, root_move_at, root_move_by, root_moves, root_moves_by}
@@ -23,7 +29,7 @@ use Rattle.judge_core.specs.Ruling.{is_out_of_scope, ruling}
 use Rattle.judge_core.specs.Values.{Reading}
 use Rattle.judge_core.specs.Tables.{Tables}
 use Rattle.table_folder.specs.Folders.{AreOf, Folder}
-use Rattle.table_folder.specs.Laws.{JudgesAlike, SettledGamesAreAsWhole, SettledGamesStay, SettledMovesAreAsWhole}
+use Rattle.table_folder.specs.Laws.{JudgesAlike, PlayedPliesAreInPlay, SettledGamesAreAsWhole, SettledGamesStay, SettledMovesAreAsWhole}
 use Rattle.table_folder.specs.Settled.{AreSettled, IsPly}
 use Rattle.table_folder.proofs.Staying.{stays_settled}
 use Rattle.table_folder.proofs.Whole.{as_more, as_whole, has_all}
@@ -122,7 +128,7 @@ is_ply (suc n) (m ∷ moves) start p e = by_position (position_after start m) re
     by_position (Some next) plays rest there = inr (next, plays, rest next there)
 
 -- where no table of the folder is missing at any ply, more tables of it change nothing
-pub games_as_more : GamesDependOnRulings → MoreTablesAnswerTheSame → WhatIsMissingStaysMissing → (disk : DiskFacts) (folder : Folder) (tables more : Tables) (start : Parts) (moves : List Move) (delay : ℕ) → AreOf disk folder more → HasAll tables more → AreSettled folder tables (IsPly start moves) → JudgesAlike tables more start moves delay
+pub games_as_more : GamesDependOnRulings → MoreTablesAnswerTheSame → WhatIsMissingStaysMissing → (disk : DiskFacts) (folder : Folder) (tables more : Tables) (start : Parts) (moves : List Move) (delay : ℕ) → AreOf disk folder more → HasAll tables more → AreSettled folder tables (λ _. IsPly start moves) → JudgesAlike tables more start moves delay
 games_as_more depend same missing disk folder tables more start moves delay opened kept settled =
     let alike = depend (record { start = start; tables = tables; delay = delay }) more moves in record {
       outcome = λ outcome. alike.0 outcome (λ ply p le plays. ruled ply p plays);
@@ -132,8 +138,52 @@ games_as_more depend same missing disk folder tables more start moves delay open
     ruled : (ply : ℕ) (p : Parts) → position_after_all start (take ply moves) ≡ Some p → ruling more p ≡ ruling tables p
     ruled ply p plays = (as_more same missing disk folder tables more p opened kept (settled p (is_ply ply moves start p plays))).verdict
 
+-- ---- plies in play
+
+-- up to its outcome a game has no verdict
+unruled_to : (rules : Rules) (moves : List Move) (outcome : GameOutcome) → IsOutcome rules moves outcome → (n : ℕ) → n ≤ plies_to moves outcome → IsUnruled rules moves n
+unruled_to rules moves (Ruled ply v) is n le = λ j lt. is.unruled j (omega (arith, lt, le))
+unruled_to rules moves (Illegal place) is n le = λ j lt. is.unruled j (omega (arith, lt, le))
+unruled_to rules moves Going is n le = λ j lt. is.unruled j (omega (arith, lt, le))
+
 pub games_as_whole : GamesDependOnRulings → MoreTablesAnswerTheSame → WhatIsMissingStaysMissing → (disk : DiskFacts) → SettledGamesAreAsWhole disk
-games_as_whole depend same missing disk folder tables whole start moves delay are all settled = games_as_more depend same missing disk folder tables whole start moves delay all.opened (has_all disk folder tables whole are all) settled
+games_as_whole depend same missing disk folder tables whole start moves delay outcome are all settled is =
+    (depend (record { start = start; tables = tables; delay = delay }) whole moves).0 outcome ruled is
+  where
+    ruled : (ply : ℕ) (p : Parts) → ply ≤ plies_to moves outcome → position_after_all start (take ply moves) ≡ Some p → ruling whole p ≡ ruling tables p
+    ruled ply p le plays = (as_whole same missing disk folder tables whole p are all (settled p (record { ply = ply; at = plays; unruled = unruled_to (record { start = start; tables = tables; delay = delay }) moves outcome is ply le }))).verdict
+
+-- some of the first moves lead to a ply of these
+is_ply_within : (n k : ℕ) (moves : List Move) (start p : Parts) → k ≤ n → position_after_all start (take k moves) ≡ Some p → IsPly start (take n moves) p
+is_ply_within n k moves start p le e = is_ply k (take n moves) start p (ap (position_after_all start) (take-take k n moves le) ∙ e)
+
+-- behind a move that isn't legal there is no position
+no_more : (start : Parts) (some more : List Move) → position_after_all start some ≡ None → position_after_all start (some ++ more) ≡ None
+unfolding position_after_all
+no_more start some more none =
+    fold-append (λ position m. option_and_then (λ p. position_after p m) position) (Some start) some more
+    ∙ ap (λ (o : Option Parts). fold (λ position m. option_and_then (λ p. position_after p m) position) o more) none ∙ no_position more
+
+none_beyond : (start p : Parts) (moves : List Move) (n k : ℕ) → n ≤ k → position_after_all start (take n moves) ≡ None → position_after_all start (take k moves) ≡ Some p → ⊥
+none_beyond start p moves n k le none there =
+    let split = ap (λ i. take i moves) {x = k} {y = n + (k - n)} (omega (arith, le)) ∙ take-add n (k - n) moves in
+    let e = sym there ∙ ap (position_after_all start) split ∙ no_more start (take n moves) (take (k - n) (drop n moves)) none in
+    absurd cc
+
+-- a ply with a verdict isn't unruled
+not_unruled : {rules : Rules} {moves : List Move} (n k : ℕ) (v : Verdict) → n < k → verdict_after rules (take n moves) ≡ Some v → IsUnruled rules moves k → ⊥
+not_unruled n k v lt ruled none = let e = sym ruled ∙ none n lt in absurd cc
+
+pub played_plies : PlayedPliesAreInPlay
+played_plies rules moves (Ruled n v) p is play = elim (cases_lt n play.ply) [
+  | inl lt ↦ absurd (not_unruled n play.ply v lt is.ruled play.unruled)
+  | inr le ↦ is_ply_within n play.ply moves rules.start p le play.at
+]
+played_plies rules moves (Illegal n) p is play = elim (cases_lt n play.ply) [
+  | inl lt ↦ absurd (none_beyond rules.start p moves (n + 1) play.ply (omega (arith, lt)) is.illegal play.at)
+  | inr le ↦ is_ply_within n play.ply moves rules.start p le play.at
+]
+played_plies rules moves Going p is play = subst (λ ms. IsPly rules.start ms p) (sym (take_all (length moves) moves (omega arith))) (is_ply play.ply moves rules.start p play.at)
 
 pub games_stay : GamesDependOnRulings → MoreTablesAnswerTheSame → WhatIsMissingStaysMissing → (disk : DiskFacts) → SettledGamesStay disk
 games_stay depend same missing disk folder tables more start moves are opened kept settled =

@@ -16,7 +16,7 @@ use Rattle.table_folder.specs.declared.fault.FileRefusal.{FileRefusal}
 use Rattle.table_folder.specs.declared.settling.Look.{Look}
 use Rattle.table_folder.specs.declared.settling.Look.TheVariants.{Settled, Opened, Refused}
 use Rattle.table_folder.specs.Folders.{AreOf, Folder, Says}
-use Rattle.table_folder.specs.Settled.{AddsOnlyMissed, IsRefusedAt, IsSettled}
+use Rattle.table_folder.specs.Settled.{AddsOnlyMissed, IsAlone, IsRefusedAt, IsSettled}
 
 -- by what both probes tell, this table is missed
 abbrev pub MissesBy : Tables → ProbeResult → TableKind → ℕ → Type 0
@@ -40,7 +40,7 @@ pub record IsOneMoreOf (disk : DiskFacts) (folder : Folder) (old new : Tables) (
   pub kept : HasAll old new
   pub slots : length new ≡ length old
   pub more : table_count old + 1 ≤ table_count new
-  pub only : AddsOnlyMissed disk folder (λ q. q ≡ p) old new
+  pub only : AddsOnlyMissed disk folder (IsAlone p) old new
 
 -- what a look at a position comes to
 abbrev pub IsLook : DiskFacts → Folder → Tables → Tables → Parts → Look → Type 0

@@ -1,6 +1,6 @@
 -- Laws of folders: what is answered by tables that are opened as positions ask for them is answered by the whole folder. Functions of
 -- src/laws.rt carry these laws, each over any disk.
-use Rattle.std.specs.Prelude.{◌≡◌, ◌<◌, ℕ, IsFalse, List, Some}
+use Rattle.std.specs.Prelude.{◌≡◌, ◌<◌, ℕ, IsFalse, List, take, Some}
 use Rattle.board_core.specs.declared.moves.Move.{Move}
 use Rattle.board_core.specs.declared.parts.Parts.{Parts}
 use Rattle.board_core.specs.Position.{IsPosition}
@@ -12,7 +12,7 @@ use Rattle.judge_core.specs.declared.game.GameOutcome.{GameOutcome}
 use Rattle.judge_core.specs.declared.probe_result.ProbeResult.{ProbeResult}
 use Rattle.judge_core.specs.declared.root_move.RootMove.{RootMove}
 use Rattle.judge_core.specs.Distances.{dtz_of}
-use Rattle.judge_core.specs.Games.{IsOutcome}
+use Rattle.judge_core.specs.Games.{IsOutcome, Rules, plies_to}
 use Rattle.judge_core.specs.MoreTables.{HasAll}
 use Rattle.judge_core.specs.ProbeResult.{IsProbed}
 use Rattle.judge_core.specs.Probing.{wdl_of}
@@ -22,7 +22,7 @@ use Rattle.judge_core.specs.Standings.{IsAt, Reached}
 use Rattle.judge_core.specs.Tables.{Tables, table_at}
 use Rattle.table_folder.specs.declared.fault.FileRefusal.{FileRefusal}
 use Rattle.table_folder.specs.Folders.{AreOf, Folder, Found, HasTable, IsTableOf, Says}
-use Rattle.table_folder.specs.Settled.{AreSettled, IsPly, IsRefusedAt, IsSettled, IsWithMoves, Misses}
+use Rattle.table_folder.specs.Settled.{AreSettled, IsInPlay, IsInPlayBy, IsPly, IsRefusedAt, IsSettled, IsWithMoves, Misses}
 
 -- the set of the whole folder: each table of the folder, as its file says it, and no other
 pub record IsWhole (disk : DiskFacts) (folder : Folder) (whole : Tables) : Type 0 where
@@ -62,6 +62,20 @@ SettledMovesAreAsWhole disk =
     (folder : Folder) (tables whole : Tables) (p : Parts) (moves : List RootMove) → AreOf disk folder tables → IsWhole disk folder whole
     → IsPosition p → IsFalse (is_out_of_scope p) → AreSettled folder tables (IsWithMoves p) → IsRoot tables p moves → IsRoot whole p moves
 
+-- Where no table of the folder is missing at the positions in play, the game comes to the same by the whole folder.
+abbrev pub SettledGamesAreAsWhole : DiskFacts → Type 0
+SettledGamesAreAsWhole disk =
+    (folder : Folder) (tables whole : Tables) (start : Parts) (moves : List Move) (delay : ℕ) (outcome : GameOutcome) → AreOf disk folder tables
+    → IsWhole disk folder whole → AreSettled folder tables (IsInPlayBy start moves delay)
+    → IsOutcome (record { start = start; tables = tables; delay = delay }) moves outcome
+    → IsOutcome (record { start = start; tables = whole; delay = delay }) moves outcome
+
+-- The positions in play are those of the plies up to that of the outcome.
+abbrev pub PlayedPliesAreInPlay : Type 0
+PlayedPliesAreInPlay =
+    (rules : Rules) (moves : List Move) (outcome : GameOutcome) (p : Parts) → IsOutcome rules moves outcome → IsInPlay rules moves p
+    → IsPly rules.start (take (plies_to moves outcome) moves) p
+
 -- by both sets a game comes to the same, and stands the same
 pub record JudgesAlike (tables whole : Tables) (start : Parts) (moves : List Move) (delay : ℕ) : Type 0 where
   pub outcome :
@@ -71,18 +85,13 @@ pub record JudgesAlike (tables whole : Tables) (start : Parts) (moves : List Mov
       (s : Reached) → IsAt (record { start = start; tables = tables; delay = delay }) moves s
       → IsAt (record { start = start; tables = whole; delay = delay }) moves s
 
--- the outcome of a game, and where it stands
-abbrev pub SettledGamesAreAsWhole : DiskFacts → Type 0
-SettledGamesAreAsWhole disk =
-    (folder : Folder) (tables whole : Tables) (start : Parts) (moves : List Move) (delay : ℕ) → AreOf disk folder tables → IsWhole disk folder whole
-    → AreSettled folder tables (IsPly start moves) → JudgesAlike tables whole start moves delay
-
 -- A game at whose plies no table of the folder is missing comes to the same, and stands the same, when more tables of the folder are there;
 -- and none is missing then.
 abbrev pub SettledGamesStay : DiskFacts → Type 0
 SettledGamesStay disk =
     (folder : Folder) (tables more : Tables) (start : Parts) (moves : List Move) → AreOf disk folder tables → AreOf disk folder more → HasAll tables more
-    → AreSettled folder tables (IsPly start moves) → ((delay : ℕ) → JudgesAlike tables more start moves delay) × AreSettled folder more (IsPly start moves)
+    → AreSettled folder tables (λ _. IsPly start moves)
+    → ((delay : ℕ) → JudgesAlike tables more start moves delay) × AreSettled folder more (λ _. IsPly start moves)
 
 -- ---- refusals
 

@@ -1,5 +1,5 @@
 -- Positions at which no table of a folder is missing, and what is refused (this project's own).
-use Rattle.std.specs.Prelude.{◌≡◌, ◌<◌, ◌⊎◌, ℕ, false, List, [], ◌∷◌, Some, None, IsSome, Err}
+use Rattle.std.specs.Prelude.{◌≡◌, ◌<◌, ◌⊎◌, ℕ, false, List, [], ◌∷◌, take, Some, None, IsSome, Err}
 use Rattle.std.specs.List.{Contains}
 use Rattle.board_core.specs.declared.moves.Move.{Move}
 use Rattle.board_core.specs.ComputedMoves.{legal_moves, position_after}
@@ -10,6 +10,8 @@ use Rattle.table_file.specs.declared.kind.TableKind.TheVariants.{Wdl, Dtz}
 use Rattle.table_file.specs.Names.{file_name}
 use Rattle.judge_core.specs.declared.fault.ValueFault.TheVariants.{NotCovered}
 use Rattle.judge_core.specs.Distances.{dtz_of}
+use Rattle.judge_core.specs.Games.{IsUnruled, Rules, position_after_all}
+use Rattle.judge_core.specs.MoreTables.{HasAll}
 use Rattle.judge_core.specs.Probing.{wdl_of}
 use Rattle.judge_core.specs.Ruling.{is_out_of_scope}
 use Rattle.judge_core.specs.Tables.{Tables, table_at}
@@ -30,17 +32,32 @@ ComesInTurn folder tables kind key = kind ≡ Dtz → table_at tables Wdl key �
 abbrev pub IsSettled : Folder → Tables → Parts → Type 0
 IsSettled folder tables p = (kind : TableKind) (key : ℕ) → Misses tables p kind key → HasTable folder kind key → ⊥
 
-abbrev pub AreSettled : Folder → Tables → (Parts → Type 0) → Type 0
-AreSettled folder tables IsNeeded = (p : Parts) → IsNeeded p → IsSettled folder tables p
+-- so it is of each position that is needed by these tables
+abbrev pub AreSettled : Folder → Tables → (Tables → Parts → Type 0) → Type 0
+AreSettled folder tables IsNeeded = (p : Parts) → IsNeeded tables p → IsSettled folder tables p
 
 -- the position at some ply of a game: at its start, or after a move that is legal in its turn
 abbrev pub IsPly : Parts → List Move → Parts → Type 0
 IsPly start [] p = p ≡ start
 IsPly start (m ∷ moves) p = (p ≡ start) ⊎ ((next : Parts) × (position_after start m ≡ Some next) × IsPly next moves p)
 
--- a position, or the one after a legal move of it
-abbrev pub IsWithMoves : Parts → Parts → Type 0
-IsWithMoves position p = (p ≡ position) ⊎ ((m : Move) × Contains (legal_moves position) m × (position_after position m ≡ Some p))
+-- The position at a ply of a game is in play: no ply before it has a verdict.
+pub record IsInPlay (rules : Rules) (moves : List Move) (p : Parts) : Type 0 where
+  pub ply : ℕ
+  pub at : position_after_all rules.start (take ply moves) ≡ Some p
+  pub unruled : IsUnruled rules moves ply
+
+-- by these tables
+abbrev pub IsInPlayBy : Parts → List Move → ℕ → Tables → Parts → Type 0
+IsInPlayBy start moves delay tables p = IsInPlay (record { start = start; tables = tables; delay = delay }) moves p
+
+-- a position alone, by whatever tables
+abbrev pub IsAlone : Parts → Tables → Parts → Type 0
+IsAlone position tables p = p ≡ position
+
+-- a position, or the one after a legal move of it, by whatever tables
+abbrev pub IsWithMoves : Parts → Tables → Parts → Type 0
+IsWithMoves position tables p = (p ≡ position) ⊎ ((m : Move) × Contains (legal_moves position) m × (position_after position m ≡ Some p))
 
 -- a position misses a table of the folder, by tables of this, whose file says why it is none
 pub record IsRefusedAt (disk : DiskFacts) (folder : Folder) (p : Parts) (refusal : FileRefusal) : Type 0 where
@@ -55,29 +72,35 @@ pub record IsRefusedAt (disk : DiskFacts) (folder : Folder) (p : Parts) (refusal
   pub name : refusal.name.bytes ≡ file_name kind key
   pub says : Says disk folder (file_name kind key) (Err refusal.fault)
 
+-- by these tables of the folder, and by all of it that have more, a position is needed
+abbrev pub IsNeededFrom : DiskFacts → Folder → Tables → (Tables → Parts → Type 0) → Parts → Type 0
+IsNeededFrom disk folder tables IsNeeded p = (more : Tables) → AreOf disk folder more → HasAll tables more → IsNeeded more p
+
 -- a needed position misses this table, by tables of the folder
-pub record IsMissedFor (disk : DiskFacts) (folder : Folder) (IsNeeded : Parts → Type 0) (kind : TableKind) (key : ℕ) : Type 0 where
+pub record IsMissedFor (disk : DiskFacts) (folder : Folder) (IsNeeded : Tables → Parts → Type 0) (kind : TableKind) (key : ℕ) : Type 0 where
   pub position : Parts
-  pub needed : IsNeeded position
   pub tables : Tables
   pub opened : AreOf disk folder tables
+  pub needed : IsNeededFrom disk folder tables IsNeeded position
   pub misses : Misses tables position kind key
   pub in_turn : ComesInTurn folder tables kind key
 
 -- each table that the second set has and the first lacks is missed at a needed position
-abbrev pub AddsOnlyMissed : DiskFacts → Folder → (Parts → Type 0) → Tables → Tables → Type 0
+abbrev pub AddsOnlyMissed : DiskFacts → Folder → (Tables → Parts → Type 0) → Tables → Tables → Type 0
 AddsOnlyMissed disk folder IsNeeded old new =
     (kind : TableKind) (key : ℕ) → key < 145 → table_at old kind key ≡ None → IsSome (table_at new kind key) → IsMissedFor disk folder IsNeeded kind key
 
 -- answers by tables of the folder, of which none is missing at the positions that are needed
-pub record AnswersBy (disk : DiskFacts) (folder : Folder) (IsNeeded : Parts → Type 0) (Answers : Tables → Type 0) : Type 0 where
+pub record AnswersBy (disk : DiskFacts) (folder : Folder) (IsNeeded : Tables → Parts → Type 0) (Answers : Tables → Type 0) : Type 0 where
   pub tables : Tables
   pub opened : AreOf disk folder tables
   pub settled : AreSettled folder tables IsNeeded
   pub answers : Answers tables
 
 -- a needed position is refused
-pub record IsRefusedFor (disk : DiskFacts) (folder : Folder) (IsNeeded : Parts → Type 0) (refusal : FileRefusal) : Type 0 where
+pub record IsRefusedFor (disk : DiskFacts) (folder : Folder) (IsNeeded : Tables → Parts → Type 0) (refusal : FileRefusal) : Type 0 where
   pub position : Parts
-  pub needed : IsNeeded position
+  pub tables : Tables
+  pub opened : AreOf disk folder tables
+  pub needed : IsNeededFrom disk folder tables IsNeeded position
   pub refused : IsRefusedAt disk folder position refusal

@@ -1,6 +1,6 @@
 //! Laws over the definitions of specs/, for proofs above: each function carries one law, over any disk, and does nothing.
 
-ghost use Rattle.table_folder.specs.Laws.{RefusedIsNeeded, SettledGamesAreAsWhole, SettledGamesStay, SettledIsAsWhole, SettledMovesAreAsWhole, WholeIsOne, WholeIsThere};
+ghost use Rattle.table_folder.specs.Laws.{PlayedPliesAreInPlay, RefusedIsNeeded, SettledGamesAreAsWhole, SettledGamesStay, SettledIsAsWhole, SettledMovesAreAsWhole, WholeIsOne, WholeIsThere};
 
 use crate::folder::TableFolder;
 use board_core::laws::{
@@ -42,8 +42,7 @@ pub fn settled_moves_are_as_whole<D: Disk>(_disk: &D)
     what_is_missing_stays_missing();
 }
 
-/// Where the positions of a game miss no table of the folder, its outcome, and where it stands, are those by all tables of the
-/// folder.
+/// Where the positions of a game that are in play miss no table of the folder, its outcome is that by all tables of the folder.
 pub fn settled_games_are_as_whole<D: Disk>(_disk: &D)
     ensures { SettledGamesAreAsWhole (D.facts _disk.now) }
 {
@@ -51,6 +50,11 @@ pub fn settled_games_are_as_whole<D: Disk>(_disk: &D)
     more_tables_answer_the_same();
     what_is_missing_stays_missing();
 }
+
+/// The positions of a game that are in play are those of the plies up to that of its outcome.
+pub fn played_plies_are_in_play()
+    ensures { PlayedPliesAreInPlay }
+{}
 
 /// Where the positions of a game miss no table of the folder, its outcome, and where it stands, stay when more tables of the folder are
 /// opened; and then its positions miss none.

@@ -5,7 +5,7 @@
 //! folder has it, and asks again, until nothing is missed that is there. A table stays once it is opened. A file that is at fault is
 //! refused where a position needs it, and looked at anew where the next one does.
 //!
-//! Inside: `folder` (names and files), `settling` (which table is missed, and until when), `needing` (the positions of a game, and after
+//! Inside: `folder` (names and files), `settling` (which table is missed, and until when), `needing` (a position, and those after its
 //! moves), `fault`, `laws`.
 //!
 //! Definitions, in reading order: `Folders` (`Says`, `AreOf`), `Settled` (`IsSettled`, `AnswersBy`), `Laws` (`IsWhole`), `Faults`. Its cases
@@ -20,12 +20,13 @@
 //!   tables and gets tables of the folder alone, each as its file says it, and none that the position doesn't miss. Then the position misses no table of the folder, and the result
 //!   is both probes and the verdict by the set. Or it is the refusal of a table's file: the position misses that table, and the file
 //!   isn't listed, can't be read, has another digest or is no such table.
-//! - CLAIM: `TableFolder::settle_game`, `TableFolder::settle_moves`, clauses `opened`, `kept`, `only`, `settled`, `refused`, `cache`: the
-//!   same for the position at each ply of a game, and for a position and those after its legal moves.
+//! - CLAIM: `TableFolder::settle_one`, `TableFolder::settle_moves`, clauses `opened`, `kept`, `only`, `settled`, `refused`, `cache`: the
+//!   same for a position that may be out of scope, and for a position and those after its legal moves.
 //! - CLAIM: `laws::settled_is_as_whole`; `laws::settled_moves_are_as_whole`; `laws::settled_games_are_as_whole`; `laws::whole_is_one`;
-//!   `laws::whole_is_there`: where no table of the folder is missing, value, distance, probes, verdict, root moves, the outcome of a
-//!   game and where it stands are those by the set of all tables of the folder. There is one such set at most, and there is one where
-//!   each file of a table says one thing.
+//!   `laws::whole_is_there`: where no table of the folder is missing, value, distance, probes, verdict, root moves and the outcome of a
+//!   game are those by the set of all tables of the folder; for a game at its positions in play, before which no ply has a verdict.
+//!   There is one such set at most, and there is one where each file of a table says one thing.
+//! - CLAIM: `laws::played_plies_are_in_play`: the positions in play are those of the plies up to that of the outcome.
 //! - CLAIM: `laws::settled_games_stay`: a game at whose plies no table is missing stays as it is while more tables of the folder are opened.
 //! - CLAIM: `laws::refused_is_needed`: by the set of all tables of the folder the position misses the table of a file that is refused,
 //!   where each file holds one thing. So no file is refused that no position needs.

@@ -1,21 +1,24 @@
-//! The positions of a game, and those after the moves of a position, until no table of a folder is missing at any.
+//! A position, and those after its moves, until no table of a folder is missing at any.
 
 ghost use Rattle.std.specs.Prelude.{◌≡◌, IfOk, IfErr};
 ghost use Rattle.judge_core.specs.MoreTables.{HasAll};
 ghost use Rattle.table_folder.specs.Folders.{AreOf};
-ghost use Rattle.table_folder.specs.Settled.{AddsOnlyMissed, AreSettled, IsPly, IsRefusedAt, IsRefusedFor, IsSettled, IsWithMoves};
+ghost use Rattle.table_folder.specs.Settled.{AddsOnlyMissed, AreSettled, IsAlone, IsRefusedAt, IsRefusedFor, IsSettled, IsWithMoves};
 
 use crate::fault::FileRefusal;
 use crate::folder::TableFolder;
-use board_core::{Move, Position};
+use board_core::Position;
 use judge_core::laws::{more_tables_answer_the_same, what_is_missing_stays_missing};
 use judge_core::{Set, is_out_of_scope};
 use std::alloc::{AllocError, Global};
 use system_io::Disk;
 
 impl<'r, D: Disk> TableFolder<'r, D> {
-    /// Opens what a position misses and the folder has. A position out of scope needs no table.
-    fn settle_one(
+    /// Opens the tables that a position misses and the folder has. A position out of scope needs none. The result says whether they are
+    /// open, or is the refusal of the first file at fault.
+    ///
+    /// The error comes where memory is refused. Tables that are open stay open whatever the result is.
+    pub fn settle_one(
         &self,
         alloc: Global,
         set: &mut Set<'r>,
@@ -24,7 +27,7 @@ impl<'r, D: Disk> TableFolder<'r, D> {
         requires { AreOf (D.facts self.now.disk) self.now.folder set.old.tables }
         ensures opened { AreOf (D.facts self.now.disk) self.now.folder set.new.tables }
         ensures kept { HasAll set.old.tables set.new.tables }
-        ensures only { AddsOnlyMissed (D.facts self.now.disk) self.now.folder (λ p. p ≡ position.now) set.old.tables set.new.tables }
+        ensures only { AddsOnlyMissed (D.facts self.now.disk) self.now.folder (IsAlone position.now) set.old.tables set.new.tables }
         ensures settled { IfOk result (λ settled. IfOk settled (λ _. IsSettled self.now.folder set.new.tables position.now)) }
         ensures refused { IfOk result (λ settled. IfErr settled (IsRefusedAt (D.facts self.now.disk) self.now.folder position.now)) }
         ensures cache { set.new.cache ≡ set.old.cache }
@@ -38,41 +41,7 @@ impl<'r, D: Disk> TableFolder<'r, D> {
         }
     }
 
-    /// Opens the tables that the positions of a game miss and the folder has: of its start, and of the position after each move, up to
-    /// one that isn't legal. The result says whether they are open, or is the refusal of the first file at fault.
-    ///
-    /// The error comes where memory is refused. Tables that are open stay open whatever the result is.
-    pub fn settle_game(
-        &self,
-        alloc: Global,
-        set: &mut Set<'r>,
-        start: &Position,
-        moves: &[Move],
-    ) -> Result<Result<(), FileRefusal>, AllocError>
-        requires { AreOf (D.facts self.now.disk) self.now.folder set.old.tables }
-        ensures opened { AreOf (D.facts self.now.disk) self.now.folder set.new.tables }
-        ensures kept { HasAll set.old.tables set.new.tables }
-        ensures only { AddsOnlyMissed (D.facts self.now.disk) self.now.folder (IsPly start.now moves.now) set.old.tables set.new.tables }
-        ensures settled { IfOk result (λ settled. IfOk settled (λ _. AreSettled self.now.folder set.new.tables (IsPly start.now moves.now))) }
-        ensures refused { IfOk result (λ settled. IfErr settled (IsRefusedFor (D.facts self.now.disk) self.now.folder (IsPly start.now moves.now))) }
-        ensures cache { set.new.cache ≡ set.old.cache }
-    {
-        more_tables_answer_the_same();
-        what_is_missing_stays_missing();
-        let mut position = *start;
-        for m in moves {
-            if let Err(refusal) = self.settle_one(alloc, set, &position)? {
-                return Ok(Err(refusal));
-            }
-            let Some(next) = position.play(*m) else {
-                return Ok(Ok(()));
-            };
-            position = next;
-        }
-        self.settle_one(alloc, set, &position)
-    }
-
-    /// Opens the tables that a position and those after its legal moves miss and the folder has, as `settle_game` does.
+    /// Opens the tables that a position and those after its legal moves miss and the folder has, as `settle_one` does.
     pub fn settle_moves(
         &self,
         alloc: Global,

@@ -7,7 +7,7 @@ ghost use Rattle.judge_core.specs.Ruling.{ruling};
 ghost use Rattle.judge_core.specs.Tables.{table_at};
 ghost use Rattle.table_file.specs.declared.kind.TableKind.{TableKind};
 ghost use Rattle.table_folder.specs.Folders.{AreOf, HasTable};
-ghost use Rattle.table_folder.specs.Settled.{AddsOnlyMissed, ComesInTurn, IsRefusedAt, IsSettled};
+ghost use Rattle.table_folder.specs.Settled.{AddsOnlyMissed, ComesInTurn, IsAlone, IsRefusedAt, IsSettled};
 ghost use Rattle.table_folder.specs.Inside.{AddsTable, IsLook, IsRefusalOf, MissesBy};
 
 use crate::fault::FileRefusal;
@@ -160,7 +160,7 @@ impl<'r, D: Disk> TableFolder<'r, D> {
         requires { AreOf (D.facts self.now.disk) self.now.folder set.old.tables }
         ensures opened { AreOf (D.facts self.now.disk) self.now.folder set.new.tables }
         ensures kept { HasAll set.old.tables set.new.tables }
-        ensures only { AddsOnlyMissed (D.facts self.now.disk) self.now.folder (λ p. p ≡ position.now) set.old.tables set.new.tables }
+        ensures only { AddsOnlyMissed (D.facts self.now.disk) self.now.folder (IsAlone position.now) set.old.tables set.new.tables }
         ensures probed { IfOk result (λ settled. IfOk settled (λ columns. IsProbed set.new.tables position.now columns.probed)) }
         ensures verdict { IfOk result (λ settled. IfOk settled (λ columns. columns.verdict ≡ ruling set.new.tables position.now)) }
         ensures settled { IfOk result (λ settled. IfOk settled (λ _. IsSettled self.now.folder set.new.tables position.now)) }

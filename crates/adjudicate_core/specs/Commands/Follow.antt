@@ -82,7 +82,7 @@ abbrev pub by_folder : DiskFacts → Folder → Tables → JudgeFacts
 by_folder disk folder tables = record {
   opened = tables;
   is_by = λ more. AreOf disk folder more × HasAll tables more;
-  stands = λ start moves s. AreSettled folder tables (IsPly start moves) × ((delay : ℕ) → IsAt (record { start = start; tables = tables; delay = delay }) moves s);
+  stands = λ start moves s. AreSettled folder tables (λ _. IsPly start moves) × ((delay : ℕ) → IsAt (record { start = start; tables = tables; delay = delay }) moves s);
   takes_memory = λ p. Unit {0};
   refuses = IsRefusedAt disk folder;
 }

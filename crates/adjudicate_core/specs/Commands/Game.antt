@@ -19,7 +19,7 @@ use Rattle.adjudicate_core.specs.declared.words.usage.Wanted.TheVariants as want
 use Rattle.std.specs.Borrow.{Bor}
 use Rattle.system_io.specs.Disks.{DiskFacts}
 use Rattle.move_msg.specs.ToldManifests.{ToldManifest}
-use Rattle.table_folder.specs.Settled.{IsPly}
+use Rattle.table_folder.specs.Settled.{IsInPlayBy}
 use Rattle.adjudicate_core.specs.FolderAnswers.{ByFolder, read_at_once, read_when_asked, refused_table}
 use Rattle.task_files.specs.Sources.{Named}
 use Rattle.task_files.specs.Given.{Given}
@@ -70,14 +70,14 @@ pub data IsPlayedReply (notation : Notation) (text : List ℕ) (found : Result T
 abbrev pub IsOutcomeReply : ℕ → List Move → Tables → Parts → Reply → Type 0
 IsOutcomeReply delay moves tables start r = (outcome : GameOutcome) × IsOutcome (record { start = start; tables = tables; delay = delay }) moves outcome × (r ≡ outcome_reply outcome moves)
 
--- what is needed of the game of these moves from a start
-abbrev pub plies_of : List Move → Parts → Parts → Type 0
-plies_of moves start = IsPly start moves
+-- what is needed of the game of these moves from a start: its positions in play, which are those up to the first verdict
+abbrev pub in_play : ℕ → List Move → Parts → Tables → Parts → Type 0
+in_play delay moves start = IsInPlayBy start moves delay
 
 -- the refusal of the first word that is no move; or else what the game comes to by the folder
 pub data IsPlayedIn (disk : DiskFacts) (path : List ℕ) (manifest : Option ToldManifest) (notation : Notation) (text : List ℕ) (delay : ℕ) (start : Parts) (r : Reply) : Type 0 where
   BadWordIn : (place : ℕ) → IsBadWordIn notation start (words_in text) place → r ≡ refusal_reply (refused_move place) → IsPlayedIn disk path manifest notation text delay start r
-  PlayedIn : (moves : List Move) → AreMovesIn notation start (words_in text) moves → ByFolder disk path manifest (plies_of moves) refused_table (IsOutcomeReply delay moves) start r → IsPlayedIn disk path manifest notation text delay start r
+  PlayedIn : (moves : List Move) → AreMovesIn notation start (words_in text) moves → ByFolder disk path manifest (in_play delay moves) refused_table (IsOutcomeReply delay moves) start r → IsPlayedIn disk path manifest notation text delay start r
 
 -- by the tables of a folder that are read when positions ask for them, or by those that were given
 abbrev pub IsPlayedBy : DiskFacts → FollowGame → Given → Option (Bor (List ℕ)) → Parts → Reply → Type 0

@@ -17,7 +17,7 @@ use Rattle.system_io.specs.Disks.{DiskFacts}
 use Rattle.system_io.specs.Inputs.{InputFacts}
 use Rattle.system_io.specs.declared.output.WriteFault.{WriteFault}
 use Rattle.table_folder.specs.Folders.{Folder}
-use Rattle.table_folder.specs.Settled.{IsPly}
+use Rattle.table_folder.specs.Settled.{IsInPlayBy}
 use Rattle.adjudicate_core.specs.FolderAnswers.{PutsByFolder, TellsByFolder, read_at_once, read_when_asked, refused_table}
 use Rattle.adjudicate_core.specs.TableAnswers.{PutsByTables}
 use Rattle.task_files.specs.Given.{Given}
@@ -96,11 +96,12 @@ pub record Course : Type 0 where
 abbrev pub SpellsGame : List ℕ → Course → Type 0
 SpellsGame line game = SpellsPosition (start_in line) game.start × IsPosition game.start × TellsMoves (moves_in line) game.moves
 
-abbrev pub plies_in : Course → Parts → Type 0
-plies_in game = IsPly game.start game.moves
+-- what is needed of it: its positions in play, which are those up to the first verdict
+abbrev pub is_in_play : ℕ → Course → Tables → Parts → Type 0
+is_in_play delay game = IsInPlayBy game.start game.moves delay
 
 abbrev pub TellsGameByFolder : ℕ → DiskFacts → Folder → List ℕ → LineTold → Type 0
-TellsGameByFolder delay disk folder = TellsByFolder disk folder SpellsGame plies_in (TellsGameLine delay) refused_table
+TellsGameByFolder delay disk folder = TellsByFolder disk folder SpellsGame (is_in_play delay) (TellsGameLine delay) refused_table
 
 -- the games of the input by the tables of a folder, or by those that were given
 abbrev pub PutsFrom : DiskFacts → InputFacts → FollowGames → Given → Option (Bor (List ℕ)) → Option (List ℕ) → Option (List ℕ) → Result ℕ WriteFault → Type 0

@@ -13,7 +13,8 @@ use Rattle.task_files.specs.Sources.{Named}
 use Rattle.task_files.specs.Given.{Given}
 use Rattle.std.specs.Borrow.{Bor}
 use Rattle.system_io.specs.Disks.{DiskFacts}
-use Rattle.adjudicate_core.specs.FolderAnswers.{ByFolder, IsAlone, read_at_once, read_when_asked, refused_table}
+use Rattle.table_folder.specs.Settled.{IsAlone}
+use Rattle.adjudicate_core.specs.FolderAnswers.{ByFolder, read_at_once, read_when_asked, refused_table}
 use Rattle.adjudicate_core.specs.Looks.{gathered}
 use Rattle.adjudicate_core.specs.Numbers.{is_set}
 use Rattle.adjudicate_core.specs.Reply.{ByTables, IsForText, Reply}

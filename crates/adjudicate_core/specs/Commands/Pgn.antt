@@ -15,7 +15,7 @@ use Rattle.system_io.specs.Disks.{AtFile, DiskFacts}
 use Rattle.system_io.specs.Inputs.{InputFacts}
 use Rattle.std.specs.Borrow.{Bor}
 use Rattle.table_folder.specs.Folders.{Folder}
-use Rattle.table_folder.specs.Settled.{IsPly}
+use Rattle.table_folder.specs.Settled.{IsInPlayBy}
 use Rattle.task_files.specs.Given.{Given}
 use Rattle.adjudicate_core.specs.FolderAnswers.{Finds, PutsInFolder, read_at_once, read_when_asked}
 use Rattle.adjudicate_core.specs.Looks.{gathered}
@@ -101,10 +101,10 @@ PutsOf disk source t IsRuling old new r = PutsFrom disk source IsRuling (terms_b
 
 -- ---- by tables that were all read before, or by a folder whose tables are read when the positions of a game ask for them
 
--- the first verdict of a game by tables of the folder, of which none is missing at its positions; or the file of one that they need is
--- refused
+-- the first verdict of a game by tables of the folder, of which none is missing at its positions up to there; or the file of one that they
+-- need is refused
 abbrev pub IsRulingIn : ℕ → DiskFacts → Folder → GameTold → RulingTold → Type 0
-IsRulingIn delay disk folder game ruling = Finds disk folder (IsPly game.start game.moves) (λ tables ruled. IsFirstRuled delay tables game ruled) ruling
+IsRulingIn delay disk folder game ruling = Finds disk folder (IsInPlayBy game.start game.moves delay) (λ tables ruled. IsFirstRuled delay tables game ruled) ruling
 
 -- the refusal of the tables; or the games by them; or memory for the tables was refused
 pub data PutsByAll (disk : DiskFacts) (source : InputFacts) (t : JudgePgn) (given : Given) (old new : Option (List ℕ)) (r : Result ℕ WriteFault) : Type 0 where

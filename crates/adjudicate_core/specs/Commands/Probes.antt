@@ -7,7 +7,8 @@ use Rattle.system_io.specs.Inputs.{InputFacts}
 use Rattle.system_io.specs.declared.output.WriteFault.{WriteFault}
 use Rattle.table_folder.specs.Folders.{Folder}
 use Rattle.task_files.specs.Given.{Given}
-use Rattle.adjudicate_core.specs.FolderAnswers.{IsAlone, IsSpelledBy, PutsByFolder, TellsByFolder, read_at_once, read_when_asked, refused_table}
+use Rattle.table_folder.specs.Settled.{IsAlone}
+use Rattle.adjudicate_core.specs.FolderAnswers.{IsSpelledBy, PutsByFolder, TellsByFolder, read_at_once, read_when_asked, refused_table}
 use Rattle.adjudicate_core.specs.Reply.{IsText}
 use Rattle.adjudicate_core.specs.TableAnswers.{PutsByTables}
 use Rattle.board_core.specs.declared.parts.Parts.{Parts}

@@ -9,9 +9,9 @@ use Rattle.move_msg.specs.ToldManifests.{ToldManifest}
 use Rattle.system_io.specs.Disks.{DiskFacts}
 use Rattle.table_folder.specs.declared.fault.FileRefusal.{FileRefusal}
 use Rattle.table_folder.specs.Folders.{Folder}
-use Rattle.table_folder.specs.Settled.{AnswersBy, IsRefusedFor}
+use Rattle.table_folder.specs.Settled.{AnswersBy, IsAlone, IsRefusedFor}
 use Rattle.task_files.specs.Outside.{FolderFails}
-use Rattle.adjudicate_core.specs.FolderAnswers.{IsAlone, IsOpenAt, IsSound}
+use Rattle.adjudicate_core.specs.FolderAnswers.{IsOpenAt, IsSound}
 use Rattle.adjudicate_core.specs.declared.answers.refusals.Refusal.{Refusal}
 use Rattle.adjudicate_core.specs.declared.answers.refusals.Refusal.TheVariants as refusal
 

@@ -1,12 +1,10 @@
 //! `follow`: the game of the moves of the input, ply by ply as they come.
 
-ghost use Rattle.std.specs.Prelude.{◌≡◌, [], IfErr, IfOk, OnErr, not};
-ghost use Rattle.game_teller.specs.Judges.{IsLater, JudgesOn, StandsBy};
-ghost use Rattle.judge_core.specs.MoreTables.{HasAll};
+ghost use Rattle.std.specs.Prelude.{◌≡◌, IfErr, IfOk, OnErr, not};
+ghost use Rattle.game_teller.specs.Judges.{IsLater};
 ghost use Rattle.judge_core.specs.Tables.{Tables};
 ghost use Rattle.move_msg.specs.ToldBy.{told_by};
 ghost use Rattle.table_folder.specs.Folders.{AreOf};
-ghost use Rattle.table_folder.specs.Settled.{IsRefusedAt, IsSettled};
 ghost use Rattle.clap.specs.Words.{first_value, found_of};
 ghost use Rattle.adjudicate_core.specs.Commands.Follow.{HasValues, IsFollowedBy, Puts, PutsBy, PutsByAll, PutsFollowed, PutsOfFolder, by_folder, faults, named};
 ghost use Rattle.adjudicate_core.specs.FolderAnswers.{IsOpenAt, PutsInFolder, read_when_asked};
@@ -21,6 +19,7 @@ use crate::answers::lines::put_refusal;
 use crate::answers::refusals::Refusal;
 use crate::answers::status_told;
 use crate::folders::{FolderPlace, folder_at, read_at_once, read_when_asked};
+use crate::judging::{begin, move_on};
 use crate::tables::gather;
 use crate::words::numbers::{CacheSize, is_set};
 use crate::words::usage::ValueFault;
@@ -36,7 +35,6 @@ use move_notation::Notation;
 use std::alloc::{AllocError, Global};
 use std::marker::Model;
 use system_io::{Disk, Input, Output, WriteFault};
-use table_folder::laws::settled_games_stay;
 use table_folder::{FileRefusal, TableFolder};
 use task_files::{InputPaths, Inputs};
 
@@ -66,69 +64,6 @@ pub(crate) const SUMMARY: Summary = Summary {
     about: "each ply of the game on standard input, as its moves come",
     example: "echo b1b8 | adjudicate follow \"7k/8/6K1/8/8/8/8/1Q6 w - - 0 1\"",
 };
-
-/// Opens the tables that a position misses and a folder has.
-fn settle<'r, D: Disk>(
-    alloc: Global,
-    folder: &TableFolder<'r, D>,
-    set: &mut Set<'r>,
-    position: &Position,
-) -> Result<Result<(), FileRefusal>, AllocError>
-    requires { AreOf (D.facts folder.now.disk) folder.now.folder set.old.tables }
-    ensures opened { AreOf (D.facts folder.now.disk) folder.now.folder set.new.tables }
-    ensures kept { HasAll set.old.tables set.new.tables }
-    ensures settled { IfOk result (λ settled. IfOk settled (λ _. IsSettled folder.now.folder set.new.tables position.now)) }
-    ensures refused { IfOk result (λ settled. IfErr settled (IsRefusedAt (D.facts folder.now.disk) folder.now.folder position.now)) }
-{
-    folder.settle_game(alloc, set, position, &[])
-}
-
-/// Where a game stands before its first move, by the tables of a folder that the start asks for.
-fn begin<'r, D: Disk>(
-    alloc: Global,
-    folder: &TableFolder<'r, D>,
-    set: &mut Set<'r>,
-    start: &Position,
-) -> Result<Result<Standing, FileRefusal>, AllocError>
-    requires { AreOf (D.facts folder.now.disk) folder.now.folder set.old.tables }
-    ensures opened { AreOf (D.facts folder.now.disk) folder.now.folder set.new.tables }
-    ensures begun { IfOk result (λ found. IfOk found (StandsBy (by_folder (D.facts folder.now.disk) folder.now.folder set.new.tables) start.now [])) }
-    ensures refused { IfOk result (λ found. IfErr found (IsRefusedAt (D.facts folder.now.disk) folder.now.folder start.now)) }
-    ensures later { IsLater (by_folder (D.facts folder.now.disk) folder.now.folder set.old.tables) (by_folder (D.facts folder.now.disk) folder.now.folder set.new.tables) }
-{
-    settled_games_stay(folder);
-    if let Err(refusal) = settle(alloc, folder, set, start)? {
-        return Ok(Err(refusal));
-    }
-    match set.begin(alloc, start) {
-        Ok(standing) => Ok(Ok(standing)),
-        Err(fault) => Err(fault),
-    }
-}
-
-/// Where a game stands one legal move later, which led to this position, by the tables of a folder that the position asks for.
-fn move_on<'r, D: Disk>(
-    alloc: Global,
-    folder: &TableFolder<'r, D>,
-    set: &mut Set<'r>,
-    standing: &Standing,
-    position: Position,
-) -> Result<Result<Standing, FileRefusal>, AllocError>
-    requires { AreOf (D.facts folder.now.disk) folder.now.folder set.old.tables }
-    ensures opened { AreOf (D.facts folder.now.disk) folder.now.folder set.new.tables }
-    ensures on { IfOk result (λ found. IfOk found (JudgesOn (by_folder (D.facts folder.now.disk) folder.now.folder set.old.tables) (by_folder (D.facts folder.now.disk) folder.now.folder set.new.tables) standing.now position)) }
-    ensures refused { IfOk result (λ found. IfErr found (IsRefusedAt (D.facts folder.now.disk) folder.now.folder position)) }
-    ensures later { IsLater (by_folder (D.facts folder.now.disk) folder.now.folder set.old.tables) (by_folder (D.facts folder.now.disk) folder.now.folder set.new.tables) }
-{
-    settled_games_stay(folder);
-    if let Err(refusal) = settle(alloc, folder, set, &position)? {
-        return Ok(Err(refusal));
-    }
-    match set.move_on(alloc, standing, position) {
-        Ok(standing) => Ok(Ok(standing)),
-        Err(fault) => Err(fault),
-    }
-}
 
 /// Judges the plies of a game by the tables of a folder, of which those are read that a ply asks for.
 ///

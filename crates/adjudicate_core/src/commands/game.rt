@@ -9,7 +9,7 @@ ghost use Rattle.adjudicate_core.specs.FolderAnswers.{ByFolder, read_when_asked,
 ghost use Rattle.adjudicate_core.specs.Inside.Asked.{reply_of};
 ghost use Rattle.adjudicate_core.specs.Looks.{gathered};
 ghost use Rattle.adjudicate_core.specs.Reply.{IsText};
-ghost use Rattle.adjudicate_core.specs.Commands.Game.{HasValues, IsOutcomeReply, IsPlayedBy, IsPlayedReply, IsReply, are_all_legal, faults, named, outcome_reply, plies_of};
+ghost use Rattle.adjudicate_core.specs.Commands.Game.{HasValues, IsOutcomeReply, IsPlayedBy, IsPlayedReply, IsReply, are_all_legal, faults, in_play, named, outcome_reply};
 ghost use Rattle.adjudicate_core.specs.Misuses.{IsFirstMisuse, fault_words};
 ghost use Rattle.task_files.specs.Sources.{named_by};
 
@@ -80,7 +80,7 @@ fn outcome_in<D: Disk>(
     start: &Position,
     moves: &[Move],
 ) -> Result<Answer, AllocError>
-    ensures { IfOk result (λ a. ByFolder (D.facts place.now.disk.now) place.now.path.now (told_by place.now.manifest.now) (plies_of moves.now) refused_table (IsOutcomeReply delay moves.now) start.now (reply_of a)) }
+    ensures { IfOk result (λ a. ByFolder (D.facts place.now.disk.now) place.now.path.now (told_by place.now.manifest.now) (in_play delay moves.now) refused_table (IsOutcomeReply delay moves.now) start.now (reply_of a)) }
 {
     let arena = Bump::new(alloc);
     let mut folder = match OpenFolder::at(alloc, place.disk, place.path, place.manifest, &arena)? {

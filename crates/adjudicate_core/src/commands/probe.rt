@@ -3,7 +3,8 @@
 ghost use Rattle.std.specs.Prelude.{◌≡◌, Some, IfOk, OnErr, IfErr};
 ghost use Rattle.clap.specs.Words.{first_value, found_of};
 ghost use Rattle.adjudicate_core.specs.Commands.Probe.{HasValues, IsProbeReply, IsProbedBy, IsReply, faults, named, probed_reply};
-ghost use Rattle.adjudicate_core.specs.FolderAnswers.{ByFolder, IsAlone, read_when_asked, refused_table};
+ghost use Rattle.table_folder.specs.Settled.{IsAlone};
+ghost use Rattle.adjudicate_core.specs.FolderAnswers.{ByFolder, read_when_asked, refused_table};
 ghost use Rattle.adjudicate_core.specs.Inside.Asked.{reply_of};
 ghost use Rattle.adjudicate_core.specs.Looks.{gathered};
 ghost use Rattle.adjudicate_core.specs.Reply.{ByTables, IsText};

@@ -1,6 +1,6 @@
 use Rattle.std.proofs.Common.{refl, subst}
 use Rattle.table_folder.specs.Settled.{AnswersBy, IsRefusedFor}
-use Rattle.adjudicate_core.specs.FolderAnswers.{IsAlone}
+use Rattle.table_folder.specs.Settled.{IsAlone}
 use Rattle.adjudicate_core.specs.Inside.LookingUp.{AreColumns, FindsAll, FindsBadFile, FindsNoFolder}
 use Rattle.adjudicate_core.proofs.folders.columns_in.Goals as goal
 

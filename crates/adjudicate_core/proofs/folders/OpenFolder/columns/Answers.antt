@@ -1,4 +1,4 @@
-use Rattle.adjudicate_core.specs.FolderAnswers.{IsAlone}
+use Rattle.table_folder.specs.Settled.{IsAlone}
 use Rattle.adjudicate_core.specs.Inside.LookingUp.{AreColumns}
 use Rattle.adjudicate_core.proofs.FolderLaws.{found_apart}
 use Rattle.adjudicate_core.proofs.folders.OpenFolder.columns.Goals as goal
