@@ -93,7 +93,7 @@ one_more_of keeps disk folder old new p kind key known misses in_turn has are ad
       only = λ other k lt none some.
           elim (cases_eq (slot other k) (slot kind key)) [
             | inl same ↦ is_missed other k lt same
-            | inr ne ↦ adds_none disk folder (λ q. q ≡ p) old other k lt none (rw (get_or-set_other old (slot kind key) (slot other k) (Some adds.table) None ne) at some)
+            | inr ne ↦ adds_none disk folder (IsAlone p) old other k lt none (rw (get_or-set_other old (slot kind key) (slot other k) (Some adds.table) None ne) at some)
           ];
     })
   where

@@ -166,17 +166,18 @@ no_more start some more none =
 
 none_beyond : (start p : Parts) (moves : List Move) (n k : ℕ) → n ≤ k → position_after_all start (take n moves) ≡ None → position_after_all start (take k moves) ≡ Some p → ⊥
 none_beyond start p moves n k le none there =
-    let split = ap (λ i. take i moves) {x = k} {y = n + (k - n)} (omega (arith, le)) ∙ take-add n (k - n) moves in
+    let same : k ≡ n + (k - n) = omega (arith, le) in
+    let split = ap (λ i. take i moves) same ∙ take-add n (k - n) moves in
     let e = sym there ∙ ap (position_after_all start) split ∙ no_more start (take n moves) (take (k - n) (drop n moves)) none in
     absurd cc
 
 -- a ply with a verdict isn't unruled
-not_unruled : {rules : Rules} {moves : List Move} (n k : ℕ) (v : Verdict) → n < k → verdict_after rules (take n moves) ≡ Some v → IsUnruled rules moves k → ⊥
-not_unruled n k v lt ruled none = let e = sym ruled ∙ none n lt in absurd cc
+not_unruled : (rules : Rules) (moves : List Move) (n k : ℕ) (v : Verdict) → n < k → verdict_after rules (take n moves) ≡ Some v → IsUnruled rules moves k → ⊥
+not_unruled rules moves n k v lt ruled none = let e = sym ruled ∙ none n lt in absurd cc
 
 pub played_plies : PlayedPliesAreInPlay
 played_plies rules moves (Ruled n v) p is play = elim (cases_lt n play.ply) [
-  | inl lt ↦ absurd (not_unruled n play.ply v lt is.ruled play.unruled)
+  | inl lt ↦ absurd (not_unruled rules moves n play.ply v lt is.ruled play.unruled)
   | inr le ↦ is_ply_within n play.ply moves rules.start p le play.at
 ]
 played_plies rules moves (Illegal n) p is play = elim (cases_lt n play.ply) [
