@@ -83,6 +83,7 @@
 mod answering;
 mod ask;
 mod blocks;
+mod category;
 mod counts;
 mod determined;
 mod determined_dtz;
@@ -99,6 +100,7 @@ mod located_position;
 mod many;
 mod mobility;
 mod moving;
+mod precision;
 mod probe_result;
 mod probing;
 mod reading;
@@ -113,6 +115,7 @@ mod wdl;
 
 pub use ask::Ask;
 pub use board_core::Verdict;
+pub use category::Category;
 pub use display::{Column, Columns, Outcome, verdict_or_open};
 pub use fault::{ProbeFault, SetFault, ValueFault};
 pub use game::{Followed, GameOutcome};
