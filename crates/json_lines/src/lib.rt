@@ -18,6 +18,7 @@
 #![tactic(auto)]
 
 mod api;
+mod api_told;
 mod members;
 mod object;
 mod text;
@@ -25,6 +26,7 @@ mod told;
 mod writing;
 
 pub use api::put_api_line;
+pub use api_told::{ApiLine, ApiMove, ApiPosition};
 pub use judge_core::Ask;
 pub use members::{Member, Value};
 pub use object::put_object;

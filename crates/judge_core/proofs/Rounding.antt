@@ -95,26 +95,30 @@ and-true : (a : Bool) → (a && true) ≡ a
 and-true true = refl
 and-true false = refl
 
-none_summed : (s : MovePrecision) → s ≡ record { some = s.some || false; all = s.all && true }
-none_summed s = rw (or-false s.some, and-true s.all) refl
+-- with others
+abbrev joined : MovePrecision → Bool → Bool → MovePrecision
+joined s any all = record { some = s.some || any; all = s.all && all }
 
-more_summed : (s : MovePrecision) (b any all : Bool) → record { some = (s.some || b) || any; all = (s.all && b) && all } ≡ record { some = s.some || (b || any); all = s.all && (b && all) }
-more_summed s b any all = rw (or-assoc s.some b any, and-assoc s.all b all) refl
+none_joined : (s : MovePrecision) → s ≡ joined s false true
+none_joined s = rw (or-false s.some, and-true s.all) refl
+
+more_joined : (s : MovePrecision) (b any all : Bool) → joined (with_move s (Some b)) any all ≡ joined s (b || any) (b && all)
+more_joined s b any all = rw (or-assoc s.some b any, and-assoc s.all b all) refl
 
 -- what moves with these positions come to
 abbrev summed : MovePrecision → (Parts → Bool) → List Parts → MovePrecision
-summed s sure qs = record { some = s.some || list_any sure qs; all = s.all && list_all sure qs }
+summed s sure qs = joined s (list_any sure qs) (list_all sure qs)
 
 module _ (gives sure : Parts → Bool) where
   abbrev told : Parts → Option Bool
   told q = if gives q then Some (sure q) else None
 
   noted_one : (s : MovePrecision) (q : Parts) (qs : List Parts) (b : Bool) → gives q ≡ b → fold noted (with_move s (told q)) (map (λ x. Ok (told x)) qs) ≡ summed (with_move s (told q)) sure (filter gives qs) → fold noted s (map (λ x. Ok (told x)) (q ∷ qs)) ≡ summed s sure (filter gives (q ∷ qs))
-  noted_one s q qs true e h = h ∙ rw e (more_summed s (sure q) (list_any sure (filter gives qs)) (list_all sure (filter gives qs)))
+  noted_one s q qs true e h = h ∙ rw e (more_joined s (sure q) (list_any sure (filter gives qs)) (list_all sure (filter gives qs)))
   noted_one s q qs false e h = h ∙ rw e refl
 
   noted_all : (s : MovePrecision) (qs : List Parts) → fold noted s (map (λ x. Ok (told x)) qs) ≡ summed s sure (filter gives qs)
-  noted_all s [] = none_summed s
+  noted_all s [] = none_joined s
   noted_all s (q ∷ qs) = noted_one s q qs (gives q) refl (noted_all (with_move s (told q)) qs)
 
 asked_one : {X : Type 0} (say : Parts → Result X ValueFault) (p : Parts) (m : Move) (ms : List Move) (o : Option Parts) → position_after p m ≡ o → asked say p ms ≡ map say (filter_map (position_after p) ms) → asked say p (m ∷ ms) ≡ map say (filter_map (position_after p) (m ∷ ms))
