@@ -10,7 +10,10 @@ use Rattle.http_answer.specs.Inside.{AddsObject}
 use Rattle.http_answer.specs.Queries.{position_text}
 use Rattle.http_answer.specs.Replies.{TellsEach, TellsPosition, TellsText, object_text, objects_text}
 
--- by a folder, as contracts see it
+-- what holds by a folder inside holds by it as contracts see it
+pub seen_by : {D : Type 0} (facts : D → DiskFacts) (inside now : FolderOn D) (Holds : DiskFacts → Folder → Type 0) → inside ≡ now → Holds (facts inside.disk) inside.folder → Holds (facts now.disk) now.folder
+seen_by {D} facts inside now Holds same h = subst (λ (on : FolderOn D). Holds (facts on.disk) on.folder) same h
+
 pub seen_so : {D : Type 0} (facts : D → DiskFacts) (inside now : FolderOn D) (p : Parts) (l : ApiLine) → inside ≡ now → TellsPosition (facts inside.disk) inside.folder p l → TellsPosition (facts now.disk) now.folder p l
 seen_so {D} facts inside now p l same tells = subst (λ (on : FolderOn D). TellsPosition (facts on.disk) on.folder p l) same tells
 

@@ -92,10 +92,7 @@ fn put_api_standing<W: Write>(out: &mut W, played: &ApiMove) -> Result<(), Write
         member("zeroing", Value::Boolean(told.effect.zeroes_clock())),
         member("category", Value::Text(category.name())),
         member("dtz", number_or_null(&told.probed.dtz)),
-        member(
-            "precise_dtz",
-            precise_or_null(precise, &told.probed.dtz),
-        ),
+        member("precise_dtz", precise_or_null(precise, &told.probed.dtz)),
         member("dtm", Value::Null),
         member("checkmate", Value::Boolean(state.is_checkmate())),
         member("stalemate", Value::Boolean(is_stalemate(state))),
@@ -123,11 +120,7 @@ fn put_distance<W: Write>(out: &mut W, played: &ApiMove) -> Result<(), WriteFaul
 }
 
 /// Writes what is told of a move in this form, behind its notations.
-fn put_told_in<W: Write>(
-    out: &mut W,
-    form: MoveForm,
-    played: &ApiMove,
-) -> Result<(), WriteFault>
+fn put_told_in<W: Write>(out: &mut W, form: MoveForm, played: &ApiMove) -> Result<(), WriteFault>
     ensures { OnOk result (Writes true (open_tokens (told_members form played.now)) (W.contents out.old) (W.contents out.new)) }
 {
     match form {
@@ -137,11 +130,7 @@ fn put_told_in<W: Write>(
 }
 
 /// Writes the members of a move, behind the opening brace.
-fn put_api_after<W: Write>(
-    out: &mut W,
-    form: MoveForm,
-    played: &ApiMove,
-) -> Result<(), WriteFault>
+fn put_api_after<W: Write>(out: &mut W, form: MoveForm, played: &ApiMove) -> Result<(), WriteFault>
     ensures { OnOk result (Writes false (open_tokens (api_move_members form played.now)) (W.contents out.old) (W.contents out.new)) }
 {
     put_uci(out, &played.told)?;
@@ -182,11 +171,7 @@ fn put_api_moves<W: Write>(
 }
 
 /// Writes the list of moves.
-fn put_api_list<W: Write>(
-    out: &mut W,
-    form: MoveForm,
-    moves: &[ApiMove],
-) -> Result<(), WriteFault>
+fn put_api_list<W: Write>(out: &mut W, form: MoveForm, moves: &[ApiMove]) -> Result<(), WriteFault>
     ensures { OnOk result (Writes false (json_tokens (array (moves_items (api_move_json form) moves.now))) (W.contents out.old) (W.contents out.new)) }
 {
     put_begin_list(out)?;

@@ -303,11 +303,7 @@ fn put_move<W: Write>(out: &mut W, later: bool, told: &MoveTold) -> Result<(), W
 }
 
 /// Writes the objects of moves, with commas between.
-fn put_moves<W: Write>(
-    out: &mut W,
-    later: bool,
-    moves: &[MoveTold],
-) -> Result<(), WriteFault>
+fn put_moves<W: Write>(out: &mut W, later: bool, moves: &[MoveTold]) -> Result<(), WriteFault>
     ensures { OnOk result (Writes later (open_items (moves_items move_json moves.now)) (W.contents out.old) (W.contents out.new)) }
 {
     match moves.split_first() {
@@ -343,10 +339,7 @@ fn put_list<W: Write>(out: &mut W, moves: &[MoveTold]) -> Result<(), WriteFault>
 }
 
 /// Writes the member that has the moves.
-fn put_moves_member<W: Write>(
-    out: &mut W,
-    moves: &[MoveTold],
-) -> Result<(), WriteFault>
+fn put_moves_member<W: Write>(out: &mut W, moves: &[MoveTold]) -> Result<(), WriteFault>
     ensures { OnOk result (Writes true (key (codes "moves") ∷ json_tokens (array (moves_items move_json moves.now))) (W.contents out.old) (W.contents out.new)) }
 {
     match put_key(out, true, "moves") {

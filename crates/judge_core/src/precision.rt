@@ -81,10 +81,7 @@ impl MovePrecision {
 }
 
 /// Nowhere where a value after the pawn moves is missing, the value where one wins, and else this source.
-fn unless_pawn(
-    reached: &Result<bool, ValueFault>,
-    otherwise: DistanceSource,
-) -> DistanceSource
+fn unless_pawn(reached: &Result<bool, ValueFault>, otherwise: DistanceSource) -> DistanceSource
     ensures { result ≡ unless_pawn reached.now otherwise }
 {
     match reached {
@@ -170,7 +167,11 @@ impl<'a> Set<'a> {
     }
 
     /// Where the distance comes from.
-    fn source_of(&mut self, alloc: Global, position: &Position) -> Result<DistanceSource, AllocError>
+    fn source_of(
+        &mut self,
+        alloc: Global,
+        position: &Position,
+    ) -> Result<DistanceSource, AllocError>
         ensures is { IfOk result (λ source. source ≡ source_of self.old.tables position.now) }
         ensures memory { OnErr result (ListsMoves self.old.tables position.now) }
         ensures unchanged { self.new ≡ self.old }
@@ -267,7 +268,9 @@ impl<'a> Set<'a> {
         let source = self.source_of(alloc, position)?;
         match source {
             DistanceSource::Value | DistanceSource::Plies => Ok(true),
-            DistanceSource::NextMoves(outcome) => self.is_precise_by_moves(alloc, position, outcome),
+            DistanceSource::NextMoves(outcome) => self.is_precise_by_moves(
+                alloc, position, outcome,
+            ),
             DistanceSource::Moves | DistanceSource::Nowhere => Ok(false),
         }
     }

@@ -37,7 +37,7 @@ returns-in-Values g c =
 
 pub returns-in-Mainline : goal.returns-in-Mainline
 returns-in-Mainline g c =
-    let written = subst (λ (ms : List ApiMove). OnOk c.put_mainline.result (Writes false (json_tokens (mainline_json c.in-Mainline.position ms)) (g.W.Write.contents c.args.out.now) (g.W.Write.contents c.put_mainline.new.out))) c.deref-2.ensures.value c.put_mainline.ensures in
+    let written = subst (λ (ms : List ApiMove). OnOk c.put_mainline.result (Writes false (json_tokens (mainline_json c.in-Mainline.position ms)) (g.W.Write.contents c.args.out.now) (g.W.Write.contents c.put_mainline.new.out))) c.deref-in-Mainline.ensures.value c.put_mainline.ensures in
     record {
       written = rw c.in-Mainline.is (on_ok_weaker c.put_mainline.result (λ h. h.text) written);
       reads_back = rw c.in-Mainline.is (on_ok_weaker c.put_mainline.result (λ h. api_reads_back (line.Mainline c.in-Mainline.position c.in-Mainline.plies) _ _ h) written);

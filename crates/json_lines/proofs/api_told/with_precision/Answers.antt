@@ -15,4 +15,4 @@ loop-told-preserved c =
     )
 
 pub returns-clause-told : goal.returns-clause-told
-returns-clause-told c = (c.loop-told.invariant.0 ∙ take_all c.args.moves.now c.loop-told.told-index c.loop-told-test.false, c.loop-told.invariant.1)
+returns-clause-told c = (c.loop-told.invariant.0 ∙ take_all c.loop-told.told-index c.args.moves.now c.loop-told-test.false, c.loop-told.invariant.1)
