@@ -1,3 +1,4 @@
+pub mod BestPlay
 pub mod LineLaws
 pub mod Replied
 pub mod Telling

@@ -1,8 +1,9 @@
 -- What is answered to a request (RFC 9110; names and meanings as in the tablebase API of Lichess, where it has them).
-use Rattle.std.specs.Prelude.{◌≡◌, ℕ, true, List, [], ◌∷◌, ◌++◌, ◌||◌, Option, Some, None, Result, Ok, Err, codes, if◌then◌else◌, length, nat_le}
+use Rattle.std.specs.Prelude.{◌≡◌, ◌⊎◌, ℕ, zero, suc, false, List, [], ◌∷◌, ◌++◌, ◌||◌, Option, Some, None, Result, Ok, Err, codes, if◌then◌else◌, length, nat_le}
 use Rattle.std.specs.List.{flat_map}
 use Rattle.std.specs.Str.{bytes_eq}
 use Rattle.board_core.specs.declared.parts.Parts.{Parts}
+use Rattle.board_core.specs.declared.piece.Side.{Side}
 use Rattle.http.specs.declared.request.Request.{Request}
 use Rattle.http.specs.Request.{body_of, head_of}
 use Rattle.http1.specs.Fields.{Header}
@@ -10,14 +11,14 @@ use Rattle.http_uri.specs.Uri.{uri_path, uri_query}
 use Rattle.http_server.specs.declared.response.Response.{Response}
 use Rattle.http_server.specs.Exchange.{Call}
 use Rattle.http_server.specs.Response.{IsResponse}
-use Rattle.judge_core.specs.declared.ask.Ask.TheVariants.{Strict}
 use Rattle.judge_core.specs.declared.fault.ProbeFault.{ProbeFault}
 use Rattle.judge_core.specs.declared.fault.ProbeFault.TheVariants as probe
 use Rattle.json_lines.specs.Api.{api_json}
 use Rattle.json_lines.specs.Objects.{json_text}
-use Rattle.json_lines.specs.Told.{IsLineFor, IsLineOf}
-use Rattle.json_lines.specs.declared.told.JsonLine.{JsonLine}
-use Rattle.json_lines.specs.declared.told.JsonLine.TheVariants as line
+use Rattle.json_lines.specs.ApiTold.{IsApiLineFor, IsApiLineOf, IsApiPosition, IsBestMove, IsMainline, ends_line, winner_of}
+use Rattle.json_lines.specs.declared.api_told.ApiLine.{ApiLine}
+use Rattle.json_lines.specs.declared.api_told.ApiMove.{ApiMove}
+use Rattle.json_lines.specs.declared.api_told.ApiLine.TheVariants as line
 use Rattle.move_msg.specs.TextLines.{ended, lines_in}
 use Rattle.system_io.specs.Disks.{DiskFacts}
 use Rattle.table_folder.specs.declared.fault.FileRefusal.{FileRefusal}
@@ -34,7 +35,9 @@ pub data Asked : Type 0 where
   Page : Asked
   -- the values of the position of this text, and of its moves
   Values : (text : List ℕ) → Asked
-  -- values, of no text
+  -- a line of best play from the position of this text
+  Mainline : (text : List ℕ) → Asked
+  -- one of them, of no text
   NoText : Asked
   -- the values of the position of each of these texts, and of its moves
   ValuesOfEach : (texts : List (List ℕ)) → Asked
@@ -47,13 +50,18 @@ pub data Asked : Type 0 where
   -- what isn't here
   Elsewhere : Asked
 
+-- the text that a query asks about
+abbrev pub text_in : Option (List ℕ) → Option (List ℕ)
+text_in None = None
+text_in (Some query) = asked_text query
+
 abbrev pub values_of : Option (List ℕ) → Asked
 values_of None = NoText
 values_of (Some text) = Values text
 
-abbrev pub values_in : Option (List ℕ) → Asked
-values_in None = NoText
-values_in (Some query) = values_of (asked_text query)
+abbrev pub mainline_of : Option (List ℕ) → Asked
+mainline_of None = NoText
+mainline_of (Some text) = Mainline text
 
 -- a body has at most a hundred lines
 abbrev pub values_of_lines : List ℕ → Asked
@@ -76,11 +84,12 @@ by_method methods method told =
 abbrev pub values_by : List ℕ → Option (List ℕ) → List ℕ → Asked
 values_by method query body =
     if bytes_eq method (codes "POST") then values_of_lines body
-    else by_method standard_methods method (values_in query)
+    else by_method standard_methods method (values_of (text_in query))
 
 abbrev pub asked_of : List ℕ → List ℕ → Option (List ℕ) → List ℕ → Asked
 asked_of method path query body =
     if bytes_eq path (codes "/standard") then values_by method query body
+    else if bytes_eq path (codes "/mainline") then by_method page_methods method (mainline_of (text_in query))
     else if bytes_eq path (codes "/") then by_method page_methods method Page
     else Elsewhere
 
@@ -109,47 +118,81 @@ value_status (Err (probe.NotCovered material)) = 200
 value_status (Err (probe.Damaged material)) = 200
 value_status (Err probe.OutOfMemory) = 200
 
-abbrev pub status_of : JsonLine → ℕ
+abbrev pub status_of : ApiLine → ℕ
 status_of (line.Fault fault) = 400
 status_of (line.Refused words) = 500
-status_of (line.Position t) = value_status t.columns.probed.wdl
-status_of (line.Root t moves) = value_status t.columns.probed.wdl
+status_of (line.Values t moves) = value_status t.told.columns.probed.wdl
+status_of (line.Mainline t plies) = value_status t.told.columns.probed.wdl
 
 -- the object of a line
-abbrev pub object_text : JsonLine → List ℕ
+abbrev pub object_text : ApiLine → List ℕ
 object_text l = json_text (api_json l)
 
 -- the objects of lines, a line each
-abbrev pub objects_text : List JsonLine → List ℕ
+abbrev pub objects_text : List ApiLine → List ℕ
 objects_text = flat_map (λ l. ended (object_text l))
 
 -- the response that has a line
-abbrev pub HasLine : JsonLine → Response → Type 0
+abbrev pub HasLine : ApiLine → Response → Type 0
 HasLine l r = IsResponse (status_of l) json_fields (object_text l) r
 
 -- the response that has lines (as in the Newline Delimited JSON of the API of Lichess)
-abbrev pub HasLines : List JsonLine → Response → Type 0
+abbrev pub HasLines : List ApiLine → Response → Type 0
 HasLines ls r = IsResponse 200 (fields (codes "application/x-ndjson")) (objects_text ls) r
 
 -- the line that refuses the file of a table: its name, and what is wrong with it
-abbrev pub RefusesFile : FileRefusal → JsonLine → Type 0
+abbrev pub RefusesFile : FileRefusal → ApiLine → Type 0
 RefusesFile refusal (line.Fault fault) = ⊥
 RefusesFile refusal (line.Refused words) = words.bytes ≡ refusal.name.bytes ++ codes " " ++ file_fault_name refusal.fault
-RefusesFile refusal (line.Position t) = ⊥
-RefusesFile refusal (line.Root t moves) = ⊥
+RefusesFile refusal (line.Values t moves) = ⊥
+RefusesFile refusal (line.Mainline t plies) = ⊥
 
 -- What tables of the folder say of a position and of its legal moves, of which none is missing at these; or the refusal of a file of one
 -- that is needed.
-pub data TellsPosition (disk : DiskFacts) (folder : Folder) (p : Parts) (l : JsonLine) : Type 0 where
-  ByTables : AnswersBy disk folder (IsWithMoves p) (λ tables. IsLineOf Strict true tables p l) → TellsPosition disk folder p l
+pub data TellsPosition (disk : DiskFacts) (folder : Folder) (p : Parts) (l : ApiLine) : Type 0 where
+  ByTables : AnswersBy disk folder (IsWithMoves p) (λ tables. IsApiLineOf tables p l) → TellsPosition disk folder p l
   ByRefusal : (refusal : FileRefusal) → IsRefusedFor disk folder (IsWithMoves p) refusal → RefusesFile refusal l → TellsPosition disk folder p l
 
 -- why a text is no position, or what is told of the position
-abbrev pub TellsText : DiskFacts → Folder → List ℕ → JsonLine → Type 0
-TellsText disk folder text l = IsLineFor text (TellsPosition disk folder) l
+abbrev pub TellsText : DiskFacts → Folder → List ℕ → ApiLine → Type 0
+TellsText disk folder text l = IsApiLineFor text (TellsPosition disk folder) l
+
+-- ---- lines of best play
+
+-- with which move a position is played on, by tables of the folder of which none is missing at the position and after its moves
+abbrev pub IsPlayedOn : DiskFacts → Folder → Parts → Option ApiMove → Type 0
+IsPlayedOn disk folder p best = AnswersBy disk folder (IsWithMoves p) (λ tables. IsBestMove tables p best)
+
+-- a line of best play, which has at most 200 plies; none where neither side wins
+abbrev pub IsLineOfPlay : DiskFacts → Folder → Option Side → Parts → List ApiMove → Type 0
+IsLineOfPlay disk folder None p plies = plies ≡ []
+IsLineOfPlay disk folder (Some winner) p plies = IsMainline (IsPlayedOn disk folder) 200 p plies
+
+-- a file is refused that the position needs, or one that so many plies of the line come to
+unfoldable pub IsRefusedInLine : DiskFacts → Folder → ℕ → Parts → FileRefusal → Type 0
+IsRefusedInLine disk folder zero p refusal = ⊥
+IsRefusedInLine disk folder (suc n) p refusal =
+    IsRefusedFor disk folder (IsWithMoves p) refusal
+    ⊎ ((t : ApiMove) × IsPlayedOn disk folder p (Some t) × (ends_line t ≡ false) × IsRefusedInLine disk folder n t.told.after refusal)
+
+-- a position by tables of the folder, and the line of best play from it
+abbrev pub IsMainlineOf : DiskFacts → Folder → Parts → ApiLine → Type 0
+IsMainlineOf disk folder p (line.Fault fault) = ⊥
+IsMainlineOf disk folder p (line.Refused words) = ⊥
+IsMainlineOf disk folder p (line.Values t moves) = ⊥
+IsMainlineOf disk folder p (line.Mainline t plies) =
+    AnswersBy disk folder (IsWithMoves p) (λ tables. IsApiPosition tables p t)
+    × IsLineOfPlay disk folder (winner_of t.told.position.side t.told.columns.probed.dtz) p plies.items
+
+-- The line of best play from a position; or the refusal of the file of a table that is needed.
+pub data TellsMainline (disk : DiskFacts) (folder : Folder) (p : Parts) (l : ApiLine) : Type 0 where
+  OfPlay : IsMainlineOf disk folder p l → TellsMainline disk folder p l
+  OfRefusal : (refusal : FileRefusal) → IsRefusedInLine disk folder 200 p refusal → RefusesFile refusal l → TellsMainline disk folder p l
+
+-- ---- texts
 
 -- what is told of each text, in turn
-abbrev pub TellsEach : DiskFacts → Folder → List (List ℕ) → List JsonLine → Type 0
+abbrev pub TellsEach : DiskFacts → Folder → List (List ℕ) → List ApiLine → Type 0
 TellsEach disk folder [] [] = Unit {0}
 TellsEach disk folder [] (l ∷ ls) = ⊥
 TellsEach disk folder (text ∷ texts) [] = ⊥
@@ -158,9 +201,10 @@ TellsEach disk folder (text ∷ texts) (l ∷ ls) = TellsText disk folder text l
 -- the response to what is asked for, by the tables of this folder
 abbrev pub IsReplyTo : DiskFacts → Folder → Asked → Response → Type 0
 IsReplyTo disk folder Page r = IsResponse 200 (fields (codes "text/html; charset=utf-8")) PAGE.now r
-IsReplyTo disk folder (Values text) r = (l : JsonLine) × TellsText disk folder text l × HasLine l r
+IsReplyTo disk folder (Values text) r = (l : ApiLine) × TellsText disk folder text l × HasLine l r
+IsReplyTo disk folder (Mainline text) r = (l : ApiLine) × IsApiLineFor text (TellsMainline disk folder) l × HasLine l r
 IsReplyTo disk folder NoText r = IsResponse 400 json_fields (codes "{\"error\":\"FEN missing\"}") r
-IsReplyTo disk folder (ValuesOfEach texts) r = (ls : List JsonLine) × TellsEach disk folder texts ls × HasLines ls r
+IsReplyTo disk folder (ValuesOfEach texts) r = (ls : List ApiLine) × TellsEach disk folder texts ls × HasLines ls r
 IsReplyTo disk folder TooMany r = IsResponse 413 json_fields (codes "{\"error\":\"too many lines\"}") r
 IsReplyTo disk folder (Methods methods) r = IsResponse 204 (allowed methods ∷ (codes "access-control-allow-origin", codes "*") ∷ (codes "access-control-allow-methods", methods) ∷ []) [] r
 IsReplyTo disk folder (OtherMethod methods) r = IsResponse 405 (json_fields ++ allowed methods ∷ []) (codes "{\"error\":\"method not allowed\"}") r

@@ -1,11 +1,13 @@
 //! The service.
 
-ghost use Rattle.std.specs.Prelude.{◌≡◌, ◌≤◌, List, IfOk, OnOk};
+ghost use Rattle.std.specs.Prelude.{◌≡◌, ◌≤◌, ◌++◌, ◌∷◌, [], List, IfErr, IfOk, OnOk};
 ghost use Rattle.http_server.specs.Response.{IsBlank};
-ghost use Rattle.http_answer.specs.Inside.{AddsObject, AreObjects, asked_for};
+ghost use Rattle.http_answer.specs.Inside.{AddsObject, AreObjects, IsOnePly, asked_for};
 ghost use Rattle.http_answer.specs.Queries.{asked_lines};
-ghost use Rattle.http_answer.specs.Replies.{HasLine, HasLines, IsReplyTo, RefusesFile, TellsEach, TellsPosition, TellsText};
-ghost use Rattle.json_lines.specs.declared.told.JsonLine.{JsonLine};
+ghost use Rattle.http_answer.specs.Replies.{HasLine, HasLines, IsLineOfPlay, IsPlayedOn, IsRefusedInLine, IsReplyTo, RefusesFile, TellsMainline, TellsEach, TellsPosition, TellsText};
+ghost use Rattle.json_lines.specs.ApiTold.{IsApiLineFor, IsApiPosition, IsMainline};
+ghost use Rattle.json_lines.specs.declared.api_told.ApiLine.{ApiLine};
+ghost use Rattle.table_folder.specs.Settled.{AnswersBy, IsRefusedFor, IsWithMoves};
 
 use crate::asking::{Topic, topic_of};
 use crate::filling::{
@@ -15,12 +17,12 @@ use crate::lines::first_line;
 use crate::page::PAGE;
 use crate::query::position_text;
 use arrayvec::ArrayString;
-use board_core::Position;
+use board_core::{Position, Side};
 use bytes::Bytes;
 use fen_text::read;
 use http::{HeaderValue, Request, StatusCode};
 use http_server::{Response, Service};
-use json_lines::{Ask, JsonLine};
+use json_lines::{ApiLine, ApiMove, ApiPosition};
 use judge_core::Set;
 use std::alloc::{AllocError, Global};
 use std::marker::Model;
@@ -47,15 +49,26 @@ impl<'r, D: Disk> Model for Answerer<'r, D> {
     ghost invariant = { λ a. AreOf (D.facts a.folder.disk) a.folder.folder a.set.tables };
 }
 
+/// How many plies a line of play has at most.
+const MOST_PLIES: usize = 200;
+
+/// Adds an item to a list. It is over any type, since the borrow checker doesn't cover a push of an `ApiMove` (docs/PROVING.md).
+fn add<T: Copy>(list: &mut Vec<T>, item: T) -> Result<(), AllocError>
+    ensures { OnOk result (list.new.items ≡ list.old.items ++ item ∷ []) }
+{
+    list.push(item)?;
+    Ok(())
+}
+
 /// The line that refuses the file of a table: its name and what is wrong with it.
-fn refusal_of(refusal: &FileRefusal) -> JsonLine
+fn refusal_of(refusal: &FileRefusal) -> ApiLine
     ensures { RefusesFile refusal.now result }
 {
     let mut words = ArrayString::new();
     words.push_str(refusal.name.as_str());
     words.push_str(" ");
     words.push_str(refusal.fault.name());
-    JsonLine::Refused(words)
+    ApiLine::Refused(words)
 }
 
 impl<'r, D: Disk> Answerer<'r, D> {
@@ -75,7 +88,7 @@ impl<'r, D: Disk> Answerer<'r, D> {
     }
 
     /// What tables say of a position and of its legal moves, or the refusal of the file of one that is needed.
-    fn line_of(&mut self, position: &Position) -> Result<JsonLine, AllocError>
+    fn line_of(&mut self, position: &Position) -> Result<ApiLine, AllocError>
         ensures told { IfOk result (TellsPosition (D.facts self.old.disk) self.old.folder position.now) }
         ensures same { self.new ≡ self.old }
     {
@@ -85,27 +98,162 @@ impl<'r, D: Disk> Answerer<'r, D> {
         {
             return Ok(refusal_of(&refusal));
         }
-        JsonLine::of_position(self.alloc, &mut self.set, position, Ask::Strict, true)
+        ApiLine::of_position(self.alloc, &mut self.set, position)
     }
 
     /// What is told of a text.
-    fn line_for(&mut self, text: &[u8]) -> Result<JsonLine, AllocError>
+    fn line_for(&mut self, text: &[u8]) -> Result<ApiLine, AllocError>
         ensures told { IfOk result (TellsText (D.facts self.old.disk) self.old.folder text.now) }
         ensures same { self.new ≡ self.old }
     {
         match read(text) {
             Ok(position) => self.line_of(&position),
-            Err(fault) => Ok(JsonLine::Fault(fault)),
+            Err(fault) => Ok(ApiLine::Fault(fault)),
         }
     }
 
     /// Fills the response for a text.
     fn tell_text(&mut self, text: &[u8], response: &mut Response) -> Result<(), AllocError>
         requires { IsBlank response.old }
-        ensures told { OnOk result ((l : JsonLine) × TellsText (D.facts self.old.disk) self.old.folder text.now l × HasLine l response.new) }
+        ensures told { OnOk result ((l : ApiLine) × TellsText (D.facts self.old.disk) self.old.folder text.now l × HasLine l response.new) }
         ensures same { self.new ≡ self.old }
     {
         let line = self.line_for(text)?;
+        fill_line(self.alloc, response, &line)
+    }
+
+    /// What tables tell of a position, or the refusal of the file of one that is needed.
+    fn position_told(
+        &mut self,
+        position: &Position,
+    ) -> Result<Result<ApiPosition, FileRefusal>, AllocError>
+        ensures told { IfOk result (λ told. IfOk told (λ t. AnswersBy (D.facts self.old.disk) self.old.folder (IsWithMoves position.now) (λ tables. IsApiPosition tables position.now t))) }
+        ensures refused { IfOk result (λ told. IfErr told (IsRefusedFor (D.facts self.old.disk) self.old.folder (IsWithMoves position.now))) }
+        ensures same { self.new ≡ self.old }
+    {
+        if let Err(refusal) = self
+            .folder
+            .settle_moves(self.alloc, &mut self.set, position)?
+        {
+            return Ok(Err(refusal));
+        }
+        let told = ApiPosition::of(self.alloc, &mut self.set, position)?;
+        Ok(Ok(told))
+    }
+
+    /// The best move of a position, or the refusal of the file of a table that is needed.
+    fn best_move(
+        &mut self,
+        position: &Position,
+    ) -> Result<Result<Option<ApiMove>, FileRefusal>, AllocError>
+        ensures told { IfOk result (λ told. IfOk told (IsPlayedOn (D.facts self.old.disk) self.old.folder position.now)) }
+        ensures refused { IfOk result (λ told. IfErr told (IsRefusedFor (D.facts self.old.disk) self.old.folder (IsWithMoves position.now))) }
+        ensures same { self.new ≡ self.old }
+    {
+        if let Err(refusal) = self
+            .folder
+            .settle_moves(self.alloc, &mut self.set, position)?
+        {
+            return Ok(Err(refusal));
+        }
+        let best = ApiMove::best(self.alloc, &mut self.set, position)?;
+        Ok(Ok(best))
+    }
+
+    /// One ply of a line of best play from a position, added to those before it: whether the line goes on, and from which position.
+    fn play_on(
+        &mut self,
+        position: &Position,
+        plies: &mut Vec<ApiMove>,
+    ) -> Result<Result<Option<Position>, FileRefusal>, AllocError>
+        ensures played { IfOk result (λ told. IfOk told (IsOnePly (D.facts self.old.disk) self.old.folder position.now plies.old.items plies.new.items)) }
+        ensures refused { IfOk result (λ told. IfErr told (IsRefusedFor (D.facts self.old.disk) self.old.folder (IsWithMoves position.now))) }
+        ensures same { self.new ≡ self.old }
+    {
+        let best = match self.best_move(position)? {
+            Ok(best) => best,
+            Err(refusal) => return Ok(Err(refusal)),
+        };
+        let Some(played) = best else {
+            return Ok(Ok(None));
+        };
+        add(plies, played)?;
+        if played.ends_line() {
+            return Ok(Ok(None));
+        }
+        Ok(Ok(Some(played.told.after)))
+    }
+
+    /// A line of best play, or the refusal of the file of a table that it comes to.
+    fn plies_from(
+        &mut self,
+        start: &Position,
+    ) -> Result<Result<Vec<ApiMove>, FileRefusal>, AllocError>
+        ensures told { IfOk result (λ told. IfOk told (λ plies. IsMainline (IsPlayedOn (D.facts self.old.disk) self.old.folder) 200 start.now plies.items)) }
+        ensures refused { IfOk result (λ told. IfErr told (IsRefusedInLine (D.facts self.old.disk) self.old.folder 200 start.now)) }
+        ensures same { self.new ≡ self.old }
+    {
+        let mut plies = Vec::new(self.alloc);
+        let mut position = *start;
+        for _ in 0..MOST_PLIES {
+            match self.play_on(&position, &mut plies)? {
+                Ok(Some(next)) => position = next,
+                Ok(None) => return Ok(Ok(plies)),
+                Err(refusal) => return Ok(Err(refusal)),
+            }
+        }
+        Ok(Ok(plies))
+    }
+
+    /// A line of best play where a side wins, and else none; or the refusal of the file of a table that it comes to.
+    fn line_of_play(
+        &mut self,
+        winner: Option<Side>,
+        start: &Position,
+    ) -> Result<Result<Vec<ApiMove>, FileRefusal>, AllocError>
+        ensures told { IfOk result (λ told. IfOk told (λ plies. IsLineOfPlay (D.facts self.old.disk) self.old.folder winner start.now plies.items)) }
+        ensures refused { IfOk result (λ told. IfErr told (IsRefusedInLine (D.facts self.old.disk) self.old.folder 200 start.now)) }
+        ensures same { self.new ≡ self.old }
+    {
+        match winner {
+            Some(_) => self.plies_from(start),
+            None => Ok(Ok(Vec::new(self.alloc))),
+        }
+    }
+
+    /// A position and the line of best play from it, or the refusal of the file of a table that is needed.
+    fn mainline_of(&mut self, position: &Position) -> Result<ApiLine, AllocError>
+        ensures told { IfOk result (TellsMainline (D.facts self.old.disk) self.old.folder position.now) }
+        ensures same { self.new ≡ self.old }
+    {
+        let told = match self.position_told(position)? {
+            Ok(told) => told,
+            Err(refusal) => return Ok(refusal_of(&refusal)),
+        };
+        match self.line_of_play(told.winner(), position)? {
+            Ok(plies) => Ok(ApiLine::Mainline(told, plies)),
+            Err(refusal) => Ok(refusal_of(&refusal)),
+        }
+    }
+
+    /// What is told of the line of best play from the position of a text.
+    fn mainline_for(&mut self, text: &[u8]) -> Result<ApiLine, AllocError>
+        ensures told { IfOk result (IsApiLineFor text.now (TellsMainline (D.facts self.old.disk) self.old.folder)) }
+        ensures same { self.new ≡ self.old }
+    {
+        match read(text) {
+            Ok(position) => self.mainline_of(&position),
+            Err(fault) => Ok(ApiLine::Fault(fault)),
+        }
+    }
+
+    /// Fills the response for the line of best play from the position of a text.
+    fn tell_mainline(&mut self, text: &[u8], response: &mut Response) -> Result<(), AllocError>
+        requires { IsBlank response.old }
+        ensures told { OnOk result ((l : ApiLine) × IsApiLineFor text.now (TellsMainline (D.facts self.old.disk) self.old.folder) l × HasLine l response.new) }
+        ensures same { self.new ≡ self.old }
+    {
+        let line = self.mainline_for(text)?;
         fill_line(self.alloc, response, &line)
     }
 
@@ -136,7 +284,7 @@ impl<'r, D: Disk> Answerer<'r, D> {
     /// Fills the response for the lines of a body.
     fn tell_lines(&mut self, body: &[u8], response: &mut Response) -> Result<(), AllocError>
         requires { IsBlank response.old }
-        ensures told { OnOk result ((ls : List JsonLine) × TellsEach (D.facts self.old.disk) self.old.folder (asked_lines body.now) ls × HasLines ls response.new) }
+        ensures told { OnOk result ((ls : List ApiLine) × TellsEach (D.facts self.old.disk) self.old.folder (asked_lines body.now) ls × HasLines ls response.new) }
         ensures same { self.new ≡ self.old }
     {
         let objects = self.objects_for(body)?;
@@ -157,6 +305,7 @@ impl<'r, D: Disk> Answerer<'r, D> {
                 PAGE.as_bytes(),
             ),
             Topic::Values(text) => self.tell_text(text, response),
+            Topic::Mainline(text) => self.tell_mainline(text, response),
             Topic::NoText => fill_json(
                 response,
                 StatusCode::BAD_REQUEST,

@@ -2,7 +2,7 @@
 
 ghost use Rattle.std.specs.Prelude.{◌≡◌, IfOk, option_map};
 ghost use Rattle.http_answer.specs.Inside.{asked_for, methods_at};
-ghost use Rattle.http_answer.specs.Replies.{asked, asked_of, by_method, values_by, values_in, values_of_lines};
+ghost use Rattle.http_answer.specs.Replies.{asked, asked_of, by_method, mainline_of, text_in, values_by, values_of, values_of_lines};
 
 use crate::lines::is_list;
 use crate::query::asked_text;
@@ -17,6 +17,8 @@ pub(crate) enum Place {
     Page,
     /// That of values.
     Standard,
+    /// That of lines of best play.
+    Mainline,
 }
 
 /// What a request asks for.
@@ -26,7 +28,9 @@ pub(crate) enum Topic {
     Page,
     /// The values of the position of this text.
     Values(Vec<u8>),
-    /// Values, of no text.
+    /// A line of best play from the position of this text.
+    Mainline(Vec<u8>),
+    /// One of them, of no text.
     NoText,
     /// The values of the position of each line of this body.
     Lines(Bytes),
@@ -40,16 +44,33 @@ pub(crate) enum Topic {
     Elsewhere,
 }
 
-/// What a query asks for.
-fn values_in(alloc: Global, query: Option<&str>) -> Result<Topic, AllocError>
-    ensures { IfOk result (λ w. asked_for w ≡ values_in (option_map (λ s. s.now) query.entry)) }
+/// The text that a query asks about.
+fn text_in(alloc: Global, query: Option<&str>) -> Result<Option<Vec<u8>>, AllocError>
+    ensures { IfOk result (λ text. option_map (λ v. v.items) text ≡ text_in (option_map (λ s. s.now) query.entry)) }
 {
     match query {
-        None => Ok(Topic::NoText),
-        Some(query) => match asked_text(alloc, query)? {
-            None => Ok(Topic::NoText),
-            Some(text) => Ok(Topic::Values(text)),
-        },
+        None => Ok(None),
+        Some(query) => asked_text(alloc, query),
+    }
+}
+
+/// The values of the position of this text.
+fn values_of(text: Option<Vec<u8>>) -> Topic
+    ensures { asked_for result ≡ values_of (option_map (λ v. v.items) text.entry) }
+{
+    match text {
+        None => Topic::NoText,
+        Some(text) => Topic::Values(text),
+    }
+}
+
+/// A line of best play from the position of this text.
+fn mainline_of(text: Option<Vec<u8>>) -> Topic
+    ensures { asked_for result ≡ mainline_of (option_map (λ v. v.items) text.entry) }
+{
+    match text {
+        None => Topic::NoText,
+        Some(text) => Topic::Mainline(text),
     }
 }
 
@@ -89,7 +110,8 @@ fn values_by(
     if method == "POST" {
         values_of_lines(body)
     } else {
-        Ok(by_method(Place::Standard, method, values_in(alloc, query)?))
+        let told = values_of(text_in(alloc, query)?);
+        Ok(by_method(Place::Standard, method, told))
     }
 }
 
@@ -105,6 +127,9 @@ fn asked_of(
 {
     if path == "/standard" {
         values_by(alloc, method, query, body)
+    } else if path == "/mainline" {
+        let told = mainline_of(text_in(alloc, query)?);
+        Ok(by_method(Place::Mainline, method, told))
     } else if path == "/" {
         Ok(by_method(Place::Page, method, Topic::Page))
     } else {

@@ -10,7 +10,7 @@ use crate::asking::Place;
 use bytes::BufMut;
 use http::{HeaderName, HeaderValue, StatusCode, header};
 use http_server::Response;
-use json_lines::{JsonLine, put_api_line};
+use json_lines::{ApiLine, put_api_line};
 use judge_core::ProbeFault;
 use std::alloc::{AllocError, Global};
 
@@ -113,7 +113,7 @@ pub(crate) fn fill_other_method(response: &mut Response, place: Place) -> Result
 }
 
 /// Adds an object of the tablebase API to a text.
-fn add_object(text: &mut Vec<u8>, line: &JsonLine) -> Result<(), AllocError>
+fn add_object(text: &mut Vec<u8>, line: &ApiLine) -> Result<(), AllocError>
     ensures { OnOk result (text.new.items ≡ text.old.items ++ object_text line.now) }
 {
     match put_api_line(text, line) {
@@ -123,7 +123,7 @@ fn add_object(text: &mut Vec<u8>, line: &JsonLine) -> Result<(), AllocError>
 }
 
 /// Adds an object of the tablebase API to a text, and a line feed.
-pub(crate) fn add_object_line(text: &mut Vec<u8>, line: &JsonLine) -> Result<(), AllocError>
+pub(crate) fn add_object_line(text: &mut Vec<u8>, line: &ApiLine) -> Result<(), AllocError>
     ensures { OnOk result (text.new.items ≡ text.old.items ++ ended (object_text line.now)) }
 {
     add_object(text, line)?;
@@ -145,14 +145,14 @@ fn value_status(value: Result<i32, ProbeFault>) -> StatusCode
 }
 
 /// The status of a line.
-fn status_of(line: &JsonLine) -> StatusCode
+fn status_of(line: &ApiLine) -> StatusCode
     ensures { result ≡ status_of line.now }
 {
     match line {
-        JsonLine::Fault(_) => StatusCode::BAD_REQUEST,
-        JsonLine::Refused(_) => StatusCode::INTERNAL_SERVER_ERROR,
-        JsonLine::Position(told) | JsonLine::Root(told, _) => {
-            value_status(told.columns.probed.wdl)
+        ApiLine::Fault(_) => StatusCode::BAD_REQUEST,
+        ApiLine::Refused(_) => StatusCode::INTERNAL_SERVER_ERROR,
+        ApiLine::Values(position, _) | ApiLine::Mainline(position, _) => {
+            value_status(position.told.columns.probed.wdl)
         }
     }
 }
@@ -161,7 +161,7 @@ fn status_of(line: &JsonLine) -> StatusCode
 pub(crate) fn fill_line(
     alloc: Global,
     response: &mut Response,
-    line: &JsonLine,
+    line: &ApiLine,
 ) -> Result<(), AllocError>
     requires { IsBlank response.old }
     ensures { OnOk result (HasLine line.now response.new) }

@@ -11,6 +11,7 @@
 //! - CLAIM: `Answerer`, clause `answers`: the response is the reply to the request (`IsReply`), and the folder stays
 //!   the same. For a position it is an object of the tablebase API with each legal move, by tables of the folder of which none is missing
 //!   at the position and after its moves; or the refusal of the file of one that is needed. For a body it is these of each line, in turn.
+//!   For a line of best play each ply is the first root move of its position, by tables of the folder of which none is missing there.
 //! - CLAIM: `asked_text`, clause `text`: the text of the first member `fen` of the query, decoded, with a space for each `_`, and with
 //!   both counters.
 #![tactic(auto)]

@@ -2,3 +2,4 @@ pub mod Pieces
 pub mod Whole
 pub mod Playing
 pub mod ApiDepth
+pub mod Precise

@@ -29,7 +29,7 @@ use Rattle.fen_text.specs.Fen.{SpellsPosition}
 
 -- ---- moves that can be played
 
-head_all : {X : Type 0} (P : X → Type 0) (x : X) (xs : List X) → P x → All P xs → All P (x ∷ xs)
+pub head_all : {X : Type 0} (P : X → Type 0) (x : X) (xs : List X) → P x → All P xs → All P (x ∷ xs)
 head_all P x xs h hs = All-append P (x ∷ []) xs (All-from_get_or P (x ∷ []) x (λ i lt. subst (λ n. P (get_or (x ∷ []) n x)) (let e : 0 ≡ i = omega (arith, lt) in e) h)) hs
 
 -- the move of a root move can be played

@@ -108,11 +108,11 @@ list_written js a b c d begins items ends =
     subst (λ ts. Writes false (begin_array ∷ ts) a d) (sym (closed_items js))
     (writes_both false (begin_array ∷ []) (open_items js ++ end_array ∷ []) a b d begins (writes_both false (open_items js) (end_array ∷ []) b c d items (ends _)))
 
-pub no_move : (json : MoveTold → Json) (later : Bool) (ts : List MoveTold) (old : Option (List ℕ)) → length ts ≡ 0 → Writes later (open_items (moves_items json ts)) old old
+pub no_move : {T : Type 0} (json : T → Json) (later : Bool) (ts : List T) (old : Option (List ℕ)) → length ts ≡ 0 → Writes later (open_items (moves_items json ts)) old old
 no_move json later [] old h = writes_nothing later old
 no_move json later (t ∷ ts) old h = absurd (omega (arith, h))
 
-pub one_move : (json : MoveTold → Json) (later : Bool) (all : List MoveTold) (t : MoveTold) (ts : List MoveTold) (a b c : Option (List ℕ)) → IsFirstAndRest all t ts → Writes later (json_tokens (json t)) a b → Writes true (open_items (moves_items json ts)) b c → Writes later (open_items (moves_items json all)) a c
+pub one_move : {T : Type 0} (json : T → Json) (later : Bool) (all : List T) (t : T) (ts : List T) (a b c : Option (List ℕ)) → IsFirstAndRest all t ts → Writes later (json_tokens (json t)) a b → Writes true (open_items (moves_items json ts)) b c → Writes later (open_items (moves_items json all)) a c
 one_move json later all t ts a b c h one more =
     subst (λ xs. Writes later (open_items (moves_items json xs)) a c) (sym h.0)
     (writes_both later (json_tokens (json t)) (open_items (moves_items json ts)) a b c one (subst (λ l. Writes l (open_items (moves_items json ts)) b c) (sym (ended_json later (json t))) more))
@@ -152,7 +152,7 @@ flat_move t =
     let e = flat_fault (first_probe_fault t.probed.wdl t.probed.dtz) in
     omega (arith, w, d, e)
 
-pub moves_depth : (members : MoveTold → Members) → ((t : MoveTold) → members_depth (members t) ≡ 0) → (ts : List MoveTold) → items_depth (moves_items (λ t. object (members t)) ts) ≤ 1
+pub moves_depth : {T : Type 0} (members : T → Members) → ((t : T) → members_depth (members t) ≡ 0) → (ts : List T) → items_depth (moves_items (λ t. object (members t)) ts) ≤ 1
 moves_depth members flat [] = omega arith
 moves_depth members flat (t ∷ ts) =
     let one = flat t in

@@ -1,5 +1,6 @@
 pub mod Members
 pub mod Objects
 pub mod Told
+pub mod ApiTold
 pub mod Api
 pub mod Inside

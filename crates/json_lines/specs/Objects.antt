@@ -131,7 +131,7 @@ abbrev pub move_json : MoveTold → Json
 move_json t = object (move_members t)
 
 -- moves, each written so
-abbrev pub moves_items : (MoveTold → Json) → List MoveTold → Items
+abbrev pub moves_items : {T : Type 0} → (T → Json) → List T → Items
 moves_items json [] = no_items
 moves_items json (t ∷ ts) = item (json t) (moves_items json ts)
 

@@ -1,100 +1,70 @@
 //! The objects of the tablebase API.
 
-ghost use Rattle.std.specs.Prelude.{◌≡◌, ◌∷◌, Some, OnOk, false, true};
+ghost use Rattle.std.specs.Prelude.{◌≡◌, ◌∷◌, Bool, Some, OnOk, false, true};
 ghost use Rattle.std.specs.Io.KnownBytes.{Appends};
-ghost use Rattle.json.specs.Json.{document};
-ghost use Rattle.json.specs.Token.{begin_object};
+ghost use Rattle.json.specs.Json.{array, document};
+ghost use Rattle.json.specs.Token.{begin_object, key};
 ghost use Rattle.json.specs.Tree.{json_tokens};
-ghost use Rattle.json_lines.specs.Api.{api_json, api_move_json, api_move_members, api_position_json, api_position_members, api_root_json, api_standing_members, category_by, category_by_distance, category_with_clock, losing, winning};
-ghost use Rattle.json_lines.specs.Inside.Members.{Writes, open_tokens};
-ghost use Rattle.json_lines.specs.Objects.{json_text};
+ghost use Rattle.json_lines.specs.Api.{api_json, api_move_json, api_move_members, api_position_members, api_standing_members, api_values_json, distance_members, list_name, mainline_json, mainline_members, precise_or_null, side_or_null, told_members};
+ghost use Rattle.json.specs.Json.{no_members};
+ghost use Rattle.json_lines.specs.Inside.Members.{Writes, open_items, open_tokens, value_json};
+ghost use Rattle.json_lines.specs.Objects.{json_text, moves_items};
 
-use crate::members::Value;
-use crate::told::{JsonLine, MoveTold, PositionTold};
+use crate::api_told::{ApiLine, ApiMove, ApiPosition};
+use crate::members::{Value, put_key, put_members};
 use crate::writing::{
-    MoveForm, fen_error, is_stalemate, member, number_or_null, put_begin, put_end, put_error_alone,
-    put_facts, put_moves_member, put_san, put_told, put_uci, verdict_or_null,
+    fen_error, is_stalemate, member, number_or_null, put_begin, put_begin_list, put_end,
+    put_end_list, put_error_alone, put_facts, put_san, put_told, put_uci, verdict_or_null,
 };
-use fen_text::write_move;
-use judge_core::{BoardState, ProbeResult};
+use board_core::Side;
+use judge_core::{BoardState, Category, ProbeFault};
 use std::io::Write;
 use system_io::WriteFault;
 
-/// Whether a win comes in time that needs so many plies from the last capture or pawn move to the next, in a word.
-fn winning(plies: u32) -> &'static str
-    ensures { result.now ≡ winning plies }
+/// What is written of a move.
+#[derive(Clone, Copy)]
+pub(crate) enum MoveForm {
+    /// What is told of a legal move of a position.
+    Legal,
+    /// The distance alone, as of a ply of a line.
+    Ply,
+}
+
+/// A distance where it is precise, and else null.
+fn precise_or_null<'a>(precise: bool, dtz: &Result<i32, ProbeFault>) -> Value<'a>
+    ensures { value_json result ≡ precise_or_null precise dtz.now }
 {
-    if plies <= 99 {
-        "win"
-    } else if plies <= 100 {
-        "maybe-win"
+    if precise {
+        number_or_null(dtz)
     } else {
-        "cursed-win"
+        Value::Null
     }
 }
 
-/// Whether a loss comes in time that takes so many plies from the last capture or pawn move to the next, in a word.
-fn losing(plies: u32) -> &'static str
-    ensures { result.now ≡ losing plies }
+/// The letter of the side that wins, and null where neither does.
+fn side_or_null<'a>(winner: Option<Side>) -> Value<'a>
+    ensures { value_json result ≡ side_or_null winner }
 {
-    if plies <= 99 {
-        "loss"
-    } else if plies <= 100 {
-        "maybe-loss"
-    } else {
-        "blessed-loss"
-    }
-}
-
-/// What a distance comes to behind so many plies on the clock of the fifty-move rule, in a word.
-fn category_by_distance(clock: u16, dtz: i32) -> &'static str
-    ensures { result.now ≡ category_by_distance clock dtz }
-{
-    let plies = dtz.unsigned_abs() + u32::from(clock);
-    if 0 < dtz {
-        winning(plies)
-    } else if dtz < 0 {
-        losing(plies)
-    } else {
-        "draw"
-    }
-}
-
-/// What both probes come to behind so many plies on the clock, in a word.
-fn category_by(clock: u16, probed: &ProbeResult) -> &'static str
-    ensures { result.now ≡ category_by clock probed.now.wdl probed.now.dtz }
-{
-    match (probed.wdl, probed.dtz) {
-        (Ok(_), Ok(dtz)) => category_by_distance(clock, dtz),
-        (Ok(_), Err(_)) | (Err(_), _) => "unknown",
-    }
-}
-
-/// How the game ends for a side without a legal move, in a word, or else what both probes come to.
-fn category_with_clock(state: BoardState, clock: u16, probed: &ProbeResult) -> &'static str
-    ensures { result.now ≡ category_with_clock state clock probed.now }
-{
-    match state {
-        BoardState::Checkmate => "loss",
-        BoardState::Stalemate => "draw",
-        BoardState::Open | BoardState::Check => category_by(clock, probed),
+    match winner {
+        None => Value::Null,
+        Some(Side::White) => Value::Text("w"),
+        Some(Side::Black) => Value::Text("b"),
     }
 }
 
 /// Writes the object of a position but for its closing brace.
-fn put_api_position<W: Write>(out: &mut W, told: &PositionTold) -> Result<(), WriteFault>
-    ensures { OnOk result (Writes false (begin_object ∷ open_tokens (api_position_members told.now.position told.now.columns.probed told.now.columns.verdict)) (W.contents out.old) (W.contents out.new)) }
+fn put_api_position<W: Write>(out: &mut W, position: &ApiPosition) -> Result<(), WriteFault>
+    ensures { OnOk result (Writes false (begin_object ∷ open_tokens (api_position_members position.now)) (W.contents out.old) (W.contents out.new)) }
 {
+    let told = &position.told;
+    let precise = position.precise;
     let state = BoardState::of(&told.position);
     let probed = &told.columns.probed;
-    let clock = told.position.halfmove();
+    let category = Category::of(state, told.position.halfmove(), probed, precise);
     let members = [
-        member(
-            "category",
-            Value::Text(category_with_clock(state, clock, probed)),
-        ),
+        member("category", Value::Text(category.name())),
         member("dtz", number_or_null(&probed.dtz)),
-        member("precise_dtz", Value::Null),
+        member("precise_dtz", precise_or_null(precise, &probed.dtz)),
         member("dtm", Value::Null),
         member("checkmate", Value::Boolean(state.is_checkmate())),
         member("stalemate", Value::Boolean(is_stalemate(state))),
@@ -111,19 +81,18 @@ fn put_api_position<W: Write>(out: &mut W, told: &PositionTold) -> Result<(), Wr
 }
 
 /// Writes how the position after a move stands, behind the move, and why a value of it is missing, where one is.
-fn put_api_standing<W: Write>(out: &mut W, told: &MoveTold) -> Result<(), WriteFault>
-    ensures { OnOk result (Writes true (open_tokens (api_standing_members told.now)) (W.contents out.old) (W.contents out.new)) }
+fn put_api_standing<W: Write>(out: &mut W, played: &ApiMove) -> Result<(), WriteFault>
+    ensures { OnOk result (Writes true (open_tokens (api_standing_members played.now)) (W.contents out.old) (W.contents out.new)) }
 {
+    let told = &played.told;
+    let precise = played.precise;
     let state = told.state;
-    let clock = told.after.halfmove();
+    let category = Category::of(state, told.after.halfmove(), &told.probed, precise);
     let members = [
         member("zeroing", Value::Boolean(told.effect.zeroes_clock())),
-        member(
-            "category",
-            Value::Text(category_with_clock(state, clock, &told.probed)),
-        ),
+        member("category", Value::Text(category.name())),
         member("dtz", number_or_null(&told.probed.dtz)),
-        member("precise_dtz", Value::Null),
+        member("precise_dtz", precise_or_null(precise, &told.probed.dtz)),
         member("dtm", Value::Null),
         member("checkmate", Value::Boolean(state.is_checkmate())),
         member("stalemate", Value::Boolean(is_stalemate(state))),
@@ -138,64 +107,157 @@ fn put_api_standing<W: Write>(out: &mut W, told: &MoveTold) -> Result<(), WriteF
     put_told(out, true, &members, &told.probed)
 }
 
-/// Writes the members of a move, behind the opening brace.
-fn put_api_after<W: Write>(out: &mut W, told: &MoveTold) -> Result<(), WriteFault>
-    ensures { OnOk result (Writes false (open_tokens (api_move_members told.now)) (W.contents out.old) (W.contents out.new)) }
+/// Writes the distance after a move, behind the move.
+fn put_distance<W: Write>(out: &mut W, played: &ApiMove) -> Result<(), WriteFault>
+    ensures { OnOk result (Writes true (open_tokens (distance_members played.now.told.probed.dtz played.now.precise no_members)) (W.contents out.old) (W.contents out.new)) }
 {
-    put_uci(out, told)?;
-    put_san(out, told)?;
-    put_api_standing(out, told)
+    let dtz = &played.told.probed.dtz;
+    let members = [
+        member("dtz", number_or_null(dtz)),
+        member("precise_dtz", precise_or_null(played.precise, dtz)),
+    ];
+    put_members(out, true, &members)
+}
+
+/// Writes what is told of a move in this form, behind its notations.
+fn put_told_in<W: Write>(out: &mut W, form: MoveForm, played: &ApiMove) -> Result<(), WriteFault>
+    ensures { OnOk result (Writes true (open_tokens (told_members form played.now)) (W.contents out.old) (W.contents out.new)) }
+{
+    match form {
+        MoveForm::Legal => put_api_standing(out, played),
+        MoveForm::Ply => put_distance(out, played),
+    }
+}
+
+/// Writes the members of a move, behind the opening brace.
+fn put_api_after<W: Write>(out: &mut W, form: MoveForm, played: &ApiMove) -> Result<(), WriteFault>
+    ensures { OnOk result (Writes false (open_tokens (api_move_members form played.now)) (W.contents out.old) (W.contents out.new)) }
+{
+    put_uci(out, &played.told)?;
+    put_san(out, &played.told)?;
+    put_told_in(out, form, played)
 }
 
 /// Writes the object of a move.
-pub(crate) fn put_api_move<W: Write>(
+fn put_api_move<W: Write>(
     out: &mut W,
     later: bool,
-    told: &MoveTold,
+    form: MoveForm,
+    played: &ApiMove,
 ) -> Result<(), WriteFault>
-    ensures { OnOk result (Writes later (json_tokens (api_move_json told.now)) (W.contents out.old) (W.contents out.new)) }
+    ensures { OnOk result (Writes later (json_tokens (api_move_json form played.now)) (W.contents out.old) (W.contents out.new)) }
 {
     put_begin(out, later)?;
-    put_api_after(out, told)?;
+    put_api_after(out, form, played)?;
     put_end(out)
 }
 
-/// Writes a position and its moves.
-fn put_api_root<W: Write>(
+/// Writes the objects of moves, with commas between.
+fn put_api_moves<W: Write>(
     out: &mut W,
-    told: &PositionTold,
-    moves: &[MoveTold],
+    later: bool,
+    form: MoveForm,
+    moves: &[ApiMove],
 ) -> Result<(), WriteFault>
-    ensures { OnOk result (Writes false (json_tokens (api_root_json told.now moves.now)) (W.contents out.old) (W.contents out.new)) }
+    ensures { OnOk result (Writes later (open_items (moves_items (api_move_json form) moves.now)) (W.contents out.old) (W.contents out.new)) }
 {
-    put_api_position(out, told)?;
-    put_moves_member(out, MoveForm::Api, moves)?;
-    put_end(out)
+    match moves.split_first() {
+        None => Ok(()),
+        Some((played, rest)) => match put_api_move(out, later, form, played) {
+            Ok(()) => put_api_moves(out, true, form, rest),
+            Err(fault) => Err(fault),
+        },
+    }
 }
 
-/// Writes a position without its moves.
-fn put_api_alone<W: Write>(out: &mut W, told: &PositionTold) -> Result<(), WriteFault>
-    ensures { OnOk result (Writes false (json_tokens (api_position_json told.now)) (W.contents out.old) (W.contents out.new)) }
+/// Writes the list of moves.
+fn put_api_list<W: Write>(out: &mut W, form: MoveForm, moves: &[ApiMove]) -> Result<(), WriteFault>
+    ensures { OnOk result (Writes false (json_tokens (array (moves_items (api_move_json form) moves.now))) (W.contents out.old) (W.contents out.new)) }
 {
-    match put_api_position(out, told) {
-        Ok(()) => put_end(out),
+    put_begin_list(out)?;
+    put_api_moves(out, false, form, moves)?;
+    put_end_list(out)
+}
+
+/// The name of a list.
+fn list_name(form: MoveForm) -> &'static str
+    ensures { result.now ≡ list_name form }
+{
+    match form {
+        MoveForm::Legal => "moves",
+        MoveForm::Ply => "mainline",
+    }
+}
+
+/// Writes the member that has the moves.
+fn put_list_member<W: Write>(
+    out: &mut W,
+    form: MoveForm,
+    moves: &[ApiMove],
+) -> Result<(), WriteFault>
+    ensures { OnOk result (Writes true (key (list_name form) ∷ json_tokens (array (moves_items (api_move_json form) moves.now))) (W.contents out.old) (W.contents out.new)) }
+{
+    match put_key(out, true, list_name(form)) {
+        Ok(()) => put_api_list(out, form, moves),
         Err(fault) => Err(fault),
     }
 }
 
+/// Writes a position and its moves.
+fn put_api_values<W: Write>(
+    out: &mut W,
+    position: &ApiPosition,
+    moves: &[ApiMove],
+) -> Result<(), WriteFault>
+    ensures { OnOk result (Writes false (json_tokens (api_values_json position.now moves.now)) (W.contents out.old) (W.contents out.new)) }
+{
+    put_api_position(out, position)?;
+    put_list_member(out, MoveForm::Legal, moves)?;
+    put_end(out)
+}
+
+/// Writes the object of a line of play but for its list and its closing brace.
+fn put_line_facts<W: Write>(out: &mut W, position: &ApiPosition) -> Result<(), WriteFault>
+    ensures { OnOk result (Writes false (begin_object ∷ open_tokens (mainline_members position.now.told.position.side position.now.told.columns.probed position.now.precise)) (W.contents out.old) (W.contents out.new)) }
+{
+    let probed = &position.told.columns.probed;
+    let members = [
+        member("dtz", number_or_null(&probed.dtz)),
+        member(
+            "precise_dtz",
+            precise_or_null(position.precise, &probed.dtz),
+        ),
+        member("winner", side_or_null(position.winner())),
+    ];
+    put_facts(out, &members, probed)
+}
+
+/// Writes a line of play.
+fn put_mainline<W: Write>(
+    out: &mut W,
+    position: &ApiPosition,
+    plies: &[ApiMove],
+) -> Result<(), WriteFault>
+    ensures { OnOk result (Writes false (json_tokens (mainline_json position.now plies.now)) (W.contents out.old) (W.contents out.new)) }
+{
+    put_line_facts(out, position)?;
+    put_list_member(out, MoveForm::Ply, plies)?;
+    put_end(out)
+}
+
 /// Writes a line as one object of the tablebase API of Lichess (RFC 8259), without spaces and without a line feed.
 ///
-/// The category counts the clock of the fifty-move rule: of a win whose distance in plies and the clock make at most 99 together it is
-/// `win`, of 100 `maybe-win`, beyond that `cursed-win`, and likewise of a loss. What was written reads back as the value that it stands
-/// for: `Value::parse` of the crate `json` gives it. After an error a part of the line may be written.
-pub fn put_api_line<W: Write>(out: &mut W, line: &JsonLine) -> Result<(), WriteFault>
+/// The categories count the clock of the fifty-move rule (`Category::of` of judge_core). `precise_dtz` is the distance where that is
+/// precise, and else null. What was written reads back as the value that it stands for: `Value::parse` of the crate `json` gives it.
+/// After an error a part of the line may be written.
+pub fn put_api_line<W: Write>(out: &mut W, line: &ApiLine) -> Result<(), WriteFault>
     ensures written { OnOk result (Appends (W.contents out.old) (W.contents out.new) (json_text (api_json line.now))) }
     ensures reads_back { OnOk result (document (json_text (api_json line.now)) ≡ Some (api_json line.now)) }
 {
     match line {
-        JsonLine::Fault(fault) => put_error_alone(out, fen_error(fault)),
-        JsonLine::Refused(words) => put_error_alone(out, Value::Text(words.as_str())),
-        JsonLine::Position(told) => put_api_alone(out, told),
-        JsonLine::Root(told, moves) => put_api_root(out, told, moves),
+        ApiLine::Fault(fault) => put_error_alone(out, fen_error(fault)),
+        ApiLine::Refused(words) => put_error_alone(out, Value::Text(words.as_str())),
+        ApiLine::Values(position, moves) => put_api_values(out, position, moves),
+        ApiLine::Mainline(position, plies) => put_mainline(out, position, plies),
     }
 }

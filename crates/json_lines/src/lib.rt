@@ -4,10 +4,11 @@
 //! legal moves, each with the values of the position after it: the best first, or in the order of moves where the position is out of
 //! scope. `Ask` of judge_core says whether values are the strict ones, or also those that every completion of the missing tables gives.
 //! `put_json_line` writes it. Names and meanings are those of the tablebase API of Lichess, where it has them (FORMATS, section 3.10).
+//! `ApiLine` is what an object of that API itself tells (section 3.13), which also says which distances are precise.
 //!
-//! Inside: `told` (what is told), `writing`, `members` and `text` (objects, members, strings with their escapes).
+//! Inside: `told` and `api_told` (what is told), `writing`, `api`, `members` and `text` (objects, members, strings with their escapes).
 //!
-//! Definitions, in reading order: `Told`, `Objects` (`line_json`). The text of a value is that of the
+//! Definitions, in reading order: `Told`, `Objects` (`line_json`), `ApiTold`, `Api` (`api_json`). The text of a value is that of the
 //! toolchain's `json` (`print`, `json_tokens`). Its cases stand in `probes.txt` and `root.txt` of `rows` (those with `--json`).
 //!
 //! - CLAIM: `put_json_line`, clauses `written`, `reads_back`: the text is that of the line's object, and a JSON parser reads it back.
@@ -15,9 +16,16 @@
 //!   `unchanged`; `JsonLine::is_done`: the line tells what the set's calls tell of the position that the text spells, or the text's
 //!   first fault. With moves it has each legal move once, in scope or not. Without them lack of memory is told only where its values
 //!   list moves.
+//! - CLAIM: `put_api_line`, clauses `written`, `reads_back`; `put_object`: likewise of an object of the tablebase API, and of one of
+//!   flat members.
+//! - CLAIM: `ApiLine::of_position`, `ApiPosition::of`, clauses `told`, `unchanged`; `ApiPosition::winner`: what the set's calls tell of a
+//!   position and of each legal move, with which distances are precise, and which side wins by the distance.
+//! - CLAIM: `ApiMove::best`, clauses `told`, `unchanged`; `ApiMove::ends_line`: the first root move of a position, or none where no move
+//!   is legal, and whether a line of best play ends with it (`IsMainline`).
 #![tactic(auto)]
 
 mod api;
+mod api_told;
 mod members;
 mod object;
 mod text;
@@ -25,6 +33,7 @@ mod told;
 mod writing;
 
 pub use api::put_api_line;
+pub use api_told::{ApiLine, ApiMove, ApiPosition};
 pub use judge_core::Ask;
 pub use members::{Member, Value};
 pub use object::put_object;

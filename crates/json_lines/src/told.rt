@@ -121,7 +121,7 @@ fn told_after(
 }
 
 /// A legal move with what is told of it.
-fn move_told(
+pub(crate) fn move_told(
     ask: Ask,
     alloc: Global,
     set: &mut Set<'_>,
@@ -140,7 +140,7 @@ fn move_told(
 
 /// Adds an item to a list. It is over any type, since the borrow checker doesn't cover a push of a `MoveTold`
 /// (docs/PROVING.md).
-fn add<T: Copy>(list: &mut Vec<T>, item: T) -> Result<(), AllocError>
+pub(crate) fn add<T: Copy>(list: &mut Vec<T>, item: T) -> Result<(), AllocError>
     ensures { OnOk result (list.new.items ≡ list.old.items ++ item ∷ []) }
 {
     list.push(item)?;
@@ -197,7 +197,7 @@ fn played(alloc: Global, roots: &[RootMove]) -> Result<Vec<Move>, AllocError>
 }
 
 /// All legal moves of a position, the best first; where it is out of scope, in the order of moves.
-fn ordered(
+pub(crate) fn ordered(
     ask: Ask,
     alloc: Global,
     set: &mut Set<'_>,
@@ -214,7 +214,7 @@ fn ordered(
 }
 
 /// All legal moves of a position with what is told of them.
-fn root_told(
+pub(crate) fn root_told(
     ask: Ask,
     alloc: Global,
     set: &mut Set<'_>,
@@ -228,7 +228,7 @@ fn root_told(
 }
 
 /// A position with both probes and its verdict.
-fn position_told(
+pub(crate) fn position_told(
     ask: Ask,
     alloc: Global,
     set: &mut Set<'_>,

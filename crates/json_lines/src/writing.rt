@@ -7,12 +7,10 @@ ghost use Rattle.json.specs.Token.{begin_array, begin_object, end_array, end_obj
 ghost use Rattle.json.specs.Tree.{json_tokens};
 ghost use Rattle.json_lines.specs.Inside.Members.{Writes, members_of, open_items, open_tokens, value_json};
 ghost use Rattle.fen_text.specs.Coordinates.{move_text};
-ghost use Rattle.json_lines.specs.Api.{move_json_in};
 ghost use Rattle.judge_core.specs.Words.{probe_fault_words};
 ghost use Rattle.place_index.specs.Material.{men_of, name_of};
 ghost use Rattle.json_lines.specs.Objects.{after_members, category, category_of, error_members, fen_error, first_probe_fault, followed_by, is_stalemate, json_text, line_json, move_json, move_members, moves_items, number_or_null, position_json, position_members, root_json, standing_members, value_members, verdict_or_null};
 
-use crate::api::put_api_move;
 use crate::members::{Member, Value, put_comma, put_key, put_member, put_members};
 use crate::text::put;
 use crate::told::{JsonLine, MoveTold, PositionTold};
@@ -22,15 +20,6 @@ use judge_core::{BoardState, ProbeFault, ProbeResult};
 use place_index::Material;
 use std::io::Write;
 use system_io::WriteFault;
-
-/// In which form a move is written.
-#[derive(Clone, Copy)]
-pub(crate) enum MoveForm {
-    /// As `root` has it.
-    Own,
-    /// As the tablebase API has it.
-    Api,
-}
 
 /// A number of the tables, or null where there is none.
 pub(crate) fn number_or_null<'a>(told: &Result<i32, ProbeFault>) -> Value<'a>
@@ -313,72 +302,48 @@ fn put_move<W: Write>(out: &mut W, later: bool, told: &MoveTold) -> Result<(), W
     }
 }
 
-/// Writes the object of a move in a form.
-fn put_move_in<W: Write>(
-    out: &mut W,
-    later: bool,
-    form: MoveForm,
-    told: &MoveTold,
-) -> Result<(), WriteFault>
-    ensures { OnOk result (Writes later (json_tokens (move_json_in form told.now)) (W.contents out.old) (W.contents out.new)) }
-{
-    match form {
-        MoveForm::Own => put_move(out, later, told),
-        MoveForm::Api => put_api_move(out, later, told),
-    }
-}
-
 /// Writes the objects of moves, with commas between.
-fn put_moves<W: Write>(
-    out: &mut W,
-    later: bool,
-    form: MoveForm,
-    moves: &[MoveTold],
-) -> Result<(), WriteFault>
-    ensures { OnOk result (Writes later (open_items (moves_items (move_json_in form) moves.now)) (W.contents out.old) (W.contents out.new)) }
+fn put_moves<W: Write>(out: &mut W, later: bool, moves: &[MoveTold]) -> Result<(), WriteFault>
+    ensures { OnOk result (Writes later (open_items (moves_items move_json moves.now)) (W.contents out.old) (W.contents out.new)) }
 {
     match moves.split_first() {
         None => Ok(()),
-        Some((told, rest)) => match put_move_in(out, later, form, told) {
-            Ok(()) => put_moves(out, true, form, rest),
+        Some((told, rest)) => match put_move(out, later, told) {
+            Ok(()) => put_moves(out, true, rest),
             Err(fault) => Err(fault),
         },
     }
 }
 
 /// Writes the opening bracket of a list.
-fn put_begin_list<W: Write>(out: &mut W) -> Result<(), WriteFault>
+pub(crate) fn put_begin_list<W: Write>(out: &mut W) -> Result<(), WriteFault>
     ensures { OnOk result (Writes false (begin_array ∷ []) (W.contents out.old) (W.contents out.new)) }
 {
     put(out, b"[")
 }
 
 /// Writes the closing bracket of a list.
-fn put_end_list<W: Write>(out: &mut W) -> Result<(), WriteFault>
+pub(crate) fn put_end_list<W: Write>(out: &mut W) -> Result<(), WriteFault>
     ensures { OnOk result ((later : Bool) → Writes later (end_array ∷ []) (W.contents out.old) (W.contents out.new)) }
 {
     put(out, b"]")
 }
 
 /// Writes the list of moves.
-fn put_list<W: Write>(out: &mut W, form: MoveForm, moves: &[MoveTold]) -> Result<(), WriteFault>
-    ensures { OnOk result (Writes false (json_tokens (array (moves_items (move_json_in form) moves.now))) (W.contents out.old) (W.contents out.new)) }
+fn put_list<W: Write>(out: &mut W, moves: &[MoveTold]) -> Result<(), WriteFault>
+    ensures { OnOk result (Writes false (json_tokens (array (moves_items move_json moves.now))) (W.contents out.old) (W.contents out.new)) }
 {
     put_begin_list(out)?;
-    put_moves(out, false, form, moves)?;
+    put_moves(out, false, moves)?;
     put_end_list(out)
 }
 
 /// Writes the member that has the moves.
-pub(crate) fn put_moves_member<W: Write>(
-    out: &mut W,
-    form: MoveForm,
-    moves: &[MoveTold],
-) -> Result<(), WriteFault>
-    ensures { OnOk result (Writes true (key (codes "moves") ∷ json_tokens (array (moves_items (move_json_in form) moves.now))) (W.contents out.old) (W.contents out.new)) }
+fn put_moves_member<W: Write>(out: &mut W, moves: &[MoveTold]) -> Result<(), WriteFault>
+    ensures { OnOk result (Writes true (key (codes "moves") ∷ json_tokens (array (moves_items move_json moves.now))) (W.contents out.old) (W.contents out.new)) }
 {
     match put_key(out, true, "moves") {
-        Ok(()) => put_list(out, form, moves),
+        Ok(()) => put_list(out, moves),
         Err(fault) => Err(fault),
     }
 }
@@ -392,7 +357,7 @@ fn put_root<W: Write>(
     ensures { OnOk result (Writes false (json_tokens (root_json told.now moves.now)) (W.contents out.old) (W.contents out.new)) }
 {
     put_position(out, told)?;
-    put_moves_member(out, MoveForm::Own, moves)?;
+    put_moves_member(out, moves)?;
     put_end(out)
 }
 

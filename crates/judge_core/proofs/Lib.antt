@@ -47,3 +47,4 @@ pub mod MoreTables
 pub mod Opened
 pub mod ByRulings
 pub mod KnownValue
+pub mod Rounding

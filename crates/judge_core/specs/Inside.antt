@@ -5,3 +5,4 @@ pub mod Kept
 pub mod Placing
 pub mod Following
 pub mod Determined
+pub mod Precision

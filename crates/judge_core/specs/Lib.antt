@@ -5,6 +5,7 @@ pub mod Blocks
 pub mod Asked
 pub mod Probing
 pub mod Distances
+pub mod Precision
 pub mod Ruling
 pub mod Games
 pub mod Standings
@@ -14,6 +15,7 @@ pub mod Root
 pub mod Determined
 pub mod Ask
 pub mod Words
+pub mod Categories
 pub mod Laws
 pub mod FiveRules
 pub mod RootLaws

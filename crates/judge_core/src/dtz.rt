@@ -88,7 +88,7 @@ impl<'a> Set<'a> {
     /// The distance before a move, from the position after it. The distance after a mating move isn't computed where
     /// that wins.
     #[cycle(dtz)]
-    fn move_counts(
+    pub(crate) fn move_counts(
         &mut self,
         alloc: Global,
         after: &Position,

@@ -8,7 +8,7 @@
 //!
 //! Inside: `set`, `table_slots` and `table_slot` (tables in their slots), `blocks` (decoded blocks, and bookmarks of long ones), `reading` (of both),
 //! `located_position` (a position as its table sees it); `wdl`, `probing`, `found`, `known`, `many` for WDL; `determined`, `determined_dtz` where
-//! tables are missing; `dtz`, `counts`, `distance`, `moving`, `mobility`; `judging`, `verdict`, `answering` (all three at once),
+//! tables are missing; `dtz`, `precision`, `counts`, `distance`, `moving`, `mobility`; `category`; `judging`, `verdict`, `answering` (all three at once),
 //! `probe_result`, `root`, `root_move`, `standing`, `game`, `display`, `ask` (strict or determined), `fault`, `laws`.
 //!
 //! Words of Stockfish: `Set::wdl` is `search`, `Set::dtz` `probe_dtz`, a distance before a move that zeroes the clock
@@ -17,7 +17,7 @@
 //! value (`table_value`) `probe_table`; `Set::root` stands for both `root_probe_dtz` and `root_probe_wdl`.
 //!
 //! Definitions, in reading order: `Values`, `LookUp`, `Tables`, `Blocks`, `Asked`, `Probing` (`wdl_of`), `Distances` (`dtz_of`),
-//! `FiveRules`, `Ruling`, `Games`, `Standings`, `Answers`, `ProbeResult`, `Root`, `Determined`, `Ask`, `Words`; `Laws`, `RootLaws`,
+//! `FiveRules`, `Precision` (`is_precise`), `Categories`, `Ruling`, `Games`, `Standings`, `Answers`, `ProbeResult`, `Root`, `Determined`, `Ask`, `Words`; `Laws`, `RootLaws`,
 //! `DeterminedLaws`, `MoreTables`, `Known` (`known_of`). Its tests stand in `checks` (`root_tests`, `determined_tests`, `refusal_tests`); cases in `probes.txt`, `root.txt`,
 //! `tables.txt` and `many.txt` of `rows`.
 //!
@@ -36,6 +36,9 @@
 //!   `laws::dtz_meets_its_rules`: the DTZ value of a position in scope is what the five rules give, each with its faults. For a
 //!   set's tables the bound of two positions in a row cuts nothing off, whatever their bytes are. Lack of memory is reported only
 //!   where the WDL value is there, no draw, and not by a capture.
+//! - CLAIM: `Set::is_precise`, clauses `is`, `memory`, `filed`, `unchanged`: whether the distance isn't rounded, by where the five rules
+//!   take it from. That a table's rounded distance is off by one ply at most is a property of its file. `Category::of`;
+//!   `Category::name`: what value, distance, precision and clock come to, and its name in the tablebase API of Lichess.
 //! - CLAIM: `Set::judge`, clauses `value`, `memory`, `unchanged`; `Set::answers`, clauses `told`, `verdict`, `memory`, `filed`,
 //!   `unchanged`; `Set::probe`, clauses `told`, `memory`, `filed`, `unchanged`: the verdict is the ruling, a win by the halfmove
 //!   clock and the distance. `judge` reports lack of memory only at a position in scope with a legal move, whose value is a win
@@ -83,6 +86,7 @@
 mod answering;
 mod ask;
 mod blocks;
+mod category;
 mod counts;
 mod determined;
 mod determined_dtz;
@@ -99,6 +103,7 @@ mod located_position;
 mod many;
 mod mobility;
 mod moving;
+mod precision;
 mod probe_result;
 mod probing;
 mod reading;
@@ -113,6 +118,7 @@ mod wdl;
 
 pub use ask::Ask;
 pub use board_core::Verdict;
+pub use category::Category;
 pub use display::{Column, Columns, Outcome, verdict_or_open};
 pub use fault::{ProbeFault, SetFault, ValueFault};
 pub use game::{Followed, GameOutcome};

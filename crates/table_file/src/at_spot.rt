@@ -4,7 +4,7 @@ ghost use Rattle.std.specs.Prelude.{◌≡◌, ◌<◌, ◌≤◌, ℕ, slice_ge
 ghost use Rattle.table_file.specs.declared.kind.TableKind.TheVariants.{Dtz};
 ghost use Rattle.table_file.specs.declared.spots.Spot.TheVariants.{At};
 ghost use Rattle.table_file.specs.Expansion.{expansion, entry_at, real_blocks, part_block_values, IsSpot};
-ghost use Rattle.table_file.specs.Distances.{distance};
+ghost use Rattle.table_file.specs.Distances.{counts_moves, distance, file_flags};
 
 use crate::outcome::{Outcome, counts_moves, plies};
 use crate::size_record::Coding;
@@ -63,5 +63,14 @@ impl<'t, 'a> TablePart<'t, 'a> {
             return Err(Damaged);
         };
         Ok(plies(counts_moves(self.flags(), outcome), value))
+    }
+
+    /// Whether the values of a DTZ table for this outcome count moves of one side, and not plies (Syzygy table format, flags of
+    /// DTZ tables).
+    pub fn counts_moves(&self, outcome: Outcome) -> bool
+        requires kind { self.now.table.kind ≡ Dtz }
+        ensures { result ≡ counts_moves (file_flags self.now) outcome }
+    {
+        counts_moves(self.flags(), outcome)
     }
 }

@@ -27,7 +27,7 @@
 //!   is none or it is damaged.
 //! - CLAIM: `TablePart::stores`; `TablePart::dtz`, clauses `found`, `damaged`, `most`; `a_side_is_stored`: whether a DTZ table
 //!   has values for a side, and the distance in plies through the value map, doubled where it counts moves. A file stores one
-//!   side at least.
+//!   side at least. `TablePart::counts_moves`: whether it counts moves, for an outcome.
 //! - CLAIM: `TablePart::locate`, clauses `found`, `real`, `damaged`, `cost`: the single value, or a real block and offset of the
 //!   entry. Below the size it reads at most half a span and 65536 block lengths.
 //! - CLAIM: `TablePart::unpack`, clauses `is`, `few`; `TablePart::value_in_block`, clauses `found`, `damaged`;

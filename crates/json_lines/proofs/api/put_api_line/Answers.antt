@@ -3,9 +3,9 @@ use Rattle.std.specs.Prelude.{OnOk, codes}
 use Rattle.std.proofs.lemmas.Result.{on_ok_weaker}
 use Rattle.json.specs.Json.{Json, member, no_members, object}
 use Rattle.json.specs.Tree.{json_tokens}
-use Rattle.json_lines.specs.declared.told.JsonLine.TheVariants as line
-use Rattle.json_lines.specs.declared.told.MoveTold.{MoveTold}
-use Rattle.json_lines.specs.Api.{api_root_json}
+use Rattle.json_lines.specs.declared.api_told.ApiLine.TheVariants as line
+use Rattle.json_lines.specs.declared.api_told.ApiMove.{ApiMove}
+use Rattle.json_lines.specs.Api.{api_values_json, mainline_json}
 use Rattle.json_lines.specs.Inside.Members.{Writes}
 use Rattle.json_lines.specs.Objects.{error_json}
 use Rattle.json_lines.proofs.ApiDepth.{api_reads_back}
@@ -27,13 +27,18 @@ returns-in-Refused g c =
       reads_back = rw c.in-Refused.is (on_ok_weaker c.put_error_alone-in-Refused.result (λ h. api_reads_back (line.Refused c.in-Refused.words) _ _ h) written);
     }
 
-pub returns-in-Position-clause-reads_back : goal.returns-in-Position-clause-reads_back
-returns-in-Position-clause-reads_back g c = rw c.in-Position.is (on_ok_weaker c.put_api_alone.result (λ h. api_reads_back (line.Position c.in-Position.told) _ _ h) c.put_api_alone.ensures)
-
-pub returns-in-Root : goal.returns-in-Root
-returns-in-Root g c =
-    let written = subst (λ (ms : List MoveTold). OnOk c.put_api_root.result (Writes false (json_tokens (api_root_json c.in-Root.told ms)) (g.W.Write.contents c.args.out.now) (g.W.Write.contents c.put_api_root.new.out))) c.deref.ensures.value c.put_api_root.ensures in
+pub returns-in-Values : goal.returns-in-Values
+returns-in-Values g c =
+    let written = subst (λ (ms : List ApiMove). OnOk c.put_api_values.result (Writes false (json_tokens (api_values_json c.in-Values.position ms)) (g.W.Write.contents c.args.out.now) (g.W.Write.contents c.put_api_values.new.out))) c.deref.ensures.value c.put_api_values.ensures in
     record {
-      written = rw c.in-Root.is (on_ok_weaker c.put_api_root.result (λ h. h.text) written);
-      reads_back = rw c.in-Root.is (on_ok_weaker c.put_api_root.result (λ h. api_reads_back (line.Root c.in-Root.told c.in-Root.moves) _ _ h) written);
+      written = rw c.in-Values.is (on_ok_weaker c.put_api_values.result (λ h. h.text) written);
+      reads_back = rw c.in-Values.is (on_ok_weaker c.put_api_values.result (λ h. api_reads_back (line.Values c.in-Values.position c.in-Values.moves) _ _ h) written);
+    }
+
+pub returns-in-Mainline : goal.returns-in-Mainline
+returns-in-Mainline g c =
+    let written = subst (λ (ms : List ApiMove). OnOk c.put_mainline.result (Writes false (json_tokens (mainline_json c.in-Mainline.position ms)) (g.W.Write.contents c.args.out.now) (g.W.Write.contents c.put_mainline.new.out))) c.deref-in-Mainline.ensures.value c.put_mainline.ensures in
+    record {
+      written = rw c.in-Mainline.is (on_ok_weaker c.put_mainline.result (λ h. h.text) written);
+      reads_back = rw c.in-Mainline.is (on_ok_weaker c.put_mainline.result (λ h. api_reads_back (line.Mainline c.in-Mainline.position c.in-Mainline.plies) _ _ h) written);
     }

@@ -1,9 +1,9 @@
 use Rattle.std.proofs.Common.{◌∷◌, ◌∙◌, ap, refl, subst, false}
 use Rattle.std.specs.Prelude.{OnOk}
+use Rattle.judge_core.specs.Categories.{category_name, category_of}
 use Rattle.judge_core.specs.Root.{is_checkmate}
 use Rattle.json.specs.Json.{boolean, no_members, string}
 use Rattle.json.specs.Token.{begin_object}
-use Rattle.json_lines.specs.Api.{category_with_clock}
 use Rattle.json_lines.specs.Inside.Members.{Writes, open_tokens}
 use Rattle.json_lines.specs.Objects.{error_members, followed_by, is_stalemate}
 use Rattle.json_lines.proofs.Whole.{one_same}
@@ -11,13 +11,15 @@ use Rattle.json_lines.proofs.api.put_api_position.Goals as goal
 
 pub returns : goal.returns
 returns g c =
-    let p = c.args.told.now.position in
-    let probed = c.args.told.now.columns.probed in
+    let t = c.args.position.now in
+    let p = t.told.position in
+    let probed = t.told.columns.probed in
     let state = c.of-state.ensures in
+    let category = c.of-category.ensures ∙ ap (λ k. category_of c.of-state.result k probed t.precise) c.halfmove.ensures ∙ ap (λ s. category_of s p.halfmove probed t.precise) state in
     let same =
-    one_same _ _ _ _ _ c.member.ensures (ap string (c.category_with_clock.ensures ∙ ap (λ k. category_with_clock c.of-state.result k probed) c.halfmove-clock.ensures ∙ ap (λ s. category_with_clock s p.halfmove probed) state))
+    one_same _ _ _ _ _ c.member.ensures (ap string (c.name.ensures ∙ ap category_name category))
     (one_same _ _ _ _ _ c.member-2.ensures c.number_or_null.ensures
-    (one_same _ _ _ _ _ c.member-3.ensures refl
+    (one_same _ _ _ _ _ c.member-3.ensures c.precise_or_null.ensures
     (one_same _ _ _ _ _ c.member-4.ensures refl
     (one_same _ _ _ _ _ c.member-5.ensures (ap boolean (c.is_checkmate.ensures ∙ ap is_checkmate state))
     (one_same _ _ _ _ _ c.member-6.ensures (ap boolean (c.is_stalemate.ensures ∙ ap is_stalemate state))

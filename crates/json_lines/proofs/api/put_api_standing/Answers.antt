@@ -1,7 +1,7 @@
 use Rattle.std.proofs.Common.{◌∙◌, ap, refl, subst, true}
 use Rattle.std.specs.Prelude.{OnOk}
+use Rattle.judge_core.specs.Categories.{category_name, category_of}
 use Rattle.json.specs.Json.{boolean, no_members, string}
-use Rattle.json_lines.specs.Api.{category_with_clock}
 use Rattle.json_lines.specs.Inside.Members.{Writes, open_tokens}
 use Rattle.json_lines.specs.Objects.{error_members, followed_by}
 use Rattle.json_lines.proofs.Whole.{one_same}
@@ -9,12 +9,14 @@ use Rattle.json_lines.proofs.api.put_api_standing.Goals as goal
 
 pub returns : goal.returns
 returns g c =
-    let t = c.args.told.now in
+    let t = c.args.played.now.told in
+    let precise = c.args.played.now.precise in
+    let category = c.of-category.ensures ∙ ap (λ k. category_of t.state k t.probed precise) c.halfmove.ensures in
     let same =
     one_same _ _ _ _ _ c.member.ensures (ap boolean c.zeroes_clock.ensures)
-    (one_same _ _ _ _ _ c.member-2.ensures (ap string (c.category_with_clock.ensures ∙ ap (λ k. category_with_clock t.state k t.probed) c.halfmove-clock.ensures))
+    (one_same _ _ _ _ _ c.member-2.ensures (ap string (c.name.ensures ∙ ap category_name category))
     (one_same _ _ _ _ _ c.member-3.ensures c.number_or_null.ensures
-    (one_same _ _ _ _ _ c.member-4.ensures refl
+    (one_same _ _ _ _ _ c.member-4.ensures c.precise_or_null.ensures
     (one_same _ _ _ _ _ c.member-5.ensures refl
     (one_same _ _ _ _ _ c.member-6.ensures (ap boolean c.is_checkmate.ensures)
     (one_same _ _ _ _ _ c.member-7.ensures (ap boolean c.is_stalemate.ensures)

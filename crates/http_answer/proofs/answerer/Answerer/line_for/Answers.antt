@@ -1,6 +1,6 @@
 use Rattle.std.proofs.Common.{refl}
 use Rattle.std.proofs.lemmas.Result.{IfOk-weaker}
-use Rattle.json_lines.specs.Told.{ForNone, ForPosition}
+use Rattle.json_lines.specs.ApiTold.{ForNone, ForPosition}
 use Rattle.http_answer.proofs.answerer.Answerer.line_for.Goals as goal
 
 pub returns-in-Err-clause-told : goal.returns-in-Err-clause-told
