@@ -1,4 +1,4 @@
-use Rattle.std.proofs.Common.{◌≡◌, ◌∷◌, ◌++◌, [], take, ap, sym, ◌∙◌, subst}
+use Rattle.std.proofs.Common.{◌≡◌, ◌∷◌, ◌++◌, [], take, ap, sym, ◌∙◌, subst, arith}
 use Rattle.std.proofs.lemmas.List.{take_all, take_more}
 use Rattle.table_folder.specs.Settled.{IsSettled}
 use Rattle.table_folder.proofs.Only.{adds_more, adds_none}
@@ -49,3 +49,15 @@ returns-in-Err-clause-only g c = only_there _ _ c.settle_one.ensures.only
 
 pub returns-in_err-refusal-clause-only : goal.returns-in_err-refusal-clause-only
 returns-in_err-refusal-clause-only g c = only_there _ _ c.settle_one.ensures.only
+
+pub returns-in_err-legal-clause-only : goal.returns-in_err-legal-clause-only
+returns-in_err-legal-clause-only g c = only_there _ _ c.settle_one.ensures.only
+
+pub loop-m-init : goal.loop-m-init
+loop-m-init g c = (record {
+  opened = c.settle_one.ensures.opened;
+  kept = c.settle_one.ensures.kept;
+  only = only_there _ _ c.settle_one.ensures.only;
+  own = rw c.in_default.is at c.in_ok-refusal.ensures.settled;
+  after = λ m p among plays. absurd (omega (arith, among.1));
+}, c.settle_one.ensures.cache)
