@@ -163,10 +163,14 @@ TellsText disk folder text l = IsApiLineFor text (TellsPosition disk folder) l
 abbrev pub IsPlayedOn : DiskFacts → Folder → Parts → Option ApiMove → Type 0
 IsPlayedOn disk folder p best = AnswersBy disk folder (IsWithMoves p) (λ tables. IsBestMove tables p best)
 
--- a line of best play, which has at most 200 plies; none where neither side wins
+-- how many plies a line has at most
+unfoldable pub most_plies : ℕ
+most_plies = 200
+
+-- a line of best play; none where neither side wins
 abbrev pub IsLineOfPlay : DiskFacts → Folder → Option Side → Parts → List ApiMove → Type 0
 IsLineOfPlay disk folder None p plies = plies ≡ []
-IsLineOfPlay disk folder (Some winner) p plies = IsMainline (IsPlayedOn disk folder) 200 p plies
+IsLineOfPlay disk folder (Some winner) p plies = IsMainline (IsPlayedOn disk folder) most_plies p plies
 
 -- a file is refused that the position needs, or one that so many plies of the line come to
 unfoldable pub IsRefusedInLine : DiskFacts → Folder → ℕ → Parts → FileRefusal → Type 0
@@ -187,7 +191,7 @@ IsMainlineOf disk folder p (line.Mainline t plies) =
 -- The line of best play from a position; or the refusal of the file of a table that is needed.
 pub data TellsMainline (disk : DiskFacts) (folder : Folder) (p : Parts) (l : ApiLine) : Type 0 where
   OfPlay : IsMainlineOf disk folder p l → TellsMainline disk folder p l
-  OfRefusal : (refusal : FileRefusal) → IsRefusedInLine disk folder 200 p refusal → RefusesFile refusal l → TellsMainline disk folder p l
+  OfRefusal : (refusal : FileRefusal) → IsRefusedInLine disk folder most_plies p refusal → RefusesFile refusal l → TellsMainline disk folder p l
 
 -- ---- texts
 

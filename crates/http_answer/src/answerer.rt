@@ -4,7 +4,7 @@ ghost use Rattle.std.specs.Prelude.{◌≡◌, ◌≤◌, ◌++◌, ◌∷◌, [
 ghost use Rattle.http_server.specs.Response.{IsBlank};
 ghost use Rattle.http_answer.specs.Inside.{AddsObject, AreObjects, IsOnePly, asked_for};
 ghost use Rattle.http_answer.specs.Queries.{asked_lines};
-ghost use Rattle.http_answer.specs.Replies.{HasLine, HasLines, IsLineOfPlay, IsPlayedOn, IsRefusedInLine, IsReplyTo, RefusesFile, TellsMainline, TellsEach, TellsPosition, TellsText};
+ghost use Rattle.http_answer.specs.Replies.{HasLine, HasLines, IsLineOfPlay, IsPlayedOn, IsRefusedInLine, IsReplyTo, RefusesFile, TellsMainline, TellsEach, TellsPosition, TellsText, most_plies};
 ghost use Rattle.json_lines.specs.ApiTold.{IsApiLineFor, IsApiPosition, IsMainline};
 ghost use Rattle.json_lines.specs.declared.api_told.ApiLine.{ApiLine};
 ghost use Rattle.table_folder.specs.Settled.{AnswersBy, IsRefusedFor, IsWithMoves};
@@ -189,8 +189,8 @@ impl<'r, D: Disk> Answerer<'r, D> {
         &mut self,
         start: &Position,
     ) -> Result<Result<Vec<ApiMove>, FileRefusal>, AllocError>
-        ensures told { IfOk result (λ told. IfOk told (λ plies. IsMainline (IsPlayedOn (D.facts self.old.disk) self.old.folder) 200 start.now plies.items)) }
-        ensures refused { IfOk result (λ told. IfErr told (IsRefusedInLine (D.facts self.old.disk) self.old.folder 200 start.now)) }
+        ensures told { IfOk result (λ told. IfOk told (λ plies. IsMainline (IsPlayedOn (D.facts self.old.disk) self.old.folder) most_plies start.now plies.items)) }
+        ensures refused { IfOk result (λ told. IfErr told (IsRefusedInLine (D.facts self.old.disk) self.old.folder most_plies start.now)) }
         ensures same { self.new ≡ self.old }
     {
         let mut plies = Vec::new(self.alloc);
@@ -212,7 +212,7 @@ impl<'r, D: Disk> Answerer<'r, D> {
         start: &Position,
     ) -> Result<Result<Vec<ApiMove>, FileRefusal>, AllocError>
         ensures told { IfOk result (λ told. IfOk told (λ plies. IsLineOfPlay (D.facts self.old.disk) self.old.folder winner start.now plies.items)) }
-        ensures refused { IfOk result (λ told. IfErr told (IsRefusedInLine (D.facts self.old.disk) self.old.folder 200 start.now)) }
+        ensures refused { IfOk result (λ told. IfErr told (IsRefusedInLine (D.facts self.old.disk) self.old.folder most_plies start.now)) }
         ensures same { self.new ≡ self.old }
     {
         match winner {

@@ -56,7 +56,7 @@ fn text_in(alloc: Global, query: Option<&str>) -> Result<Option<Vec<u8>>, AllocE
 
 /// The values of the position of this text.
 fn values_of(text: Option<Vec<u8>>) -> Topic
-    ensures { asked_for result ≡ values_of (option_map (λ v. v.items) text.entry) }
+    ensures { asked_for result ≡ values_of (option_map (λ v. v.items) text) }
 {
     match text {
         None => Topic::NoText,
@@ -66,7 +66,7 @@ fn values_of(text: Option<Vec<u8>>) -> Topic
 
 /// A line of best play from the position of this text.
 fn mainline_of(text: Option<Vec<u8>>) -> Topic
-    ensures { asked_for result ≡ mainline_of (option_map (λ v. v.items) text.entry) }
+    ensures { asked_for result ≡ mainline_of (option_map (λ v. v.items) text) }
 {
     match text {
         None => Topic::NoText,

@@ -77,7 +77,7 @@ fn methods_at(place: Place) -> HeaderValue
     ensures { result.bytes ≡ methods_at place }
 {
     match place {
-        Place::Page => HeaderValue::from_static("GET, HEAD, OPTIONS"),
+        Place::Page | Place::Mainline => HeaderValue::from_static("GET, HEAD, OPTIONS"),
         Place::Standard => HeaderValue::from_static("GET, HEAD, POST, OPTIONS"),
     }
 }

@@ -15,7 +15,7 @@ use Rattle.json_lines.specs.declared.api_told.ApiLine.{ApiLine}
 use Rattle.json_lines.specs.declared.api_told.ApiLine.TheVariants as line
 use Rattle.json_lines.specs.declared.api_told.ApiMove.{ApiMove}
 use Rattle.json_lines.specs.declared.api_told.ApiPosition.{ApiPosition}
-use Rattle.json_lines.specs.Api.{api_json, api_move_members, api_position_members, list_members, mainline_members, position_members, precise_or_null, side_or_null}
+use Rattle.json_lines.specs.Api.{api_json, api_move_members, api_position_members, list_members, mainline_members, values_members, precise_or_null, side_or_null}
 use Rattle.json_lines.specs.ApiTold.{winner_of}
 use Rattle.json_lines.specs.Inside.Members.{Writes}
 use Rattle.json_lines.specs.Objects.{first_probe_fault, json_text}
@@ -31,7 +31,7 @@ flat_side None = refl
 flat_side (Some White) = refl
 flat_side (Some Black) = refl
 
-flat_position : (p : Parts) (probed : ProbeResult) (verdict : Option Verdict) (precise : Bool) → members_depth (position_members p probed verdict precise) ≡ 0
+flat_position : (p : Parts) (probed : ProbeResult) (verdict : Option Verdict) (precise : Bool) → members_depth (values_members p probed verdict precise) ≡ 0
 flat_position p probed verdict precise =
     let w = flat_number probed.wdl in
     let d = flat_number probed.dtz in

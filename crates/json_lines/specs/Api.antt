@@ -41,14 +41,14 @@ standing_and state p probed precise others =
     (member (codes "insufficient_material") (boolean (has_insufficient_material p))
     (member (codes "wdl") (number_or_null probed.wdl) others)))))))))
 
-abbrev pub position_members : Parts → ProbeResult → Option Verdict → Bool → Members
-position_members p probed verdict precise =
+abbrev pub values_members : Parts → ProbeResult → Option Verdict → Bool → Members
+values_members p probed verdict precise =
     followed_by
     (standing_and (state_of p) p probed precise (member (codes "verdict") (verdict_or_null verdict) no_members))
     (error_members probed)
 
 abbrev pub api_position_members : ApiPosition → Members
-api_position_members t = position_members t.told.position t.told.columns.probed t.told.columns.verdict t.precise
+api_position_members t = values_members t.told.position t.told.columns.probed t.told.columns.verdict t.precise
 
 -- how the position after a legal move stands, from the view of its side to move, and why a value of it is missing
 abbrev pub api_standing_members : ApiMove → Members

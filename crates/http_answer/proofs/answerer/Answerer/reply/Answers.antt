@@ -10,4 +10,4 @@ returns-in-Values-clause-replied g c =
 
 pub returns-in-Mainline-clause-replied : goal.returns-in-Mainline-clause-replied
 returns-in-Mainline-clause-replied g c =
-    rw c.in-Mainline.is (subst (λ (text : List ℕ). OnOk c.tell_mainline.result (IsReplyTo (g.D.Disk.facts c.args.self.now.disk) c.args.self.now.folder (Mainline text) c.tell_mainline.new.response)) c.deref-2.ensures.value c.tell_mainline.ensures.told)
+    rw c.in-Mainline.is (subst (λ (text : List ℕ). OnOk c.tell_mainline.result (IsReplyTo (g.D.Disk.facts c.args.self.now.disk) c.args.self.now.folder (Mainline text) c.tell_mainline.new.response)) c.deref-in-Mainline.ensures.value c.tell_mainline.ensures.told)
