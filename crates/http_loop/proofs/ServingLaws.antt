@@ -174,7 +174,7 @@ module _ {R W : Type 0} (remaining : R → Option (List ℕ)) (contents : W → 
       let old = history peer.connection in
       let updates = Updates-with_value peers key peer' (rw is refl) in
       let own = All-append (Contains (calls ++ more)) old.calls more (more_among old.calls was.2.among)
-          (All-imp (Contains more) (Contains (calls ++ more)) more (Contains-append_right calls more) (All-contains_itself more)) in
+      (All-imp (Contains more) (Contains (calls ++ more)) more (Contains-append_right calls more) (All-contains_itself more)) in
       let now : IsPeerOf remaining contents config (calls ++ more) was.0 peer' = record {
         limits = limits ∙ was.2.limits;
         received = subst (Consumes was.0.gives (remaining peer'.reader)) (sym read.2)
@@ -204,12 +204,12 @@ module _ {R W S : Type 0} (remaining : R → Option (List ℕ)) (contents : W �
       → ServesOn remaining contents answers a b config known₁ peers₁ known₂ peers₂ → ServesOn remaining contents answers b c config known₂ peers₂ known₃ peers₃
       → ServesOn remaining contents answers a c config known₁ peers₁ known₃ peers₃
   on_then a b c known₁ known₂ known₃ peers₁ peers₂ peers₃ x y = (
-      x.0 ++ y.0,
-      Chain-append answers x.0 y.0 a b c x.1 y.1,
-      λ calls before h.
-          subst (λ (cs : List Call). IsServing remaining contents config cs before known₃ peers₃) (append_assoc calls x.0 y.0)
-          (y.2 (calls ++ x.0) before (x.2 calls before h)),
-    )
+    x.0 ++ y.0,
+    Chain-append answers x.0 y.0 a b c x.1 y.1,
+    λ calls before h.
+        subst (λ (cs : List Call). IsServing remaining contents config cs before known₃ peers₃) (append_assoc calls x.0 y.0)
+        (y.2 (calls ++ x.0) before (x.2 calls before h)),
+  )
 
 -- where no peer is left, no stream is open
 pub none_open : {R W : Type 0} (remaining : R → Option (List ℕ)) (contents : W → Option (List ℕ)) (config : Config) (calls : List Call) (before : List Closed)
@@ -223,11 +223,11 @@ pub none_to_serve : {R W : Type 0} (remaining : R → Option (List ℕ)) (conten
     (known : Option Streams) (peers : Slab (Peer R W)) → peers.slots ≡ [] → HasNoOpen known → IsServing remaining contents config calls (closed_of known) known peers
 none_to_serve remaining contents config calls None peers empty none = tt
 none_to_serve remaining contents config calls (Some known) peers empty none = record {
-    opened = λ key. is_none remaining contents config calls (known.opened key) (get peers key) (none key) (ap (λ slots. get_or slots key None) empty);
-    since = [];
-    closed = sym (append-nil known.closed);
-    served = All-nil (λ (c : Closed). IsServedOver config calls c.came c.left);
-  }
+  opened = λ key. is_none remaining contents config calls (known.opened key) (get peers key) (none key) (ap (λ slots. get_or slots key None) empty);
+  since = [];
+  closed = sym (append-nil known.closed);
+  served = All-nil (λ (c : Closed). IsServedOver config calls c.came c.left);
+}
 
 -- one more was closed of those up to this key
 pub closed_up_to : {R W : Type 0} (old new : Slab (Peer R W)) (key end : ℕ) → Updates old new key None → ((at : ℕ) → (at < key) ⊎ (end ≤ at) → get old at ≡ None)
@@ -235,5 +235,5 @@ pub closed_up_to : {R W : Type 0} (old new : Slab (Peer R W)) (key end : ℕ) �
 closed_up_to old new key end updates before at near =
     elim (cases_eq at key) [
       | inl same ↦ ap (get new) same ∙ updates.changed
-      | inr differs ↦ updates.others at differs ∙ before at (elim near [ | inl low ↦ inl (omega (arith, differs)) | inr high ↦ inr high ])
+      | inr differs ↦ updates.others at differs ∙ before at (elim near [ inl low ↦ inl (omega (arith, differs)) | inr high ↦ inr high ])
     ]

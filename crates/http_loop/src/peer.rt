@@ -120,7 +120,12 @@ pub fn take_turn<S: Service, R: Read, W: Write>(
 
 impl<R: Read + Drop, W: Write + Drop> Peer<R, W> {
     /// A turn of its connection, at this time.
-    pub(crate) fn take_turn<S: Service>(&mut self, service: &mut S, most: usize, now: Instant) -> Fate
+    pub(crate) fn take_turn<S: Service>(
+        &mut self,
+        service: &mut S,
+        most: usize,
+        now: Instant,
+    ) -> Fate
         ensures read { (more : List ℕ)
             × Consumes (R.remaining self.old.reader) (R.remaining self.new.reader) more
             × ((history self.new.connection).received ≡ (history self.old.connection).received ++ more) }
@@ -131,7 +136,13 @@ impl<R: Read + Drop, W: Write + Drop> Peer<R, W> {
             (history self.old.connection).calls (history self.new.connection).calls }
         ensures config { config_of self.new.connection ≡ config_of self.old.connection }
     {
-        let fate = take_turn(&mut self.connection, service, &mut self.reader, &mut self.writer, most);
+        let fate = take_turn(
+            &mut self.connection,
+            service,
+            &mut self.reader,
+            &mut self.writer,
+            most,
+        );
         if fate == Fate::Answered {
             self.since = now;
         }

@@ -15,10 +15,9 @@ use http_server::{Config, Connection, Service};
 use slab::Slab;
 use std::alloc::Global;
 use std::hash::RandomState;
-use std::io;
 use std::io::{Read, Write};
-use std::mem;
 use std::time::{Clock, Duration, Instant};
+use std::{io, mem};
 
 /// How many calls of the system a connection has in a turn, at most.
 const TURN: usize = 32;
@@ -313,7 +312,7 @@ impl<'r, C: Clock, L: Listener + Drop> Server<'r, C, L> {
     pub fn round<S: Service>(&mut self, service: &mut S) -> io::Result<()>
         ensures served { (more : List Call) × Chain S.answers service.old more service.new
             × ((calls : List Call) (before : List Closed) → HasServed L.streams L.Reader.remaining L.Writer.contents calls before self.old
-                → HasServed L.streams L.Reader.remaining L.Writer.contents (calls ++ more) before self.new) }
+            → HasServed L.streams L.Reader.remaining L.Writer.contents (calls ++ more) before self.new) }
     {
         self.wait()?;
         self.sweep();

@@ -8,9 +8,13 @@ use Rattle.http_loop.proofs.server.take_turn_of.Goals as goal
 pub returns-in-Some : goal.returns-in-Some
 returns-in-Some g c =
     let turn = c.take_turn.ensures in
-    λ config. (turn.calls.0, turn.calls.2, λ calls before h.
-        after_turn _ _ config calls turn.calls.0 before _ _ c.args.key c.in-Some.peer.now c.take_turn.new.self
-        (sym c.get_mut.ensures.value ∙ ap option_copied_mut c.in-Some.is) turn.config turn.read turn.written turn.calls.1 h)
+    λ config. (
+      turn.calls.0,
+      turn.calls.2,
+      λ calls before h.
+          after_turn _ _ config calls turn.calls.0 before _ _ c.args.key c.in-Some.peer.now c.take_turn.new.self
+          (sym c.get_mut.ensures.value ∙ ap option_copied_mut c.in-Some.is) turn.config turn.read turn.written turn.calls.1 h,
+    )
 
 pub returns-in-None : goal.returns-in-None
 returns-in-None g c = λ config. ([], refl, λ calls before h. after_calls _ _ config calls [] before _ _ h)
