@@ -1,7 +1,7 @@
 //! Connections over streams in memory.
 
 use crate::tests::comparing::{check_bytes, push_bytes};
-use bytes::Bytes;
+use bytes::{BufMut, Bytes};
 use http::Request;
 use http_loop::{Coming, Limits, MemoryListener, Server};
 use http_server::{Config, Response, Service};
@@ -24,7 +24,7 @@ impl Service for Echo {
         response: &mut Response,
     ) -> Result<(), AllocError> {
         let path = request.uri().path();
-        response.body.extend_from_slice(path.as_bytes())
+        response.body.put_slice(path.as_bytes())
     }
 }
 
@@ -86,6 +86,7 @@ fn each_stream_gets_its_own_answers(rt: HostRuntime) {
         &rt,
         got.as_slice(),
         b"HTTP/1.1 400 Bad Request\r\nconnection: close\r\ncontent-length: 0\r\n\r\n|HTTP/1.1 200 OK\r\ncontent-length: 4\r\nconnection: close\r\n\r\n/two|HTTP/1.1 200 OK\r\ncontent-length: 4\r\n\r\n/oneHTTP/1.1 200 OK\r\ncontent-length: 5\r\n\r\n/more|",
+        "three streams",
     );
 }
 
@@ -97,5 +98,6 @@ fn one_stream_more_is_closed_at_once(rt: HostRuntime) {
         &rt,
         got.as_slice(),
         b"||HTTP/1.1 200 OK\r\ncontent-length: 4\r\n\r\n/one|",
+        "three streams, one at a time",
     );
 }
