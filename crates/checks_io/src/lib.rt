@@ -5,6 +5,7 @@
 //!
 //! - `calls_tests`, `file_keeper_tests`: files in memory that fail and lose power
 //! - `kept_tests`: the system's files
+//! - `loop_tests`: connections over streams in memory
 //! - `mode_tests`: files with their modes, in memory and of the system
 //! - `port_tests`: the system's sockets, over the loopback
 //! - `sealed_tests`: sealed ports and files of keys

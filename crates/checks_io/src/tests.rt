@@ -4,6 +4,7 @@ mod calls_tests;
 mod comparing;
 mod file_keeper_tests;
 mod kept_tests;
+mod loop_tests;
 mod mode_tests;
 mod no_stores;
 mod output_tests;

@@ -6,7 +6,6 @@ ghost use Rattle.http_server.specs.Connection.{config_of, history};
 ghost use Rattle.http_server.specs.Exchange.{Calls};
 
 use http_server::{Connection, Service};
-use mio::net::TcpStream;
 use std::io;
 use std::io::{ErrorKind, Read, Write};
 use std::time::Instant;
@@ -24,15 +23,28 @@ pub enum Fate {
     Ends,
 }
 
-/// A connection with its socket.
+/// A connection with the two ends of its stream.
 #[derive(Drop)]
-pub struct Peer {
-    /// Its socket.
-    pub stream: TcpStream,
+pub struct Peer<R: Drop, W: Drop> {
+    /// From which it reads.
+    pub reader: R,
+    /// To which it writes.
+    pub writer: W,
     /// Its bytes and its calls.
     pub connection: Connection,
     /// When its last answer had gone out, or it came.
     pub since: Instant,
+}
+
+impl<R: Drop, W: Drop> Peer<R, W> {
+    /// The ends of its stream.
+    pub(crate) fn into_ends(self) -> (R, W)
+        ensures reader { result.0 ≡ self.reader }
+        ensures writer { result.1 ≡ self.writer }
+    {
+        let Peer { reader, writer, .. } = self;
+        (reader, writer)
+    }
 }
 
 /// What a call that failed means.
@@ -104,4 +116,36 @@ pub fn take_turn<S: Service, R: Read, W: Write>(
         }
     }
     Fate::GoesOn
+}
+
+impl<R: Read + Drop, W: Write + Drop> Peer<R, W> {
+    /// A turn of its connection, at this time.
+    pub(crate) fn take_turn<S: Service>(
+        &mut self,
+        service: &mut S,
+        most: usize,
+        now: Instant,
+    ) -> Fate
+        ensures read { (more : List ℕ)
+            × Consumes (R.remaining self.old.reader) (R.remaining self.new.reader) more
+            × ((history self.new.connection).received ≡ (history self.old.connection).received ++ more) }
+        ensures written { (more : List ℕ)
+            × Appends (W.contents self.old.writer) (W.contents self.new.writer) more
+            × ((history self.new.connection).sent ≡ (history self.old.connection).sent ++ more) }
+        ensures calls { Calls S.answers service.old service.new
+            (history self.old.connection).calls (history self.new.connection).calls }
+        ensures config { config_of self.new.connection ≡ config_of self.old.connection }
+    {
+        let fate = take_turn(
+            &mut self.connection,
+            service,
+            &mut self.reader,
+            &mut self.writer,
+            most,
+        );
+        if fate == Fate::Answered {
+            self.since = now;
+        }
+        fate
+    }
 }

@@ -1,22 +1,29 @@
-//! The sockets of one address.
+//! The connections of one listener.
 
-use crate::peer::{Fate, Peer, take_turn};
+ghost use Rattle.std.specs.Prelude.{◌≡◌, ℕ, List, [], ◌++◌, IfOk, None};
+ghost use Rattle.slab.specs.Slab.{Updates, get};
+ghost use Rattle.http_server.specs.Connection.{config_of, history};
+ghost use Rattle.http_server.specs.History.{new_history};
+ghost use Rattle.http_server.specs.Exchange.{Call, Chain};
+ghost use Rattle.http_loop.specs.Servers.{HasServed, ServesStill, listener_of};
+ghost use Rattle.http_loop.specs.Serving.{ServesOn, StillServes};
+ghost use Rattle.http_loop.specs.Streams.{Closed, HasNoOpen, closed_of};
+
+use crate::listener::Listener;
+use crate::peer::{Fate, Peer};
 use http_server::{Config, Connection, Service};
-use mio::net::TcpListener;
-use mio::{Events, Interest, Poll, Token};
 use slab::Slab;
 use std::alloc::Global;
 use std::hash::RandomState;
-use std::io;
-use std::io::ErrorKind;
-use std::net::{Net, SocketAddr};
+use std::io::{Read, Write};
 use std::time::{Clock, Duration, Instant};
-
-/// The token of the listener.
-const LISTENER: Token = Token(usize::MAX);
+use std::{io, mem};
 
 /// How many calls of the system a connection has in a turn, at most.
 const TURN: usize = 32;
+
+/// How many connections come in a round, at most.
+const COMING: usize = 64;
 
 /// Limits of a server.
 #[derive(Clone, Copy)]
@@ -31,17 +38,24 @@ pub struct Limits {
     pub sweep: Duration,
 }
 
-/// The connections at one address.
+/// What each connection begins with.
+#[derive(Clone, Copy)]
+struct Beginning {
+    alloc: Global,
+    keys: RandomState,
+    limits: Limits,
+    now: Instant,
+}
+
+/// The connections of one listener.
 #[derive(Drop)]
-pub struct Server<'r, C: Clock> {
+pub struct Server<'r, C: Clock, L: Listener + Drop> {
     clock: &'r C,
     alloc: Global,
     keys: RandomState,
     limits: Limits,
-    poll: Poll,
-    events: Events,
-    listener: TcpListener,
-    peers: Slab<Peer>,
+    listener: L,
+    peers: Slab<Peer<L::Reader, L::Writer>>,
     ready: Vec<usize>,
     now: Instant,
     swept: Instant,
@@ -55,27 +69,193 @@ fn has_passed(since: Instant, now: Instant, limit: Duration) -> bool {
     }
 }
 
-impl<'r, C: Clock + Net> Server<'r, C> {
-    /// A server that listens at this address.
-    pub fn bind(
-        rt: &'r C,
+/// Closes the connection under a key, if there is one, with its stream.
+fn close_one<L: Listener>(
+    listener: &mut L,
+    peers: &mut Slab<Peer<L::Reader, L::Writer>>,
+    key: usize,
+)
+    ensures served { (config : Config) → StillServes L.Reader.remaining L.Writer.contents config (L.streams listener.old) peers.old (L.streams listener.new) peers.new }
+    ensures gone { Updates peers.old peers.new key None }
+    ensures capacity { peers.new.capacity ≡ peers.old.capacity }
+{
+    if let Some(peer) = peers.try_remove(key) {
+        let (reader, writer) = peer.into_ends();
+        listener.close(key, reader, writer);
+    }
+}
+
+/// A peer that has just come.
+fn new_peer<R: Read + Drop, W: Write + Drop>(
+    beginning: Beginning,
+    reader: R,
+    writer: W,
+) -> Peer<R, W>
+    ensures reader { result.reader ≡ reader }
+    ensures writer { result.writer ≡ writer }
+    ensures config { config_of result.connection ≡ beginning.limits.config }
+    ensures fresh { history result.connection ≡ new_history }
+{
+    Peer {
+        reader,
+        writer,
+        connection: Connection::new(beginning.alloc, beginning.keys, beginning.limits.config),
+        since: beginning.now,
+    }
+}
+
+/// Accepts one stream that has come, for a connection of its own. One more than there may be is closed.
+fn accept_one<L: Listener>(
+    beginning: Beginning,
+    listener: &mut L,
+    peers: &mut Slab<Peer<L::Reader, L::Writer>>,
+) -> io::Result<()>
+    ensures { StillServes L.Reader.remaining L.Writer.contents beginning.limits.config (L.streams listener.old) peers.old (L.streams listener.new) peers.new }
+{
+    peers.reserve(1)?;
+    let key = peers.vacant_key();
+    let (reader, writer) = listener.accept(key)?;
+    peers.insert_reserved(new_peer(beginning, reader, writer));
+    if peers.len() > beginning.limits.connections {
+        close_one(listener, peers, key);
+    }
+    Ok(())
+}
+
+/// Accepts streams that have come, at most 64. One that can't be accepted now, as where descriptors are missing, is tried again in the
+/// next round.
+fn accept_all<L: Listener>(
+    beginning: Beginning,
+    listener: &mut L,
+    peers: &mut Slab<Peer<L::Reader, L::Writer>>,
+)
+    ensures { StillServes L.Reader.remaining L.Writer.contents beginning.limits.config (L.streams listener.old) peers.old (L.streams listener.new) peers.new }
+{
+    for _ in 0..COMING {
+        if accept_one(beginning, listener, peers).is_err() {
+            return;
+        }
+    }
+}
+
+/// A connection has its turn in the next round, or is closed where memory for that is refused.
+fn note_ready<L: Listener>(
+    listener: &mut L,
+    peers: &mut Slab<Peer<L::Reader, L::Writer>>,
+    ready: &mut Vec<usize>,
+    key: usize,
+)
+    ensures { (config : Config) → StillServes L.Reader.remaining L.Writer.contents config (L.streams listener.old) peers.old (L.streams listener.new) peers.new }
+{
+    if ready.push(key).is_err() {
+        close_one(listener, peers, key);
+    }
+}
+
+/// One turn of the connection under a key, if there is one.
+fn take_turn_of<L: Listener, S: Service>(
+    listener: &L,
+    peers: &mut Slab<Peer<L::Reader, L::Writer>>,
+    service: &mut S,
+    key: usize,
+    now: Instant,
+) -> Fate
+    ensures { (config : Config) → ServesOn L.Reader.remaining L.Writer.contents S.answers service.old service.new config
+        (L.streams listener.now) peers.old (L.streams listener.now) peers.new }
+{
+    match peers.get_mut(key) {
+        Some(peer) => peer.take_turn(service, TURN, now),
+        None => Fate::Waits,
+    }
+}
+
+/// One turn of a connection. One that ends is closed.
+fn give_turn<L: Listener, S: Service>(
+    listener: &mut L,
+    peers: &mut Slab<Peer<L::Reader, L::Writer>>,
+    ready: &mut Vec<usize>,
+    service: &mut S,
+    key: usize,
+    now: Instant,
+)
+    ensures { (config : Config) → ServesOn L.Reader.remaining L.Writer.contents S.answers service.old service.new config
+        (L.streams listener.old) peers.old (L.streams listener.new) peers.new }
+{
+    match take_turn_of(listener, peers, service, key, now) {
+        Fate::Waits => {}
+        Fate::GoesOn | Fate::Answered => note_ready(listener, peers, ready, key),
+        Fate::Ends => close_one(listener, peers, key),
+    }
+}
+
+/// Closes the connections whose last answer went out too long ago.
+fn close_late<L: Listener>(
+    listener: &mut L,
+    peers: &mut Slab<Peer<L::Reader, L::Writer>>,
+    now: Instant,
+    exchange: Duration,
+)
+    ensures { (config : Config) → StillServes L.Reader.remaining L.Writer.contents config (L.streams listener.old) peers.old (L.streams listener.new) peers.new }
+{
+    for key in 0..peers.capacity() {
+        let is_late = match peers.get(key) {
+            Some(peer) => has_passed(peer.since, now, exchange),
+            None => false,
+        };
+        if is_late {
+            close_one(listener, peers, key);
+        }
+    }
+}
+
+/// Gives each connection that is ready a turn.
+fn give_turns<L: Listener, S: Service>(
+    alloc: Global,
+    listener: &mut L,
+    peers: &mut Slab<Peer<L::Reader, L::Writer>>,
+    ready: &mut Vec<usize>,
+    service: &mut S,
+    now: Instant,
+)
+    ensures { (config : Config) → ServesOn L.Reader.remaining L.Writer.contents S.answers service.old service.new config
+        (L.streams listener.old) peers.old (L.streams listener.new) peers.new }
+{
+    let mut keys = Vec::new(alloc);
+    mem::swap(&mut keys, ready);
+    for key in keys {
+        give_turn(listener, peers, ready, service, key, now);
+    }
+}
+
+/// Closes all connections.
+fn close_each<L: Listener>(listener: &mut L, peers: &mut Slab<Peer<L::Reader, L::Writer>>)
+    ensures served { (config : Config) → StillServes L.Reader.remaining L.Writer.contents config (L.streams listener.old) peers.old (L.streams listener.new) peers.new }
+    ensures gone { (key : ℕ) → get peers.new key ≡ None }
+{
+    for key in 0..peers.capacity() {
+        close_one(listener, peers, key);
+    }
+}
+
+impl<'r, C: Clock, L: Listener + Drop> Server<'r, C, L> {
+    /// A server over a listener, none of whose streams is open. The error comes where there is no clock.
+    pub fn new(
+        clock: &'r C,
         alloc: Global,
         keys: RandomState,
         limits: Limits,
-        address: SocketAddr,
-    ) -> io::Result<Server<'r, C>> {
-        let poll = Poll::new(rt)?;
-        let mut listener = TcpListener::bind(rt, address)?;
-        poll.registry()
-            .register(&mut listener, LISTENER, Interest::READABLE)?;
-        let now = Instant::now(rt)?;
+        listener: L,
+    ) -> io::Result<Server<'r, C, L>>
+        ensures served { IfOk result (λ server. HasNoOpen (L.streams listener)
+            → HasServed L.streams L.Reader.remaining L.Writer.contents [] (closed_of (L.streams listener)) server) }
+        ensures listener { IfOk result (λ server. listener_of server ≡ listener) }
+    {
+        let now = Instant::now(clock)?;
         Ok(Server {
-            clock: rt,
+            clock,
             alloc,
             keys,
             limits,
-            poll,
-            events: Events::with_capacity(alloc, 256)?,
             listener,
             peers: Slab::new(alloc),
             ready: Vec::new(alloc),
@@ -84,136 +264,75 @@ impl<'r, C: Clock + Net> Server<'r, C> {
         })
     }
 
-    /// The address at which it listens.
-    pub fn address(&self) -> io::Result<SocketAddr> {
-        self.listener.local_addr()
+    /// The listener.
+    pub fn listener(&self) -> &L
+        ensures { result.now ≡ listener_of self.entry.now }
+    {
+        &self.listener
     }
 
-    /// Takes one connection that waits.
-    fn accept_one(&mut self) -> io::Result<()> {
-        let (mut stream, _) = self.listener.accept()?;
-        if self.peers.len() >= self.limits.connections {
-            return Ok(());
-        }
-        let _set = stream.set_nodelay(true).is_ok();
-        let key = self.peers.vacant_key();
-        self.poll.registry().register(
-            &mut stream,
-            Token(key),
-            Interest::READABLE | Interest::WRITABLE,
-        )?;
-        let peer = Peer {
-            stream,
-            connection: Connection::new(self.alloc, self.keys, self.limits.config),
-            since: self.now,
-        };
-        match self.peers.insert(peer) {
-            Ok(_) => Ok(()),
-            Err(_) => Err(ErrorKind::OutOfMemory.into()),
+    /// Closes the connections whose last answer went out too long ago, where it is time for that.
+    fn sweep(&mut self)
+        ensures { ServesStill L.streams L.Reader.remaining L.Writer.contents self.old self.new }
+    {
+        if has_passed(self.swept, self.now, self.limits.sweep) {
+            self.swept = self.now;
+            close_late(
+                &mut self.listener,
+                &mut self.peers,
+                self.now,
+                self.limits.exchange,
+            );
         }
     }
 
-    /// Takes connections that wait, at most 64 in a round. What can't be taken now, as where descriptors are missing, is tried again in
-    /// the next one.
-    fn accept_all(&mut self) {
-        for _ in 0..64 {
-            if self.accept_one().is_err() {
-                return;
-            }
-        }
-    }
-
-    /// A connection has its turn in this round, or is closed where memory for that is refused.
-    fn note_ready(&mut self, key: usize) {
-        if self.ready.push(key).is_err() {
-            let _closed = self.peers.try_remove(key);
-        }
-    }
-
-    /// One turn of a connection. One that ends is closed.
-    fn give_turn<S: Service>(&mut self, key: usize, service: &mut S) {
-        let Some(peer) = self.peers.get_mut(key) else {
-            return;
-        };
-        let mut reader = &peer.stream;
-        let mut writer = &peer.stream;
-        match take_turn(
-            &mut peer.connection,
-            service,
-            &mut reader,
-            &mut writer,
-            TURN,
-        ) {
-            Fate::Waits => {}
-            Fate::GoesOn => self.note_ready(key),
-            Fate::Answered => {
-                peer.since = self.now;
-                self.note_ready(key);
-            }
-            Fate::Ends => {
-                let _closed = self.peers.try_remove(key);
-            }
-        }
-    }
-
-    /// Waits for sockets that are ready; not at all where some connection may go on at once.
-    fn wait(&mut self) -> io::Result<()> {
-        let wait = if self.ready.is_empty() {
+    /// Waits, and accepts the streams that have come.
+    fn wait(&mut self) -> io::Result<()>
+        ensures { ServesStill L.streams L.Reader.remaining L.Writer.contents self.old self.new }
+    {
+        let time = if self.ready.is_empty() {
             self.limits.sweep
         } else {
             Duration::ZERO
         };
-        match self.poll.poll(&mut self.events, Some(wait)) {
-            Ok(()) => Ok(()),
-            Err(error) if error.kind() == ErrorKind::Interrupted => Ok(()),
-            Err(error) => Err(error),
-        }
-    }
-
-    /// The connections that are ready.
-    fn note_events(&mut self) -> io::Result<()> {
-        let mut keys = Vec::new(self.alloc);
-        for event in &self.events {
-            if event.token() != LISTENER {
-                keys.push(event.token().0)?;
-            }
-        }
-        for key in keys {
-            self.note_ready(key);
-        }
-        Ok(())
-    }
-
-    /// Closes the connections whose last answer went out too long ago.
-    fn sweep(&mut self) {
-        if !has_passed(self.swept, self.now, self.limits.sweep) {
-            return;
-        }
-        self.swept = self.now;
-        for key in 0..self.peers.capacity() {
-            let is_late = match self.peers.get(key) {
-                Some(peer) => has_passed(peer.since, self.now, self.limits.exchange),
-                None => false,
-            };
-            if is_late {
-                let _closed = self.peers.try_remove(key);
-            }
-        }
-    }
-
-    /// Waits until a connection comes or is ready, or for as long as `sweep` of the limits says; gives a turn to each that is ready, and
-    /// closes those that took too long. The error comes where the system can't wait, or memory is refused.
-    pub fn round<S: Service>(&mut self, service: &mut S) -> io::Result<()> {
-        self.wait()?;
+        self.listener.wait(&mut self.ready, time)?;
         self.now = Instant::now(self.clock)?;
-        self.note_events()?;
-        self.accept_all();
-        self.sweep();
-        let mut ready = Vec::new(self.alloc);
-        std::mem::swap(&mut ready, &mut self.ready);
-        for key in ready {
-            self.give_turn(key, service);
-        }
+        let beginning = Beginning {
+            alloc: self.alloc,
+            keys: self.keys,
+            limits: self.limits,
+            now: self.now,
+        };
+        accept_all(beginning, &mut self.listener, &mut self.peers);
         Ok(())
+    }
+
+    /// Waits until a stream comes or is ready, or for as long as `sweep` of the limits says; gives a turn to each connection that is ready,
+    /// and closes those that took too long. The error comes where the system can't wait, or memory is refused.
+    pub fn round<S: Service>(&mut self, service: &mut S) -> io::Result<()>
+        ensures served { (more : List Call) × Chain S.answers service.old more service.new
+            × ((calls : List Call) (before : List Closed) → HasServed L.streams L.Reader.remaining L.Writer.contents calls before self.old
+            → HasServed L.streams L.Reader.remaining L.Writer.contents (calls ++ more) before self.new) }
+    {
+        self.wait()?;
+        self.sweep();
+        give_turns(
+            self.alloc,
+            &mut self.listener,
+            &mut self.peers,
+            &mut self.ready,
+            service,
+            self.now,
+        );
+        Ok(())
+    }
+
+    /// Closes all connections.
+    pub fn close(&mut self)
+        ensures served { ServesStill L.streams L.Reader.remaining L.Writer.contents self.old self.new }
+        ensures closed { (calls : List Call) (before : List Closed) → HasServed L.streams L.Reader.remaining L.Writer.contents calls before self.old
+            → HasNoOpen (L.streams (listener_of self.new)) }
+    {
+        close_each(&mut self.listener, &mut self.peers);
     }
 }

@@ -6,7 +6,9 @@
 //! Inside: `counting` (how many requests were answered), `serving`.
 #![tactic(auto)]
 
+mod answering;
 mod counting;
 mod serving;
 
+pub use answering::answer_requests;
 pub use serving::SystemPages;

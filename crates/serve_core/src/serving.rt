@@ -8,11 +8,11 @@ ghost use Rattle.adjudicate_core.specs.Lines.{refused_manifest};
 ghost use Rattle.adjudicate_core.specs.Telling.{TellsOne, TellsWholeText};
 ghost use Rattle.task_files.specs.Outside.{IsToldAt};
 
-use crate::counting::Counted;
+use crate::answering::answer_requests;
 use adjudicate_core::{Pages, Serve};
 use bumpalo::Bump;
 use http_answer::Answerer;
-use http_loop::{Limits, Server};
+use http_loop::{Limits, Server, Sockets};
 use http_server::Config;
 use line_teller::LineWords;
 use move_msg::Manifest;
@@ -75,12 +75,24 @@ fn refuse_manifest<W: Output>(out: &mut W, line: usize) -> Result<u8, WriteFault
     put_refusal(out, words)
 }
 
-/// A server that listens at the first address of a host name and a port that can be bound.
-fn bound<'r, R: Clock + Net + RandomSource>(
+/// The sockets of the first address of a host name and a port that can be bound.
+fn bound<R: Net>(rt: &R, alloc: Global, address: &str) -> io::Result<Sockets> {
+    let mut refused = io::Error::from(io::ErrorKind::AddrNotAvailable);
+    for at in address.to_socket_addrs(rt)? {
+        match Sockets::bind(rt, alloc, at) {
+            Ok(sockets) => return Ok(sockets),
+            Err(error) => refused = error,
+        }
+    }
+    Err(refused)
+}
+
+/// A server at the first address of a host name and a port that can be bound.
+fn server_at<'r, R: Clock + Net + RandomSource>(
     rt: &'r R,
     alloc: Global,
     address: &str,
-) -> io::Result<Server<'r, R>> {
+) -> io::Result<Server<'r, R, Sockets>> {
     // A peer names the fields of a request, so their maps take secret keys.
     let keys = RandomState::new(rt)?;
     let limits = Limits {
@@ -93,14 +105,8 @@ fn bound<'r, R: Clock + Net + RandomSource>(
         exchange: Duration::from_secs(10),
         sweep: Duration::from_secs(1),
     };
-    let mut refused = io::Error::from(io::ErrorKind::AddrNotAvailable);
-    for at in address.to_socket_addrs(rt)? {
-        match Server::bind(rt, alloc, keys, limits, at) {
-            Ok(server) => return Ok(server),
-            Err(error) => refused = error,
-        }
-    }
-    Err(refused)
+    let sockets = bound(rt, alloc, address)?;
+    Server::new(rt, alloc, keys, limits, sockets)
 }
 
 /// The line that tells an address.
@@ -124,29 +130,10 @@ fn put_out<W: Output>(out: &mut W, text: &str) -> Result<u8, WriteFault>
     }
 }
 
-/// Answers so many requests. The error comes where the system can't wait, or memory is refused.
-fn answer_all<R: Clock + Net + RandomSource, D: Disk>(
-    server: &mut Server<'_, R>,
-    answerer: Answerer<'_, D>,
-    requests: u64,
-) -> io::Result<()> {
-    let mut counted = Counted {
-        service: answerer,
-        answered: 0,
-    };
-    for _ in 0..u64::MAX {
-        if requests <= counted.answered {
-            return Ok(());
-        }
-        server.round(&mut counted)?;
-    }
-    Ok(())
-}
-
 /// Tells the address at which a server listens, and answers requests.
 fn serve_at<R: Clock + Net + RandomSource, D: Disk, W: Output>(
     alloc: Global,
-    server: &mut Server<'_, R>,
+    server: &mut Server<'_, R, Sockets>,
     answerer: Answerer<'_, D>,
     requests: u64,
     out: &mut W,
@@ -154,7 +141,7 @@ fn serve_at<R: Clock + Net + RandomSource, D: Disk, W: Output>(
     ensures told { ServesFolder (W.contents out.old) (W.contents out.new) result }
     ensures cause { OnErr result (HasFailed W.facts) }
 {
-    let Ok(own) = server.address() else {
+    let Ok(own) = server.listener().address() else {
         return refuse(out, "refused port");
     };
     let Ok(text) = ready_text(alloc, own) else {
@@ -164,7 +151,7 @@ fn serve_at<R: Clock + Net + RandomSource, D: Disk, W: Output>(
         Ok(status) => status,
         Err(fault) => return Err(fault),
     };
-    match answer_all(server, answerer, requests) {
+    match answer_requests(server, answerer, requests) {
         Ok(()) => Ok(status),
         Err(_) => refuse(out, "refused port"),
     }
@@ -184,7 +171,7 @@ fn serve_folder<R: Clock + Net + RandomSource, D: Disk, W: Output>(
     let Ok(answerer) = Answerer::over(alloc, folder, BLOCKS) else {
         return refuse(out, "refused memory");
     };
-    match bound(rt, alloc, task.bind) {
+    match server_at(rt, alloc, task.bind) {
         Ok(mut server) => serve_at(alloc, &mut server, answerer, task.requests, out),
         Err(_) => refuse(out, "refused port"),
     }

@@ -1,0 +1,239 @@
+-- What each step of a server keeps.
+use Rattle.std.proofs.Common.{◌≡◌, ◌⊎◌, ℕ, ◌+◌, ◌<◌, ◌≤◌, List, [], ◌∷◌, ◌++◌, Option, Some, None, All, Contains, refl, sym, ap, subst, ◌∙◌, inl, inr, append_assoc, append-nil, get_or, arith}
+use Rattle.std.proofs.lemmas.Bool.{cases_eq}
+use Rattle.std.proofs.lemmas.List.Elements.{All-nil, All-cons, All-append, Contains-append_left, Contains-append_right, All-contains_itself}
+use Rattle.std.specs.Io.KnownBytes.{Appends, Consumes}
+use Rattle.slab.specs.Slab.{Slab, get, with_value, Updates}
+use Rattle.slab.proofs.SlabLemmas.{Updates-with_value}
+use Rattle.http.specs.declared.request.Request.{Request}
+use Rattle.http_server.specs.declared.response.Response.{Response}
+use Rattle.http_server.specs.Connection.{config_of, history}
+use Rattle.http_server.specs.Exchange.{Call}
+use Rattle.http_server.specs.History.{History, IsServed, new_history}
+use Rattle.http_server.specs.declared.state.Config.{Config}
+use Rattle.http_server.proofs.KnownLemmas.{Appends-then, Consumes-then}
+use Rattle.http_server.proofs.StreamLemmas.{Chain-append}
+use Rattle.http_server.proofs.Theorems.{always_served}
+use Rattle.http_loop.specs.declared.peer.Peer.{Peer}
+use Rattle.http_loop.specs.Streams.{Closed, Closes, HasNoOpen, Opens, Stays, Stream, Streams, closed_of, stream_of}
+use Rattle.http_loop.specs.Serving.{AllServed, AreServed, IsPeerOf, IsServedOver, IsServing, Serves, ServesOn}
+
+Consumes-none : (u : Option (List ℕ)) → Consumes u u []
+Consumes-none None = tt
+Consumes-none (Some xs) = refl
+
+Appends-none : (u : Option (List ℕ)) → Appends u u []
+Appends-none None = tt
+Appends-none (Some xs) = sym (append-nil xs)
+
+pub All-imp : {X : Type 0} (P Q : X → Type 0) (xs : List X) → ((x : X) → P x → Q x) → All P xs → All Q xs
+All-imp P Q xs f all = λ k d within. f _ (all k d within)
+
+module _ {R W : Type 0} (remaining : R → Option (List ℕ)) (contents : W → Option (List ℕ)) (config : Config) (calls : List Call) where
+  -- where a peer is, its stream has come
+  has_stream : (a : Option Stream) (b : Option (Peer R W)) (peer : Peer R W) → b ≡ Some peer → Serves remaining contents config calls a b
+      → (came : Stream) × (a ≡ Some came) × IsPeerOf remaining contents config calls came peer
+  has_stream a None peer is s = absurd (cc)
+  has_stream None (Some p) peer is s = absurd s
+  has_stream (Some came) (Some p) peer is s =
+      let same : p ≡ peer = cc in
+      (came, refl, subst (λ (q : Peer R W). IsPeerOf remaining contents config calls came q) same s)
+
+  has_none : (a : Option Stream) (b : Option (Peer R W)) → b ≡ None → Serves remaining contents config calls a b → a ≡ None
+  has_none None b none s = refl
+  has_none (Some came) None none s = absurd s
+  has_none (Some came) (Some p) none s = absurd (cc)
+
+  is_none : (a : Option Stream) (b : Option (Peer R W)) → a ≡ None → b ≡ None → Serves remaining contents config calls a b
+  is_none a b none none' = rw (none, none') tt
+
+  is_same : (a a' : Option Stream) (b b' : Option (Peer R W)) → a' ≡ a → b' ≡ b → Serves remaining contents config calls a b → Serves remaining contents config calls a' b'
+  is_same a a' b b' is is' s = rw (is, is') s
+
+  pub peer_is_served : (came : Stream) (peer : Peer R W) → IsPeerOf remaining contents config calls came peer
+      → IsServedOver config calls came (stream_of remaining contents peer.reader peer.writer)
+  peer_is_served came peer h = record {
+    history = history peer.connection;
+    served = subst (λ (c : Config). ∥ IsServed c (history peer.connection) ∥₁) h.limits (always_served peer.connection);
+    received = h.received;
+    sent = h.sent;
+    among = h.among;
+  }
+
+  -- a peer and its stream have gone
+  pub after_close : (before : List Closed) (known known' : Option Streams) (peers peers' : Slab (Peer R W)) (key : ℕ) (peer : Peer R W)
+      → get peers key ≡ Some peer → Updates peers peers' key None → Closes known known' key (stream_of remaining contents peer.reader peer.writer)
+      → IsServing remaining contents config calls before known peers → IsServing remaining contents config calls before known' peers'
+  after_close before known None peers peers' key peer is updates closes h = tt
+  after_close before None (Some new) peers peers' key peer is updates closes h = absurd closes
+  after_close before (Some old) (Some new) peers peers' key peer is updates closes h =
+      let was = has_stream (old.opened key) (get peers key) peer is (h.opened key) in
+      let goes = closes was.0 was.1 in
+      let gone : Closed = record { came = was.0; left = stream_of remaining contents peer.reader peer.writer } in
+      let P = λ (c : Closed). IsServedOver config calls c.came c.left in
+      record {
+        opened = λ other.
+            elim (cases_eq other key) [
+              | inl same ↦ is_none _ _ (ap new.opened same ∙ goes.here) (ap (get peers') same ∙ updates.changed)
+              | inr differs ↦ is_same _ _ _ _ (goes.others other differs) (updates.others other differs) (h.opened other)
+            ];
+        since = h.since ++ gone ∷ [];
+        closed = goes.closed ∙ ap (λ (t : List Closed). t ++ gone ∷ []) h.closed ∙ append_assoc before h.since (gone ∷ []);
+        served = All-append P h.since (gone ∷ []) h.served (All-cons P gone [] (peer_is_served was.0 peer was.2) (All-nil P));
+      }
+
+  -- a stream has come, and has its peer
+  pub after_accept : (before : List Closed) (known known' : Option Streams) (peers peers' : Slab (Peer R W)) (key : ℕ) (came : Stream) (peer : Peer R W)
+      → get peers key ≡ None → Updates peers peers' key (Some peer) → Opens known known' key came → IsPeerOf remaining contents config calls came peer
+      → IsServing remaining contents config calls before known peers → IsServing remaining contents config calls before known' peers'
+  after_accept before known None peers peers' key came peer vacant updates opens one h = tt
+  after_accept before None (Some new) peers peers' key came peer vacant updates opens one h = absurd opens
+  after_accept before (Some old) (Some new) peers peers' key came peer vacant updates opens one h =
+      let opens' = opens (has_none (old.opened key) (get peers key) vacant (h.opened key)) in
+      record {
+        opened = λ other.
+            elim (cases_eq other key) [
+              | inl same ↦ is_same (Some came) _ (Some peer) _ (ap new.opened same ∙ opens'.here) (ap (get peers') same ∙ updates.changed) one
+              | inr differs ↦ is_same _ _ _ _ (opens'.others other differs) (updates.others other differs) (h.opened other)
+            ];
+        since = h.since;
+        closed = opens'.closed ∙ h.closed;
+        served = h.served;
+      }
+
+  -- nothing has come or gone
+  pub after_nothing : (before : List Closed) (known known' : Option Streams) (peers : Slab (Peer R W)) → Stays known known'
+      → IsServing remaining contents config calls before known peers → IsServing remaining contents config calls before known' peers
+  after_nothing before known None peers stays h = tt
+  after_nothing before None (Some new) peers stays h = absurd stays
+  after_nothing before (Some old) (Some new) peers stays h =
+      record {
+        opened = λ key. is_same _ _ _ _ (stays.opened key) refl (h.opened key);
+        since = h.since;
+        closed = stays.closed ∙ h.closed;
+        served = h.served;
+      }
+
+  -- room was made for peers
+  pub after_reserve : (before : List Closed) (known : Option Streams) (peers peers' : Slab (Peer R W)) → peers'.slots ≡ peers.slots
+      → IsServing remaining contents config calls before known peers → IsServing remaining contents config calls before known peers'
+  after_reserve before None peers peers' same h = tt
+  after_reserve before (Some known) peers peers' same h =
+      record {
+        opened = λ key. is_same _ _ _ _ refl (ap (λ (slots : List (Option (Peer R W))). get_or slots key None) same) (h.opened key);
+        since = h.since;
+        closed = h.closed;
+        served = h.served;
+      }
+
+  -- a connection that was made for the stream
+  pub new_is_peer : (peer : Peer R W) → config_of peer.connection ≡ config → history peer.connection ≡ new_history
+      → IsPeerOf remaining contents config calls (stream_of remaining contents peer.reader peer.writer) peer
+  new_is_peer peer limits fresh = record {
+    limits = limits;
+    received = subst (Consumes (remaining peer.reader) (remaining peer.reader)) (sym (ap (λ (h : History). h.received) fresh)) (Consumes-none (remaining peer.reader));
+    sent = subst (Appends (contents peer.writer) (contents peer.writer)) (sym (ap (λ (h : History). h.sent) fresh)) (Appends-none (contents peer.writer));
+    among = subst (All (Contains calls)) (sym (ap (λ (h : History). h.calls) fresh)) (All-nil (Contains calls));
+  }
+
+module _ {R W : Type 0} (remaining : R → Option (List ℕ)) (contents : W → Option (List ℕ)) (config : Config) (calls more : List Call) where
+  more_among : (own : List Call) → All (Contains calls) own → All (Contains (calls ++ more)) own
+  more_among own = All-imp (Contains calls) (Contains (calls ++ more)) own (Contains-append_left calls more)
+
+  more_served : (since : List Closed) → AreServed config calls since → AreServed config (calls ++ more) since
+  more_served since = All-imp (λ c. IsServedOver config calls c.came c.left) (λ c. IsServedOver config (calls ++ more) c.came c.left) since
+      (λ c h. record { history = h.history; served = h.served; received = h.received; sent = h.sent; among = more_among h.history.calls h.among })
+
+  more_serves : (a : Option Stream) (b : Option (Peer R W)) → Serves remaining contents config calls a b → Serves remaining contents config (calls ++ more) a b
+  more_serves None None s = tt
+  more_serves None (Some p) s = absurd s
+  more_serves (Some came) None s = absurd s
+  more_serves (Some came) (Some p) s = record { limits = s.limits; received = s.received; sent = s.sent; among = more_among (history p.connection).calls s.among }
+
+  -- calls were made for others
+  pub after_calls : (before : List Closed) (known : Option Streams) (peers : Slab (Peer R W))
+      → IsServing remaining contents config calls before known peers → IsServing remaining contents config (calls ++ more) before known peers
+  after_calls before None peers h = tt
+  after_calls before (Some known) peers h = record {
+    opened = λ key. more_serves _ _ (h.opened key);
+    since = h.since;
+    closed = h.closed;
+    served = more_served h.since h.served;
+  }
+
+  -- a peer had a turn, in which these calls were made
+  pub after_turn : (before : List Closed) (known : Option Streams) (peers : Slab (Peer R W)) (key : ℕ) (peer peer' : Peer R W) → get peers key ≡ Some peer
+      → config_of peer'.connection ≡ config_of peer.connection
+      → (came : List ℕ) × Consumes (remaining peer.reader) (remaining peer'.reader) came × ((history peer'.connection).received ≡ (history peer.connection).received ++ came)
+      → (went : List ℕ) × Appends (contents peer.writer) (contents peer'.writer) went × ((history peer'.connection).sent ≡ (history peer.connection).sent ++ went)
+      → (history peer'.connection).calls ≡ (history peer.connection).calls ++ more
+      → IsServing remaining contents config calls before known peers → IsServing remaining contents config (calls ++ more) before known (with_value peers key peer')
+  after_turn before None peers key peer peer' is limits read written called h = tt
+  after_turn before (Some known) peers key peer peer' is limits read written called h =
+      let was = has_stream remaining contents config calls (known.opened key) (get peers key) peer is (h.opened key) in
+      let old = history peer.connection in
+      let updates = Updates-with_value peers key peer' (rw is refl) in
+      let own = All-append (Contains (calls ++ more)) old.calls more (more_among old.calls was.2.among)
+      (All-imp (Contains more) (Contains (calls ++ more)) more (Contains-append_right calls more) (All-contains_itself more)) in
+      let now : IsPeerOf remaining contents config (calls ++ more) was.0 peer' = record {
+        limits = limits ∙ was.2.limits;
+        received = subst (Consumes was.0.gives (remaining peer'.reader)) (sym read.2)
+            (Consumes-then was.0.gives (remaining peer.reader) (remaining peer'.reader) old.received read.0 was.2.received read.1);
+        sent = subst (Appends was.0.got (contents peer'.writer)) (sym written.2)
+            (Appends-then was.0.got (contents peer.writer) (contents peer'.writer) old.sent written.0 was.2.sent written.1);
+        among = subst (All (Contains (calls ++ more))) (sym called) own;
+      } in
+      record {
+        opened = λ other.
+            elim (cases_eq other key) [
+              | inl same ↦ is_same remaining contents config (calls ++ more) (Some was.0) _ (Some peer') _ (ap known.opened same ∙ was.1) (ap (get (with_value peers key peer')) same ∙ updates.changed) now
+              | inr differs ↦ more_serves _ _ (is_same remaining contents config calls _ _ _ _ refl (updates.others other differs) (h.opened other))
+            ];
+        since = h.since;
+        closed = h.closed;
+        served = more_served h.since h.served;
+      }
+
+module _ {R W S : Type 0} (remaining : R → Option (List ℕ)) (contents : W → Option (List ℕ)) (answers : S → Request (List ℕ) → Response → S → Type 0) (config : Config) where
+  -- the service wasn't called
+  pub on_nothing : (s : S) (known : Option Streams) (peers : Slab (Peer R W)) → ServesOn remaining contents answers s s config known peers known peers
+  on_nothing s known peers = ([], refl, λ calls before h. after_calls remaining contents config calls [] before known peers h)
+
+  -- one step after another
+  pub on_then : (a b c : S) (known₁ known₂ known₃ : Option Streams) (peers₁ peers₂ peers₃ : Slab (Peer R W))
+      → ServesOn remaining contents answers a b config known₁ peers₁ known₂ peers₂ → ServesOn remaining contents answers b c config known₂ peers₂ known₃ peers₃
+      → ServesOn remaining contents answers a c config known₁ peers₁ known₃ peers₃
+  on_then a b c known₁ known₂ known₃ peers₁ peers₂ peers₃ x y = (
+    x.0 ++ y.0,
+    Chain-append answers x.0 y.0 a b c x.1 y.1,
+    λ calls before h.
+        subst (λ (cs : List Call). IsServing remaining contents config cs before known₃ peers₃) (append_assoc calls x.0 y.0)
+        (y.2 (calls ++ x.0) before (x.2 calls before h)),
+  )
+
+-- where no peer is left, no stream is open
+pub none_open : {R W : Type 0} (remaining : R → Option (List ℕ)) (contents : W → Option (List ℕ)) (config : Config) (calls : List Call) (before : List Closed)
+    (known : Option Streams) (peers : Slab (Peer R W)) → ((key : ℕ) → get peers key ≡ None) → IsServing remaining contents config calls before known peers → HasNoOpen known
+none_open remaining contents config calls before None peers gone h = tt
+none_open remaining contents config calls before (Some known) peers gone h = λ key.
+    has_none remaining contents config calls (known.opened key) (get peers key) (gone key) (h.opened key)
+
+-- where no stream is open, none has to be served
+pub none_to_serve : {R W : Type 0} (remaining : R → Option (List ℕ)) (contents : W → Option (List ℕ)) (config : Config) (calls : List Call)
+    (known : Option Streams) (peers : Slab (Peer R W)) → peers.slots ≡ [] → HasNoOpen known → IsServing remaining contents config calls (closed_of known) known peers
+none_to_serve remaining contents config calls None peers empty none = tt
+none_to_serve remaining contents config calls (Some known) peers empty none = record {
+  opened = λ key. is_none remaining contents config calls (known.opened key) (get peers key) (none key) (ap (λ slots. get_or slots key None) empty);
+  since = [];
+  closed = sym (append-nil known.closed);
+  served = All-nil (λ (c : Closed). IsServedOver config calls c.came c.left);
+}
+
+-- one more was closed of those up to this key
+pub closed_up_to : {R W : Type 0} (old new : Slab (Peer R W)) (key end : ℕ) → Updates old new key None → ((at : ℕ) → (at < key) ⊎ (end ≤ at) → get old at ≡ None)
+    → (at : ℕ) → (at < key + 1) ⊎ (end ≤ at) → get new at ≡ None
+closed_up_to old new key end updates before at near =
+    elim (cases_eq at key) [
+      | inl same ↦ ap (get new) same ∙ updates.changed
+      | inr differs ↦ updates.others at differs ∙ before at (elim near [ inl low ↦ inl (omega (arith, differs)) | inr high ↦ inr high ])
+    ]

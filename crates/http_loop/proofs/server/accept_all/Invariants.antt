@@ -1,0 +1,6 @@
+use Rattle.http_loop.specs.Serving.{StillServes}
+use Rattle.http_loop.proofs.server.accept_all.Given as goal
+
+abbrev pub invariant-loop : goal.invariant-loop
+invariant-loop g l = StillServes g.L.Reader.Read.remaining g.L.Writer.Write.contents l.fn.beginning.limits.config
+    (g.L.Listener.streams l.fn.listener) l.fn.peers (g.L.Listener.streams l.listener) l.peers

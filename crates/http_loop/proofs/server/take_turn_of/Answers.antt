@@ -1,0 +1,20 @@
+use Rattle.std.proofs.Common.{[], sym, ap, refl, subst, List, ◌++◌, ◌∙◌, append-nil}
+use Rattle.std.specs.Option.{option_copied_mut}
+use Rattle.http_server.specs.Exchange.{Call}
+use Rattle.http_loop.specs.Serving.{IsServing}
+use Rattle.http_loop.proofs.ServingLaws.{after_calls, after_turn}
+use Rattle.http_loop.proofs.server.take_turn_of.Goals as goal
+
+pub returns-in-Some : goal.returns-in-Some
+returns-in-Some g c =
+    let turn = c.take_turn.ensures in
+    λ config. (
+      turn.calls.0,
+      turn.calls.2,
+      λ calls before h.
+          after_turn _ _ config calls turn.calls.0 before _ _ c.args.key c.in-Some.peer.now c.take_turn.new.self
+          (sym c.get_mut.ensures.value ∙ ap option_copied_mut c.in-Some.is) turn.config turn.read turn.written turn.calls.1 h,
+    )
+
+pub returns-in-None : goal.returns-in-None
+returns-in-None g c = λ config. ([], refl, λ calls before h. after_calls _ _ config calls [] before _ _ h)

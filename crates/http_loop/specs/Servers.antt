@@ -1,0 +1,24 @@
+-- What a clause reads of a server.
+use Rattle.std.specs.Prelude.{ℕ, List, Option}
+use Rattle.http_server.specs.Exchange.{Call}
+use Rattle.http_server.specs.declared.state.Config.{Config}
+use Rattle.http_loop.specs.declared.server.Server.{Server}
+use Rattle.http_loop.specs.Serving.{IsServing}
+use Rattle.http_loop.specs.Streams.{Closed, Streams}
+
+module _ {C L R W : Type 0} where
+  abbrev pub listener_of : Server C L R W → L
+  listener_of server = server.listener
+
+  -- the limits of each connection
+  abbrev pub config_of : Server C L R W → Config
+  config_of server = server.limits.config
+
+  module _ (streams : L → Option Streams) (remaining : R → Option (List ℕ)) (contents : W → Option (List ℕ)) where
+    -- All streams of the listener that are open, or were closed since these, have been served with these calls.
+    abbrev pub HasServed : List Call → List Closed → Server C L R W → Type 0
+    HasServed calls before server = IsServing remaining contents server.limits.config calls before (streams server.listener) server.peers
+
+    -- if so it was, so it is
+    abbrev pub ServesStill : Server C L R W → Server C L R W → Type 0
+    ServesStill old new = (calls : List Call) (before : List Closed) → HasServed calls before old → HasServed calls before new

@@ -1,0 +1,123 @@
+//! The system's sockets.
+
+use crate::listener::Listener;
+use mio::net::{TcpListener, TcpStream};
+use mio::{Events, Interest, Poll, Token};
+use std::alloc::Global;
+use std::io;
+use std::io::{ErrorKind, Read, Write};
+use std::net::{Net, SocketAddr};
+use std::rc::Rc;
+use std::time::Duration;
+
+/// The token of the listener.
+const LISTENER: Token = Token(usize::MAX);
+
+/// The end of a socket from which is read.
+#[derive(Drop)]
+pub struct Incoming {
+    socket: Rc<TcpStream>,
+}
+
+impl Read for Incoming {
+    fn read(&mut self, buf: &mut [u8]) -> io::Result<usize> {
+        let mut socket: &TcpStream = &self.socket;
+        socket.read(buf)
+    }
+}
+
+/// The end of a socket to which is written.
+#[derive(Drop)]
+pub struct Outgoing {
+    socket: Rc<TcpStream>,
+}
+
+impl Write for Outgoing {
+    fn write(&mut self, buf: &[u8]) -> io::Result<usize> {
+        let mut socket: &TcpStream = &self.socket;
+        socket.write(buf)
+    }
+
+    fn flush(&mut self) -> io::Result<()> {
+        Ok(())
+    }
+}
+
+/// An address of the system at which connections of TCP come.
+#[derive(Drop)]
+pub struct Sockets {
+    alloc: Global,
+    poll: Poll,
+    events: Events,
+    listener: TcpListener,
+}
+
+impl Sockets {
+    /// Listens at this address.
+    pub fn bind<N: Net>(net: &N, alloc: Global, address: SocketAddr) -> io::Result<Sockets> {
+        let poll = Poll::new(net)?;
+        let mut listener = TcpListener::bind(net, address)?;
+        poll.registry()
+            .register(&mut listener, LISTENER, Interest::READABLE)?;
+        Ok(Sockets {
+            alloc,
+            poll,
+            events: Events::with_capacity(alloc, 256)?,
+            listener,
+        })
+    }
+
+    /// The address at which it listens.
+    pub fn address(&self) -> io::Result<SocketAddr> {
+        self.listener.local_addr()
+    }
+
+    /// A stream that has come, which is told of under this key.
+    fn accept_stream(&mut self, key: usize) -> io::Result<TcpStream> {
+        let (mut stream, _) = self.listener.accept()?;
+        let _set = stream.set_nodelay(true).is_ok();
+        self.poll.registry().register(
+            &mut stream,
+            Token(key),
+            Interest::READABLE | Interest::WRITABLE,
+        )?;
+        Ok(stream)
+    }
+}
+
+impl Listener for Sockets {
+    ghost use Rattle.http_loop.specs.Premises.{system_streams};
+
+    type Reader = Incoming;
+
+    type Writer = Outgoing;
+
+    ghost streams = { λ _. system_streams };
+
+    fn wait(&mut self, ready: &mut Vec<usize>, time: Duration) -> io::Result<()> {
+        match self.poll.poll(&mut self.events, Some(time)) {
+            Ok(()) => {}
+            Err(error) if error.kind() == ErrorKind::Interrupted => {}
+            Err(error) => return Err(error),
+        }
+        for event in &self.events {
+            if event.token() != LISTENER {
+                ready.push(event.token().0)?;
+            }
+        }
+        Ok(())
+    }
+
+    fn accept(&mut self, key: usize) -> io::Result<(Incoming, Outgoing)> {
+        let stream = self.accept_stream(key)?;
+        let Ok(socket) = Rc::new(self.alloc, stream) else {
+            return Err(ErrorKind::OutOfMemory.into());
+        };
+        let outgoing = Outgoing {
+            socket: socket.clone()?,
+        };
+        Ok((Incoming { socket }, outgoing))
+    }
+
+    fn close(&mut self, _key: usize, _reader: Incoming, _writer: Outgoing) {}
+}

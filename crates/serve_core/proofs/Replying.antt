@@ -1,0 +1,71 @@
+-- Calls of a counted service, and the streams that they were made for.
+use Rattle.std.proofs.Common.{◌≡◌, ℕ, ◌<◌, List, [], ◌∷◌, ◌++◌, length, Option, Some, None, All, Contains, get_or, refl, sym, ap, subst, append_assoc, append-nil}
+use Rattle.slab.specs.Slab.{Slab}
+use Rattle.http.specs.declared.request.Request.{Request}
+use Rattle.http_server.specs.declared.response.Response.{Response}
+use Rattle.http_server.specs.Exchange.{Call, Chain}
+use Rattle.http_server.specs.declared.state.Config.{Config}
+use Rattle.http_server.proofs.StreamLemmas.{Chain-append}
+use Rattle.http_answer.specs.Replies.{IsReplied}
+use Rattle.http_loop.specs.declared.peer.Peer.{Peer}
+use Rattle.http_loop.specs.declared.server.Server.{Server}
+use Rattle.http_loop.specs.Servers.{HasServed}
+use Rattle.http_loop.specs.Serving.{IsServedOver, IsServing}
+use Rattle.http_loop.specs.Streams.{Closed, HasNoOpen, Streams}
+use Rattle.system_io.specs.Disks.{DiskFacts}
+use Rattle.table_folder.specs.Folders.{FolderOn}
+use Rattle.serve_core.specs.Counting.{counts}
+use Rattle.serve_core.specs.Streams.{HasReplied, IsRepliedOver}
+use Rattle.serve_core.specs.declared.counting.Counted.{Counted}
+
+-- the calls of a counted service are those of the service
+pub chain_counted : {S : Type 0} (answers : S → Request (List ℕ) → Response → S → Type 0) (calls : List Call) (old new : Counted S)
+    → Chain (counts answers) old calls new → Chain answers old.service calls new.service
+chain_counted {S} answers [] old new x = ap (λ (c : Counted S). c.service) x
+chain_counted {S} answers (c ∷ calls) old new x = (x.0.service, x.1, chain_counted answers calls x.0 new x.2)
+
+module _ {C L R W S : Type 0} (streams : L → Option Streams) (remaining : R → Option (List ℕ)) (contents : W → Option (List ℕ)) (answers : S → Request (List ℕ) → Response → S → Type 0) where
+  -- Rounds that led from one state of the service to the other, by these calls, still serve.
+  abbrev pub Rounds : S → S → Server C L R W → Server C L R W → Type 0
+  Rounds old new server server' =
+      (more : List Call) × Chain answers old more new
+      × ((calls : List Call) (before : List Closed) → HasServed streams remaining contents calls before server → HasServed streams remaining contents (calls ++ more) before server')
+
+  pub no_rounds : (s : S) (server : Server C L R W) → Rounds s s server server
+  no_rounds s server = ([], refl, λ calls before h. subst (λ (cs : List Call). HasServed streams remaining contents cs before server) (sym (append-nil calls)) h)
+
+  -- one round more, of a counted service
+  pub next_round : (old : S) (now new : Counted S) (server server₁ server₂ : Server C L R W) → Rounds old now.service server server₁
+      → (more : List Call) × Chain (counts answers) now more new
+        × ((calls : List Call) (before : List Closed) → HasServed streams remaining contents calls before server₁ → HasServed streams remaining contents (calls ++ more) before server₂)
+      → Rounds old new.service server server₂
+  next_round old now new server server₁ server₂ x y = (
+      x.0 ++ y.0,
+      Chain-append answers x.0 y.0 old now.service new.service x.1 (chain_counted answers y.0 now new y.1),
+      λ calls before h.
+          subst (λ (cs : List Call). HasServed streams remaining contents cs before server₂) (append_assoc calls x.0 y.0)
+          (y.2 (calls ++ x.0) before (x.2 calls before h)),
+    )
+
+among : {X : Type 0} (P : X → Type 0) (xs own : List X) → All P xs → All (Contains xs) own → All P own
+among P xs own all have = λ k d within. let at = have k d within in subst P at.2 (all at.0 (get_or own k d) at.1)
+
+-- where all calls are replied, so are those of each stream
+pub all_have_replies : {D R W : Type 0} (facts : D → DiskFacts) (on : FolderOn D) (remaining : R → Option (List ℕ)) (contents : W → Option (List ℕ)) (config : Config)
+    (calls : List Call) (before : List Closed) (known : Option Streams) (peers : Slab (Peer R W)) → All (IsReplied facts on) calls → HasNoOpen known
+    → IsServing remaining contents config calls before known peers → HasReplied facts on config before known
+all_have_replies facts on remaining contents config calls before None peers all none h = tt
+all_have_replies facts on remaining contents config calls before (Some known) peers all none h = (
+    none,
+    h.since,
+    h.closed,
+    λ k d within.
+        let one = h.served k d within in
+        record {
+          history = one.history;
+          served = one.served;
+          received = one.received;
+          sent = one.sent;
+          replied = among (IsReplied facts on) calls one.history.calls all one.among;
+        },
+  )

@@ -1,0 +1,53 @@
+//! Requests that are answered over the streams of a listener.
+
+ghost use Rattle.std.specs.Prelude.{List, [], ◌++◌};
+ghost use Rattle.http_server.specs.Exchange.{Call, Chain};
+ghost use Rattle.http_loop.specs.Servers.{HasServed, config_of, listener_of};
+ghost use Rattle.http_loop.specs.Streams.{Closed};
+ghost use Rattle.serve_core.specs.Streams.{HasReplied};
+
+use crate::counting::Counted;
+use http_answer::Answerer;
+use http_loop::{Listener, Server};
+use http_server::Service;
+use std::io;
+use std::time::Clock;
+use system_io::Disk;
+
+/// Has so many requests answered. The error comes where the listener can't wait, or memory is refused.
+fn answer_rounds<C: Clock, L: Listener + Drop, S: Service + Drop>(
+    server: &mut Server<'_, C, L>,
+    counted: &mut Counted<S>,
+    requests: u64,
+) -> io::Result<()>
+    ensures { (more : List Call) × Chain S.answers counted.old.service more counted.new.service
+        × ((calls : List Call) (before : List Closed) → HasServed L.streams L.Reader.remaining L.Writer.contents calls before server.old
+            → HasServed L.streams L.Reader.remaining L.Writer.contents (calls ++ more) before server.new) }
+{
+    for _ in 0..u64::MAX {
+        if requests <= counted.answered {
+            return Ok(());
+        }
+        server.round(counted)?;
+    }
+    Ok(())
+}
+
+/// Answers so many requests by the tables of a folder, over the streams of a listener, and then closes all of these. The error comes where
+/// the listener can't wait, or memory is refused.
+pub fn answer_requests<C: Clock, L: Listener + Drop, D: Disk>(
+    server: &mut Server<'_, C, L>,
+    answerer: Answerer<'_, D>,
+    requests: u64,
+) -> io::Result<()>
+    ensures replied { (before : List Closed) → HasServed L.streams L.Reader.remaining L.Writer.contents [] before server.old
+        → HasReplied D.facts answerer.entry (config_of server.new) before (L.streams (listener_of server.new)) }
+{
+    let mut counted = Counted {
+        service: answerer,
+        answered: 0,
+    };
+    let answered = answer_rounds(server, &mut counted, requests);
+    server.close();
+    answered
+}
