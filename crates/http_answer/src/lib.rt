@@ -18,10 +18,17 @@
 mod answerer;
 mod asking;
 mod filling;
+mod games;
 mod lines;
 mod page;
+mod plies;
 mod query;
+mod router;
+mod watch;
 
 pub use answerer::Answerer;
+pub use games::{GameFolders, Games};
 pub use page::PAGE;
 pub use query::asked_text;
+pub use router::Router;
+pub use watch::WATCH;
