@@ -17,7 +17,7 @@ pub record IsGameFound (disk : DiskFacts) (folder : List ℕ) (other : Option (L
   pub in_both : IsLook disk one two stamp both
 
 -- no folder lists the file of its stamp
-pub record LacksGame (disk : DiskFacts) (folder : List ℕ) (other : Option (List ℕ)) (stamp : List ℕ) : Type 0 where
+pub record ListsNoGame (disk : DiskFacts) (folder : List ℕ) (other : Option (List ℕ)) (stamp : List ℕ) : Type 0 where
   pub one : Listing
   pub two : Option Listing
   pub stamps : List (List ℕ)

@@ -3,7 +3,7 @@
 ghost use Rattle.std.specs.Prelude.{◌↔◌, IfNone, IfOk, IfSome, IsErrOf, IsTrue, None, option_map};
 ghost use Rattle.std.specs.List.{Contains};
 ghost use Rattle.game_status.specs.Listings.{CannotList, listing_of};
-ghost use Rattle.game_status.specs.OneGame.{IsGameFound, LacksGame};
+ghost use Rattle.game_status.specs.OneGame.{IsGameFound, ListsNoGame};
 ghost use Rattle.game_status.specs.Statuses.{IsLook};
 
 use crate::listing::{Folders, list_folders};
@@ -64,7 +64,7 @@ fn found_in<D: Disk>(
 
 /// What is found of the game with a stamp in a folder, and in a second one, if it is named; none where neither lists its file.
 /// `Unreadable` where a folder can't be listed.
-pub fn find_game<D: Disk>(
+pub fn look_at_game<D: Disk>(
     alloc: Global,
     disk: &D,
     folder: &str,
@@ -72,7 +72,7 @@ pub fn find_game<D: Disk>(
     stamp: Stamp,
 ) -> Result<Option<GameFound>, ReadFault>
     ensures some { IfOk result (λ found. IfSome found (λ g. IsGameFound (D.facts disk.now) folder.now (option_map (λ s. s.now) other.entry) stamp g.first g.both)) }
-    ensures none { IfOk result (λ found. IfNone found (LacksGame (D.facts disk.now) folder.now (option_map (λ s. s.now) other.entry) stamp)) }
+    ensures none { IfOk result (λ found. IfNone found (ListsNoGame (D.facts disk.now) folder.now (option_map (λ s. s.now) other.entry) stamp)) }
     ensures cause { IsErrOf result ReadFault.Unreadable → CannotList (D.facts disk.now) folder.now (option_map (λ s. s.now) other.entry) }
 {
     let folders = match list_folders(alloc, disk, folder, other) {

@@ -1,3 +1,5 @@
 pub mod LineLaws
+pub mod PlyLaws
 pub mod Replied
+pub mod SeenLaws
 pub mod Telling

@@ -34,7 +34,7 @@ use Rattle.game_status.specs.declared.status_lines.Look.TheVariants as look
 use Rattle.game_status.specs.declared.stored_disk.LackedFolder.{LackedFolder}
 use Rattle.game_status.specs.declared.stored_disk.LackedFolder.TheVariants as lacked
 use Rattle.game_status.specs.Listings.{CannotList}
-use Rattle.game_status.specs.OneGame.{IsGameFound, LacksGame}
+use Rattle.game_status.specs.OneGame.{IsGameFound, ListsNoGame}
 use Rattle.game_status.specs.Reports.{IsStatusReport, form_of}
 use Rattle.game_status.specs.StatusObjects.{count_or_null, first_members, json_text, members_if, second_members, text_or_null}
 use Rattle.game_status.specs.StoredDisks.{IsSoOverStore, IsSoOverStores, LacksFolder}
@@ -43,7 +43,6 @@ use Rattle.table_folder.specs.Folders.{Folder, FolderOn}
 use Rattle.table_folder.specs.Settled.{AnswersBy, IsRefusedAt}
 use Rattle.http_answer.specs.Replies.{IsReply, RefusesFile, allowed, fields, json_fields, page_methods}
 use Rattle.http_answer.specs.declared.games.GameFolders.{GameFolders}
-use Rattle.http_answer.specs.declared.router.Router.{Router}
 use Rattle.http_answer.specs.declared.watch.TheConstants.{WATCH}
 
 -- ---- folders of games
@@ -79,7 +78,7 @@ abbrev pub IsFoundGame : {D H S : Type 0} → (D → DiskFacts) → (H → Store
 IsFoundGame facts stores on stamp g = IsSeen facts stores on (λ d. IsGameFound d on.games on.other stamp g.first g.both)
 
 abbrev pub HasNoGame : {D H S : Type 0} → (D → DiskFacts) → (H → StorePlaces S) → GamesOn D H → List ℕ → Type 0
-HasNoGame facts stores on stamp = IsSeen facts stores on (λ d. LacksGame d on.games on.other stamp)
+HasNoGame facts stores on stamp = IsSeen facts stores on (λ d. ListsNoGame d on.games on.other stamp)
 
 -- ---- the plies of a game
 
@@ -267,9 +266,3 @@ pub data IsServed {D H S : Type 0} (facts : D → DiskFacts) (stores : H → Sto
   OfTables : ((a : AskedOfGames) → AsksOfThese games (path_of request) a → ⊥) → IsReply facts tables request r → IsServed facts stores tables games request r
   OfGames : (on : GamesOn D H) → games ≡ Some on → (a : AskedOfGames) → AsksOfGames (path_of request) a
       → IsByMethod (head_of request).method (TellsOfGames facts stores tables on a) r → IsServed facts stores tables games request r
-
--- what a router does, by its folders, which stay the same
-pub record Routes {D H S : Type 0} (facts : D → DiskFacts) (stores : H → StorePlaces S) (old : Router D H) (request : Request (List ℕ)) (r : Response) (new : Router D H) : Type 0 where
-  pub served : IsServed facts stores old.answerer old.games request r
-  pub tables : new.answerer ≡ old.answerer
-  pub games : new.games ≡ old.games

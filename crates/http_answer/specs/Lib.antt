@@ -1,4 +1,5 @@
 pub mod Queries
 pub mod Replies
 pub mod Games
+pub mod Routing
 pub mod Inside

@@ -2,13 +2,13 @@
 
 ghost use Rattle.std.specs.Prelude.{◌≡◌, IfErr, IfNone, IfOk, IfSome, is_some, option_map, true};
 ghost use Rattle.game_status.specs.Listings.{CannotList};
-ghost use Rattle.game_status.specs.OneGame.{IsGameFound, LacksGame};
+ghost use Rattle.game_status.specs.OneGame.{IsGameFound, ListsNoGame};
 ghost use Rattle.game_status.specs.Reports.{IsStatusReport, form_of};
 ghost use Rattle.http_answer.specs.Games.{HasNoGame, IsFoundGame, IsReportText, LacksGames, games_on};
 ghost use Rattle.http_answer.specs.Inside.{IsCopy};
 
 use game_status::{
-    GameFound, LackedFolder, ReportForm, find_game, over_store, status_report,
+    GameFound, LackedFolder, ReportForm, look_at_game, over_store, status_report,
 };
 use move_msg::Stamp;
 use std::alloc::{AllocError, Global};
@@ -68,10 +68,10 @@ fn game_on<D: Disk>(
     stamp: Stamp,
 ) -> Result<Result<Option<GameFound>, LackedFolder>, AllocError>
     ensures some { IfOk result (λ r. IfOk r (λ found. IfSome found (λ g. IsGameFound (D.facts disk.now) games.now (option_map (λ s. s.now) other.entry) stamp g.first g.both))) }
-    ensures none { IfOk result (λ r. IfOk r (λ found. IfNone found (LacksGame (D.facts disk.now) games.now (option_map (λ s. s.now) other.entry) stamp))) }
+    ensures none { IfOk result (λ r. IfOk r (λ found. IfNone found (ListsNoGame (D.facts disk.now) games.now (option_map (λ s. s.now) other.entry) stamp))) }
     ensures lacked { IfOk result (λ r. IfErr r (λ lacked. (lacked ≡ LackedFolder.Files) × CannotList (D.facts disk.now) games.now (option_map (λ s. s.now) other.entry))) }
 {
-    match find_game(alloc, disk, games, other, stamp) {
+    match look_at_game(alloc, disk, games, other, stamp) {
         Ok(found) => Ok(Ok(found)),
         Err(fault) => Ok(Err(lacked_by(fault)?)),
     }

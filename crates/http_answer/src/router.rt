@@ -3,7 +3,7 @@
 ghost use Rattle.std.specs.Prelude.{◌≡◌, ◌++◌, ℕ, List, IfNone, IfSome, OnOk};
 ghost use Rattle.http_server.specs.Response.{IsBlank, IsResponse};
 ghost use Rattle.game_status.specs.StatusObjects.{AreNamed};
-ghost use Rattle.http_answer.specs.Games.{AskedOfGames, AsksOfGames, HasGame, IsByMethod, TellsOfGames, AsksOfThese, fresh_fields, fresh_json, lacked_text, path_of};
+ghost use Rattle.http_answer.specs.Games.{AskedOfGames, AsksOfGames, HasGame, IsByMethod, TellsOfGames, fresh_fields, fresh_json, lacked_text};
 ghost use Rattle.http_answer.specs.Inside.{HasReportText, IsGameText, asked_of_games};
 
 use crate::answerer::Answerer;
@@ -261,20 +261,6 @@ fn tell_by_method<D: Disk, H: Host>(
     }
 }
 
-/// What a request asks for of games, if they are named and it does.
-fn topic_of<D: Disk, H: Host>(
-    games: &Option<Games<'_, D, H>>,
-    request: &Request<Bytes>,
-) -> Option<GameTopic>
-    ensures some { IfSome result (λ topic. AsksOfThese games.now (path_of request.now) (asked_of_games topic)) }
-    ensures none { IfNone result ((a : AskedOfGames) → AsksOfThese games.now (path_of request.now) a → ⊥) }
-{
-    match games {
-        Some(_) => topic_at(request.uri().path()),
-        None => None,
-    }
-}
-
 impl<'r, D: Disk, H: Host> Router<'r, D, H> {
     /// It is this time now: reports on games that were read a second ago or longer are let go.
     pub fn pass(&mut self, now: Instant)
@@ -288,7 +274,7 @@ impl<'r, D: Disk, H: Host> Router<'r, D, H> {
 }
 
 impl<'r, D: Disk, H: Host> Service for Router<'r, D, H> {
-    ghost use Rattle.http_answer.specs.Games.{Routes};
+    ghost use Rattle.http_answer.specs.Routing.{Routes};
 
     ghost answers = { λ old. Routes D.facts H.stores old };
 
@@ -297,20 +283,19 @@ impl<'r, D: Disk, H: Host> Service for Router<'r, D, H> {
         request: &Request<Bytes>,
         response: &mut Response,
     ) -> Result<(), AllocError> {
-        let Some(topic) = topic_of(&self.games, request) else {
-            return self.answerer.call(request, response);
-        };
         let Some(games) = &mut self.games else {
             return self.answerer.call(request, response);
         };
-        let method = request.method().as_str();
-        tell_by_method(
-            &mut self.answerer,
-            games,
-            self.alloc,
-            method,
-            topic,
-            response,
-        )
+        match topic_at(request.uri().path()) {
+            Some(topic) => tell_by_method(
+                &mut self.answerer,
+                games,
+                self.alloc,
+                request.method().as_str(),
+                topic,
+                response,
+            ),
+            None => self.answerer.call(request, response),
+        }
     }
 }

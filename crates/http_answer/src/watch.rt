@@ -121,7 +121,7 @@ function setBoard(board, fen, uci, turned) {\n\
 }\n\
 \n\
 /* What is found of a game, in words, each with its kind. */\n\
-const count = side => side.fault ? \"fault: \" + side.fault : side.moves === null ? \"nothing kept\" : side.moves + (side.moves === 1 ? \" move\" : \" moves\");\n\
+const count = side => side.fault ? \"fault: \" + side.fault : side.name === null ? \"not compared\" : side.moves === null ? \"nothing kept\" : side.moves + (side.moves === 1 ? \" move\" : \" moves\");\n\
 const compared = g => g.agree === undefined ? [] : g.agree ? [[\"both agree\", \"win\"]]\n\
   : g.differ !== null ? [[\"the records differ at ply \" + g.differ, \"loss\"]]\n\
   : g.behind !== null ? [[\"arbiter \" + (g.moves < g.other.moves ? 1 : 2) + \" is behind by \" + g.behind, \"draw\"]]\n\

@@ -29,15 +29,15 @@ flat_move t =
     let e = flat_fault (first_probe_fault t.probed.wdl t.probed.dtz) in
     omega (arith, w, d, e)
 
-shallow : (l : JsonLine) → depth (api_json l) ≤ 3
-shallow (line.Fault fault) = omega arith
-shallow (line.Refused words) = omega arith
-shallow (line.Position t) = (let e = flat_position t.position t.columns.probed t.columns.verdict in omega (arith, e))
-shallow (line.Root t moves) =
+pub api_shallow : (l : JsonLine) → depth (api_json l) ≤ 3
+api_shallow (line.Fault fault) = omega arith
+api_shallow (line.Refused words) = omega arith
+api_shallow (line.Position t) = (let e = flat_position t.position t.columns.probed t.columns.verdict in omega (arith, e))
+api_shallow (line.Root t moves) =
     let e = flat_position t.position t.columns.probed t.columns.verdict in
     let f = flat_followed (api_position_members t.position t.columns.probed t.columns.verdict) (moves_members api_move_json moves.items) in
     let m = moves_depth api_move_members flat_move moves.items in
     omega (arith, e, f, m)
 
 pub api_reads_back : (l : JsonLine) (old new : Option (List ℕ)) → Writes false (json_tokens (api_json l)) old new → document (json_text (api_json l)) ≡ Some (api_json l)
-api_reads_back l old new w = reads_back (api_json l) old new w (let s = shallow l in omega (arith, s))
+api_reads_back l old new w = reads_back (api_json l) old new w (let s = api_shallow l in omega (arith, s))
