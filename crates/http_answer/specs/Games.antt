@@ -266,3 +266,9 @@ pub data IsServed {D H S : Type 0} (facts : D → DiskFacts) (stores : H → Sto
   OfTables : ((a : AskedOfGames) → AsksOfThese games (path_of request) a → ⊥) → IsReply facts tables request r → IsServed facts stores tables games request r
   OfGames : (on : GamesOn D H) → games ≡ Some on → (a : AskedOfGames) → AsksOfGames (path_of request) a
       → IsByMethod (head_of request).method (TellsOfGames facts stores tables on a) r → IsServed facts stores tables games request r
+
+-- what a router does, by its folders, which stay the same
+pub record Routes {D H S : Type 0} (facts : D → DiskFacts) (stores : H → StorePlaces S) (tables : FolderOn D) (games : Option (GamesOn D H)) (request : Request (List ℕ)) (r : Response) (new : FolderOn D) (now : Option (GamesOn D H)) : Type 0 where
+  pub served : IsServed facts stores tables games request r
+  pub tables_stay : new ≡ tables
+  pub games_stay : now ≡ games

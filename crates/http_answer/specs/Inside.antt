@@ -31,7 +31,7 @@ use Rattle.http_answer.specs.declared.games.Kept.{Kept}
 use Rattle.http_answer.specs.declared.router.GameTopic.{GameTopic}
 use Rattle.http_answer.specs.declared.router.GameTopic.TheVariants as topic
 use Rattle.http_answer.specs.Games.{AskedOfGames, GamesOn, GoesOn, HasPlies, IsNext, IsReportText, IsStart, LacksGames, Ply, TellsAlone, fresh_fields, fresh_json, lacked_text, plies_items, ply_json, whole_game_json}
-use Rattle.http_answer.specs.Games.AskedOfGames as of_games
+use Rattle.http_answer.specs.Games.AskedOfGames.{Games, Metrics, Game, NoStamp, Watch}
 use Rattle.http_answer.specs.Queries.{asked_lines, position_text}
 use Rattle.http_answer.specs.Replies.{Asked, TellsEach, TellsText, object_text, objects_text, page_methods, standard_methods}
 use Rattle.http_answer.specs.Replies.Asked.{Page, Values, NoText, ValuesOfEach, TooMany, Methods, OtherMethod, Elsewhere}
@@ -64,11 +64,11 @@ AreObjects disk folder body objects = (ls : List JsonLine) × TellsEach disk fol
 
 -- what is asked for, of the code's own value for it
 abbrev pub asked_of_games : GameTopic → AskedOfGames
-asked_of_games topic.Games = of_games.Games
-asked_of_games topic.Metrics = of_games.Metrics
-asked_of_games (topic.Game stamp) = of_games.Game stamp
-asked_of_games topic.NoStamp = of_games.NoStamp
-asked_of_games topic.Watch = of_games.Watch
+asked_of_games topic.Games = Games
+asked_of_games topic.Metrics = Metrics
+asked_of_games (topic.Game stamp) = Game stamp
+asked_of_games topic.NoStamp = NoStamp
+asked_of_games topic.Watch = Watch
 
 -- a report, or what is lacking of a folder
 abbrev pub Report : Type 0

@@ -1,5 +1,4 @@
 pub mod Queries
 pub mod Replies
 pub mod Games
-pub mod Routing
 pub mod Inside

@@ -156,7 +156,7 @@ pub struct Games<'r, D: Disk, H: Host> {
     folders: GameFolders<'r, D, H>,
     json: Option<Kept>,
     metrics: Option<Kept>,
-    now: Instant,
+    time: Instant,
 }
 
 impl<'r, D: Disk, H: Host> Model for Games<'r, D, H> {
@@ -179,7 +179,7 @@ impl<'r, D: Disk, H: Host> Games<'r, D, H> {
             folders,
             json: None,
             metrics: None,
-            now,
+            time: now,
         }
     }
 
@@ -193,7 +193,7 @@ impl<'r, D: Disk, H: Host> Games<'r, D, H> {
         if is_old(&self.metrics, now) {
             self.metrics = None;
         }
-        self.now = now;
+        self.time = now;
     }
 
     /// The report as JSON: the last one that was read, if it isn't let go.
@@ -209,7 +209,7 @@ impl<'r, D: Disk, H: Host> Games<'r, D, H> {
         let copy = copy_of(alloc, &report)?;
         self.json = Some(Kept {
             report,
-            since: self.now,
+            since: self.time,
         });
         Ok(copy)
     }
@@ -227,7 +227,7 @@ impl<'r, D: Disk, H: Host> Games<'r, D, H> {
         let copy = copy_of(alloc, &report)?;
         self.metrics = Some(Kept {
             report,
-            since: self.now,
+            since: self.time,
         });
         Ok(copy)
     }

@@ -13,7 +13,7 @@
 //! Inside: `query` and `lines` (texts of positions in a query and in a body), `asking` (what a request asks for), `filling`, `answerer`,
 //! `page`; `games` (folders of games, and reports), `plies` (the object of a game), `router`, `watch` (a page).
 //!
-//! Definitions, in reading order: `Queries`, `Replies`; `Games`, `Routing`.
+//! Definitions, in reading order: `Queries`, `Replies`; `Games`.
 //!
 //! - CLAIM: `Router`, clause `answers`: the response is the one that `IsServed` has for the request's method and path, and the folders
 //!   stay the same. Of all games it is the report that `status` writes as JSON or as metrics, of one game its object with each ply, by a

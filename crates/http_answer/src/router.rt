@@ -274,9 +274,9 @@ impl<'r, D: Disk, H: Host> Router<'r, D, H> {
 }
 
 impl<'r, D: Disk, H: Host> Service for Router<'r, D, H> {
-    ghost use Rattle.http_answer.specs.Routing.{Routes};
+    ghost use Rattle.http_answer.specs.Games.{Routes};
 
-    ghost answers = { λ old. Routes D.facts H.stores old };
+    ghost answers = { λ old request response new. Routes D.facts H.stores old.answerer old.games request response new.answerer new.games };
 
     fn call(
         &mut self,
