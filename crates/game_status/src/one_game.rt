@@ -6,6 +6,7 @@ ghost use Rattle.game_status.specs.Listings.{CannotList, listing_of};
 ghost use Rattle.game_status.specs.OneGame.{IsGameFound, ListsNoGame};
 ghost use Rattle.game_status.specs.Statuses.{IsLook};
 
+use crate::game_audit::is_same_stamp;
 use crate::listing::{Folders, list_folders};
 use crate::status::StatusTeller;
 use crate::status_lines::Look;
@@ -27,7 +28,7 @@ fn is_among(stamps: &[Stamp], stamp: Stamp) -> bool
     ensures { IsTrue result ↔ Contains stamps.now stamp }
 {
     for other in stamps {
-        if *other == stamp {
+        if is_same_stamp(*other, stamp) {
             return true;
         }
     }

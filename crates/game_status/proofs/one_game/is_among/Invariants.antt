@@ -3,4 +3,4 @@ use Rattle.std.specs.List.{Contains}
 use Rattle.game_status.proofs.one_game.is_among.Given as goal
 
 abbrev pub invariant-loop-other : goal.invariant-loop-other
-invariant-loop-other g l = Contains (take l.other-index l.fn.stamps) l.fn.stamp → ⊥
+invariant-loop-other l = Contains (take l.other-index l.stamps) l.stamp → ⊥
