@@ -88,6 +88,9 @@ no_word_words name = name ++ codes " is missing"
 abbrev pub beside_words : Text → List ℕ
 beside_words name = codes "--" ++ name ++ codes " cannot be used with --game"
 
+abbrev pub without_games_words : Text → List ℕ
+without_games_words name = codes "--" ++ name ++ codes " needs --games"
+
 abbrev pub fault_words : ValueFault → List ℕ
 fault_words (told.NoOption name) = no_option_words name.now
 fault_words (told.NoWord name) = no_word_words name.now
@@ -96,6 +99,7 @@ fault_words (told.NotWith other name) = not_with_words other name.now
 fault_words (told.WordNotWith other name) = word_not_with_words other name.now
 fault_words (told.Beside name) = beside_words name.now
 fault_words (told.FlagNotWith other name) = not_with_words other name.now
+fault_words (told.WithoutGames name) = without_games_words name.now
 
 -- ---- a wish for help
 
@@ -105,7 +109,8 @@ AsksForHelp word = (word ≡ codes "help") ⊎ ((word ≡ codes "--help") ⊎ (w
 -- ---- the first that is wrong
 
 -- what may be wrong: an option or a word that has to be there has no value; or the value is none that the option takes; or an option
--- or a word is there beside another one that takes its place, or an option beside `--game`, whose file tells it, or a flag is given beside one that excludes it.
+-- or a word is there beside another one that takes its place, or an option beside `--game`, whose file tells it, or a flag is given beside
+-- one that excludes it; or an option is there without `--games`, of whose folder it tells more.
 -- `Untold` is wrong only where there is no `--game`.
 pub data Fault : Type 0 where
   NoOption : Text → Fault
@@ -115,6 +120,7 @@ pub data Fault : Type 0 where
   WordNotWith : Instead → Text → Fault
   Beside : Text → Fault
   FlagNotWith : Instead → Text → Fault
+  WithoutGames : Text → Fault
   Untold : Fault → Fault
 
 -- the value of the option is none that it takes
@@ -145,6 +151,7 @@ Holds value (NotWith other name) = value name ≢ None
 Holds value (WordNotWith other name) = value name ≢ None
 Holds value (Beside name) = ((path : Text) × (value (codes "game") ≡ Some path)) × ((text : Text) × (value name ≡ Some text))
 Holds value (FlagNotWith other name) = (is_set (value (instead_name other)) ≡ true) × (is_set (value name) ≡ true)
+Holds value (WithoutGames name) = (value (codes "games") ≡ None) × ((text : Text) × (value name ≡ Some text))
 Holds value (Untold fault) = (value (codes "game") ≡ None) × Holds value fault
 
 abbrev pub text_or_empty : Option Text → Text
@@ -160,6 +167,7 @@ misuse_line value (NotWith other name) = not_with_words other name
 misuse_line value (WordNotWith other name) = word_not_with_words other name
 misuse_line value (Beside name) = beside_words name
 misuse_line value (FlagNotWith other name) = not_with_words other name
+misuse_line value (WithoutGames name) = without_games_words name
 misuse_line value (Untold fault) = misuse_line value fault
 
 -- it is wrong, and the line tells it

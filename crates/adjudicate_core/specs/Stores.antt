@@ -8,7 +8,8 @@ use Rattle.system_io.specs.declared.record_store.StoreFault.TheVariants as store
 use Rattle.arbiter_server.specs.ServedLines.{refused_store}
 use Rattle.arbiter_server.specs.StoreGames.{bytes_at}
 use Rattle.game_status.specs.StoreReadings.{AreRecordsIn, LacksRecords}
-use Rattle.game_status.specs.StoredDisks.{Overlaid, disk_over}
+pub use Rattle.game_status.specs.StoredDisks.{IsOverStore}
+use Rattle.game_status.specs.StoredDisks.{disk_over}
 use Rattle.line_teller.specs.ToldLines.{refused_files, refused_memory}
 use Rattle.adjudicate_core.specs.Telling.{TellsOne}
 use Rattle.adjudicate_core.specs.declared.answers.refusals.Refusal.{Refusal}
@@ -28,10 +29,6 @@ OverStores disk stores games None Does old new r = OverStore disk stores games D
 OverStores disk stores games (Some other) Does old new r = OverStore disk stores games (λ d. OverStore d stores other Does old new r) old new r
 
 -- ---- as a call sees it
-
--- the disk over one on which the records of a folder's store stand there
-abbrev pub IsOverStore : {D S : Type 0} → (D → DiskFacts) → StorePlaces S → D → List ℕ → Overlaid D → Type 0
-IsOverStore facts stores disk folder o = (entries : List Entry) × AreRecordsIn (facts disk) stores folder entries × (o ≡ record { disk = disk; folder = folder; records = bytes_at (records_of entries) })
 
 -- why there is none
 abbrev pub IsWithoutStore : {S : Type 0} → DiskFacts → StorePlaces S → List ℕ → Refusal → Type 0

@@ -91,7 +91,11 @@ fn answer_given<'s, D: LineDisk, I: Input, H: Host, G: Pages, W: Output, E: Outp
         Task::Root(task) => task.answer(alloc, sources, system.disk, system.input, out, err),
         Task::Follow(task) => task.answer(alloc, sources, system.disk, system.input, out),
         Task::Status(task) => task.answer(alloc, system.disk, system.host, out),
-        Task::Serve(task) => system.pages.serve_requests(alloc, system.disk, task, out),
+        Task::Serve(task) => {
+            system
+                .pages
+                .serve_requests(alloc, system.disk, system.host, task, out)
+        }
     }
 }
 

@@ -5,9 +5,9 @@ ghost use Rattle.adjudicate_core.specs.Stores.{IsOverStore, IsWithoutStore};
 ghost use Rattle.game_status.specs.StoredDisks.{overlaid_by};
 
 use crate::answers::refusals::Refusal;
-use game_status::{StoredDisk, records_in};
+use game_status::{LackedFolder, StoredDisk, over_store};
 use std::alloc::Global;
-use system_io::{Disk, Host, ReadFault, StoreFault};
+use system_io::{Disk, Host};
 
 /// Notes that the store of a folder can't be read.
 fn note_unread<H: Host>(alloc: Global, host: &H, folder: &str) {
@@ -29,21 +29,13 @@ pub(crate) fn disk_over<'a, D: Disk, H: Host>(
     ensures ok { IfOk result (λ d. IsOverStore D.facts (H.stores host.now) disk.now folder.now (overlaid_by d)) }
     ensures err { IfErr result (IsWithoutStore (D.facts disk.now) (H.stores host.now) folder.now) }
 {
-    match disk.names(alloc, folder) {
-        Ok(_names) => {}
-        Err(ReadFault::Unreadable) => return Err(Refusal::Files),
-        Err(ReadFault::OutOfMemory) => return Err(Refusal::Memory),
-    }
-    let entries = match records_in(alloc, disk, host, folder) {
-        Ok(entries) => entries,
-        Err(StoreFault::Unreadable) => {
+    match over_store(alloc, disk, host, folder) {
+        Ok(Ok(over)) => Ok(over),
+        Ok(Err(LackedFolder::Files)) => Err(Refusal::Files),
+        Ok(Err(LackedFolder::Store)) => {
             note_unread(alloc, host, folder);
-            return Err(Refusal::Store);
+            Err(Refusal::Store)
         }
-        Err(StoreFault::OutOfMemory) => return Err(Refusal::Memory),
-    };
-    match StoredDisk::over(alloc, disk, folder, entries) {
-        Ok(over) => Ok(over),
         Err(_) => Err(Refusal::Memory),
     }
 }

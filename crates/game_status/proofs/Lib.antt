@@ -13,3 +13,4 @@ pub mod FolderLaws
 pub mod NameLaws
 pub mod ObjectLaws
 pub mod ObjectDepth
+pub mod AmongLaws

@@ -17,11 +17,11 @@ use Rattle.game_status.specs.Entries.{fault_words}
 use Rattle.game_status.specs.StatusObjects.{compared_members, comparison_members, count_or_null, first_members, game_json, games_items, kept_members, members_if, record_members, second_members, side_members, status_json, text_or_null, totals_json, truth_or_null, unknown_members}
 use Rattle.game_status.specs.Totals.{FoundGame, totals_of}
 
-flat_text : (o : Option (List ℕ)) → depth (text_or_null o) ≡ 0
+pub flat_text : (o : Option (List ℕ)) → depth (text_or_null o) ≡ 0
 flat_text None = refl
 flat_text (Some text) = refl
 
-flat_count : (o : Option ℕ) → depth (count_or_null o) ≡ 0
+pub flat_count : (o : Option ℕ) → depth (count_or_null o) ≡ 0
 flat_count None = refl
 flat_count (Some n) = refl
 
@@ -48,7 +48,7 @@ side_flat side more = let r = record_flat side.kept more in omega (arith, r)
 unknown_flat : (fault : Option EntryFault) (more : Members) → members_depth (unknown_members fault more) ≡ members_depth more
 unknown_flat fault more = let k = kept_flat None None fault more in omega (arith, k)
 
-first_flat : (l : Look) (more : Members) → members_depth (first_members l more) ≡ members_depth more
+pub first_flat : (l : Look) (more : Members) → members_depth (first_members l more) ≡ members_depth more
 first_flat (look.One side) more = side_flat side more
 first_flat (look.Both side other compared) more = side_flat side more
 first_flat (look.AtFault fault) more = unknown_flat (Some fault) more
@@ -81,7 +81,7 @@ second_shallow (look.OtherAtFault fault) =
     let c = comparison_flat None None None no_members in
     omega (arith, u, c)
 
-second_if_shallow : (compares : Bool) (l : Look) → members_depth (members_if compares (second_members l) no_members) ≤ 1
+pub second_if_shallow : (compares : Bool) (l : Look) → members_depth (members_if compares (second_members l) no_members) ≤ 1
 second_if_shallow true l = second_shallow l
 second_if_shallow false l = omega arith
 

@@ -1,5 +1,5 @@
 -- What is found of the games of a folder, or of two, as one JSON object (RFC 8259; its names are this project's own).
-use Rattle.std.specs.Prelude.{ℕ, Bool, true, false, List, [], ◌∷◌, Option, Some, None, length, option_map, codes, if◌then◌else◌}
+use Rattle.std.specs.Prelude.{◌≡◌, ◌++◌, ℕ, Bool, true, false, List, [], ◌∷◌, Option, Some, None, length, option_map, codes, if◌then◌else◌}
 use Rattle.std.specs.Fmt.{decimal}
 use Rattle.hex.specs.Hex.{encode_lower}
 use Rattle.board_core.specs.declared.verdict.Verdict.{Verdict}
@@ -7,8 +7,11 @@ use Rattle.board_core.specs.Verdicts.{verdict_name}
 use Rattle.fen_text.specs.Written.{fen_of}
 use Rattle.json.specs.Json.{Json, null, boolean, number, string, array, object, Items, no_items, item, Members, no_members, member}
 use Rattle.json.specs.Print.{print}
-use Rattle.json.specs.Tree.{json_tokens}
+use Rattle.json.specs.Token.{Token}
+use Rattle.json.specs.Tree.{json_tokens, members_tokens}
+use Rattle.json.specs.Written.{Written}
 use Rattle.move_msg.specs.declared.record_bytes.Record.{Record as Records}
+use Rattle.move_msg.specs.Stamps.{IsGameName}
 use Rattle.game_status.specs.declared.comparing.Compared.{Compared}
 use Rattle.game_status.specs.declared.comparing.Compared.TheVariants.{Agree, Behind, Unopened, Differ}
 use Rattle.game_status.specs.declared.entry.EntryFault.{EntryFault}
@@ -22,6 +25,28 @@ use Rattle.game_status.specs.Totals.{FoundGame, totals_of}
 -- the text of a value: no space, and the shortest escapes
 abbrev pub json_text : Json → List ℕ
 json_text j = print (json_tokens j)
+
+-- ---- what a call writes
+
+-- these tokens were written
+pub record AddsTokens (old new : Written) (ts : List Token) : Type 0 where
+  pub before : new.before ≡ old.before
+  pub tokens : new.tokens ≡ old.tokens ++ ts
+
+-- these members were written: whatever comes next comes behind them
+pub record AddsMembers (old new : Written) (ms : Members → Members) : Type 0 where
+  pub before : new.before ≡ old.before
+  pub tokens : (more : Members) → new.tokens ++ members_tokens more ≡ old.tokens ++ members_tokens (ms more)
+
+-- the names in it are those of games
+abbrev pub IsNamed : Side → Type 0
+IsNamed side = IsGameName side.game.name.items
+
+abbrev pub AreNamed : Look → Type 0
+AreNamed (look.One side) = IsNamed side
+AreNamed (look.Both side other compared) = IsNamed side × IsNamed other
+AreNamed (look.AtFault fault) = Unit {0}
+AreNamed (look.OtherAtFault fault) = Unit {0}
 
 -- ---- values, or null where there is none
 

@@ -1,15 +1,22 @@
 -- Disks on which the records of a folder's store stand as files of the folder (this project's own).
-use Rattle.std.specs.Prelude.{◌≡◌, ◌<◌, ◌⊎◌, ℕ, false, List, Option, Some, Vec, length, option_map, IsSome}
+use Rattle.std.specs.Prelude.{◌≡◌, ◌<◌, ◌⊎◌, ℕ, false, List, Option, Some, None, Vec, length, option_map, IsSome}
 use Rattle.std.specs.Global.{Global}
 use Rattle.std.specs.List.{Contains}
 use Rattle.std.specs.Cmp.Lexicographic.{slice_cmp}
 use Rattle.std.specs.Ordering.{nat_cmp}
 use Rattle.std.specs.BTreeMap.{BTreeMap, get}
 use Rattle.system_io.specs.Disks.{AtFile, AtFolder, DiskFacts, Source, most_bytes}
+use Rattle.system_io.specs.Records.{StorePlaces, records_of}
+use Rattle.system_io.specs.declared.record_store.Entry.{Entry}
+use Rattle.system_io.specs.declared.record_store.StoreFault.TheVariants as store
 use Rattle.arbiter_server.specs.GameFolders.{kept_path}
+use Rattle.arbiter_server.specs.StoreGames.{bytes_at}
+use Rattle.game_status.specs.declared.stored_disk.LackedFolder.{LackedFolder}
+use Rattle.game_status.specs.declared.stored_disk.LackedFolder.TheVariants.{Files, Store}
 use Rattle.game_status.specs.declared.stored_disk.StoredDisk.{StoredDisk}
 use Rattle.move_msg.specs.Stamps.{IsStamp}
 use Rattle.game_status.specs.Listings.{kept_ending, stamp_file_name}
+use Rattle.game_status.specs.StoreReadings.{AreRecordsIn, LacksRecords}
 
 -- the bytes of the record that a store has of each game, by the game's stamp
 abbrev pub RecordBytes : Type 0
@@ -78,3 +85,24 @@ disk_over disk folder records = record {
 -- the facts of such a disk, by those of the disk below
 abbrev pub overlaid_facts : {D : Type 0} → (D → DiskFacts) → Overlaid D → DiskFacts
 overlaid_facts facts o = disk_over (facts o.disk) o.folder o.records
+
+-- ---- folders with their stores
+
+-- the disk over one on which the records of a folder's store stand there
+abbrev pub IsOverStore : {D S : Type 0} → (D → DiskFacts) → StorePlaces S → D → List ℕ → Overlaid D → Type 0
+IsOverStore facts stores disk folder o = (entries : List Entry) × AreRecordsIn (facts disk) stores folder entries × (o ≡ record { disk = disk; folder = folder; records = bytes_at (records_of entries) })
+
+-- why there is none: the folder can't be listed, or its store can't be read
+abbrev pub LacksFolder : {S : Type 0} → DiskFacts → StorePlaces S → List ℕ → LackedFolder → Type 0
+LacksFolder disk stores folder Files = disk.fails (AtFolder folder)
+LacksFolder disk stores folder Store = LacksRecords disk stores folder store.Unreadable
+
+-- this is so of the disk on which the records of a folder's store stand as files of the folder
+abbrev pub IsSoOverStore : {S : Type 0} → DiskFacts → StorePlaces S → List ℕ → (DiskFacts → Type 0) → Type 0
+IsSoOverStore disk stores folder Holds =
+    (entries : List Entry) × AreRecordsIn disk stores folder entries × Holds (disk_over disk folder (bytes_at (records_of entries)))
+
+-- so it is of the stores of a folder, and of a second one if it is named
+abbrev pub IsSoOverStores : {S : Type 0} → DiskFacts → StorePlaces S → List ℕ → Option (List ℕ) → (DiskFacts → Type 0) → Type 0
+IsSoOverStores disk stores games None Holds = IsSoOverStore disk stores games Holds
+IsSoOverStores disk stores games (Some other) Holds = IsSoOverStore disk stores games (λ d. IsSoOverStore d stores other Holds)

@@ -31,7 +31,7 @@ pub struct AuditTables<'a> {
 }
 
 /// Whether two stamps are one.
-fn is_same_stamp(one: Stamp, other: Stamp) -> bool
+pub(crate) fn is_same_stamp(one: Stamp, other: Stamp) -> bool
     ensures { IsTrue result ↔ (one ≡ other) }
 {
     one == other

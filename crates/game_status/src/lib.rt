@@ -7,7 +7,7 @@
 //!
 //! Inside: `listing` (the stamps that names tell), `entry` (a game's file and the bytes of its record), `side` (the record),
 //! `comparing` (two records), `status_lines`, `telling` (games in turn, and sums: `GameTeller`), `status`; `totals`, `metrics`,
-//! `objects`, `report`;
+//! `objects`, `report`; `one_game`;
 //! `audit_lines`, `game_audit`.
 //! Where a host keeps the records of a folder in a store, `store_reading` reads them, also while the host writes, and `stored_disk` is
 //! the disk on which they stand as files: what tells of a folder's files then tells of them, with no change of its own. `importing`
@@ -16,7 +16,7 @@
 //!
 //! Definitions, in reading order: `Listings` (`AreListed`), `Entries` (`HasEntry`, `LacksEntry`), `Sides` (`HasGameAndRecord`,
 //! `LacksSide`), `Comparisons` (`IsComparedAs`), `Tellings` (`TellsGames`, `TellsFolders`), `Statuses` (`IsStatus`, `TellsStatus`),
-//! `Totals` (`AreFound`, `totals_of`), `Metrics` (`metrics_text`), `StatusObjects` (`status_json`), `Reports` (`ReportsStatus`);
+//! `OneGame` (`IsGameFound`), `Totals` (`AreFound`, `totals_of`), `Metrics` (`metrics_text`), `StatusObjects` (`status_json`), `Reports` (`ReportsStatus`);
 //! `GameAudits` (`TellsAudit`); `StoreReadings` (`AreRecordsIn`, `LacksRecords`), `StoredDisks` (`disk_over`), `Imports`. Its cases
 //! stand in `status.txt` and `game_audits.txt` of `rows`.
 //!
@@ -30,12 +30,14 @@
 //! - CLAIM: `write_status_report`, clause `written`: the metrics, or the JSON object, are those of what is found of each game, by the
 //!   same definition as the lines (`IsLook`), and are written at once. A JSON parser reads the object back. After an error a front of
 //!   such a text is written.
+//! - CLAIM: `status_report`, clauses `ok`, `cause`: the same text, without a writer. `look_at_game`, clauses `some`, `none`, `cause`: what
+//!   is found of one game in the first folder alone, and in both; none where no folder lists its file.
 //! - CLAIM: `tell_audit`: the same games, whose files have to be those of their stamps by the tables; a game is well only where an
 //!   arbiter of it resumes from each of its records, and both are equal; nothing kept is no fault.
 //! - CLAIM: `records_in`, clauses `ok`, `err`: the records are what the two files of the folder's store hold, and none only where the
 //!   folder lists nothing of a store. An unreadable store has a cause: the folder or a file can't be read, half of a store is there, the
 //!   files hold what isn't told, or the log began anew meanwhile. That the files are of one moment follows from the order of the reads, of which no clause speaks.
-//! - CLAIM: `StoredDisk`, clause `facts`; `StoredDisk::over`: the disk over another has the store's records, the later one of two of
+//! - CLAIM: `StoredDisk`, clause `facts`; `StoredDisk::over`, `over_store`: the disk over another has the store's records, the later one of two of
 //!   a game, each as `STAMP.kept` of the folder in place of the file below; all else is as below.
 #![tactic(auto)]
 
@@ -47,6 +49,7 @@ mod importing;
 mod listing;
 mod metrics;
 mod objects;
+mod one_game;
 mod report;
 mod side;
 mod status;
@@ -62,11 +65,13 @@ pub use entry::{Entry, EntryFault};
 pub use game_audit::{AuditTables, tell_audit};
 pub use importing::{ImportFault, import_records};
 pub use listing::{Folder, Folders, stamp_of};
-pub use report::{ReportForm, write_status_report};
+pub use objects::{add_count, add_first, add_second_if, add_stamp, add_text};
+pub use one_game::{GameFound, look_at_game};
+pub use report::{ReportForm, status_report, write_status_report};
 pub use side::Side;
 pub use status::tell_status;
 pub use status_lines::{Look, add_moves, add_refused_record};
 pub use store_reading::{STORE_NAME, has_half_store, has_name, records_in};
-pub use stored_disk::StoredDisk;
+pub use stored_disk::{LackedFolder, StoredDisk, over_store};
 pub use telling::{GameTeller, Mark, Sums};
 pub use totals::Totals;

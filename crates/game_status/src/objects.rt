@@ -11,7 +11,8 @@ ghost use Rattle.move_msg.specs.TextLines.{ended};
 ghost use Rattle.game_status.specs.Entries.{fault_words};
 ghost use Rattle.game_status.specs.Reports.{IsReport, json_form};
 ghost use Rattle.game_status.specs.StatusObjects.{compared_members, compared_totals, comparison_members, count_or_null, first_members, game_json, kept_members, members_if, record_members, second_members, side_members, text_or_null, totals_json, totals_members, truth_or_null, unknown_members, unlooked_members};
-ghost use Rattle.game_status.specs.Inside.Objects.{AddsGames, AddsList, AddsMembers, AddsStatus, AddsTokens, AreNamed, IsNamed};
+ghost use Rattle.game_status.specs.Inside.Objects.{AddsGames, AddsList, AddsStatus};
+ghost use Rattle.game_status.specs.StatusObjects.{AddsMembers, AddsTokens, AreNamed, IsNamed};
 ghost use Rattle.game_status.specs.Inside.Totalling.{looks_of};
 
 use crate::comparing::Compared;
@@ -27,8 +28,8 @@ use move_msg::{Record, Stamp};
 use std::alloc::AllocError;
 use system_io::Disk;
 
-/// Adds a member whose value is a text, or null.
-fn add_text(text: &mut Writer, name: &str, value: Option<&str>) -> Result<(), AllocError>
+/// Adds a member to an object whose value is a text, or null.
+pub fn add_text(text: &mut Writer, name: &str, value: Option<&str>) -> Result<(), AllocError>
     ensures { OnOk result (AddsMembers text.old text.new (member name.now (text_or_null (option_map (λ s. s.now) value.entry)))) }
 {
     text.key(name)?;
@@ -38,8 +39,8 @@ fn add_text(text: &mut Writer, name: &str, value: Option<&str>) -> Result<(), Al
     }
 }
 
-/// Adds a member whose value is a number, or null.
-fn add_count(text: &mut Writer, name: &str, value: Option<u64>) -> Result<(), AllocError>
+/// Adds a member to an object whose value is a number, or null.
+pub fn add_count(text: &mut Writer, name: &str, value: Option<u64>) -> Result<(), AllocError>
     ensures { OnOk result (AddsMembers text.old text.new (member name.now (count_or_null value))) }
 {
     text.key(name)?;
@@ -136,8 +137,8 @@ fn add_unknown(text: &mut Writer, fault: Option<EntryFault>) -> Result<(), Alloc
     add_kept(text, None, None, fault)
 }
 
-/// Adds what is found in the first folder.
-fn add_first(text: &mut Writer, look: &Look) -> Result<(), AllocError>
+/// Adds what is found of a game in the first folder, to an object.
+pub fn add_first(text: &mut Writer, look: &Look) -> Result<(), AllocError>
     requires { AreNamed look.now }
     ensures { OnOk result (AddsMembers text.old text.new (first_members look.now)) }
 {
@@ -223,8 +224,8 @@ fn add_second(text: &mut Writer, look: &Look) -> Result<(), AllocError>
     }
 }
 
-/// Adds what is found in the second folder, where there is one.
-fn add_second_if(text: &mut Writer, look: &Look, compares: bool) -> Result<(), AllocError>
+/// Adds what is found of a game in the second folder, and what comes of comparing both, to an object, where there are two folders.
+pub fn add_second_if(text: &mut Writer, look: &Look, compares: bool) -> Result<(), AllocError>
     requires { AreNamed look.now }
     ensures { OnOk result (AddsMembers text.old text.new (members_if compares (second_members look.now))) }
 {
@@ -244,8 +245,8 @@ fn stamp_digits(stamp: Stamp) -> [u8; 32]
     digits
 }
 
-/// Adds the stamp of a game.
-fn add_stamp(text: &mut Writer, stamp: Stamp) -> Result<(), AllocError>
+/// Adds the stamp of a game to an object.
+pub fn add_stamp(text: &mut Writer, stamp: Stamp) -> Result<(), AllocError>
     ensures { OnOk result (AddsMembers text.old text.new (member (codes "stamp") (string (encode_lower stamp)))) }
 {
     let digits = stamp_digits(stamp);

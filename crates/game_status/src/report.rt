@@ -1,8 +1,9 @@
 //! What is found of the games of folders, as it is reported to a program.
 
-ghost use Rattle.std.specs.Prelude.{true, IfOk, OnErr, option_map};
+ghost use Rattle.std.specs.Prelude.{true, IfOk, IsErrOf, OnErr, option_map};
 ghost use Rattle.line_teller.specs.ToldLines.{HasFailed};
-ghost use Rattle.game_status.specs.Reports.{IsReport, Reports, ReportsStatus, form_of};
+ghost use Rattle.game_status.specs.Listings.{CannotList};
+ghost use Rattle.game_status.specs.Reports.{IsReport, IsStatusReport, Reports, ReportsStatus, form_of};
 ghost use Rattle.game_status.specs.Inside.Totalling.{looks_of};
 
 use crate::listing::list_folders;
@@ -89,4 +90,32 @@ pub fn write_status_report<D: Disk, W: Output>(
         other: folders.other.as_ref(),
     };
     write_report(&teller, &folders.stamps, other.is_some(), form, out)
+}
+
+/// The text on the games of a folder, or of two, in this form, as `write_status_report` writes it. `Unreadable` where a folder can't be
+/// listed.
+pub fn status_report<D: Disk>(
+    alloc: Global,
+    disk: &D,
+    folder: &str,
+    other: Option<&str>,
+    form: ReportForm,
+) -> Result<Vec<u8>, ReadFault>
+    ensures ok { IfOk result (λ text. IsStatusReport (form_of form) (D.facts disk.now) folder.now (option_map (λ s. s.now) other.entry) text.items true) }
+    ensures cause { IsErrOf result ReadFault.Unreadable → CannotList (D.facts disk.now) folder.now (option_map (λ s. s.now) other.entry) }
+{
+    let folders = match list_folders(alloc, disk, folder, other) {
+        Ok(folders) => folders,
+        Err(fault) => return Err(fault),
+    };
+    let teller = StatusTeller {
+        alloc,
+        disk,
+        one: &folders.one,
+        other: folders.other.as_ref(),
+    };
+    match text_of(&teller, &folders.stamps, other.is_some(), form) {
+        Ok(text) => Ok(text),
+        Err(_) => Err(ReadFault::OutOfMemory),
+    }
 }

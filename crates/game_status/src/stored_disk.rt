@@ -1,19 +1,20 @@
 //! A disk over another, on which the records of a folder's store stand as files of the folder.
 
-ghost use Rattle.std.specs.Prelude.{◌≡◌, ◌≤◌, ◌<◌, ℕ, List, length, map, string_bytes, IfNone, IfOk, IfSome, IsErrOf, OnOk};
+ghost use Rattle.std.specs.Prelude.{◌≡◌, ◌≤◌, ◌<◌, ℕ, List, length, map, string_bytes, IfErr, IfNone, IfOk, IfSome, IsErrOf, OnOk};
 ghost use Rattle.system_io.specs.Records.{records_of};
 ghost use Rattle.arbiter_server.specs.GameFolders.{kept_path};
 ghost use Rattle.move_msg.specs.Stamps.{IsStamp};
 ghost use Rattle.game_status.specs.Listings.{kept_ending, stamp_file_name};
 ghost use Rattle.arbiter_server.specs.StoreGames.{bytes_at};
-ghost use Rattle.game_status.specs.StoredDisks.{AddsRecordNames, HasNoRecordAt, IsRecordAt, bytes_in, overlaid_by};
+ghost use Rattle.game_status.specs.StoredDisks.{AddsRecordNames, HasNoRecordAt, IsOverStore, IsRecordAt, LacksFolder, bytes_in, overlaid_by};
 ghost use Rattle.game_status.specs.Inside.StoreReading.{PutsRecord};
 
 use crate::listing::stamp_in;
+use crate::store_reading::records_in;
 use move_msg::Stamp;
 use std::alloc::{AllocError, Global};
 use std::collections::BTreeMap;
-use system_io::{Disk, Entry, FileWithMode, ReadFault};
+use system_io::{Disk, Entry, FileWithMode, Host, ReadFault, StoreFault};
 
 /// The most bytes that a file may have, 2^30.
 const MOST_BYTES: u64 = 1_073_741_824;
@@ -92,6 +93,15 @@ fn keep(records: &mut BTreeMap<Stamp, Vec<u8>>, entry: Entry) -> Result<(), Allo
     }
 }
 
+/// What is lacking of a folder of games.
+#[derive(Clone, Copy, PartialEq, Eq)]
+pub enum LackedFolder {
+    /// It can't be listed.
+    Files,
+    /// Its store can't be read.
+    Store,
+}
+
 /// A disk over another, on which the records of a folder's store stand as files of the folder: each as `FOLDER/STAMP.kept`, in place
 /// of the file that is there below. All other files, and what all other folders list, are those of the disk below.
 #[derive(Drop)]
@@ -135,6 +145,30 @@ impl<'a, D> StoredDisk<'a, D> {
             Some(record) => Some(record),
             None => None,
         }
+    }
+}
+
+/// The disk on which the records of a folder are those of its store, where it has one: as its last commit left them, also while a host
+/// writes it. Or what is lacking of the folder: it can't be listed, or its store can't be read. The error comes only where memory is
+/// refused.
+pub fn over_store<'a, D: Disk, H: Host>(
+    alloc: Global,
+    disk: &'a D,
+    host: &H,
+    folder: &'a str,
+) -> Result<Result<StoredDisk<'a, D>, LackedFolder>, AllocError>
+    ensures ok { IfOk result (λ r. IfOk r (λ d. IsOverStore D.facts (H.stores host.now) disk.now folder.now (overlaid_by d))) }
+    ensures lacked { IfOk result (λ r. IfErr r (LacksFolder (D.facts disk.now) (H.stores host.now) folder.now)) }
+{
+    match disk.names(alloc, folder) {
+        Ok(_names) => {}
+        Err(ReadFault::Unreadable) => return Ok(Err(LackedFolder::Files)),
+        Err(ReadFault::OutOfMemory) => return Err(AllocError),
+    }
+    match records_in(alloc, disk, host, folder) {
+        Ok(entries) => Ok(Ok(StoredDisk::over(alloc, disk, folder, entries)?)),
+        Err(StoreFault::Unreadable) => Ok(Err(LackedFolder::Store)),
+        Err(StoreFault::OutOfMemory) => Err(AllocError),
     }
 }
 

@@ -1,4 +1,6 @@
 pub mod BestPlay
 pub mod LineLaws
+pub mod PlyLaws
 pub mod Replied
+pub mod SeenLaws
 pub mod Telling

@@ -1,9 +1,28 @@
 -- What private functions take and return.
-use Rattle.std.specs.Prelude.{◌≡◌, ◌⊎◌, ◌++◌, ◌∷◌, [], ℕ, true, false, List, Option, Some, None}
-use Rattle.board_core.specs.declared.parts.Parts.{Parts}
+use Rattle.std.specs.Prelude.{◌≡◌, ◌⊎◌, ◌++◌, ◌∷◌, [], ℕ, Bool, true, false, List, Option, Result, Ok, Err, Some, None, Vec, codes, map, flat_map}
 use Rattle.json_lines.specs.declared.api_told.ApiLine.{ApiLine}
 use Rattle.json_lines.specs.ApiTold.{ends_line}
 use Rattle.json_lines.specs.declared.api_told.ApiMove.{ApiMove}
+use Rattle.std.specs.Global.{Global}
+use Rattle.board_core.specs.declared.moves.Move.{Move}
+use Rattle.board_core.specs.declared.parts.Parts.{Parts}
+use Rattle.board_core.specs.ComputedMoves.{position_after}
+use Rattle.fen_text.specs.Coordinates.{move_text}
+use Rattle.fen_text.specs.Written.{fen_of}
+use Rattle.http_server.specs.declared.response.Response.{Response}
+use Rattle.http_server.specs.Response.{IsResponse}
+use Rattle.json.specs.Json.{Members, array, document, member, string}
+use Rattle.json.specs.Token.{Token}
+use Rattle.json.specs.Tree.{json_tokens}
+use Rattle.json.specs.Written.{Written}
+use Rattle.game_status.specs.declared.one_game.GameFound.{GameFound}
+use Rattle.game_status.specs.declared.report.ReportForm.{ReportForm}
+use Rattle.game_status.specs.declared.report.ReportForm.TheVariants.{Json as AsJson, Metrics as AsMetrics}
+use Rattle.game_status.specs.declared.stored_disk.LackedFolder.{LackedFolder}
+use Rattle.game_status.specs.StatusObjects.{AddsMembers, AddsTokens, json_text, text_or_null}
+use Rattle.system_io.specs.Records.{StorePlaces}
+use Rattle.json_lines.specs.declared.told.JsonLine.{JsonLine}
+use Rattle.json_lines.specs.Objects.{line_json}
 use Rattle.move_msg.specs.TextLines.{ended}
 use Rattle.system_io.specs.Disks.{DiskFacts}
 use Rattle.table_folder.specs.Folders.{Folder}
@@ -11,6 +30,11 @@ use Rattle.http_answer.specs.declared.asking.Place.{Place}
 use Rattle.http_answer.specs.declared.asking.Place.TheVariants as place
 use Rattle.http_answer.specs.declared.asking.Topic.{Topic}
 use Rattle.http_answer.specs.declared.asking.Topic.TheVariants as kind
+use Rattle.http_answer.specs.declared.games.Kept.{Kept}
+use Rattle.http_answer.specs.declared.router.GameTopic.{GameTopic}
+use Rattle.http_answer.specs.declared.router.GameTopic.TheVariants as topic
+use Rattle.http_answer.specs.Games.{AskedOfGames, GamesOn, GoesOn, HasPlies, IsNext, IsReportText, IsStart, LacksGames, Ply, TellsAlone, fresh_fields, fresh_json, lacked_text, plies_items, ply_json, whole_game_json}
+use Rattle.http_answer.specs.Games.AskedOfGames.{Games, Metrics, Game, NoStamp, Watch}
 use Rattle.http_answer.specs.Queries.{asked_lines, position_text}
 use Rattle.http_answer.specs.Replies.{Asked, IsPlayedOn, TellsEach, TellsText, object_text, objects_text, page_methods, standard_methods}
 use Rattle.http_answer.specs.Replies.Asked.{Page, Values, Mainline, NoText, ValuesOfEach, TooMany, Methods, OtherMethod, Elsewhere}
@@ -48,3 +72,85 @@ IsOnePly disk folder p old new None =
     ⊎ ((t : ApiMove) × IsPlayedOn disk folder p (Some t) × (ends_line t ≡ true) × (new ≡ old ++ t ∷ []))
 IsOnePly disk folder p old new (Some next) =
     (t : ApiMove) × IsPlayedOn disk folder p (Some t) × (ends_line t ≡ false) × (next ≡ t.told.after) × (new ≡ old ++ t ∷ [])
+
+-- ---- games
+
+-- what is asked for, of the code's own value for it
+abbrev pub asked_of_games : GameTopic → AskedOfGames
+asked_of_games topic.Games = Games
+asked_of_games topic.Metrics = Metrics
+asked_of_games (topic.Game stamp) = Game stamp
+asked_of_games topic.NoStamp = NoStamp
+asked_of_games topic.Watch = Watch
+
+-- a report, or what is lacking of a folder
+abbrev pub Report : Type 0
+Report = Result (Vec ℕ Global) LackedFolder
+
+abbrev pub IsCopy : Report → Report → Type 0
+IsCopy (Ok a) (Ok b) = b.items ≡ a.items
+IsCopy (Ok a) (Err why) = ⊥
+IsCopy (Err why) (Ok b) = ⊥
+IsCopy (Err why) (Err again) = again ≡ why
+
+-- the response with a report, or with what is lacking
+abbrev pub HasReportText : Report → List ℕ → Response → Type 0
+HasReportText (Ok text) kind r = IsResponse 200 (fresh_fields kind) text.items r
+HasReportText (Err why) kind r = IsResponse 500 fresh_json (lacked_text why) r
+
+-- what was read of the folders in this form, if it was
+abbrev pub IsReport : {D H S : Type 0} → (D → DiskFacts) → (H → StorePlaces S) → GamesOn D H → ReportForm → Report → Type 0
+IsReport facts stores on form (Ok text) = IsReportText facts stores on form text.items
+IsReport facts stores on form (Err why) = LacksGames facts stores on why
+
+abbrev pub IsKeptReport : {D H S : Type 0} → (D → DiskFacts) → (H → StorePlaces S) → GamesOn D H → ReportForm → Option Kept → Type 0
+IsKeptReport facts stores on form None = Unit {0}
+IsKeptReport facts stores on form (Some kept) = IsReport facts stores on form kept.report
+
+abbrev pub AreKeptReports : {D H S : Type 0} → (D → DiskFacts) → (H → StorePlaces S) → GamesOn D H → Option Kept → Option Kept → Type 0
+AreKeptReports facts stores on json metrics = IsKeptReport facts stores on AsJson json × IsKeptReport facts stores on AsMetrics metrics
+
+-- ---- the object of a game, as it is written
+
+abbrev pub move_members : Move → List ℕ → Members → Members
+move_members m san more = member (codes "uci") (text_or_null (Some (move_text m))) (member (codes "san") (text_or_null (Some san)) more)
+
+abbrev pub position_members : Parts → JsonLine → Members → Members
+position_members p l more = member (codes "fen") (string (fen_of p)) (member (codes "standard") (api_json l) more)
+
+-- a position and what tables say of it were written
+abbrev pub AddsPosition : DiskFacts → Folder → Parts → Written → Written → Type 0
+AddsPosition disk folder p old new = (l : JsonLine) × TellsAlone disk folder p l × AddsMembers old new (position_members p l)
+
+-- a ply was written
+abbrev pub AddsStart : DiskFacts → Folder → Parts → Written → Written → Type 0
+AddsStart disk folder start old new = (t : Ply) × IsStart disk folder start t × AddsTokens old new (json_tokens (ply_json t))
+
+abbrev pub AddsNext : DiskFacts → Folder → Parts → Move → Written → Written → Parts → Type 0
+AddsNext disk folder p m old new next = (t : Ply) × IsNext disk folder p m t × (t.position ≡ next) × AddsTokens old new (json_tokens (ply_json t))
+
+-- the tokens of plies, one behind the other
+abbrev pub plies_tokens : List Ply → List Token
+plies_tokens = flat_map (λ t. json_tokens (ply_json t))
+
+-- such plies were written
+abbrev pub AddsPlies : (List Ply → Type 0) → Written → Written → Type 0
+AddsPlies Are old new = (ts : List Ply) × Are ts × AddsTokens old new (plies_tokens ts)
+
+abbrev pub AddsMoves : DiskFacts → Folder → Parts → List Move → Written → Written → Type 0
+AddsMoves disk folder start moves = AddsPlies (GoesOn disk folder start moves)
+
+-- a list of such plies was written as a member
+abbrev pub AddsList : (List Ply → Type 0) → Written → Written → Type 0
+AddsList Are old new = (ts : List Ply) × Are ts × AddsMembers old new (member (codes "plies") (array (plies_items ts)))
+
+-- the object of a game was written
+abbrev pub AddsGame : DiskFacts → Folder → Bool → List ℕ → GameFound → Written → Written → Type 0
+AddsGame disk folder compares stamp g old new =
+    (ts : List Ply) × HasPlies disk folder g.first ts × AddsTokens old new (json_tokens (whole_game_json compares stamp g ts))
+
+-- the text is that of the object of a game, and reads back
+abbrev pub IsGameText : DiskFacts → Folder → Bool → List ℕ → GameFound → List ℕ → Type 0
+IsGameText disk folder compares stamp g text =
+    (ts : List Ply) × HasPlies disk folder g.first ts × (text ≡ json_text (whole_game_json compares stamp g ts))
+    × (document text ≡ Some (whole_game_json compares stamp g ts))

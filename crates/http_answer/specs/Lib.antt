@@ -1,3 +1,4 @@
 pub mod Queries
 pub mod Replies
+pub mod Games
 pub mod Inside

@@ -2,6 +2,7 @@
 
 ghost use Rattle.std.specs.Prelude.{◌≡◌, ◌≤◌, ◌++◌, ◌∷◌, [], List, IfErr, IfOk, OnOk};
 ghost use Rattle.http_server.specs.Response.{IsBlank};
+ghost use Rattle.http_answer.specs.Games.{TellsAlone};
 ghost use Rattle.http_answer.specs.Inside.{AddsObject, AreObjects, IsOnePly, asked_for};
 ghost use Rattle.http_answer.specs.Queries.{asked_lines};
 ghost use Rattle.http_answer.specs.Replies.{HasLine, HasLines, IsLineOfPlay, IsPlayedOn, IsRefusedInLine, IsReplyTo, RefusesFile, TellsMainline, TellsEach, TellsPosition, TellsText, most_plies};
@@ -99,6 +100,17 @@ impl<'r, D: Disk> Answerer<'r, D> {
             return Ok(refusal_of(&refusal));
         }
         ApiLine::of_position(self.alloc, &mut self.set, position)
+    }
+
+    /// What tables say of a position, or the refusal of the file of one that it needs.
+    pub(crate) fn line_alone(&mut self, position: &Position) -> Result<JsonLine, AllocError>
+        ensures told { IfOk result (TellsAlone (D.facts self.old.disk) self.old.folder position.now) }
+        ensures same { self.new ≡ self.old }
+    {
+        if let Err(refusal) = self.folder.settle(self.alloc, &mut self.set, position)? {
+            return Ok(refusal_of(&refusal));
+        }
+        JsonLine::of_position(self.alloc, &mut self.set, position, Ask::Strict, false)
     }
 
     /// What is told of a text.

@@ -1,13 +1,24 @@
-//! What a server of tables answers to a request of HTTP.
+//! What a server of tables and of games answers to a request of HTTP.
+//!
+//! `Router` is a service of the toolchain's `http_server`. A request whose path is one of games goes to the folders of games, if they are
+//! named (`Games`), and every other one to the tables (`Answerer`).
 //!
 //! `Answerer` is a service of the toolchain's `http_server`, which reads requests and writes responses. It holds a folder of tables, each
 //! of which is read when a position asks for it, and its answers are a function of the request and of this folder.
 //!
+//! `Games` holds a folder of games, and a second one, if it is named, as `game_status` reads them, with the records of their stores. What
+//! `status` writes of all games is read anew where it was read a second ago or longer. One game is read at each request, and its plies
+//! are asked of the tables.
+//!
 //! Inside: `query` and `lines` (texts of positions in a query and in a body), `asking` (what a request asks for), `filling`, `answerer`,
-//! `page`.
+//! `page`; `games` (folders of games, and reports), `plies` (the object of a game), `router`, `watch` (a page).
 //!
-//! Definitions, in reading order: `Queries`, `Replies`.
+//! Definitions, in reading order: `Queries`, `Replies`; `Games`.
 //!
+//! - CLAIM: `Router`, clause `answers`: the response is the one that `IsServed` has for the request's method and path, and the folders
+//!   stay the same. Of all games it is the report that `status` writes as JSON or as metrics, of one game its object with each ply, by a
+//!   look at the folders. A second folder, its comparison and its faults are as `status` has them. 404 where no folder lists the file of
+//!   the stamp, and for each path of games where no folder is named. How often folders are read isn't said, nor how old a report is.
 //! - CLAIM: `Answerer`, clause `answers`: the response is the reply to the request (`IsReply`), and the folder stays
 //!   the same. For a position it is an object of the tablebase API with each legal move, by tables of the folder of which none is missing
 //!   at the position and after its moves; or the refusal of the file of one that is needed. For a body it is these of each line, in turn.
@@ -19,10 +30,17 @@
 mod answerer;
 mod asking;
 mod filling;
+mod games;
 mod lines;
 mod page;
+mod plies;
 mod query;
+mod router;
+mod watch;
 
 pub use answerer::Answerer;
+pub use games::{GameFolders, Games};
 pub use page::PAGE;
 pub use query::asked_text;
+pub use router::Router;
+pub use watch::WATCH;

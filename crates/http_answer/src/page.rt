@@ -12,31 +12,31 @@ pub const PAGE: &str = "<!doctype html>\n\
 @media (prefers-color-scheme: dark) { :root { --light: #c9b48f; --dark: #7a5c3e; --on: #6cb0ff; --win: #6fd08c; --loss: #ff8a80; --draw: #b5b5b5; } }\n\
 * { box-sizing: border-box; }\n\
 body { font: 16px/1.45 system-ui, sans-serif; margin: 1rem auto; max-width: 62rem; padding: 0 1rem; }\n\
+h1 { font-size: 1.1rem; margin: 0 0 .8rem; }\n\
+svg { width: 100%; height: 100%; display: block; pointer-events: none; }\n\
+.white { fill: #fff; stroke: #222; stroke-width: 1.4; stroke-linejoin: round; }\n\
+.black { fill: #222; stroke: #eee; stroke-width: 1.1; stroke-linejoin: round; }\n\
+button { font: inherit; padding: .25rem .7rem; }\n\
+button[aria-pressed=true] { outline: 2px solid var(--on); }\n\
+.win { color: var(--win); } .loss { color: var(--loss); } .draw { color: var(--draw); }\n\
 main { display: flex; flex-wrap: wrap; gap: 1.5rem; align-items: flex-start; }\n\
 section { flex: 1 1 20rem; min-width: 0; }\n\
-h1 { font-size: 1.1rem; margin: 0 0 .8rem; }\n\
 #board { display: grid; grid-template: repeat(8, 1fr) / repeat(8, 1fr); max-width: 30rem; aspect-ratio: 1; border: 1px solid var(--line); }\n\
 #board button { border: 0; padding: 0; margin: 0; background: var(--light); cursor: pointer; position: relative; min-width: 0; min-height: 0; overflow: hidden; border-radius: 0; }\n\
 #board button.dark { background: var(--dark); }\n\
 #board button:focus-visible, #box button:focus-visible { outline: 3px solid var(--on); outline-offset: -3px; z-index: 1; }\n\
 #board button.held, #box button.held { box-shadow: inset 0 0 0 4px var(--on); }\n\
 #board button.target::after { content: \"\"; position: absolute; inset: 38%; border-radius: 50%; background: var(--on); }\n\
-svg { width: 100%; height: 100%; display: block; pointer-events: none; }\n\
-.white { fill: #fff; stroke: #222; stroke-width: 1.4; stroke-linejoin: round; }\n\
-.black { fill: #222; stroke: #eee; stroke-width: 1.1; stroke-linejoin: round; }\n\
 #box { display: none; flex-wrap: wrap; max-width: 30rem; margin-top: .5rem; }\n\
 #box.open { display: flex; }\n\
 #box button { width: 2.6rem; height: 2.6rem; padding: 2px; }\n\
 .row { display: flex; flex-wrap: wrap; gap: .5rem; margin: .7rem 0; align-items: center; max-width: 30rem; }\n\
 input[type=text] { flex: 1 1 14rem; font: 14px monospace; padding: .35rem; min-width: 0; }\n\
-button { font: inherit; padding: .25rem .7rem; }\n\
-button[aria-pressed=true] { outline: 2px solid var(--on); }\n\
 #verdict { font-size: 1.25rem; min-height: 1.8rem; margin: 0 0 .2rem; font-weight: 600; }\n\
 #detail { margin: 0 0 .8rem; min-height: 1.4rem; }\n\
 table { border-collapse: collapse; width: 100%; }\n\
 th, td { text-align: left; padding: .2rem .5rem; border-bottom: 1px solid var(--line); }\n\
 td button { border: 0; background: none; padding: 0; cursor: pointer; text-decoration: underline; color: inherit; }\n\
-.win { color: var(--win); } .loss { color: var(--loss); } .draw { color: var(--draw); }\n\
 </style>\n\
 </head>\n\
 <body>\n\
@@ -72,11 +72,15 @@ const SHAPES = {\n\
   k: '<path d=\"M18.500 4.500h3v2.800h2.800v3h-2.800v3.200c8.600-.4 11.300 6 6.800 13.500l.9 7H10.800l.9-7C7.200 19.500 9.900 13.100 18.500 13.500v-3.200h-2.800v-3h2.800z\"/>'\n\
 };\n\
 const NAMES = { p: \"pawn\", n: \"knight\", b: \"bishop\", r: \"rook\", q: \"queen\", k: \"king\" };\n\
-const START = \"8/8/8/4k3/8/8/8/KQ6 w - - 0 1\";\n\
-const FLIP = { win: \"loss\", loss: \"win\", \"cursed-win\": \"blessed-loss\", \"blessed-loss\": \"cursed-win\", \"maybe-win\": \"maybe-loss\", \"maybe-loss\": \"maybe-win\" };\n\
 const WORDS = { win: \"wins\", loss: \"loses\", draw: \"draw\", \"cursed-win\": \"wins, but for the fifty-move rule\", \"blessed-loss\": \"loses, but for the fifty-move rule\", \"maybe-win\": \"wins, perhaps too late\", \"maybe-loss\": \"loses, perhaps too late\", unknown: \"not in the tables\" };\n\
 const KIND = c => /win$/.test(c) && c !== \"cursed-win\" ? \"win\" : /loss$/.test(c) && c !== \"blessed-loss\" ? \"loss\" : \"draw\";\n\
 const by = id => document.getElementById(id);\n\
+const cells = f => [...f.split(\" \")[0].replace(/\\d/g, n => \".\".repeat(n)).replace(/\\//g, \"\").replace(/[^pnbrqkPNBRQK.]/g, \".\")].concat(Array(64).fill(\".\")).slice(0, 64);\n\
+const square = i => \"abcdefgh\"[i % 8] + (8 - (i >> 3));\n\
+const drawn = man => man === \".\" ? \"\" : `<svg viewBox=\"0 0 40 40\" class=\"${man < \"a\" ? \"white\" : \"black\"}\" aria-hidden=\"true\">${SHAPES[man.toLowerCase()]}</svg>`;\n\
+const named = man => man === \".\" ? \"empty\" : (man < \"a\" ? \"white \" : \"black \") + NAMES[man.toLowerCase()];\n\
+const START = \"8/8/8/4k3/8/8/8/KQ6 w - - 0 1\";\n\
+const FLIP = { win: \"loss\", loss: \"win\", \"cursed-win\": \"blessed-loss\", \"blessed-loss\": \"cursed-win\", \"maybe-win\": \"maybe-loss\", \"maybe-loss\": \"maybe-win\" };\n\
 const linked = () => {\n\
   const text = location.hash.slice(1);\n\
   try { return decodeURIComponent(text).replace(/_/g, \" \"); } catch (e) { return text; }\n\
@@ -84,11 +88,7 @@ const linked = () => {\n\
 let line = [linked() || START], at = 0, held = null, moves = [], turned = false, focus = 60;\n\
 \n\
 const fen = () => line[at];\n\
-const cells = f => [...f.split(\" \")[0].replace(/\\d/g, n => \".\".repeat(n)).replace(/\\//g, \"\").replace(/[^pnbrqkPNBRQK.]/g, \".\")].concat(Array(64).fill(\".\")).slice(0, 64);\n\
 const placed = c => Array.from({ length: 8 }, (_, r) => c.slice(8 * r, 8 * r + 8).join(\"\").replace(/\\.+/g, e => e.length)).join(\"/\");\n\
-const square = i => \"abcdefgh\"[i % 8] + (8 - (i >> 3));\n\
-const drawn = man => man === \".\" ? \"\" : `<svg viewBox=\"0 0 40 40\" class=\"${man < \"a\" ? \"white\" : \"black\"}\" aria-hidden=\"true\">${SHAPES[man.toLowerCase()]}</svg>`;\n\
-const named = man => man === \".\" ? \"empty\" : (man < \"a\" ? \"white \" : \"black \") + NAMES[man.toLowerCase()];\n\
 const isSetup = () => by(\"setup\").getAttribute(\"aria-pressed\") === \"true\";\n\
 \n\
 function go(to) { line = line.slice(0, at + 1).concat(to); at++; show(); }\n\

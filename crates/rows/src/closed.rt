@@ -2,17 +2,18 @@
 
 use adjudicate_core::{Pages, Serve};
 use std::alloc::Global;
-use system_io::{Disk, Output, WriteFault};
+use system_io::{Disk, Host, Output, WriteFault};
 
 /// Memory for answering requests is refused.
 #[derive(Clone, Copy)]
 pub(crate) struct Closed {}
 
 impl Pages for Closed {
-    fn serve_requests<D: Disk, W: Output>(
+    fn serve_requests<D: Disk, H: Host, W: Output>(
         &self,
         _alloc: Global,
         _disk: &D,
+        _host: &H,
         _task: &Serve<'_>,
         out: &mut W,
     ) -> Result<u8, WriteFault> {

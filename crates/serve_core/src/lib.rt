@@ -3,11 +3,12 @@
 //! `SystemPages` is what adjudicate_core's program is lent for `serve` (`Pages`): the line `ready ADDR` comes out, or one that refuses.
 //! Requests are answered by `http_answer` over the folder, connections are served by `http_loop`.
 //!
-//! Inside: `counting` (how many requests were answered), `serving`.
+//! Inside: `counting` (how many requests were answered), `logging` (a line of each), `serving`.
 #![tactic(auto)]
 
 mod answering;
 mod counting;
+mod logging;
 mod serving;
 
 pub use answering::answer_requests;

@@ -6,12 +6,14 @@ ghost use Rattle.move_msg.specs.ToldBy.{told_by};
 ghost use Rattle.adjudicate_core.specs.Commands.Serve.{Serves, ServesFolder, manifest_path, ready_line};
 ghost use Rattle.adjudicate_core.specs.Lines.{refused_manifest};
 ghost use Rattle.adjudicate_core.specs.Telling.{TellsOne, TellsWholeText};
+ghost use Rattle.serve_core.specs.GamesNamed.{games_named};
 ghost use Rattle.task_files.specs.Outside.{IsToldAt};
 
 use crate::answering::answer_requests;
+use crate::logging::Logged;
 use adjudicate_core::{Pages, Serve};
 use bumpalo::Bump;
-use http_answer::Answerer;
+use http_answer::{Answerer, GameFolders, Games, Router};
 use http_loop::{Limits, Server, Sockets};
 use http_server::Config;
 use line_teller::LineWords;
@@ -21,8 +23,8 @@ use std::hash::RandomState;
 use std::io;
 use std::net::{Net, SocketAddr, ToSocketAddrs};
 use std::random::RandomSource;
-use std::time::{Clock, Duration};
-use system_io::{Disk, Output, ReadFault, WriteFault};
+use std::time::{Clock, Duration, Instant};
+use system_io::{Disk, Host, Output, ReadFault, WriteFault};
 use table_folder::TableFolder;
 use task_files::read_manifest;
 
@@ -131,10 +133,10 @@ fn put_out<W: Output>(out: &mut W, text: &str) -> Result<u8, WriteFault>
 }
 
 /// Tells the address at which a server listens, and answers requests.
-fn serve_at<R: Clock + Net + RandomSource, D: Disk, W: Output>(
+fn serve_at<R: Clock + Net + RandomSource, D: Disk, H: Host, W: Output>(
     alloc: Global,
     server: &mut Server<'_, R, Sockets>,
-    answerer: Answerer<'_, D>,
+    service: Logged<'_, Router<'_, D, H, R>, H>,
     requests: u64,
     out: &mut W,
 ) -> Result<u8, WriteFault>
@@ -151,16 +153,39 @@ fn serve_at<R: Clock + Net + RandomSource, D: Disk, W: Output>(
         Ok(status) => status,
         Err(fault) => return Err(fault),
     };
-    match answer_requests(server, answerer, requests) {
+    match answer_requests(server, service, requests) {
         Ok(()) => Ok(status),
         Err(_) => refuse(out, "refused port"),
     }
 }
 
+/// The folders of games that the words name, if they do. The error comes where the system tells no time.
+fn games_of<'r, R: Clock, D: Disk, H: Host>(
+    rt: &R,
+    disk: &'r D,
+    host: &'r H,
+    task: &Serve<'r>,
+) -> io::Result<Option<Games<'r, D, H>>>
+    ensures { IfOk result (λ games. games ≡ games_named disk.entry host.entry task.now) }
+{
+    let Some(games) = task.games else {
+        return Ok(None);
+    };
+    let folders = GameFolders {
+        disk,
+        host,
+        games,
+        other: task.other,
+    };
+    Ok(Some(Games::of(folders, Instant::now(rt)?)))
+}
+
 /// Serves over a folder.
-fn serve_folder<R: Clock + Net + RandomSource, D: Disk, W: Output>(
+fn serve_folder<R: Clock + Net + RandomSource, D: Disk, H: Host, W: Output>(
     alloc: Global,
     rt: &R,
+    disk: &D,
+    host: &H,
     folder: TableFolder<'_, D>,
     task: &Serve<'_>,
     out: &mut W,
@@ -171,17 +196,27 @@ fn serve_folder<R: Clock + Net + RandomSource, D: Disk, W: Output>(
     let Ok(answerer) = Answerer::over(alloc, folder, BLOCKS) else {
         return refuse(out, "refused memory");
     };
+    let service = Logged {
+        service: Router {
+            alloc,
+            answerer,
+            games: games_of(rt, disk, host, task),
+        },
+        alloc,
+        host: if task.log { Some(host) } else { None },
+    };
     match server_at(rt, alloc, task.bind) {
-        Ok(mut server) => serve_at(alloc, &mut server, answerer, task.requests, out),
+        Ok(mut server) => serve_at(alloc, &mut server, service, task.requests, out),
         Err(_) => refuse(out, "refused port"),
     }
 }
 
 /// Serves over the folder that the words name, held to this manifest.
-fn serve_by<R: Clock + Net + RandomSource, D: Disk, W: Output>(
+fn serve_by<R: Clock + Net + RandomSource, D: Disk, H: Host, W: Output>(
     alloc: Global,
     rt: &R,
     disk: &D,
+    host: &H,
     manifest: &Manifest,
     task: &Serve<'_>,
     out: &mut W,
@@ -195,22 +230,23 @@ fn serve_by<R: Clock + Net + RandomSource, D: Disk, W: Output>(
     }
     let arena = Bump::new(alloc);
     match TableFolder::open(alloc, disk, task.tables, manifest, &arena) {
-        Ok(folder) => serve_folder(alloc, rt, folder, task, out),
+        Ok(folder) => serve_folder(alloc, rt, disk, host, folder, task, out),
         Err(ReadFault::Unreadable) => refuse(out, "refused files"),
         Err(ReadFault::OutOfMemory) => refuse(out, "refused memory"),
     }
 }
 
 impl<'r, R: Clock + Net + RandomSource> Pages for SystemPages<'r, R> {
-    fn serve_requests<D: Disk, W: Output>(
+    fn serve_requests<D: Disk, H: Host, W: Output>(
         &self,
         alloc: Global,
         disk: &D,
+        host: &H,
         task: &Serve<'_>,
         out: &mut W,
     ) -> Result<u8, WriteFault> {
         match read_manifest(alloc, disk, task.manifest) {
-            Ok(manifest) => serve_by(alloc, self.rt, disk, &manifest, task, out),
+            Ok(manifest) => serve_by(alloc, self.rt, disk, host, &manifest, task, out),
             Err(ReadFault::Unreadable) => refuse(out, "refused files"),
             Err(ReadFault::OutOfMemory) => refuse(out, "refused memory"),
         }

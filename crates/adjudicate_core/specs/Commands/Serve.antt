@@ -1,5 +1,6 @@
--- `serve --tables DIR [--manifest FILE] --bind ADDR [--requests N]`: requests of HTTP that are answered by the tables of a folder, and what
--- it tells (this project's own). What is answered to a request is the contract of http_answer.
+-- `serve --tables DIR [--manifest FILE] --bind ADDR [--requests N] [--games DIR [--other DIR]] [--log]`: requests of HTTP that are answered
+-- by the tables of a folder and by folders of games, and what it tells (this project's own). What is answered to a request is the contract
+-- of http_answer. Folders of games are read where a request asks for it.
 use Rattle.std.specs.Prelude.{◌≡◌, ◌++◌, ℕ, List, [], ◌∷◌, Option, Some, Result, Err, codes, option_map}
 use Rattle.clap.specs.Words.{Rule, Text}
 use Rattle.line_teller.specs.ToldLines.{refused_files, refused_memory}
@@ -16,9 +17,9 @@ use Rattle.adjudicate_core.specs.FolderAnswers.{IsSound}
 use Rattle.adjudicate_core.specs.Lines.{refused_manifest}
 use Rattle.adjudicate_core.specs.Rules.{rule_of_form}
 use Rattle.adjudicate_core.specs.declared.commands.Form.TheVariants as form
-use Rattle.adjudicate_core.specs.Misuses.{Fault, NoOption, Unfit}
+use Rattle.adjudicate_core.specs.Misuses.{Fault, NoOption, Unfit, WithoutGames}
 use Rattle.adjudicate_core.specs.declared.words.usage.Wanted.TheVariants as wanted
-use Rattle.adjudicate_core.specs.Numbers.{IsDatagrams}
+use Rattle.adjudicate_core.specs.Numbers.{IsDatagrams, is_set}
 use Rattle.adjudicate_core.specs.Telling.{TellsOne, TellsWholeText}
 use Rattle.adjudicate_core.specs.declared.commands.serve.Serve.{Serve}
 
@@ -27,7 +28,10 @@ rules =
     rule_of_form form.Option (codes "tables")
     ∷ rule_of_form form.Option (codes "manifest")
     ∷ rule_of_form form.Option (codes "bind")
-    ∷ rule_of_form form.Option (codes "requests") ∷ []
+    ∷ rule_of_form form.Option (codes "requests")
+    ∷ rule_of_form form.Option (codes "games")
+    ∷ rule_of_form form.Option (codes "other")
+    ∷ rule_of_form form.Flag (codes "log") ∷ []
 
 -- the values of its arguments
 pub record HasValues (value : Text → Option Text) (t : Serve) : Type 0 where
@@ -36,10 +40,13 @@ pub record HasValues (value : Text → Option Text) (t : Serve) : Type 0 where
   pub bind : Some t.bind.now ≡ value (codes "bind")
   pub address : IsAddressIfAny (value (codes "bind"))
   pub requests : IsDatagrams (value (codes "requests")) t.requests
+  pub games : option_map (λ s. s.now) t.games ≡ value (codes "games")
+  pub other : option_map (λ s. s.now) t.other ≡ value (codes "other")
+  pub log : t.log ≡ is_set (value (codes "log"))
 
 -- what may be wrong with its values, in the order in which it is told
 abbrev pub faults : List Fault
-faults = NoOption (codes "tables") ∷ NoOption (codes "bind") ∷ Unfit wanted.Address ∷ Unfit wanted.Requests ∷ []
+faults = NoOption (codes "tables") ∷ NoOption (codes "bind") ∷ Unfit wanted.Address ∷ Unfit wanted.Requests ∷ WithoutGames (codes "other") ∷ []
 
 -- nothing is read for it before it answers
 abbrev pub named : Named

@@ -157,6 +157,13 @@ pub(crate) const GAMES: Value = Value {
     stands: Stands::Needed,
 };
 
+/// The folder of games that pages show.
+pub(crate) const GAMES_SHOWN: Value = Value {
+    about: "the folder of games that pages show; none unless set",
+    stands: Stands::Optional,
+    ..GAMES
+};
+
 /// A second folder of games.
 pub(crate) const OTHER_GAMES: Value = Value {
     name: "other",

@@ -154,6 +154,8 @@ pub enum ValueFault<'a> {
     Beside(&'a str),
     /// A flag is given beside one that excludes it.
     FlagNotWith(Instead, &'a str),
+    /// An option stands without `--games`, of whose folder it tells more.
+    WithoutGames(&'a str),
 }
 
 /// A fault of the words of a command line.

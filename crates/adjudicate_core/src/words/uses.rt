@@ -358,6 +358,9 @@ fn tell_fault<E: Output>(errors: &mut E, fault: &ValueFault<'_>, name: Name)
         ValueFault::FlagNotWith(instead, flag) => {
             tell_name(errors, "--", flag, instead.rest(), name)
         }
+        ValueFault::WithoutGames(option) => {
+            tell_name(errors, "--", option, " needs --games", name)
+        }
     }
 }
 

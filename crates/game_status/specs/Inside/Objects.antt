@@ -1,36 +1,13 @@
 -- Objects that are written member by member; cited by private functions alone.
-use Rattle.std.specs.Prelude.{◌≡◌, ◌++◌, ℕ, Bool, List, codes, flat_map}
-use Rattle.json.specs.Json.{Members, array, member}
+use Rattle.std.specs.Prelude.{◌≡◌, ℕ, Bool, List, codes, flat_map}
+use Rattle.json.specs.Json.{array, member}
 use Rattle.json.specs.Token.{Token}
-use Rattle.json.specs.Tree.{json_tokens, members_tokens}
+use Rattle.json.specs.Tree.{json_tokens}
 use Rattle.json.specs.Written.{Written}
-use Rattle.move_msg.specs.Stamps.{IsGameName}
-use Rattle.game_status.specs.declared.side.Side.{Side}
 use Rattle.game_status.specs.declared.status_lines.Look.{Look}
-use Rattle.game_status.specs.declared.status_lines.Look.TheVariants as look
 use Rattle.game_status.specs.declared.totals.Totals.{Totals}
-use Rattle.game_status.specs.StatusObjects.{game_json, games_items, status_json}
+pub use Rattle.game_status.specs.StatusObjects.{AddsMembers, AddsTokens, AreNamed, IsNamed, game_json, games_items, status_json}
 use Rattle.game_status.specs.Totals.{AreFound, FoundGame, totals_of}
-
--- these tokens were written
-pub record AddsTokens (old new : Written) (ts : List Token) : Type 0 where
-  pub before : new.before ≡ old.before
-  pub tokens : new.tokens ≡ old.tokens ++ ts
-
--- these members were written: whatever comes next comes behind them
-pub record AddsMembers (old new : Written) (ms : Members → Members) : Type 0 where
-  pub before : new.before ≡ old.before
-  pub tokens : (more : Members) → new.tokens ++ members_tokens more ≡ old.tokens ++ members_tokens (ms more)
-
--- the names in it are those of games
-abbrev pub IsNamed : Side → Type 0
-IsNamed side = IsGameName side.game.name.items
-
-abbrev pub AreNamed : Look → Type 0
-AreNamed (look.One side) = IsNamed side
-AreNamed (look.Both side other compared) = IsNamed side × IsNamed other
-AreNamed (look.AtFault fault) = Unit {0}
-AreNamed (look.OtherAtFault fault) = Unit {0}
 
 -- the tokens of games, one behind the other
 abbrev pub games_tokens : Bool → List FoundGame → List Token

@@ -35,3 +35,6 @@ returns-in-FlagNotWith g c =
     rw (append_assoc name (codes " cannot be used with --") (instead_name c.in-FlagNotWith.instead))
     (rw c.rest-in-FlagNotWith.ensures at c.tell_name-in-FlagNotWith.ensures)
     )
+
+pub returns-in-WithoutGames : goal.returns-in-WithoutGames
+returns-in-WithoutGames g c = rw c.in-WithoutGames.is c.tell_name-in-WithoutGames.ensures

@@ -1,0 +1,36 @@
+-- What is seen of folders of games, over their stores, and what tables say of a position alone.
+use Rattle.std.proofs.Common.{◌≡◌, ℕ, List, Option, Some, None, refl, subst, sym}
+use Rattle.std.specs.Prelude.{Result, Ok, Err, option_map}
+use Rattle.std.specs.Borrow.{Bor}
+use Rattle.system_io.specs.Disks.{DiskFacts}
+use Rattle.system_io.specs.Records.{StorePlaces}
+use Rattle.board_core.specs.declared.parts.Parts.{Parts}
+use Rattle.json_lines.specs.declared.told.JsonLine.{JsonLine}
+use Rattle.judge_core.specs.Tables.{Tables}
+use Rattle.table_folder.specs.Folders.{Folder, FolderOn}
+use Rattle.table_folder.specs.Settled.{AreSettled, IsSettled}
+use Rattle.http_answer.specs.Games.{TellsAlone}
+use Rattle.game_status.specs.StoredDisks.{IsOverStore, IsSoOverStore, IsSoOverStores, Overlaid, overlaid_facts}
+
+-- over the store of a folder
+pub over : {D S : Type 0} (facts : D → DiskFacts) (stores : StorePlaces S) (disk : D) (folder : List ℕ) (o : Overlaid D) (Holds : DiskFacts → Type 0) → IsOverStore facts stores disk folder o → Holds (overlaid_facts facts o) → IsSoOverStore (facts disk) stores folder Holds
+over {D} facts stores disk folder o Holds (entries, are, is) holds = (entries, are, subst (λ (x : Overlaid D). Holds (overlaid_facts facts x)) is holds)
+
+abbrev path_of : Bor (List ℕ) → List ℕ
+path_of b = b.now
+
+module _ {S : Type 0} (disk : DiskFacts) (stores : StorePlaces S) (games : List ℕ) (Holds : DiskFacts → Type 0) where
+  pub alone : (other : Option (Bor (List ℕ))) → other ≡ None → IsSoOverStore disk stores games Holds → IsSoOverStores disk stores games (option_map path_of other) Holds
+  alone other none h = subst (λ (o : Option (Bor (List ℕ))). IsSoOverStores disk stores games (option_map path_of o) Holds) (sym none) h
+
+  pub with_other : (other : Option (Bor (List ℕ))) (second : Bor (List ℕ)) → other ≡ Some second → IsSoOverStore disk stores games (λ (d : DiskFacts). IsSoOverStore d stores second.now Holds) → IsSoOverStores disk stores games (option_map path_of other) Holds
+  with_other other second is h = subst (λ (o : Option (Bor (List ℕ))). IsSoOverStores disk stores games (option_map path_of o) Holds) (sym is) h
+
+-- ---- tables
+
+-- by a folder, as contracts see it
+pub alone_so : {D : Type 0} (facts : D → DiskFacts) (inside now : FolderOn D) (p : Parts) (l : JsonLine) → inside ≡ now → TellsAlone (facts inside.disk) inside.folder p l → TellsAlone (facts now.disk) now.folder p l
+alone_so {D} facts inside now p l same tells = subst (λ (on : FolderOn D). TellsAlone (facts on.disk) on.folder p l) same tells
+
+pub settled_alone : (folder : Folder) (tables : Tables) (p : Parts) → IsSettled folder tables p → AreSettled folder tables (λ q. q ≡ p)
+settled_alone folder tables p h q same = subst (IsSettled folder tables) (sym same) h

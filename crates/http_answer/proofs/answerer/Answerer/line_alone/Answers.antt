@@ -1,0 +1,14 @@
+use Rattle.std.proofs.lemmas.Result.{IfOk-weaker}
+use Rattle.http_answer.specs.Games.{ByRefusal, ByTables}
+use Rattle.http_answer.proofs.SeenLaws.{alone_so, settled_alone}
+use Rattle.http_answer.proofs.answerer.Answerer.line_alone.Goals as goal
+
+pub returns-in-Err-clause-told : goal.returns-in-Err-clause-told
+returns-in-Err-clause-told g c =
+    let refused = rw c.in-Err.is at c.in_ok-refusal.ensures.refused in
+    alone_so g.D.Disk.facts _ _ _ _ c.self.view_is (ByRefusal c.in-Err.refusal refused c.refusal_of.ensures)
+
+pub returns-clause-told : goal.returns-clause-told
+returns-clause-told g c =
+    let settled = settled_alone _ _ _ (rw c.in_default.is at c.in_ok-refusal.ensures.settled) in
+    IfOk-weaker c.of_position.result _ _ (λ l is. alone_so g.D.Disk.facts _ _ _ l c.self.view_is (ByTables (record { tables = c.settle.new.set.tables; opened = c.in_ok-refusal.ensures.opened; settled = settled; answers = is }))) c.of_position.ensures.told

@@ -1,0 +1,12 @@
+use Rattle.std.proofs.Common.{◌≡◌, length}
+use Rattle.http_answer.proofs.PlyLaws.{SoFar}
+use Rattle.http_answer.proofs.plies.add_moves.Given as goal
+
+abbrev pub invariant-loop-m : goal.invariant-loop-m
+invariant-loop-m g l = record {
+  told : SoFar (g.D.Disk.facts l.fn.answerer.disk) l.fn.answerer.folder l.fn.start l.fn.moves l.fn.text l.position l.rest l.text;
+  same : l.answerer ≡ l.fn.answerer;
+}
+
+abbrev pub decreases-loop-m : goal.decreases-loop-m
+decreases-loop-m g l = length l.rest

@@ -1,0 +1,246 @@
+//! The object of a game: what folders have of it, and its plies with what tables say of each.
+
+ghost use Rattle.std.specs.Prelude.{◌≡◌, IfNone, IfOk, IfSome, None, OnOk, Some};
+ghost use Rattle.board_core.specs.ComputedMoves.{position_after};
+ghost use Rattle.json.specs.Json.{document};
+ghost use Rattle.json.specs.Tree.{json_tokens};
+ghost use Rattle.json_lines.specs.Api.{api_json};
+ghost use Rattle.game_status.specs.StatusObjects.{AddsMembers, AddsTokens, AreNamed};
+ghost use Rattle.http_answer.specs.Games.{ArePlies, HasPlies, delay_in, moves_in};
+ghost use Rattle.http_answer.specs.Inside.{AddsGame, AddsList, AddsMoves, AddsNext, AddsPlies, AddsPosition, AddsStart, IsGameText, move_members};
+
+use crate::answerer::Answerer;
+use board_core::{Move, Position};
+use fen_text::{write, write_move};
+use game_status::{
+    GameFound, Look, Side, add_count, add_first, add_second_if, add_stamp, add_text,
+};
+use json::{Scratch, Value, Writer};
+use json_lines::{JsonLine, put_api_line};
+use move_msg::Stamp;
+use san_text::write_san;
+use std::alloc::{AllocError, Global};
+use system_io::Disk;
+
+/// The object of a line, as a text.
+fn object_of(alloc: Global, line: &JsonLine) -> Result<Vec<u8>, AllocError>
+    ensures { IfOk result (λ text. document text.items ≡ Some (api_json line.now)) }
+{
+    let mut text = Vec::new(alloc);
+    match put_api_line(&mut text, line) {
+        Ok(()) => Ok(text),
+        Err(_) => Err(AllocError),
+    }
+}
+
+/// Adds the object of a line as a value.
+fn add_line(alloc: Global, text: &mut Writer, line: &JsonLine) -> Result<(), AllocError>
+    ensures { OnOk result (AddsTokens text.old text.new (json_tokens (api_json line.now))) }
+{
+    let object = object_of(alloc, line)?;
+    let mut scratch = Scratch::new(alloc);
+    match Value::from_slice(alloc, &object, &mut scratch) {
+        Ok(value) => text.value(&value),
+        Err(_) => Err(AllocError),
+    }
+}
+
+/// Adds a position and what tables say of it.
+fn add_position<D: Disk>(
+    answerer: &mut Answerer<'_, D>,
+    alloc: Global,
+    text: &mut Writer,
+    position: &Position,
+) -> Result<(), AllocError>
+    ensures added { OnOk result (AddsPosition (D.facts answerer.old.disk) answerer.old.folder position.now text.old text.new) }
+    ensures same { answerer.new ≡ answerer.old }
+{
+    add_text(text, "fen", Some(write(position).as_str()))?;
+    let line = answerer.line_alone(position)?;
+    text.key("standard")?;
+    add_line(alloc, text, &line)
+}
+
+/// Adds the ply before the first move.
+fn add_start<D: Disk>(
+    answerer: &mut Answerer<'_, D>,
+    alloc: Global,
+    text: &mut Writer,
+    start: &Position,
+) -> Result<(), AllocError>
+    ensures added { OnOk result (AddsStart (D.facts answerer.old.disk) answerer.old.folder start.now text.old text.new) }
+    ensures same { answerer.new ≡ answerer.old }
+{
+    text.begin_object()?;
+    add_text(text, "uci", None)?;
+    add_text(text, "san", None)?;
+    add_position(answerer, alloc, text, start)?;
+    text.end_object()
+}
+
+/// Adds a move in both notations.
+fn add_move(text: &mut Writer, m: &Move, san: &str) -> Result<(), AllocError>
+    ensures { OnOk result (AddsMembers text.old text.new (move_members m.now san.now)) }
+{
+    add_text(text, "uci", Some(write_move(m).as_str()))?;
+    add_text(text, "san", Some(san))
+}
+
+/// Adds the ply after a move, and returns its position; none, and nothing is added, where the move isn't legal.
+fn add_next<D: Disk>(
+    answerer: &mut Answerer<'_, D>,
+    alloc: Global,
+    text: &mut Writer,
+    position: &Position,
+    m: &Move,
+) -> Result<Option<Position>, AllocError>
+    ensures added { IfOk result (λ next. IfSome next (AddsNext (D.facts answerer.old.disk) answerer.old.folder position.now m.now text.old text.new)) }
+    ensures none { IfOk result (λ next. IfNone next (position_after position.now m.now ≡ None)) }
+    ensures nothing { IfOk result (λ next. IfNone next (text.new ≡ text.old)) }
+    ensures same { answerer.new ≡ answerer.old }
+{
+    let Some(after) = position.play(*m) else {
+        return Ok(None);
+    };
+    let Some(san) = write_san(position, *m) else {
+        return Ok(None);
+    };
+    text.begin_object()?;
+    add_move(text, m, san.as_str())?;
+    add_position(answerer, alloc, text, &after)?;
+    text.end_object()?;
+    Ok(Some(after))
+}
+
+/// Adds the plies after moves, up to the first one that isn't legal.
+fn add_moves<D: Disk>(
+    answerer: &mut Answerer<'_, D>,
+    alloc: Global,
+    text: &mut Writer,
+    start: &Position,
+    moves: &[Move],
+) -> Result<(), AllocError>
+    ensures added { OnOk result (AddsMoves (D.facts answerer.old.disk) answerer.old.folder start.now moves.now text.old text.new) }
+    ensures same { answerer.new ≡ answerer.old }
+{
+    let mut position = *start;
+    let mut rest = moves;
+    while let Some((m, tail)) = rest.split_first() {
+        match add_next(answerer, alloc, text, &position, m)? {
+            Some(after) => position = after,
+            None => return Ok(()),
+        }
+        rest = tail;
+    }
+    Ok(())
+}
+
+/// The moves that a folder has of a game.
+fn moves_of(side: &Side) -> &[Move]
+    ensures { result.now ≡ moves_in side.now.kept }
+{
+    match &side.kept {
+        Some(record) => record.moves.as_slice(),
+        None => &[],
+    }
+}
+
+/// Adds the plies of what a folder has of a game.
+fn add_plies_of<D: Disk>(
+    answerer: &mut Answerer<'_, D>,
+    alloc: Global,
+    text: &mut Writer,
+    side: &Side,
+) -> Result<(), AllocError>
+    ensures added { OnOk result (AddsPlies (ArePlies (D.facts answerer.old.disk) answerer.old.folder side.now.game.start (moves_in side.now.kept)) text.old text.new) }
+    ensures same { answerer.new ≡ answerer.old }
+{
+    let start = &side.game.start;
+    add_start(answerer, alloc, text, start)?;
+    add_moves(answerer, alloc, text, start, moves_of(side))
+}
+
+/// Adds the plies of a game by what is found of it.
+fn add_plies<D: Disk>(
+    answerer: &mut Answerer<'_, D>,
+    alloc: Global,
+    text: &mut Writer,
+    look: &Look,
+) -> Result<(), AllocError>
+    ensures added { OnOk result (AddsPlies (HasPlies (D.facts answerer.old.disk) answerer.old.folder look.now) text.old text.new) }
+    ensures same { answerer.new ≡ answerer.old }
+{
+    match look {
+        Look::One(side) => add_plies_of(answerer, alloc, text, side),
+        Look::Both(side, _, _) => add_plies_of(answerer, alloc, text, side),
+        Look::AtFault(_) | Look::OtherAtFault(_) => Ok(()),
+    }
+}
+
+/// Adds the list of the plies of a game.
+fn add_list<D: Disk>(
+    answerer: &mut Answerer<'_, D>,
+    alloc: Global,
+    text: &mut Writer,
+    look: &Look,
+) -> Result<(), AllocError>
+    ensures added { OnOk result (AddsList (HasPlies (D.facts answerer.old.disk) answerer.old.folder look.now) text.old text.new) }
+    ensures same { answerer.new ≡ answerer.old }
+{
+    text.key("plies")?;
+    text.begin_array()?;
+    add_plies(answerer, alloc, text, look)?;
+    text.end_array()
+}
+
+/// The delay of a game, if it is known.
+fn delay_of(look: &Look) -> Option<u64>
+    ensures { result ≡ delay_in look.now }
+{
+    match look {
+        Look::One(side) => Some(u64::from(side.game.delay.plies())),
+        Look::Both(side, _, _) => Some(u64::from(side.game.delay.plies())),
+        Look::AtFault(_) | Look::OtherAtFault(_) => None,
+    }
+}
+
+/// Adds the object of a game by what is found of it.
+fn add_game<D: Disk>(
+    answerer: &mut Answerer<'_, D>,
+    alloc: Global,
+    text: &mut Writer,
+    stamp: Stamp,
+    found: &GameFound,
+    compares: bool,
+) -> Result<(), AllocError>
+    requires first { AreNamed found.now.first }
+    requires both { AreNamed found.now.both }
+    ensures added { OnOk result (AddsGame (D.facts answerer.old.disk) answerer.old.folder compares stamp found.now text.old text.new) }
+    ensures same { answerer.new ≡ answerer.old }
+{
+    text.begin_object()?;
+    add_stamp(text, stamp)?;
+    add_first(text, &found.first)?;
+    add_count(text, "delay", delay_of(&found.first))?;
+    add_list(answerer, alloc, text, &found.first)?;
+    add_second_if(text, &found.both, compares)?;
+    text.end_object()
+}
+
+/// The text of the object of a game by what is found of it.
+pub(crate) fn game_text<D: Disk>(
+    answerer: &mut Answerer<'_, D>,
+    alloc: Global,
+    stamp: Stamp,
+    found: &GameFound,
+    compares: bool,
+) -> Result<Vec<u8>, AllocError>
+    requires first { AreNamed found.now.first }
+    requires both { AreNamed found.now.both }
+    ensures text { IfOk result (λ text. IsGameText (D.facts answerer.old.disk) answerer.old.folder compares stamp found.now text.items) }
+    ensures same { answerer.new ≡ answerer.old }
+{
+    let mut text = Writer::new(Vec::new(alloc));
+    add_game(answerer, alloc, &mut text, stamp, found, compares)?;
+    Ok(text.into_inner())
+}

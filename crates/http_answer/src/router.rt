@@ -1,0 +1,301 @@
+//! Which part answers a request: the tables, or the folders of games.
+
+ghost use Rattle.std.specs.Prelude.{◌≡◌, ◌++◌, ℕ, List, IfNone, IfSome, OnOk};
+ghost use Rattle.http_server.specs.Response.{IsBlank, IsResponse};
+ghost use Rattle.game_status.specs.StatusObjects.{AreNamed};
+ghost use Rattle.http_answer.specs.Games.{AskedOfGames, AsksOfGames, HasGame, IsByMethod, TellsOfGames, fresh_fields, fresh_json, lacked_text};
+ghost use Rattle.http_answer.specs.Inside.{HasReportText, IsGameText, asked_of_games};
+
+use crate::answerer::Answerer;
+use crate::asking::Place;
+use crate::filling::{fill, fill_methods, fill_other_method};
+use crate::games::Games;
+use crate::plies::game_text;
+use crate::watch::WATCH;
+use bytes::Bytes;
+use game_status::{GameFound, LackedFolder, stamp_of};
+use http::{HeaderValue, Request, StatusCode, header};
+use http_server::{Response, Service};
+use move_msg::Stamp;
+use std::alloc::{AllocError, Global};
+use std::time::Instant;
+use system_io::{Disk, Host};
+
+/// What is asked for of games.
+#[derive(Clone, Copy)]
+pub(crate) enum GameTopic {
+    /// All games, and how many there are of each kind.
+    Games,
+    /// How many there are of each kind, as metrics.
+    Metrics,
+    /// The game with this stamp.
+    Game(Stamp),
+    /// A game, by what is no stamp.
+    NoStamp,
+    /// The page that follows games.
+    Watch,
+}
+
+/// The text behind a front, if it has that front.
+fn behind<'a>(path: &'a str, front: &str) -> Option<&'a [u8]>
+    ensures some { IfSome result (λ rest. path.entry.now ≡ front.now ++ rest.now) }
+    ensures none { IfNone result ((rest : List ℕ) → path.entry.now ≡ front.now ++ rest → ⊥) }
+{
+    path.as_bytes().strip_prefix(front.as_bytes())
+}
+
+/// What a path asks for of games, if it does.
+fn topic_at(path: &str) -> Option<GameTopic>
+    ensures some { IfSome result (λ topic. AsksOfGames path.now (asked_of_games topic)) }
+    ensures none { IfNone result ((a : AskedOfGames) → AsksOfGames path.now a → ⊥) }
+{
+    if path == "/games" {
+        return Some(GameTopic::Games);
+    }
+    if path == "/metrics" {
+        return Some(GameTopic::Metrics);
+    }
+    if path == "/watch" {
+        return Some(GameTopic::Watch);
+    }
+    if let Some(digits) = behind(path, "/games/") {
+        return Some(match stamp_of(digits) {
+            Some(stamp) => GameTopic::Game(stamp),
+            None => GameTopic::NoStamp,
+        });
+    }
+    if let Some(digits) = behind(path, "/watch/") {
+        return Some(match stamp_of(digits) {
+            Some(_) => GameTopic::Watch,
+            None => GameTopic::NoStamp,
+        });
+    }
+    None
+}
+
+/// Fills a response that isn't to be kept.
+fn fill_fresh(
+    response: &mut Response,
+    status: StatusCode,
+    kind: HeaderValue,
+    body: &[u8],
+) -> Result<(), AllocError>
+    requires { IsBlank response.old }
+    ensures { OnOk result (IsResponse status (fresh_fields kind.bytes) body.now response.new) }
+{
+    fill(response, status, kind, body)?;
+    response.add_header(
+        header::CACHE_CONTROL,
+        HeaderValue::from_static("no-store"),
+    )
+}
+
+/// The same, with a body as JSON.
+fn fill_fresh_json(
+    response: &mut Response,
+    status: StatusCode,
+    body: &[u8],
+) -> Result<(), AllocError>
+    requires { IsBlank response.old }
+    ensures { OnOk result (IsResponse status fresh_json body.now response.new) }
+{
+    fill_fresh(
+        response,
+        status,
+        HeaderValue::from_static("application/json"),
+        body,
+    )
+}
+
+/// That something is lacking of a folder, as the object of an error.
+fn lacked_text(lacked: LackedFolder) -> &'static str
+    ensures { result.now ≡ lacked_text lacked }
+{
+    match lacked {
+        LackedFolder::Files => "{\"error\":\"refused files\"}",
+        LackedFolder::Store => "{\"error\":\"refused store\"}",
+    }
+}
+
+/// Fills a response that tells what is lacking of a folder.
+fn fill_lacked(response: &mut Response, lacked: LackedFolder) -> Result<(), AllocError>
+    requires { IsBlank response.old }
+    ensures { OnOk result (IsResponse 500 fresh_json (lacked_text lacked) response.new) }
+{
+    fill_fresh_json(
+        response,
+        StatusCode::INTERNAL_SERVER_ERROR,
+        lacked_text(lacked).as_bytes(),
+    )
+}
+
+/// Fills a response with a report of this type.
+fn fill_report(
+    response: &mut Response,
+    kind: HeaderValue,
+    report: &Result<Vec<u8>, LackedFolder>,
+) -> Result<(), AllocError>
+    requires { IsBlank response.old }
+    ensures { OnOk result (HasReportText report.now kind.bytes response.new) }
+{
+    match report {
+        Ok(text) => fill_fresh(response, StatusCode::OK, kind, text),
+        Err(lacked) => fill_lacked(response, *lacked),
+    }
+}
+
+/// Fills a response with what is found of a game.
+fn fill_game<D: Disk>(
+    answerer: &mut Answerer<'_, D>,
+    alloc: Global,
+    stamp: Stamp,
+    found: &GameFound,
+    compares: bool,
+    response: &mut Response,
+) -> Result<(), AllocError>
+    requires first { AreNamed found.now.first }
+    requires both { AreNamed found.now.both }
+    requires blank { IsBlank response.old }
+    ensures told { OnOk result ((text : List ℕ) × IsGameText (D.facts answerer.old.disk) answerer.old.folder compares stamp found.now text × IsResponse 200 fresh_json text response.new) }
+    ensures same { answerer.new ≡ answerer.old }
+{
+    let text = game_text(answerer, alloc, stamp, found, compares)?;
+    fill_fresh_json(response, StatusCode::OK, &text)
+}
+
+/// Answers by the tables of a folder, and by folders of games, if they are named.
+#[derive(Drop)]
+pub struct Router<'r, D: Disk, H: Host> {
+    /// Where memory comes from.
+    pub alloc: Global,
+    /// What answers by the tables.
+    pub answerer: Answerer<'r, D>,
+    /// The folders of games.
+    pub games: Option<Games<'r, D, H>>,
+}
+
+/// Fills the response to what is asked for of the game with a stamp.
+fn tell_game<D: Disk, H: Host>(
+    answerer: &mut Answerer<'_, D>,
+    games: &Games<'_, D, H>,
+    alloc: Global,
+    stamp: Stamp,
+    response: &mut Response,
+) -> Result<(), AllocError>
+    requires { IsBlank response.old }
+    ensures told { OnOk result (HasGame (D.facts answerer.old.disk) answerer.old.folder D.facts H.stores games.now stamp response.new) }
+    ensures same { answerer.new ≡ answerer.old }
+{
+    match games.game(alloc, stamp)? {
+        Ok(Some(found)) => {
+            fill_game(answerer, alloc, stamp, &found, games.compares(), response)
+        }
+        Ok(None) => fill_fresh_json(
+            response,
+            StatusCode::NOT_FOUND,
+            b"{\"error\":\"game not found\"}",
+        ),
+        Err(lacked) => fill_lacked(response, lacked),
+    }
+}
+
+/// Fills the response to what is asked for of games.
+fn tell<D: Disk, H: Host>(
+    answerer: &mut Answerer<'_, D>,
+    games: &mut Games<'_, D, H>,
+    alloc: Global,
+    topic: GameTopic,
+    response: &mut Response,
+) -> Result<(), AllocError>
+    requires { IsBlank response.old }
+    ensures told { OnOk result (TellsOfGames D.facts H.stores answerer.old games.old (asked_of_games topic) response.new) }
+    ensures same { answerer.new ≡ answerer.old }
+    ensures same_games { games.new ≡ games.old }
+{
+    match topic {
+        GameTopic::Games => fill_report(
+            response,
+            HeaderValue::from_static("application/json"),
+            &games.json(alloc)?,
+        ),
+        GameTopic::Metrics => fill_report(
+            response,
+            HeaderValue::from_static("text/plain; version=0.0.4"),
+            &games.metrics(alloc)?,
+        ),
+        GameTopic::Game(stamp) => tell_game(answerer, games, alloc, stamp, response),
+        GameTopic::NoStamp => fill_fresh_json(
+            response,
+            StatusCode::BAD_REQUEST,
+            b"{\"error\":\"no stamp\"}",
+        ),
+        GameTopic::Watch => fill(
+            response,
+            StatusCode::OK,
+            HeaderValue::from_static("text/html; charset=utf-8"),
+            WATCH.as_bytes(),
+        ),
+    }
+}
+
+/// Fills the response to what is asked for of games by a method.
+fn tell_by_method<D: Disk, H: Host>(
+    answerer: &mut Answerer<'_, D>,
+    games: &mut Games<'_, D, H>,
+    alloc: Global,
+    method: &str,
+    topic: GameTopic,
+    response: &mut Response,
+) -> Result<(), AllocError>
+    requires { IsBlank response.old }
+    ensures told { OnOk result (IsByMethod method.now (TellsOfGames D.facts H.stores answerer.old games.old (asked_of_games topic)) response.new) }
+    ensures same { answerer.new ≡ answerer.old }
+    ensures same_games { games.new ≡ games.old }
+{
+    if method == "GET" || method == "HEAD" {
+        tell(answerer, games, alloc, topic, response)
+    } else if method == "OPTIONS" {
+        fill_methods(response, Place::Page)
+    } else {
+        fill_other_method(response, Place::Page)
+    }
+}
+
+impl<'r, D: Disk, H: Host> Router<'r, D, H> {
+    /// It is this time now: reports on games that were read a second ago or longer are let go.
+    pub fn pass(&mut self, now: Instant)
+        ensures tables { self.new.answerer ≡ self.old.answerer }
+        ensures games { self.new.games ≡ self.old.games }
+    {
+        if let Some(games) = &mut self.games {
+            games.pass(now);
+        }
+    }
+}
+
+impl<'r, D: Disk, H: Host> Service for Router<'r, D, H> {
+    ghost use Rattle.http_answer.specs.Games.{Routes};
+
+    ghost answers = { λ old request response new. Routes D.facts H.stores old.answerer old.games request response new.answerer new.games };
+
+    fn call(
+        &mut self,
+        request: &Request<Bytes>,
+        response: &mut Response,
+    ) -> Result<(), AllocError> {
+        let Some(games) = &mut self.games else {
+            return self.answerer.call(request, response);
+        };
+        match topic_at(request.uri().path()) {
+            Some(topic) => tell_by_method(
+                &mut self.answerer,
+                games,
+                self.alloc,
+                request.method().as_str(),
+                topic,
+                response,
+            ),
+            None => self.answerer.call(request, response),
+        }
+    }
+}
