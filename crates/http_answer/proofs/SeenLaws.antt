@@ -34,3 +34,17 @@ alone_so {D} facts inside now p l same tells = subst (λ (on : FolderOn D). Tell
 
 pub settled_alone : (folder : Folder) (tables : Tables) (p : Parts) → IsSettled folder tables p → AreSettled folder tables (λ q. q ≡ p)
 settled_alone folder tables p h q same = subst (IsSettled folder tables) (sym same) h
+
+-- ---- a folder, and a second one if it is named
+
+module _ {D S : Type 0} (facts : D → DiskFacts) (stores : StorePlaces S) (disk : D) (games : List ℕ) (Holds : Option (List ℕ) → DiskFacts → Type 0) (other : Option (Bor (List ℕ))) where
+  pub seen_alone : (o : Overlaid D) → other ≡ None → IsOverStore facts stores disk games o → Holds None (overlaid_facts facts o) → IsSoOverStores (facts disk) stores games (option_map path_of other) (Holds (option_map path_of other))
+  seen_alone o none is holds =
+      subst (λ (x : Option (Bor (List ℕ))). IsSoOverStores (facts disk) stores games (option_map path_of x) (Holds (option_map path_of x))) (sym none) (over facts stores disk games o (Holds None) is holds)
+
+  pub seen_both : {E : Type 0} (by : E → Overlaid D) (first : E) (second : Bor (List ℕ)) (o : Overlaid E) → other ≡ Some second → IsOverStore facts stores disk games (by first)
+      → IsOverStore (λ (d : E). overlaid_facts facts (by d)) stores first second.now o → Holds (Some second.now) (overlaid_facts (λ (d : E). overlaid_facts facts (by d)) o)
+      → IsSoOverStores (facts disk) stores games (option_map path_of other) (Holds (option_map path_of other))
+  seen_both {E} by first second o some is too holds =
+      subst (λ (x : Option (Bor (List ℕ))). IsSoOverStores (facts disk) stores games (option_map path_of x) (Holds (option_map path_of x))) (sym some)
+      (over facts stores disk games (by first) (λ (d : DiskFacts). IsSoOverStore d stores second.now (Holds (Some second.now))) is (over (λ (d : E). overlaid_facts facts (by d)) stores first second.now o (Holds (Some second.now)) too holds))

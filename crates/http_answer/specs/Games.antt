@@ -182,15 +182,27 @@ watch_path rest = codes "/watch/" ++ rest
 abbrev pub IsNoStamp : List ℕ → Type 0
 IsNoStamp digits = (stamp : List ℕ) → IsStamp stamp → digits ≡ encode_lower stamp → ⊥
 
+-- a game by the digits of its stamp, or by what is no stamp
+pub data AsksByDigits (digits : List ℕ) (a : AskedOfGames) : Type 0 where
+  OfStamp : (stamp : List ℕ) → IsStamp stamp → digits ≡ encode_lower stamp → a ≡ Game stamp → AsksByDigits digits a
+  OfNone : IsNoStamp digits → a ≡ NoStamp → AsksByDigits digits a
+
+-- so for the page, which is one for all games
+pub data AsksToWatch (digits : List ℕ) (a : AskedOfGames) : Type 0 where
+  PageOfStamp : (stamp : List ℕ) → IsStamp stamp → digits ≡ encode_lower stamp → a ≡ Watch → AsksToWatch digits a
+  PageOfNone : IsNoStamp digits → a ≡ NoStamp → AsksToWatch digits a
+
+-- what a longer path asks for
+pub data AsksBelow (path : List ℕ) (a : AskedOfGames) : Type 0 where
+  ForGame : (digits : List ℕ) → path ≡ game_path digits → AsksByDigits digits a → AsksBelow path a
+  ForPage : (digits : List ℕ) → path ≡ watch_path digits → AsksToWatch digits a → AsksBelow path a
+
 -- what this path asks for
 pub data AsksOfGames (path : List ℕ) (a : AskedOfGames) : Type 0 where
-  ForGames : path ≡ codes "/games" → a ≡ Games → AsksOfGames path a
-  ForMetrics : path ≡ codes "/metrics" → a ≡ Metrics → AsksOfGames path a
-  ForGame : (stamp : List ℕ) → IsStamp stamp → path ≡ game_path (encode_lower stamp) → a ≡ Game stamp → AsksOfGames path a
-  ForNoGame : (rest : List ℕ) → IsNoStamp rest → path ≡ game_path rest → a ≡ NoStamp → AsksOfGames path a
-  ForWatch : path ≡ codes "/watch" → a ≡ Watch → AsksOfGames path a
-  ForWatchGame : (stamp : List ℕ) → IsStamp stamp → path ≡ watch_path (encode_lower stamp) → a ≡ Watch → AsksOfGames path a
-  ForWatchNone : (rest : List ℕ) → IsNoStamp rest → path ≡ watch_path rest → a ≡ NoStamp → AsksOfGames path a
+  ForGames : bytes_eq path (codes "/games") ≡ true → a ≡ Games → AsksOfGames path a
+  ForMetrics : bytes_eq path (codes "/metrics") ≡ true → a ≡ Metrics → AsksOfGames path a
+  ForWatch : bytes_eq path (codes "/watch") ≡ true → a ≡ Watch → AsksOfGames path a
+  ForMore : bytes_eq path (codes "/games") ≡ false → bytes_eq path (codes "/metrics") ≡ false → bytes_eq path (codes "/watch") ≡ false → AsksBelow path a → AsksOfGames path a
 
 -- ---- what is answered
 

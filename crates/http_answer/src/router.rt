@@ -3,7 +3,7 @@
 ghost use Rattle.std.specs.Prelude.{◌≡◌, ◌++◌, ℕ, List, IfNone, IfSome, OnOk};
 ghost use Rattle.http_server.specs.Response.{IsBlank, IsResponse};
 ghost use Rattle.game_status.specs.StatusObjects.{AreNamed};
-ghost use Rattle.http_answer.specs.Games.{AskedOfGames, AsksOfGames, HasGame, IsByMethod, TellsOfGames, fresh_fields, fresh_json, lacked_text};
+ghost use Rattle.http_answer.specs.Games.{AskedOfGames, AsksBelow, AsksByDigits, AsksOfGames, AsksToWatch, HasGame, IsByMethod, TellsOfGames, fresh_fields, fresh_json, lacked_text};
 ghost use Rattle.http_answer.specs.Inside.{HasReportText, IsGameText, asked_of_games};
 
 use crate::answerer::Answerer;
@@ -37,11 +37,48 @@ pub(crate) enum GameTopic {
 }
 
 /// The text behind a front, if it has that front.
-fn behind<'a>(path: &'a str, front: &str) -> Option<&'a [u8]>
+fn behind<'a>(path: &'a [u8], front: &[u8]) -> Option<&'a [u8]>
     ensures some { IfSome result (λ rest. path.entry.now ≡ front.now ++ rest.now) }
     ensures none { IfNone result ((rest : List ℕ) → path.entry.now ≡ front.now ++ rest → ⊥) }
 {
-    path.as_bytes().strip_prefix(front.as_bytes())
+    match path.strip_prefix(front) {
+        Some(rest) => Some(rest),
+        None => None,
+    }
+}
+
+/// What the digits behind the path of games ask for.
+fn game_of(digits: &[u8]) -> GameTopic
+    ensures { AsksByDigits digits.now (asked_of_games result) }
+{
+    match stamp_of(digits) {
+        Some(stamp) => GameTopic::Game(stamp),
+        None => GameTopic::NoStamp,
+    }
+}
+
+/// What the digits behind the path of the page ask for.
+fn watch_of(digits: &[u8]) -> GameTopic
+    ensures { AsksToWatch digits.now (asked_of_games result) }
+{
+    match stamp_of(digits) {
+        Some(_) => GameTopic::Watch,
+        None => GameTopic::NoStamp,
+    }
+}
+
+/// What a longer path asks for of games, if it does.
+fn topic_below(path: &[u8]) -> Option<GameTopic>
+    ensures some { IfSome result (λ topic. AsksBelow path.now (asked_of_games topic)) }
+    ensures none { IfNone result ((a : AskedOfGames) → AsksBelow path.now a → ⊥) }
+{
+    if let Some(digits) = behind(path, b"/games/") {
+        return Some(game_of(digits));
+    }
+    match behind(path, b"/watch/") {
+        Some(digits) => Some(watch_of(digits)),
+        None => None,
+    }
 }
 
 /// What a path asks for of games, if it does.
@@ -50,27 +87,14 @@ fn topic_at(path: &str) -> Option<GameTopic>
     ensures none { IfNone result ((a : AskedOfGames) → AsksOfGames path.now a → ⊥) }
 {
     if path == "/games" {
-        return Some(GameTopic::Games);
+        Some(GameTopic::Games)
+    } else if path == "/metrics" {
+        Some(GameTopic::Metrics)
+    } else if path == "/watch" {
+        Some(GameTopic::Watch)
+    } else {
+        topic_below(path.as_bytes())
     }
-    if path == "/metrics" {
-        return Some(GameTopic::Metrics);
-    }
-    if path == "/watch" {
-        return Some(GameTopic::Watch);
-    }
-    if let Some(digits) = behind(path, "/games/") {
-        return Some(match stamp_of(digits) {
-            Some(stamp) => GameTopic::Game(stamp),
-            None => GameTopic::NoStamp,
-        });
-    }
-    if let Some(digits) = behind(path, "/watch/") {
-        return Some(match stamp_of(digits) {
-            Some(_) => GameTopic::Watch,
-            None => GameTopic::NoStamp,
-        });
-    }
-    None
 }
 
 /// Fills a response that isn't to be kept.

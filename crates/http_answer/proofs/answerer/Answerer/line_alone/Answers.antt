@@ -1,6 +1,8 @@
+use Rattle.std.proofs.Common.{subst, sym}
 use Rattle.std.proofs.lemmas.Result.{IfOk-weaker}
 use Rattle.http_answer.specs.Games.{ByRefusal, ByTables}
-use Rattle.http_answer.proofs.SeenLaws.{alone_so, settled_alone}
+use Rattle.table_folder.specs.Settled.{IsSettled}
+use Rattle.http_answer.proofs.SeenLaws.{alone_so}
 use Rattle.http_answer.proofs.answerer.Answerer.line_alone.Goals as goal
 
 pub returns-in-Err-clause-told : goal.returns-in-Err-clause-told
@@ -10,5 +12,5 @@ returns-in-Err-clause-told g c =
 
 pub returns-clause-told : goal.returns-clause-told
 returns-clause-told g c =
-    let settled = settled_alone _ _ _ (rw c.in_default.is at c.in_ok-refusal.ensures.settled) in
-    IfOk-weaker c.of_position.result _ _ (λ l is. alone_so g.D.Disk.facts _ _ _ l c.self.view_is (ByTables (record { tables = c.settle.new.set.tables; opened = c.in_ok-refusal.ensures.opened; settled = settled; answers = is }))) c.of_position.ensures.told
+    let settled = rw c.in_default.is at c.in_ok-refusal.ensures.settled in
+    IfOk-weaker c.of_position.result _ _ (λ l is. alone_so g.D.Disk.facts _ _ _ l c.self.view_is (ByTables (record { tables = c.settle.new.set.tables; opened = c.in_ok-refusal.ensures.opened; settled = λ q same. subst (IsSettled _ _) (sym same) settled; answers = is }))) c.of_position.ensures.told
