@@ -42,7 +42,7 @@ pub(crate) fn read_when_asked(lazy: bool, folder: Option<&str>) -> Option<&str>
 }
 
 /// An arena for the tables that a command keeps: of so many megabytes at most, where a number is given.
-pub(crate) fn arena_for(alloc: Global, memory: Option<Megabytes>) -> Bump {
+pub fn arena_for(alloc: Global, memory: Option<Megabytes>) -> Bump {
     let arena = Bump::new(alloc);
     if let Some(most) = memory {
         arena.set_allocation_limit(Some(most.bytes()));

@@ -110,6 +110,7 @@ pub use commands::{
     Root, RunSchedule, Send, SentGame, Serve, Show, ShowRecord, ShowStatus, Stands, Task, ToldGame,
     Value, Version, parse,
 };
+pub use folders::arena_for;
 pub use machine::Machine;
 pub use pages::Pages;
 pub use program::{refuse_memory, run, run_program};

@@ -12,7 +12,7 @@ use Rattle.json.specs.Tree.{depth, items_depth, items_tokens, json_tokens}
 use Rattle.json.specs.Written.{Written}
 use Rattle.system_io.specs.Disks.{DiskFacts}
 use Rattle.table_folder.specs.Folders.{Folder, FolderOn}
-use Rattle.json_lines.proofs.ApiDepth.{api_shallow}
+use Rattle.json_lines.proofs.Whole.{shallow}
 use Rattle.game_status.specs.declared.one_game.GameFound.{GameFound}
 use Rattle.game_status.specs.StatusObjects.{AddsMembers, AddsTokens, count_or_null, members_if, second_members}
 use Rattle.game_status.proofs.ObjectDepth.{first_flat, flat_count, flat_text, second_if_shallow}
@@ -81,7 +81,7 @@ ply_shallow : (t : Ply) → depth (ply_json t) ≤ 4
 ply_shallow t =
     let u = flat_text t.uci in
     let s = flat_text t.san in
-    let l = api_shallow t.line in
+    let l = shallow t.line in
     omega (arith, u, s, l)
 
 plies_shallow : (ts : List Ply) → items_depth (plies_items ts) ≤ 4

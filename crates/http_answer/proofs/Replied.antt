@@ -1,16 +1,20 @@
--- What all calls of a connection have in common, where each leaves the folder as it was.
-use Rattle.std.proofs.Common.{◌≡◌, ℕ, List, [], ◌∷◌, All, subst}
+-- What all calls of a connection have in common, where each leaves the folders as they were.
+use Rattle.std.proofs.Common.{◌≡◌, List, [], ◌∷◌, Option, All, subst}
 use Rattle.std.proofs.lemmas.List.Elements.{All-nil, All-cons}
 use Rattle.http.specs.declared.request.Request.{Request}
 use Rattle.http_server.specs.declared.response.Response.{Response}
 use Rattle.http_server.specs.Exchange.{Call, Chain}
 use Rattle.system_io.specs.Disks.{DiskFacts}
+use Rattle.system_io.specs.Records.{StorePlaces}
 use Rattle.table_folder.specs.Folders.{FolderOn}
-use Rattle.http_answer.specs.Replies.{IsReplied, Replies}
+use Rattle.http_answer.specs.Games.{GamesOn, IsServedCall, Routes}
 
--- every call of a chain is answered by the folder at its start
-pub all_replied : {D : Type 0} (facts : D → DiskFacts) (calls : List Call) (old new : FolderOn D) → Chain (Replies facts) old calls new → All (IsReplied facts old) calls
-all_replied {D} facts [] old new x = All-nil (IsReplied facts old)
-all_replied {D} facts (c ∷ calls) old new x =
-    All-cons (IsReplied facts old) c calls x.1.0
-    (subst (λ s. All (IsReplied facts s) calls) x.1.1 (all_replied facts calls x.0 new x.2))
+-- every call of a chain is served by the folders at its start
+pub all_routed : {D H S R : Type 0} (facts : D → DiskFacts) (stores : H → StorePlaces S) (tables : R → FolderOn D) (games : R → Option (GamesOn D H)) (calls : List Call) (old new : R)
+    → Chain (λ was request response now. Routes facts stores (tables was) (games was) request response (tables now) (games now)) old calls new
+    → All (IsServedCall facts stores (tables old) (games old)) calls
+all_routed facts stores tables games [] old new x = All-nil (IsServedCall facts stores (tables old) (games old))
+all_routed facts stores tables games (c ∷ calls) old new x =
+    All-cons (IsServedCall facts stores (tables old) (games old)) c calls x.1.served
+    (subst (λ t. All (IsServedCall facts stores t (games old)) calls) x.1.tables_stay
+    (subst (λ g. All (IsServedCall facts stores (tables x.0) g) calls) x.1.games_stay (all_routed facts stores tables games calls x.0 new x.2)))

@@ -17,9 +17,10 @@ use Rattle.http_server.specs.Exchange.{Call}
 use Rattle.http_server.specs.Response.{IsResponse}
 use Rattle.json.specs.Json.{Json, document, string, object, array, Items, no_items, item, no_members, member}
 use Rattle.judge_core.specs.declared.ask.Ask.TheVariants.{Strict}
-use Rattle.json_lines.specs.Api.{api_json}
+use Rattle.json_lines.specs.Objects.{line_json}
 use Rattle.json_lines.specs.Told.{IsLineOf}
 use Rattle.json_lines.specs.declared.told.JsonLine.{JsonLine}
+use Rattle.json_lines.specs.declared.told.JsonLine.TheVariants as line
 use Rattle.move_msg.specs.declared.record_bytes.Record.{Record as Records}
 use Rattle.move_msg.specs.Stamps.{IsStamp}
 use Rattle.san_text.specs.Written.{san_of}
@@ -40,8 +41,8 @@ use Rattle.game_status.specs.StatusObjects.{count_or_null, first_members, json_t
 use Rattle.game_status.specs.StoredDisks.{IsSoOverStore, IsSoOverStores, LacksFolder}
 use Rattle.table_folder.specs.declared.fault.FileRefusal.{FileRefusal}
 use Rattle.table_folder.specs.Folders.{Folder, FolderOn}
-use Rattle.table_folder.specs.Settled.{AnswersBy, IsRefusedAt}
-use Rattle.http_answer.specs.Replies.{IsReply, RefusesFile, allowed, fields, json_fields, page_methods}
+use Rattle.table_folder.specs.Settled.{AnswersBy, IsAlone, IsRefusedAt}
+use Rattle.http_answer.specs.Replies.{IsReply, allowed, refused_words, fields, json_fields, page_methods}
 use Rattle.http_answer.specs.declared.games.GameFolders.{GameFolders}
 use Rattle.http_answer.specs.declared.watch.TheConstants.{WATCH}
 
@@ -82,10 +83,17 @@ HasNoGame facts stores on stamp = IsSeen facts stores on (λ d. ListsNoGame d on
 
 -- ---- the plies of a game
 
+-- the line that refuses the file of a table
+abbrev pub RefusesAlone : FileRefusal → JsonLine → Type 0
+RefusesAlone refusal (line.Fault fault) = ⊥
+RefusesAlone refusal (line.Refused words) = words.bytes ≡ refused_words refusal
+RefusesAlone refusal (line.Position t) = ⊥
+RefusesAlone refusal (line.Root t moves) = ⊥
+
 -- What tables of the folder say of a position, of which none is missing at it; or the refusal of a file of one that is needed.
 pub data TellsAlone (disk : DiskFacts) (folder : Folder) (p : Parts) (l : JsonLine) : Type 0 where
-  ByTables : AnswersBy disk folder (λ q. q ≡ p) (λ tables. IsLineOf Strict false tables p l) → TellsAlone disk folder p l
-  ByRefusal : (refusal : FileRefusal) → IsRefusedAt disk folder p refusal → RefusesFile refusal l → TellsAlone disk folder p l
+  ByTables : AnswersBy disk folder (IsAlone p) (λ tables. IsLineOf Strict false tables p l) → TellsAlone disk folder p l
+  ByRefusal : (refusal : FileRefusal) → IsRefusedAt disk folder p refusal → RefusesAlone refusal l → TellsAlone disk folder p l
 
 -- a ply: the move that led to it, in both notations, which is none at the start; its position; and what tables say of that
 pub record Ply : Type 0 where
@@ -136,7 +144,7 @@ ply_json t =
     (member (codes "uci") (text_or_null t.uci)
     (member (codes "san") (text_or_null t.san)
     (member (codes "fen") (string (fen_of t.position))
-    (member (codes "standard") (api_json t.line) no_members))))
+    (member (codes "tables") (line_json t.line) no_members))))
 
 abbrev pub plies_items : List Ply → Items
 plies_items [] = no_items
@@ -278,6 +286,10 @@ pub data IsServed {D H S : Type 0} (facts : D → DiskFacts) (stores : H → Sto
   OfTables : ((a : AskedOfGames) → AsksOfThese games (path_of request) a → ⊥) → IsReply facts tables request r → IsServed facts stores tables games request r
   OfGames : (on : GamesOn D H) → games ≡ Some on → (a : AskedOfGames) → AsksOfGames (path_of request) a
       → IsByMethod (head_of request).method (TellsOfGames facts stores tables on a) r → IsServed facts stores tables games request r
+
+-- a call is served so
+abbrev pub IsServedCall : {D H S : Type 0} → (D → DiskFacts) → (H → StorePlaces S) → FolderOn D → Option (GamesOn D H) → Call → Type 0
+IsServedCall facts stores tables games c = IsServed facts stores tables games c.0 c.1
 
 -- what a router does, by its folders, which stay the same
 pub record Routes {D H S : Type 0} (facts : D → DiskFacts) (stores : H → StorePlaces S) (tables : FolderOn D) (games : Option (GamesOn D H)) (request : Request (List ℕ)) (r : Response) (new : FolderOn D) (now : Option (GamesOn D H)) : Type 0 where

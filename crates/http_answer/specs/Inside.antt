@@ -116,7 +116,7 @@ abbrev pub move_members : Move → List ℕ → Members → Members
 move_members m san more = member (codes "uci") (text_or_null (Some (move_text m))) (member (codes "san") (text_or_null (Some san)) more)
 
 abbrev pub position_members : Parts → JsonLine → Members → Members
-position_members p l more = member (codes "fen") (string (fen_of p)) (member (codes "standard") (api_json l) more)
+position_members p l more = member (codes "fen") (string (fen_of p)) (member (codes "tables") (line_json l) more)
 
 -- a position and what tables say of it were written
 abbrev pub AddsPosition : DiskFacts → Folder → Parts → Written → Written → Type 0

@@ -140,10 +140,14 @@ HasLine l r = IsResponse (status_of l) json_fields (object_text l) r
 abbrev pub HasLines : List ApiLine → Response → Type 0
 HasLines ls r = IsResponse 200 (fields (codes "application/x-ndjson")) (objects_text ls) r
 
--- the line that refuses the file of a table: its name, and what is wrong with it
+-- the words that refuse the file of a table: its name, and what is wrong with it
+abbrev pub refused_words : FileRefusal → List ℕ
+refused_words refusal = refusal.name.bytes ++ codes " " ++ file_fault_name refusal.fault
+
+-- the line that refuses it
 abbrev pub RefusesFile : FileRefusal → ApiLine → Type 0
 RefusesFile refusal (line.Fault fault) = ⊥
-RefusesFile refusal (line.Refused words) = words.bytes ≡ refusal.name.bytes ++ codes " " ++ file_fault_name refusal.fault
+RefusesFile refusal (line.Refused words) = words.bytes ≡ refused_words refusal
 RefusesFile refusal (line.Values t moves) = ⊥
 RefusesFile refusal (line.Mainline t plies) = ⊥
 

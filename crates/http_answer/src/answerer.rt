@@ -5,7 +5,7 @@ ghost use Rattle.http_server.specs.Response.{IsBlank};
 ghost use Rattle.http_answer.specs.Games.{TellsAlone};
 ghost use Rattle.http_answer.specs.Inside.{AddsObject, AreObjects, IsOnePly, asked_for};
 ghost use Rattle.http_answer.specs.Queries.{asked_lines};
-ghost use Rattle.http_answer.specs.Replies.{HasLine, HasLines, IsLineOfPlay, IsPlayedOn, IsRefusedInLine, IsReplyTo, RefusesFile, TellsMainline, TellsEach, TellsPosition, TellsText, most_plies};
+ghost use Rattle.http_answer.specs.Replies.{HasLine, HasLines, IsLineOfPlay, IsPlayedOn, IsRefusedInLine, IsReplyTo, RefusesFile, TellsMainline, TellsEach, TellsPosition, TellsText, most_plies, refused_words};
 ghost use Rattle.json_lines.specs.ApiTold.{IsApiLineFor, IsApiPosition, IsMainline};
 ghost use Rattle.json_lines.specs.declared.api_told.ApiLine.{ApiLine};
 ghost use Rattle.table_folder.specs.Settled.{AnswersBy, IsRefusedFor, IsWithMoves};
@@ -19,11 +19,12 @@ use crate::page::PAGE;
 use crate::query::position_text;
 use arrayvec::ArrayString;
 use board_core::{Position, Side};
+use bumpalo::Bump;
 use bytes::Bytes;
 use fen_text::read;
 use http::{HeaderValue, Request, StatusCode};
 use http_server::{Response, Service};
-use json_lines::{ApiLine, ApiMove, ApiPosition};
+use json_lines::{ApiLine, ApiMove, ApiPosition, Ask, JsonLine};
 use judge_core::Set;
 use std::alloc::{AllocError, Global};
 use std::marker::Model;
@@ -61,15 +62,22 @@ fn add<T: Copy>(list: &mut Vec<T>, item: T) -> Result<(), AllocError>
     Ok(())
 }
 
-/// The line that refuses the file of a table: its name and what is wrong with it.
-fn refusal_of(refusal: &FileRefusal) -> ApiLine
-    ensures { RefusesFile refusal.now result }
+/// The words that refuse the file of a table: its name and what is wrong with it.
+fn refused_words(refusal: &FileRefusal) -> ArrayString<64>
+    ensures { result.bytes ≡ refused_words refusal.now }
 {
     let mut words = ArrayString::new();
     words.push_str(refusal.name.as_str());
     words.push_str(" ");
     words.push_str(refusal.fault.name());
-    ApiLine::Refused(words)
+    words
+}
+
+/// The line that refuses the file of a table.
+fn refusal_of(refusal: &FileRefusal) -> ApiLine
+    ensures { RefusesFile refusal.now result }
+{
+    ApiLine::Refused(refused_words(refusal))
 }
 
 impl<'r, D: Disk> Answerer<'r, D> {
@@ -86,6 +94,16 @@ impl<'r, D: Disk> Answerer<'r, D> {
     {
         let set = folder.new_set(alloc, cache)?;
         Ok(Answerer { alloc, folder, set })
+    }
+
+    /// The same over another arena, with no table open. The error comes where memory is refused.
+    fn apart<'s>(&self, arena: &'s Bump) -> Result<Answerer<'s, D>, AllocError>
+    where
+        'r: 's,
+        ensures { IfOk result (λ a. a ≡ self.now) }
+    {
+        let folder = self.folder.apart(arena)?;
+        Answerer::over(self.alloc, folder, 64)
     }
 
     /// What tables say of a position and of its legal moves, or the refusal of the file of one that is needed.
@@ -108,7 +126,7 @@ impl<'r, D: Disk> Answerer<'r, D> {
         ensures same { self.new ≡ self.old }
     {
         if let Err(refusal) = self.folder.settle(self.alloc, &mut self.set, position)? {
-            return Ok(refusal_of(&refusal));
+            return Ok(JsonLine::Refused(refused_words(&refusal)));
         }
         JsonLine::of_position(self.alloc, &mut self.set, position, Ask::Strict, false)
     }
@@ -353,6 +371,13 @@ impl<'r, D: Disk> Service for Answerer<'r, D> {
         response: &mut Response,
     ) -> Result<(), AllocError> {
         let topic = topic_of(self.alloc, request)?;
-        self.reply(&topic, response)
+        if self.reply(&topic, response).is_ok() {
+            return Ok(());
+        }
+        // There is no room for a table that is needed: all that the request needs are read for it alone.
+        response.clear();
+        let arena = Bump::new(self.alloc);
+        let mut apart = self.apart(&arena)?;
+        apart.reply(&topic, response)
     }
 }

@@ -13,7 +13,7 @@ use game_status::{
 use move_msg::Stamp;
 use std::alloc::{AllocError, Global};
 use std::marker::Model;
-use std::time::{Duration, Instant};
+use std::time::{Clock, Duration, Instant};
 use system_io::{Disk, Host, ReadFault};
 
 /// Folders of games.
@@ -137,14 +137,24 @@ struct Kept {
     since: Instant,
 }
 
-/// Whether a report was read so long ago that it is to be read anew.
-fn is_old(kept: &Option<Kept>, now: Instant) -> bool {
-    match kept {
-        Some(kept) => match kept.since.checked_add(Duration::from_secs(1)) {
-            Some(end) => end <= now,
-            None => false,
-        },
-        None => false,
+/// Whether a report was read less than a second ago. It counts as old where the clock tells no time.
+fn is_fresh<C: Clock>(clock: &C, kept: &Kept) -> bool {
+    let Ok(now) = Instant::now(clock) else {
+        return false;
+    };
+    match kept.since.checked_add(Duration::from_secs(1)) {
+        Some(end) => now < end,
+        None => true,
+    }
+}
+
+/// A report that is read now, to be kept. It isn't where the clock tells no time.
+fn kept_now<C: Clock>(clock: &C, report: Report) -> Option<Kept>
+    ensures { IfSome result (λ kept. kept.report ≡ report) }
+{
+    match Instant::now(clock) {
+        Ok(since) => Some(Kept { report, since }),
+        Err(_) => None,
     }
 }
 
@@ -152,14 +162,14 @@ fn is_old(kept: &Option<Kept>, now: Instant) -> bool {
 ///
 /// Contracts see the disk, the host and the folders.
 #[derive(Drop)]
-pub struct Games<'r, D: Disk, H: Host> {
+pub struct Games<'r, D: Disk, H: Host, C: Clock> {
+    clock: &'r C,
     folders: GameFolders<'r, D, H>,
     json: Option<Kept>,
     metrics: Option<Kept>,
-    time: Instant,
 }
 
-impl<'r, D: Disk, H: Host> Model for Games<'r, D, H> {
+impl<'r, D: Disk, H: Host, C: Clock> Model for Games<'r, D, H, C> {
     ghost use Rattle.http_answer.specs.Games.{GamesOn, games_on};
     ghost use Rattle.http_answer.specs.Inside.{AreKeptReports};
 
@@ -170,65 +180,50 @@ impl<'r, D: Disk, H: Host> Model for Games<'r, D, H> {
     ghost invariant = { λ g. AreKeptReports D.facts H.stores (games_on g.folders) g.json g.metrics };
 }
 
-impl<'r, D: Disk, H: Host> Games<'r, D, H> {
-    /// Of these folders, of which nothing is read yet, at this time.
-    pub fn of(folders: GameFolders<'r, D, H>, now: Instant) -> Games<'r, D, H>
+impl<'r, D: Disk, H: Host, C: Clock> Games<'r, D, H, C> {
+    /// Of these folders, of which nothing is read yet, by this clock.
+    pub fn of(folders: GameFolders<'r, D, H>, clock: &'r C) -> Games<'r, D, H, C>
         ensures { result ≡ games_on folders.entry }
     {
         Games {
+            clock,
             folders,
             json: None,
             metrics: None,
-            time: now,
         }
     }
 
-    /// It is this time now: a report that was read a second ago or longer is let go, and read anew where it is asked for.
-    pub fn pass(&mut self, now: Instant)
-        ensures { self.new ≡ self.old }
-    {
-        if is_old(&self.json, now) {
-            self.json = None;
-        }
-        if is_old(&self.metrics, now) {
-            self.metrics = None;
-        }
-        self.time = now;
-    }
-
-    /// The report as JSON: the last one that was read, if it isn't let go.
+    /// The report as JSON: the one that was read last, if that was less than a second ago, or a new one.
     pub(crate) fn json(&mut self, alloc: Global) -> Result<Report, AllocError>
         ensures told { IfOk result (λ r. IfOk r (λ text. IsReportText D.facts H.stores self.old ReportForm.Json text.items)) }
         ensures lacked { IfOk result (λ r. IfErr r (LacksGames D.facts H.stores self.old)) }
         ensures same { self.new ≡ self.old }
     {
         if let Some(kept) = &self.json {
-            return copy_of(alloc, &kept.report);
+            if is_fresh(self.clock, kept) {
+                return copy_of(alloc, &kept.report);
+            }
         }
         let report = self.folders.report(alloc, ReportForm::Json)?;
         let copy = copy_of(alloc, &report)?;
-        self.json = Some(Kept {
-            report,
-            since: self.time,
-        });
+        self.json = kept_now(self.clock, report);
         Ok(copy)
     }
 
-    /// The report as metrics: the last one that was read, if it isn't let go.
+    /// The report as metrics: the one that was read last, if that was less than a second ago, or a new one.
     pub(crate) fn metrics(&mut self, alloc: Global) -> Result<Report, AllocError>
         ensures told { IfOk result (λ r. IfOk r (λ text. IsReportText D.facts H.stores self.old ReportForm.Metrics text.items)) }
         ensures lacked { IfOk result (λ r. IfErr r (LacksGames D.facts H.stores self.old)) }
         ensures same { self.new ≡ self.old }
     {
         if let Some(kept) = &self.metrics {
-            return copy_of(alloc, &kept.report);
+            if is_fresh(self.clock, kept) {
+                return copy_of(alloc, &kept.report);
+            }
         }
         let report = self.folders.report(alloc, ReportForm::Metrics)?;
         let copy = copy_of(alloc, &report)?;
-        self.metrics = Some(Kept {
-            report,
-            since: self.time,
-        });
+        self.metrics = kept_now(self.clock, report);
         Ok(copy)
     }
 

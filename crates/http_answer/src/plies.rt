@@ -4,7 +4,7 @@ ghost use Rattle.std.specs.Prelude.{◌≡◌, IfNone, IfOk, IfSome, None, OnOk,
 ghost use Rattle.board_core.specs.ComputedMoves.{position_after};
 ghost use Rattle.json.specs.Json.{document};
 ghost use Rattle.json.specs.Tree.{json_tokens};
-ghost use Rattle.json_lines.specs.Api.{api_json};
+ghost use Rattle.json_lines.specs.Objects.{line_json};
 ghost use Rattle.game_status.specs.StatusObjects.{AddsMembers, AddsTokens, AreNamed};
 ghost use Rattle.http_answer.specs.Games.{ArePlies, HasPlies, delay_in, moves_in};
 ghost use Rattle.http_answer.specs.Inside.{AddsGame, AddsList, AddsMoves, AddsNext, AddsPlies, AddsPosition, AddsStart, IsGameText, move_members};
@@ -16,7 +16,7 @@ use game_status::{
     GameFound, Look, Side, add_count, add_first, add_second_if, add_stamp, add_text,
 };
 use json::{Scratch, Value, Writer};
-use json_lines::{JsonLine, put_api_line};
+use json_lines::{JsonLine, put_json_line};
 use move_msg::Stamp;
 use san_text::write_san;
 use std::alloc::{AllocError, Global};
@@ -24,10 +24,10 @@ use system_io::Disk;
 
 /// The object of a line, as a text.
 fn object_of(alloc: Global, line: &JsonLine) -> Result<Vec<u8>, AllocError>
-    ensures { IfOk result (λ text. document text.items ≡ Some (api_json line.now)) }
+    ensures { IfOk result (λ text. document text.items ≡ Some (line_json line.now)) }
 {
     let mut text = Vec::new(alloc);
-    match put_api_line(&mut text, line) {
+    match put_json_line(&mut text, line) {
         Ok(()) => Ok(text),
         Err(_) => Err(AllocError),
     }
@@ -35,7 +35,7 @@ fn object_of(alloc: Global, line: &JsonLine) -> Result<Vec<u8>, AllocError>
 
 /// Adds the object of a line as a value.
 fn add_line(alloc: Global, text: &mut Writer, line: &JsonLine) -> Result<(), AllocError>
-    ensures { OnOk result (AddsTokens text.old text.new (json_tokens (api_json line.now))) }
+    ensures { OnOk result (AddsTokens text.old text.new (json_tokens (line_json line.now))) }
 {
     let object = object_of(alloc, line)?;
     let mut scratch = Scratch::new(alloc);
@@ -57,7 +57,7 @@ fn add_position<D: Disk>(
 {
     add_text(text, "fen", Some(write(position).as_str()))?;
     let line = answerer.line_alone(position)?;
-    text.key("standard")?;
+    text.key("tables")?;
     add_line(alloc, text, &line)
 }
 

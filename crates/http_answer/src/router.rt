@@ -18,7 +18,7 @@ use http::{HeaderValue, Request, StatusCode, header};
 use http_server::{Response, Service};
 use move_msg::Stamp;
 use std::alloc::{AllocError, Global};
-use std::time::Instant;
+use std::time::Clock;
 use system_io::{Disk, Host};
 
 /// What is asked for of games.
@@ -189,19 +189,19 @@ fn fill_game<D: Disk>(
 
 /// Answers by the tables of a folder, and by folders of games, if they are named.
 #[derive(Drop)]
-pub struct Router<'r, D: Disk, H: Host> {
+pub struct Router<'r, D: Disk, H: Host, C: Clock> {
     /// Where memory comes from.
     pub alloc: Global,
     /// What answers by the tables.
     pub answerer: Answerer<'r, D>,
     /// The folders of games.
-    pub games: Option<Games<'r, D, H>>,
+    pub games: Option<Games<'r, D, H, C>>,
 }
 
 /// Fills the response to what is asked for of the game with a stamp.
-fn tell_game<D: Disk, H: Host>(
+fn tell_game<D: Disk, H: Host, C: Clock>(
     answerer: &mut Answerer<'_, D>,
-    games: &Games<'_, D, H>,
+    games: &Games<'_, D, H, C>,
     alloc: Global,
     stamp: Stamp,
     response: &mut Response,
@@ -224,9 +224,9 @@ fn tell_game<D: Disk, H: Host>(
 }
 
 /// Fills the response to what is asked for of games.
-fn tell<D: Disk, H: Host>(
+fn tell<D: Disk, H: Host, C: Clock>(
     answerer: &mut Answerer<'_, D>,
-    games: &mut Games<'_, D, H>,
+    games: &mut Games<'_, D, H, C>,
     alloc: Global,
     topic: GameTopic,
     response: &mut Response,
@@ -263,9 +263,9 @@ fn tell<D: Disk, H: Host>(
 }
 
 /// Fills the response to what is asked for of games by a method.
-fn tell_by_method<D: Disk, H: Host>(
+fn tell_by_method<D: Disk, H: Host, C: Clock>(
     answerer: &mut Answerer<'_, D>,
-    games: &mut Games<'_, D, H>,
+    games: &mut Games<'_, D, H, C>,
     alloc: Global,
     method: &str,
     topic: GameTopic,
@@ -285,19 +285,7 @@ fn tell_by_method<D: Disk, H: Host>(
     }
 }
 
-impl<'r, D: Disk, H: Host> Router<'r, D, H> {
-    /// It is this time now: reports on games that were read a second ago or longer are let go.
-    pub fn pass(&mut self, now: Instant)
-        ensures tables { self.new.answerer ≡ self.old.answerer }
-        ensures games { self.new.games ≡ self.old.games }
-    {
-        if let Some(games) = &mut self.games {
-            games.pass(now);
-        }
-    }
-}
-
-impl<'r, D: Disk, H: Host> Service for Router<'r, D, H> {
+impl<'r, D: Disk, H: Host, C: Clock> Service for Router<'r, D, H, C> {
     ghost use Rattle.http_answer.specs.Games.{Routes};
 
     ghost answers = { λ old request response new. Routes D.facts H.stores old.answerer old.games request response new.answerer new.games };

@@ -213,7 +213,7 @@ let game = null, at = 0, turned = false;\n\
 const lastPly = () => game.plies.length - 1;\n\
 \n\
 function showPly() {\n\
-  const ply = game.plies[at], told = ply.standard, mover = ply.fen.split(\" \")[1] === \"b\" ? \"Black\" : \"White\";\n\
+  const ply = game.plies[at], told = ply.tables, mover = ply.fen.split(\" \")[1] === \"b\" ? \"Black\" : \"White\";\n\
   setBoard(by(\"board\"), ply.fen, ply.uci, turned);\n\
   by(\"value\").className = told.category ? KIND(told.category) : \"\";\n\
   put(by(\"value\"), !told.category || told.category === \"unknown\" ? \"Not in the tables\" : told.checkmate ? mover + \" is mated\" : told.stalemate ? \"Stalemate\" : told.category === \"draw\" ? \"Draw\" : mover + \" to move: \" + WORDS[told.category]);\n\
@@ -230,12 +230,12 @@ function go(to) {\n\
   if (now) box.scrollTop = now.offsetTop - box.offsetTop - box.clientHeight / 2;\n\
 }\n\
 function showGame() {\n\
-  const end = game.plies.findIndex(p => p.standard.verdict), name = game.name || stamp;\n\
+  const end = game.plies.findIndex(p => p.tables.verdict), name = game.name || stamp;\n\
   by(\"title\").textContent = document.title = name;\n\
   const facts = [[\"Arbiter 1\", count(game) + (game.verdict ? \", \" + game.verdict : \"\")]];\n\
   if (game.other) facts.push([\"Arbiter 2\", count(game.other) + (game.other.verdict ? \", \" + game.other.verdict : \"\")]);\n\
   for (const [text, kind] of compared(game)) facts.push([\"Compared\", text, kind]);\n\
-  facts.push([\"Tables\", end < 0 ? \"no verdict so far\" : \"first verdict at ply \" + end + \": \" + game.plies[end].standard.verdict]);\n\
+  facts.push([\"Tables\", end < 0 ? \"no verdict so far\" : \"first verdict at ply \" + end + \": \" + game.plies[end].tables.verdict]);\n\
   if (game.delay !== null) facts.push([\"Delay\", game.delay + (game.delay === 1 ? \" ply\" : \" plies\")]);\n\
   facts.push([\"Stamp\", stamp]);\n\
   by(\"facts\").replaceChildren(...facts.flatMap(([name, text, kind]) => [make(\"dt\", name), make(\"dd\", text, kind)]));\n\

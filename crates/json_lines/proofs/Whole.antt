@@ -159,7 +159,7 @@ moves_depth members flat (t ∷ ts) =
     let more = moves_depth members flat ts in
     omega (arith, one, more)
 
-shallow : (l : JsonLine) → depth (line_json l) ≤ 3
+pub shallow : (l : JsonLine) → depth (line_json l) ≤ 3
 shallow (line.Fault fault) = omega arith
 shallow (line.Refused words) = omega arith
 shallow (line.Position t) = (let e = flat_position t.position t.columns.probed t.columns.verdict in omega (arith, e))

@@ -6,15 +6,17 @@ use Rattle.http_server.specs.declared.response.Response.{Response}
 use Rattle.http_server.specs.Exchange.{Call, Chain}
 use Rattle.http_server.specs.declared.state.Config.{Config}
 use Rattle.http_server.proofs.StreamLemmas.{Chain-append}
-use Rattle.http_answer.specs.Replies.{IsReplied}
+use Rattle.http_answer.specs.Games.{GamesOn, IsServedCall}
 use Rattle.http_loop.specs.declared.peer.Peer.{Peer}
 use Rattle.http_loop.specs.declared.server.Server.{Server}
 use Rattle.http_loop.specs.Servers.{HasServed}
 use Rattle.http_loop.specs.Serving.{IsServedOver, IsServing}
 use Rattle.http_loop.specs.Streams.{Closed, HasNoOpen, Streams}
 use Rattle.system_io.specs.Disks.{DiskFacts}
+use Rattle.system_io.specs.Records.{StorePlaces}
 use Rattle.table_folder.specs.Folders.{FolderOn}
-use Rattle.serve_core.specs.Counting.{counts}
+use Rattle.serve_core.specs.Counting.{counts, logs}
+use Rattle.serve_core.specs.declared.logging.Logged.{Logged}
 use Rattle.serve_core.specs.Streams.{HasReplied, IsRepliedOver}
 use Rattle.serve_core.specs.declared.counting.Counted.{Counted}
 
@@ -23,6 +25,12 @@ pub chain_counted : {S : Type 0} (answers : S → Request (List ℕ) → Respons
     → Chain (counts answers) old calls new → Chain answers old.service calls new.service
 chain_counted {S} answers [] old new x = ap (λ (c : Counted S). c.service) x
 chain_counted {S} answers (c ∷ calls) old new x = (x.0.service, x.1, chain_counted answers calls x.0 new x.2)
+
+-- those of a logged service are those of the service too
+pub chain_logged : {S H : Type 0} (answers : S → Request (List ℕ) → Response → S → Type 0) (calls : List Call) (old new : Logged S H)
+    → Chain (logs answers) old calls new → Chain answers old.service calls new.service
+chain_logged {S} {H} answers [] old new x = ap (λ (c : Logged S H). c.service) x
+chain_logged {S} {H} answers (c ∷ calls) old new x = (x.0.service, x.1, chain_logged answers calls x.0 new x.2)
 
 module _ {C L R W S : Type 0} (streams : L → Option Streams) (remaining : R → Option (List ℕ)) (contents : W → Option (List ℕ)) (answers : S → Request (List ℕ) → Response → S → Type 0) where
   -- Rounds that led from one state of the service to the other, by these calls, still serve.
@@ -51,11 +59,11 @@ among : {X : Type 0} (P : X → Type 0) (xs own : List X) → All P xs → All (
 among P xs own all have = λ k d within. let at = have k d within in subst P at.2 (all at.0 (get_or own k d) at.1)
 
 -- where all calls are replied, so are those of each stream
-pub all_have_replies : {D R W : Type 0} (facts : D → DiskFacts) (on : FolderOn D) (remaining : R → Option (List ℕ)) (contents : W → Option (List ℕ)) (config : Config)
-    (calls : List Call) (before : List Closed) (known : Option Streams) (peers : Slab (Peer R W)) → All (IsReplied facts on) calls → HasNoOpen known
-    → IsServing remaining contents config calls before known peers → HasReplied facts on config before known
-all_have_replies facts on remaining contents config calls before None peers all none h = tt
-all_have_replies facts on remaining contents config calls before (Some known) peers all none h = (
+pub all_have_replies : {D H S R W : Type 0} (facts : D → DiskFacts) (stores : H → StorePlaces S) (tables : FolderOn D) (games : Option (GamesOn D H)) (remaining : R → Option (List ℕ)) (contents : W → Option (List ℕ)) (config : Config)
+    (calls : List Call) (before : List Closed) (known : Option Streams) (peers : Slab (Peer R W)) → All (IsServedCall facts stores tables games) calls → HasNoOpen known
+    → IsServing remaining contents config calls before known peers → HasReplied facts stores tables games config before known
+all_have_replies facts stores tables games remaining contents config calls before None peers all none h = tt
+all_have_replies facts stores tables games remaining contents config calls before (Some known) peers all none h = (
     none,
     h.since,
     h.closed,
@@ -66,6 +74,6 @@ all_have_replies facts on remaining contents config calls before (Some known) pe
           served = one.served;
           received = one.received;
           sent = one.sent;
-          replied = among (IsReplied facts on) calls one.history.calls all one.among;
+          replied = among (IsServedCall facts stores tables games) calls one.history.calls all one.among;
         },
   )

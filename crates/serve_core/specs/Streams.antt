@@ -1,24 +1,25 @@
--- What passes over the streams of a listener whose requests are answered by the tables of a folder.
+-- What passes over the streams of a listener whose requests are answered by the tables of a folder, and by folders of games.
 use Rattle.std.specs.Prelude.{◌≡◌, List, ◌++◌, Option, Some, None, All}
 use Rattle.std.specs.Io.KnownBytes.{Appends, Consumes}
 use Rattle.http_server.specs.History.{History, IsServed}
 use Rattle.http_server.specs.declared.state.Config.{Config}
-use Rattle.http_answer.specs.Replies.{IsReplied}
+use Rattle.http_answer.specs.Games.{GamesOn, IsServedCall}
 use Rattle.http_loop.specs.Streams.{Closed, HasNoOpen, Stream, Streams}
 use Rattle.system_io.specs.Disks.{DiskFacts}
+use Rattle.system_io.specs.Records.{StorePlaces}
 use Rattle.table_folder.specs.Folders.{FolderOn}
 
 -- What the stream gave is what one connection received, and what it got is what that one sent: the answers to the requests in it, in
--- their order, and then nothing or a refusal with its cause (`IsServed`). Each answer is the reply to its request by this folder.
-pub record IsRepliedOver {D : Type 0} (facts : D → DiskFacts) (on : FolderOn D) (config : Config) (came left : Stream) : Type 0 where
+-- their order, and then nothing or a refusal with its cause (`IsServed`). Each answer is the reply to its request by these folders.
+pub record IsRepliedOver {D H S : Type 0} (facts : D → DiskFacts) (stores : H → StorePlaces S) (tables : FolderOn D) (games : Option (GamesOn D H)) (config : Config) (came left : Stream) : Type 0 where
   pub history : History
   pub served : ∥ IsServed config history ∥₁
   pub received : Consumes came.gives left.gives history.received
   pub sent : Appends came.got left.got history.sent
-  pub replied : All (IsReplied facts on) history.calls
+  pub replied : All (IsServedCall facts stores tables games) history.calls
 
 -- All streams that came are closed, and so it is of each that was closed since these, where the streams are known.
-abbrev pub HasReplied : {D : Type 0} → (D → DiskFacts) → FolderOn D → Config → List Closed → Option Streams → Type 0
-HasReplied facts on config before None = Unit {0}
-HasReplied facts on config before (Some known) =
-    HasNoOpen (Some known) × (since : List Closed) × (known.closed ≡ before ++ since) × All (λ c. IsRepliedOver facts on config c.came c.left) since
+abbrev pub HasReplied : {D H S : Type 0} → (D → DiskFacts) → (H → StorePlaces S) → FolderOn D → Option (GamesOn D H) → Config → List Closed → Option Streams → Type 0
+HasReplied facts stores tables games config before None = Unit {0}
+HasReplied facts stores tables games config before (Some known) =
+    HasNoOpen (Some known) × (since : List Closed) × (known.closed ≡ before ++ since) × All (λ c. IsRepliedOver facts stores tables games config c.came c.left) since

@@ -7,12 +7,13 @@ ghost use Rattle.http_loop.specs.Streams.{Closed};
 ghost use Rattle.serve_core.specs.Streams.{HasReplied};
 
 use crate::counting::Counted;
-use http_answer::Answerer;
+use crate::logging::Logged;
+use http_answer::Router;
 use http_loop::{Listener, Server};
 use http_server::Service;
 use std::io;
 use std::time::Clock;
-use system_io::Disk;
+use system_io::{Disk, Host};
 
 /// Has so many requests answered. The error comes where the listener can't wait, or memory is refused.
 fn answer_rounds<C: Clock, L: Listener + Drop, S: Service + Drop>(
@@ -33,18 +34,18 @@ fn answer_rounds<C: Clock, L: Listener + Drop, S: Service + Drop>(
     Ok(())
 }
 
-/// Answers so many requests by the tables of a folder, over the streams of a listener, and then closes all of these. The error comes where
+/// Answers so many requests by the tables of a folder and by folders of games, over the streams of a listener, and then closes all of these. The error comes where
 /// the listener can't wait, or memory is refused.
-pub fn answer_requests<C: Clock, L: Listener + Drop, D: Disk>(
+pub fn answer_requests<C: Clock, L: Listener + Drop, D: Disk, H: Host>(
     server: &mut Server<'_, C, L>,
-    answerer: Answerer<'_, D>,
+    service: Logged<'_, Router<'_, D, H, C>, H>,
     requests: u64,
 ) -> io::Result<()>
     ensures replied { (before : List Closed) → HasServed L.streams L.Reader.remaining L.Writer.contents [] before server.old
-        → HasReplied D.facts answerer.entry (config_of server.new) before (L.streams (listener_of server.new)) }
+        → HasReplied D.facts H.stores service.entry.service.answerer service.entry.service.games (config_of server.new) before (L.streams (listener_of server.new)) }
 {
     let mut counted = Counted {
-        service: answerer,
+        service,
         answered: 0,
     };
     let answered = answer_rounds(server, &mut counted, requests);

@@ -12,4 +12,5 @@ mod logging;
 mod serving;
 
 pub use answering::answer_requests;
+pub use logging::Logged;
 pub use serving::SystemPages;

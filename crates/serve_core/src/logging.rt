@@ -8,13 +8,13 @@ use system_io::Host;
 
 /// A service, and the host that is told a line of each request, if they are logged.
 #[derive(Drop)]
-pub(crate) struct Logged<'r, S: Drop, H> {
+pub struct Logged<'r, S: Drop, H> {
     /// The service.
-    pub(crate) service: S,
+    pub service: S,
     /// Where memory for lines comes from.
-    pub(crate) alloc: Global,
+    pub alloc: Global,
     /// The host.
-    pub(crate) host: Option<&'r H>,
+    pub host: Option<&'r H>,
 }
 
 /// Tells a line of a request and its response: the method, the path, the status and how many bytes the body has. A line for which memory

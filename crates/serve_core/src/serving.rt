@@ -11,8 +11,7 @@ ghost use Rattle.task_files.specs.Outside.{IsToldAt};
 
 use crate::answering::answer_requests;
 use crate::logging::Logged;
-use adjudicate_core::{Pages, Serve};
-use bumpalo::Bump;
+use adjudicate_core::{Pages, Serve, arena_for};
 use http_answer::{Answerer, GameFolders, Games, Router};
 use http_loop::{Limits, Server, Sockets};
 use http_server::Config;
@@ -23,7 +22,7 @@ use std::hash::RandomState;
 use std::io;
 use std::net::{Net, SocketAddr, ToSocketAddrs};
 use std::random::RandomSource;
-use std::time::{Clock, Duration, Instant};
+use std::time::{Clock, Duration};
 use system_io::{Disk, Host, Output, ReadFault, WriteFault};
 use table_folder::TableFolder;
 use task_files::read_manifest;
@@ -159,25 +158,23 @@ fn serve_at<R: Clock + Net + RandomSource, D: Disk, H: Host, W: Output>(
     }
 }
 
-/// The folders of games that the words name, if they do. The error comes where the system tells no time.
+/// The folders of games that the words name, if they do.
 fn games_of<'r, R: Clock, D: Disk, H: Host>(
-    rt: &R,
+    rt: &'r R,
     disk: &'r D,
     host: &'r H,
     task: &Serve<'r>,
-) -> io::Result<Option<Games<'r, D, H>>>
-    ensures { IfOk result (λ games. games ≡ games_named disk.entry host.entry task.now) }
+) -> Option<Games<'r, D, H, R>>
+    ensures { result ≡ games_named disk.entry host.entry task.now }
 {
-    let Some(games) = task.games else {
-        return Ok(None);
-    };
+    let games = task.games?;
     let folders = GameFolders {
         disk,
         host,
         games,
         other: task.other,
     };
-    Ok(Some(Games::of(folders, Instant::now(rt)?)))
+    Some(Games::of(folders, rt))
 }
 
 /// Serves over a folder.
@@ -228,7 +225,7 @@ fn serve_by<R: Clock + Net + RandomSource, D: Disk, H: Host, W: Output>(
     if let Manifest::BadLine(line) = manifest {
         return refuse_manifest(out, *line);
     }
-    let arena = Bump::new(alloc);
+    let arena = arena_for(alloc, task.memory);
     match TableFolder::open(alloc, disk, task.tables, manifest, &arena) {
         Ok(folder) => serve_folder(alloc, rt, disk, host, folder, task, out),
         Err(ReadFault::Unreadable) => refuse(out, "refused files"),

@@ -1,4 +1,4 @@
--- `serve --tables DIR [--manifest FILE] --bind ADDR [--requests N] [--games DIR [--other DIR]] [--log]`: requests of HTTP that are answered
+-- `serve --tables DIR [--manifest FILE] --bind ADDR [--memory MB] [--requests N] [--games DIR [--other DIR]] [--log]`: requests of HTTP that are answered
 -- by the tables of a folder and by folders of games, and what it tells (this project's own). What is answered to a request is the contract
 -- of http_answer. Folders of games are read where a request asks for it.
 use Rattle.std.specs.Prelude.{◌≡◌, ◌++◌, ℕ, List, [], ◌∷◌, Option, Some, Result, Err, codes, option_map}
@@ -19,7 +19,7 @@ use Rattle.adjudicate_core.specs.Rules.{rule_of_form}
 use Rattle.adjudicate_core.specs.declared.commands.Form.TheVariants as form
 use Rattle.adjudicate_core.specs.Misuses.{Fault, NoOption, Unfit, WithoutGames}
 use Rattle.adjudicate_core.specs.declared.words.usage.Wanted.TheVariants as wanted
-use Rattle.adjudicate_core.specs.Numbers.{IsDatagrams, is_set}
+use Rattle.adjudicate_core.specs.Numbers.{IsDatagrams, IsMemory, is_set}
 use Rattle.adjudicate_core.specs.Telling.{TellsOne, TellsWholeText}
 use Rattle.adjudicate_core.specs.declared.commands.serve.Serve.{Serve}
 
@@ -28,6 +28,7 @@ rules =
     rule_of_form form.Option (codes "tables")
     ∷ rule_of_form form.Option (codes "manifest")
     ∷ rule_of_form form.Option (codes "bind")
+    ∷ rule_of_form form.Option (codes "memory")
     ∷ rule_of_form form.Option (codes "requests")
     ∷ rule_of_form form.Option (codes "games")
     ∷ rule_of_form form.Option (codes "other")
@@ -39,6 +40,7 @@ pub record HasValues (value : Text → Option Text) (t : Serve) : Type 0 where
   pub manifest : option_map (λ s. s.now) t.manifest ≡ value (codes "manifest")
   pub bind : Some t.bind.now ≡ value (codes "bind")
   pub address : IsAddressIfAny (value (codes "bind"))
+  pub memory : IsMemory (value (codes "memory")) t.memory
   pub requests : IsDatagrams (value (codes "requests")) t.requests
   pub games : option_map (λ s. s.now) t.games ≡ value (codes "games")
   pub other : option_map (λ s. s.now) t.other ≡ value (codes "other")
@@ -46,7 +48,7 @@ pub record HasValues (value : Text → Option Text) (t : Serve) : Type 0 where
 
 -- what may be wrong with its values, in the order in which it is told
 abbrev pub faults : List Fault
-faults = NoOption (codes "tables") ∷ NoOption (codes "bind") ∷ Unfit wanted.Address ∷ Unfit wanted.Requests ∷ WithoutGames (codes "other") ∷ []
+faults = NoOption (codes "tables") ∷ NoOption (codes "bind") ∷ Unfit wanted.Address ∷ Unfit wanted.Memory ∷ Unfit wanted.Requests ∷ WithoutGames (codes "other") ∷ []
 
 -- nothing is read for it before it answers
 abbrev pub named : Named

@@ -6,11 +6,11 @@ ghost use Rattle.adjudicate_core.specs.Commands.Serve.{HasValues, faults, named}
 ghost use Rattle.adjudicate_core.specs.Misuses.{Holds, IsFirstMisuse, IsToldMisuse, WithoutGames, fault_words};
 ghost use Rattle.task_files.specs.Sources.{named_by};
 
-use super::options::{BIND, GAMES_SHOWN, MANIFEST, OTHER_GAMES, TABLES};
+use super::options::{BIND, GAMES_SHOWN, MANIFEST, MEMORY, OTHER_GAMES, TABLES};
 use super::{Form, Group, Stands, Summary, Value};
-use crate::words::numbers::is_set;
+use crate::words::numbers::{Megabytes, is_set};
 use crate::words::usage::ValueFault;
-use crate::words::values::{check_bind, option_in, requests_in};
+use crate::words::values::{check_bind, memory_in, option_in, requests_in};
 use clap::ArgMatches;
 use task_files::InputPaths;
 
@@ -23,6 +23,8 @@ pub struct Serve<'a> {
     pub manifest: Option<&'a str>,
     /// The address at which requests come: a host, a colon and a port.
     pub bind: &'a str,
+    /// How many megabytes of tables are kept, if there is a bound.
+    pub memory: Option<Megabytes>,
     /// After how many answers it ends, 2^64 - 1 unless set.
     pub requests: u64,
     /// The folder of games that pages show, if one is named.
@@ -52,10 +54,11 @@ const LOG: Value = Value {
 };
 
 /// The values of `serve`.
-pub(crate) const VALUES: [Value; 7] = [
+pub(crate) const VALUES: [Value; 8] = [
     TABLES,
     MANIFEST,
     BIND,
+    MEMORY,
     REQUESTS,
     GAMES_SHOWN,
     OTHER_GAMES,
@@ -93,11 +96,13 @@ impl<'a> Serve<'a> {
         let tables = option_in(matches, "tables")?;
         let bind = option_in(matches, "bind")?;
         check_bind(matches)?;
+        let memory = memory_in(matches)?;
         let requests = requests_in(matches)?;
         Ok(Serve {
             tables,
             manifest: matches.get_str("manifest"),
             bind,
+            memory,
             requests,
             games: matches.get_str("games"),
             other: other_in(matches)?,
