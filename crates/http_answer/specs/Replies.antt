@@ -184,8 +184,8 @@ IsRefusedInLine disk folder (suc n) p refusal =
     ⊎ ((t : ApiMove) × IsPlayedOn disk folder p (Some t) × (ends_line t ≡ false) × IsRefusedInLine disk folder n t.told.after refusal)
 
 -- what tables of the folder say of a position, of which none is missing there and after its moves
-abbrev pub IsPositionTold : DiskFacts → Folder → Parts → ApiPosition → Type 0
-IsPositionTold disk folder p t = AnswersBy disk folder (IsWithMoves p) (λ tables. IsApiPosition tables p t)
+abbrev pub IsPositionBy : DiskFacts → Folder → Parts → ApiPosition → Type 0
+IsPositionBy disk folder p t = AnswersBy disk folder (IsWithMoves p) (λ tables. IsApiPosition tables p t)
 
 -- a position by tables of the folder, and the line of best play from it
 abbrev pub IsMainlineOf : DiskFacts → Folder → Parts → ApiLine → Type 0
@@ -193,7 +193,7 @@ IsMainlineOf disk folder p (line.Fault fault) = ⊥
 IsMainlineOf disk folder p (line.Refused words) = ⊥
 IsMainlineOf disk folder p (line.Values t moves) = ⊥
 IsMainlineOf disk folder p (line.Mainline t plies) =
-    IsPositionTold disk folder p t
+    IsPositionBy disk folder p t
     × IsLineOfPlay disk folder (winner_of t.told.position.side t.told.columns.probed.dtz) p plies.items
 
 -- The line of best play from a position; or the refusal of the file of a table that is needed.

@@ -4,7 +4,7 @@ ghost use Rattle.std.specs.Prelude.{◌≡◌, ◌≤◌, ◌++◌, ◌∷◌, [
 ghost use Rattle.http_server.specs.Response.{IsBlank};
 ghost use Rattle.http_answer.specs.Inside.{AddsObject, AreObjects, IsOnePly, asked_for};
 ghost use Rattle.http_answer.specs.Queries.{asked_lines};
-ghost use Rattle.http_answer.specs.Replies.{HasLine, HasLines, IsBestPlay, IsLineOfPlay, IsPlayedOn, IsPositionTold, IsRefusedInLine, IsReplyTo, RefusesFile, TellsMainline, TellsMainlineOf, TellsEach, TellsPosition, TellsText, most_plies};
+ghost use Rattle.http_answer.specs.Replies.{HasLine, HasLines, IsBestPlay, IsLineOfPlay, IsPlayedOn, IsPositionBy, IsRefusedInLine, IsReplyTo, RefusesFile, TellsMainline, TellsMainlineOf, TellsEach, TellsPosition, TellsText, most_plies};
 ghost use Rattle.json_lines.specs.declared.api_told.ApiLine.{ApiLine};
 ghost use Rattle.table_folder.specs.Settled.{IsRefusedFor, IsWithMoves};
 
@@ -126,7 +126,7 @@ impl<'r, D: Disk> Answerer<'r, D> {
         &mut self,
         position: &Position,
     ) -> Result<Result<ApiPosition, FileRefusal>, AllocError>
-        ensures told { IfOk result (λ told. IfOk told (IsPositionTold (D.facts self.old.disk) self.old.folder position.now)) }
+        ensures told { IfOk result (λ told. IfOk told (IsPositionBy (D.facts self.old.disk) self.old.folder position.now)) }
         ensures refused { IfOk result (λ told. IfErr told (IsRefusedFor (D.facts self.old.disk) self.old.folder (IsWithMoves position.now))) }
         ensures same { self.new ≡ self.old }
     {
