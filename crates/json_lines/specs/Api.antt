@@ -1,6 +1,6 @@
 -- What is told of a position and of its legal moves as an object of the tablebase API of Lichess (its `/standard` and `/mainline`; RFC
 -- 8259): the members of that API under its names, and behind them `wdl`, `verdict` and `error`, which are this project's own.
-use Rattle.std.specs.Prelude.{◌∷◌, ℕ, ℤ, Bool, true, false, List, Option, Some, None, Result, Ok, Err, codes}
+use Rattle.std.specs.Prelude.{ℕ, ℤ, Bool, true, false, List, Option, Some, None, Result, codes}
 use Rattle.board_core.specs.declared.parts.Parts.{Parts}
 use Rattle.board_core.specs.declared.piece.Side.{Side}
 use Rattle.board_core.specs.declared.piece.Side.TheVariants.{White, Black}
