@@ -1,12 +1,12 @@
 -- Lines of best play, ply by ply.
-use Rattle.std.proofs.Common.{◌≡◌, ◌∙◌, refl, sym, ap, subst, ℕ, zero, suc, ◌+◌, ◌-◌, ◌<◌, ◌≤◌, Bool, true, false, List, [], ◌∷◌, ◌++◌, append_assoc, append-nil, Option, Some, None, inl, inr, arith}
+use Rattle.std.proofs.Common.{◌≡◌, ◌∙◌, refl, sym, ap, subst, ℕ, suc, ◌+◌, ◌-◌, ◌<◌, ◌≤◌, Bool, List, [], ◌∷◌, ◌++◌, append_assoc, append-nil, Some, None, inl, inr, arith}
 use Rattle.board_core.specs.declared.parts.Parts.{Parts}
 use Rattle.json_lines.specs.ApiTold.{IsEmptyOr, IsMainline}
 use Rattle.json_lines.specs.declared.api_told.ApiMove.{ApiMove}
 use Rattle.system_io.specs.Disks.{DiskFacts}
 use Rattle.table_folder.specs.declared.fault.FileRefusal.{FileRefusal}
-use Rattle.table_folder.specs.Folders.{Folder, FolderOn}
-use Rattle.table_folder.specs.Settled.{AnswersBy, IsRefusedFor, IsWithMoves}
+use Rattle.table_folder.specs.Folders.{Folder}
+use Rattle.table_folder.specs.Settled.{IsRefusedFor, IsWithMoves}
 use Rattle.http_answer.specs.Inside.{IsOnePly}
 use Rattle.http_answer.specs.Replies.{IsPlayedOn, IsRefusedInLine, most_plies}
 

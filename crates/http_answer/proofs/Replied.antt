@@ -1,8 +1,6 @@
 -- What all calls of a connection have in common, where each leaves the folders as they were.
 use Rattle.std.proofs.Common.{◌≡◌, List, [], ◌∷◌, Option, All, subst}
 use Rattle.std.proofs.lemmas.List.Elements.{All-nil, All-cons}
-use Rattle.http.specs.declared.request.Request.{Request}
-use Rattle.http_server.specs.declared.response.Response.{Response}
 use Rattle.http_server.specs.Exchange.{Call, Chain}
 use Rattle.system_io.specs.Disks.{DiskFacts}
 use Rattle.system_io.specs.Records.{StorePlaces}

@@ -18,6 +18,7 @@ use Rattle.json_lines.specs.Objects.{json_text}
 use Rattle.json_lines.specs.ApiTold.{IsApiLineFor, IsApiLineOf, IsApiPosition, IsBestMove, IsMainline, ends_line, winner_of}
 use Rattle.json_lines.specs.declared.api_told.ApiLine.{ApiLine}
 use Rattle.json_lines.specs.declared.api_told.ApiMove.{ApiMove}
+use Rattle.json_lines.specs.declared.api_told.ApiPosition.{ApiPosition}
 use Rattle.json_lines.specs.declared.api_told.ApiLine.TheVariants as line
 use Rattle.move_msg.specs.TextLines.{ended, lines_in}
 use Rattle.system_io.specs.Disks.{DiskFacts}
@@ -171,10 +172,13 @@ IsPlayedOn disk folder p best = AnswersBy disk folder (IsWithMoves p) (λ tables
 unfoldable pub most_plies : ℕ
 most_plies = 200
 
+abbrev pub IsBestPlay : DiskFacts → Folder → Parts → List ApiMove → Type 0
+IsBestPlay disk folder p plies = IsMainline (IsPlayedOn disk folder) most_plies p plies
+
 -- a line of best play; none where neither side wins
 abbrev pub IsLineOfPlay : DiskFacts → Folder → Option Side → Parts → List ApiMove → Type 0
 IsLineOfPlay disk folder None p plies = plies ≡ []
-IsLineOfPlay disk folder (Some winner) p plies = IsMainline (IsPlayedOn disk folder) most_plies p plies
+IsLineOfPlay disk folder (Some winner) p plies = IsBestPlay disk folder p plies
 
 -- a file is refused that the position needs, or one that so many plies of the line come to
 unfoldable pub IsRefusedInLine : DiskFacts → Folder → ℕ → Parts → FileRefusal → Type 0
@@ -183,13 +187,17 @@ IsRefusedInLine disk folder (suc n) p refusal =
     IsRefusedFor disk folder (IsWithMoves p) refusal
     ⊎ ((t : ApiMove) × IsPlayedOn disk folder p (Some t) × (ends_line t ≡ false) × IsRefusedInLine disk folder n t.told.after refusal)
 
+-- what tables of the folder say of a position, of which none is missing there and after its moves
+abbrev pub IsPositionBy : DiskFacts → Folder → Parts → ApiPosition → Type 0
+IsPositionBy disk folder p t = AnswersBy disk folder (IsWithMoves p) (λ tables. IsApiPosition tables p t)
+
 -- a position by tables of the folder, and the line of best play from it
 abbrev pub IsMainlineOf : DiskFacts → Folder → Parts → ApiLine → Type 0
 IsMainlineOf disk folder p (line.Fault fault) = ⊥
 IsMainlineOf disk folder p (line.Refused words) = ⊥
 IsMainlineOf disk folder p (line.Values t moves) = ⊥
 IsMainlineOf disk folder p (line.Mainline t plies) =
-    AnswersBy disk folder (IsWithMoves p) (λ tables. IsApiPosition tables p t)
+    IsPositionBy disk folder p t
     × IsLineOfPlay disk folder (winner_of t.told.position.side t.told.columns.probed.dtz) p plies.items
 
 -- The line of best play from a position; or the refusal of the file of a table that is needed.
@@ -198,6 +206,10 @@ pub data TellsMainline (disk : DiskFacts) (folder : Folder) (p : Parts) (l : Api
   OfRefusal : (refusal : FileRefusal) → IsRefusedInLine disk folder most_plies p refusal → RefusesFile refusal l → TellsMainline disk folder p l
 
 -- ---- texts
+
+-- why a text is no position, or the line of best play from the position
+abbrev pub TellsMainlineOf : DiskFacts → Folder → List ℕ → ApiLine → Type 0
+TellsMainlineOf disk folder text l = IsApiLineFor text (TellsMainline disk folder) l
 
 -- what is told of each text, in turn
 abbrev pub TellsEach : DiskFacts → Folder → List (List ℕ) → List ApiLine → Type 0
@@ -210,7 +222,7 @@ TellsEach disk folder (text ∷ texts) (l ∷ ls) = TellsText disk folder text l
 abbrev pub IsReplyTo : DiskFacts → Folder → Asked → Response → Type 0
 IsReplyTo disk folder Page r = IsResponse 200 (fields (codes "text/html; charset=utf-8")) PAGE.now r
 IsReplyTo disk folder (Values text) r = (l : ApiLine) × TellsText disk folder text l × HasLine l r
-IsReplyTo disk folder (Mainline text) r = (l : ApiLine) × IsApiLineFor text (TellsMainline disk folder) l × HasLine l r
+IsReplyTo disk folder (Mainline text) r = (l : ApiLine) × TellsMainlineOf disk folder text l × HasLine l r
 IsReplyTo disk folder NoText r = IsResponse 400 json_fields (codes "{\"error\":\"FEN missing\"}") r
 IsReplyTo disk folder (ValuesOfEach texts) r = (ls : List ApiLine) × TellsEach disk folder texts ls × HasLines ls r
 IsReplyTo disk folder TooMany r = IsResponse 413 json_fields (codes "{\"error\":\"too many lines\"}") r

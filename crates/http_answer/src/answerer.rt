@@ -5,10 +5,9 @@ ghost use Rattle.http_server.specs.Response.{IsBlank};
 ghost use Rattle.http_answer.specs.Games.{TellsAlone};
 ghost use Rattle.http_answer.specs.Inside.{AddsObject, AreObjects, IsOnePly, asked_for};
 ghost use Rattle.http_answer.specs.Queries.{asked_lines};
-ghost use Rattle.http_answer.specs.Replies.{HasLine, HasLines, IsLineOfPlay, IsPlayedOn, IsRefusedInLine, IsReplyTo, RefusesFile, TellsMainline, TellsEach, TellsPosition, TellsText, most_plies, refused_words};
-ghost use Rattle.json_lines.specs.ApiTold.{IsApiLineFor, IsApiPosition, IsMainline};
+ghost use Rattle.http_answer.specs.Replies.{HasLine, HasLines, IsBestPlay, IsLineOfPlay, IsPlayedOn, IsPositionBy, IsRefusedInLine, IsReplyTo, RefusesFile, TellsMainline, TellsMainlineOf, TellsEach, TellsPosition, TellsText, most_plies, refused_words};
 ghost use Rattle.json_lines.specs.declared.api_told.ApiLine.{ApiLine};
-ghost use Rattle.table_folder.specs.Settled.{AnswersBy, IsRefusedFor, IsWithMoves};
+ghost use Rattle.table_folder.specs.Settled.{IsRefusedFor, IsWithMoves};
 
 use crate::asking::{Topic, topic_of};
 use crate::filling::{
@@ -157,7 +156,7 @@ impl<'r, D: Disk> Answerer<'r, D> {
         &mut self,
         position: &Position,
     ) -> Result<Result<ApiPosition, FileRefusal>, AllocError>
-        ensures told { IfOk result (λ told. IfOk told (λ t. AnswersBy (D.facts self.old.disk) self.old.folder (IsWithMoves position.now) (λ tables. IsApiPosition tables position.now t))) }
+        ensures told { IfOk result (λ told. IfOk told (IsPositionBy (D.facts self.old.disk) self.old.folder position.now)) }
         ensures refused { IfOk result (λ told. IfErr told (IsRefusedFor (D.facts self.old.disk) self.old.folder (IsWithMoves position.now))) }
         ensures same { self.new ≡ self.old }
     {
@@ -219,7 +218,7 @@ impl<'r, D: Disk> Answerer<'r, D> {
         &mut self,
         start: &Position,
     ) -> Result<Result<Vec<ApiMove>, FileRefusal>, AllocError>
-        ensures told { IfOk result (λ told. IfOk told (λ plies. IsMainline (IsPlayedOn (D.facts self.old.disk) self.old.folder) most_plies start.now plies.items)) }
+        ensures told { IfOk result (λ told. IfOk told (λ plies. IsBestPlay (D.facts self.old.disk) self.old.folder start.now plies.items)) }
         ensures refused { IfOk result (λ told. IfErr told (IsRefusedInLine (D.facts self.old.disk) self.old.folder most_plies start.now)) }
         ensures same { self.new ≡ self.old }
     {
@@ -268,7 +267,7 @@ impl<'r, D: Disk> Answerer<'r, D> {
 
     /// What is told of the line of best play from the position of a text.
     fn mainline_for(&mut self, text: &[u8]) -> Result<ApiLine, AllocError>
-        ensures told { IfOk result (IsApiLineFor text.now (TellsMainline (D.facts self.old.disk) self.old.folder)) }
+        ensures told { IfOk result (TellsMainlineOf (D.facts self.old.disk) self.old.folder text.now) }
         ensures same { self.new ≡ self.old }
     {
         match read(text) {
@@ -280,7 +279,7 @@ impl<'r, D: Disk> Answerer<'r, D> {
     /// Fills the response for the line of best play from the position of a text.
     fn tell_mainline(&mut self, text: &[u8], response: &mut Response) -> Result<(), AllocError>
         requires { IsBlank response.old }
-        ensures told { OnOk result ((l : ApiLine) × IsApiLineFor text.now (TellsMainline (D.facts self.old.disk) self.old.folder) l × HasLine l response.new) }
+        ensures told { OnOk result ((l : ApiLine) × TellsMainlineOf (D.facts self.old.disk) self.old.folder text.now l × HasLine l response.new) }
         ensures same { self.new ≡ self.old }
     {
         let line = self.mainline_for(text)?;

@@ -52,11 +52,12 @@ flat_move Ply t =
     let q = flat_precise t.precise t.told.probed.dtz in
     omega (arith, d, q)
 
-flat_mainline : (side : Side) (probed : ProbeResult) (precise : Bool) → members_depth (mainline_members side probed precise) ≡ 0
-flat_mainline side probed precise =
+flat_mainline : (t : ApiPosition) → members_depth (mainline_members t) ≡ 0
+flat_mainline t =
+    let probed = t.told.columns.probed in
     let d = flat_number probed.dtz in
-    let q = flat_precise precise probed.dtz in
-    let s = flat_side (winner_of side probed.dtz) in
+    let q = flat_precise t.precise probed.dtz in
+    let s = flat_side (winner_of t.told.position.side probed.dtz) in
     let e = flat_fault (first_probe_fault probed.wdl probed.dtz) in
     omega (arith, d, q, s, e)
 
@@ -69,8 +70,8 @@ shallow (line.Values t moves) =
     let m = moves_depth (api_move_members Legal) (flat_move Legal) moves.items in
     omega (arith, e, f, m)
 shallow (line.Mainline t plies) =
-    let e = flat_mainline t.told.position.side t.told.columns.probed t.precise in
-    let f = flat_followed (mainline_members t.told.position.side t.told.columns.probed t.precise) (list_members Ply plies.items) in
+    let e = flat_mainline t in
+    let f = flat_followed (mainline_members t) (list_members Ply plies.items) in
     let m = moves_depth (api_move_members Ply) (flat_move Ply) plies.items in
     omega (arith, e, f, m)
 

@@ -1,6 +1,6 @@
 -- What is told of a position and of its legal moves as an object of the tablebase API of Lichess (its `/standard` and `/mainline`; RFC
 -- 8259): the members of that API under its names, and behind them `wdl`, `verdict` and `error`, which are this project's own.
-use Rattle.std.specs.Prelude.{◌∷◌, ℕ, ℤ, Bool, true, false, List, Option, Some, None, Result, Ok, Err, codes}
+use Rattle.std.specs.Prelude.{ℕ, ℤ, Bool, true, false, List, Option, Some, None, Result, codes}
 use Rattle.board_core.specs.declared.parts.Parts.{Parts}
 use Rattle.board_core.specs.declared.piece.Side.{Side}
 use Rattle.board_core.specs.declared.piece.Side.TheVariants.{White, Black}
@@ -61,10 +61,13 @@ api_standing_members t =
 abbrev pub distance_members : Result ℤ ProbeFault → Bool → Members → Members
 distance_members dtz precise others = member (codes "dtz") (number_or_null dtz) (member (codes "precise_dtz") (precise_or_null precise dtz) others)
 
+abbrev pub ply_members : ApiMove → Members
+ply_members t = distance_members t.told.probed.dtz t.precise no_members
+
 -- what is told of a move behind its notations: in the list of legal moves, and in a line of play
 abbrev pub told_members : MoveForm → ApiMove → Members
 told_members form.Legal t = api_standing_members t
-told_members form.Ply t = distance_members t.told.probed.dtz t.precise no_members
+told_members form.Ply t = ply_members t
 
 abbrev pub api_move_members : MoveForm → ApiMove → Members
 api_move_members form t = member (codes "uci") (string (move_text t.told.played)) (member (codes "san") (string t.told.san.bytes) (told_members form t))
@@ -77,8 +80,11 @@ abbrev pub list_name : MoveForm → List ℕ
 list_name form.Legal = codes "moves"
 list_name form.Ply = codes "mainline"
 
+abbrev pub list_json : MoveForm → List ApiMove → Json
+list_json form ts = array (moves_items (api_move_json form) ts)
+
 abbrev pub list_members : MoveForm → List ApiMove → Members
-list_members form ts = member (list_name form) (array (moves_items (api_move_json form) ts)) no_members
+list_members form ts = member (list_name form) (list_json form ts) no_members
 
 abbrev pub api_values_json : ApiPosition → List ApiMove → Json
 api_values_json t moves = object (followed_by (api_position_members t) (list_members form.Legal moves))
@@ -89,15 +95,18 @@ side_or_null None = null
 side_or_null (Some White) = string (codes "w")
 side_or_null (Some Black) = string (codes "b")
 
-abbrev pub mainline_members : Side → ProbeResult → Bool → Members
-mainline_members side probed precise =
+abbrev pub winner_json : ApiPosition → Json
+winner_json t = side_or_null (winner_of t.told.position.side t.told.columns.probed.dtz)
+
+abbrev pub mainline_members : ApiPosition → Members
+mainline_members t =
     followed_by
-    (distance_members probed.dtz precise (member (codes "winner") (side_or_null (winner_of side probed.dtz)) no_members))
-    (error_members probed)
+    (distance_members t.told.columns.probed.dtz t.precise (member (codes "winner") (winner_json t) no_members))
+    (error_members t.told.columns.probed)
 
 abbrev pub mainline_json : ApiPosition → List ApiMove → Json
 mainline_json t plies =
-    object (followed_by (mainline_members t.told.position.side t.told.columns.probed t.precise) (list_members form.Ply plies))
+    object (followed_by (mainline_members t) (list_members form.Ply plies))
 
 -- a line in this form; a fault, and the refusal of a file, as in the other
 abbrev pub api_json : ApiLine → Json

@@ -2,11 +2,10 @@
 
 ghost use Rattle.std.specs.Prelude.{◌≡◌, ◌∷◌, Bool, Some, OnOk, false, true};
 ghost use Rattle.std.specs.Io.KnownBytes.{Appends};
-ghost use Rattle.json.specs.Json.{array, document};
+ghost use Rattle.json.specs.Json.{document};
 ghost use Rattle.json.specs.Token.{begin_object, key};
 ghost use Rattle.json.specs.Tree.{json_tokens};
-ghost use Rattle.json_lines.specs.Api.{api_json, api_move_json, api_move_members, api_position_members, api_standing_members, api_values_json, distance_members, list_name, mainline_json, mainline_members, precise_or_null, side_or_null, told_members};
-ghost use Rattle.json.specs.Json.{no_members};
+ghost use Rattle.json_lines.specs.Api.{api_json, api_move_json, api_move_members, api_position_members, api_standing_members, api_values_json, list_json, list_name, mainline_json, mainline_members, ply_members, precise_or_null, side_or_null, told_members};
 ghost use Rattle.json_lines.specs.Inside.Members.{Writes, open_items, open_tokens, value_json};
 ghost use Rattle.json_lines.specs.Objects.{json_text, moves_items};
 
@@ -109,7 +108,7 @@ fn put_api_standing<W: Write>(out: &mut W, played: &ApiMove) -> Result<(), Write
 
 /// Writes the distance after a move, behind the move.
 fn put_distance<W: Write>(out: &mut W, played: &ApiMove) -> Result<(), WriteFault>
-    ensures { OnOk result (Writes true (open_tokens (distance_members played.now.told.probed.dtz played.now.precise no_members)) (W.contents out.old) (W.contents out.new)) }
+    ensures { OnOk result (Writes true (open_tokens (ply_members played.now)) (W.contents out.old) (W.contents out.new)) }
 {
     let dtz = &played.told.probed.dtz;
     let members = [
@@ -172,7 +171,7 @@ fn put_api_moves<W: Write>(
 
 /// Writes the list of moves.
 fn put_api_list<W: Write>(out: &mut W, form: MoveForm, moves: &[ApiMove]) -> Result<(), WriteFault>
-    ensures { OnOk result (Writes false (json_tokens (array (moves_items (api_move_json form) moves.now))) (W.contents out.old) (W.contents out.new)) }
+    ensures { OnOk result (Writes false (json_tokens (list_json form moves.now)) (W.contents out.old) (W.contents out.new)) }
 {
     put_begin_list(out)?;
     put_api_moves(out, false, form, moves)?;
@@ -195,7 +194,7 @@ fn put_list_member<W: Write>(
     form: MoveForm,
     moves: &[ApiMove],
 ) -> Result<(), WriteFault>
-    ensures { OnOk result (Writes true (key (list_name form) ∷ json_tokens (array (moves_items (api_move_json form) moves.now))) (W.contents out.old) (W.contents out.new)) }
+    ensures { OnOk result (Writes true (key (list_name form) ∷ json_tokens (list_json form moves.now)) (W.contents out.old) (W.contents out.new)) }
 {
     match put_key(out, true, list_name(form)) {
         Ok(()) => put_api_list(out, form, moves),
@@ -218,7 +217,7 @@ fn put_api_values<W: Write>(
 
 /// Writes the object of a line of play but for its list and its closing brace.
 fn put_line_facts<W: Write>(out: &mut W, position: &ApiPosition) -> Result<(), WriteFault>
-    ensures { OnOk result (Writes false (begin_object ∷ open_tokens (mainline_members position.now.told.position.side position.now.told.columns.probed position.now.precise)) (W.contents out.old) (W.contents out.new)) }
+    ensures { OnOk result (Writes false (begin_object ∷ open_tokens (mainline_members position.now)) (W.contents out.old) (W.contents out.new)) }
 {
     let probed = &position.told.columns.probed;
     let members = [

@@ -1,10 +1,10 @@
 //! What is told of a position for the tablebase API.
 
-ghost use Rattle.std.specs.Prelude.{◌≡◌, ◌++◌, ◌∷◌, [], IfOk, OnOk, map};
+ghost use Rattle.std.specs.Prelude.{◌≡◌, IfOk, OnOk, map};
 ghost use Rattle.std.specs.List.{All};
 ghost use Rattle.json_lines.specs.ApiTold.{IsApiLineOf, IsApiPosition, IsApiRoot, IsBestMove, IsPrecisionAfter, ends_line, told_in, winner_of};
 ghost use Rattle.judge_core.specs.declared.ask.Ask.TheVariants.{Strict};
-ghost use Rattle.json_lines.specs.declared.api_told.ApiMove.{ApiMove};
+ghost use Rattle.json_lines.specs.Inside.Playing.{AddsMove};
 ghost use Rattle.json_lines.specs.Told.{AreOrdered};
 
 use crate::told::{MoveTold, PositionTold, add, move_told, ordered, position_told, root_told};
@@ -152,7 +152,7 @@ fn add_with_precision(
     told: &MoveTold,
     moves: &mut Vec<ApiMove>,
 ) -> Result<(), AllocError>
-    ensures added { OnOk result ((t : ApiMove) × (t.told ≡ told.now) × IsPrecisionAfter set.old.tables t × (moves.new.items ≡ moves.old.items ++ t ∷ [])) }
+    ensures added { OnOk result (AddsMove set.old.tables told.now moves.old.items moves.new.items) }
     ensures unchanged { set.new ≡ set.old }
 {
     match ApiMove::of(alloc, set, told) {

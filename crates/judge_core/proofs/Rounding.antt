@@ -1,5 +1,5 @@
 -- Which distances are precise, rule by rule and move by move.
-use Rattle.std.proofs.Common.{◌≡◌, ◌∙◌, sym, ap, subst, refl, ℕ, ◌<◌, ◌≤◌, Bool, true, false, ◌||◌, ◌&&◌, List, [], ◌∷◌, map, Option, Some, None, option_map, filter, filter_map, fold, Result, Ok, Err, if◌then◌else◌}
+use Rattle.std.proofs.Common.{◌≡◌, ◌∙◌, sym, ap, refl, ℕ, ◌<◌, ◌≤◌, Bool, true, false, ◌||◌, ◌&&◌, List, [], ◌∷◌, map, Option, Some, None, filter, filter_map, fold, Result, Ok, Err, if◌then◌else◌}
 use Rattle.std.specs.Prelude.{OnErr, nat_le, ◌≢◌}
 use Rattle.std.specs.List.{list_any, list_all}
 use Rattle.std.proofs.lemmas.Bool.{le-leb, lt-leb, leb-false}
@@ -27,8 +27,8 @@ use Rattle.judge_core.specs.Asked.{asked}
 use Rattle.judge_core.specs.Answers.{IsLeftOpen, ListsMoves}
 use Rattle.judge_core.specs.Probing.{searched_by, wdl_of, worth}
 use Rattle.judge_core.specs.Ruling.{is_out_of_scope}
-use Rattle.judge_core.specs.Distances.{Reach, plies, is_won, is_by_capture, pawns_reach, is_quiet, move_counts, dtz_by, dtz_to, dtz_of}
-use Rattle.judge_core.specs.Precision.{source_in_part, source_in_table, unless_pawn, source_by_moves, source_by_outcome, source_from_search, source_of, is_unrounded, is_precise_next, is_count, next_giving, is_precise_by_moves, is_precise_from, is_precise}
+use Rattle.judge_core.specs.Distances.{plies, is_won, is_by_capture, pawns_reach, is_quiet, move_counts, dtz_by, dtz_to, dtz_of}
+use Rattle.judge_core.specs.Precision.{source_in_part, source_in_table, unless_pawn, source_by_moves, source_by_outcome, source_from_search, source_of, is_unrounded, is_precise_next, is_count, next_giving, is_precise_by_moves, is_precise}
 use Rattle.judge_core.specs.Inside.Precision.{precise_in, no_moves, with_move, noted, precision_of_moves, by_outcome, is_precise_open}
 
 -- ---- the own table

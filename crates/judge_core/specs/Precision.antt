@@ -1,6 +1,6 @@
 -- Which distances are precise (Syzygy DTZ tables). A table may count moves of one side in place of plies. Such a distance is
 -- rounded: the true one may be one ply more.
-use Rattle.std.specs.Prelude.{◌≡◌, ℕ, ◌==◌, Bool, true, false, ◌||◌, ◌&&◌, not, nat_le, List, Option, Some, None, Result, Ok, Err, filter, filter_map, if◌then◌else◌}
+use Rattle.std.specs.Prelude.{ℕ, ◌==◌, Bool, true, false, ◌||◌, ◌&&◌, not, nat_le, List, Option, Some, None, Result, Ok, Err, filter, filter_map, if◌then◌else◌}
 use Rattle.std.specs.List.{list_any, list_all}
 use Rattle.board_core.specs.declared.parts.Parts.{Parts}
 use Rattle.board_core.specs.ComputedMoves.{legal_moves, position_after, count_of_men}

@@ -3,7 +3,7 @@ use Rattle.std.specs.Prelude.{◌++◌, ℕ, Bool, List, [], ◌∷◌, Option}
 use Rattle.std.specs.List.{fold}
 use Rattle.std.specs.Io.KnownBytes.{Appends}
 use Rattle.json.specs.Token.{Token, key}
-use Rattle.json.specs.Json.{Json, Items, no_items, item, Members, no_members, member}
+use Rattle.json.specs.Json.{Items, no_items, item, Members, no_members, member}
 use Rattle.json.specs.Print.{ArePrintable, ends, print_from}
 use Rattle.json.specs.Tree.{json_tokens}
 pub use Rattle.json_lines.specs.Members.{members_of, value_json}

@@ -4,7 +4,7 @@ use Rattle.std.proofs.lemmas.Result.{on_ok_weaker}
 use Rattle.json.specs.Json.{array}
 use Rattle.json.specs.Token.{key}
 use Rattle.json.specs.Tree.{json_tokens}
-use Rattle.json_lines.specs.Api.{api_move_json, list_name}
+use Rattle.json_lines.specs.Api.{api_move_json}
 use Rattle.json_lines.specs.Inside.Members.{Writes}
 use Rattle.json_lines.specs.Objects.{moves_items}
 use Rattle.json_lines.proofs.Pieces.{writes_both}

@@ -9,8 +9,7 @@ use Rattle.json_lines.proofs.api.put_mainline.Goals as goal
 
 pub returns : goal.returns
 returns g c =
-    let t = c.args.position.now in
-    let ms = mainline_members t.told.position.side t.told.columns.probed t.precise in
+    let ms = mainline_members c.args.position.now in
     let others = list_members Ply c.args.plies.now in
     let more = one_open true (list_name Ply) (array (moves_items (api_move_json Ply) c.args.plies.now)) _ _ c.in_ok-put_list_member.ensures in
     on_ok_weaker c.put_end.result (λ h. object_written false (followed_by ms others) _ _ _ tt (followed_written false ms others _ _ _ tt c.in_ok-put_line_facts.ensures more) h) c.put_end.ensures

@@ -1,6 +1,4 @@
-use Rattle.std.proofs.Common.{false, true}
 use Rattle.std.proofs.lemmas.Result.{on_ok_weaker}
-use Rattle.json_lines.specs.Members.{members_of}
 use Rattle.json_lines.proofs.Whole.{some_object_written}
 use Rattle.json_lines.proofs.object.put_object.Goals as goal
 

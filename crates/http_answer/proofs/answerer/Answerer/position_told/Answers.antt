@@ -1,5 +1,5 @@
-use Rattle.table_folder.specs.Settled.{AnswersBy, IsRefusedFor, IsWithMoves}
-use Rattle.json_lines.specs.ApiTold.{IsApiPosition}
+use Rattle.table_folder.specs.Settled.{IsRefusedFor, IsWithMoves}
+use Rattle.http_answer.specs.Replies.{IsPositionBy}
 use Rattle.http_answer.proofs.Telling.{seen_by}
 use Rattle.http_answer.proofs.answerer.Answerer.position_told.Goals as goal
 
@@ -11,5 +11,5 @@ returns-in-Err-clause-refused g c =
 pub returns-clause-told : goal.returns-clause-told
 returns-clause-told g c =
     let settled = rw c.in_default.is at c.in_ok-refusal.ensures.settled in
-    seen_by g.D.Disk.facts _ _ (λ disk folder. AnswersBy disk folder (IsWithMoves c.args.position.now) (λ tables. IsApiPosition tables c.args.position.now c.in_ok-told.told)) c.self.view_is
+    seen_by g.D.Disk.facts _ _ (λ disk folder. IsPositionBy disk folder c.args.position.now c.in_ok-told.told) c.self.view_is
     (record { tables = c.settle_moves.new.set.tables; opened = c.in_ok-refusal.ensures.opened; settled = settled; answers = c.in_ok-told.ensures.told })

@@ -1,7 +1,6 @@
-use Rattle.std.proofs.Common.{◌∙◌, sym, ap, Ok, Bool, Option, Result, filter, fold}
+use Rattle.std.proofs.Common.{◌∙◌, sym, ap, Ok, Bool, Option, Result}
 use Rattle.std.proofs.lemmas.List.{take_all}
 use Rattle.board_core.specs.declared.parts.Parts.{Parts}
-use Rattle.board_core.specs.declared.moves.Move.{Move}
 use Rattle.board_core.specs.Moves.{IsLegal}
 use Rattle.judge_core.specs.declared.fault.ValueFault.{ValueFault}
 use Rattle.judge_core.specs.Distances.{is_quiet}
