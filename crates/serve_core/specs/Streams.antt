@@ -1,9 +1,11 @@
 -- What passes over the streams of a listener whose requests are answered by the tables of a folder.
-use Rattle.std.specs.Prelude.{◌≡◌, List, ◌++◌, Option, Some, None, All}
+use Rattle.std.specs.Prelude.{◌≡◌, ℕ, List, [], ◌++◌, Option, Some, None, All}
 use Rattle.std.specs.Io.KnownBytes.{Appends, Consumes}
 use Rattle.http_server.specs.History.{History, IsServed}
 use Rattle.http_server.specs.declared.state.Config.{Config}
 use Rattle.http_answer.specs.Replies.{IsReplied}
+use Rattle.http_loop.specs.declared.server.Server.{Server}
+use Rattle.http_loop.specs.Servers.{HasServed, config_of, listener_of}
 use Rattle.http_loop.specs.Streams.{Closed, HasNoOpen, Stream, Streams}
 use Rattle.system_io.specs.Disks.{DiskFacts}
 use Rattle.table_folder.specs.Folders.{FolderOn}
@@ -22,3 +24,9 @@ abbrev pub HasReplied : {D : Type 0} → (D → DiskFacts) → FolderOn D → Co
 HasReplied facts on config before None = Unit {0}
 HasReplied facts on config before (Some known) =
     HasNoOpen (Some known) × (since : List Closed) × (known.closed ≡ before ++ since) × All (λ c. IsRepliedOver facts on config c.came c.left) since
+
+-- Over the streams of a server that has served none but these.
+abbrev pub RepliesBy : {D C L R W : Type 0} → (D → DiskFacts) → FolderOn D
+    → (L → Option Streams) → (R → Option (List ℕ)) → (W → Option (List ℕ)) → Server C L R W → Server C L R W → Type 0
+RepliesBy facts on streams remaining contents old new =
+    (before : List Closed) → HasServed streams remaining contents [] before old → HasReplied facts on (config_of new) before (streams (listener_of new))
