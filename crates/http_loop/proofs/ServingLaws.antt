@@ -1,5 +1,5 @@
 -- What each step of a server keeps.
-use Rattle.std.proofs.Common.{◌≡◌, ◌⊎◌, ℕ, ◌+◌, ◌<◌, ◌≤◌, List, [], ◌∷◌, ◌++◌, Option, Some, None, All, Contains, refl, sym, ap, subst, ◌∙◌, inl, inr, append_assoc, append-nil, get_or, arith}
+use Rattle.std.proofs.Common.{◌≡◌, ℕ, List, [], ◌∷◌, ◌++◌, Option, Some, None, All, Contains, refl, sym, ap, subst, ◌∙◌, inl, inr, append_assoc, append-nil, get_or}
 use Rattle.std.proofs.lemmas.Bool.{cases_eq}
 use Rattle.std.proofs.lemmas.List.Elements.{All-nil, All-cons, All-append, Contains-append_left, Contains-append_right, All-contains_itself}
 use Rattle.std.specs.Io.KnownBytes.{Appends, Consumes}
@@ -15,7 +15,7 @@ use Rattle.http_server.proofs.KnownLemmas.{Appends-then, Consumes-then}
 use Rattle.http_server.proofs.StreamLemmas.{Chain-append}
 use Rattle.http_server.proofs.Theorems.{always_served}
 use Rattle.http_loop.specs.declared.peer.Peer.{Peer}
-use Rattle.http_loop.specs.Streams.{Closed, Closes, HasNoOpen, Opens, Stays, Stream, Streams, closed_of, stream_of}
+use Rattle.http_loop.specs.Streams.{Closed, Closes, Opens, Stays, Stream, Streams, stream_of}
 use Rattle.http_loop.specs.Serving.{AllServed, AreServed, IsPeerOf, IsServedOver, IsServing, Serves, ServesOn}
 
 Consumes-none : (u : Option (List ℕ)) → Consumes u u []
@@ -210,30 +210,3 @@ module _ {R W S : Type 0} (remaining : R → Option (List ℕ)) (contents : W �
         subst (λ (cs : List Call). IsServing remaining contents config cs before known₃ peers₃) (append_assoc calls x.0 y.0)
         (y.2 (calls ++ x.0) before (x.2 calls before h)),
   )
-
--- where no peer is left, no stream is open
-pub none_open : {R W : Type 0} (remaining : R → Option (List ℕ)) (contents : W → Option (List ℕ)) (config : Config) (calls : List Call) (before : List Closed)
-    (known : Option Streams) (peers : Slab (Peer R W)) → ((key : ℕ) → get peers key ≡ None) → IsServing remaining contents config calls before known peers → HasNoOpen known
-none_open remaining contents config calls before None peers gone h = tt
-none_open remaining contents config calls before (Some known) peers gone h = λ key.
-    has_none remaining contents config calls (known.opened key) (get peers key) (gone key) (h.opened key)
-
--- where no stream is open, none has to be served
-pub none_to_serve : {R W : Type 0} (remaining : R → Option (List ℕ)) (contents : W → Option (List ℕ)) (config : Config) (calls : List Call)
-    (known : Option Streams) (peers : Slab (Peer R W)) → peers.slots ≡ [] → HasNoOpen known → IsServing remaining contents config calls (closed_of known) known peers
-none_to_serve remaining contents config calls None peers empty none = tt
-none_to_serve remaining contents config calls (Some known) peers empty none = record {
-  opened = λ key. is_none remaining contents config calls (known.opened key) (get peers key) (none key) (ap (λ slots. get_or slots key None) empty);
-  since = [];
-  closed = sym (append-nil known.closed);
-  served = All-nil (λ (c : Closed). IsServedOver config calls c.came c.left);
-}
-
--- one more was closed of those up to this key
-pub closed_up_to : {R W : Type 0} (old new : Slab (Peer R W)) (key end : ℕ) → Updates old new key None → ((at : ℕ) → (at < key) ⊎ (end ≤ at) → get old at ≡ None)
-    → (at : ℕ) → (at < key + 1) ⊎ (end ≤ at) → get new at ≡ None
-closed_up_to old new key end updates before at near =
-    elim (cases_eq at key) [
-      | inl same ↦ ap (get new) same ∙ updates.changed
-      | inr differs ↦ updates.others at differs ∙ before at (elim near [ inl low ↦ inl (omega (arith, differs)) | inr high ↦ inr high ])
-    ]

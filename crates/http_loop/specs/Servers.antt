@@ -1,6 +1,8 @@
 -- What a clause reads of a server.
-use Rattle.std.specs.Prelude.{ℕ, List, Option}
-use Rattle.http_server.specs.Exchange.{Call}
+use Rattle.std.specs.Prelude.{ℕ, List, ◌++◌, Option}
+use Rattle.http.specs.declared.request.Request.{Request}
+use Rattle.http_server.specs.Exchange.{Call, Chain}
+use Rattle.http_server.specs.declared.response.Response.{Response}
 use Rattle.http_server.specs.declared.state.Config.{Config}
 use Rattle.http_loop.specs.declared.server.Server.{Server}
 use Rattle.http_loop.specs.Serving.{IsServing}
@@ -22,3 +24,9 @@ module _ {C L R W : Type 0} where
     -- if so it was, so it is
     abbrev pub ServesStill : Server C L R W → Server C L R W → Type 0
     ServesStill old new = (calls : List Call) (before : List Closed) → HasServed calls before old → HasServed calls before new
+
+    -- The service was called so from one of its states to the other, and what had been served still is, with these calls.
+    abbrev pub ServesCalls : {S : Type 0} → (S → Request (List ℕ) → Response → S → Type 0) → S → S → Server C L R W → Server C L R W → Type 0
+    ServesCalls answers before after old new =
+        (more : List Call) × Chain answers before more after
+        × ((calls : List Call) (closed : List Closed) → HasServed calls closed old → HasServed (calls ++ more) closed new)

@@ -1,11 +1,11 @@
 //! The connections of one listener.
 
-ghost use Rattle.std.specs.Prelude.{◌≡◌, ℕ, List, [], ◌++◌, IfOk, None};
+ghost use Rattle.std.specs.Prelude.{◌≡◌, ℕ, List, [], IfOk, None};
 ghost use Rattle.slab.specs.Slab.{Updates, get};
 ghost use Rattle.http_server.specs.Connection.{config_of, history};
 ghost use Rattle.http_server.specs.History.{new_history};
-ghost use Rattle.http_server.specs.Exchange.{Call, Chain};
-ghost use Rattle.http_loop.specs.Servers.{HasServed, ServesStill, listener_of};
+ghost use Rattle.http_server.specs.Exchange.{Call};
+ghost use Rattle.http_loop.specs.Servers.{HasServed, ServesCalls, ServesStill, listener_of};
 ghost use Rattle.http_loop.specs.Serving.{ServesOn, StillServes};
 ghost use Rattle.http_loop.specs.Streams.{Closed, HasNoOpen, closed_of};
 
@@ -222,6 +222,9 @@ fn give_turns<L: Listener, S: Service>(
 {
     let mut keys = Vec::new(alloc);
     mem::swap(&mut keys, ready);
+    // One that was told of more than once has one turn.
+    keys.sort_unstable();
+    keys.dedup();
     for key in keys {
         give_turn(listener, peers, ready, service, key, now);
     }
@@ -310,9 +313,7 @@ impl<'r, C: Clock, L: Listener + Drop> Server<'r, C, L> {
     /// Waits until a stream comes or is ready, or for as long as `sweep` of the limits says; gives a turn to each connection that is ready,
     /// and closes those that took too long. The error comes where the system can't wait, or memory is refused.
     pub fn round<S: Service>(&mut self, service: &mut S) -> io::Result<()>
-        ensures served { (more : List Call) × Chain S.answers service.old more service.new
-            × ((calls : List Call) (before : List Closed) → HasServed L.streams L.Reader.remaining L.Writer.contents calls before self.old
-            → HasServed L.streams L.Reader.remaining L.Writer.contents (calls ++ more) before self.new) }
+        ensures served { ServesCalls L.streams L.Reader.remaining L.Writer.contents S.answers service.old service.new self.old self.new }
     {
         self.wait()?;
         self.sweep();

@@ -9,7 +9,7 @@ use Rattle.http_server.proofs.StreamLemmas.{Chain-append}
 use Rattle.http_answer.specs.Games.{GamesOn, IsServedCall}
 use Rattle.http_loop.specs.declared.peer.Peer.{Peer}
 use Rattle.http_loop.specs.declared.server.Server.{Server}
-use Rattle.http_loop.specs.Servers.{HasServed}
+use Rattle.http_loop.specs.Servers.{HasServed, ServesCalls}
 use Rattle.http_loop.specs.Serving.{IsServedOver, IsServing}
 use Rattle.http_loop.specs.Streams.{Closed, HasNoOpen, Streams}
 use Rattle.system_io.specs.Disks.{DiskFacts}
@@ -33,20 +33,13 @@ chain_logged {S} {H} answers [] old new x = ap (λ (c : Logged S H). c.service) 
 chain_logged {S} {H} answers (c ∷ calls) old new x = (x.0.service, x.1, chain_logged answers calls x.0 new x.2)
 
 module _ {C L R W S : Type 0} (streams : L → Option Streams) (remaining : R → Option (List ℕ)) (contents : W → Option (List ℕ)) (answers : S → Request (List ℕ) → Response → S → Type 0) where
-  -- Rounds that led from one state of the service to the other, by these calls, still serve.
-  abbrev pub Rounds : S → S → Server C L R W → Server C L R W → Type 0
-  Rounds old new server server' =
-      (more : List Call) × Chain answers old more new
-      × ((calls : List Call) (before : List Closed) → HasServed streams remaining contents calls before server → HasServed streams remaining contents (calls ++ more) before server')
-
-  pub no_rounds : (s : S) (server : Server C L R W) → Rounds s s server server
+  pub no_rounds : (s : S) (server : Server C L R W) → ServesCalls streams remaining contents answers s s server server
   no_rounds s server = ([], refl, λ calls before h. subst (λ (cs : List Call). HasServed streams remaining contents cs before server) (sym (append-nil calls)) h)
 
   -- one round more, of a counted service
-  pub next_round : (old : S) (now new : Counted S) (server server₁ server₂ : Server C L R W) → Rounds old now.service server server₁
-      → (more : List Call) × Chain (counts answers) now more new
-        × ((calls : List Call) (before : List Closed) → HasServed streams remaining contents calls before server₁ → HasServed streams remaining contents (calls ++ more) before server₂)
-      → Rounds old new.service server server₂
+  pub next_round : (old : S) (now new : Counted S) (server server₁ server₂ : Server C L R W) → ServesCalls streams remaining contents answers old now.service server server₁
+      → ServesCalls streams remaining contents (counts answers) now new server₁ server₂
+      → ServesCalls streams remaining contents answers old new.service server server₂
   next_round old now new server server₁ server₂ x y = (
       x.0 ++ y.0,
       Chain-append answers x.0 y.0 old now.service new.service x.1 (chain_counted answers y.0 now new y.1),

@@ -1,9 +1,11 @@
 -- What passes over the streams of a listener whose requests are answered by the tables of a folder, and by folders of games.
-use Rattle.std.specs.Prelude.{◌≡◌, List, ◌++◌, Option, Some, None, All}
+use Rattle.std.specs.Prelude.{◌≡◌, ℕ, List, [], ◌++◌, Option, Some, None, All}
 use Rattle.std.specs.Io.KnownBytes.{Appends, Consumes}
 use Rattle.http_server.specs.History.{History, IsServed}
 use Rattle.http_server.specs.declared.state.Config.{Config}
 use Rattle.http_answer.specs.Games.{GamesOn, IsServedCall}
+use Rattle.http_loop.specs.declared.server.Server.{Server}
+use Rattle.http_loop.specs.Servers.{HasServed, config_of, listener_of}
 use Rattle.http_loop.specs.Streams.{Closed, HasNoOpen, Stream, Streams}
 use Rattle.system_io.specs.Disks.{DiskFacts}
 use Rattle.system_io.specs.Records.{StorePlaces}
@@ -23,3 +25,10 @@ abbrev pub HasReplied : {D H S : Type 0} → (D → DiskFacts) → (H → StoreP
 HasReplied facts stores tables games config before None = Unit {0}
 HasReplied facts stores tables games config before (Some known) =
     HasNoOpen (Some known) × (since : List Closed) × (known.closed ≡ before ++ since) × All (λ c. IsRepliedOver facts stores tables games config c.came c.left) since
+
+-- Over the streams of a server that has served none but these.
+abbrev pub RepliesBy : {D H S C L R W : Type 0} → (D → DiskFacts) → (H → StorePlaces S) → FolderOn D → Option (GamesOn D H)
+    → (L → Option Streams) → (R → Option (List ℕ)) → (W → Option (List ℕ)) → Server C L R W → Server C L R W → Type 0
+RepliesBy facts stores tables games streams remaining contents old new =
+    (before : List Closed) → HasServed streams remaining contents [] before old
+    → HasReplied facts stores tables games (config_of new) before (streams (listener_of new))

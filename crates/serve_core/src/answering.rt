@@ -1,10 +1,7 @@
 //! Requests that are answered over the streams of a listener.
 
-ghost use Rattle.std.specs.Prelude.{List, [], ◌++◌};
-ghost use Rattle.http_server.specs.Exchange.{Call, Chain};
-ghost use Rattle.http_loop.specs.Servers.{HasServed, config_of, listener_of};
-ghost use Rattle.http_loop.specs.Streams.{Closed};
-ghost use Rattle.serve_core.specs.Streams.{HasReplied};
+ghost use Rattle.http_loop.specs.Servers.{ServesCalls};
+ghost use Rattle.serve_core.specs.Streams.{RepliesBy};
 
 use crate::counting::Counted;
 use crate::logging::Logged;
@@ -21,9 +18,7 @@ fn answer_rounds<C: Clock, L: Listener + Drop, S: Service + Drop>(
     counted: &mut Counted<S>,
     requests: u64,
 ) -> io::Result<()>
-    ensures { (more : List Call) × Chain S.answers counted.old.service more counted.new.service
-        × ((calls : List Call) (before : List Closed) → HasServed L.streams L.Reader.remaining L.Writer.contents calls before server.old
-            → HasServed L.streams L.Reader.remaining L.Writer.contents (calls ++ more) before server.new) }
+    ensures { ServesCalls L.streams L.Reader.remaining L.Writer.contents S.answers counted.old.service counted.new.service server.old server.new }
 {
     for _ in 0..u64::MAX {
         if requests <= counted.answered {
@@ -41,8 +36,7 @@ pub fn answer_requests<C: Clock, L: Listener + Drop, D: Disk, H: Host>(
     service: Logged<'_, Router<'_, D, H, C>, H>,
     requests: u64,
 ) -> io::Result<()>
-    ensures replied { (before : List Closed) → HasServed L.streams L.Reader.remaining L.Writer.contents [] before server.old
-        → HasReplied D.facts H.stores service.entry.service.answerer service.entry.service.games (config_of server.new) before (L.streams (listener_of server.new)) }
+    ensures replied { RepliesBy D.facts H.stores service.entry.service.answerer service.entry.service.games L.streams L.Reader.remaining L.Writer.contents server.old server.new }
 {
     let mut counted = Counted {
         service,

@@ -3,7 +3,10 @@
 //! `SystemPages` is what adjudicate_core's program is lent for `serve` (`Pages`): the line `ready ADDR` comes out, or one that refuses.
 //! Requests are answered by `http_answer` over the folder, connections are served by `http_loop`.
 //!
-//! Inside: `counting` (how many requests were answered), `logging` (a line of each), `serving`.
+//! Inside: `counting` (how many requests were answered), `logging` (a line of each), `answering`, `serving`.
+//!
+//! - CLAIM: `answer_requests`, clause `replied`: over a listener whose streams are known each stream got the replies to the requests that it
+//!   gave, by the folders, in their order, whatever the others gave (`IsRepliedOver`); and all are closed.
 #![tactic(auto)]
 
 mod answering;
