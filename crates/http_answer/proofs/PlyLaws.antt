@@ -14,7 +14,7 @@ use Rattle.system_io.specs.Disks.{DiskFacts}
 use Rattle.table_folder.specs.Folders.{Folder, FolderOn}
 use Rattle.json_lines.proofs.Whole.{shallow}
 use Rattle.game_status.specs.declared.one_game.GameFound.{GameFound}
-use Rattle.game_status.specs.StatusObjects.{AddsMembers, AddsTokens, count_or_null, members_if, second_members}
+use Rattle.game_status.specs.StatusObjects.{AddsMembers, AddsTokens, count_or_null, json_text, members_if, second_members}
 use Rattle.game_status.proofs.ObjectDepth.{first_flat, flat_count, flat_text, second_if_shallow}
 use Rattle.game_status.proofs.ObjectLaws.{both, no_tokens, reads_back, valued}
 use Rattle.http_answer.specs.Games.{ArePlies, GoesOn, IsNext, Ply, delay_in, plies_items, ply_json, whole_game_json}
@@ -37,14 +37,14 @@ module _ (disk : DiskFacts) (folder : Folder) (start : Parts) (moves : List Move
     written = both before now new h.told (json_tokens (ply_json t)) h.written wrote;
     goes = λ ts on.
         let all = h.goes (t ∷ ts) (subst (λ (ms : List Move). GoesOn disk folder p ms (t ∷ ts)) (sym front) (is, subst (λ (q : Parts). GoesOn disk folder q tail ts) (sym at) on)) in
-        (all.0, all.1.0, all.1.1 ∙ sym (append_assoc h.told (json_tokens (ply_json t)) (plies_tokens ts)));
+        (all.0, all.1, all.2 ∙ sym (append_assoc h.told (json_tokens (ply_json t)) (plies_tokens ts)));
   }
 
   -- no ply more
   pub no_more : (p : Parts) (rest : List Move) (now : Written) → SoFar p rest now → GoesOn disk folder p rest [] → AddsMoves disk folder start moves before now
   no_more p rest now h on =
     let all = h.goes [] on in
-    (all.0, all.1.0, record { before = h.written.before; tokens = h.written.tokens ∙ ap (λ l. before.tokens ++ l) (sym (append-nil h.told) ∙ sym all.1.1) })
+    (all.0, all.1, record { before = h.written.before; tokens = h.written.tokens ∙ ap (λ l. before.tokens ++ l) (sym (append-nil h.told) ∙ sym all.2) })
 
   -- there are no moves left
   pub at_end : (p : Parts) (rest : List Move) (now : Written) → SoFar p rest now → rest ≡ [] → AddsMoves disk folder start moves before now
@@ -104,13 +104,25 @@ pub written_text : (disk : DiskFacts) (folder : Folder) (compares : Bool) (stamp
     → AddsGame disk folder compares stamp g start text → items ≡ text.before ++ print text.tokens → tokens (print text.tokens) ≡ text.tokens → IsGameText disk folder compares stamp g items
 written_text disk folder compares stamp g start text items nothing empty (ts, are, wrote) is same =
     let j = whole_game_json compares stamp g ts in
-    let written : text.tokens ≡ json_tokens j = wrote.tokens ∙ ap (λ l. l ++ json_tokens j) empty in (
-      ts,
-      are,
-      is ∙ ap (λ front. front ++ print text.tokens) (wrote.before ∙ nothing) ∙ ap print written,
-      reads_back j (ap (λ l. tokens (print l)) (sym written) ∙ same ∙ written) (game_shallow compares stamp g ts),
-    )
+    let written : text.tokens ≡ json_tokens j = wrote.tokens ∙ ap (λ l. l ++ json_tokens j) empty in
+    let whole : items ≡ json_text j = is ∙ ap (λ front. front ++ print text.tokens) (wrote.before ∙ nothing) ∙ ap print written in
+    let back = reads_back j (ap (λ l. tokens (print l)) (sym written) ∙ same ∙ written) (game_shallow compares stamp g ts) in
+    (ts, are, whole, subst (λ (t : List ℕ). document t ≡ Some j) (sym whole) back)
 
 -- a text is one value
 pub one_value : (text : List ℕ) (a b : Json) → document text ≡ Some a → document text ≡ Some b → a ≡ b
 one_value text a b x y = let s = sym x ∙ y in cc
+
+-- ---- as the loop sees it
+
+-- by the folder of the start, which is still the same
+pub more_by : {D : Type 0} (facts : D → DiskFacts) (first at : FolderOn D) (start : Parts) (moves : List Move) (before : Written) (p next : Parts) (rest tail : List Move) (m : Move) (now new : Written) → at ≡ first → rest ≡ m ∷ tail
+    → SoFar (facts first.disk) first.folder start moves before p rest now → AddsNext (facts at.disk) at.folder p m now new next → SoFar (facts first.disk) first.folder start moves before next tail new
+more_by {D} facts first at start moves before p next rest tail m now new same front h adds =
+    one_more (facts first.disk) first.folder start moves before p next rest tail m now new front h (subst (λ (f : FolderOn D). AddsNext (facts f.disk) f.folder p m now new next) same adds)
+
+-- the next move isn't legal, and nothing was written
+pub at_illegal_by : (disk : DiskFacts) (folder : Folder) (start : Parts) (moves : List Move) (before : Written) (p : Parts) (rest tail : List Move) (m : Move) (now new : Written)
+    → SoFar disk folder start moves before p rest now → rest ≡ m ∷ tail → position_after p m ≡ None → new ≡ now → AddsMoves disk folder start moves before new
+at_illegal_by disk folder start moves before p rest tail m now new h front none same =
+    subst (AddsMoves disk folder start moves before) (sym same) (at_illegal disk folder start moves before p rest tail m now h front none)

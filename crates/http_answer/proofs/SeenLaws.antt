@@ -1,6 +1,6 @@
 -- What is seen of folders of games, over their stores, and what tables say of a position alone.
 use Rattle.std.proofs.Common.{◌≡◌, ℕ, List, Option, Some, None, refl, subst, sym}
-use Rattle.std.specs.Prelude.{Result, Ok, Err, option_map}
+use Rattle.std.specs.Prelude.{IfNone, option_map}
 use Rattle.std.specs.Borrow.{Bor}
 use Rattle.system_io.specs.Disks.{DiskFacts}
 use Rattle.system_io.specs.Records.{StorePlaces}
@@ -9,7 +9,11 @@ use Rattle.json_lines.specs.declared.told.JsonLine.{JsonLine}
 use Rattle.judge_core.specs.Tables.{Tables}
 use Rattle.table_folder.specs.Folders.{Folder, FolderOn}
 use Rattle.table_folder.specs.Settled.{AreSettled, IsSettled}
-use Rattle.http_answer.specs.Games.{TellsAlone}
+use Rattle.http_answer.specs.Games.{GamesOn, IsFoundGame, TellsAlone}
+use Rattle.game_status.specs.declared.one_game.GameFound.{GameFound}
+use Rattle.game_status.specs.OneGame.{IsGameFound}
+use Rattle.game_status.specs.StatusObjects.{AreNamed}
+use Rattle.game_status.proofs.NameLaws.{look_named}
 use Rattle.game_status.specs.StoredDisks.{IsOverStore, IsSoOverStore, IsSoOverStores, Overlaid, overlaid_facts}
 
 -- over the store of a folder
@@ -48,3 +52,18 @@ module _ {D S : Type 0} (facts : D → DiskFacts) (stores : StorePlaces S) (disk
   seen_both {E} by first second o some is too holds =
       subst (λ (x : Option (Bor (List ℕ))). IsSoOverStores (facts disk) stores games (option_map path_of x) (Holds (option_map path_of x))) (sym some)
       (over facts stores disk games (by first) (λ (d : DiskFacts). IsSoOverStore d stores second.now (Holds (Some second.now))) is (over (λ (d : E). overlaid_facts facts (by d)) stores first second.now o (Holds (Some second.now)) too holds))
+
+pub if_none : {T : Type 0} {A B : Type 0} (o : Option T) → IfNone o A → (A → B) → IfNone o B
+if_none None a f = f a
+if_none (Some x) a f = tt
+
+-- ---- what follows of what is seen
+
+pub seen_then : {S : Type 0} {P : Type 0} (disk : DiskFacts) (stores : StorePlaces S) (games : List ℕ) (other : Option (List ℕ)) (Holds : DiskFacts → Type 0) → IsSoOverStores disk stores games other Holds → ((d : DiskFacts) → Holds d → P) → P
+seen_then disk stores games None Holds (entries, are, h) f = f _ h
+seen_then disk stores games (Some path) Holds (entries, are, (more, too, h)) f = f _ h
+
+-- the names in it are those of games
+pub found_named : {D H S : Type 0} (facts : D → DiskFacts) (stores : H → StorePlaces S) (on : GamesOn D H) (stamp : List ℕ) (g : GameFound) → IsFoundGame facts stores on stamp g → AreNamed g.first × AreNamed g.both
+found_named facts stores on stamp g h =
+    seen_then (facts on.disk) (stores on.host) on.games on.other (λ (d : DiskFacts). IsGameFound d on.games on.other stamp g.first g.both) h (λ d is. (look_named d is.one None stamp g.first is.in_first, look_named d is.one is.two stamp g.both is.in_both))

@@ -13,4 +13,4 @@ returns-in-Err-clause-told g c =
 pub returns-clause-told : goal.returns-clause-told
 returns-clause-told g c =
     let settled = rw c.in_default.is at c.in_ok-refusal.ensures.settled in
-    IfOk-weaker c.of_position.result _ _ (λ l is. alone_so g.D.Disk.facts _ _ _ l c.self.view_is (ByTables (record { tables = c.settle.new.set.tables; opened = c.in_ok-refusal.ensures.opened; settled = λ q same. subst (IsSettled _ _) (sym same) settled; answers = is }))) c.of_position.ensures.told
+    IfOk-weaker c.of_position.result _ _ (λ l is. alone_so g.D.Disk.facts _ _ _ l c.self.view_is (ByTables (record { tables = c.settle.new.set.tables; opened = c.in_ok-refusal.ensures.opened; settled = λ q same. subst (IsSettled c.self.inside.folder.folder c.settle.new.set.tables) (sym same) settled; answers = is }))) c.of_position.ensures.told
