@@ -19,7 +19,7 @@ use Rattle.judge_core.proofs.WholeGames.{is_first, is_going, is_illegal, one_on,
 use Rattle.system_io.specs.Disks.{DiskFacts}
 use Rattle.table_folder.specs.declared.fault.FileRefusal.{FileRefusal}
 use Rattle.table_folder.specs.Folders.{AreOf, Folder}
-use Rattle.table_folder.specs.Laws.{PlayedPliesAreInPlay}
+use Rattle.table_folder.specs.Laws.{PositionsInPlayArePlayed}
 use Rattle.table_folder.specs.Settled.{AnswersBy, IsInPlayBy, IsPly, IsRefusedAt, IsRefusedFor, IsSettled}
 use Rattle.adjudicate_core.specs.Commands.Follow.{by_folder}
 
@@ -58,7 +58,7 @@ module _ {disk : DiskFacts} {folder : Folder} {tables : Tables} {start : Parts} 
   before : IsUnruled (rules_by start tables delay) moves ply
   before = to.unruled tables to.opened all
 
-  pub ruled : PlayedPliesAreInPlay → (v : Verdict) → ply ≤ length moves → IsVerdictAt delay s (Some v) → AnswersBy disk folder (IsInPlayBy start moves delay) (λ t. IsOutcome (rules_by start t delay) moves (Ruled ply v))
+  pub ruled : PositionsInPlayArePlayed → (v : Verdict) → ply ≤ length moves → IsVerdictAt delay s (Some v) → AnswersBy disk folder (IsInPlayBy start moves delay) (λ t. IsOutcome (rules_by start t delay) moves (Ruled ply v))
   ruled played v le verdict =
       let is = is_first (rules_by start tables delay) moves ply s at before v le (sym (verdict (rules_by start tables delay) (take ply moves) refl at)) in
       record { tables = tables; opened = to.opened; settled = λ p play. to.stands.stands.0 p (played (rules_by start tables delay) moves (Ruled ply v) p is play); answers = is }
@@ -66,12 +66,12 @@ module _ {disk : DiskFacts} {folder : Folder} {tables : Tables} {start : Parts} 
   none_at : (more : Tables) → AreOf disk folder more → HasAll tables more → IsVerdictAt delay s None → verdict_after (rules_by start more delay) (take ply moves) ≡ None
   none_at more are has verdict = sym (verdict (rules_by start more delay) (take ply moves) refl (at_more more are has))
 
-  pub illegal : PlayedPliesAreInPlay → (m : Move) → ply < length moves → IsVerdictAt delay s None → m ≡ get_or moves ply m → position_after s.position m ≡ None → AnswersBy disk folder (IsInPlayBy start moves delay) (λ t. IsOutcome (rules_by start t delay) moves (Illegal ply))
+  pub illegal : PositionsInPlayArePlayed → (m : Move) → ply < length moves → IsVerdictAt delay s None → m ≡ get_or moves ply m → position_after s.position m ≡ None → AnswersBy disk folder (IsInPlayBy start moves delay) (λ t. IsOutcome (rules_by start t delay) moves (Illegal ply))
   illegal played m lt verdict at_ply plays =
       let is = is_illegal (rules_by start tables delay) moves ply s at before m lt (none_at tables to.opened all verdict) at_ply plays in
       record { tables = tables; opened = to.opened; settled = λ p play. to.stands.stands.0 p (played (rules_by start tables delay) moves (Illegal ply) p is play); answers = is }
 
-  pub going : PlayedPliesAreInPlay → ply ≡ length moves → IsVerdictAt delay s None → AnswersBy disk folder (IsInPlayBy start moves delay) (λ t. IsOutcome (rules_by start t delay) moves Going)
+  pub going : PositionsInPlayArePlayed → ply ≡ length moves → IsVerdictAt delay s None → AnswersBy disk folder (IsInPlayBy start moves delay) (λ t. IsOutcome (rules_by start t delay) moves Going)
   going played end verdict =
       let is = is_going (rules_by start tables delay) moves ply s at before end (none_at tables to.opened all verdict) in
       record { tables = tables; opened = to.opened; settled = λ p play. to.stands.stands.0 p (subst (λ n. IsPly start (take n moves) p) (sym end) (played (rules_by start tables delay) moves Going p is play)); answers = is }

@@ -12,7 +12,7 @@ use board_core::{Delay, Move, Position};
 use judge_core::{GameOutcome, Set, Standing};
 use std::alloc::{AllocError, Global};
 use system_io::Disk;
-use table_folder::laws::{played_plies_are_in_play, settled_games_stay};
+use table_folder::laws::{positions_in_play_are_played, settled_games_stay};
 use table_folder::{FileRefusal, TableFolder};
 
 /// Where a game stands before its first move, by the tables of a folder that the start asks for.
@@ -77,7 +77,7 @@ pub(crate) fn judge_game<'r, D: Disk>(
     ensures opened { AreOf (D.facts folder.now.disk) folder.now.folder set.new.tables }
     ensures found { IfOk result (Finds (D.facts folder.now.disk) folder.now.folder (IsInPlayBy start.now moves.now delay) (λ tables outcome. IsOutcome (record { start = start.now; tables = tables; delay = delay }) moves.now outcome)) }
 {
-    played_plies_are_in_play();
+    positions_in_play_are_played();
     let mut standing = match begin(alloc, folder, set, start)? {
         Ok(standing) => standing,
         Err(refusal) => return Ok(Err(refusal)),

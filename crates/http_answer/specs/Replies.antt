@@ -25,7 +25,7 @@ use Rattle.system_io.specs.Disks.{DiskFacts}
 use Rattle.table_folder.specs.declared.fault.FileRefusal.{FileRefusal}
 use Rattle.table_folder.specs.Faults.{file_fault_name}
 use Rattle.table_folder.specs.Folders.{Folder, FolderOn}
-use Rattle.table_folder.specs.Settled.{AnswersBy, IsRefusedFor, IsWithMoves}
+use Rattle.table_folder.specs.Settled.{AnswersBy, IsAlone, IsRefusedAt, IsRefusedFor, IsWithMoves}
 use Rattle.http_answer.specs.Queries.{asked_lines, asked_text}
 use Rattle.http_answer.specs.declared.page.TheConstants.{PAGE}
 
@@ -187,9 +187,18 @@ IsRefusedInLine disk folder (suc n) p refusal =
     IsRefusedFor disk folder (IsWithMoves p) refusal
     ⊎ ((t : ApiMove) × IsPlayedOn disk folder p (Some t) × (ends_line t ≡ false) × IsRefusedInLine disk folder n t.told.after refusal)
 
--- what tables of the folder say of a position, of which none is missing there and after its moves
+-- so it is of a line that is asked for where a side wins
+abbrev pub IsRefusedLineOf : DiskFacts → Folder → Option Side → Parts → FileRefusal → Type 0
+IsRefusedLineOf disk folder None p refusal = ⊥
+IsRefusedLineOf disk folder (Some winner) p refusal = IsRefusedInLine disk folder most_plies p refusal
+
+-- what tables of the folder say of a position, of which none is missing there
 abbrev pub IsPositionBy : DiskFacts → Folder → Parts → ApiPosition → Type 0
-IsPositionBy disk folder p t = AnswersBy disk folder (IsWithMoves p) (λ tables. IsApiPosition tables p t)
+IsPositionBy disk folder p t = AnswersBy disk folder (IsAlone p) (λ tables. IsApiPosition tables p t)
+
+-- the side that wins there
+abbrev pub winner_at : ApiPosition → Option Side
+winner_at t = winner_of t.told.position.side t.told.columns.probed.dtz
 
 -- a position by tables of the folder, and the line of best play from it
 abbrev pub IsMainlineOf : DiskFacts → Folder → Parts → ApiLine → Type 0
@@ -198,12 +207,14 @@ IsMainlineOf disk folder p (line.Refused words) = ⊥
 IsMainlineOf disk folder p (line.Values t moves) = ⊥
 IsMainlineOf disk folder p (line.Mainline t plies) =
     IsPositionBy disk folder p t
-    × IsLineOfPlay disk folder (winner_of t.told.position.side t.told.columns.probed.dtz) p plies.items
+    × IsLineOfPlay disk folder (winner_at t) p plies.items
 
--- The line of best play from a position; or the refusal of the file of a table that is needed.
+-- The line of best play from a position; or the refusal of the file of a table that the position needs, or where a side wins a ply of the
+-- line.
 pub data TellsMainline (disk : DiskFacts) (folder : Folder) (p : Parts) (l : ApiLine) : Type 0 where
   OfPlay : IsMainlineOf disk folder p l → TellsMainline disk folder p l
-  OfRefusal : (refusal : FileRefusal) → IsRefusedInLine disk folder most_plies p refusal → RefusesFile refusal l → TellsMainline disk folder p l
+  OfPosition : (refusal : FileRefusal) → IsRefusedAt disk folder p refusal → RefusesFile refusal l → TellsMainline disk folder p l
+  OfLine : (t : ApiPosition) → IsPositionBy disk folder p t → (refusal : FileRefusal) → IsRefusedLineOf disk folder (winner_at t) p refusal → RefusesFile refusal l → TellsMainline disk folder p l
 
 -- ---- texts
 

@@ -5,9 +5,9 @@ ghost use Rattle.http_server.specs.Response.{IsBlank};
 ghost use Rattle.http_answer.specs.Games.{TellsAlone};
 ghost use Rattle.http_answer.specs.Inside.{AddsObject, AreObjects, IsOnePly, asked_for};
 ghost use Rattle.http_answer.specs.Queries.{asked_lines};
-ghost use Rattle.http_answer.specs.Replies.{HasLine, HasLines, IsBestPlay, IsLineOfPlay, IsPlayedOn, IsPositionBy, IsRefusedInLine, IsReplyTo, RefusesFile, TellsMainline, TellsMainlineOf, TellsEach, TellsPosition, TellsText, most_plies, refused_words};
+ghost use Rattle.http_answer.specs.Replies.{HasLine, HasLines, IsBestPlay, IsLineOfPlay, IsPlayedOn, IsPositionBy, IsRefusedInLine, IsRefusedLineOf, IsReplyTo, RefusesFile, TellsMainline, TellsMainlineOf, TellsEach, TellsPosition, TellsText, most_plies, refused_words};
 ghost use Rattle.json_lines.specs.declared.api_told.ApiLine.{ApiLine};
-ghost use Rattle.table_folder.specs.Settled.{IsRefusedFor, IsWithMoves};
+ghost use Rattle.table_folder.specs.Settled.{IsRefusedAt, IsRefusedFor, IsWithMoves};
 
 use crate::asking::{Topic, topic_of};
 use crate::filling::{
@@ -151,19 +151,16 @@ impl<'r, D: Disk> Answerer<'r, D> {
         fill_line(self.alloc, response, &line)
     }
 
-    /// What tables tell of a position, or the refusal of the file of one that is needed.
+    /// What tables tell of a position, or the refusal of the file of one that it needs.
     fn position_told(
         &mut self,
         position: &Position,
     ) -> Result<Result<ApiPosition, FileRefusal>, AllocError>
         ensures told { IfOk result (λ told. IfOk told (IsPositionBy (D.facts self.old.disk) self.old.folder position.now)) }
-        ensures refused { IfOk result (λ told. IfErr told (IsRefusedFor (D.facts self.old.disk) self.old.folder (IsWithMoves position.now))) }
+        ensures refused { IfOk result (λ told. IfErr told (IsRefusedAt (D.facts self.old.disk) self.old.folder position.now)) }
         ensures same { self.new ≡ self.old }
     {
-        if let Err(refusal) = self
-            .folder
-            .settle_moves(self.alloc, &mut self.set, position)?
-        {
+        if let Err(refusal) = self.folder.settle_one(self.alloc, &mut self.set, position)? {
             return Ok(Err(refusal));
         }
         let told = ApiPosition::of(self.alloc, &mut self.set, position)?;
@@ -241,7 +238,7 @@ impl<'r, D: Disk> Answerer<'r, D> {
         start: &Position,
     ) -> Result<Result<Vec<ApiMove>, FileRefusal>, AllocError>
         ensures told { IfOk result (λ told. IfOk told (λ plies. IsLineOfPlay (D.facts self.old.disk) self.old.folder winner start.now plies.items)) }
-        ensures refused { IfOk result (λ told. IfErr told (IsRefusedInLine (D.facts self.old.disk) self.old.folder most_plies start.now)) }
+        ensures refused { IfOk result (λ told. IfErr told (IsRefusedLineOf (D.facts self.old.disk) self.old.folder winner start.now)) }
         ensures same { self.new ≡ self.old }
     {
         match winner {

@@ -29,7 +29,7 @@ use Rattle.judge_core.specs.Ruling.{is_out_of_scope, ruling}
 use Rattle.judge_core.specs.Values.{Reading}
 use Rattle.judge_core.specs.Tables.{Tables}
 use Rattle.table_folder.specs.Folders.{AreOf, Folder}
-use Rattle.table_folder.specs.Laws.{JudgesAlike, PlayedPliesAreInPlay, SettledGamesAreAsWhole, SettledGamesStay, SettledMovesAreAsWhole}
+use Rattle.table_folder.specs.Laws.{JudgesAlike, PositionsInPlayArePlayed, SettledGamesAreAsWhole, SettledGamesStay, SettledMovesAreAsWhole}
 use Rattle.table_folder.specs.Settled.{AreSettled, IsPly}
 use Rattle.table_folder.proofs.Staying.{stays_settled}
 use Rattle.table_folder.proofs.Whole.{as_more, as_whole, has_all}
@@ -175,16 +175,16 @@ none_beyond start p moves n k le none there =
 not_unruled : (rules : Rules) (moves : List Move) (n k : ℕ) (v : Verdict) → n < k → verdict_after rules (take n moves) ≡ Some v → IsUnruled rules moves k → ⊥
 not_unruled rules moves n k v lt ruled none = let e = sym ruled ∙ none n lt in absurd cc
 
-pub played_plies : PlayedPliesAreInPlay
-played_plies rules moves (Ruled n v) p is play = elim (cases_lt n play.ply) [
+pub in_play_is_played : PositionsInPlayArePlayed
+in_play_is_played rules moves (Ruled n v) p is play = elim (cases_lt n play.ply) [
   | inl lt ↦ absurd (not_unruled rules moves n play.ply v lt is.ruled play.unruled)
   | inr le ↦ is_ply_within n play.ply moves rules.start p le play.at
 ]
-played_plies rules moves (Illegal n) p is play = elim (cases_lt n play.ply) [
+in_play_is_played rules moves (Illegal n) p is play = elim (cases_lt n play.ply) [
   | inl lt ↦ absurd (none_beyond rules.start p moves (n + 1) play.ply (omega (arith, lt)) is.illegal play.at)
   | inr le ↦ is_ply_within n play.ply moves rules.start p le play.at
 ]
-played_plies rules moves Going p is play = subst (λ ms. IsPly rules.start ms p) (sym (take_all (length moves) moves (omega arith))) (is_ply play.ply moves rules.start p play.at)
+in_play_is_played rules moves Going p is play = subst (λ ms. IsPly rules.start ms p) (sym (take_all (length moves) moves (omega arith))) (is_ply play.ply moves rules.start p play.at)
 
 pub games_stay : GamesDependOnRulings → MoreTablesAnswerTheSame → WhatIsMissingStaysMissing → (disk : DiskFacts) → SettledGamesStay disk
 games_stay depend same missing disk folder tables more start moves are opened kept settled =

@@ -71,8 +71,8 @@ SettledGamesAreAsWhole disk =
     → IsOutcome (record { start = start; tables = whole; delay = delay }) moves outcome
 
 -- The positions in play are those of the plies up to that of the outcome.
-abbrev pub PlayedPliesAreInPlay : Type 0
-PlayedPliesAreInPlay =
+abbrev pub PositionsInPlayArePlayed : Type 0
+PositionsInPlayArePlayed =
     (rules : Rules) (moves : List Move) (outcome : GameOutcome) (p : Parts) → IsOutcome rules moves outcome → IsInPlay rules moves p
     → IsPly rules.start (take (plies_to moves outcome) moves) p
 

@@ -1,6 +1,6 @@
 //! Laws over the definitions of specs/, for proofs above: each function carries one law, over any disk, and does nothing.
 
-ghost use Rattle.table_folder.specs.Laws.{PlayedPliesAreInPlay, RefusedIsNeeded, SettledGamesAreAsWhole, SettledGamesStay, SettledIsAsWhole, SettledMovesAreAsWhole, WholeIsOne, WholeIsThere};
+ghost use Rattle.table_folder.specs.Laws.{PositionsInPlayArePlayed, RefusedIsNeeded, SettledGamesAreAsWhole, SettledGamesStay, SettledIsAsWhole, SettledMovesAreAsWhole, WholeIsOne, WholeIsThere};
 
 use crate::folder::TableFolder;
 use board_core::laws::{
@@ -52,8 +52,8 @@ pub fn settled_games_are_as_whole<D: Disk>(_disk: &D)
 }
 
 /// The positions of a game that are in play are those of the plies up to that of its outcome.
-pub fn played_plies_are_in_play()
-    ensures { PlayedPliesAreInPlay }
+pub fn positions_in_play_are_played()
+    ensures { PositionsInPlayArePlayed }
 {}
 
 /// Where the positions of a game miss no table of the folder, its outcome, and where it stands, stay when more tables of the folder are

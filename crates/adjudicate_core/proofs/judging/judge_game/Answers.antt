@@ -12,12 +12,12 @@ returns-in-Err-clause-found g c =
 
 pub returns-in-Some-clause-found : goal.returns-in-Some-clause-found
 returns-in-Some-clause-found g c =
-    ruled c.loop-ply.invariant c.played_plies_are_in_play.ensures c.in-Some.verdict (omega (arith, c.loop-ply-test.true)) c.in-Some.ensures
+    ruled c.loop-ply.invariant c.positions_in_play_are_played.ensures c.in-Some.verdict (omega (arith, c.loop-ply-test.true)) c.in-Some.ensures
 
 pub returns-in_default-play-clause-found : goal.returns-in_default-play-clause-found
 returns-in_default-play-clause-found g c =
     let m = c.index-moves-ply.result in
-    illegal c.loop-ply.invariant c.played_plies_are_in_play.ensures m c.loop-ply-test.true c.in_default.ensures c.index-moves-ply.is
+    illegal c.loop-ply.invariant c.positions_in_play_are_played.ensures m c.loop-ply-test.true c.in_default.ensures c.index-moves-ply.is
     (ap (λ p. position_after p m) (sym c.position.ensures) ∙ sym c.play.ensures.computed ∙ c.in_default-play.is)
 
 pub returns-in-Err-2-clause-found : goal.returns-in-Err-2-clause-found
@@ -37,8 +37,8 @@ pub returns-in-Some-verdict-clause-found : goal.returns-in-Some-verdict-clause-f
 returns-in-Some-verdict-clause-found g c =
     let full : c.loop-ply.ply ≡ length c.args.moves.now = omega (arith, c.loop-ply-test.false, c.loop-ply.auto.ply-end) in
     subst (λ n. AnswersBy (g.D.Disk.facts c.args.folder.now.disk) c.args.folder.now.folder (IsInPlayBy c.args.start.now c.args.moves.now c.args.delay) (λ t. IsOutcome (record { start = c.args.start.now; tables = t; delay = c.args.delay }) c.args.moves.now (Ruled n c.in-Some-verdict.verdict))) full
-    (ruled c.loop-ply.invariant c.played_plies_are_in_play.ensures c.in-Some-verdict.verdict (omega (arith, full)) c.in-Some-verdict.ensures)
+    (ruled c.loop-ply.invariant c.positions_in_play_are_played.ensures c.in-Some-verdict.verdict (omega (arith, full)) c.in-Some-verdict.ensures)
 
 pub returns-in-None-clause-found : goal.returns-in-None-clause-found
 returns-in-None-clause-found g c =
-    going c.loop-ply.invariant c.played_plies_are_in_play.ensures (omega (arith, c.loop-ply-test.false, c.loop-ply.auto.ply-end)) c.in-None.ensures
+    going c.loop-ply.invariant c.positions_in_play_are_played.ensures (omega (arith, c.loop-ply-test.false, c.loop-ply.auto.ply-end)) c.in-None.ensures

@@ -1,4 +1,5 @@
-use Rattle.table_folder.specs.Settled.{IsRefusedFor, IsWithMoves}
+use Rattle.table_folder.specs.Settled.{IsRefusedAt, IsSettled}
+use Rattle.std.proofs.Common.{subst, sym}
 use Rattle.http_answer.specs.Replies.{IsPositionBy}
 use Rattle.http_answer.proofs.Telling.{seen_by}
 use Rattle.http_answer.proofs.answerer.Answerer.position_told.Goals as goal
@@ -6,10 +7,10 @@ use Rattle.http_answer.proofs.answerer.Answerer.position_told.Goals as goal
 pub returns-in-Err-clause-refused : goal.returns-in-Err-clause-refused
 returns-in-Err-clause-refused g c =
     let refused = rw c.in-Err.is at c.in_ok-refusal.ensures.refused in
-    seen_by g.D.Disk.facts _ _ (λ disk folder. IsRefusedFor disk folder (IsWithMoves c.args.position.now) c.in-Err.refusal) c.self.view_is refused
+    seen_by g.D.Disk.facts _ _ (λ disk folder. IsRefusedAt disk folder c.args.position.now c.in-Err.refusal) c.self.view_is refused
 
 pub returns-clause-told : goal.returns-clause-told
 returns-clause-told g c =
     let settled = rw c.in_default.is at c.in_ok-refusal.ensures.settled in
     seen_by g.D.Disk.facts _ _ (λ disk folder. IsPositionBy disk folder c.args.position.now c.in_ok-told.told) c.self.view_is
-    (record { tables = c.settle_moves.new.set.tables; opened = c.in_ok-refusal.ensures.opened; settled = settled; answers = c.in_ok-told.ensures.told })
+    (record { tables = c.settle_one.new.set.tables; opened = c.in_ok-refusal.ensures.opened; settled = λ p here. subst (IsSettled _ _) (sym here) settled; answers = c.in_ok-told.ensures.told })
