@@ -1,5 +1,6 @@
 pub mod LineLaws
 pub mod PlyLaws
 pub mod Replied
+pub mod RouterLaws
 pub mod SeenLaws
 pub mod Telling
