@@ -2,5 +2,6 @@ pub mod BestPlay
 pub mod LineLaws
 pub mod PlyLaws
 pub mod Replied
+pub mod RouterLaws
 pub mod SeenLaws
 pub mod Telling

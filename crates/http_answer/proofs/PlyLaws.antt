@@ -1,5 +1,5 @@
 -- The plies of a game, written one after another.
-use Rattle.std.proofs.Common.{◌≡◌, ◌∙◌, ◌++◌, ◌≤◌, ℕ, Bool, List, [], ◌∷◌, Option, Some, None, refl, sym, ap, subst, append_assoc, append-nil, arith}
+use Rattle.std.proofs.Common.{◌≡◌, ◌∙◌, ◌++◌, ◌≤◌, ℕ, Bool, List, [], ◌∷◌, Option, Some, None, refl, sym, ap, subst, append_assoc, append-nil, arith, length}
 use Rattle.std.specs.Prelude.{codes}
 use Rattle.board_core.specs.declared.moves.Move.{Move}
 use Rattle.board_core.specs.declared.parts.Parts.{Parts}
@@ -126,3 +126,7 @@ pub at_illegal_by : (disk : DiskFacts) (folder : Folder) (start : Parts) (moves 
     → SoFar disk folder start moves before p rest now → rest ≡ m ∷ tail → position_after p m ≡ None → new ≡ now → AddsMoves disk folder start moves before new
 at_illegal_by disk folder start moves before p rest tail m now new h front none same =
     subst (AddsMoves disk folder start moves before) (sym same) (at_illegal disk folder start moves before p rest tail m now h front none)
+
+pub nothing_left : (moves : List Move) → length moves ≡ 0 → moves ≡ []
+nothing_left [] e = refl
+nothing_left (m ∷ moves) e = absurd (omega (arith, e))

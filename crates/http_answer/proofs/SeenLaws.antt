@@ -36,9 +36,6 @@ module _ {S : Type 0} (disk : DiskFacts) (stores : StorePlaces S) (games : List 
 pub alone_so : {D : Type 0} (facts : D → DiskFacts) (inside now : FolderOn D) (p : Parts) (l : JsonLine) → inside ≡ now → TellsAlone (facts inside.disk) inside.folder p l → TellsAlone (facts now.disk) now.folder p l
 alone_so {D} facts inside now p l same tells = subst (λ (on : FolderOn D). TellsAlone (facts on.disk) on.folder p l) same tells
 
-pub settled_alone : (folder : Folder) (tables : Tables) (p : Parts) → IsSettled folder tables p → AreSettled folder tables (λ q. q ≡ p)
-settled_alone folder tables p h q same = subst (IsSettled folder tables) (sym same) h
-
 -- ---- a folder, and a second one if it is named
 
 module _ {D S : Type 0} (facts : D → DiskFacts) (stores : StorePlaces S) (disk : D) (games : List ℕ) (Holds : Option (List ℕ) → DiskFacts → Type 0) (other : Option (Bor (List ℕ))) where

@@ -8,7 +8,7 @@ use Rattle.http_answer.proofs.answerer.Answerer.line_alone.Goals as goal
 pub returns-in-Err-clause-told : goal.returns-in-Err-clause-told
 returns-in-Err-clause-told g c =
     let refused = rw c.in-Err.is at c.in_ok-refusal.ensures.refused in
-    alone_so g.D.Disk.facts _ _ _ _ c.self.view_is (ByRefusal c.in-Err.refusal refused c.refusal_of.ensures)
+    alone_so g.D.Disk.facts _ _ _ _ c.self.view_is (ByRefusal c.in-Err.refusal refused c.refused_words.ensures)
 
 pub returns-clause-told : goal.returns-clause-told
 returns-clause-told g c =

@@ -13,4 +13,4 @@ pub returns-clause-told : goal.returns-clause-told
 returns-clause-told g c =
     let settled = rw c.in_default.is at c.in_ok-refusal.ensures.settled in
     seen_by g.D.Disk.facts _ _ (λ disk folder. IsPositionBy disk folder c.args.position.now c.in_ok-told.told) c.self.view_is
-    (record { tables = c.settle_one.new.set.tables; opened = c.in_ok-refusal.ensures.opened; settled = λ p here. subst (IsSettled _ _) (sym here) settled; answers = c.in_ok-told.ensures.told })
+    (record { tables = c.settle_one.new.set.tables; opened = c.in_ok-refusal.ensures.opened; settled = λ p here. subst (IsSettled c.self.inside.folder.folder c.settle_one.new.set.tables) (sym here) settled; answers = c.in_ok-told.ensures.told })
