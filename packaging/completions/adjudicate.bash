@@ -9,7 +9,7 @@ _adjudicate_options()
         probes) echo '--tables=DIR --manifest=FILE --all-tables --memory=MB --json --determined --soon --progress' ;;
         root) echo '--tables=DIR --manifest=FILE --all-tables --memory=MB --json --determined' ;;
         moves) echo '--san' ;;
-        serve) echo '--tables=DIR --manifest=FILE --bind=ADDR --requests=N --games=DIR --other=DIR --log' ;;
+        serve) echo '--tables=DIR --manifest=FILE --bind=ADDR --memory=MB --requests=N --games=DIR --other=DIR --log' ;;
         game) echo '--tables=DIR --manifest=FILE --all-tables --delay=N --san' ;;
         games) echo '--tables=DIR --manifest=FILE --all-tables --memory=MB --delay=N --progress' ;;
         follow) echo '--tables=DIR --manifest=FILE --all-tables --delay=N --san' ;;

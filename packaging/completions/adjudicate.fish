@@ -76,6 +76,7 @@ complete -c adjudicate -n '__adjudicate_is moves' -l help -d 'the use of the com
 complete -c adjudicate -n '__adjudicate_is serve' -l tables -x -a '(__fish_complete_directories)' -d 'the folder of the table files'
 complete -c adjudicate -n '__adjudicate_is serve' -l manifest -r -F -d 'takes the tables of this manifest, and checks them; all of DIR unless set'
 complete -c adjudicate -n '__adjudicate_is serve' -l bind -x -d 'its own address: an IP address or host name, a colon and a port'
+complete -c adjudicate -n '__adjudicate_is serve' -l memory -x -d 'MB of tables kept if not all are read first, 1 to 1000000; no bound unless set'
 complete -c adjudicate -n '__adjudicate_is serve' -l requests -x -d 'ends after so many requests, 0 to 4294967295; never unless set'
 complete -c adjudicate -n '__adjudicate_is serve' -l games -x -a '(__fish_complete_directories)' -d 'the folder of games that pages show; none unless set'
 complete -c adjudicate -n '__adjudicate_is serve' -l other -x -a '(__fish_complete_directories)' -d 'a second folder of games, with which the first is compared'
