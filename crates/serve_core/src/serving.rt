@@ -165,7 +165,7 @@ fn games_of<'r, R: Clock, D: Disk, H: Host>(
     host: &'r H,
     task: &Serve<'r>,
 ) -> Option<Games<'r, D, H, R>>
-    ensures { result ≡ games_named disk.entry host.entry task.now }
+    ensures { result ≡ games_named disk.now host.now task.now }
 {
     let games = task.games?;
     let folders = GameFolders {

@@ -7,7 +7,7 @@ returns-in-Err-clause-told g c =
     let ready = c.in-Ok-ready_text.ensures in
     served _ _ c.as_str.result.now ready.0 _ (c.as_str.ensures.value ∙ ready.1) c.in-Err.ensures.told
 
-pub returns-in-Ok-answer_requests-clause-told : goal.returns-in-Ok-answer_all-clause-told
+pub returns-in-Ok-answer_requests-clause-told : goal.returns-in-Ok-answer_requests-clause-told
 returns-in-Ok-answer_requests-clause-told g c =
     let ready = c.in-Ok-ready_text.ensures in
     served _ _ c.as_str.result.now ready.0 _ (c.as_str.ensures.value ∙ ready.1) c.in-Ok-put_out.ensures.told
