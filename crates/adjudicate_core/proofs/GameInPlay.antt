@@ -82,8 +82,8 @@ module _ {disk : DiskFacts} {folder : Folder} {tables : Tables} {start : Parts} 
     opened = opened;
     stands = subst (λ ms. StandsBy (by_folder disk folder new) start ms t) (one_on (rules_by start tables delay) moves ply s at before m lt at_ply) (on start (take ply moves) m to.stands.stands plays);
     unruled = λ more are has.
-      let more_has : HasAll tables more = λ kind key u there. has kind key u (kept kind key u there) in
-      still_none (rules_by start more delay) moves ply s (at_more more are more_has) (to.unruled more are more_has) (none_at more are more_has verdict);
+        let more_has : HasAll tables more = λ kind key u there. has kind key u (kept kind key u there) in
+        still_none (rules_by start more delay) moves ply s (at_more more are more_has) (to.unruled more are more_has) (none_at more are more_has verdict);
   }
 
   pub refused_later : (m : Move) (q : Parts) (refusal : FileRefusal) → ply < length moves → IsVerdictAt delay s None → m ≡ get_or moves ply m → position_after s.position m ≡ Some q → IsRefusedAt disk folder q refusal → IsRefusedFor disk folder (IsInPlayBy start moves delay) refusal

@@ -43,8 +43,8 @@ module _ (disk : DiskFacts) (folder : Folder) (start : Parts) (moves : List Move
   -- no ply more
   pub no_more : (p : Parts) (rest : List Move) (now : Written) → SoFar p rest now → GoesOn disk folder p rest [] → AddsMoves disk folder start moves before now
   no_more p rest now h on =
-    let all = h.goes [] on in
-    (all.0, all.1, record { before = h.written.before; tokens = h.written.tokens ∙ ap (λ l. before.tokens ++ l) (sym (append-nil h.told) ∙ sym all.2) })
+      let all = h.goes [] on in
+      (all.0, all.1, record { before = h.written.before; tokens = h.written.tokens ∙ ap (λ l. before.tokens ++ l) (sym (append-nil h.told) ∙ sym all.2) })
 
   -- there are no moves left
   pub at_end : (p : Parts) (rest : List Move) (now : Written) → SoFar p rest now → rest ≡ [] → AddsMoves disk folder start moves before now

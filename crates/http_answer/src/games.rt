@@ -7,9 +7,7 @@ ghost use Rattle.game_status.specs.Reports.{IsStatusReport, form_of};
 ghost use Rattle.http_answer.specs.Games.{HasNoGame, IsFoundGame, IsReportText, LacksGames, games_on};
 ghost use Rattle.http_answer.specs.Inside.{IsCopy};
 
-use game_status::{
-    GameFound, LackedFolder, ReportForm, look_at_game, over_store, status_report,
-};
+use game_status::{GameFound, LackedFolder, ReportForm, look_at_game, over_store, status_report};
 use move_msg::Stamp;
 use std::alloc::{AllocError, Global};
 use std::marker::Model;

@@ -108,10 +108,7 @@ fn fill_fresh(
     ensures { OnOk result (IsResponse status (fresh_fields kind.bytes) body.now response.new) }
 {
     fill(response, status, kind, body)?;
-    response.add_header(
-        header::CACHE_CONTROL,
-        HeaderValue::from_static("no-store"),
-    )
+    response.add_header(header::CACHE_CONTROL, HeaderValue::from_static("no-store"))
 }
 
 /// The same, with a body as JSON.
@@ -211,9 +208,7 @@ fn tell_game<D: Disk, H: Host, C: Clock>(
     ensures same { answerer.new ≡ answerer.old }
 {
     match games.game(alloc, stamp)? {
-        Ok(Some(found)) => {
-            fill_game(answerer, alloc, stamp, &found, games.compares(), response)
-        }
+        Ok(Some(found)) => { fill_game(answerer, alloc, stamp, &found, games.compares(), response) }
         Ok(None) => fill_fresh_json(
             response,
             StatusCode::NOT_FOUND,

@@ -41,12 +41,12 @@ module _ {C L R W S : Type 0} (streams : L → Option Streams) (remaining : R �
       → ServesCalls streams remaining contents (counts answers) now new server₁ server₂
       → ServesCalls streams remaining contents answers old new.service server server₂
   next_round old now new server server₁ server₂ x y = (
-      x.0 ++ y.0,
-      Chain-append answers x.0 y.0 old now.service new.service x.1 (chain_counted answers y.0 now new y.1),
-      λ calls before h.
-          subst (λ (cs : List Call). HasServed streams remaining contents cs before server₂) (append_assoc calls x.0 y.0)
-          (y.2 (calls ++ x.0) before (x.2 calls before h)),
-    )
+    x.0 ++ y.0,
+    Chain-append answers x.0 y.0 old now.service new.service x.1 (chain_counted answers y.0 now new y.1),
+    λ calls before h.
+        subst (λ (cs : List Call). HasServed streams remaining contents cs before server₂) (append_assoc calls x.0 y.0)
+        (y.2 (calls ++ x.0) before (x.2 calls before h)),
+  )
 
 among : {X : Type 0} (P : X → Type 0) (xs own : List X) → All P xs → All (Contains xs) own → All P own
 among P xs own all have = λ k d within. let at = have k d within in subst P at.2 (all at.0 (get_or own k d) at.1)
@@ -57,16 +57,16 @@ pub all_have_replies : {D H S R W : Type 0} (facts : D → DiskFacts) (stores : 
     → IsServing remaining contents config calls before known peers → HasReplied facts stores tables games config before known
 all_have_replies facts stores tables games remaining contents config calls before None peers all none h = tt
 all_have_replies facts stores tables games remaining contents config calls before (Some known) peers all none h = (
-    none,
-    h.since,
-    h.closed,
-    λ k d within.
-        let one = h.served k d within in
-        record {
-          history = one.history;
-          served = one.served;
-          received = one.received;
-          sent = one.sent;
-          replied = among (IsServedCall facts stores tables games) calls one.history.calls all one.among;
-        },
-  )
+  none,
+  h.since,
+  h.closed,
+  λ k d within.
+      let one = h.served k d within in
+      record {
+        history = one.history;
+        served = one.served;
+        received = one.received;
+        sent = one.sent;
+        replied = among (IsServedCall facts stores tables games) calls one.history.calls all one.among;
+      },
+)

@@ -47,9 +47,7 @@ fn served<R: Abort + Clock + RandomSource>(
 ) -> Vec<u8> {
     let mut streams = Vec::new(alloc);
     for bytes in gives {
-        streams
-            .push(coming(rt, alloc, bytes))
-            .expect(rt, "memory");
+        streams.push(coming(rt, alloc, bytes)).expect(rt, "memory");
     }
     let listener = MemoryListener::new(alloc, streams, 8).expect(rt, "memory");
     let limits = Limits {

@@ -8,7 +8,9 @@ pub returns : goal.returns
 returns g c =
     let rounds = c.answer_rounds-answered.ensures in
     let server = c.close.new.self in
-    record { replied = λ before h.
-        all_have_replies g.D.Disk.facts g.H.Host.stores _ _ g.L.Reader.Read.remaining g.L.Writer.Write.contents (config_of server) rounds.0 before (g.L.Listener.streams (listener_of server)) server.peers
-        (all_routed g.D.Disk.facts g.H.Host.stores (λ r. r.answerer) (λ r. r.games) rounds.0 _ _ (chain_logged _ rounds.0 _ _ rounds.1))
-        (c.close.ensures.closed rounds.0 before (rounds.2 [] before h)) (c.close.ensures.served rounds.0 before (rounds.2 [] before h)) }
+    record {
+      replied = λ before h.
+          all_have_replies g.D.Disk.facts g.H.Host.stores _ _ g.L.Reader.Read.remaining g.L.Writer.Write.contents (config_of server) rounds.0 before (g.L.Listener.streams (listener_of server)) server.peers
+          (all_routed g.D.Disk.facts g.H.Host.stores (λ r. r.answerer) (λ r. r.games) rounds.0 _ _ (chain_logged _ rounds.0 _ _ rounds.1))
+          (c.close.ensures.closed rounds.0 before (rounds.2 [] before h)) (c.close.ensures.served rounds.0 before (rounds.2 [] before h));
+    }

@@ -54,10 +54,13 @@ pub returns-in_err-legal-clause-only : goal.returns-in_err-legal-clause-only
 returns-in_err-legal-clause-only g c = only_there _ _ c.settle_one.ensures.only
 
 pub loop-m-init : goal.loop-m-init
-loop-m-init g c = (record {
-  opened = c.settle_one.ensures.opened;
-  kept = c.settle_one.ensures.kept;
-  only = only_there _ _ c.settle_one.ensures.only;
-  own = rw c.in_default.is at c.in_ok-refusal.ensures.settled;
-  after = λ m p among plays. absurd (omega (arith, among.1));
-}, c.settle_one.ensures.cache)
+loop-m-init g c = (
+  record {
+    opened = c.settle_one.ensures.opened;
+    kept = c.settle_one.ensures.kept;
+    only = only_there _ _ c.settle_one.ensures.only;
+    own = rw c.in_default.is at c.in_ok-refusal.ensures.settled;
+    after = λ m p among plays. absurd (omega (arith, among.1));
+  },
+  c.settle_one.ensures.cache,
+)
