@@ -280,8 +280,8 @@ impl<'a> Set<'a> {
     /// It is where it is 0, at a mate, where a capture or a pawn move gives it, and where the own table stores the side to move
     /// and counts plies. Where the table stores the other side alone, it follows from the distances after the quiet moves: a win
     /// is precise where one of the nearest moves is, a loss where all of the farthest are. A table may count moves of one side in
-    /// place of plies: such a distance may be one ply less than the true one. Out of scope as for `wdl`, and where a table is
-    /// missing or damaged, nothing is precise. The error comes only where memory for a list of moves is refused. The position
+    /// place of plies: such a distance may be one ply less than the true one. Where the position has
+    /// no distance the result says nothing. The error comes only where memory for a list of moves is refused. The position
     /// is then in scope with more than two men, and has a WDL value that is no draw and not by a capture. The set stays as it
     /// was but for its cache.
     pub fn is_precise(&mut self, alloc: Global, position: &Position) -> Result<bool, AllocError>

@@ -70,7 +70,7 @@ SettledGamesAreAsWhole disk =
     → IsOutcome (record { start = start; tables = tables; delay = delay }) moves outcome
     → IsOutcome (record { start = start; tables = whole; delay = delay }) moves outcome
 
--- The positions in play are those of the plies up to that of the outcome.
+-- The positions in play are among those of the plies up to that of the outcome.
 abbrev pub PositionsInPlayArePlayed : Type 0
 PositionsInPlayArePlayed =
     (rules : Rules) (moves : List Move) (outcome : GameOutcome) (p : Parts) → IsOutcome rules moves outcome → IsInPlay rules moves p

@@ -51,7 +51,7 @@ pub fn settled_games_are_as_whole<D: Disk>(_disk: &D)
     what_is_missing_stays_missing();
 }
 
-/// The positions of a game that are in play are those of the plies up to that of its outcome.
+/// The positions of a game that are in play are among those of the plies up to that of its outcome.
 pub fn positions_in_play_are_played()
     ensures { PositionsInPlayArePlayed }
 {}

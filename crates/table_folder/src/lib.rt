@@ -26,7 +26,7 @@
 //!   `laws::whole_is_there`: where no table of the folder is missing, value, distance, probes, verdict, root moves and the outcome of a
 //!   game are those by the set of all tables of the folder; for a game at its positions in play, before which no ply has a verdict.
 //!   There is one such set at most, and there is one where each file of a table says one thing.
-//! - CLAIM: `laws::positions_in_play_are_played`: the positions in play are those of the plies up to that of the outcome.
+//! - CLAIM: `laws::positions_in_play_are_played`: the positions in play are among those of the plies up to that of the outcome.
 //! - CLAIM: `laws::settled_games_stay`: a game at whose plies no table is missing stays as it is while more tables of the folder are opened.
 //! - CLAIM: `laws::refused_is_needed`: by the set of all tables of the folder the position misses the table of a file that is refused,
 //!   where each file holds one thing. So no file is refused that no position needs.
