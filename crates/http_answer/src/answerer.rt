@@ -95,7 +95,7 @@ impl<'r, D: Disk> Answerer<'r, D> {
         Ok(Answerer { alloc, folder, set })
     }
 
-    /// The same over another arena, with no table open. The error comes where memory is refused.
+    /// An answerer by this folder over another arena, with no table open. The error comes where memory is refused.
     fn apart<'s>(&self, arena: &'s Bump) -> Result<Answerer<'s, D>, AllocError>
     where
         'r: 's,

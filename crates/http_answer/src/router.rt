@@ -111,7 +111,7 @@ fn fill_fresh(
     response.add_header(header::CACHE_CONTROL, HeaderValue::from_static("no-store"))
 }
 
-/// The same, with a body as JSON.
+/// Fills a response that isn't to be kept, with a body as JSON.
 fn fill_fresh_json(
     response: &mut Response,
     status: StatusCode,

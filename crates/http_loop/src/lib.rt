@@ -5,7 +5,7 @@
 //! round of a `Server` the streams that have come are accepted, and the connections that are ready have a turn each: in a turn a
 //! connection reads, answers and writes until its answers have gone out or its stream would wait, with so many calls at most. A connection
 //! answers no request while bytes wait to be sent beyond what its `Config` says; with `max_pending` 0 that is one request a turn, so that
-//! none that pipelines holds the others.
+//! one that pipelines lets others have theirs in between.
 //!
 //! Definitions, in reading order: `Streams`, `Serving`, `Servers`; `Memory`; `Premises`.
 //!

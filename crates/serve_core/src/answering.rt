@@ -29,8 +29,8 @@ fn answer_rounds<C: Clock, L: Listener + Drop, S: Service + Drop>(
     Ok(())
 }
 
-/// Answers so many requests by the tables of a folder and by folders of games, over the streams of a listener, and then closes all of these. The error comes where
-/// the listener can't wait, or memory is refused.
+/// Answers so many requests by the tables of a folder and by folders of games, over the streams of a listener, and then closes all of
+/// these. The error comes where the listener can't wait, or memory is refused.
 pub fn answer_requests<C: Clock, L: Listener + Drop, D: Disk, H: Host>(
     server: &mut Server<'_, C, L>,
     service: Logged<'_, Router<'_, D, H, C>, H>,
