@@ -1,4 +1,4 @@
-# Completion of adjudicate for bash. Written by tools/words from what the program tells; a change here doesn't stay.
+# Completion of adjudicate for bash. Written by tools/words from what the program prints; a change here doesn't stay.
 
 # The options of a command, each with the word for its value, if it has one.
 _adjudicate_options()

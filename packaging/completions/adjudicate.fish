@@ -1,4 +1,4 @@
-# Completion of adjudicate for fish. Written by tools/words from what the program tells; a change here doesn't stay.
+# Completion of adjudicate for fish. Written by tools/words from what the program prints; a change here doesn't stay.
 
 # Whether the command is still to be given, as behind help.
 function __adjudicate_begins
