@@ -84,7 +84,7 @@ pub(crate) const DETERMINED: Value = Value {
     name: "determined",
     form: Form::Flag,
     word: "",
-    about: "tells a value also where a table is missing, if the others determine it",
+    about: "prints a value also where a table is missing, if the others determine it",
     stands: Stands::Optional,
 };
 
@@ -93,7 +93,7 @@ pub(crate) const PROGRESS: Value = Value {
     name: "progress",
     form: Form::Flag,
     word: "",
-    about: "tells on standard error how much is done",
+    about: "prints on standard error how much is done",
     stands: Stands::Optional,
 };
 

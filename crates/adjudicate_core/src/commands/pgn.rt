@@ -66,7 +66,7 @@ pub(crate) const VALUES: [Value; 8] = [
         name: "differ",
         form: Form::Flag,
         word: "",
-        about: "tells only the games whose result is another than the verdict",
+        about: "prints only the games whose result is another than the verdict",
         stands: Stands::Optional,
     },
     Value {

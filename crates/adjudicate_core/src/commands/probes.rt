@@ -65,7 +65,7 @@ const SOON: Value = Value {
     name: "soon",
     form: Form::Flag,
     word: "",
-    about: "reads all tables, and tells the value alone; not with --json or --determined",
+    about: "reads all tables, and prints the value alone; not with --json or --determined",
     stands: Stands::Optional,
 };
 
