@@ -1,3 +1,2 @@
 pub mod EventLaws
-pub mod FindingLaws
 pub mod NamedLaws

@@ -39,6 +39,10 @@ abbrev pub output_of : {W E : Type 0} → (W → OutputFacts) → (E → OutputF
 output_of out errors t stream.Output = out t.out
 output_of out errors t stream.Errors = errors t.errors
 
+abbrev pub written_of : {W E : Type 0} → (W → Option (List ℕ)) → (E → Option (List ℕ)) → MachineTimeline W E → Stream → Option (List ℕ)
+written_of out errors t stream.Output = out t.out
+written_of out errors t stream.Errors = errors t.errors
+
 -- stores over those that are given; opening one may also take memory for its path, which may be refused
 abbrev pub places_of : {U : Type 0} → StorePlaces U → StorePlaces (MachineStore U)
 places_of stores = record {
@@ -49,9 +53,10 @@ places_of stores = record {
 }
 
 -- by what is known of disks, inputs and their lines, of each output, of files and of stores
-abbrev pub machine_outside : {W E C S N F U A B : Type 0} → DiskFacts → InputFacts → (A → LineFacts) → (B → LineFacts) → (W → OutputFacts) → (E → OutputFacts) → (F → KeptFacts) → StorePlaces U → (U → StoreFacts) → Outside (MachineTimeline W E) (UdpPort C S N) (MachineFile F) LockFile (MachineStore U) (MachineLines A B)
-machine_outside disk input file_lines input_lines out errors file stores store = record {
+abbrev pub machine_outside : {W E C S N F U A B : Type 0} → DiskFacts → InputFacts → (A → LineFacts) → (B → LineFacts) → (W → Option (List ℕ)) → (E → Option (List ℕ)) → (W → OutputFacts) → (E → OutputFacts) → (F → KeptFacts) → StorePlaces U → (U → StoreFacts) → Outside (MachineTimeline W E) (UdpPort C S N) (MachineFile F) LockFile (MachineStore U) (MachineLines A B)
+machine_outside disk input file_lines input_lines out_bytes errors_bytes out errors file stores store = record {
   events = λ _. None;
+  written = written_of out_bytes errors_bytes;
   output = output_of out errors;
   disk = disk;
   input = input;

@@ -1,5 +1,5 @@
 -- What is known of everything outside (this project's own).
-use Rattle.std.specs.Prelude.{◌≡◌, ◌≤◌, ◌⊎◌, ℕ, true, List, [], ◌∷◌, Option, IsSome}
+use Rattle.std.specs.Prelude.{◌≡◌, ◌≤◌, ◌⊎◌, ℕ, true, List, [], ◌∷◌, Option, Result, IsSome, OnErr}
 use Rattle.std.specs.declared.net.socket_addr.SocketAddr.{SocketAddr}
 use Rattle.system_io.specs.Disks.{DiskFacts, HoldsOne}
 use Rattle.system_io.specs.Inputs.{GivesOne, InputFacts}
@@ -53,9 +53,9 @@ sent_by port bytes = sent_to_each port.sender port.to bytes
 abbrev pub FailsOrIsKnown : LineFacts → Type 0
 FailsOrIsKnown lines = lines.fails ⊎ IsSome lines.left
 
--- where every start found what was there before, it finds that or these bytes, or each of them still that
-abbrev pub LeavesOldOrNew : KeptFacts → KeptFacts → List ℕ → Type 0
-LeavesOldOrNew before after bytes = (old : Option (List ℕ)) → before.finds old old → FindsOldOrNew after old bytes
+-- after a put that failed, where every start found what was there before, it finds that or these bytes
+abbrev pub LeavesOldOrNew : {A E : Type 0} → Result A E → KeptFacts → KeptFacts → List ℕ → Type 0
+LeavesOldOrNew result before after bytes = (old : Option (List ℕ)) → before.finds old old → OnErr result (FindsOldOrNew after old bytes)
 
 -- where every start found what the store has, it finds that, or all with the whole batch
 abbrev pub LeavesBatchOrNot : StoreFacts → StoreFacts → List Entry → Type 0
@@ -66,6 +66,8 @@ LeavesBatchOrNot before after entries = IsSettled before → FindsBatchOrNot aft
 pub record Outside (T P F K S L : Type 0) : Type 1 where
   -- what happened so far, in order; none where it isn't recorded
   pub events : T → Option (List Event)
+  -- the bytes that were written, where they are known beside the events
+  pub written : T → Stream → Option (List ℕ)
   -- whether what was written has gone out, and whether a write may be refused
   pub output : T → Stream → OutputFacts
   -- what folders list, what files hold, and what can't be read

@@ -10,9 +10,10 @@ use std::net::{Net, SocketAddr, UdpSocket};
 use std::rt::Files;
 use std::time::{Clock, Duration};
 use system_io::{
-    BindFault, BufferedOutput, Disk, Entry, FileCalls, FileWithMode, Host, Input, KeptFile, Key, LineDisk, LineReader,
-    LockFault, LockFile, Output, Port, PortFault, ReadFault, RecordStore, StoreFailed, StoreFault,
-    Stores, SystemCalls, SystemFile, SystemHost, UdpPort, Unrecorded, WriteFault, begin, replace,
+    BindFault, BufferedOutput, Disk, Entry, FileCalls, FileWithMode, Host, Input, KeptFile, Key,
+    LineDisk, LineReader, LockFault, LockFile, Output, Port, PortFault, ReadFault, RecordStore,
+    StoreFailed, StoreFault, Stores, SystemCalls, SystemFile, SystemHost, UdpPort, Unrecorded,
+    WriteFault, begin, replace,
 };
 
 /// A disk, an input, and the ports, files, locks and stores of the system. What it says of each call is what its parts say. Its events
@@ -74,11 +75,7 @@ where
     W: Output + Drop,
 {
     /// A system of this disk, this input and this host.
-    pub fn new(
-        disk: D,
-        input: I,
-        host: SystemHost<'a, R, N, T>,
-    ) -> Machine<'a, D, I, R, N, T, W> {
+    pub fn new(disk: D, input: I, host: SystemHost<'a, R, N, T>) -> Machine<'a, D, I, R, N, T, W> {
         Machine {
             disk,
             input,
@@ -125,7 +122,7 @@ where
 
     type Lines = MachineLines<D::Lines, I::Lines>;
 
-    ghost outside = { λ s. machine_outside (D.facts s.disk) (I.facts s.input) D.Lines.facts I.Lines.facts W.facts (⟦<BufferedOutput<N> as Output>⟧.facts) (⟦<SystemFile<'a, R, N> as KeptFile>⟧.facts) (⟦<SystemHost<'a, R, N, T> as Host>⟧.stores s.host) T.Store.facts };
+    ghost outside = { λ s. machine_outside (D.facts s.disk) (I.facts s.input) D.Lines.facts I.Lines.facts W.contents (⟦<BufferedOutput<N> as Write>⟧.contents) W.facts (⟦<BufferedOutput<N> as Output>⟧.facts) (⟦<SystemFile<'a, R, N> as KeptFile>⟧.facts) (⟦<SystemHost<'a, R, N, T> as Host>⟧.stores s.host) T.Store.facts };
 
     ghost one = { λ s. record { disk = D.one s.disk; input = I.one s.input; file = λ f a b c. says_one (⟦<SystemCalls<'a, R, N> as FileCalls>⟧.facts) f.file a b c; output = outputs_one W.facts (⟦<BufferedOutput<N> as Output>⟧.facts) W.one (λ e gone stuck. not_both _ gone.1 stuck) } };
 

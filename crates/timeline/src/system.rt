@@ -1,11 +1,13 @@
 //! Everything outside of a program.
 
 ghost use Rattle.std.specs.Prelude.{◌≡◌, ◌≤◌, ◌⊎◌, ◌↔◌, [], ◌∷◌, ℕ, List, None, Ok, Option, Some, true, length, map, option_map, string_bytes, IfErr, IfOk, IfSome, IsErrOf, IsSome, IsTrue, OnErr, OnOk};
+ghost use Rattle.std.specs.Io.KnownBytes.{Keeps};
 ghost use Rattle.std.specs.List.{Contains};
 ghost use Rattle.system_io.specs.Disks.{AtFile, AtFolder, HasMore, IsNoSmallFile, most_bytes};
 ghost use Rattle.system_io.specs.Failures.{Counts, Risen};
 ghost use Rattle.system_io.specs.KeptFiles.{CannotStart, IsOneOfFound, bytes_of};
 ghost use Rattle.system_io.specs.LineReaders.{ReadsIfAny};
+ghost use Rattle.system_io.specs.Outputs.{WritesFront};
 ghost use Rattle.system_io.specs.Records.{AreSame, IsSettled, records_of, with_all};
 ghost use Rattle.timeline.specs.Events.{FileOpened, FileRead, FileSought, FileWithModeRead, Flushed, FolderListed, Found, FromFile, FromInput, InputRead, LinesOpened, Locked, Noted, PortBound, Put, RecordSought, Refused, StoreOpened};
 ghost use Rattle.timeline.specs.Events.{IsWritten, by_result, bytes_found, bytes_read, came_in_time, came_or_missed, commit_event, done_by, found_by, is_done, line_event, mode_read, names_read};
@@ -112,11 +114,7 @@ pub trait System {
         ensures made { Adds (outside self.now) timeline.old timeline.new (FileWithModeRead path.now (mode_read result) ∷ []) };
 
     /// All bytes of the input, at most 2^30.
-    fn read_input(
-        &self,
-        timeline: &mut Self::Timeline,
-        alloc: Global,
-    ) -> Result<Vec<u8>, ReadFault>
+    fn read_input(&self, timeline: &mut Self::Timeline, alloc: Global) -> Result<Vec<u8>, ReadFault>
         ensures bytes { IfOk result (λ bytes. (outside self.now).input.gives bytes.items) }
         ensures short { IfOk result (λ bytes. length bytes.items ≤ most_bytes) }
         ensures cause { IsErrOf result ReadFault.Unreadable → (outside self.now).input.fails }
@@ -181,11 +179,13 @@ pub trait System {
         to: Stream,
         bytes: &[u8],
     ) -> Result<(), WriteFault>
+        ensures front { WritesFront ((outside self.now).written timeline.old to) ((outside self.now).written timeline.new to) bytes.now result }
         ensures cause { OnErr result ((outside self.now).output timeline.old to).refuses }
         ensures made { AddsSome (outside self.now) timeline.old timeline.new (IsWritten to bytes.now result) };
 
     /// Lets all that was written go out. The error comes where some of it can't.
     fn flush(&self, timeline: &mut Self::Timeline, to: Stream) -> Result<(), WriteFault>
+        ensures kept { Keeps ((outside self.now).written timeline.old to) ((outside self.now).written timeline.new to) }
         ensures gone { OnOk result ((outside self.now).output timeline.new to).gone }
         ensures stuck { OnErr result ((outside self.now).output timeline.new to).stuck }
         ensures made { Adds (outside self.now) timeline.old timeline.new (by_result result (λ _. Flushed to) (Refused to) ∷ []) };
@@ -313,7 +313,7 @@ pub trait System {
         bytes: &[u8],
     ) -> io::Result<()>
         ensures ok { OnOk result (((outside self.now).file file.new).finds (Some bytes.now) (Some bytes.now)) }
-        ensures err { OnErr result (LeavesOldOrNew ((outside self.now).file file.old) ((outside self.now).file file.new) bytes.now) }
+        ensures err { LeavesOldOrNew result ((outside self.now).file file.old) ((outside self.now).file file.new) bytes.now }
         ensures count { Counts result ((outside self.now).file file.old).faults ((outside self.now).file file.new).faults }
         ensures path { (outside self.now).path file.new ≡ (outside self.now).path file.old }
         ensures made { Adds (outside self.now) timeline.old timeline.new (Put ((outside self.now).path file.old) bytes.now (is_done result) ∷ []) };

@@ -106,6 +106,7 @@ memory_places = record { is_at = λ path s. store_path s ≡ path; refuses = λ 
 abbrev pub memory_outside : MemorySystem → Outside MemoryTimeline MemoryPort MemoryFile MemoryLock MemoryStore MemoryLines
 memory_outside s = record {
   events = events_in;
+  written = λ _ _. None;
   output = λ t to. outlet_facts (outlet_of t to);
   disk = disk_of s.disk;
   input = input_of s.input;

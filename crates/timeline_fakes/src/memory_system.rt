@@ -563,7 +563,12 @@ impl<'a> System for MemorySystem<'a> {
         got
     }
 
-    fn stored(&self, _alloc: Global, _db: Vec<u8>, _log: Vec<u8>) -> Result<Vec<Entry>, StoreFault> {
+    fn stored(
+        &self,
+        _alloc: Global,
+        _db: Vec<u8>,
+        _log: Vec<u8>,
+    ) -> Result<Vec<Entry>, StoreFault> {
         Err(StoreFault::Unreadable)
     }
 }

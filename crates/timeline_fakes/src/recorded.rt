@@ -9,7 +9,9 @@ ghost use Rattle.timeline_fakes.specs.Memories.{event_of, listed};
 use std::alloc::{AllocError, Global};
 use std::net::SocketAddr;
 use std::time::Duration;
-use system_io::{BindFault, Entry, FileWithMode, Key, LockFault, PortFault, ReadFault, StoreFault, copied};
+use system_io::{
+    BindFault, Entry, FileWithMode, Key, LockFault, PortFault, ReadFault, StoreFault, copied,
+};
 use timeline::Stream;
 
 /// What happened; each is the event of its name. Texts and paths are as bytes.
@@ -112,7 +114,10 @@ pub enum Recorded {
 pub(crate) type Made = Result<Recorded, AllocError>;
 
 /// A copy of what was read.
-fn same_bytes(alloc: Global, got: &Result<Vec<u8>, ReadFault>) -> Result<Result<Vec<u8>, ReadFault>, AllocError>
+fn same_bytes(
+    alloc: Global,
+    got: &Result<Vec<u8>, ReadFault>,
+) -> Result<Result<Vec<u8>, ReadFault>, AllocError>
     ensures { IfOk result (λ copy. bytes_read copy ≡ bytes_read got.now) }
 {
     match got {
@@ -158,11 +163,7 @@ pub(crate) fn folder_listed(
     Ok(Recorded::FolderListed { path, names })
 }
 
-pub(crate) fn file_read(
-    alloc: Global,
-    path: &str,
-    bytes: &Result<Vec<u8>, ReadFault>,
-) -> Made
+pub(crate) fn file_read(alloc: Global, path: &str, bytes: &Result<Vec<u8>, ReadFault>) -> Made
     ensures { IfOk result (λ made. event_of made ≡ event.FileRead path.now (bytes_read bytes.now)) }
 {
     let path = Vec::from_slice(alloc, path.as_bytes())?;
@@ -170,11 +171,7 @@ pub(crate) fn file_read(
     Ok(Recorded::FileRead { path, bytes })
 }
 
-pub(crate) fn file_sought(
-    alloc: Global,
-    path: &str,
-    bytes: &Result<Vec<u8>, ReadFault>,
-) -> Made
+pub(crate) fn file_sought(alloc: Global, path: &str, bytes: &Result<Vec<u8>, ReadFault>) -> Made
     ensures { IfOk result (λ made. event_of made ≡ event.FileSought path.now (bytes_read bytes.now)) }
 {
     let path = Vec::from_slice(alloc, path.as_bytes())?;

@@ -108,8 +108,12 @@ fn send_all(alloc: Global, system: &MemorySystem<'_>, timeline: &mut MemoryTimel
     let _wrote = system.write(timeline, Stream::Output, b"line\n");
     let _flushed = system.flush(timeline, Stream::Errors);
     system.note(timeline, "noted");
-    let Ok(mut port) = system.bind(timeline, alloc, "0.0.0.0:1", &["sender", "1.2.3.4:5", "host:1"])
-    else {
+    let Ok(mut port) = system.bind(
+        timeline,
+        alloc,
+        "0.0.0.0:1",
+        &["sender", "1.2.3.4:5", "host:1"],
+    ) else {
         return;
     };
     let _own = system.own_address(&port);
@@ -169,7 +173,8 @@ const READS: &str = "list read read! look! mode input lines line lines line ";
 #[test]
 fn each_call_is_recorded(rt: HostRuntime) {
     let names = names_of_all(rt.alloc(), None);
-    let rest = "wrote flushed noted bound came sent sent quiet missed locked opened found put store commit sought ";
+    let rest =
+        "wrote flushed noted bound came sent sent quiet missed locked opened found put store commit sought ";
     assert_eq!(rt; names.as_str().strip_prefix(READS), Some(rest));
 }
 
@@ -182,7 +187,11 @@ fn each_call_that_fails_is_recorded(rt: HostRuntime) {
     let bound = names_of_all(rt.alloc(), Some(2));
     assert!(rt; bound.as_str().contains("bound! locked"));
     let missed = names_of_all(rt.alloc(), Some(3));
-    assert!(rt; missed.as_str().contains("bound missed sent came missed locked"));
+    assert!(rt;
+        missed
+            .as_str()
+            .contains("bound missed sent came missed locked")
+    );
     let commit = names_of_all(rt.alloc(), Some(9));
     assert!(rt; commit.as_str().contains("store commit! sought"));
 }
@@ -227,7 +236,14 @@ fn a_loss_of_power_leaves_the_old_bytes_or_the_new(rt: HostRuntime) {
                 None => b"none",
             };
             let is_new = call == 4 && which == 1;
-            assert_eq!(rt; bytes, if is_new { b"new".as_slice() } else { b"old".as_slice() });
+            assert_eq!(rt;
+                bytes,
+                if is_new {
+                    b"new".as_slice()
+                } else {
+                    b"old".as_slice()
+                }
+            );
         }
     }
 }
