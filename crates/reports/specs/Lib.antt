@@ -1,2 +1,4 @@
+pub mod Sequences
+pub mod Readings
 pub mod Printing
 pub mod Versions

@@ -22,4 +22,4 @@ pub data Ends {T P F K S L : Type 0} (o : Outside T P F K S L) (after : T) (answ
 
 -- a command answers so, and then ends
 abbrev pub AnswersThenEnds : {T P F K S L : Type 0} → Outside T P F K S L → T → (List Event → Result ℕ WriteFault → Type 0) → List Event → ℕ → Type 0
-AnswersThenEnds o after Answers more status = (first last : List Event) (answered : Result ℕ WriteFault) × (more ≡ first ++ last) × Answers first answered × Ends o after answered last status
+AnswersThenEnds o after Answers more status = (first : List Event) × (last : List Event) × (answered : Result ℕ WriteFault) × (more ≡ first ++ last) × Answers first answered × Ends o after answered last status

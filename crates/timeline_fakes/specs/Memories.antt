@@ -5,7 +5,7 @@ use Rattle.std.specs.Duration.{as_nanos}
 use Rattle.std.specs.List.{flat_map}
 use Rattle.system_io.specs.KeptFiles.{bytes_of}
 use Rattle.system_io.specs.Outputs.{OutputFacts}
-use Rattle.system_io.specs.Records.{AreSame, Records, StoreFacts, StorePlaces, records_of}
+use Rattle.system_io.specs.Records.{AreSame, Records, StoredRecord, StoreFacts, StorePlaces, records_of}
 use Rattle.system_fakes.specs.MemoryDisks.{disk_of}
 use Rattle.system_fakes.specs.MemoryInputs.{input_of, memory_line_facts}
 use Rattle.system_fakes.specs.PowerLosses.{disk_facts}
@@ -26,6 +26,10 @@ use Rattle.timeline_fakes.specs.declared.memory_timeline.Outlet.{Outlet}
 use Rattle.timeline_fakes.specs.declared.memory_timeline.Outlet.TheVariants.{Gone, Stuck}
 use Rattle.timeline_fakes.specs.declared.recorded.Recorded.{Recorded}
 use Rattle.timeline_fakes.specs.declared.recorded.Recorded.TheVariants as recorded
+
+-- records that are put together, by their stamps
+abbrev pub Batch : Type 0
+Batch = List (List ℕ × StoredRecord)
 
 -- names of a folder, as they are recorded
 abbrev pub listed : {E : Type 0} → Result (Vec (Vec ℕ Global) Global) E → Result (List (List ℕ)) E

@@ -17,7 +17,7 @@ pub struct MemoryStore {
 
 /// What is found of a game after some entries, where this was found before.
 fn found_in<'a>(before: Option<&'a [u8]>, entries: &'a [Entry], stamp: &Key) -> Option<&'a [u8]>
-    ensures { (records : Records) → bytes_found before ≡ bytes_at records stamp.now → bytes_found result ≡ bytes_at (with_all records entries.now) stamp.now }
+    ensures { (records : Records) → bytes_found before.entry ≡ bytes_at records stamp.now → bytes_found result ≡ bytes_at (with_all records entries.now) stamp.now }
 {
     let mut found = before;
     for entry in entries {

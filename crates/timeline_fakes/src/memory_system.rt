@@ -2,9 +2,10 @@
 
 ghost use Rattle.std.specs.Prelude.{◌≡◌, ◌≤◌, None, Ok, map, IfOk, IfSome, OnErr, OnOk};
 ghost use Rattle.system_io.specs.Failures.{Risen};
+ghost use Rattle.system_io.specs.Recipients.{address_named};
 ghost use Rattle.system_io.specs.Records.{with_all};
 ghost use Rattle.system_fakes.specs.MemoryInputs.{memory_line_facts};
-ghost use Rattle.timeline.specs.Events.{Passes, done_by, has_line_feed, is_done, sent_to_each};
+ghost use Rattle.timeline.specs.Events.{Passes, done_by, has_line_feed, is_done, sent_to, sent_to_each};
 ghost use Rattle.timeline.specs.Outsides.{AreNamed, HeardNothing, SendsToSame};
 ghost use Rattle.timeline_fakes.specs.Memories.{events_in, has_in, lock_path, port_state, store_path};
 
@@ -69,6 +70,21 @@ fn had_come(lines: &MemoryLines<'_>) -> bool
     lines.has_line()
 }
 
+/// Records that a datagram is sent to a recipient, if it has an address.
+fn keep_sent(
+    timeline: &mut MemoryTimeline,
+    sender: Option<SocketAddr>,
+    who: Recipient,
+    bytes: &[u8],
+)
+    ensures { Passes (events_in timeline.old) (events_in timeline.new) (sent_to (address_named sender who) bytes.now) }
+{
+    if let Some(address) = address_of(sender, who) {
+        let made = sent(timeline.alloc(), address, bytes);
+        timeline.keep(made);
+    }
+}
+
 /// Records that a datagram is sent to each of these, in turn.
 fn keep_sends(
     timeline: &mut MemoryTimeline,
@@ -78,15 +94,8 @@ fn keep_sends(
 )
     ensures { Passes (events_in timeline.old) (events_in timeline.new) (sent_to_each sender to.now bytes.now) }
 {
-    match to {
-        [] => {}
-        [who, others @ ..] => {
-            if let Some(address) = address_of(sender, *who) {
-                let made = sent(timeline.alloc(), address, bytes);
-                timeline.keep(made);
-            }
-            keep_sends(timeline, sender, others, bytes);
-        }
+    for who in to {
+        keep_sent(timeline, sender, *who, bytes);
     }
 }
 

@@ -1,10 +1,9 @@
 //! What happened, as it is recorded.
 
 ghost use Rattle.std.specs.Prelude.{◌≡◌, ◌≤◌, map, string_bytes, IfOk, IfSome};
-ghost use Rattle.system_io.specs.KeptFiles.{bytes_of};
 ghost use Rattle.timeline.specs.Events as event;
 ghost use Rattle.timeline.specs.Events.{bytes_found, bytes_read, came_in_time, came_or_missed, found_by, line_read, mode_read, names_read, stamped};
-ghost use Rattle.timeline_fakes.specs.Memories.{event_of, listed};
+ghost use Rattle.timeline_fakes.specs.Memories.{Batch, event_of, listed};
 
 use std::alloc::{AllocError, Global};
 use std::net::SocketAddr;
@@ -313,7 +312,7 @@ pub(crate) fn store_opened(alloc: Global, path: &str, done: Result<(), StoreFaul
 }
 
 pub(crate) fn record_sought(alloc: Global, path: &[u8], stamp: &Key, got: Option<&[u8]>) -> Made
-    ensures { IfOk result (λ made. event_of made ≡ event.RecordSought path.now stamp.now (bytes_found got)) }
+    ensures { IfOk result (λ made. event_of made ≡ event.RecordSought path.now stamp.now (bytes_found got.entry)) }
 {
     let got = match got {
         Some(bytes) => Some(Vec::from_slice(alloc, bytes)?),
@@ -348,7 +347,7 @@ pub(crate) fn committed(
     entries: Result<Vec<Entry>, AllocError>,
     is_done: bool,
 ) -> Made
-    ensures { IfOk result (λ made. IfOk entries (λ all. event_of made ≡ event.Committed path.now (map stamped all.items) is_done)) }
+    ensures { (all : Batch) → IfOk entries (λ v. map stamped v.items ≡ all) → IfOk result (λ made. event_of made ≡ event.Committed path.now all is_done) }
 {
     let entries = entries?;
     let path = Vec::from_slice(alloc, path)?;
