@@ -1,4 +1,0 @@
-pub mod Sequences
-pub mod Readings
-pub mod Printing
-pub mod Versions
