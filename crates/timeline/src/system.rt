@@ -122,7 +122,7 @@ pub trait System {
         ensures made { Adds (outside self.now) timeline.old timeline.new (InputRead (bytes_read result) ∷ []) };
 
     /// The lines of a regular file, whatever its size, none of them read yet. What is no regular file isn't waited for: it can't be
-    /// read. A link is followed. A disk whose contents are stated tells all bytes of the lines. `OutOfMemory` where memory for the
+    /// read. A link is followed. A disk whose contents are stated gives all bytes of the lines. `OutOfMemory` where memory for the
     /// read-ahead buffer is refused, or no descriptor is left.
     fn file_lines(
         &self,
@@ -136,7 +136,7 @@ pub trait System {
         ensures cause { IsErrOf result ReadFault.Unreadable → (outside self.now).disk.fails (AtFile path.now) }
         ensures made { Adds (outside self.now) timeline.old timeline.new (LinesOpened (FromFile path.now) (is_done result) ∷ []) };
 
-    /// The lines of the input, none of them read yet. An input whose bytes are stated tells all of them, unless it fails. The error
+    /// The lines of the input, none of them read yet. An input whose bytes are stated gives all of them, unless it fails. The error
     /// comes where memory for the read-ahead buffer is refused.
     fn input_lines(
         &self,
