@@ -1,0 +1,4 @@
+pub mod Events
+pub mod Outsides
+pub mod Machines
+pub mod MachineLaws

@@ -1,0 +1,5 @@
+pub mod StoreLaws
+pub mod SendLaws
+pub mod FeedLaws
+pub mod WordLaws
+pub mod CommitLaws
