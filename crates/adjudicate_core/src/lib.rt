@@ -1,8 +1,8 @@
 //! The commands of the adjudicator: words in, lines and a status out.
 //!
 //! `parse` makes a task of the words; `Inputs::read` of `task_files` reads what it names; each command answers from that.
-//! `program::run` joins these, and `run_program` takes all words that a program was called with. `docs/FORMATS.md`, section 3,
-//! has each command with its lines; the statuses are 0 done, 1 refused, 2 misuse.
+//! `program::run` joins these, and `run_program` takes all words that a program was called with. The man page of a
+//! command has its lines; the statuses are 0 done, 1 refused, 2 misuse.
 //!
 //! Inside: each command is a file in `commands/`, with its definitions in the file of the same name in `specs/Commands/`. `words`
 //! reads the command line: `values`, `numbers`, `usage`, `uses`, `help`, `near`, `addresses`, `game_paths`. What the commands take is told

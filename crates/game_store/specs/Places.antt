@@ -42,6 +42,13 @@ abbrev pub store_fault_of : DatabaseFault → StoreFault
 store_fault_of (Sqlite (SqliteFailure code.OutOfMemory)) = OutOfMemory
 store_fault_of _ = Unreadable
 
+-- of files in memory a failed call, and that the database is closed after one, is refused memory too
+abbrev pub copies_fault_of : DatabaseFault → StoreFault
+copies_fault_of (Sqlite (SqliteFailure code.SystemIoFailure)) = OutOfMemory
+copies_fault_of (Sqlite (SqliteFailure code.DiskFull)) = OutOfMemory
+copies_fault_of (Sqlite (SqliteFailure code.Closed)) = OutOfMemory
+copies_fault_of fault = store_fault_of fault
+
 -- a database file and its log in memory, with these bytes
 pub record HaveBytes (db log : List ℕ) (files : Files Memory) : Type 0 where
   pub db_bytes : memory_bytes files.db ≡ db

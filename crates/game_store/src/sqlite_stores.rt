@@ -6,9 +6,9 @@ ghost use Rattle.sqlite.specs.Files.{image_of};
 ghost use Rattle.sqlite_disk.specs.Memory.{memory_bytes, memory_is_usable};
 ghost use Rattle.system_io.specs.Records.{records_of};
 ghost use Rattle.game_store.specs.Files.{FindsGames};
-ghost use Rattle.game_store.specs.Places.{HaveBytes, store_fault_of};
+ghost use Rattle.game_store.specs.Places.{HaveBytes, copies_fault_of, store_fault_of};
 
-use crate::fault::DatabaseFault;
+use crate::fault::{DatabaseFault, OUT_OF_MEMORY};
 use crate::store::Store;
 use sqlite::{Error, ErrorCode, FileFrom, FileStore, Files, Options, Start};
 use sqlite_disk::{Disk, Memory};
@@ -85,7 +85,10 @@ impl<'r, S: Start + Copy> Stores for SqliteStores<'r, S> {
         let Ok(files) = files_of(alloc, &db, &log) else {
             return Err(StoreFault::OutOfMemory);
         };
-        entries_in(alloc, files)
+        match entries_in(alloc, files) {
+            Ok(entries) => Ok(entries),
+            Err(fault) => Err(told_of_copies(fault)),
+        }
     }
 }
 
@@ -113,6 +116,19 @@ fn told(fault: DatabaseFault) -> StoreFault
     }
 }
 
+/// What is told of the store that two files in memory hold, where it can't be read. A call of such a file fails only where memory is
+/// refused, and a store whose file has failed is closed.
+fn told_of_copies(fault: DatabaseFault) -> StoreFault
+    ensures { result ≡ copies_fault_of fault }
+{
+    match fault {
+        DatabaseFault::Sqlite(Error::SqliteFailure(
+            ErrorCode::SystemIoFailure | ErrorCode::DiskFull | ErrorCode::Closed,
+        )) => StoreFault::OutOfMemory,
+        _ => told(fault),
+    }
+}
+
 /// A file in memory with these bytes.
 fn file_of(alloc: Global, bytes: &[u8]) -> Result<Memory, AllocError>
     ensures same { IfOk result (λ file. memory_bytes file ≡ bytes.now) }
@@ -135,7 +151,7 @@ fn files_of(alloc: Global, db: &[u8], log: &[u8]) -> Result<Files<Memory>, Alloc
 }
 
 /// The records of the store that two files hold, whose reads tell no lie.
-fn entries_in<D: Disk + Drop>(alloc: Global, files: Files<D>) -> Result<Vec<Entry>, StoreFault>
+fn entries_in<D: Disk + Drop>(alloc: Global, files: Files<D>) -> Result<Vec<Entry>, DatabaseFault>
     requires log { IsTrue (D.Disk.is_usable files.log) }
     requires db { IsTrue (D.Disk.is_usable files.db) }
     requires honest { (file : D) → IsTrue (D.Disk.is_clean file) }
@@ -143,10 +159,10 @@ fn entries_in<D: Disk + Drop>(alloc: Global, files: Files<D>) -> Result<Vec<Entr
 {
     let store = match Store::open(alloc, files, Options::new(0)) {
         Ok(store) => store,
-        Err((fault, _left)) => return Err(told(fault)),
+        Err((fault, _left)) => return Err(fault),
     };
     match store.entries(alloc) {
         Ok(entries) => Ok(entries),
-        Err(_) => Err(StoreFault::OutOfMemory),
+        Err(_) => Err(OUT_OF_MEMORY),
     }
 }

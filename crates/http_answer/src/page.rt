@@ -43,7 +43,7 @@ td button { border: 0; background: none; padding: 0; cursor: pointer; text-decor
 <h1>Endgame tables</h1>\n\
 <main>\n\
 <section aria-label=\"Board\">\n\
-<div id=\"board\" role=\"grid\" aria-label=\"Chess board; arrow keys move, Enter takes a man and puts it\"></div>\n\
+<div id=\"board\" role=\"group\" aria-label=\"Chess board; arrow keys move, Enter takes a man and puts it\"></div>\n\
 <div id=\"box\" role=\"toolbar\" aria-label=\"Men to put on the board\"></div>\n\
 <div class=\"row\">\n\
 <button id=\"back\" type=\"button\">Back</button>\n\
@@ -98,9 +98,12 @@ function pick(i) {\n\
   focus = i;\n\
   const man = cells(fen())[i];\n\
   if (isSetup()) {\n\
-    if (held && held.man) edit(c => { c[i] = held.man; if (held.from !== undefined) c[held.from] = held.from === i ? held.man : \".\"; });\n\
-    if (held && held.from !== undefined) held = null;\n\
-    else if (!held && man !== \".\") held = { man, from: i };\n\
+    const had = held;\n\
+    if (had) {\n\
+      edit(c => { if (had.from !== undefined) c[had.from] = \".\"; c[i] = had.man; });\n\
+      /* (a man of the box stays in the hand) */\n\
+      held = had.from === undefined ? had : null;\n\
+    } else if (man !== \".\") held = { man, from: i };\n\
     draw();\n\
     return;\n\
   }\n\
@@ -194,7 +197,7 @@ by(\"board\").onkeydown = e => {\n\
   if (!step) return;\n\
   e.preventDefault();\n\
   const to = focus + (turned ? -step : step);\n\
-  if (to < 0 || to > 63) return;\n\
+  if (to < 0 || to > 63 || (Math.abs(step) === 1 && to >> 3 !== focus >> 3)) return;\n\
   focus = to; draw();\n\
   by(\"board\").querySelector('[data-at=\"' + to + '\"]').focus();\n\
 };\n\

@@ -271,7 +271,14 @@ if (stamp) {\n\
     if (id && game && !e.altKey && !e.ctrlKey && !e.metaKey) { e.preventDefault(); go(steps[id]()); }\n\
   };\n\
 }\n\
-const read = stamp ? readGame : readAll;\n\
+/* (one question at a time, however long its answer takes) */\n\
+let reading = false;\n\
+async function read() {\n\
+  if (reading) return;\n\
+  reading = true;\n\
+  await (stamp ? readGame() : readAll());\n\
+  reading = false;\n\
+}\n\
 read();\n\
 setInterval(() => { if (!document.hidden) read(); }, 1000);\n\
 document.onvisibilitychange = () => { if (!document.hidden) read(); };\n\

@@ -1,5 +1,5 @@
 -- What each step of a server keeps.
-use Rattle.std.proofs.Common.{◌≡◌, ℕ, List, [], ◌∷◌, ◌++◌, Option, Some, None, All, Contains, refl, sym, ap, subst, ◌∙◌, inl, inr, append_assoc, append-nil, get_or}
+use Rattle.std.proofs.Common.{◌≡◌, length, ℕ, List, [], ◌∷◌, ◌++◌, Option, Some, None, All, Contains, refl, sym, ap, subst, ◌∙◌, inl, inr, append_assoc, append-nil, get_or}
 use Rattle.std.proofs.lemmas.Bool.{cases_eq}
 use Rattle.std.proofs.lemmas.List.Elements.{All-nil, All-cons, All-append, Contains-append_left, Contains-append_right, All-contains_itself}
 use Rattle.std.specs.Io.KnownBytes.{Appends, Consumes}
@@ -9,13 +9,18 @@ use Rattle.http.specs.declared.request.Request.{Request}
 use Rattle.http_server.specs.declared.response.Response.{Response}
 use Rattle.http_server.specs.Connection.{config_of, history}
 use Rattle.http_server.specs.Exchange.{Call}
-use Rattle.http_server.specs.History.{History, IsServed, new_history}
+use Rattle.std.proofs.Math.Logic.{∥∥₁_elim}
+use Rattle.http_server.specs.History.{History, IsDone, IsServed, Stands, new_history}
+use Rattle.http_server.specs.declared.state.State.{State}
+use Rattle.http_server.specs.declared.state.State.TheVariants.{Aborted}
+use Rattle.http_loop.specs.declared.peer.Fate.{Fate}
+use Rattle.http_loop.specs.declared.peer.Fate.TheVariants.{Ends, GoesOn, Waits}
 use Rattle.http_server.specs.declared.state.Config.{Config}
 use Rattle.http_server.proofs.KnownLemmas.{Appends-then, Consumes-then}
 use Rattle.http_server.proofs.StreamLemmas.{Chain-append}
 use Rattle.http_server.proofs.Theorems.{always_served}
 use Rattle.http_loop.specs.declared.peer.Peer.{Peer}
-use Rattle.http_loop.specs.Streams.{Closed, Closes, Opens, Stays, Stream, Streams, stream_of}
+use Rattle.http_loop.specs.Streams.{Closed, Closes, HasNoOpen, Opens, Stays, Stream, Streams, closed_of, stream_of}
 use Rattle.http_loop.specs.Serving.{AllServed, AreServed, IsPeerOf, IsServedOver, IsServing, Serves, ServesOn}
 
 Consumes-none : (u : Option (List ℕ)) → Consumes u u []
@@ -126,6 +131,17 @@ module _ {R W : Type 0} (remaining : R → Option (List ℕ)) (contents : W → 
         served = h.served;
       }
 
+  -- nothing has been served where no stream is open
+  pub none_served : (known : Option Streams) (peers : Slab (Peer R W)) → peers.slots ≡ [] → HasNoOpen known → IsServing remaining contents config calls (closed_of known) known peers
+  none_served None peers empty h = tt
+  none_served (Some known) peers empty h =
+      record {
+        opened = λ key. is_none _ _ (h key) (ap (λ (slots : List (Option (Peer R W))). get_or slots key None) empty);
+        since = [];
+        closed = sym (append-nil known.closed);
+        served = All-nil (λ (c : Closed). IsServedOver config calls c.came c.left);
+      }
+
   -- a connection that was made for the stream
   pub new_is_peer : (peer : Peer R W) → config_of peer.connection ≡ config → history peer.connection ≡ new_history
       → IsPeerOf remaining contents config calls (stream_of remaining contents peer.reader peer.writer) peer
@@ -210,3 +226,18 @@ module _ {R W S : Type 0} (remaining : R → Option (List ℕ)) (contents : W �
         subst (λ (cs : List Call). IsServing remaining contents config cs before known₃ peers₃) (append_assoc calls x.0 y.0)
         (y.2 (calls ++ x.0) before (x.2 calls before h)),
   )
+
+-- ---- a connection to which memory was refused
+
+-- a step of it ends it
+aborted_ends : (config : Config) (h : History) (fate other : Fate) → (Ends ≡ other → ⊥) → ∥ IsServed config h ∥₁ → h.state ≡ Aborted → (IsDone h → fate ≡ Ends) → fate ≡ other → ⊥
+aborted_ends config h fate other differs served is done same =
+    ∥∥₁_elim served (λ p q. absurd p)
+    (λ s.
+    let stands = subst (λ (at : State). Stands at config h s.answered s.text s.interim s.rest) is s.stands in
+    differs (sym (done ((λ at. absurd (let e = sym is ∙ at in cc)), ap length stands.dropped)) ∙ same))
+
+pub aborted_stops : (config : Config) (h : History) (fate : Fate) → ∥ IsServed config h ∥₁ → h.state ≡ Aborted → (IsDone h → fate ≡ Ends) → fate ≡ Ends
+aborted_stops config h Ends served is done = refl
+aborted_stops config h Waits served is done = absurd (aborted_ends config h Waits Waits (λ e. absurd (cc)) served is done refl)
+aborted_stops config h GoesOn served is done = absurd (aborted_ends config h GoesOn GoesOn (λ e. absurd (cc)) served is done refl)

@@ -2,18 +2,19 @@
 //!
 //! Streams come at a `Listener`: the system's are `Sockets`, over `mio`; `MemoryListener` has streams whose bytes are stated. Each stream
 //! has a connection of its own, an `http_server::Connection`, which holds what it was given and what it handed out as histories. In a
-//! round of a `Server` the streams that have come are accepted, and the connections that are ready have a turn each: in a turn a
-//! connection reads, answers and writes until its answers have gone out or its stream would wait, with so many calls at most. A connection
-//! answers no request while bytes wait to be sent beyond what its `Config` says; with `max_pending` 0 that is one request a turn, so that
-//! one that pipelines lets others have theirs in between.
+//! round of a `Server` the streams that have come are accepted, and the connections that have become ready have a turn each: in a turn a
+//! connection reads, answers and writes until its stream would wait, or what waited to be sent has gone out twice, with so many calls at
+//! most. A connection answers no request while bytes wait to be sent beyond what its `Config` says; with `max_pending` 0 that is two
+//! requests a turn. One that could have gone on waits in a queue, of which one has its turn in each round, behind all others: so one that
+//! pipelines holds up none that doesn't. A connection to which memory for an answer is refused is closed in that turn.
 //!
 //! Definitions, in reading order: `Streams`, `Serving`, `Servers`; `Memory`; `Premises`.
 //!
 //! - CLAIM: `Server::round`, clause `served`; `Server::new`, clause `served`; `Server::close`, clauses `served`, `closed`: over a
 //!   listener whose streams are known, what each stream gave is what one connection received, and what it got is what this connection sent,
 //!   also of those that were closed; each of its calls is one that was made of the service, in the chain of all its calls.
-//! - CLAIM: `take_turn`, clauses `read`, `written`, `calls`: in a turn a connection received what its reader gave, its writer got what it
-//!   handed out, and its calls are those of the service.
+//! - CLAIM: `take_turn`, clauses `read`, `written`, `calls`, `aborted`: in a turn a connection received what its reader gave, its writer
+//!   got what it handed out, and its calls are those of the service. Where memory for an answer was refused it ends.
 //! - CLAIM: `MemoryListener`, clause `streams`: a listener in memory tells how each stream came and was left.
 #![tactic(auto)]
 
@@ -25,6 +26,6 @@ mod sockets;
 
 pub use listener::Listener;
 pub use memory::{Coming, Left, MemoryListener};
-pub use peer::{Fate, Peer, take_turn};
+pub use peer::{Fate, Peer, Turn, take_turn};
 pub use server::{Limits, Server};
 pub use sockets::{Incoming, Outgoing, Sockets};

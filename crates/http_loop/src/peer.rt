@@ -1,11 +1,12 @@
 //! One connection, over a reader and a writer that don't wait.
 
-ghost use Rattle.std.specs.Prelude.{◌≡◌, ℕ, List, ◌++◌};
+ghost use Rattle.std.specs.Prelude.{◌≡◌, ◌≤◌, ℕ, List, ◌++◌, false};
 ghost use Rattle.std.specs.Io.KnownBytes.{Appends, Consumes};
 ghost use Rattle.http_server.specs.Connection.{config_of, history};
 ghost use Rattle.http_server.specs.Exchange.{Calls};
+ghost use Rattle.http_server.specs.History.{IsDone};
 
-use http_server::{Connection, Service};
+use http_server::{Connection, Service, State};
 use std::io;
 use std::io::{ErrorKind, Read, Write};
 use std::time::Instant;
@@ -17,10 +18,19 @@ pub enum Fate {
     Waits,
     /// It may go on at once, and others come first.
     GoesOn,
-    /// The same, and all that waited to be sent has gone out.
-    Answered,
     /// It is done, or its socket has failed.
     Ends,
+}
+
+/// What a turn, or a step of it, came to.
+#[derive(Clone, Copy, Debug, PartialEq, Eq)]
+pub struct Turn {
+    /// What becomes of the connection.
+    pub fate: Fate,
+    /// Whether all that waited to be sent went out in it.
+    pub has_sent: bool,
+    /// Whether some bytes came in it.
+    pub has_read: bool,
 }
 
 /// A connection with the two ends of its stream.
@@ -32,8 +42,12 @@ pub struct Peer<R: Drop, W: Drop> {
     pub writer: W,
     /// Its bytes and its calls.
     pub connection: Connection,
-    /// When its last answer had gone out, or it came.
+    /// When it came, its last answer had gone out, or the first bytes since then came.
     pub since: Instant,
+    /// Whether no byte has come since it came, or its last answer had gone out.
+    pub is_idle: bool,
+    /// Whether it might have gone on after its last turn.
+    pub goes_on: bool,
 }
 
 impl<R: Drop, W: Drop> Peer<R, W> {
@@ -47,17 +61,28 @@ impl<R: Drop, W: Drop> Peer<R, W> {
     }
 }
 
-/// What a call that failed means.
-fn fate_of(error: &io::Error) -> Fate {
-    match error.kind() {
-        ErrorKind::WouldBlock => Fate::Waits,
-        ErrorKind::Interrupted => Fate::GoesOn,
-        _ => Fate::Ends,
+/// A step in which no byte came, and not all that waited to be sent went out.
+fn idle(fate: Fate) -> Turn
+    ensures { result ≡ record { fate = fate; has_sent = false; has_read = false } }
+{
+    Turn {
+        fate,
+        has_sent: false,
+        has_read: false,
     }
 }
 
-/// Writes once, or reads once, and tells whether the turn goes on.
-fn step<R: Read, W: Write>(connection: &mut Connection, reader: &mut R, writer: &mut W) -> Fate
+/// What a call that failed means.
+fn failed(error: &io::Error) -> Turn {
+    match error.kind() {
+        ErrorKind::WouldBlock => idle(Fate::Waits),
+        ErrorKind::Interrupted => idle(Fate::GoesOn),
+        _ => idle(Fate::Ends),
+    }
+}
+
+/// Writes once, or reads once.
+fn step<R: Read, W: Write>(connection: &mut Connection, reader: &mut R, writer: &mut W) -> Turn
     ensures read { (more : List ℕ)
         × Consumes (R.remaining reader.old) (R.remaining reader.new) more
         × ((history connection.new).received ≡ (history connection.old).received ++ more) }
@@ -65,39 +90,43 @@ fn step<R: Read, W: Write>(connection: &mut Connection, reader: &mut R, writer: 
         × Appends (W.contents writer.old) (W.contents writer.new) more
         × ((history connection.new).sent ≡ (history connection.old).sent ++ more) }
     ensures calls { (history connection.new).calls ≡ (history connection.old).calls }
+    ensures state { (history connection.new).state ≡ (history connection.old).state }
+    ensures done { IsDone (history connection.old) → result.fate ≡ Fate.Ends }
     ensures config { config_of connection.new ≡ config_of connection.old }
 {
     if connection.is_done() {
-        return Fate::Ends;
+        return idle(Fate::Ends);
     }
     if connection.wants_write() {
         return match connection.write_to(writer) {
-            Ok(0) => Fate::Ends,
-            Ok(_) => {
-                if connection.wants_write() {
-                    Fate::GoesOn
-                } else {
-                    Fate::Answered
-                }
-            }
-            Err(error) => fate_of(&error),
+            Ok(0) => idle(Fate::Ends),
+            Ok(_) => Turn {
+                fate: Fate::GoesOn,
+                has_sent: !connection.wants_write(),
+                has_read: false,
+            },
+            Err(error) => failed(&error),
         };
     }
     match connection.read_from(reader) {
-        Ok(_) => Fate::GoesOn,
-        Err(error) => fate_of(&error),
+        Ok(count) => Turn {
+            fate: Fate::GoesOn,
+            has_sent: false,
+            has_read: 0 < count,
+        },
+        Err(error) => failed(&error),
     }
 }
 
-/// Answers, reads and writes until all that waited to be sent has gone out, the socket would wait or the connection is done, with at most
-/// so many calls of the system.
+/// Answers, reads and writes until the socket would wait or the connection is done, or until what waited to be sent has gone out twice,
+/// with at most so many calls of the system. Where memory for an answer is refused the connection ends.
 pub fn take_turn<S: Service, R: Read, W: Write>(
     connection: &mut Connection,
     service: &mut S,
     reader: &mut R,
     writer: &mut W,
     most: usize,
-) -> Fate
+) -> Turn
     ensures read { (more : List ℕ)
         × Consumes (R.remaining reader.old) (R.remaining reader.new) more
         × ((history connection.new).received ≡ (history connection.old).received ++ more) }
@@ -106,16 +135,33 @@ pub fn take_turn<S: Service, R: Read, W: Write>(
         × ((history connection.new).sent ≡ (history connection.old).sent ++ more) }
     ensures calls { Calls S.answers service.old service.new
         (history connection.old).calls (history connection.new).calls }
+    ensures aborted { 1 ≤ most → (history connection.new).state ≡ State.Aborted → result.fate ≡ Fate.Ends }
     ensures config { config_of connection.new ≡ config_of connection.old }
 {
+    let mut has_sent = false;
+    let mut has_read = false;
     for _ in 0..most {
         connection.advance(service);
-        match step(connection, reader, writer) {
-            Fate::GoesOn => {}
-            fate => return fate,
+        let turn = step(connection, reader, writer);
+        let is_second = has_sent && turn.has_sent;
+        has_sent = has_sent || turn.has_sent;
+        has_read = has_read || turn.has_read;
+        match turn.fate {
+            Fate::GoesOn if !is_second => {}
+            fate => {
+                return Turn {
+                    fate,
+                    has_sent,
+                    has_read,
+                };
+            }
         }
     }
-    Fate::GoesOn
+    Turn {
+        fate: Fate::GoesOn,
+        has_sent,
+        has_read,
+    }
 }
 
 impl<R: Read + Drop, W: Write + Drop> Peer<R, W> {
@@ -134,18 +180,21 @@ impl<R: Read + Drop, W: Write + Drop> Peer<R, W> {
             × ((history self.new.connection).sent ≡ (history self.old.connection).sent ++ more) }
         ensures calls { Calls S.answers service.old service.new
             (history self.old.connection).calls (history self.new.connection).calls }
+        ensures aborted { 1 ≤ most → (history self.new.connection).state ≡ State.Aborted → result ≡ Fate.Ends }
         ensures config { config_of self.new.connection ≡ config_of self.old.connection }
     {
-        let fate = take_turn(
+        let turn = take_turn(
             &mut self.connection,
             service,
             &mut self.reader,
             &mut self.writer,
             most,
         );
-        if fate == Fate::Answered {
+        if turn.has_sent || (turn.has_read && self.is_idle) {
             self.since = now;
         }
-        fate
+        self.is_idle = turn.has_sent || (self.is_idle && !turn.has_read);
+        self.goes_on = matches!(turn.fate, Fate::GoesOn);
+        turn.fate
     }
 }

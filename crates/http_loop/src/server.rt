@@ -1,6 +1,6 @@
 //! The connections of one listener.
 
-ghost use Rattle.std.specs.Prelude.{◌≡◌, ℕ, List, [], IfOk, None};
+ghost use Rattle.std.specs.Prelude.{◌≡◌, ◌≢◌, ℕ, List, [], IfOk, IfSome, None, Some};
 ghost use Rattle.slab.specs.Slab.{Updates, get};
 ghost use Rattle.http_server.specs.Connection.{config_of, history};
 ghost use Rattle.http_server.specs.History.{new_history};
@@ -11,9 +11,10 @@ ghost use Rattle.http_loop.specs.Streams.{Closed, HasNoOpen, closed_of};
 
 use crate::listener::Listener;
 use crate::peer::{Fate, Peer};
-use http_server::{Config, Connection, Service};
+use http_server::{Config, Connection, Service, State};
 use slab::Slab;
 use std::alloc::Global;
+use std::collections::VecDeque;
 use std::hash::RandomState;
 use std::io::{Read, Write};
 use std::time::{Clock, Duration, Instant};
@@ -32,7 +33,7 @@ pub struct Limits {
     pub config: Config,
     /// How many connections there are at once, at most.
     pub connections: usize,
-    /// How long one exchange may take, from the end of the last one.
+    /// How long a connection may wait for the first byte of a request, and then for its last one, its answer and for that to be taken.
     pub exchange: Duration,
     /// How often connections are looked through for those that have taken longer.
     pub sweep: Duration,
@@ -56,7 +57,10 @@ pub struct Server<'r, C: Clock, L: Listener + Drop> {
     limits: Limits,
     listener: L,
     peers: Slab<Peer<L::Reader, L::Writer>>,
+    /// The keys that the listener has reported as ready.
     ready: Vec<usize>,
+    /// Those of connections that might have gone on, the one that has waited longest first, each once.
+    going: VecDeque<usize>,
     now: Instant,
     swept: Instant,
 }
@@ -101,6 +105,8 @@ fn new_peer<R: Read + Drop, W: Write + Drop>(
         writer,
         connection: Connection::new(beginning.alloc, beginning.keys, beginning.limits.config),
         since: beginning.now,
+        is_idle: true,
+        goes_on: false,
     }
 }
 
@@ -138,16 +144,25 @@ fn accept_all<L: Listener>(
     }
 }
 
-/// A connection has its turn in the next round, or is closed where memory for that is refused.
-fn note_ready<L: Listener>(
+/// Whether the connection under a key waits for a turn among those that go on.
+fn goes_on<R: Drop, W: Drop>(peers: &Slab<Peer<R, W>>, key: usize) -> bool {
+    match peers.get(key) {
+        Some(peer) => peer.goes_on,
+        None => false,
+    }
+}
+
+/// A connection waits for a turn behind those that go on, or is closed where memory for that is refused.
+fn queue_up<L: Listener>(
     listener: &mut L,
     peers: &mut Slab<Peer<L::Reader, L::Writer>>,
-    ready: &mut Vec<usize>,
+    going: &mut VecDeque<usize>,
     key: usize,
 )
-    ensures { (config : Config) → StillServes L.Reader.remaining L.Writer.contents config (L.streams listener.old) peers.old (L.streams listener.new) peers.new }
+    ensures served { (config : Config) → StillServes L.Reader.remaining L.Writer.contents config (L.streams listener.old) peers.old (L.streams listener.new) peers.new }
+    ensures kept { IfSome (get peers.new key) (λ peer. get peers.old key ≡ Some peer) }
 {
-    if ready.push(key).is_err() {
+    if going.push_back(key).is_err() {
         close_one(listener, peers, key);
     }
 }
@@ -160,8 +175,9 @@ fn take_turn_of<L: Listener, S: Service>(
     key: usize,
     now: Instant,
 ) -> Fate
-    ensures { (config : Config) → ServesOn L.Reader.remaining L.Writer.contents S.answers service.old service.new config
+    ensures served { (config : Config) → ServesOn L.Reader.remaining L.Writer.contents S.answers service.old service.new config
         (L.streams listener.now) peers.old (L.streams listener.now) peers.new }
+    ensures aborted { IfSome (get peers.new key) (λ peer. (history peer.connection).state ≡ State.Aborted → result ≡ Fate.Ends) }
 {
     match peers.get_mut(key) {
         Some(peer) => peer.take_turn(service, TURN, now),
@@ -169,26 +185,27 @@ fn take_turn_of<L: Listener, S: Service>(
     }
 }
 
-/// One turn of a connection. One that ends is closed.
+/// One turn of a connection. One that ends is closed, and so is one to which memory for an answer is refused.
 fn give_turn<L: Listener, S: Service>(
     listener: &mut L,
     peers: &mut Slab<Peer<L::Reader, L::Writer>>,
-    ready: &mut Vec<usize>,
+    going: &mut VecDeque<usize>,
     service: &mut S,
     key: usize,
     now: Instant,
 )
-    ensures { (config : Config) → ServesOn L.Reader.remaining L.Writer.contents S.answers service.old service.new config
+    ensures served { (config : Config) → ServesOn L.Reader.remaining L.Writer.contents S.answers service.old service.new config
         (L.streams listener.old) peers.old (L.streams listener.new) peers.new }
+    ensures aborted { IfSome (get peers.new key) (λ peer. (history peer.connection).state ≢ State.Aborted) }
 {
     match take_turn_of(listener, peers, service, key, now) {
         Fate::Waits => {}
-        Fate::GoesOn | Fate::Answered => note_ready(listener, peers, ready, key),
+        Fate::GoesOn => queue_up(listener, peers, going, key),
         Fate::Ends => close_one(listener, peers, key),
     }
 }
 
-/// Closes the connections whose last answer went out too long ago.
+/// Closes the connections that have taken too long, but for those that wait for a turn.
 fn close_late<L: Listener>(
     listener: &mut L,
     peers: &mut Slab<Peer<L::Reader, L::Writer>>,
@@ -199,7 +216,7 @@ fn close_late<L: Listener>(
 {
     for key in 0..peers.capacity() {
         let is_late = match peers.get(key) {
-            Some(peer) => has_passed(peer.since, now, exchange),
+            Some(peer) => !peer.goes_on && has_passed(peer.since, now, exchange),
             None => false,
         };
         if is_late {
@@ -208,25 +225,38 @@ fn close_late<L: Listener>(
     }
 }
 
-/// Gives each connection that is ready a turn.
+/// Gives each connection that has become ready a turn, but for those that wait for one anyway.
 fn give_turns<L: Listener, S: Service>(
-    alloc: Global,
     listener: &mut L,
     peers: &mut Slab<Peer<L::Reader, L::Writer>>,
-    ready: &mut Vec<usize>,
+    ready: Vec<usize>,
+    going: &mut VecDeque<usize>,
     service: &mut S,
     now: Instant,
 )
     ensures { (config : Config) → ServesOn L.Reader.remaining L.Writer.contents S.answers service.old service.new config
         (L.streams listener.old) peers.old (L.streams listener.new) peers.new }
 {
-    let mut keys = Vec::new(alloc);
-    mem::swap(&mut keys, ready);
-    // One that was told of more than once has one turn.
-    keys.sort_unstable();
-    keys.dedup();
-    for key in keys {
-        give_turn(listener, peers, ready, service, key, now);
+    for key in ready {
+        if !goes_on(peers, key) {
+            give_turn(listener, peers, going, service, key, now);
+        }
+    }
+}
+
+/// Gives the connection a turn that has waited longest of those that go on, if there is one.
+fn give_next<L: Listener, S: Service>(
+    listener: &mut L,
+    peers: &mut Slab<Peer<L::Reader, L::Writer>>,
+    going: &mut VecDeque<usize>,
+    service: &mut S,
+    now: Instant,
+)
+    ensures { (config : Config) → ServesOn L.Reader.remaining L.Writer.contents S.answers service.old service.new config
+        (L.streams listener.old) peers.old (L.streams listener.new) peers.new }
+{
+    if let Some(key) = going.pop_front() {
+        give_turn(listener, peers, going, service, key, now);
     }
 }
 
@@ -262,6 +292,7 @@ impl<'r, C: Clock, L: Listener + Drop> Server<'r, C, L> {
             listener,
             peers: Slab::new(alloc),
             ready: Vec::new(alloc),
+            going: VecDeque::new(alloc),
             now,
             swept: now,
         })
@@ -274,7 +305,7 @@ impl<'r, C: Clock, L: Listener + Drop> Server<'r, C, L> {
         &self.listener
     }
 
-    /// Closes the connections whose last answer went out too long ago, where it is time for that.
+    /// Closes the connections that have taken too long, where it is time for that.
     fn sweep(&mut self)
         ensures { ServesStill L.streams L.Reader.remaining L.Writer.contents self.old self.new }
     {
@@ -286,6 +317,8 @@ impl<'r, C: Clock, L: Listener + Drop> Server<'r, C, L> {
                 self.now,
                 self.limits.exchange,
             );
+            let peers = &self.peers;
+            self.going.retain(|key| peers.get(*key).is_some());
         }
     }
 
@@ -293,7 +326,7 @@ impl<'r, C: Clock, L: Listener + Drop> Server<'r, C, L> {
     fn wait(&mut self) -> io::Result<()>
         ensures { ServesStill L.streams L.Reader.remaining L.Writer.contents self.old self.new }
     {
-        let time = if self.ready.is_empty() {
+        let time = if self.going.is_empty() {
             self.limits.sweep
         } else {
             Duration::ZERO
@@ -310,21 +343,18 @@ impl<'r, C: Clock, L: Listener + Drop> Server<'r, C, L> {
         Ok(())
     }
 
-    /// Waits until a stream comes or is ready, or for as long as `sweep` of the limits says; gives a turn to each connection that is ready,
-    /// and closes those that took too long. The error comes where the system can't wait, or memory is refused.
+    /// Waits until a stream comes or is ready, or for as long as `sweep` of the limits says. Then each connection that has become ready
+    /// has a turn, and behind these one of those that might have gone on, the longest waiting; and those are closed that took too long.
+    /// The error comes where the system can't wait, or memory is refused.
     pub fn round<S: Service>(&mut self, service: &mut S) -> io::Result<()>
         ensures served { ServesCalls L.streams L.Reader.remaining L.Writer.contents S.answers service.old service.new self.old self.new }
     {
         self.wait()?;
+        let ready = mem::replace(&mut self.ready, Vec::new(self.alloc));
+        let (listener, peers) = (&mut self.listener, &mut self.peers);
+        give_turns(listener, peers, ready, &mut self.going, service, self.now);
+        give_next(listener, peers, &mut self.going, service, self.now);
         self.sweep();
-        give_turns(
-            self.alloc,
-            &mut self.listener,
-            &mut self.peers,
-            &mut self.ready,
-            service,
-            self.now,
-        );
         Ok(())
     }
 

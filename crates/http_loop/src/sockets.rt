@@ -10,6 +10,9 @@ use std::net::{Net, SocketAddr};
 use std::rc::Rc;
 use std::time::Duration;
 
+/// How many streams are reported as ready at once, at most: more than a server has, so that each has its turn before the late are closed.
+const EVENTS: usize = 1024;
+
 /// The token of the listener.
 const LISTENER: Token = Token(usize::MAX);
 
@@ -62,7 +65,7 @@ impl Sockets {
         Ok(Sockets {
             alloc,
             poll,
-            events: Events::with_capacity(alloc, 256)?,
+            events: Events::with_capacity(alloc, EVENTS)?,
             listener,
         })
     }

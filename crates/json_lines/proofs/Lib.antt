@@ -3,3 +3,4 @@ pub mod Whole
 pub mod Playing
 pub mod ApiDepth
 pub mod Precise
+pub mod ByRoot

@@ -74,7 +74,7 @@ all_played roots i moves end h = h ∙ ap (map played_in) (take_all i roots end)
 module _ (ask : Ask) (tables : Tables) (p : Parts) where
   -- ---- one move more
 
-  both_told : (ms ns : List Move) (ts us : List MoveTold) → AreMovesTold ask tables p ms ts → AreMovesTold ask tables p ns us → AreMovesTold ask tables p (ms ++ ns) (ts ++ us)
+  pub both_told : (ms ns : List Move) (ts us : List MoveTold) → AreMovesTold ask tables p ms ts → AreMovesTold ask tables p ns us → AreMovesTold ask tables p (ms ++ ns) (ts ++ us)
   both_told [] ns [] us h k = k
   both_told [] ns (t ∷ ts) us h k = absurd h
   both_told (m ∷ ms) ns [] us h k = absurd h
@@ -104,16 +104,17 @@ and-true : (a : Bool) → (a && true) ≡ a
 and-true true = refl
 and-true false = refl
 
-pub one_more_both : (moves : List MoveTold) (i : ℕ) (m : MoveTold) (all here : Bool) → i < length moves → m ≡ get_or moves i m → all ≡ list_all is_told (take i moves) → here ≡ is_told m → (all && here) ≡ list_all is_told (take (i + 1) moves)
-one_more_both moves i m all here lt is so_far h =
-    let more = take_more moves i m lt ∙ ap (λ x. take i moves ++ x ∷ []) (sym is) in
-    ap (λ (b : Bool). b && here) so_far
-    ∙ ap (λ (b : Bool). list_all is_told (take i moves) && b) (h ∙ sym (and-true (is_told m)))
-    ∙ sym (list_all-append is_told (take i moves) (m ∷ []))
-    ∙ ap (list_all is_told) (sym more)
+module _ {X : Type 0} (test : X → Bool) where
+  pub one_more_passes : (xs : List X) (i : ℕ) (x : X) (all here : Bool) → i < length xs → x ≡ get_or xs i x → all ≡ list_all test (take i xs) → here ≡ test x → (all && here) ≡ list_all test (take (i + 1) xs)
+  one_more_passes xs i x all here lt is so_far h =
+      let more = take_more xs i x lt ∙ ap (λ y. take i xs ++ y ∷ []) (sym is) in
+      ap (λ (b : Bool). b && here) so_far
+      ∙ ap (λ (b : Bool). list_all test (take i xs) && b) (h ∙ sym (and-true (test x)))
+      ∙ sym (list_all-append test (take i xs) (x ∷ []))
+      ∙ ap (list_all test) (sym more)
 
-pub all_both : (moves : List MoveTold) (i : ℕ) (all : Bool) → length moves ≤ i → all ≡ list_all is_told (take i moves) → all ≡ list_all is_told moves
-all_both moves i all end h = h ∙ ap (list_all is_told) (take_all i moves end)
+  pub all_pass : (xs : List X) (i : ℕ) (all : Bool) → length xs ≤ i → all ≡ list_all test (take i xs) → all ≡ list_all test xs
+  all_pass xs i all end h = h ∙ ap (list_all test) (take_all i xs end)
 
 -- ---- texts
 

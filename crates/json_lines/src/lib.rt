@@ -3,8 +3,8 @@
 //! `JsonLine` is what a line tells: why a text is no position, or both probes of a position and the verdict on it, or these with all
 //! legal moves, each with the values of the position after it: the best first, or in the order of moves where the position is out of
 //! scope. `Ask` of judge_core says whether values are the strict ones, or also those that every completion of the missing tables gives.
-//! `put_json_line` writes it. Names and meanings are those of the tablebase API of Lichess, where it has them (FORMATS, section 3.10).
-//! `ApiLine` is what an object of that API itself tells (section 3.13), which also says which distances are precise.
+//! `put_json_line` writes it. Names and meanings are those of the tablebase API of Lichess, where it has them (adjudicate-probes(1)).
+//! `ApiLine` is what an object of that API itself tells (adjudicate-serve(1)), which also says which distances are precise.
 //!
 //! Inside: `told` and `api_told` (what is told), `writing`, `api`, `members` and `text` (objects, members, strings with their escapes).
 //!
@@ -26,6 +26,7 @@
 
 mod api;
 mod api_told;
+mod by_root;
 mod members;
 mod object;
 mod text;

@@ -58,7 +58,7 @@ pub enum JsonLine {
 }
 
 /// The values of a position that stands so for its side to move. Where it is mate they need no table.
-fn probed_after(
+pub(crate) fn probed_after(
     ask: Ask,
     alloc: Global,
     set: &mut Set<'_>,
@@ -81,7 +81,7 @@ fn probed_after(
 }
 
 /// A legal move in standard algebraic notation.
-fn san_of(position: &Position, m: &Move) -> ArrayString<8>
+pub(crate) fn san_of(position: &Position, m: &Move) -> ArrayString<8>
     requires { IsPlayable position.now m.now }
     ensures { result.bytes ≡ san_of position.now m.now }
 {

@@ -30,6 +30,9 @@ use task_files::read_manifest;
 /// How many connections there are at once, at most.
 const CONNECTIONS: usize = 512;
 
+/// How many bytes the body of a request has, at most: enough for a hundred positions.
+const LONGEST_BODY: usize = 16 * 1024;
+
 /// How many decoded blocks of tables are kept, at most.
 const BLOCKS: usize = 4096;
 
@@ -97,9 +100,10 @@ fn server_at<'r, R: Clock + Net + RandomSource>(
     // A peer names the fields of a request, so their maps take secret keys.
     let keys = RandomState::new(rt)?;
     let limits = Limits {
-        // One request of a connection is answered in a turn.
+        // At most two requests of a connection are answered in a turn.
         config: Config {
             max_pending: 0,
+            max_body_len: LONGEST_BODY,
             ..Config::default()
         },
         connections: CONNECTIONS,

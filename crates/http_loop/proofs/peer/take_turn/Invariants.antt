@@ -1,7 +1,8 @@
-use Rattle.std.proofs.Common.{◌≡◌, ℕ, List, ◌++◌}
+use Rattle.std.proofs.Common.{◌≡◌, ◌≤◌, ℕ, List, ◌++◌}
 use Rattle.std.specs.Io.KnownBytes.{Appends, Consumes}
 use Rattle.http_server.specs.Connection.{config_of, history}
 use Rattle.http_server.specs.Exchange.{Calls}
+use Rattle.http_server.specs.declared.state.State.TheVariants.{Aborted}
 use Rattle.http_loop.proofs.peer.take_turn.Given as goal
 
 abbrev pub invariant-loop : goal.invariant-loop
@@ -14,3 +15,4 @@ invariant-loop g l =
     × (new.sent ≡ old.sent ++ more))
     × Calls g.S.Service.answers l.fn.service l.service old.calls new.calls
     × (config_of l.connection ≡ config_of l.fn.connection)
+    × (1 ≤ l.counter → new.state ≡ Aborted → ⊥)

@@ -4,6 +4,6 @@ use Rattle.http_loop.proofs.server.give_turns.Goals as goal
 pub loop-key-init : goal.loop-key-init
 loop-key-init g c = λ config. on_nothing _ _ g.S.Service.answers config _ _ _
 
-pub loop-key-preserved : goal.loop-key-preserved
-loop-key-preserved g c = λ config.
-    on_then _ _ g.S.Service.answers config _ _ _ _ _ _ _ _ _ (c.loop-key.invariant config) (c.give_turn.ensures config)
+pub loop-key-preserved-then-not-goes_on : goal.loop-key-preserved-then-not-goes_on
+loop-key-preserved-then-not-goes_on g c = λ config.
+    on_then _ _ g.S.Service.answers config _ _ _ _ _ _ _ _ _ (c.loop-key.invariant config) (c.give_turn.ensures.served config)

@@ -5,8 +5,8 @@ use Rattle.http_loop.specs.Serving.{IsServing}
 use Rattle.http_loop.proofs.ServingLaws.{after_calls, after_turn}
 use Rattle.http_loop.proofs.server.take_turn_of.Goals as goal
 
-pub returns-in-Some : goal.returns-in-Some
-returns-in-Some g c =
+pub returns-in-Some-clause-served : goal.returns-in-Some-clause-served
+returns-in-Some-clause-served g c =
     let turn = c.take_turn.ensures in
     λ config. (
       turn.calls.0,
@@ -16,5 +16,5 @@ returns-in-Some g c =
           (sym c.get_mut.ensures.value ∙ ap option_copied_mut c.in-Some.is) turn.config turn.read turn.written turn.calls.1 h,
     )
 
-pub returns-in-None : goal.returns-in-None
-returns-in-None g c = λ config. ([], refl, λ calls before h. after_calls _ _ config calls [] before _ _ h)
+pub returns-in-None-clause-served : goal.returns-in-None-clause-served
+returns-in-None-clause-served g c = λ config. ([], refl, λ calls before h. after_calls _ _ config calls [] before _ _ h)

@@ -1,5 +1,5 @@
-use Rattle.std.proofs.Common.{[], refl}
-use Rattle.http_loop.proofs.ServingLaws.{after_calls}
+use Rattle.std.proofs.Common.{◌++◌, [], refl}
+use Rattle.http_loop.proofs.ServingLaws.{after_calls, on_then}
 use Rattle.http_loop.proofs.server.Server.round.Goals as goal
 
 pub returns-in_err-wait : goal.returns-in_err-wait
@@ -7,5 +7,6 @@ returns-in_err-wait g c = record { served = ([], refl, λ calls before h. after_
 
 pub returns : goal.returns
 returns g c =
-    let on = c.give_turns.ensures c.sweep.new.self.limits.config in
-    record { served = (on.0, on.1, λ calls before h. on.2 calls before (c.sweep.ensures calls before (c.wait.ensures calls before h))) }
+    let config = c.wait.new.self.limits.config in
+    let on = on_then _ _ g.S.Service.answers config _ _ _ _ _ _ _ _ _ (c.give_turns.ensures config) (c.give_next.ensures config) in
+    record { served = (on.0, on.1, λ calls before h. c.sweep.ensures (calls ++ on.0) before (on.2 calls before (c.wait.ensures calls before h))) }
