@@ -122,9 +122,11 @@ fn told_of_copies(fault: DatabaseFault) -> StoreFault
     ensures { result ≡ copies_fault_of fault }
 {
     match fault {
-        DatabaseFault::Sqlite(Error::SqliteFailure(
-            ErrorCode::SystemIoFailure | ErrorCode::DiskFull | ErrorCode::Closed,
-        )) => StoreFault::OutOfMemory,
+        DatabaseFault::Sqlite(
+            Error::SqliteFailure(
+                ErrorCode::SystemIoFailure | ErrorCode::DiskFull | ErrorCode::Closed,
+            ),
+        ) => StoreFault::OutOfMemory,
         _ => told(fault),
     }
 }
