@@ -9,7 +9,7 @@
 //! It meets all clauses of `System` by facts that say something, so it also shows that those clauses can be met. Only which records the two
 //! files of a store hold isn't stated: `stored` gives none.
 //!
-//! Inside: `recorded`, `memory_timeline`, `memory_file`, `memory_port`, `memory_store`, `memory_system`; `tests`.
+//! Inside: `recorded`, `memory_timeline`, `memory_file`, `memory_port`, `memory_store`, `memory_system`.
 //!
 //! Definitions, in reading order: `Memories` (`event_of`, `events_in`, `memory_outside`); `MemoryLaws`.
 //!
@@ -23,8 +23,6 @@ mod memory_store;
 mod memory_system;
 mod memory_timeline;
 mod recorded;
-#[cfg(test)]
-mod tests;
 
 pub use memory_file::{KeptStart, MemoryFile};
 pub use memory_port::{MemoryPort, Turn};
