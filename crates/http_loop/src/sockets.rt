@@ -10,7 +10,7 @@ use std::net::{Net, SocketAddr};
 use std::rc::Rc;
 use std::time::Duration;
 
-/// How many streams are reported as ready at once, at most: more than a server has, so that each has its turn before the late are closed.
+/// How many streams are reported as ready at once, at most: more than a server has.
 const EVENTS: usize = 1024;
 
 /// The token of the listener.

@@ -85,7 +85,7 @@ pub trait System {
         ensures cause { IsErrOf result ReadFault.Unreadable → (outside self.now).disk.fails (AtFile path.now) ⊎ HasMore (outside self.now).disk path.now most }
         ensures made { Adds (outside self.now) timeline.old timeline.new (FileRead path.now (bytes_read result) ∷ []) };
 
-    /// The same of a file that need not be there, so that nothing is reported where it can't be read.
+    /// All bytes, at most this many, of a file that need not be there, so that nothing is reported where it can't be read.
     fn look_within(
         &self,
         timeline: &mut Self::Timeline,
