@@ -39,4 +39,3 @@ mod version;
 pub use machine::Machine;
 pub use pages::Pages;
 pub use program::{refuse_memory, run, run_program};
-pub use version::answer;

@@ -12,7 +12,7 @@ const TEXT: &str = "adjudicate 1.0.0
 ";
 
 /// Writes the version as a line, and returns the status 0.
-pub fn answer<W: Output>(task: &Version, out: &mut W) -> Result<u8, WriteFault>
+pub(crate) fn answer<W: Output>(task: &Version, out: &mut W) -> Result<u8, WriteFault>
     ensures told { Answers (W.contents out.old) (W.contents out.new) result }
     ensures cause { OnErr result (HasFailed W.facts) }
 {
