@@ -21,6 +21,7 @@
 //! - CLAIM: `tell_lines`, clause `quiet`: without progress nothing is written to the second writer.
 //! - CLAIM: `LineWords::put`, clauses `front`, `cause`: a line that is laid out is written with its line feed, or, only where the writer
 //!   may refuse a write at that moment, a front of it; laying it out never fails.
+//! - CLAIM: `LineWords::write`, clauses `made`, `cause`: the same to a stream of a system, by one write; nothing else happens outside.
 #![tactic(auto)]
 
 mod line_words;

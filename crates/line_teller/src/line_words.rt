@@ -4,12 +4,15 @@ ghost use Rattle.std.specs.Prelude.{◌≡◌, ◌≤◌, ◌+◌, ◌++◌, [],
 ghost use Rattle.hex.specs.Hex.{encode_lower};
 ghost use Rattle.move_msg.specs.TextLines.{ended};
 ghost use Rattle.system_io.specs.Outputs.{WritesFront};
+ghost use Rattle.timeline.specs.Events.{IsWritten};
+ghost use Rattle.timeline.specs.Outsides.{AddsSome};
 
 use arrayvec::ArrayVec;
 use itoa::{Buffer, Integer};
 use move_msg::Stamp;
 use std::marker::Model;
 use system_io::{Output, WriteFault};
+use timeline::{Stream, System};
 
 /// The words of a line, at most 255 bytes, without its line feed; contracts see these bytes. They take no memory, and a caller shows
 /// that they fit, so laying out a line never fails.
@@ -108,5 +111,22 @@ impl LineWords {
         let mut text = bytes;
         text.push(b'\n');
         out.put(text.as_slice())
+    }
+
+    /// Writes the line at once to a stream of a system, with its line feed. An error comes only where a write may be refused; a front
+    /// of the line is written then.
+    pub fn write<S: System>(
+        self,
+        system: &S,
+        timeline: &mut S::Timeline,
+        to: Stream,
+    ) -> Result<(), WriteFault>
+        ensures made { AddsSome (S.outside system.now) timeline.old timeline.new (IsWritten to (ended self) result) }
+        ensures cause { OnErr result ((S.outside system.now).output timeline.old to).refuses }
+    {
+        let LineWords { bytes } = self;
+        let mut text = bytes;
+        text.push(b'\n');
+        system.write(timeline, to, text.as_slice())
     }
 }

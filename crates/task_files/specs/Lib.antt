@@ -3,4 +3,5 @@ pub mod Outside
 pub mod Given
 pub mod Sources
 pub mod Made
+pub mod TableReads
 pub mod Inside

@@ -5,9 +5,12 @@
 //! `files_in` keeps them whole. Names rise in the order of bytes, and a name that is listed twice is a fault of the folder. With a
 //! manifest only the files that it names are wanted.
 //!
-//! Inside: `sources` (all that is read), `reading` (the wanted files of a folder), `file_name`.
+//! `read_tables` does so over a `System` with a timeline, for the commands that have gone over to it.
 //!
-//! Definitions, in reading order: `FileNames`, `Outside` (`AreNamesIn`, `AreFilesIn`), `Made`, `Given`, `Sources` (`IsGiven`, `CannotRead`).
+//! Inside: `sources` (all that is read), `reading` (the wanted files of a folder), `table_reading` (the same over a timeline), `file_name`.
+//!
+//! Definitions, in reading order: `FileNames`, `Outside` (`AreNamesIn`, `AreFilesIn`), `Made`, `Given`, `Sources` (`IsGiven`, `CannotRead`);
+//! `TableReads` (`ListsTables`, `ReadsFolder`).
 //! Its cases stand in `folders.txt` and `disk.txt` of `rows`.
 //!
 //! - CLAIM: `files_in`, clauses `ok`, `files`, `cause`: the files of a folder are exactly its wanted names, each once and in
@@ -18,12 +21,16 @@
 //! - CLAIM: `Inputs::read`, clauses `given`, `cause`, `memory`, `some`: what is read for a task is what its places name. The
 //!   error comes only where one of these fails, a kept file has more than 8217 bytes, a wanted file is listed twice, or memory is
 //!   refused to a reading of a folder or a file or to an input that takes memory; there is none where nothing is named.
+//! - CLAIM: `list_tables`, `read_table`, `read_tables`: what happens outside while the files of a folder are read, all of it and in order:
+//!   the folder is listed once, then each wanted file is read once, in rising order of names, up to the first that can't be.
 #![tactic(auto)]
 
 mod file_name;
 mod reading;
 mod sources;
+mod table_reading;
 
 pub use file_name::FileName;
 pub use reading::{TableRequest, files_in, looks_in, names_in, read_file};
 pub use sources::{InputPaths, Inputs, read_manifest};
+pub use table_reading::{list_tables, read_table, read_tables};

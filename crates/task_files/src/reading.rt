@@ -89,7 +89,7 @@ fn add_name(names: &mut Vec<FileName>, name: FileName) -> Result<(), ReadFault>
 }
 
 /// The names of table files that are wanted, in rising order; `Unreadable` where one is listed twice.
-fn wanted_names(
+pub(crate) fn wanted_names(
     alloc: Global,
     names: &[String],
     manifest: &Manifest,
