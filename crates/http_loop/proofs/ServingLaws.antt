@@ -4,7 +4,7 @@ use Rattle.std.proofs.lemmas.List.Sums.{sum_by-cons}
 use Rattle.std.proofs.lemmas.Bool.{cases_eq}
 use Rattle.std.proofs.lemmas.List.Elements.{All-nil, All-cons, All-append, Contains-append_left, Contains-append_right, All-contains_itself}
 use Rattle.std.specs.Io.KnownBytes.{Appends, Consumes}
-use Rattle.slab.specs.Slab.{ContainsKey, Slab, Updates, get, slab_len, with_value}
+use Rattle.slab.specs.Slab.{Slab, Updates, get, with_value}
 use Rattle.slab.proofs.SlabLemmas.{Updates-with_value}
 use Rattle.http.specs.declared.request.Request.{Request}
 use Rattle.http_server.specs.declared.response.Response.{Response}
@@ -23,7 +23,7 @@ use Rattle.http_server.proofs.StreamLemmas.{Chain-append}
 use Rattle.http_server.proofs.Theorems.{always_served}
 use Rattle.http_loop.specs.declared.peer.Peer.{Peer}
 use Rattle.http_loop.specs.Streams.{Closed, Closes, HasNoOpen, Opens, Stays, Stream, Streams, closed_of, stream_of}
-use Rattle.http_loop.specs.Serving.{AllServed, AreServed, HaveSame, HaveSameEnds, IsPeerOf, IsServedOver, IsServing, IsTheSame, Serves, ServesOn}
+use Rattle.http_loop.specs.Serving.{AreServed, HaveSame, HaveSameEnds, IsPeerOf, IsServedOver, IsServing, IsTheSame, Serves, ServesOn}
 
 Consumes-none : (u : Option (List ℕ)) → Consumes u u []
 Consumes-none None = tt

@@ -1,6 +1,5 @@
-use Rattle.std.proofs.Common.{◌≡◌, ℕ, Option, List, Some, None, ap, refl, sym, subst, ◌∙◌}
-use Rattle.slab.specs.Slab.{Slab, Updates}
-use Rattle.http_loop.specs.Streams.{Opens, stream_of}
+use Rattle.std.proofs.Common.{ℕ, Some, refl, sym, subst, ◌∙◌}
+use Rattle.slab.specs.Slab.{Updates}
 use Rattle.http_loop.proofs.ServingLaws.{after_accept, after_reserve, new_is_peer}
 use Rattle.http_loop.proofs.server.accept_one.Goals as goal
 

@@ -1,10 +1,8 @@
-use Rattle.std.proofs.Common.{◌≡◌, [], sym, ap, refl, subst, List, ◌++◌, ◌∙◌, append-nil}
+use Rattle.std.proofs.Common.{◌≡◌, [], sym, ap, refl, ◌∙◌}
 use Rattle.std.specs.Option.{option_copied_mut}
 use Rattle.http_server.specs.Connection.{config_of, history}
-use Rattle.http_server.specs.Exchange.{Call}
 use Rattle.http_server.specs.History.{Rests}
 use Rattle.http_loop.specs.declared.peer.Fate.TheVariants.{Waits}
-use Rattle.http_loop.specs.Serving.{IsServing}
 use Rattle.http_loop.proofs.ServingLaws.{after_calls, after_turn, at_with_value, count_set}
 use Rattle.http_loop.proofs.server.take_turn_of.Goals as goal
 

@@ -1,4 +1,4 @@
-use Rattle.std.proofs.Common.{◌≡◌, ◌++◌, ◌∙◌, [], ap, arith, refl}
+use Rattle.std.proofs.Common.{◌++◌, ◌∙◌, [], ap, arith, refl}
 use Rattle.http_loop.specs.declared.server.Limits.{Limits}
 use Rattle.http_loop.proofs.ServingLaws.{after_calls, on_then}
 use Rattle.http_loop.proofs.server.Server.round.Goals as goal
