@@ -1,16 +1,18 @@
 -- What each step of a server keeps.
-use Rattle.std.proofs.Common.{◌≡◌, length, ℕ, List, [], ◌∷◌, ◌++◌, Option, Some, None, All, Contains, refl, sym, ap, subst, ◌∙◌, inl, inr, append_assoc, append-nil, get_or}
+use Rattle.std.proofs.Common.{◌≡◌, arith, cond, count_by, is_some, length, ℕ, zero, suc, List, [], ◌∷◌, ◌++◌, Option, Some, None, All, Contains, refl, sym, ap, subst, ◌∙◌, inl, inr, append_assoc, append-nil, get_or, set}
+use Rattle.std.proofs.lemmas.List.Sums.{sum_by-cons}
 use Rattle.std.proofs.lemmas.Bool.{cases_eq}
 use Rattle.std.proofs.lemmas.List.Elements.{All-nil, All-cons, All-append, Contains-append_left, Contains-append_right, All-contains_itself}
 use Rattle.std.specs.Io.KnownBytes.{Appends, Consumes}
-use Rattle.slab.specs.Slab.{Slab, get, with_value, Updates}
+use Rattle.slab.specs.Slab.{Slab, Updates, get, with_value}
 use Rattle.slab.proofs.SlabLemmas.{Updates-with_value}
 use Rattle.http.specs.declared.request.Request.{Request}
 use Rattle.http_server.specs.declared.response.Response.{Response}
 use Rattle.http_server.specs.Connection.{config_of, history}
 use Rattle.http_server.specs.Exchange.{Call}
 use Rattle.std.proofs.Math.Logic.{∥∥₁_elim}
-use Rattle.http_server.specs.History.{History, IsDone, IsServed, Stands, new_history}
+use Rattle.http_server.specs.History.{History, IsDone, IsServed, Rests, Stands, new_history}
+use Rattle.std.specs.Prelude.{IfSome}
 use Rattle.http_server.specs.declared.state.State.{State}
 use Rattle.http_server.specs.declared.state.State.TheVariants.{Aborted}
 use Rattle.http_loop.specs.declared.peer.Fate.{Fate}
@@ -21,7 +23,7 @@ use Rattle.http_server.proofs.StreamLemmas.{Chain-append}
 use Rattle.http_server.proofs.Theorems.{always_served}
 use Rattle.http_loop.specs.declared.peer.Peer.{Peer}
 use Rattle.http_loop.specs.Streams.{Closed, Closes, HasNoOpen, Opens, Stays, Stream, Streams, closed_of, stream_of}
-use Rattle.http_loop.specs.Serving.{AllServed, AreServed, IsPeerOf, IsServedOver, IsServing, Serves, ServesOn}
+use Rattle.http_loop.specs.Serving.{AreServed, HaveSame, HaveSameEnds, IsPeerOf, IsServedOver, IsServing, IsTheSame, Serves, ServesOn}
 
 Consumes-none : (u : Option (List ℕ)) → Consumes u u []
 Consumes-none None = tt
@@ -33,6 +35,72 @@ Appends-none (Some xs) = sym (append-nil xs)
 
 pub All-imp : {X : Type 0} (P Q : X → Type 0) (xs : List X) → ((x : X) → P x → Q x) → All P xs → All Q xs
 All-imp P Q xs f all = λ k d within. f _ (all k d within)
+
+-- a write under a key that has a value leaves as many
+pub count_set : {T : Type 0} (slots : List (Option T)) (key : ℕ) (old value : T) → get_or slots key None ≡ Some old
+    → count_by is_some (set slots key (Some value)) ≡ count_by is_some slots
+count_set [] key old value found = absurd (cc)
+count_set (None ∷ rest) zero old value found = absurd (cc)
+count_set {T} (Some was ∷ rest) zero old value found =
+    let one : Option T → ℕ = λ o. cond (is_some o) 1 0 in
+    omega (arith, sum_by-cons one (Some value) rest, sum_by-cons one (Some was) rest)
+count_set {T} (slot ∷ rest) (suc key) old value found =
+    let one : Option T → ℕ = λ o. cond (is_some o) 1 0 in
+    omega (arith, count_set rest key old value found, sum_by-cons one slot (set rest key (Some value)), sum_by-cons one slot rest)
+
+-- what holds of a value holds of the one under its key, once it is written there
+pub at_with_value : {T : Type 0} (s : Slab T) (key : ℕ) (was is : T) (P : T → Type 0) → get s key ≡ Some was → P is → IfSome (get (with_value s key is) key) P
+at_with_value {T} s key was is P found p =
+    let updates = Updates-with_value s key is (rw found refl) in
+    subst (λ (o : Option T). IfSome o P) (sym updates.changed) p
+
+-- a connection to which nothing happened rests as before
+pub rests_still : (config config' : Config) (h h' : History) → config' ≡ config → h' ≡ h → Rests config h → Rests config' h'
+rests_still config config' h h' same still rests =
+    subst (λ (k : Config). Rests k h') (sym same) (subst (λ (x : History). Rests config x) (sym still) rests)
+
+module _ {R W : Type 0} where
+  same_one : (peer : Option (Peer R W)) → HaveSame peer peer
+  same_one None = tt
+  same_one (Some peer) = record { reader = refl; writer = refl; connection = refl }
+
+  same_then : (a b c : Option (Peer R W)) → HaveSame a b → HaveSame b c → HaveSame a c
+  same_then None None None x y = tt
+  same_then None None (Some c) x y = y
+  same_then None (Some b) c x y = absurd x
+  same_then (Some a) None c x y = absurd x
+  same_then (Some a) (Some b) None x y = y
+  same_then (Some a) (Some b) (Some c) x y = record {
+    reader = y.reader ∙ x.reader;
+    writer = y.writer ∙ x.writer;
+    connection = y.connection ∙ x.connection;
+  }
+
+  pub same_all : (peers : Slab (Peer R W)) → HaveSameEnds peers peers
+  same_all peers = record { each = λ key. same_one (get peers key); count = refl }
+
+  pub same_after : (a b c : Slab (Peer R W)) → HaveSameEnds a b → HaveSameEnds b c → HaveSameEnds a c
+  same_after a b c x y = record {
+    each = λ key. same_then (get a key) (get b key) (get c key) (x.each key) (y.each key);
+    count = y.count ∙ x.count;
+  }
+
+  -- one has the same ends
+  pub same_with : (peers : Slab (Peer R W)) (key : ℕ) (was is : Peer R W) → get peers key ≡ Some was → IsTheSame was is
+      → HaveSameEnds peers (with_value peers key is)
+  same_with peers key was is found same =
+      let updates = Updates-with_value peers key is (rw found refl) in
+      let here : HaveSame (get peers key) (get (with_value peers key is) key) =
+      subst (λ (o : Option (Peer R W)). HaveSame o (get (with_value peers key is) key)) (sym found)
+      (subst (λ (o : Option (Peer R W)). HaveSame (Some was) o) (sym updates.changed) same) in
+      record {
+        each = λ other.
+            elim (cases_eq other key) [
+              | inl at ↦ subst (λ (k : ℕ). HaveSame (get peers k) (get (with_value peers key is) k)) (sym at) here
+              | inr differs ↦ subst (HaveSame (get peers other)) (sym (updates.others other differs)) (same_one (get peers other))
+            ];
+        count = count_set peers.slots key was is found;
+      }
 
 module _ {R W : Type 0} (remaining : R → Option (List ℕ)) (contents : W → Option (List ℕ)) (config : Config) (calls : List Call) where
   -- where a peer is, its stream has come
@@ -105,6 +173,30 @@ module _ {R W : Type 0} (remaining : R → Option (List ℕ)) (contents : W → 
         closed = opens'.closed ∙ h.closed;
         served = h.served;
       }
+
+  serves_same : (a : Option Stream) (b b' : Option (Peer R W)) → HaveSame b b' → Serves remaining contents config calls a b → Serves remaining contents config calls a b'
+  serves_same None None None same s = tt
+  serves_same (Some came) None None same s = s
+  serves_same a None (Some new) same s = absurd same
+  serves_same a (Some old) None same s = absurd same
+  serves_same None (Some old) (Some new) same s = absurd s
+  serves_same (Some came) (Some old) (Some new) same s = record {
+    limits = rw same.connection s.limits;
+    received = rw (same.reader, same.connection) s.received;
+    sent = rw (same.writer, same.connection) s.sent;
+    among = rw same.connection s.among;
+  }
+
+  -- the ends and connections are the same
+  pub after_same : (before : List Closed) (known : Option Streams) (peers peers' : Slab (Peer R W)) → HaveSameEnds peers peers'
+      → IsServing remaining contents config calls before known peers → IsServing remaining contents config calls before known peers'
+  after_same before None peers peers' same h = tt
+  after_same before (Some known) peers peers' same h = record {
+    opened = λ key. serves_same (known.opened key) (get peers key) (get peers' key) (same.each key) (h.opened key);
+    since = h.since;
+    closed = h.closed;
+    served = h.served;
+  }
 
   -- nothing has come or gone
   pub after_nothing : (before : List Closed) (known known' : Option Streams) (peers : Slab (Peer R W)) → Stays known known'

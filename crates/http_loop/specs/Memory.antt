@@ -13,6 +13,10 @@ closed_stream left = record {
   left = record { gives = cursor_remaining (λ v. Some v.items) left.reader; got = Some left.writer.items };
 }
 
+-- those that have still to come
+abbrev pub coming_at : MemoryListener → List Coming
+coming_at listener = listener.coming.items
+
 abbrev pub closed_in : MemoryListener → List Left
 closed_in listener = listener.closed.items
 

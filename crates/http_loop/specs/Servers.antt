@@ -1,9 +1,11 @@
 -- What a clause reads of a server.
-use Rattle.std.specs.Prelude.{ℕ, List, ◌++◌, Option}
+use Rattle.std.specs.Prelude.{◌≡◌, ◌≤◌, ℕ, List, ◌++◌, Option}
+use Rattle.slab.specs.Slab.{slab_len}
 use Rattle.http.specs.declared.request.Request.{Request}
 use Rattle.http_server.specs.Exchange.{Call, Chain}
 use Rattle.http_server.specs.declared.response.Response.{Response}
 use Rattle.http_server.specs.declared.state.Config.{Config}
+use Rattle.http_loop.specs.declared.server.Limits.{Limits}
 use Rattle.http_loop.specs.declared.server.Server.{Server}
 use Rattle.http_loop.specs.Serving.{IsServing}
 use Rattle.http_loop.specs.Streams.{Closed, Streams}
@@ -11,6 +13,18 @@ use Rattle.http_loop.specs.Streams.{Closed, Streams}
 module _ {C L R W : Type 0} where
   abbrev pub listener_of : Server C L R W → L
   listener_of server = server.listener
+
+  abbrev pub limits_of : Server C L R W → Limits
+  limits_of server = server.limits
+
+  -- how many connections there are
+  abbrev pub count_of : Server C L R W → ℕ
+  count_of server = slab_len server.peers
+
+  -- The limits are the same, and where there were no more connections than they say, there are no more now.
+  pub record KeepsLimits (old new : Server C L R W) : Type 0 where
+    pub same : limits_of new ≡ limits_of old
+    pub few : count_of old ≤ (limits_of old).connections → count_of new ≤ (limits_of old).connections
 
   -- the limits of each connection
   abbrev pub config_of : Server C L R W → Config

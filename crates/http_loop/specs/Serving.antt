@@ -1,7 +1,7 @@
 -- What passes over the streams of a listener, whose connections are served in turn.
 use Rattle.std.specs.Prelude.{◌≡◌, ℕ, List, ◌++◌, Option, Some, None, All, Contains}
 use Rattle.std.specs.Io.KnownBytes.{Appends, Consumes}
-use Rattle.slab.specs.Slab.{Slab, get}
+use Rattle.slab.specs.Slab.{Slab, get, slab_len}
 use Rattle.http.specs.declared.request.Request.{Request}
 use Rattle.http_server.specs.Connection.{config_of, history}
 use Rattle.http_server.specs.Exchange.{Call, Chain}
@@ -23,6 +23,24 @@ pub record IsServedOver (config : Config) (calls : List Call) (came left : Strea
 -- so it is of each of these streams
 abbrev pub AreServed : Config → List Call → List Closed → Type 0
 AreServed config calls streams = All (λ c. IsServedOver config calls c.came c.left) streams
+
+module _ {R W : Type 0} where
+  -- its ends and its connection are the same
+  pub record IsTheSame (old new : Peer R W) : Type 0 where
+    pub reader : new.reader ≡ old.reader
+    pub writer : new.writer ≡ old.writer
+    pub connection : new.connection ≡ old.connection
+
+  abbrev pub HaveSame : Option (Peer R W) → Option (Peer R W) → Type 0
+  HaveSame None None = Unit {0}
+  HaveSame None (Some new) = ⊥
+  HaveSame (Some old) None = ⊥
+  HaveSame (Some old) (Some new) = IsTheSame old new
+
+  -- under each key stands the same, and there are as many
+  pub record HaveSameEnds (old new : Slab (Peer R W)) : Type 0 where
+    pub each : (key : ℕ) → HaveSame (get old key) (get new key)
+    pub count : slab_len new ≡ slab_len old
 
 module _ {R W : Type 0} (remaining : R → Option (List ℕ)) (contents : W → Option (List ℕ)) where
   -- a peer whose stream came so: what passed over the stream is what passed through its connection

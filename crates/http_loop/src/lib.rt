@@ -6,16 +6,22 @@
 //! connection reads, answers and writes until its stream would wait, or what waited to be sent has gone out twice, with so many calls at
 //! most. A connection answers no request while bytes wait to be sent beyond what its `Config` says; with `max_pending` 0 that is two
 //! requests a turn. One that could have gone on waits in a queue, of which one has its turn in each round, behind all others: so one that
-//! pipelines holds up none that doesn't. A connection to which memory for an answer is refused is closed in that turn.
+//! pipelines holds up none that doesn't. A connection to which memory for an answer is refused is closed in that turn. Where there are as
+//! many connections as may be, one more takes the place of the one that has waited longest, so that silent ones lock nobody out. Time in
+//! which the process didn't run counts for none. What still comes at a socket that was closed is passed over for a while, so that the last
+//! answer isn't lost.
 //!
 //! Definitions, in reading order: `Streams`, `Serving`, `Servers`; `Memory`; `Premises`.
 //!
 //! - CLAIM: `Server::round`, clause `served`; `Server::new`, clause `served`; `Server::close`, clauses `served`, `closed`: over a
 //!   listener whose streams are known, what each stream gave is what one connection received, and what it got is what this connection sent,
 //!   also of those that were closed; each of its calls is one that was made of the service, in the chain of all its calls.
-//! - CLAIM: `take_turn`, clauses `read`, `written`, `calls`, `aborted`: in a turn a connection received what its reader gave, its writer
-//!   got what it handed out, and its calls are those of the service. Where memory for an answer was refused it ends.
-//! - CLAIM: `MemoryListener`, clause `streams`: a listener in memory tells how each stream came and was left.
+//! - CLAIM: `Server::round`, clause `few`; `Server::new`, clauses `limits`, `none`: there are never more connections than the limits say.
+//! - CLAIM: the private `take_turn`, clauses `read`, `written`, `calls`, `aborted`, `rests`: in a turn a connection received what its reader
+//!   gave, its writer got what it handed out, and its calls are those of the service. Where memory for an answer was refused it ends. One
+//!   that waits behind it has answered each whole request that it received, unless bytes wait to be sent.
+//! - CLAIM: `MemoryListener`, clause `streams`; `MemoryListener::new`, clauses `known`, `coming`: a listener in memory shows how each stream
+//!   came and was left, from the first one on.
 #![tactic(auto)]
 
 mod listener;
@@ -26,6 +32,6 @@ mod sockets;
 
 pub use listener::Listener;
 pub use memory::{Coming, Left, MemoryListener};
-pub use peer::{Fate, Peer, Turn, take_turn};
+pub use peer::Peer;
 pub use server::{Limits, Server};
 pub use sockets::{Incoming, Outgoing, Sockets};

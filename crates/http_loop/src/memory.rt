@@ -1,6 +1,6 @@
 //! A listener in memory.
 
-ghost use Rattle.std.specs.Prelude.{◌≡◌, IfOk, Some};
+ghost use Rattle.std.specs.Prelude.{◌≡◌, [], IfOk, IsSome, Some};
 ghost use Rattle.std.specs.Io.Cursor.{cursor_remaining};
 ghost use Rattle.http_loop.specs.Ends.{coming_stream};
 ghost use Rattle.http_loop.specs.Streams.{stream_of};
@@ -52,7 +52,7 @@ fn ends_of(alloc: Global, coming: &Coming) -> Result<(Cursor<Vec<u8>>, Vec<u8>),
 }
 
 impl MemoryListener {
-    ghost use Rattle.http_loop.specs.Memory.{closed_in, memory_streams};
+    ghost use Rattle.http_loop.specs.Memory.{closed_in, coming_at, memory_streams};
     ghost use Rattle.http_loop.specs.Streams.{HasNoOpen};
 
     /// A listener at which these come, with so many keys at most. The error comes where memory is refused.
@@ -61,7 +61,10 @@ impl MemoryListener {
         coming: Vec<Coming>,
         keys: usize,
     ) -> Result<MemoryListener, AllocError>
-        ensures { IfOk result (λ listener. HasNoOpen (memory_streams listener)) }
+        ensures none { IfOk result (λ listener. HasNoOpen (memory_streams listener)) }
+        ensures known { IfOk result (λ listener. IsSome (memory_streams listener)) }
+        ensures coming { IfOk result (λ listener. coming_at listener ≡ coming.items) }
+        ensures closed { IfOk result (λ listener. closed_in listener ≡ []) }
     {
         let mut opened = Vec::new(alloc);
         for _ in 0..keys {

@@ -4,7 +4,7 @@ ghost use Rattle.std.specs.Prelude.{◌≡◌, ◌≤◌, ℕ, List, ◌++◌, f
 ghost use Rattle.std.specs.Io.KnownBytes.{Appends, Consumes};
 ghost use Rattle.http_server.specs.Connection.{config_of, history};
 ghost use Rattle.http_server.specs.Exchange.{Calls};
-ghost use Rattle.http_server.specs.History.{IsDone};
+ghost use Rattle.http_server.specs.History.{IsDone, Rests};
 
 use http_server::{Connection, Service, State};
 use std::io;
@@ -13,7 +13,7 @@ use std::time::Instant;
 
 /// What becomes of a connection after a turn.
 #[derive(Clone, Copy, Debug, PartialEq, Eq)]
-pub enum Fate {
+pub(crate) enum Fate {
     /// Its socket would wait.
     Waits,
     /// It may go on at once, and others come first.
@@ -24,13 +24,13 @@ pub enum Fate {
 
 /// What a turn, or a step of it, came to.
 #[derive(Clone, Copy, Debug, PartialEq, Eq)]
-pub struct Turn {
+pub(crate) struct Turn {
     /// What becomes of the connection.
-    pub fate: Fate,
+    pub(crate) fate: Fate,
     /// Whether all that waited to be sent went out in it.
-    pub has_sent: bool,
+    pub(crate) has_sent: bool,
     /// Whether some bytes came in it.
-    pub has_read: bool,
+    pub(crate) has_read: bool,
 }
 
 /// A connection with the two ends of its stream.
@@ -92,6 +92,7 @@ fn step<R: Read, W: Write>(connection: &mut Connection, reader: &mut R, writer: 
     ensures calls { (history connection.new).calls ≡ (history connection.old).calls }
     ensures state { (history connection.new).state ≡ (history connection.old).state }
     ensures done { IsDone (history connection.old) → result.fate ≡ Fate.Ends }
+    ensures waits { result.fate ≡ Fate.Waits → history connection.new ≡ history connection.old }
     ensures config { config_of connection.new ≡ config_of connection.old }
 {
     if connection.is_done() {
@@ -120,7 +121,7 @@ fn step<R: Read, W: Write>(connection: &mut Connection, reader: &mut R, writer: 
 
 /// Answers, reads and writes until the socket would wait or the connection is done, or until what waited to be sent has gone out twice,
 /// with at most so many calls of the system. Where memory for an answer is refused the connection ends.
-pub fn take_turn<S: Service, R: Read, W: Write>(
+pub(crate) fn take_turn<S: Service, R: Read, W: Write>(
     connection: &mut Connection,
     service: &mut S,
     reader: &mut R,
@@ -136,6 +137,7 @@ pub fn take_turn<S: Service, R: Read, W: Write>(
     ensures calls { Calls S.answers service.old service.new
         (history connection.old).calls (history connection.new).calls }
     ensures aborted { 1 ≤ most → (history connection.new).state ≡ State.Aborted → result.fate ≡ Fate.Ends }
+    ensures rests { result.fate ≡ Fate.Waits → Rests (config_of connection.new) (history connection.new) }
     ensures config { config_of connection.new ≡ config_of connection.old }
 {
     let mut has_sent = false;
@@ -181,6 +183,7 @@ impl<R: Read + Drop, W: Write + Drop> Peer<R, W> {
         ensures calls { Calls S.answers service.old service.new
             (history self.old.connection).calls (history self.new.connection).calls }
         ensures aborted { 1 ≤ most → (history self.new.connection).state ≡ State.Aborted → result ≡ Fate.Ends }
+        ensures rests { result ≡ Fate.Waits → Rests (config_of self.new.connection) (history self.new.connection) }
         ensures config { config_of self.new.connection ≡ config_of self.old.connection }
     {
         let turn = take_turn(

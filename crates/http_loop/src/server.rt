@@ -1,12 +1,12 @@
 //! The connections of one listener.
 
-ghost use Rattle.std.specs.Prelude.{◌≡◌, ◌≢◌, ℕ, List, [], IfOk, IfSome, None, Some};
-ghost use Rattle.slab.specs.Slab.{Updates, get};
+ghost use Rattle.std.specs.Prelude.{◌≡◌, ◌≢◌, ◌+◌, ◌≤◌, ℕ, List, [], IfOk, IfSome, None, Some};
+ghost use Rattle.slab.specs.Slab.{ContainsKey, Updates, get, slab_len};
 ghost use Rattle.http_server.specs.Connection.{config_of, history};
-ghost use Rattle.http_server.specs.History.{new_history};
+ghost use Rattle.http_server.specs.History.{Rests, new_history};
 ghost use Rattle.http_server.specs.Exchange.{Call};
-ghost use Rattle.http_loop.specs.Servers.{HasServed, ServesCalls, ServesStill, listener_of};
-ghost use Rattle.http_loop.specs.Serving.{ServesOn, StillServes};
+ghost use Rattle.http_loop.specs.Servers.{HasServed, KeepsLimits, ServesCalls, ServesStill, count_of, limits_of, listener_of};
+ghost use Rattle.http_loop.specs.Serving.{HaveSameEnds, ServesOn, StillServes};
 ghost use Rattle.http_loop.specs.Streams.{Closed, HasNoOpen, closed_of};
 
 use crate::listener::Listener;
@@ -31,11 +31,12 @@ const COMING: usize = 64;
 pub struct Limits {
     /// Of each connection.
     pub config: Config,
-    /// How many connections there are at once, at most.
+    /// How many connections there are at once, at most. One more takes the place of the one that has waited longest.
     pub connections: usize,
     /// How long a connection may wait for the first byte of a request, and then for its last one, its answer and for that to be taken.
     pub exchange: Duration,
-    /// How often connections are looked through for those that have taken longer.
+    /// How often connections are looked through for those that have taken longer. Where a round took more than twice as long, as one does
+    /// in which the process was stopped, that time is counted for none of them.
     pub sweep: Duration,
 }
 
@@ -81,6 +82,8 @@ fn close_one<L: Listener>(
 )
     ensures served { (config : Config) → StillServes L.Reader.remaining L.Writer.contents config (L.streams listener.old) peers.old (L.streams listener.new) peers.new }
     ensures gone { Updates peers.old peers.new key None }
+    ensures fewer { slab_len peers.new ≤ slab_len peers.old }
+    ensures one { ContainsKey peers.old key → slab_len peers.new + 1 ≡ slab_len peers.old }
     ensures capacity { peers.new.capacity ≡ peers.old.capacity }
 {
     if let Some(peer) = peers.try_remove(key) {
@@ -110,20 +113,49 @@ fn new_peer<R: Read + Drop, W: Write + Drop>(
     }
 }
 
-/// Accepts one stream that has come, for a connection of its own. One more than there may be is closed.
+/// Whether a connection has waited longer than since then, for a request or in one. One that waits for a turn hasn't.
+fn waits_longer<R: Drop, W: Drop>(peer: &Peer<R, W>, since: Option<Instant>) -> bool {
+    match since {
+        _ if peer.goes_on => false,
+        Some(since) => peer.since < since,
+        None => true,
+    }
+}
+
+/// The connection that has waited longest, or this one where each of them waits for a turn.
+fn longest_waiting<R: Drop, W: Drop>(peers: &Slab<Peer<R, W>>, newest: usize) -> usize
+    ensures { ContainsKey peers.now newest → ContainsKey peers.now result }
+{
+    let mut longest = newest;
+    let mut since = None;
+    for key in 0..peers.capacity() {
+        if let Some(peer) = peers.get(key) {
+            if waits_longer(peer, since) {
+                longest = key;
+                since = Some(peer.since);
+            }
+        }
+    }
+    longest
+}
+
+/// Accepts one stream that has come, for a connection of its own. One more than there may be takes the place of the one that has waited
+/// longest.
 fn accept_one<L: Listener>(
     beginning: Beginning,
     listener: &mut L,
     peers: &mut Slab<Peer<L::Reader, L::Writer>>,
 ) -> io::Result<()>
-    ensures { StillServes L.Reader.remaining L.Writer.contents beginning.limits.config (L.streams listener.old) peers.old (L.streams listener.new) peers.new }
+    ensures served { StillServes L.Reader.remaining L.Writer.contents beginning.limits.config (L.streams listener.old) peers.old (L.streams listener.new) peers.new }
+    ensures few { slab_len peers.old ≤ beginning.limits.connections → slab_len peers.new ≤ beginning.limits.connections }
 {
     peers.reserve(1)?;
     let key = peers.vacant_key();
     let (reader, writer) = listener.accept(key)?;
     peers.insert_reserved(new_peer(beginning, reader, writer));
     if peers.len() > beginning.limits.connections {
-        close_one(listener, peers, key);
+        let longest = longest_waiting(peers, key);
+        close_one(listener, peers, longest);
     }
     Ok(())
 }
@@ -135,7 +167,8 @@ fn accept_all<L: Listener>(
     listener: &mut L,
     peers: &mut Slab<Peer<L::Reader, L::Writer>>,
 )
-    ensures { StillServes L.Reader.remaining L.Writer.contents beginning.limits.config (L.streams listener.old) peers.old (L.streams listener.new) peers.new }
+    ensures served { StillServes L.Reader.remaining L.Writer.contents beginning.limits.config (L.streams listener.old) peers.old (L.streams listener.new) peers.new }
+    ensures few { slab_len peers.old ≤ beginning.limits.connections → slab_len peers.new ≤ beginning.limits.connections }
 {
     for _ in 0..COMING {
         if accept_one(beginning, listener, peers).is_err() {
@@ -161,6 +194,7 @@ fn queue_up<L: Listener>(
 )
     ensures served { (config : Config) → StillServes L.Reader.remaining L.Writer.contents config (L.streams listener.old) peers.old (L.streams listener.new) peers.new }
     ensures kept { IfSome (get peers.new key) (λ peer. get peers.old key ≡ Some peer) }
+    ensures fewer { slab_len peers.new ≤ slab_len peers.old }
 {
     if going.push_back(key).is_err() {
         close_one(listener, peers, key);
@@ -178,6 +212,8 @@ fn take_turn_of<L: Listener, S: Service>(
     ensures served { (config : Config) → ServesOn L.Reader.remaining L.Writer.contents S.answers service.old service.new config
         (L.streams listener.now) peers.old (L.streams listener.now) peers.new }
     ensures aborted { IfSome (get peers.new key) (λ peer. (history peer.connection).state ≡ State.Aborted → result ≡ Fate.Ends) }
+    ensures rests { IfSome (get peers.new key) (λ peer. result ≡ Fate.Waits → Rests (config_of peer.connection) (history peer.connection)) }
+    ensures same { slab_len peers.new ≡ slab_len peers.old }
 {
     match peers.get_mut(key) {
         Some(peer) => peer.take_turn(service, TURN, now),
@@ -197,6 +233,7 @@ fn give_turn<L: Listener, S: Service>(
     ensures served { (config : Config) → ServesOn L.Reader.remaining L.Writer.contents S.answers service.old service.new config
         (L.streams listener.old) peers.old (L.streams listener.new) peers.new }
     ensures aborted { IfSome (get peers.new key) (λ peer. (history peer.connection).state ≢ State.Aborted) }
+    ensures fewer { slab_len peers.new ≤ slab_len peers.old }
 {
     match take_turn_of(listener, peers, service, key, now) {
         Fate::Waits => {}
@@ -212,7 +249,8 @@ fn close_late<L: Listener>(
     now: Instant,
     exchange: Duration,
 )
-    ensures { (config : Config) → StillServes L.Reader.remaining L.Writer.contents config (L.streams listener.old) peers.old (L.streams listener.new) peers.new }
+    ensures served { (config : Config) → StillServes L.Reader.remaining L.Writer.contents config (L.streams listener.old) peers.old (L.streams listener.new) peers.new }
+    ensures fewer { slab_len peers.new ≤ slab_len peers.old }
 {
     for key in 0..peers.capacity() {
         let is_late = match peers.get(key) {
@@ -234,8 +272,9 @@ fn give_turns<L: Listener, S: Service>(
     service: &mut S,
     now: Instant,
 )
-    ensures { (config : Config) → ServesOn L.Reader.remaining L.Writer.contents S.answers service.old service.new config
+    ensures served { (config : Config) → ServesOn L.Reader.remaining L.Writer.contents S.answers service.old service.new config
         (L.streams listener.old) peers.old (L.streams listener.new) peers.new }
+    ensures fewer { slab_len peers.new ≤ slab_len peers.old }
 {
     for key in ready {
         if !goes_on(peers, key) {
@@ -252,11 +291,30 @@ fn give_next<L: Listener, S: Service>(
     service: &mut S,
     now: Instant,
 )
-    ensures { (config : Config) → ServesOn L.Reader.remaining L.Writer.contents S.answers service.old service.new config
+    ensures served { (config : Config) → ServesOn L.Reader.remaining L.Writer.contents S.answers service.old service.new config
         (L.streams listener.old) peers.old (L.streams listener.new) peers.new }
+    ensures fewer { slab_len peers.new ≤ slab_len peers.old }
 {
     if let Some(key) = going.pop_front() {
         give_turn(listener, peers, going, service, key, now);
+    }
+}
+
+/// Counts the time of the connection under a key from now on, if there is one.
+fn count_one_anew<R: Drop, W: Drop>(peers: &mut Slab<Peer<R, W>>, key: usize, now: Instant)
+    ensures { HaveSameEnds peers.old peers.new }
+{
+    if let Some(peer) = peers.get_mut(key) {
+        peer.since = now;
+    }
+}
+
+/// Counts the time of each connection from now on.
+fn count_anew<R: Drop, W: Drop>(peers: &mut Slab<Peer<R, W>>, now: Instant)
+    ensures { HaveSameEnds peers.old peers.new }
+{
+    for key in 0..peers.capacity() {
+        count_one_anew(peers, key, now);
     }
 }
 
@@ -282,6 +340,8 @@ impl<'r, C: Clock, L: Listener + Drop> Server<'r, C, L> {
         ensures served { IfOk result (λ server. HasNoOpen (L.streams listener)
             → HasServed L.streams L.Reader.remaining L.Writer.contents [] (closed_of (L.streams listener)) server) }
         ensures listener { IfOk result (λ server. listener_of server ≡ listener) }
+        ensures limits { IfOk result (λ server. limits_of server ≡ limits) }
+        ensures none { IfOk result (λ server. count_of server ≡ 0) }
     {
         let now = Instant::now(clock)?;
         Ok(Server {
@@ -307,7 +367,8 @@ impl<'r, C: Clock, L: Listener + Drop> Server<'r, C, L> {
 
     /// Closes the connections that have taken too long, where it is time for that.
     fn sweep(&mut self)
-        ensures { ServesStill L.streams L.Reader.remaining L.Writer.contents self.old self.new }
+        ensures served { ServesStill L.streams L.Reader.remaining L.Writer.contents self.old self.new }
+        ensures few { KeepsLimits self.old self.new }
     {
         if has_passed(self.swept, self.now, self.limits.sweep) {
             self.swept = self.now;
@@ -322,9 +383,25 @@ impl<'r, C: Clock, L: Listener + Drop> Server<'r, C, L> {
         }
     }
 
+    /// Takes the time. If the last round began long ago, the process may have been stopped, and so nobody could be answered: then the
+    /// time of each connection is counted anew.
+    fn take_time(&mut self) -> io::Result<()>
+        ensures served { ServesStill L.streams L.Reader.remaining L.Writer.contents self.old self.new }
+        ensures few { KeepsLimits self.old self.new }
+    {
+        let before = self.now;
+        self.now = Instant::now(self.clock)?;
+        if self.limits.sweep.saturating_mul(2) < self.now.duration_since(before) {
+            count_anew(&mut self.peers, self.now);
+            self.swept = self.now;
+        }
+        Ok(())
+    }
+
     /// Waits, and accepts the streams that have come.
     fn wait(&mut self) -> io::Result<()>
-        ensures { ServesStill L.streams L.Reader.remaining L.Writer.contents self.old self.new }
+        ensures served { ServesStill L.streams L.Reader.remaining L.Writer.contents self.old self.new }
+        ensures few { KeepsLimits self.old self.new }
     {
         let time = if self.going.is_empty() {
             self.limits.sweep
@@ -332,7 +409,7 @@ impl<'r, C: Clock, L: Listener + Drop> Server<'r, C, L> {
             Duration::ZERO
         };
         self.listener.wait(&mut self.ready, time)?;
-        self.now = Instant::now(self.clock)?;
+        self.take_time()?;
         let beginning = Beginning {
             alloc: self.alloc,
             keys: self.keys,
@@ -345,9 +422,10 @@ impl<'r, C: Clock, L: Listener + Drop> Server<'r, C, L> {
 
     /// Waits until a stream comes or is ready, or for as long as `sweep` of the limits says. Then each connection that has become ready
     /// has a turn, and behind these one of those that might have gone on, the longest waiting; and those are closed that took too long.
-    /// The error comes where the system can't wait, or memory is refused.
+    /// There are never more connections than the limits say. The error comes where the system can't wait, or memory is refused.
     pub fn round<S: Service>(&mut self, service: &mut S) -> io::Result<()>
         ensures served { ServesCalls L.streams L.Reader.remaining L.Writer.contents S.answers service.old service.new self.old self.new }
+        ensures few { KeepsLimits self.old self.new }
     {
         self.wait()?;
         let ready = mem::replace(&mut self.ready, Vec::new(self.alloc));

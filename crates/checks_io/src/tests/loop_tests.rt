@@ -89,7 +89,7 @@ fn each_stream_gets_its_own_answers(rt: HostRuntime) {
 }
 
 #[test]
-fn one_stream_more_is_closed_at_once(rt: HostRuntime) {
+fn one_stream_more_takes_the_place_of_the_first(rt: HostRuntime) {
     let one = b"GET /one HTTP/1.1\r\nHost: x\r\n\r\n";
     let got = served(&rt, rt.alloc(), &[one, one, one], 1);
     check_bytes(

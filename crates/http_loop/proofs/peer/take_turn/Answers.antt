@@ -1,7 +1,7 @@
 use Rattle.std.proofs.Common.{List, ℕ, ◌++◌, ap, sym, ◌∙◌, append_assoc}
 use Rattle.http_server.proofs.KnownLemmas.{Appends-then, Consumes-then}
 use Rattle.http_server.proofs.StreamLemmas.{Calls-then}
-use Rattle.http_loop.proofs.ServingLaws.{aborted_stops}
+use Rattle.http_loop.proofs.ServingLaws.{aborted_stops, rests_still}
 use Rattle.http_loop.proofs.peer.take_turn.Goals as goal
 
 pub returns-in_default : goal.returns-in_default
@@ -18,6 +18,7 @@ returns-in_default g c =
       calls = (all.0, c.step-turn.ensures.calls ∙ all.1, all.2);
       aborted = λ some is. aborted_stops _ _ _ c.advance.ensures.served (sym c.step-turn.ensures.state ∙ is) c.step-turn.ensures.done;
       config = c.step-turn.ensures.config ∙ c.advance.ensures.config ∙ c.loop.invariant.3;
+      rests = λ is. rests_still _ _ _ _ c.step-turn.ensures.config (c.step-turn.ensures.waits is) c.advance.ensures.rests;
     }
 
 pub returns-in_default-2 : goal.returns-in_default-2
@@ -34,6 +35,7 @@ returns-in_default-2 g c =
       calls = (all.0, c.step-turn.ensures.calls ∙ all.1, all.2);
       aborted = λ some is. aborted_stops _ _ _ c.advance.ensures.served (sym c.step-turn.ensures.state ∙ is) c.step-turn.ensures.done;
       config = c.step-turn.ensures.config ∙ c.advance.ensures.config ∙ c.loop.invariant.3;
+      rests = λ is. rests_still _ _ _ _ c.step-turn.ensures.config (c.step-turn.ensures.waits is) c.advance.ensures.rests;
     }
 
 pub loop-preserved : goal.loop-preserved

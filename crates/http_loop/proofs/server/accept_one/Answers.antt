@@ -1,11 +1,10 @@
-use Rattle.std.proofs.Common.{◌≡◌, ℕ, Option, List, Some, None, ap, refl, sym, subst, ◌∙◌}
-use Rattle.slab.specs.Slab.{Slab, Updates}
-use Rattle.http_loop.specs.Streams.{Opens, stream_of}
+use Rattle.std.proofs.Common.{ℕ, Some, refl, sym, subst, ◌∙◌}
+use Rattle.slab.specs.Slab.{Updates}
 use Rattle.http_loop.proofs.ServingLaws.{after_accept, after_reserve, new_is_peer}
 use Rattle.http_loop.proofs.server.accept_one.Goals as goal
 
-pub returns-then-len-beginning : goal.returns-then-len-beginning
-returns-then-len-beginning g c = λ calls before h.
+pub returns-then-len-beginning-clause-served : goal.returns-then-len-beginning-clause-served
+returns-then-len-beginning-clause-served g c = λ calls before h.
     let peer = c.new_peer.result in
     let key = c.insert_reserved.ensures.key ∙ sym c.vacant_key-key.ensures.value in
     c.close_one.ensures.served c.args.beginning.limits.config calls before
@@ -15,8 +14,8 @@ returns-then-len-beginning g c = λ calls before h.
     (new_is_peer _ _ _ calls peer c.new_peer.ensures.config c.new_peer.ensures.fresh)
     (after_reserve _ _ _ calls before _ _ _ (rw c.reserve.ensures.rest_kept refl) h))
 
-pub returns-else-len-beginning : goal.returns-else-len-beginning
-returns-else-len-beginning g c = λ calls before h.
+pub returns-else-len-beginning-clause-served : goal.returns-else-len-beginning-clause-served
+returns-else-len-beginning-clause-served g c = λ calls before h.
     let peer = c.new_peer.result in
     let key = c.insert_reserved.ensures.key ∙ sym c.vacant_key-key.ensures.value in
     after_accept _ _ _ calls before _ _ c.reserve.new.self _ c.vacant_key-key.result _ peer c.vacant_key-key.ensures.vacant

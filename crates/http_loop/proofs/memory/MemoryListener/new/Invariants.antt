@@ -1,4 +1,4 @@
-use Rattle.std.proofs.Common.{◌≡◌, ℕ, Option, None, slice_index_or}
+use Rattle.std.proofs.Common.{◌≡◌, ℕ, None, slice_index_or}
 use Rattle.http_loop.proofs.memory.MemoryListener.new.Given as goal
 
 abbrev pub invariant-loop : goal.invariant-loop
