@@ -9,6 +9,8 @@ from pathlib import Path
 
 TOP = Path(__file__).resolve().parent.parent
 WORD = re.compile(r"[^\W\d]\w*")
+# Modules that crates give out whole, and whose functions are named without them.
+NAMED_ALONE = {"laws", "schedule"}
 
 
 @dataclass
@@ -120,7 +122,8 @@ def functions_of(crate, path, names, modules):
         elif line.startswith("}") and owner:
             words = set(WORD.findall("\n".join(ghosts)))
             clauses = [(re.match(r"\s*ghost (\w+)", it).group(1), it) for it in ghosts]
-            yield Function(crate, path, open_type, "", open_type in names or is_module, clauses, words)
+            is_given = is_module and any(re.match(rf"pub (?:struct|enum|trait) {open_type}\b", it) for it in lines)
+            yield Function(crate, path, open_type, "", open_type in names or is_given, clauses, words)
             owner = ""
         named = re.match(r"(\s*)(pub(?:\(\w+\))? )?(?:const )?(?:unsafe )?(?:extern \"C\" )?fn (\w+)", line)
         if named:
@@ -130,7 +133,9 @@ def functions_of(crate, path, names, modules):
             is_open = (owner in names) if owner else (named.group(3) in names or is_module or path.stem == "lib")
             public = is_open and (named.group(2) == "pub " or (bool(owner) and is_trait))
             words = set(WORD.findall(" ".join(text for _, text in clauses)))
-            yield Function(crate, path, owner, named.group(3), public, clauses, words)
+            # (a function of a module that the crate gives out whole is called by the module's name; laws are named alone)
+            of_module = path.stem if is_module and path.stem not in NAMED_ALONE else ""
+            yield Function(crate, path, owner or of_module, named.group(3), public, clauses, words)
             continue
         if owner and re.match(r"    ghost (?!use)", line):
             ghosts.append(line)

@@ -10,8 +10,10 @@
 //! judge FEN` here, which leaves it in `out/adjudicate`. Unproved, to try something: `rt try -- judge FEN`.
 #![tactic(auto)]
 
-use adjudicate_core::{System, WordsFault, refuse_memory, run_program};
+use adjudicate_core::{refuse_memory, run_program};
+use command_line::WordsFault;
 use game_store::MachineStores;
+use serve_commands::System;
 use serve_core::SystemPages;
 use std::alloc::Global;
 use std::env::{Env, FillError};

@@ -1,19 +1,10 @@
 -- Answers that are written all at once.
-use Rattle.std.proofs.Common.{◌≡◌, ◌∙◌, ◌<◌, ◌+◌, ◌++◌, ℕ, List, [], ◌∷◌, Option, length, map, take, drop, take-append-drop, ap, refl, subst, sym, inl, inr}
-use Rattle.std.proofs.lemmas.List.{map-append, take_more}
-use Rattle.std.proofs.lemmas.List.Concat.{flat_map-append}
-use Rattle.std.specs.Io.KnownBytes.{Appends}
-use Rattle.line_teller.specs.ToldLines.{HasFront}
-use Rattle.line_teller.proofs.FrontLaws.{front_first, front_of_lines}
-use Rattle.move_msg.specs.TextLines.{ended, text_of}
-use Rattle.std.specs.Prelude.{Result, Ok, Err, IfOk, IfErr, IsErrOf, OnErr, get_or}
-use Rattle.adjudicate_core.specs.declared.answers.Answer.{Answer}
-use Rattle.adjudicate_core.specs.Inside.Asked.{PutsAnswered, PutsRead, reply_of}
-use Rattle.adjudicate_core.specs.Reply.{AnswersOnce, AnswersRead, NoRoomToRead, ReadAll, Refused, Replied, Reply, Unread}
+use Rattle.std.proofs.Common.{◌≡◌, ℕ, List, Option, refl, subst, sym, inl, inr}
+use Rattle.std.specs.Prelude.{Result, Ok, Err, IfOk, IfErr, OnErr}
 use Rattle.task_files.specs.Given.{Given}
-use Rattle.adjudicate_core.specs.Listens.{AtFile, BadStart, BadTables, BindsAndServes, Bound, Hosted, InUse, Kept, KeepsAndServes, Listens, Locked, NoAddress, NoLock, NoRoom, NoRoomForFile, NoRoomForLine, NoRoomToBind, NoRoomToKeep, NoRoomToLock, Opened, OpensToServe, Ready, Served, ServesAt, ServesLocked, StartsAt, Unasked, Unbound, Unopened, Unreadable as Unkept, Unready, serving_seen_as, serving_seen_by, serving_to, setup_for, writing_to}
-use Rattle.adjudicate_core.specs.Lines.{ready_words}
-use Rattle.adjudicate_core.specs.declared.commands.listen.Listen.{Listen}
+use Rattle.serve_commands.specs.Listens.{AtFile, BadStart, BadTables, BindsAndServes, Bound, Hosted, InUse, Kept, KeepsAndServes, Listens, Locked, NoAddress, NoLock, NoRoom, NoRoomForFile, NoRoomForLine, NoRoomToBind, NoRoomToKeep, NoRoomToLock, Opened, OpensToServe, Ready, Served, ServesAt, ServesLocked, StartsAt, Unasked, Unbound, Unopened, Unreadable as Unkept, Unready, serving_seen_as, serving_seen_by, serving_to, setup_for, writing_to}
+use Rattle.answer_parts.specs.Lines.{ready_words}
+use Rattle.command_line.specs.declared.commands.listen.Listen.{Listen}
 use Rattle.arbiter_core.specs.Setups.{SetupView}
 use Rattle.arbiter_server.specs.GoingOut.{Writers}
 use Rattle.arbiter_server.specs.Serving.{lines_of, scene}
@@ -21,46 +12,15 @@ use Rattle.arbiter_server.specs.declared.file_keeper.FileKeeper.{FileKeeper}
 use Rattle.system_io.specs.Hosts.{Made}
 use Rattle.system_io.specs.Ports.{PortFacts}
 use Rattle.adjudicate_core.specs.Running.{status_ended}
-use Rattle.adjudicate_core.proofs.GoneLaws.{line_cut, line_written, lines_to}
-use Rattle.adjudicate_core.specs.Silences.{TellsIfLost, TellsSilence}
-use Rattle.adjudicate_core.specs.declared.commands.Task.TheVariants as task
+use Rattle.serve_commands.proofs.GoneLaws.{line_cut, line_written, lines_to}
+use Rattle.serve_commands.specs.Silences.{TellsIfLost, TellsSilence}
+use Rattle.command_line.specs.declared.commands.Task.TheVariants as task
 use Rattle.source_core.specs.declared.lines.Ended.{Ended}
 use Rattle.source_core.specs.declared.lines.Ended.TheVariants as run
 use Rattle.source_core.specs.Lines.{ended_status}
 use Rattle.system_io.specs.Outputs.{OutputFacts}
-use Rattle.adjudicate_core.specs.declared.commands.send.Send.{Send}
+use Rattle.command_line.specs.declared.commands.send.Send.{Send}
 use Rattle.system_io.specs.declared.output.WriteFault.{WriteFault}
-use Rattle.system_io.specs.declared.reading.ReadFault.{ReadFault}
-use Rattle.system_io.specs.declared.reading.ReadFault.TheVariants.{OutOfMemory, Unreadable}
-
--- lines so far, and a front of the next, are a front of all of them
-pub front_of_all : {X : Type 0} (f : X → List ℕ) (xs : List X) (i : ℕ) (x other : X) (old mid new : Option (List ℕ)) → i < length xs → x ≡ get_or xs i other → Appends old mid (text_of (map f (take i xs))) → HasFront mid new (ended (f x)) → HasFront old new (text_of (map f xs))
-front_of_all f xs i x other old mid new within at wrote cut =
-    let first = front_of_lines old mid new (map f (take i xs)) (f x) wrote cut in
-    let one : take (i + 1) xs ≡ take i xs ++ x ∷ [] = take_more xs i other within ∙ ap (λ y. take i xs ++ y ∷ []) (sym at) in
-    let all : map f xs ≡ (map f (take i xs) ++ f x ∷ []) ++ map f (drop (i + 1) xs) =
-    ap (map f) (sym (take-append-drop (i + 1) xs) ∙ ap (λ ys. ys ++ drop (i + 1) xs) one) ∙ map-append f (take i xs ++ x ∷ []) (drop (i + 1) xs) ∙ ap (λ ls. ls ++ map f (drop (i + 1) xs)) (map-append f (take i xs) (x ∷ [])) in
-    let texts : text_of (map f xs) ≡ text_of (map f (take i xs) ++ f x ∷ []) ++ text_of (map f (drop (i + 1) xs)) = ap text_of all ∙ flat_map-append ended (map f (take i xs) ++ f x ∷ []) (map f (drop (i + 1) xs)) in
-    subst (HasFront old new) (sym texts) (front_first old new (text_of (map f (take i xs) ++ f x ∷ [])) (text_of (map f (drop (i + 1) xs))) first)
-
--- by a command that may take memory
-pub once : {E : Type 0} (answered : Result Answer E) (IsReply : Reply → Type 0) → IfOk answered (λ a. IsReply (reply_of a)) → (result : Result ℕ WriteFault) (old new : Option (List ℕ)) → PutsAnswered answered old new result → (TakesMemory : Type 0) → OnErr answered TakesMemory → AnswersOnce IsReply TakesMemory old new result
-once (Ok a) IsReply is result old new puts TakesMemory memory = Replied (reply_of a) is puts
-once (Err e) IsReply is result old new puts TakesMemory memory = Refused memory puts
-
-always : {A E : Type 0} (r : Result A E) → OnErr r (Unit {0})
-always (Ok a) = tt
-always (Err e) = tt
-
--- by one that takes memory for every reply
-pub once_always : {E : Type 0} (answered : Result Answer E) (IsReply : Reply → Type 0) → IfOk answered (λ a. IsReply (reply_of a)) → (result : Result ℕ WriteFault) (old new : Option (List ℕ)) → PutsAnswered answered old new result → AnswersOnce IsReply (Unit {0}) old new result
-once_always answered IsReply is result old new puts = once answered IsReply is result old new puts (Unit {0}) (always answered)
-
--- by one that reads files on the way
-pub after_reading : (answered : Result Answer ReadFault) (IsReply : Reply → Type 0) (CannotRead : Type 0) → IfOk answered (λ a. IsReply (reply_of a)) → (IsErrOf answered Unreadable → CannotRead) → (result : Result ℕ WriteFault) (old new : Option (List ℕ)) → PutsRead answered old new result → AnswersRead IsReply CannotRead old new result
-after_reading (Ok a) IsReply CannotRead is cause result old new puts = ReadAll (reply_of a) is puts
-after_reading (Err Unreadable) IsReply CannotRead is cause result old new puts = Unread (cause refl) puts
-after_reading (Err OutOfMemory) IsReply CannotRead is cause result old new puts = NoRoomToRead puts
 
 -- by a source: its status is that of how it ends
 pub sent : (e : Result Ended WriteFault) (r : Result ℕ WriteFault) → IfOk e (λ x. r ≡ Ok (ended_status x)) → IfErr e (λ fault. r ≡ Err fault) → r ≡ status_ended e

@@ -11,10 +11,10 @@ use Rattle.source_core.specs.declared.lines.Ended.{Ended}
 use Rattle.sealed_port.specs.KeyedHosts.{KeyedView, keyed_facts}
 use Rattle.sealed_port.specs.Sealing.{sealed_facts}
 use Rattle.sealed_port.specs.declared.seal_port.Keys.{Keys}
-use Rattle.adjudicate_core.specs.Listens.{Hosted, hosted}
-use Rattle.adjudicate_core.specs.Outsides.{OutsideWithStores, outside}
+use Rattle.serve_commands.specs.Listens.{Hosted, hosted}
+use Rattle.serve_commands.specs.Outsides.{OutsideWithStores, outside}
 use Rattle.adjudicate_core.specs.Running.{AnswersTask, sealed_by}
-use Rattle.adjudicate_core.specs.declared.commands.Task.{Task}
+use Rattle.command_line.specs.declared.commands.Task.{Task}
 
 abbrev machine : {P F S : Type 0} → DiskFacts → InputFacts → Hosted P F → StorePlaces S → (S → StoreFacts) → Option (List Made) → Option (List Made) → OutsideWithStores P F S
 machine disk source host stores store had has = record { outside = outside disk source host had has; stores = stores; store = store }

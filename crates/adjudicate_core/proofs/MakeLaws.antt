@@ -10,43 +10,33 @@ use Rattle.system_io.proofs.HistoryLaws.{Passes-nil, Passes-trans}
 use Rattle.arbiter_core.specs.Setups.{SetupView}
 use Rattle.board_core.specs.declared.parts.Parts.{Parts}
 use Rattle.move_msg.specs.declared.stamp.Stamp.{Stamp}
-use Rattle.arbiter_server.specs.GameFiles.{GameContents}
-use Rattle.arbiter_server.specs.Folders.{MakesOnce}
-use Rattle.arbiter_server.specs.GameFolders.{game_stamp, kept_path}
+use Rattle.arbiter_server.specs.GameFolders.{kept_path}
 use Rattle.move_msg.specs.TextLines.{lines_in}
 use Rattle.arbiter_server.specs.Games.{CommonView}
 use Rattle.source_core.specs.declared.lines.Ended.{Ended}
 use Rattle.task_files.specs.Given.{Given}
 use Rattle.game_status.specs.StoreReadings.{store_path}
-use Rattle.adjudicate_core.specs.Hostings as hosting
-use Rattle.adjudicate_core.specs.Entries.{SpellsEntry}
-use Rattle.adjudicate_core.specs.Enters.{AreMadeForTold, BadStart, Entered, Enters, EntersAs, EntersList, IsMadeForLine, Kept, Listed, MakesForTold, NoList, NoManifest, NoRoom, NoRoomForList, NoRoomForManifest, OfList, Place, PutsGame, PutsGames, Unkept, Unstamped, entered, file_of_game, place}
-use Rattle.adjudicate_core.specs.Inside.Entering.{MakesForLine}
-use Rattle.adjudicate_core.specs.Outsides.{Outside}
-use Rattle.line_teller.specs.ToldLines.{LineTold}
-use Rattle.adjudicate_core.specs.Addresses.{addresses_of}
-use Rattle.adjudicate_core.specs.Listens as listening
-use Rattle.adjudicate_core.specs.Locks.{kept_lock}
-use Rattle.adjudicate_core.specs.Makes.{IsFrontOfMade, IsGameIn, IsMadeBy, IsOfEntries, IsRecordIn, MakesCalled, MakesFor, before_games, of_listen, of_send, AreWithGames, of_store}
-use Rattle.adjudicate_core.specs.Sends as sending
-use Rattle.adjudicate_core.specs.declared.commands.Task.{Task}
-use Rattle.adjudicate_core.specs.declared.commands.Task.TheVariants as task
-use Rattle.adjudicate_core.specs.declared.commands.enter.Enter.{Enter}
-use Rattle.adjudicate_core.specs.declared.commands.enter.Entries.{Entries}
-use Rattle.adjudicate_core.specs.declared.commands.enter.Entries.TheVariants.{From, One}
-use Rattle.adjudicate_core.specs.declared.commands.enter.OneGame.{OneGame}
-use Rattle.adjudicate_core.specs.declared.commands.host.HostGames.{HostGames}
-use Rattle.adjudicate_core.specs.declared.words.numbers.StoreForm.{StoreForm}
-use Rattle.adjudicate_core.specs.declared.words.numbers.StoreForm.TheVariants as form
-use Rattle.adjudicate_core.specs.declared.commands.listen.Listen.{Listen}
-use Rattle.adjudicate_core.specs.declared.commands.send.Send.{Send}
-use Rattle.adjudicate_core.specs.declared.words.usage.WordsFault.{WordsFault}
-
--- ---- nothing
-
-none_entered : (games : List ℕ) (e : Entries) → IsOfEntries games e []
-none_entered games (One g) = inl refl
-none_entered games (From path) = tt
+use Rattle.serve_commands.specs.Hostings as hosting
+use Rattle.serve_commands.specs.Enters.{BadStart, Entered, Enters, EntersAs, EntersList, Listed, NoList, NoManifest, NoRoom, NoRoomForList, NoRoomForManifest, OfList, Unstamped, entered, place}
+use Rattle.serve_commands.specs.Outsides.{Outside}
+use Rattle.command_line.specs.Addresses.{addresses_of}
+use Rattle.serve_commands.specs.Listens as listening
+use Rattle.serve_commands.specs.Locks.{kept_lock}
+use Rattle.adjudicate_core.specs.Makes.{IsFrontOfMade, IsMadeBy, IsRecordIn, MakesCalled, MakesFor, before_games, of_listen, of_send, AreWithGames, of_store}
+use Rattle.serve_commands.specs.Makes.{IsGameIn, IsOfEntries}
+use Rattle.serve_commands.specs.Sends as sending
+use Rattle.command_line.specs.declared.commands.Task.{Task}
+use Rattle.command_line.specs.declared.commands.Task.TheVariants as task
+use Rattle.command_line.specs.declared.commands.enter.Enter.{Enter}
+use Rattle.command_line.specs.declared.commands.enter.Entries.{Entries}
+use Rattle.command_line.specs.declared.commands.enter.Entries.TheVariants.{From, One}
+use Rattle.command_line.specs.declared.commands.host.HostGames.{HostGames}
+use Rattle.command_line.specs.declared.words.numbers.StoreForm.{StoreForm}
+use Rattle.command_line.specs.declared.words.numbers.StoreForm.TheVariants as form
+use Rattle.command_line.specs.declared.commands.listen.Listen.{Listen}
+use Rattle.command_line.specs.declared.commands.send.Send.{Send}
+use Rattle.command_line.specs.declared.words.usage.WordsFault.{WordsFault}
+use Rattle.serve_commands.proofs.MakeLaws.{none_entered, puts_makes, put_makes}
 
 nothing_by : (t : Task) → IsMadeBy t []
 nothing_by (task.Judge t) = refl
@@ -215,44 +205,6 @@ module _ {P F S T : Type 0} (p : hosting.HostOutside P F S) (seen : hosting.File
   host_makes given had old new (hosting.Clashing made set tables names lists clash told) = hosts_none h.store h _ had has made
   host_makes given had old new (hosting.NoRoom made told) = hosts_none h.store h _ had has made
   host_makes given had old new (hosting.Hosting set tables cache names lists apart manifest is run) = lock_hosts (hosting.common_for h set manifest) had old new run
-
--- ---- `enter`
-
-module _ {P F : Type 0} (p : Place P F) where
-  pub no_line : (line : List ℕ) (had : Option (List Made)) → MakesForLine p line had had
-  no_line line had = ([], Passes-nil had, inl refl)
-
-  pub line_once : (line : List ℕ) (g : GameContents) (had has : Option (List Made)) → SpellsEntry line g → MakesOnce had has (file_of_game p g) → MakesForLine p line had has
-  line_once line g had has spells (inl none) = ([], none, inl refl)
-  line_once line g had has spells (inr one) = (file_of_game p g ∷ [], one, inr (g, spells, refl))
-
-  games_of_told : (lines : List (List ℕ)) (told : List LineTold) (more : List Made) → AreMadeForTold p lines told more → AllByRecursion (IsGameIn p.games) more
-  games_of_told lines [] more none = subst (AllByRecursion (IsGameIn p.games)) (sym none) tt
-  games_of_told [] (t ∷ told) more none = absurd none
-  games_of_told (line ∷ lines) (t ∷ told) more (first, rest, is, all, others) = subst (AllByRecursion (IsGameIn p.games)) (sym all) (game_of_line first rest is (games_of_told lines told rest others))
-    where
-      game_of_line : (first rest : List Made) → IsMadeForLine p line first → AllByRecursion (IsGameIn p.games) rest → AllByRecursion (IsGameIn p.games) (first ++ rest)
-      game_of_line first rest (inl none) others = subst (λ (l : List Made). AllByRecursion (IsGameIn p.games) (l ++ rest)) (sym none) others
-      game_of_line first rest (inr (g, spells, one)) others = subst (λ (l : List Made). AllByRecursion (IsGameIn p.games) (l ++ rest)) (sym one) ((game_stamp g p.manifest, refl), others)
-
-  told_makes : (lines : List (List ℕ)) (told : List LineTold) (had has : Option (List Made)) → MakesForTold p lines told had has → (more : List Made) × Passes had has more × AllByRecursion (IsGameIn p.games) more
-  told_makes lines told had has (more, passes, are) = (more, passes, games_of_told lines told more are)
-
-  puts_makes : (lines : List (List ℕ)) (had has : Option (List Made)) (old new : Option (List ℕ)) (r : Result ℕ WriteFault) → PutsGames p lines had has old new r → (more : List Made) × Passes had has more × AllByRecursion (IsGameIn p.games) more
-  puts_makes lines had has old new (Ok status) h = told_makes lines h.told had has h.makes
-  puts_makes lines had has old new (Err fault) h = told_makes lines h.told had has h.makes
-
-  put_makes : (t : OneGame) (g : GameContents) (had has : Option (List Made)) (old new : Option (List ℕ)) (r : Result ℕ WriteFault) → PutsGame p g had has old new r → (more : List Made) × Passes had has more × IsOfEntries p.games (One t) more
-  put_makes t g had has old new r (Kept made stamp is told) = one_of t g had has made
-    where
-      one_of : (t : OneGame) (g : GameContents) (had has : Option (List Made)) → MakesOnce had has (file_of_game p g) → (more : List Made) × Passes had has more × IsOfEntries p.games (One t) more
-      one_of t g had has (inl none) = ([], none, inl refl)
-      one_of t g had has (inr one) = (file_of_game p g ∷ [], one, inr (file_of_game p g, (game_stamp g p.manifest, refl), refl))
-  put_makes t g had has old new r (Unkept made fault is told) = one_of t g had has made
-    where
-      one_of : (t : OneGame) (g : GameContents) (had has : Option (List Made)) → MakesOnce had has (file_of_game p g) → (more : List Made) × Passes had has more × IsOfEntries p.games (One t) more
-      one_of t g had has (inl none) = ([], none, inl refl)
-      one_of t g had has (inr one) = (file_of_game p g ∷ [], one, inr (file_of_game p g, (game_stamp g p.manifest, refl), refl))
 
 module _ {P F : Type 0} (out : Outside P F) (t : Enter) (old new : Option (List ℕ)) (r : Result ℕ WriteFault) where
   list_makes : (text : List ℕ) → EntersList out t text old new r → (more : List Made) × Passes out.had out.has more × AllByRecursion (IsGameIn t.games.now) more

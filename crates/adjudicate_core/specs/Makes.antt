@@ -4,21 +4,20 @@ use Rattle.std.specs.Prelude.{◌≡◌, ◌⊎◌, ◌++◌, ℕ, List, [], ◌
 use Rattle.std.specs.List.{AllByRecursion}
 use Rattle.system_io.specs.Histories.{Passes}
 use Rattle.system_io.specs.Hosts.{FileAt, LockAt, Made, PortAt, StoreAt}
-use Rattle.arbiter_server.specs.GameFolders.{game_path, kept_path}
-use Rattle.adjudicate_core.specs.Addresses.{addresses_of}
+use Rattle.arbiter_server.specs.GameFolders.{kept_path}
+use Rattle.command_line.specs.Addresses.{addresses_of}
 use Rattle.game_status.specs.StoreReadings.{store_path}
-use Rattle.adjudicate_core.specs.Locks.{games_lock, kept_lock}
-use Rattle.adjudicate_core.specs.Tasks.{IsTask}
-use Rattle.adjudicate_core.specs.declared.commands.Task.{Task}
-use Rattle.adjudicate_core.specs.declared.commands.Task.TheVariants as task
-use Rattle.adjudicate_core.specs.declared.commands.enter.Entries.{Entries}
-use Rattle.adjudicate_core.specs.declared.commands.enter.Entries.TheVariants.{From, One}
-use Rattle.adjudicate_core.specs.declared.commands.host.HostGames.{HostGames}
-use Rattle.adjudicate_core.specs.declared.words.numbers.StoreForm.{StoreForm}
-use Rattle.adjudicate_core.specs.declared.words.numbers.StoreForm.TheVariants as form
-use Rattle.adjudicate_core.specs.declared.commands.listen.Listen.{Listen}
-use Rattle.adjudicate_core.specs.declared.commands.send.Send.{Send}
-use Rattle.adjudicate_core.specs.declared.words.usage.WordsFault.{WordsFault}
+use Rattle.serve_commands.specs.Locks.{games_lock, kept_lock}
+use Rattle.command_line.specs.Tasks.{IsTask}
+use Rattle.command_line.specs.declared.commands.Task.{Task}
+use Rattle.command_line.specs.declared.commands.Task.TheVariants as task
+use Rattle.command_line.specs.declared.commands.host.HostGames.{HostGames}
+use Rattle.command_line.specs.declared.words.numbers.StoreForm.{StoreForm}
+use Rattle.command_line.specs.declared.words.numbers.StoreForm.TheVariants as form
+use Rattle.command_line.specs.declared.commands.listen.Listen.{Listen}
+use Rattle.command_line.specs.declared.commands.send.Send.{Send}
+use Rattle.command_line.specs.declared.words.usage.WordsFault.{WordsFault}
+use Rattle.serve_commands.specs.Makes.{IsOfEntries}
 
 -- the first of these, in their order, and nothing else
 abbrev pub IsFrontOfMade : List Made → List Made → Type 0
@@ -49,14 +48,6 @@ AreWithGames form.Files games more = AllByRecursion (IsRecordIn games) more
 
 abbrev pub IsOfHost : HostGames → List Made → Type 0
 IsOfHost h more = IsFrontOfMade (before_games h) more ⊎ ((later : List Made) × (more ≡ before_games h ++ later) × AreWithGames h.store h.games.now later)
-
--- `enter`: files of games in its folder; of one game at most its file
-abbrev pub IsGameIn : List ℕ → Made → Type 0
-IsGameIn games made = (stamp : List ℕ) × (made ≡ FileAt (game_path games stamp))
-
-abbrev pub IsOfEntries : List ℕ → Entries → List Made → Type 0
-IsOfEntries games (One g) more = (more ≡ []) ⊎ ((made : Made) × IsGameIn games made × (more ≡ made ∷ []))
-IsOfEntries games (From path) more = AllByRecursion (IsGameIn games) more
 
 -- each task makes that, and all others nothing
 abbrev pub IsMadeBy : Task → List Made → Type 0

@@ -3,49 +3,49 @@ use Rattle.std.specs.Prelude.{◌≡◌, ℕ, List, Option, Some, None, Result, 
 use Rattle.std.specs.Borrow.{Bor}
 use Rattle.std.specs.Global.{Global}
 use Rattle.system_io.specs.declared.output.WriteFault.{WriteFault}
-use Rattle.adjudicate_core.specs.declared.commands.Task.{Task}
-use Rattle.adjudicate_core.specs.declared.commands.Task.TheVariants as task
-use Rattle.adjudicate_core.specs.declared.words.usage.Misuse.{Misuse}
-use Rattle.adjudicate_core.specs.declared.words.usage.WordsFault.{WordsFault}
-use Rattle.adjudicate_core.specs.declared.words.usage.WordsFault.TheVariants.{NoText}
-use Rattle.adjudicate_core.specs.declared.words.usage.Misuse.TheVariants as misuse
+use Rattle.command_line.specs.declared.commands.Task.{Task}
+use Rattle.command_line.specs.declared.commands.Task.TheVariants as task
+use Rattle.command_line.specs.declared.words.usage.Misuse.{Misuse}
+use Rattle.command_line.specs.declared.words.usage.WordsFault.{WordsFault}
+use Rattle.command_line.specs.declared.words.usage.WordsFault.TheVariants.{NoText}
+use Rattle.command_line.specs.declared.words.usage.Misuse.TheVariants as misuse
 use Rattle.task_files.specs.Given.{Given}
 use Rattle.line_teller.specs.ToldLines.{refused_files, refused_memory}
-use Rattle.adjudicate_core.specs.Listens.{Listens, hosted, serving_seen_as}
-use Rattle.adjudicate_core.specs.Outsides.{OutsideWithStores, outside, hosting_places}
-use Rattle.adjudicate_core.specs.Sends.{SendsGame}
+use Rattle.serve_commands.specs.Listens.{Listens, hosted, serving_seen_as}
+use Rattle.serve_commands.specs.Outsides.{OutsideWithStores, outside, hosting_places}
+use Rattle.serve_commands.specs.Sends.{SendsGame}
 use Rattle.source_core.specs.declared.lines.Ended.{Ended}
 use Rattle.source_core.specs.Lines.{ended_status}
-use Rattle.adjudicate_core.specs.Enters.{Enters}
-use Rattle.adjudicate_core.specs.Hostings.{HostsGames, written}
+use Rattle.serve_commands.specs.Enters.{Enters}
+use Rattle.serve_commands.specs.Hostings.{HostsGames, written}
 use Rattle.task_files.specs.Sources.{CannotRead, IsGiven, TakesMemory}
-use Rattle.adjudicate_core.specs.Commands.Judge as judges
-use Rattle.adjudicate_core.specs.Commands.Probe as probes
-use Rattle.adjudicate_core.specs.Commands.Moves as of_moves
-use Rattle.adjudicate_core.specs.Commands.List as lists
-use Rattle.adjudicate_core.specs.Commands.Check as checks
-use Rattle.adjudicate_core.specs.Commands.Show as shows
-use Rattle.adjudicate_core.specs.Commands.Run as runs
-use Rattle.adjudicate_core.specs.Commands.Game as games
-use Rattle.adjudicate_core.specs.Commands.Games as of_games
-use Rattle.adjudicate_core.specs.Commands.Pgn as of_pgn
-use Rattle.adjudicate_core.specs.Commands.Record as records
-use Rattle.adjudicate_core.specs.Commands.Audit as audits
-use Rattle.adjudicate_core.specs.Commands.AuditGames as game_audits
-use Rattle.adjudicate_core.specs.Commands.GameRecord as game_records
-use Rattle.adjudicate_core.specs.Commands.Version as versions
-use Rattle.adjudicate_core.specs.Commands.Probes as of_probes
-use Rattle.adjudicate_core.specs.Commands.Root as roots
-use Rattle.adjudicate_core.specs.Commands.Follow as follows
-use Rattle.adjudicate_core.specs.Commands.Status as statuses
-use Rattle.adjudicate_core.specs.Commands.Serve as serves
-use Rattle.adjudicate_core.specs.Keys.{HasKeys, LacksKeys}
+use Rattle.table_commands.specs.Judge as judges
+use Rattle.table_commands.specs.Probe as probes
+use Rattle.record_commands.specs.Moves as of_moves
+use Rattle.table_commands.specs.List as lists
+use Rattle.table_commands.specs.Check as checks
+use Rattle.record_commands.specs.Show as shows
+use Rattle.record_commands.specs.Run as runs
+use Rattle.table_commands.specs.Game as games
+use Rattle.table_commands.specs.Games as of_games
+use Rattle.table_commands.specs.Pgn as of_pgn
+use Rattle.record_commands.specs.Record as records
+use Rattle.record_commands.specs.Audit as audits
+use Rattle.record_commands.specs.AuditGames as game_audits
+use Rattle.record_commands.specs.GameRecord as game_records
+use Rattle.adjudicate_core.specs.Version as versions
+use Rattle.table_commands.specs.Probes as of_probes
+use Rattle.table_commands.specs.Root as roots
+use Rattle.table_commands.specs.Follow as follows
+use Rattle.serve_commands.specs.Status as statuses
+use Rattle.adjudicate_core.specs.Serve as serves
+use Rattle.answer_parts.specs.Keys.{HasKeys, LacksKeys}
 use Rattle.sealed_port.specs.KeyedHosts.{keyed_host}
 use Rattle.sealed_port.specs.Sealing.{SealedView, sealed_facts}
 use Rattle.sealed_port.specs.declared.seal_port.Keys.{Keys}
-use Rattle.adjudicate_core.specs.Reply.{AnswersOnce, AnswersRead, IsText}
-use Rattle.adjudicate_core.specs.Telling.{TellsOne}
-use Rattle.adjudicate_core.specs.Tasks.{IsTask, IsMisuse, NamesNoCommand, key_in, named_in}
+use Rattle.answer_parts.specs.Reply.{AnswersOnce, AnswersRead, IsText}
+use Rattle.answer_parts.specs.Telling.{TellsOne}
+use Rattle.command_line.specs.Tasks.{IsTask, IsMisuse, NamesNoCommand, key_in, named_in}
 
 -- words as the bytes of their texts
 abbrev pub texts : List (Bor (List ℕ)) → List (List ℕ)

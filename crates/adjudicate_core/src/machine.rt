@@ -1,8 +1,8 @@
 //! All that is known of a system, as one argument.
 
-ghost use Rattle.adjudicate_core.specs.Outsides.{OutsideWithStores, machine_of};
+ghost use Rattle.serve_commands.specs.Outsides.{OutsideWithStores, machine_of};
 
-use crate::system::System;
+use serve_commands::System;
 use system_io::{Disk, Host, Input};
 
 /// What is known of a system, from one history of its host to a later one.

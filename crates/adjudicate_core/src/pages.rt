@@ -2,9 +2,9 @@
 
 ghost use Rattle.std.specs.Prelude.{OnErr};
 ghost use Rattle.line_teller.specs.ToldLines.{HasFailed};
-ghost use Rattle.adjudicate_core.specs.Commands.Serve.{Serves};
+ghost use Rattle.adjudicate_core.specs.Serve.{Serves};
 
-use crate::commands::Serve;
+use command_line::Serve;
 use std::alloc::Global;
 use system_io::{Disk, Host, Output, WriteFault};
 

@@ -1,36 +1,29 @@
 //! The program's words, its output and its status.
 
 ghost use Rattle.std.specs.Prelude.{◌≡◌, ◌≢◌, ◌⊎◌, IfOk, Ok, OnErr, drop, false, map, string_bytes};
-ghost use Rattle.adjudicate_core.specs.declared.commands.Task.{Task};
+ghost use Rattle.command_line.specs.declared.commands.Task.{Task};
 ghost use Rattle.line_teller.specs.ToldLines.{HasFailed, refused_memory};
 ghost use Rattle.adjudicate_core.specs.Makes.{Makes, MakesCalled, MakesFor};
 ghost use Rattle.adjudicate_core.specs.Running.{AnswersByKey, AnswersFrom, AnswersTask, Called, Performs, called_by, texts};
-ghost use Rattle.adjudicate_core.specs.Silences.{IsLoud, TellsIfLost, TellsSilence};
-ghost use Rattle.adjudicate_core.specs.Tasks.{IsTask, tells_progress};
-ghost use Rattle.adjudicate_core.specs.Uses.{TellsMisuse};
+ghost use Rattle.serve_commands.specs.Silences.{IsLoud, TellsIfLost, TellsSilence};
+ghost use Rattle.command_line.specs.Tasks.{IsTask, tells_progress};
+ghost use Rattle.command_line.specs.Uses.{TellsMisuse};
 ghost use Rattle.move_msg.specs.TextLines.{ended};
 ghost use Rattle.std.specs.Io.KnownBytes.{Appends};
 
-use crate::answers::lines::put_refusal;
-use crate::answers::refusals::Refusal;
-use crate::answers::{put_answered, put_read};
-use crate::commands::{Task, parse};
-use crate::entering::enter;
-use crate::hosting::host_games;
-use crate::keys::keys_at;
-use crate::listening::listen;
 use crate::machine::Machine;
 use crate::noting::TablesNoted;
 use crate::pages::Pages;
-use crate::sending::send;
-use crate::silence::tell_silence;
-use crate::system::System;
-use crate::words::usage::{Misuse, Usage, WordsFault};
-use crate::words::uses::tell_misuse;
+use crate::version;
+use answer_parts::{Refusal, keys_at, put_answered, put_read, put_refusal};
+use command_line::{Misuse, Task, Usage, WordsFault, parse, tell_misuse};
+use record_commands::{audit, audit_games, game_record, moves, record, show};
 use sealed_port::Keyed;
+use serve_commands::{System, enter, host_games, listen, send, status, tell_silence};
 use std::alloc::{AllocError, Global};
 use std::io::Write;
 use system_io::{Host, Input, LineDisk, Output, ReadFault, WriteFault};
+use table_commands::{check, follow, game, games, judge, list, pgn, probe, probes, root};
 use task_files::Inputs;
 
 /// What a task is answered from.
@@ -68,29 +61,52 @@ fn answer_given<'s, D: LineDisk, I: Input, H: Host, G: Pages, W: Output, E: Outp
 {
     let Context { sources, system } = given;
     match task {
-        Task::Judge(task) => put_answered(out, task.answer(alloc, sources, system.disk)),
-        Task::Probe(task) => put_answered(out, task.answer(alloc, sources, system.disk)),
-        Task::Moves(task) => put_answered(out, task.answer(alloc)),
-        Task::List(task) => put_read(out, task.answer(alloc, system.disk, err)),
-        Task::Check(task) => put_read(out, task.answer(alloc, system.disk, err)),
-        Task::Show(task) => task.answer(sources, out),
-        Task::Run(task) => put_answered(out, task.answer(alloc, sources)),
+        Task::Judge(task) => put_answered(out, judge::answer(alloc, task, sources, system.disk)),
+        Task::Probe(task) => put_answered(out, probe::answer(alloc, task, sources, system.disk)),
+        Task::Moves(task) => put_answered(out, moves::answer(alloc, task)),
+        Task::List(task) => put_read(out, list::answer(alloc, task, system.disk, err)),
+        Task::Check(task) => put_read(out, check::answer(alloc, task, system.disk, err)),
+        Task::Show(task) => show::answer(task, sources, out),
+        Task::Run(task) => put_answered(out, record_commands::run::answer(alloc, task, sources)),
         Task::Listen(task) => listen(alloc, task, sources, system.host, history, out),
-        Task::Probes(task) => task.answer(alloc, sources, system.disk, system.input, out, err),
-        Task::Game(task) => put_answered(out, task.answer(alloc, sources, system.disk)),
-        Task::Games(task) => task.answer(alloc, sources, system.disk, system.input, out, err),
-        Task::Pgn(task) => task.answer(alloc, sources, system.disk, system.input, out),
-        Task::Record(task) => put_answered(out, task.answer(alloc, sources)),
-        Task::GameRecord(task) => task.answer(alloc, system.disk, system.host, out),
-        Task::Audit(task) => put_answered(out, task.answer(alloc, sources)),
-        Task::AuditGames(task) => task.answer(alloc, sources, system.disk, system.host, out),
-        Task::Version(task) => task.answer(out),
+        Task::Probes(task) => probes::answer(
+            alloc,
+            task,
+            sources,
+            system.disk,
+            system.input,
+            out,
+            err,
+        ),
+        Task::Game(task) => put_answered(out, game::answer(alloc, task, sources, system.disk)),
+        Task::Games(task) => games::answer(
+            alloc,
+            task,
+            sources,
+            system.disk,
+            system.input,
+            out,
+            err,
+        ),
+        Task::Pgn(task) => pgn::answer(alloc, task, sources, system.disk, system.input, out),
+        Task::Record(task) => put_answered(out, record::answer(alloc, task, sources)),
+        Task::GameRecord(task) => game_record::answer(alloc, task, system.disk, system.host, out),
+        Task::Audit(task) => put_answered(out, audit::answer(alloc, task, sources)),
+        Task::AuditGames(task) => audit_games::answer(
+            alloc,
+            task,
+            sources,
+            system.disk,
+            system.host,
+            out,
+        ),
+        Task::Version(task) => version::answer(task, out),
         Task::Send(task) => tell_silence(err, send(alloc, task, system, history, out)),
         Task::Enter(task) => enter(alloc, task, system, history, out),
         Task::Host(task) => host_games(alloc, task, sources, system, history, out),
-        Task::Root(task) => task.answer(alloc, sources, system.disk, system.input, out, err),
-        Task::Follow(task) => task.answer(alloc, sources, system.disk, system.input, out),
-        Task::Status(task) => task.answer(alloc, system.disk, system.host, out),
+        Task::Root(task) => root::answer(alloc, task, sources, system.disk, system.input, out, err),
+        Task::Follow(task) => follow::answer(alloc, task, sources, system.disk, system.input, out),
+        Task::Status(task) => status::answer(alloc, task, system.disk, system.host, out),
         Task::Serve(task) => {
             system
                 .pages

@@ -1,6 +1,7 @@
 //! Where no request is answered.
 
-use adjudicate_core::{Pages, Serve};
+use adjudicate_core::Pages;
+use command_line::Serve;
 use std::alloc::Global;
 use system_io::{Disk, Host, Output, WriteFault};
 

@@ -10,9 +10,11 @@ use crate::report::{
 };
 use crate::shelf::parted;
 use crate::system::tell_system;
-use adjudicate_core::{System, Task, Usage, parse, run};
+use adjudicate_core::run;
+use command_line::{Task, Usage, parse};
 use line_teller::tell_lines;
 use row_calls::{Fault, Given, tell_call};
+use serve_commands::System;
 use std::alloc::{AllocError, Global};
 use system_fakes::MemoryDisk;
 use system_io::{Input, WriteFault};

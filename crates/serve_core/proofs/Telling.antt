@@ -8,8 +8,8 @@ use Rattle.line_teller.proofs.FrontLaws.{front_next}
 use Rattle.move_msg.specs.TextLines.{ended}
 use Rattle.system_io.specs.declared.output.WriteFault.{WriteFault}
 use Rattle.arbiter_server.specs.ServedLines.{refused_port}
-use Rattle.adjudicate_core.specs.Commands.Serve.{Done, Lost, ServesFolder, ready_line}
-use Rattle.adjudicate_core.specs.Telling.{TellsOne, TellsWholeText}
+use Rattle.adjudicate_core.specs.Serve.{Done, Lost, ServesFolder, ready_line}
+use Rattle.answer_parts.specs.Telling.{TellsOne, TellsWholeText}
 
 -- what was written and flushed is a front of itself
 pub whole_is_front : (old mid new : Option (List ℕ)) (text : List ℕ) → Appends old mid text → Keeps mid new → HasFront old new text

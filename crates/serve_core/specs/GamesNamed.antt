@@ -1,6 +1,6 @@
 -- The folders of games that the words of `serve` name (this project's own).
 use Rattle.std.specs.Prelude.{Option, option_map}
-use Rattle.adjudicate_core.specs.declared.commands.serve.Serve.{Serve}
+use Rattle.command_line.specs.declared.commands.serve.Serve.{Serve}
 use Rattle.http_answer.specs.Games.{GamesOn}
 
 -- on a disk, with the host that reads stores

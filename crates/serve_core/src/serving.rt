@@ -3,15 +3,16 @@
 ghost use Rattle.std.specs.Prelude.{◌≡◌, ◌≤◌, IfOk, OnErr, length, string_bytes, ℕ, List};
 ghost use Rattle.line_teller.specs.ToldLines.{HasFailed};
 ghost use Rattle.move_msg.specs.ToldBy.{told_by};
-ghost use Rattle.adjudicate_core.specs.Commands.Serve.{Serves, ServesFolder, manifest_path, ready_line};
-ghost use Rattle.adjudicate_core.specs.Lines.{refused_manifest};
-ghost use Rattle.adjudicate_core.specs.Telling.{TellsOne, TellsWholeText};
+ghost use Rattle.adjudicate_core.specs.Serve.{Serves, ServesFolder, manifest_path, ready_line};
+ghost use Rattle.answer_parts.specs.Lines.{refused_manifest};
+ghost use Rattle.answer_parts.specs.Telling.{TellsOne, TellsWholeText};
 ghost use Rattle.serve_core.specs.GamesNamed.{games_named};
 ghost use Rattle.task_files.specs.Outside.{IsToldAt};
 
 use crate::answering::answer_requests;
 use crate::logging::Logged;
-use adjudicate_core::{Pages, Serve, arena_for};
+use adjudicate_core::Pages;
+use command_line::Serve;
 use http_answer::{Answerer, GameFolders, Games, Router};
 use http_loop::{Limits, Server, Sockets};
 use http_server::Config;
@@ -24,6 +25,7 @@ use std::net::{Net, SocketAddr, ToSocketAddrs};
 use std::random::RandomSource;
 use std::time::{Clock, Duration};
 use system_io::{Disk, Host, Output, ReadFault, WriteFault};
+use table_commands::arena_for;
 use table_folder::TableFolder;
 use task_files::read_manifest;
 

@@ -1,7 +1,8 @@
 use Rattle.std.proofs.Common.{◌∙◌, refl, sym, ap, inl}
-use Rattle.adjudicate_core.specs.Tasks.{tells_progress}
-use Rattle.adjudicate_core.proofs.AnswerLaws.{after_reading, listened, once, once_always, sent, sent_failed, told_or_quiet}
-use Rattle.adjudicate_core.proofs.HostLaws.{hosted_games}
+use Rattle.command_line.specs.Tasks.{tells_progress}
+use Rattle.answer_parts.proofs.AnswerLaws.{after_reading, once, once_always}
+use Rattle.adjudicate_core.proofs.AnswerLaws.{listened, sent, sent_failed, told_or_quiet}
+use Rattle.serve_commands.proofs.HostLaws.{hosted_games}
 use Rattle.adjudicate_core.proofs.MakeLaws.{enter_makes, files_with, host_makes, listen_makes, makes_nothing, send_makes, store_with}
 use Rattle.adjudicate_core.proofs.program.answer_given.Goals as goal
 

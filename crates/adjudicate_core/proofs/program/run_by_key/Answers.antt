@@ -1,9 +1,9 @@
 use Rattle.std.proofs.Common.{◌≡◌, ◌∙◌, Some, None, ap, inl, refl, subst, sym}
 use Rattle.std.specs.Prelude.{option_map}
-use Rattle.adjudicate_core.specs.Inside.Keying.{GivesKeys}
-use Rattle.adjudicate_core.specs.Lines.{refusal_words}
+use Rattle.answer_parts.specs.Keying.{GivesKeys}
+use Rattle.answer_parts.specs.Lines.{refusal_words}
 use Rattle.adjudicate_core.specs.Running.{Bare, BySeal, NoKeys, NoRoomForKeys}
-use Rattle.adjudicate_core.specs.Tasks.{key_in}
+use Rattle.command_line.specs.Tasks.{key_in}
 use Rattle.adjudicate_core.proofs.KeyLaws.{over_keyed}
 use Rattle.adjudicate_core.proofs.MakeLaws.{makes_nothing}
 use Rattle.adjudicate_core.proofs.program.run_by_key.Goals as goal

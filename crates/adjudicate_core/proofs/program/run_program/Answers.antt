@@ -1,5 +1,5 @@
 use Rattle.std.proofs.Common.{◌≡◌, Err, ap, refl, rules}
-use Rattle.adjudicate_core.specs.declared.words.usage.WordsFault.TheVariants.{NoText}
+use Rattle.command_line.specs.declared.words.usage.WordsFault.TheVariants.{NoText}
 use Rattle.adjudicate_core.specs.Running.{OnNoText, OnWords, called_by}
 use Rattle.adjudicate_core.proofs.MakeLaws.{none_called}
 use Rattle.adjudicate_core.proofs.program.run_program.Goals as goal

@@ -1,6 +1,6 @@
 use Rattle.std.proofs.Common.{◌∙◌, ◌++◌, ℕ, List, ap, subst}
 use Rattle.std.specs.Fmt.{decimal}
-use Rattle.adjudicate_core.specs.Telling.{TellsOne}
+use Rattle.answer_parts.specs.Telling.{TellsOne}
 use Rattle.serve_core.proofs.serving.refuse_manifest.Goals as goal
 
 pub returns-clause-told : goal.returns-clause-told

@@ -1,8 +1,8 @@
 use Rattle.std.proofs.Common.{Err, ap, subst}
 use Rattle.move_msg.specs.ToldBy.{told_by}
 use Rattle.task_files.specs.Outside.{IsToldAt}
-use Rattle.adjudicate_core.specs.Commands.Serve.{BadManifest, NoFolder, OverFolder, manifest_path}
-use Rattle.adjudicate_core.proofs.FolderLaws.{is_sound}
+use Rattle.adjudicate_core.specs.Serve.{BadManifest, NoFolder, OverFolder, manifest_path}
+use Rattle.table_commands.proofs.FolderLaws.{is_sound}
 use Rattle.serve_core.proofs.serving.serve_by.Goals as goal
 
 pub returns-in-BadLine-clause-told : goal.returns-in-BadLine-clause-told

@@ -1,5 +1,5 @@
 use Rattle.std.proofs.Common.{Err, ap}
-use Rattle.adjudicate_core.specs.Commands.Serve.{NoManifest}
+use Rattle.adjudicate_core.specs.Serve.{NoManifest}
 use Rattle.serve_core.proofs.serving.SystemPagesPages.serve_requests.Goals as goal
 
 pub returns-in-Err-Unreadable-clause-told : goal.returns-in-Err-Unreadable-clause-told

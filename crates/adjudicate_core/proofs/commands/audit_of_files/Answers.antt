@@ -1,7 +1,0 @@
-use Rattle.clap.specs.Words.{first_value, found_of}
-use Rattle.adjudicate_core.specs.Misuses.{fault_words}
-use Rattle.adjudicate_core.proofs.AuditGameLaws.{of_files}
-use Rattle.adjudicate_core.proofs.commands.audit_of_files.Goals as goal
-
-pub returns-in-Err : goal.returns-in-Err
-returns-in-Err c = of_files (first_value (found_of c.args.matches.now)) (fault_words c.in-Err.fault) c.requires c.in-Err.ensures.err

@@ -1,9 +1,0 @@
-use Rattle.std.proofs.Common.{◌≡◌, map, drop}
-use Rattle.clap.specs.Words.{app_of}
-use Rattle.adjudicate_core.specs.Tasks.{app_for}
-use Rattle.adjudicate_core.specs.Rules.{rule_of_value, with_rules}
-use Rattle.adjudicate_core.proofs.commands.command_of.Given as goal
-
--- the values that are left make it the whole command
-abbrev pub invariant-loop-value : goal.invariant-loop-value
-invariant-loop-value l = with_rules (app_of l.command) (map rule_of_value (drop l.value-index l.value-items)) ≡ app_for l.fn.name

@@ -1,7 +1,0 @@
-use Rattle.std.proofs.Common.{sym, ◌∙◌}
-use Rattle.adjudicate_core.proofs.commands.judge.Judge.answer_position.Goals as goal
-
-pub returns-in-Some : goal.returns-in-Some
-returns-in-Some g c =
-    let asked = sym c.read_when_asked.ensures ∙ c.in-Some.is in
-    rw asked (rw c.manifest-manifest.ensures at c.verdict_in.ensures)

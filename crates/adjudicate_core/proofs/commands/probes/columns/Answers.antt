@@ -1,8 +1,0 @@
-use Rattle.std.proofs.Common.{refl}
-use Rattle.adjudicate_core.specs.Commands.Probes.{OfPosition}
-use Rattle.adjudicate_core.proofs.commands.probes.columns.Goals as goal
-
-pub returns-clause-told : goal.returns-clause-told
-returns-clause-told c =
-    OfPosition c.args.position.now c.requires.spelled c.requires.position c.in_ok-columns.columns.probed c.in_ok-columns.ensures.told
-    (rw (c.in_ok-columns.ensures.verdict, c.has_both.ensures) refl)

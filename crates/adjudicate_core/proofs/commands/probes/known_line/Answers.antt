@@ -1,6 +1,0 @@
-use Rattle.std.proofs.Common.{refl}
-use Rattle.adjudicate_core.specs.Commands.Probes.{OfNoText}
-use Rattle.adjudicate_core.proofs.commands.probes.known_line.Goals as goal
-
-pub returns-in-Err-clause-told : goal.returns-in-Err-clause-told
-returns-in-Err-clause-told c = OfNoText c.in-Err.fault c.in-Err.ensures.err refl

@@ -1,7 +1,0 @@
-use Rattle.adjudicate_core.proofs.commands.root.Root.answer_lines.Goals as goal
-
-pub returns-then-self-clause-written : goal.returns-then-self-clause-written
-returns-then-self-clause-written g c = rw (c.if-self.true, ← c.of-ask.ensures) c.put_told.ensures.written
-
-pub returns-else-self-clause-written : goal.returns-else-self-clause-written
-returns-else-self-clause-written g c = rw (c.if-self.false, ← c.of-ask.ensures) c.put_told-else-self.ensures.written

@@ -1,5 +1,0 @@
-use Rattle.adjudicate_core.proofs.GameInPlay.{IsJudgedTo}
-use Rattle.adjudicate_core.proofs.judging.judge_game.Given as goal
-
-abbrev pub invariant-loop-ply : goal.invariant-loop-ply
-invariant-loop-ply g l = IsJudgedTo (g.D.Disk.facts l.folder.disk) l.folder.folder l.set.tables l.start l.moves l.delay l.ply l.standing

@@ -1,7 +1,0 @@
-use Rattle.std.specs.Prelude.{IfSome}
-use Rattle.adjudicate_core.specs.Inside.Putting.{IsNearCommand}
-use Rattle.adjudicate_core.proofs.words.near.near_command.Given as goal
-
--- what was found is a near command
-abbrev pub invariant-loop-name : goal.invariant-loop-name
-invariant-loop-name l = IfSome l.best (λ near. IsNearCommand l.fn.given near.word.now)

@@ -1,7 +1,0 @@
-use Rattle.std.specs.Prelude.{IfSome}
-use Rattle.adjudicate_core.specs.Uses.{IsOptionOf}
-use Rattle.adjudicate_core.proofs.words.near.near_option.Given as goal
-
--- what was found is an option or a flag of the command
-abbrev pub invariant-loop-value : goal.invariant-loop-value
-invariant-loop-value l = IfSome l.best (λ near. IsOptionOf l.fn.name near.word.now)

@@ -1,9 +1,0 @@
-use Rattle.adjudicate_core.proofs.PutLaws.{two_cut, two_put}
-use Rattle.adjudicate_core.proofs.words.uses.put_two.Goals as goal
-
-pub returns-in-Ok : goal.returns-in-Ok
-returns-in-Ok g c =
-    two_put g.E.Output.facts g.E.Write.contents c.args.errors.now c.put_shown.new.errors c.put_shown-in-Ok.new.errors c.args.front.now c.args.rest.now c.put_shown-in-Ok.result c.in-Ok.ensures c.put_shown-in-Ok.ensures
-
-pub returns-in-Err : goal.returns-in-Err
-returns-in-Err g c = two_cut g.E.Output.facts g.E.Write.contents c.args.errors.now c.put_shown.new.errors c.args.front.now c.args.rest.now c.in-Err.ensures

@@ -1,0 +1,13 @@
+pub mod Lines
+pub mod Reply
+pub mod Telling
+pub mod LineAnswers
+pub mod JsonAnswers
+pub mod Asked
+pub mod Looks
+pub mod Refusals
+pub mod Manifests
+pub mod Manifesting
+pub mod Keys
+pub mod Keying
+pub mod Stores

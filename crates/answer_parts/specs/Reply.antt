@@ -1,0 +1,58 @@
+-- Replies: a text and a status (this project's own).
+use Rattle.std.specs.Prelude.{◌≡◌, ℕ, Bool, List, Option, Result, Ok, Err, if◌then◌else◌}
+use Rattle.board_core.specs.declared.parts.Parts.{Parts}
+use Rattle.board_core.specs.Position.{IsPosition}
+use Rattle.fen_text.specs.declared.fault.FenFault.{FenFault}
+use Rattle.fen_text.specs.Fen.{SpellsPosition, IsFirstFenFault}
+use Rattle.judge_core.specs.Tables.{Tables}
+use Rattle.move_msg.specs.TextLines.{ended}
+use Rattle.system_io.specs.declared.output.WriteFault.{WriteFault}
+use Rattle.answer_parts.specs.Lines.{refused_fen}
+use Rattle.answer_parts.specs.Telling.{TellsOne, TellsWholeText}
+use Rattle.line_teller.specs.ToldLines.{refused_files, refused_memory}
+
+pub record Reply : Type 0 where
+  pub text : List ℕ
+  pub status : ℕ
+
+-- 0 where all is done, 1 where something is refused
+abbrev pub status_if : Bool → ℕ
+status_if done = if done then 0 else 1
+
+-- so it is of what a call tells of that, unless the writer failed
+abbrev pub status_told : Result Bool WriteFault → Result ℕ WriteFault
+status_told (Ok done) = Ok (status_if done)
+status_told (Err fault) = Err fault
+
+-- a refusal is one line, with status 1
+abbrev pub refusal_reply : List ℕ → Reply
+refusal_reply words = record { text = ended words; status = 1 }
+
+-- a reply by these tables, or the words that refuse them
+abbrev pub ByTables : Result Tables (List ℕ) → (Tables → Parts → Reply → Type 0) → Parts → Reply → Type 0
+ByTables (Ok tables) IsAnswer p r = IsAnswer tables p r
+ByTables (Err words) IsAnswer p r = r ≡ refusal_reply words
+
+-- the reply to the position that a text spells, or the refusal of the text before all else
+pub data IsForText (text : List ℕ) (IsAnswer : Parts → Reply → Type 0) (r : Reply) : Type 0 where
+  ForPosition : (p : Parts) → SpellsPosition text p → IsPosition p → IsAnswer p r → IsForText text IsAnswer r
+  ForNone : (fault : FenFault) → IsFirstFenFault text fault → r ≡ refusal_reply (refused_fen fault) → IsForText text IsAnswer r
+
+-- the text spells a position
+abbrev pub IsText : List ℕ → Type 0
+IsText text = (p : Parts) × SpellsPosition text p × IsPosition p
+
+-- the reply was written whole, and its status told; or, where the writer failed, a front of it was written
+abbrev pub WritesReply : Option (List ℕ) → Option (List ℕ) → Reply → Result ℕ WriteFault → Type 0
+WritesReply old new reply r = TellsWholeText reply.text reply.status old new r
+
+-- what a command answers that tells all at once: its reply, or, where the reply takes memory, that memory was refused
+pub data AnswersOnce (IsReply : Reply → Type 0) (TakesMemory : Type 0) (old new : Option (List ℕ)) (r : Result ℕ WriteFault) : Type 0 where
+  Replied : (reply : Reply) → IsReply reply → WritesReply old new reply r → AnswersOnce IsReply TakesMemory old new r
+  Refused : TakesMemory → TellsOne refused_memory old new r → AnswersOnce IsReply TakesMemory old new r
+
+-- what a command answers that reads files on the way: its reply; or something that it reads can't be read; or memory was refused
+pub data AnswersRead (IsReply : Reply → Type 0) (CannotRead : Type 0) (old new : Option (List ℕ)) (r : Result ℕ WriteFault) : Type 0 where
+  ReadAll : (reply : Reply) → IsReply reply → WritesReply old new reply r → AnswersRead IsReply CannotRead old new r
+  Unread : CannotRead → TellsOne refused_files old new r → AnswersRead IsReply CannotRead old new r
+  NoRoomToRead : TellsOne refused_memory old new r → AnswersRead IsReply CannotRead old new r

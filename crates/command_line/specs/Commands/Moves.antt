@@ -1,0 +1,26 @@
+-- The words of `moves [--san] FEN` (this project's own).
+use Rattle.std.specs.Prelude.{◌≡◌, List, [], ◌∷◌, Option, Some, codes}
+use Rattle.clap.specs.Words.{Rule, Text}
+use Rattle.command_line.specs.Rules.{rule_of_form}
+use Rattle.command_line.specs.declared.commands.Form.TheVariants as form
+use Rattle.command_line.specs.Misuses.{Fault, NoWord}
+use Rattle.task_files.specs.Sources.{Named, nothing}
+use Rattle.command_line.specs.Numbers.{is_set}
+use Rattle.command_line.specs.declared.commands.moves.Moves.{Moves}
+
+abbrev pub rules : List Rule
+rules =
+    rule_of_form form.Flag (codes "san")
+    ∷ rule_of_form form.Word (codes "FEN") ∷ []
+
+-- the values of its arguments
+abbrev pub HasValues : (Text → Option Text) → Moves → Type 0
+HasValues value t = (t.san ≡ is_set (value (codes "san"))) × (Some t.fen.now ≡ value (codes "FEN"))
+
+-- what may be wrong with its values, in the order in which it is told
+abbrev pub faults : List Fault
+faults = NoWord (codes "FEN") ∷ []
+
+-- what is read for it
+abbrev pub named : Moves → Named
+named t = nothing

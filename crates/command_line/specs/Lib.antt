@@ -1,0 +1,12 @@
+pub mod Numbers
+pub mod Rules
+pub mod Commands
+pub mod Tasks
+pub mod Misuses
+pub mod Usage
+pub mod Uses
+pub mod Putting
+pub mod Addresses
+pub mod GamePaths
+pub mod LazyFolders
+pub mod Inside

@@ -1,0 +1,4 @@
+pub mod TextLaws
+pub mod ShowLaws
+pub mod ScheduleLaws
+pub mod AuditAgreementLaws

@@ -1,0 +1,14 @@
+use Rattle.answer_parts.specs.Asked.{reply_of}
+use Rattle.answer_parts.proofs.TextLaws.{for_memory, for_none, for_position}
+use Rattle.record_commands.proofs.audit.answer.Goals as goal
+
+pub returns-in-Err-clause-ok : goal.returns-in-Err-clause-ok
+returns-in-Err-clause-ok c = for_none _ _ _ c.in-Err.fault c.as_bytes.ensures.value c.in-Err.ensures.err
+
+pub returns-in-Ok-clause-ok : goal.returns-in-Ok-clause-ok
+returns-in-Ok-clause-ok c =
+    for_position reply_of c.answer_from.result _ _ c.in-Ok.start c.as_bytes.ensures.value c.in-Ok.ensures.ok c.in-Ok.ensures.position _ c.answer_from.ensures
+
+pub returns-in-Ok-clause-memory : goal.returns-in-Ok-clause-memory
+returns-in-Ok-clause-memory c =
+    for_memory reply_of c.answer_from.result _ _ c.in-Ok.start c.as_bytes.ensures.value c.in-Ok.ensures.ok c.in-Ok.ensures.position

@@ -1,0 +1,2 @@
+-- Invariants of values and intermediate results of functions. Private clauses alone cite them.
+pub mod Fronts

@@ -1,0 +1,31 @@
+-- What is looked up in a folder whose tables are read when a position asks for them; cited by private functions alone.
+use Rattle.std.specs.Prelude.{◌≡◌, ℕ, List, Option, Some, Result, Ok, Err}
+use Rattle.board_core.specs.declared.parts.Parts.{Parts}
+use Rattle.judge_core.specs.declared.display.Columns.{Columns}
+use Rattle.judge_core.specs.ProbeResult.{IsProbed}
+use Rattle.judge_core.specs.Ruling.{ruling}
+use Rattle.judge_core.specs.Tables.{Tables}
+use Rattle.move_msg.specs.ToldManifests.{ToldManifest}
+use Rattle.system_io.specs.Disks.{DiskFacts}
+use Rattle.table_folder.specs.declared.fault.FileRefusal.{FileRefusal}
+use Rattle.table_folder.specs.Folders.{Folder}
+use Rattle.table_folder.specs.Settled.{AnswersBy, IsAlone, IsRefusedFor}
+use Rattle.task_files.specs.Outside.{FolderFails}
+use Rattle.table_commands.specs.FolderAnswers.{IsOpenAt, IsSound}
+use Rattle.answer_parts.specs.declared.answers.refusals.Refusal.{Refusal}
+use Rattle.answer_parts.specs.declared.answers.refusals.Refusal.TheVariants as refusal
+
+-- what tables say of a position
+abbrev pub AreColumns : Parts → Tables → Columns → Type 0
+AreColumns p tables columns = IsProbed tables p columns.probed × (columns.verdict ≡ ruling tables p)
+
+-- the manifest is at fault, or else the folder can't be listed or lists a file twice
+pub data LacksFolder (disk : DiskFacts) (path : List ℕ) (manifest : Option ToldManifest) (refused : Refusal) : Type 0 where
+  HasBadLine : (line : ℕ) → manifest ≡ Some (Err line) → refused ≡ refusal.Manifest line → LacksFolder disk path manifest refused
+  CannotList : IsSound manifest → FolderFails disk path manifest → refused ≡ refusal.Files → LacksFolder disk path manifest refused
+
+-- what a folder's tables say of a position, or why they say nothing
+pub data FindsColumns (disk : DiskFacts) (path : List ℕ) (manifest : Option ToldManifest) (p : Parts) (found : Result Columns Refusal) : Type 0 where
+  FindsNoFolder : (refused : Refusal) → LacksFolder disk path manifest refused → found ≡ Err refused → FindsColumns disk path manifest p found
+  FindsBadFile : (folder : Folder) → IsOpenAt disk path manifest folder → (file : FileRefusal) → IsRefusedFor disk folder (IsAlone p) file → found ≡ Err (refusal.File file.name file.fault) → FindsColumns disk path manifest p found
+  FindsAll : (folder : Folder) → IsOpenAt disk path manifest folder → (columns : Columns) → AnswersBy disk folder (IsAlone p) (λ tables. AreColumns p tables columns) → found ≡ Ok columns → FindsColumns disk path manifest p found

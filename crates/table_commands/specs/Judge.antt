@@ -1,0 +1,31 @@
+-- `judge [--tables DIR] [--manifest FILE] [--lazy] FEN`: the verdict on a position (this project's own).
+use Rattle.std.specs.Prelude.{◌≡◌, ℕ, List, Option, Some, None}
+use Rattle.board_core.specs.declared.parts.Parts.{Parts}
+use Rattle.judge_core.specs.Ruling.{ruling}
+use Rattle.judge_core.specs.Words.{verdict_words}
+use Rattle.judge_core.specs.Tables.{Tables}
+use Rattle.move_msg.specs.TextLines.{ended}
+use Rattle.task_files.specs.Given.{Given}
+use Rattle.std.specs.Borrow.{Bor}
+use Rattle.system_io.specs.Disks.{DiskFacts}
+use Rattle.table_folder.specs.Settled.{IsAlone}
+use Rattle.table_commands.specs.FolderAnswers.{ByFolder, refused_table}
+use Rattle.command_line.specs.LazyFolders.{read_when_asked}
+use Rattle.answer_parts.specs.Looks.{gathered}
+use Rattle.answer_parts.specs.Reply.{ByTables, IsForText, Reply}
+use Rattle.command_line.specs.declared.commands.judge.Judge.{Judge}
+
+-- the verdict's name, or that the game goes on
+unfoldable pub judged : Tables → Parts → Reply
+judged tables p = record { text = ended (verdict_words (ruling tables p)); status = 0 }
+
+abbrev pub IsJudged : Tables → Parts → Reply → Type 0
+IsJudged tables p r = r ≡ judged tables p
+
+-- by the tables of a folder that are read when the position asks for them, or by those that were given
+abbrev pub IsJudgedBy : DiskFacts → Given → Option (Bor (List ℕ)) → Parts → Reply → Type 0
+IsJudgedBy disk given (Some path) = ByFolder disk path.now given.told IsAlone refused_table IsJudged
+IsJudgedBy disk given None = ByTables (gathered given) IsJudged
+
+abbrev pub IsReply : DiskFacts → Judge → Given → Reply → Type 0
+IsReply disk t given r = IsForText t.fen.now (IsJudgedBy disk given (read_when_asked t.lazy t.tables)) r

@@ -1,0 +1,14 @@
+pub mod FolderAnswers
+pub mod TableAnswers
+pub mod JsonAnswers
+pub mod Judge
+pub mod Probe
+pub mod Probes
+pub mod Root
+pub mod Game
+pub mod Games
+pub mod Pgn
+pub mod Follow
+pub mod List
+pub mod Check
+pub mod Inside

@@ -1,0 +1,91 @@
+//! `judge`: the verdict on a position.
+
+ghost use Rattle.std.specs.Prelude.{IfOk, OnErr};
+ghost use Rattle.table_commands.specs.Judge.{IsJudged, IsJudgedBy, IsReply};
+ghost use Rattle.table_folder.specs.Settled.{IsAlone};
+ghost use Rattle.table_commands.specs.FolderAnswers.{ByFolder, refused_table};
+ghost use Rattle.command_line.specs.LazyFolders.{read_when_asked};
+ghost use Rattle.answer_parts.specs.Asked.{reply_of};
+ghost use Rattle.answer_parts.specs.Looks.{gathered};
+ghost use Rattle.answer_parts.specs.Reply.{ByTables, IsText};
+ghost use Rattle.move_msg.specs.ToldBy.{told_by};
+
+use crate::folders::{FolderPlace, columns_in};
+use answer_parts::{Answer, Line, Refusal, gather};
+use board_core::Position;
+use command_line::{CacheSize, Judge, read_when_asked};
+use fen_text::read;
+use std::alloc::{AllocError, Global};
+use system_io::Disk;
+use task_files::Inputs;
+
+/// The verdict by the tables of files, or that the game goes on, or the refusal of the files: of a manifest at fault, then of
+/// the first file at fault.
+#[tactic(auto, unfolding(crate::specs::Judge::judged))]
+fn verdict_of(alloc: Global, sources: &Inputs, position: &Position) -> Result<Answer, AllocError>
+    ensures { IfOk result (λ a. ByTables (gathered sources.now) IsJudged position.now (reply_of a)) }
+{
+    match gather(alloc, sources, CacheSize::usual()) {
+        Ok(Ok(mut set)) => {
+            let verdict = set.judge(alloc, position)?;
+            Ok(Answer::One(Line::Ruling(verdict), true))
+        }
+        Ok(Err(refusal)) => Ok(Answer::Refused(refusal)),
+        Err(_) => Err(AllocError),
+    }
+}
+
+/// The verdict by the tables of a folder, of which those are read that the position asks for, or the refusal of one of these.
+fn verdict_in<D: Disk>(
+    alloc: Global,
+    place: &FolderPlace<'_, D>,
+    position: &Position,
+) -> Result<Answer, AllocError>
+    ensures { IfOk result (λ a. ByFolder (D.facts place.now.disk.now) place.now.path.now (told_by place.now.manifest.now) IsAlone refused_table IsJudged position.now (reply_of a)) }
+{
+    match columns_in(alloc, place, position)? {
+        Ok(columns) => Ok(Answer::One(Line::Ruling(columns.verdict), true)),
+        Err(refusal) => Ok(Answer::Refused(refusal)),
+    }
+}
+
+/// The verdict on a position by the tables that were read, or by those that it asks for.
+fn answer_position<D: Disk>(
+    alloc: Global,
+    task: &Judge<'_>,
+    sources: &Inputs,
+    disk: &D,
+    position: &Position,
+) -> Result<Answer, AllocError>
+    ensures { IfOk result (λ a. IsJudgedBy (D.facts disk.now) sources.now (read_when_asked task.now.lazy task.now.tables) position.now (reply_of a)) }
+{
+    match read_when_asked(task.lazy, task.tables) {
+        Some(path) => {
+            let manifest = sources.manifest();
+            let place = FolderPlace {
+                disk,
+                path,
+                manifest,
+            };
+            verdict_in(alloc, &place, position)
+        }
+        None => verdict_of(alloc, sources, position),
+    }
+}
+
+/// The verdict on the position of the text: a text that is none is refused first. With `--lazy` a table is read when the position
+/// asks for it, and what is at fault in another one isn't told.
+pub fn answer<D: Disk>(
+    alloc: Global,
+    task: &Judge<'_>,
+    sources: &Inputs,
+    disk: &D,
+) -> Result<Answer, AllocError>
+    ensures ok { IfOk result (λ a. IsReply (D.facts disk.now) task.now sources.now (reply_of a)) }
+    ensures memory { OnErr result (IsText task.now.fen.now) }
+{
+    match read(task.fen.as_bytes()) {
+        Err(fault) => Ok(Answer::Refused(Refusal::Fen(fault))),
+        Ok(position) => answer_position(alloc, task, sources, disk, &position),
+    }
+}
