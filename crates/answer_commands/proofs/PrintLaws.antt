@@ -1,6 +1,6 @@
 -- What is written, one thing after another, and what a refused write leaves.
-use Rattle.std.proofs.Common.{◌≡◌, ◌∙◌, ◌⊎◌, ◌++◌, ◌∷◌, ◌+◌, ◌<◌, [], ℕ, List, Option, Some, append_assoc, ap, drop, drop-cons, get_or, inl, inr, length, map, refl, subst, suc, sym, take, take-append-drop}
-use Rattle.std.proofs.lemmas.List.{map-append, take_more}
+use Rattle.std.proofs.Common.{◌≡◌, ◌∙◌, ◌⊎◌, ◌++◌, ◌∷◌, ◌+◌, ◌<◌, ◌≤◌, [], ℕ, List, Option, Some, append_assoc, ap, drop, drop-cons, get_or, inl, inr, length, map, refl, subst, suc, sym, take, take-append-drop}
+use Rattle.std.proofs.lemmas.List.{map-append, take_all, take_more}
 use Rattle.std.specs.Prelude.{Result, Ok, Err}
 use Rattle.answer_parts.specs.Lines.{words_of}
 use Rattle.answer_parts.specs.declared.answers.lines.Line.{Line}
@@ -8,7 +8,7 @@ use Rattle.line_teller.specs.ToldLines.{HasFailed}
 use Rattle.move_msg.specs.TextLines.{ended}
 use Rattle.system_io.specs.declared.output.WriteFault.{WriteFault}
 use Rattle.timeline.proofs.EventLaws.{adds_more}
-use Rattle.timeline.specs.Events.{Event, Flushed, IsWritten, Noted, Refused, Wrote}
+use Rattle.timeline.specs.Events.{Event, Flushed, Noted, Refused, Wrote}
 use Rattle.timeline.specs.Outsides.{Adds, AddsSome, Outside}
 use Rattle.timeline.specs.declared.stream.Stream.TheVariants.{Output}
 use Rattle.answer_commands.specs.Printing.{ArePrinted, Closes, IsCutIn, NotOut, OutputFails, Performs, Prints, WasRefused, output_lost, printed}
@@ -119,6 +119,23 @@ pub words_parted : (lines : List Line) (i : ℕ) (d : Line) → i < length lines
 words_parted lines i d lt is =
     ap (map words_of) (sym (take-append-drop i lines) ∙ ap (λ (l : List Line). take i lines ++ l) (drop-cons lines i d lt ∙ ap (λ (l : Line). l ∷ drop (suc i) lines) (sym is)))
     ∙ map-append words_of (take i lines) (d ∷ drop (suc i) lines)
+
+-- one more of some lines was written
+pub line_printed : {T P F K S L : Type 0} (o : Outside T P F K S L) (a b c : T) (lines : List Line) (i : ℕ) (d : Line) (words : List ℕ) → words ≡ words_of d → i < length lines → d ≡ get_or lines i d → Adds o a b (printed (map words_of (take i lines))) → AddsSome o b c (Whole (ended words))
+    → Adds o a c (printed (map words_of (take (i + 1) lines)))
+line_printed o a b c lines i d words same lt is p q =
+    subst (λ (ls : List (List ℕ)). Adds o a c (printed ls)) (sym (words_more lines i d lt is)) (lines_more o a b c (map words_of (take i lines)) (words_of d) p (subst (λ (w : List ℕ). AddsSome o b c (Whole (ended w))) same q))
+
+-- the next of some lines was refused
+pub line_refused : {T P F K S L : Type 0} (o : Outside T P F K S L) (a b c : T) (lines : List Line) (i : ℕ) (d : Line) (words : List ℕ) → words ≡ words_of d → i < length lines → d ≡ get_or lines i d → Adds o a b (printed (map words_of (take i lines))) → AddsSome o b c (Front (ended words))
+    → AddsSome o a c (IsCutIn (printed (map words_of lines)))
+line_refused o a b c lines i d words same lt is p q =
+    subst (λ (ls : List (List ℕ)). AddsSome o a c (IsCutIn (printed ls))) (sym (words_parted lines i d lt is))
+    (lines_cut o a b c (map words_of (take i lines)) (words_of d) (map words_of (drop (suc i) lines)) p (subst (λ (w : List ℕ). AddsSome o b c (Front (ended w))) same q))
+
+-- all of them were
+pub all_printed : {T P F K S L : Type 0} (o : Outside T P F K S L) (a b : T) (lines : List Line) (i : ℕ) → length lines ≤ i → Adds o a b (printed (map words_of (take i lines))) → AddsSome o a b (λ events. events ≡ printed (map words_of lines))
+all_printed o a b lines i all p = (printed (map words_of lines), subst (λ (ls : List Line). Adds o a b (printed (map words_of ls))) (take_all i lines all) p, refl)
 
 -- lines that were all written, or not, with a status
 pub printed_with : {T P F K S L : Type 0} (o : Outside T P F K S L) (a b : T) (lines : List (List ℕ)) (status : ℕ) → AddsSome o a b (λ events. events ≡ printed lines) → AddsSome o a b (Performs (Prints lines status) (Ok status))
