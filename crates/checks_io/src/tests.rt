@@ -1,5 +1,6 @@
 //! The tests, and what they share.
 
+mod answer_tests;
 mod calls_tests;
 mod comparing;
 mod file_keeper_tests;

@@ -332,7 +332,7 @@ fn columns_line(columns: &Columns) -> LineWords
 
 impl Line {
     /// Its words.
-    fn words(&self) -> LineWords
+    pub fn words(&self) -> LineWords
         ensures { result ≡ words_of self.now }
     {
         match self {

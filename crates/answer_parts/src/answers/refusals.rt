@@ -158,7 +158,7 @@ fn record_line(fault: RecordFault) -> LineWords
 
 impl Refusal {
     /// Its line.
-    pub(crate) fn words(&self) -> LineWords
+    pub fn words(&self) -> LineWords
         ensures { result ≡ refusal_words self.now }
     {
         match self {

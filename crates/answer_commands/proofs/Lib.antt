@@ -1,0 +1,5 @@
+pub mod PrintLaws
+pub mod ShowLaws
+pub mod MoveLaws
+pub mod ScheduleLaws
+pub mod RunLaws

@@ -1,0 +1,32 @@
+-- What happens outside for a task that is answered once (this project's own).
+use Rattle.std.specs.Prelude.{ℕ, List, Option, Some, None}
+use Rattle.command_line.specs.declared.commands.Task.{Task}
+use Rattle.command_line.specs.declared.commands.Task.TheVariants as task
+use Rattle.timeline.specs.Events.{Event}
+use Rattle.timeline.specs.Outsides.{AddsSome, Outside}
+use Rattle.answer_commands.specs.Moves.{PrintsMoves}
+use Rattle.answer_commands.specs.Printing.{Ends}
+use Rattle.answer_commands.specs.Run.{RunsSchedule}
+use Rattle.answer_commands.specs.Show.{ShowsMessages}
+use Rattle.answer_commands.specs.Version.{PrintsVersion}
+use Rattle.answer_commands.specs.declared.answering.AnswerTask.{AnswerTask}
+use Rattle.answer_commands.specs.declared.answering.AnswerTask.TheVariants as answer
+
+-- the tasks that are answered once
+abbrev pub answered_once : Task → Option AnswerTask
+answered_once (task.Version t) = Some answer.Version
+answered_once (task.Show t) = Some answer.Show
+answered_once (task.Moves t) = Some (answer.Moves t)
+answered_once (task.Run t) = Some (answer.Run t)
+answered_once _ = None
+
+-- what the command does, up to the output's end: these events, with this status
+abbrev pub Does : {T P F K S L : Type 0} → Outside T P F K S L → AnswerTask → List Event → Option ℕ → Type 0
+Does o answer.Version events status = PrintsVersion events status
+Does o answer.Show events status = ShowsMessages o.input events status
+Does o (answer.Moves t) events status = PrintsMoves t events status
+Does o (answer.Run t) events status = RunsSchedule o t events status
+
+-- THE CONTRACT OF THE COMMANDS: the task, all that is known outside, what happened before and after, and the status
+abbrev pub Answers : {T P F K S L : Type 0} → AnswerTask → Outside T P F K S L → T → T → ℕ → Type 0
+Answers t o before after status = AddsSome o before after (Ends o after (Does o t) status)

@@ -1,0 +1,5 @@
+-- Intermediate results of functions. Private clauses alone cite them.
+pub mod Answering
+pub mod Fronts
+pub mod Streaming
+pub mod Running

@@ -1,0 +1,30 @@
+//! The commands that answer once, over one timeline: `version`, `show`, `moves` and `run`.
+//!
+//! `answer` does all that such a command does outside: it reads what the task names, writes the answer, a line at a time, sees to it that
+//! all goes out, and returns the status, 0 done or 1 refused. The contract has every event, in order, and says that there is no other one.
+//! Where the output fails, that is a front of them; then it is noted, and the status is 1.
+//!
+//! Inside: a file for each command; `answers` (an answer before it is written), `printing` (lines, refusals and the output's end),
+//! `answering` (all of them).
+//!
+//! Definitions, in reading order: `Printing` (`Prints`, `IsCutIn`, `Performs`, `Closes`, `Ends`), `Inputs`, `Version`, `Show`, `Moves`, `Run`,
+//! `Answers` (`Does`, `Answers`).
+//!
+//! - CLAIM: `answer`: what is read is read once, before anything is written; each line is written after the answer that it is a part of;
+//!   nothing is written to the errors, and nothing else happens outside. An error of the output leaves a front of these events.
+//! - CLAIM: `answer`: `version` and `moves` read nothing. `show` answers want of memory only where reading the input takes some, `moves`
+//!   only for a text that is a position.
+//! - CLAIM: `answer`: `run` reads its folder before the input. It refuses what can't be read first, then the first malformed line of the
+//!   schedule, then the first file that is no table; else the lines are those of the last of its worlds, in each of which both records are
+//!   true to the game.
+#![tactic(auto)]
+
+mod answering;
+mod answers;
+mod moves;
+mod printing;
+mod run;
+mod show;
+mod version;
+
+pub use answering::{AnswerTask, answer};
