@@ -20,7 +20,7 @@ use Rattle.command_line.specs.declared.commands.enter.OneGame.{OneGame}
 
 -- ---- nothing
 
-none_entered : (games : List ℕ) (e : Entries) → IsOfEntries games e []
+pub none_entered : (games : List ℕ) (e : Entries) → IsOfEntries games e []
 none_entered games (One g) = inl refl
 none_entered games (From path) = tt
 
@@ -46,11 +46,11 @@ module _ {P F : Type 0} (p : Place P F) where
   told_makes : (lines : List (List ℕ)) (told : List LineTold) (had has : Option (List Made)) → MakesForTold p lines told had has → (more : List Made) × Passes had has more × AllByRecursion (IsGameIn p.games) more
   told_makes lines told had has (more, passes, are) = (more, passes, games_of_told lines told more are)
 
-  puts_makes : (lines : List (List ℕ)) (had has : Option (List Made)) (old new : Option (List ℕ)) (r : Result ℕ WriteFault) → PutsGames p lines had has old new r → (more : List Made) × Passes had has more × AllByRecursion (IsGameIn p.games) more
+  pub puts_makes : (lines : List (List ℕ)) (had has : Option (List Made)) (old new : Option (List ℕ)) (r : Result ℕ WriteFault) → PutsGames p lines had has old new r → (more : List Made) × Passes had has more × AllByRecursion (IsGameIn p.games) more
   puts_makes lines had has old new (Ok status) h = told_makes lines h.told had has h.makes
   puts_makes lines had has old new (Err fault) h = told_makes lines h.told had has h.makes
 
-  put_makes : (t : OneGame) (g : GameContents) (had has : Option (List Made)) (old new : Option (List ℕ)) (r : Result ℕ WriteFault) → PutsGame p g had has old new r → (more : List Made) × Passes had has more × IsOfEntries p.games (One t) more
+  pub put_makes : (t : OneGame) (g : GameContents) (had has : Option (List Made)) (old new : Option (List ℕ)) (r : Result ℕ WriteFault) → PutsGame p g had has old new r → (more : List Made) × Passes had has more × IsOfEntries p.games (One t) more
   put_makes t g had has old new r (Kept made stamp is told) = one_of t g had has made
     where
       one_of : (t : OneGame) (g : GameContents) (had has : Option (List Made)) → MakesOnce had has (file_of_game p g) → (more : List Made) × Passes had has more × IsOfEntries p.games (One t) more

@@ -1,11 +1,16 @@
 //! The tables of a folder that are read when a position asks for them.
 
-ghost use Rattle.std.specs.Prelude.{◌≡◌, IfOk};
-ghost use Rattle.table_folder.specs.Settled.{IsInPlayBy};
+ghost use Rattle.std.specs.Prelude.{◌≡◌, IfOk, IfErr, false, true};
+ghost use Rattle.table_folder.specs.Settled.{IsAlone, IsInPlayBy, IsWithMoves};
 ghost use Rattle.move_msg.specs.ToldBy.{told_by};
+ghost use Rattle.json_lines.specs.Told.{IsLineOf};
 ghost use Rattle.judge_core.specs.Games.{IsOutcome};
-ghost use Rattle.table_commands.specs.FolderAnswers.{Finds};
-ghost use Rattle.table_commands.specs.Inside.LookingUp.{FindsColumns};
+ghost use Rattle.judge_core.specs.declared.ask.Ask.TheVariants.{Strict};
+ghost use Rattle.table_commands.specs.Root.{IsRootReply};
+ghost use Rattle.table_commands.specs.FolderAnswers.{Finds, IsOpenAt};
+ghost use Rattle.table_commands.specs.JsonAnswers.{needed_by};
+ghost use Rattle.answer_parts.specs.Asked.{reply_of};
+ghost use Rattle.table_commands.specs.Inside.LookingUp.{AreColumns, FindsColumns, LacksFolder};
 
 use crate::judging::judge_game;
 use crate::root::told_by;

@@ -1,13 +1,17 @@
 //! Answers as JSON: one object a line.
 
-ghost use Rattle.std.specs.Prelude.{◌≡◌, IfOk, IsErrOf, OnErr, OnOk};
+ghost use Rattle.std.specs.Prelude.{◌≡◌, ◌++◌, IfOk, IsErrOf, OnErr, OnOk, codes, false, true};
 ghost use Rattle.std.specs.Io.KnownBytes.{Appends};
 ghost use Rattle.table_commands.specs.Inside.JsonLines.{IsPositionLine};
 ghost use Rattle.answer_parts.specs.Asked.{reply_of};
+ghost use Rattle.table_commands.specs.FolderAnswers.{refused_table_in};
 ghost use Rattle.table_commands.specs.JsonAnswers.{TellsJsonByFolder};
 ghost use Rattle.answer_parts.specs.JsonAnswers.{json_reply};
 ghost use Rattle.answer_parts.specs.Reply.{IsText};
+ghost use Rattle.board_core.specs.Position.{IsPosition};
+ghost use Rattle.fen_text.specs.Fen.{SpellsPosition};
 ghost use Rattle.json_lines.specs.Told.{is_done};
+ghost use Rattle.table_folder.specs.Faults.{file_fault_name};
 ghost use Rattle.json_lines.specs.Objects.{json_text, line_json};
 ghost use Rattle.json_lines.specs.declared.told.JsonLine.TheVariants as line;
 ghost use Rattle.line_teller.specs.ToldLines.{HasFailed, HasFront};

@@ -9,6 +9,7 @@ ghost use Rattle.move_msg.specs.ToldBy.{told_by};
 ghost use Rattle.answer_parts.specs.LineAnswers.{PutsLinesOrNone};
 ghost use Rattle.answer_parts.specs.Lines.{words_of};
 ghost use Rattle.judge_core.specs.Ask.{ask_of};
+ghost use Rattle.judge_core.specs.ProbeResult.{numbered};
 ghost use Rattle.answer_parts.specs.Reply.{IsText};
 ghost use Rattle.table_commands.specs.TableAnswers.{PutsByTables};
 ghost use Rattle.line_teller.specs.ToldLines.{HasFailed};
