@@ -1,16 +1,20 @@
 -- What is written, one thing after another, and what a refused write leaves.
 use Rattle.std.proofs.Common.{◌≡◌, ◌∙◌, ◌⊎◌, ◌++◌, ◌∷◌, ◌+◌, ◌<◌, ◌≤◌, [], ℕ, List, Option, Some, append_assoc, ap, drop, drop-cons, get_or, inl, inr, length, map, refl, subst, suc, sym, take, take-append-drop}
 use Rattle.std.proofs.lemmas.List.{map-append, take_all, take_more}
-use Rattle.std.specs.Prelude.{Result, Ok, Err}
+use Rattle.std.specs.Prelude.{Result, Ok, Err, IsErrOf}
 use Rattle.answer_parts.specs.Lines.{words_of}
 use Rattle.answer_parts.specs.declared.answers.lines.Line.{Line}
 use Rattle.line_teller.specs.ToldLines.{HasFailed}
 use Rattle.move_msg.specs.TextLines.{ended}
+use Rattle.system_io.specs.Inputs.{InputFacts}
 use Rattle.system_io.specs.declared.output.WriteFault.{WriteFault}
+use Rattle.system_io.specs.declared.reading.ReadFault.{ReadFault}
+use Rattle.system_io.specs.declared.reading.ReadFault.TheVariants.{OutOfMemory, Unreadable}
 use Rattle.timeline.proofs.EventLaws.{adds_more}
 use Rattle.timeline.specs.Events.{Event, Flushed, Noted, Refused, Wrote}
 use Rattle.timeline.specs.Outsides.{Adds, AddsSome, Outside}
 use Rattle.timeline.specs.declared.stream.Stream.TheVariants.{Output}
+use Rattle.answer_commands.specs.Inputs.{IsUnread}
 use Rattle.answer_commands.specs.Printing.{ArePrinted, Closes, IsCutIn, NotOut, OutputFails, Performs, Prints, WasRefused, output_lost, printed}
 
 abbrev Doing : Type 1
@@ -160,10 +164,16 @@ not_out o a b c answered status stuck one p q = (
     by_answer (Err fault) = WasRefused fault (Refused Output) refl (inr refl) refl one
 
 -- it went out, but a write was refused before
-pub was_refused : {T P F K S L : Type 0} (o : Outside T P F K S L) (a b c : T) (fault : WriteFault) (status : ℕ) → status ≡ 1
-    → Adds o a b (Flushed Output ∷ []) → Adds o b c (Noted output_lost ∷ []) → AddsSome o a c (Closes o c (Err fault) status)
-was_refused o a b c fault status one p q = (
+pub was_refused : {T P F K S L : Type 0} (o : Outside T P F K S L) (a b c : T) (answered : Result ℕ WriteFault) (fault : WriteFault) (status : ℕ) → answered ≡ Err fault → status ≡ 1
+    → Adds o a b (Flushed Output ∷ []) → Adds o b c (Noted output_lost ∷ []) → AddsSome o a c (Closes o c answered status)
+was_refused o a b c answered fault status is one p q = (
   Flushed Output ∷ Noted output_lost ∷ [],
   adds_more o a b c (Flushed Output ∷ []) (Noted output_lost ∷ []) p q,
-  WasRefused fault (Flushed Output) refl (inl refl) refl one,
+  WasRefused fault (Flushed Output) is (inl refl) refl one,
 )
+
+-- ---- what isn't read
+
+pub unread_by : {X : Type 0} (input : InputFacts) (r : Result X ReadFault) (fault : ReadFault) → r ≡ Err fault → (IsErrOf r Unreadable → input.fails) → (IsErrOf r OutOfMemory → input.takes_memory) → IsUnread input fault
+unread_by input r Unreadable e p q = p e
+unread_by input r OutOfMemory e p q = q e

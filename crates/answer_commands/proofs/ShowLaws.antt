@@ -11,12 +11,14 @@ use Rattle.move_msg.specs.declared.message.Message.{Message}
 use Rattle.move_msg.specs.declared.message.MessageFault.{MessageFault}
 use Rattle.system_io.specs.declared.output.WriteFault.{WriteFault}
 use Rattle.timeline.proofs.EventLaws.{adds_none}
-use Rattle.timeline.specs.Events.{Event, IsWritten, Wrote}
+use Rattle.system_io.specs.Inputs.{InputFacts}
+use Rattle.timeline.specs.Events.{Event, InputRead, Wrote}
 use Rattle.timeline.specs.Outsides.{Adds, AddsSome, Outside}
 use Rattle.timeline.specs.declared.stream.Stream.TheVariants.{Output}
 use Rattle.answer_commands.specs.Inside.Streaming.{ShowsAll, ShowsFirst, ShowsStream}
 use Rattle.answer_commands.specs.Printing.{IsCutIn, Performs, Prints, printed}
-use Rattle.answer_commands.specs.Show.{shown_lines, shown_status}
+use Rattle.answer_commands.specs.Inputs.{IsInput}
+use Rattle.answer_commands.specs.Show.{ShownAll, ShownFirst, ShowsMessages, shown_lines, shown_status}
 use Rattle.answer_commands.proofs.PrintLaws.{Front, Whole, lines_cut, lines_more, then_prints}
 
 -- the lines of some messages were written, and the rest of the stream is left
@@ -94,3 +96,10 @@ pub shown_fault : {T P F K S L : Type 0} (o : Outside T P F K S L) (stream rest 
     → AddsSome o a c (Performs (ShowsStream stream) r)
 shown_fault o stream rest a b c number r fault named h ends is told =
     refused_so o stream rest a b c number r (AtFault fault) (message_fault_name fault) named h ends is refl refl told
+
+-- ---- the input
+
+-- what is shown of the input, after it was read
+pub shows_input : (input : InputFacts) (bytes : List ℕ) → IsInput input bytes → (events : List Event) (status : Option ℕ) → ShowsStream bytes events status → ShowsMessages input (InputRead (Ok bytes) ∷ events) status
+shows_input input bytes is events status (ShowsAll ms end spells e s) = ShownAll bytes ms end is spells (ap (λ (l : List Event). InputRead (Ok bytes) ∷ l) e) s
+shows_input input bytes is events status (ShowsFirst ms rest begins e s) = ShownFirst bytes ms rest is begins (ap (λ (l : List Event). InputRead (Ok bytes) ∷ l) e) s

@@ -38,6 +38,7 @@ impl<'a> AnswerTask<'a> {
             Task::Show(_) => Some(AnswerTask::Show),
             Task::Moves(moves) => Some(AnswerTask::Moves(*moves)),
             Task::Run(run) => Some(AnswerTask::Run(*run)),
+            _ => None,
         }
     }
 }

@@ -1,6 +1,6 @@
 //! `moves`: the legal moves of a position.
 
-ghost use Rattle.std.specs.Prelude.{◌≡◌, IfOk, OnErr, map};
+ghost use Rattle.std.specs.Prelude.{◌≡◌, ◌++◌, ◌∷◌, [], IfOk, OnErr, OnOk, map};
 ghost use Rattle.answer_commands.specs.Inside.Answering.{IsMovesAnswer};
 ghost use Rattle.answer_commands.specs.Moves.{PrintsMoves, move_line, move_lines};
 ghost use Rattle.answer_commands.specs.Printing.{OutputFails, Performs};
@@ -33,15 +33,29 @@ fn move_line(position: &Position, m: &Move, san: bool) -> Line
     }
 }
 
+/// Adds an item to a list. It is over any type, since the borrow checker doesn't cover a push of a `Line` (docs/PROVING.md).
+fn add<T: Copy>(list: &mut Vec<T>, item: T) -> Result<(), AllocError>
+    ensures { OnOk result (list.new.items ≡ list.old.items ++ item ∷ []) }
+{
+    list.push(item)?;
+    Ok(())
+}
+
 /// The lines of the legal moves of a position, in their order.
 fn move_lines(alloc: Global, position: &Position, san: bool) -> Result<Vec<Line>, AllocError>
     ensures { IfOk result (λ lines. map words_of lines.items ≡ move_lines san position.now) }
 {
-    let moves = position.legal(alloc)?;
+    let moves = match position.legal(alloc) {
+        Ok(moves) => moves,
+        Err(refused) => return Err(refused),
+    };
     let mut lines = Vec::new(alloc);
     for m in &moves {
         let line = move_line(position, m, san);
-        lines.push(line)?;
+        match add(&mut lines, line) {
+            Ok(()) => {}
+            Err(refused) => return Err(refused),
+        }
     }
     Ok(lines)
 }
