@@ -1,4 +1,4 @@
--- What passes over the streams of a server, by a folder that is seen as another.
+-- What passes over the streams of a server, by the folder that the words of a task name.
 use Rattle.std.proofs.Common.{◌≡◌, ◌⊎◌, ℕ, List, Option, inl, inr, subst}
 use Rattle.adjudicate_core.specs.declared.commands.serve.Serve.{Serve}
 use Rattle.http_answer.specs.Games.{GamesOn}
@@ -7,21 +7,15 @@ use Rattle.http_loop.specs.Streams.{Streams}
 use Rattle.system_io.specs.Disks.{DiskFacts}
 use Rattle.system_io.specs.Records.{StorePlaces}
 use Rattle.table_folder.specs.Folders.{FolderOn}
-use Rattle.serve_core.specs.GamesNamed.{games_named}
+use Rattle.serve_core.specs.declared.task.Outside.{Outside}
+use Rattle.serve_core.specs.GamesNamed.{games_for}
 use Rattle.serve_core.specs.Refusals.{IsTaskFolder}
 use Rattle.serve_core.specs.Streams.{RepliesBy}
-use Rattle.serve_core.specs.Tasks.{RepliesIfAny, RepliesToTask}
+use Rattle.serve_core.specs.Tasks.{MayReply, RepliesToTask}
 
 module _ {D H S C L R W : Type 0} (facts : D → DiskFacts) (stores : H → StorePlaces S) (streams : L → Option Streams) (remaining : R → Option (List ℕ)) (contents : W → Option (List ℕ)) (old new : Server C L R W) where
-  -- by the same folders
-  pub by_same : (a b : FolderOn D) (x y : Option (GamesOn D H)) → a ≡ b → x ≡ y → RepliesIfAny facts stores streams remaining contents a x old new → RepliesIfAny facts stores streams remaining contents b y old new
-  by_same a b x y tables games h =
-      subst (λ (t : FolderOn D). RepliesIfAny facts stores streams remaining contents t y old new) tables
-      (subst (λ (gs : Option (GamesOn D H)). RepliesIfAny facts stores streams remaining contents a gs old new) games h)
-
-  -- by the folder that the words name
-  pub to_task : (disk : D) (host : H) (t : Serve) (f : FolderOn D) → f.disk ≡ disk → IsTaskFolder (facts disk) t f.folder
-      → RepliesIfAny facts stores streams remaining contents f (games_named disk host t) old new → RepliesToTask facts stores streams remaining contents disk host t old new
-  to_task disk host t f same is (inl replied) =
-      inl (f.folder, is, subst (λ (d : D). RepliesBy facts stores (record { disk = d; folder = f.folder }) (games_named disk host t) streams remaining contents old new) same replied)
-  to_task disk host t f same is (inr none) = inr none
+  pub to_task : (o : Outside C D H) (t : Serve) (f : FolderOn D) → f.disk ≡ o.disk.now → IsTaskFolder (facts o.disk.now) t f.folder
+      → MayReply facts stores streams remaining contents f (games_for o t) old new → RepliesToTask facts stores streams remaining contents o t old new
+  to_task o t f same is (inl replied) =
+      inl (f.folder, is, subst (λ (d : D). RepliesBy facts stores (record { disk = d; folder = f.folder }) (games_for o t) streams remaining contents old new) same replied)
+  to_task o t f same is (inr none) = inr none

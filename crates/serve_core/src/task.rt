@@ -5,9 +5,9 @@ ghost use Rattle.line_teller.specs.ToldLines.{HasFailed};
 ghost use Rattle.move_msg.specs.ToldBy.{told_by};
 ghost use Rattle.adjudicate_core.specs.Commands.Serve.{Serves, ServesFolder, ready_line};
 ghost use Rattle.adjudicate_core.specs.Telling.{TellsWholeText};
-ghost use Rattle.serve_core.specs.GamesNamed.{games_named};
+ghost use Rattle.serve_core.specs.GamesNamed.{games_for};
 ghost use Rattle.serve_core.specs.Refusals.{IsTaskManifest, IsUnbound, LacksFolder};
-ghost use Rattle.serve_core.specs.Tasks.{RepliesIfAny, RepliesToTask};
+ghost use Rattle.serve_core.specs.Tasks.{MayReply, RepliesToTask};
 
 use crate::answering::answer_requests;
 use crate::logging::Logged;
@@ -57,7 +57,7 @@ fn games_of<'r, C: Clock, D: Disk, H: Host>(
     outside: &Outside<'r, C, D, H>,
     task: &Serve<'r>,
 ) -> Option<Games<'r, D, H, C>>
-    ensures { result ≡ games_named outside.now.disk.now outside.now.host.now task.now }
+    ensures { result ≡ games_for outside.now task.now }
 {
     let games = task.games?;
     let folders = GameFolders {
@@ -97,27 +97,36 @@ fn note_lost<H: Host>(alloc: Global, host: &H, error: &io::Error) {
     }
 }
 
-/// What answers the requests of a task, and how many of them.
+/// What answers the requests of a task, whether they are logged, and how many of them are answered.
 #[derive(Drop)]
 struct Answering<'r, C: Clock, D: Disk, H: Host> {
-    service: Logged<'r, Router<'r, D, H, C>, H>,
+    router: Router<'r, D, H, C>,
+    is_logged: bool,
     requests: u64,
 }
 
 /// Writes at which address requests come, and answers them.
 fn serve_at<C: Clock, L: Listener + Drop, D: Disk, H: Host, W: Output>(
     outside: &Outside<'_, C, D, H>,
-    answering: Answering<'_, C, D, H>,
+    by: Answering<'_, C, D, H>,
     own: SocketAddr,
     server: &mut Server<'_, C, L>,
     out: &mut W,
 ) -> Result<u8, WriteFault>
     ensures told { ServesFolder (W.contents out.old) (W.contents out.new) result }
     ensures cause { OnErr result (HasFailed W.facts) }
-    ensures replied { RepliesIfAny D.facts H.stores L.streams L.Reader.remaining L.Writer.contents
-        answering.entry.service.service.answerer answering.entry.service.service.games server.old server.new }
+    ensures replied { MayReply D.facts H.stores L.streams L.Reader.remaining L.Writer.contents
+        by.entry.router.answerer by.entry.router.games server.old server.new }
 {
-    let Answering { service, requests } = answering;
+    let service = Logged {
+        service: by.router,
+        alloc: outside.alloc,
+        host: if by.is_logged {
+            Some(outside.host)
+        } else {
+            None
+        },
+    };
     let Ok(text) = ready_text(outside.alloc, own) else {
         return Refusal::Memory.put(out);
     };
@@ -125,7 +134,7 @@ fn serve_at<C: Clock, L: Listener + Drop, D: Disk, H: Host, W: Output>(
         Ok(status) => status,
         Err(fault) => return Err(fault),
     };
-    match answer_requests(server, service, requests) {
+    match answer_requests(server, service, by.requests) {
         Ok(()) => Ok(status),
         Err(error) => {
             note_lost(outside.alloc, outside.host, &error);
@@ -145,30 +154,23 @@ fn serve_folder<C: Clock, L: Listener + Drop, D: Disk, H: Host, W: Output>(
 ) -> Result<u8, WriteFault>
     ensures told { ServesFolder (W.contents out.old) (W.contents out.new) result }
     ensures cause { OnErr result (HasFailed W.facts) }
-    ensures replied { RepliesIfAny D.facts H.stores L.streams L.Reader.remaining L.Writer.contents
-        folder.entry (games_named outside.now.disk.now outside.now.host.now task.now) server.old server.new }
+    ensures replied { MayReply D.facts H.stores L.streams L.Reader.remaining L.Writer.contents
+        folder.entry (games_for outside.now task.now) server.old server.new }
 {
     let Ok(answerer) = Answerer::over(outside.alloc, folder, BLOCKS) else {
         return Refusal::Memory.put(out);
     };
-    let service = Logged {
-        service: Router {
-            alloc: outside.alloc,
-            answerer,
-            games: games_of(outside, task),
-        },
+    let router = Router {
         alloc: outside.alloc,
-        host: if task.log {
-            Some(outside.host)
-        } else {
-            None
-        },
+        answerer,
+        games: games_of(outside, task),
     };
-    let answering = Answering {
-        service,
+    let by = Answering {
+        router,
+        is_logged: task.log,
         requests: task.requests,
     };
-    serve_at(outside, answering, own, server, out)
+    serve_at(outside, by, own, server, out)
 }
 
 /// Answers requests over the streams of a server, by the folders that the words name: after as many as they say it closes all streams, and
@@ -185,20 +187,14 @@ pub fn serve_task<C: Clock, L: Listener + Drop, D: Disk, H: Host, W: Output>(
     ensures told { Serves (D.facts outside.now.disk.now) task.now (W.contents out.old) (W.contents out.new) result }
     ensures cause { OnErr result (HasFailed W.facts) }
     ensures replied { RepliesToTask D.facts H.stores L.streams L.Reader.remaining L.Writer.contents
-        outside.now.disk.now outside.now.host.now task.now server.old server.new }
+        outside.now task.now server.old server.new }
 {
     let manifest = match manifest_of(outside.alloc, outside.disk, task) {
         Ok(manifest) => manifest,
         Err(refusal) => return refusal.put(out),
     };
     let arena = arena_for(outside.alloc, task.memory);
-    match TableFolder::open(
-        outside.alloc,
-        outside.disk,
-        task.tables,
-        &manifest,
-        &arena,
-    ) {
+    match TableFolder::open(outside.alloc, outside.disk, task.tables, &manifest, &arena) {
         Ok(folder) => serve_folder(outside, folder, task, own, server, out),
         Err(fault) => Refusal::of(fault).put(out),
     }
@@ -220,13 +216,7 @@ pub(crate) fn refuse_unbound<C: Clock, D: Disk, H: Host, W: Output>(
         Err(refusal) => return refusal.put(out),
     };
     let arena = arena_for(outside.alloc, task.memory);
-    match TableFolder::open(
-        outside.alloc,
-        outside.disk,
-        task.tables,
-        &manifest,
-        &arena,
-    ) {
+    match TableFolder::open(outside.alloc, outside.disk, task.tables, &manifest, &arena) {
         Ok(_folder) => unbound.put(out),
         Err(fault) => Refusal::of(fault).put(out),
     }

@@ -15,7 +15,7 @@ returns-in-Ok-open-clause-told g c =
 
 pub returns-in-Ok-open-clause-replied : goal.returns-in-Ok-open-clause-replied
 returns-in-Ok-open-clause-replied g c =
-    to_task g.D.Disk.facts g.H.Host.stores g.L.Listener.streams g.L.Reader.Read.remaining g.L.Writer.Write.contents _ _ _ _ c.args.task.now c.in-Ok-open.folder
+    to_task g.D.Disk.facts g.H.Host.stores g.L.Listener.streams g.L.Reader.Read.remaining g.L.Writer.Write.contents _ _ c.args.outside.now c.args.task.now c.in-Ok-open.folder
     c.in-Ok-open.ensures.disk
     (record { told = told_by c.in-Ok.manifest; manifest = c.in-Ok.ensures.ok; is_at = c.in-Ok-open.ensures.folder })
     c.serve_folder.ensures.replied
