@@ -215,8 +215,8 @@ pub(crate) fn refuse_unbound<C: Clock, D: Disk, H: Host, W: Output>(
         Ok(manifest) => manifest,
         Err(refusal) => return refusal.put(out),
     };
-    let arena = arena_for(outside.alloc, task.memory);
-    match TableFolder::open(outside.alloc, outside.disk, task.tables, &manifest, &arena) {
+    let room = arena_for(outside.alloc, task.memory);
+    match TableFolder::open(outside.alloc, outside.disk, task.tables, &manifest, &room) {
         Ok(_folder) => unbound.put(out),
         Err(fault) => Refusal::of(fault).put(out),
     }
