@@ -1,4 +1,5 @@
 pub mod BestPlay
+pub mod Fields
 pub mod LineLaws
 pub mod PlyLaws
 pub mod Replied

@@ -10,11 +10,11 @@ use Rattle.system_io.specs.Records.{StorePlaces}
 use Rattle.table_folder.specs.Folders.{Folder}
 use Rattle.game_status.specs.declared.one_game.GameFound.{GameFound}
 use Rattle.game_status.specs.declared.report.ReportForm.{ReportForm}
-use Rattle.http_answer.specs.Games.{AskedOfGames, AsksBelow, AsksOfGames, AsksOfThese, ForGames, ForMetrics, ForMore, ForWatch, Found, GamesOn, HasGame, HasReport, IsFoundGame, IsReportText, LacksGames, fresh_json}
+use Rattle.http_answer.specs.Games.{AskedOfGames, AsksBelow, AsksOfGames, AsksOfThese, ForGames, ForMetrics, ForMore, ForWatch, Found, GamesOn, HasGame, HasReport, IsFoundGame, IsReportText, LacksGames, fresh_json, is_games, is_watch}
 use Rattle.http_answer.specs.Inside.{HasReportText, IsGameText, Report}
 
 -- a path that is none of these
-pub not_asked : (path : List ℕ) → bytes_eq path (codes "/games") ≡ false → bytes_eq path (codes "/metrics") ≡ false → bytes_eq path (codes "/watch") ≡ false → ((a : AskedOfGames) → AsksBelow path a → ⊥) → (a : AskedOfGames) → AsksOfGames path a → ⊥
+pub not_asked : (path : List ℕ) → is_games path ≡ false → bytes_eq path (codes "/metrics") ≡ false → is_watch path ≡ false → ((a : AskedOfGames) → AsksBelow path a → ⊥) → (a : AskedOfGames) → AsksOfGames path a → ⊥
 not_asked path games metrics watch lacks a (ForGames e is) = false≢true (sym games ∙ e)
 not_asked path games metrics watch lacks a (ForMetrics e is) = false≢true (sym metrics ∙ e)
 not_asked path games metrics watch lacks a (ForWatch e is) = false≢true (sym watch ∙ e)

@@ -42,7 +42,9 @@ use Rattle.game_status.specs.StoredDisks.{IsSoOverStore, IsSoOverStores, LacksFo
 use Rattle.table_folder.specs.declared.fault.FileRefusal.{FileRefusal}
 use Rattle.table_folder.specs.Folders.{Folder, FolderOn}
 use Rattle.table_folder.specs.Settled.{AnswersBy, IsAlone, IsRefusedAt}
-use Rattle.http_answer.specs.Replies.{IsReply, allowed, refused_words, fields, json_fields, page_methods}
+use Rattle.http_answer.specs.Replies.{Action, HasMethods, IsReply, RefusesMethod, action_of, an_hour, html_type, kept_for, refused_words, typed}
+use Rattle.http_answer.specs.Replies.Access.{Own}
+use Rattle.http_answer.specs.Replies.Action.{Reads, ListsMethods, IsRefused}
 use Rattle.http_answer.specs.declared.games.GameFolders.{GameFolders}
 use Rattle.http_answer.specs.declared.watch.TheConstants.{WATCH}
 
@@ -205,18 +207,25 @@ pub data AsksBelow (path : List ℕ) (a : AskedOfGames) : Type 0 where
   ForGame : (digits : List ℕ) → path ≡ game_path digits → AsksByDigits digits a → AsksBelow path a
   ForPage : (digits : List ℕ) → path ≡ watch_path digits → AsksToWatch digits a → AsksBelow path a
 
+-- the paths of all games, and of the page on them, with a slash behind or without
+abbrev pub is_games : List ℕ → Bool
+is_games path = bytes_eq path (codes "/games") || bytes_eq path (codes "/games/")
+
+abbrev pub is_watch : List ℕ → Bool
+is_watch path = bytes_eq path (codes "/watch") || bytes_eq path (codes "/watch/")
+
 -- what this path asks for
 pub data AsksOfGames (path : List ℕ) (a : AskedOfGames) : Type 0 where
-  ForGames : bytes_eq path (codes "/games") ≡ true → a ≡ Games → AsksOfGames path a
+  ForGames : is_games path ≡ true → a ≡ Games → AsksOfGames path a
   ForMetrics : bytes_eq path (codes "/metrics") ≡ true → a ≡ Metrics → AsksOfGames path a
-  ForWatch : bytes_eq path (codes "/watch") ≡ true → a ≡ Watch → AsksOfGames path a
-  ForMore : bytes_eq path (codes "/games") ≡ false → bytes_eq path (codes "/metrics") ≡ false → bytes_eq path (codes "/watch") ≡ false → AsksBelow path a → AsksOfGames path a
+  ForWatch : is_watch path ≡ true → a ≡ Watch → AsksOfGames path a
+  ForMore : is_games path ≡ false → bytes_eq path (codes "/metrics") ≡ false → is_watch path ≡ false → AsksBelow path a → AsksOfGames path a
 
 -- ---- what is answered
 
 -- the fields of a response that is of the moment: it isn't to be kept
 abbrev pub fresh_fields : List ℕ → List Header
-fresh_fields kind = fields kind ++ (codes "cache-control", codes "no-store") ∷ []
+fresh_fields kind = typed kind ∷ kept_for (codes "no-store") ∷ []
 
 abbrev pub fresh_json : List Header
 fresh_json = fresh_fields (codes "application/json")
@@ -255,21 +264,16 @@ TellsOfGames facts stores tables on Games r = HasReport facts stores on AsJson (
 TellsOfGames facts stores tables on Metrics r = HasReport facts stores on AsMetrics (codes "text/plain; version=0.0.4") r
 TellsOfGames facts stores tables on (Game stamp) r = HasGame (facts tables.disk) tables.folder facts stores on stamp r
 TellsOfGames facts stores tables on NoStamp r = IsResponse 400 fresh_json (codes "{\"error\":\"no stamp\"}") r
-TellsOfGames facts stores tables on Watch r = IsResponse 200 (fields (codes "text/html; charset=utf-8")) WATCH.now r
-
-abbrev pub is_reading : List ℕ → Bool
-is_reading method = bytes_eq method (codes "GET") || bytes_eq method (codes "HEAD")
-
-abbrev pub is_options : List ℕ → Bool
-is_options method = bytes_eq method (codes "OPTIONS")
+TellsOfGames facts stores tables on Watch r = IsResponse 200 (html_type ∷ kept_for an_hour ∷ []) WATCH.now r
 
 -- it is told; or which methods there are; or that this one isn't among them
-pub data IsByMethod (method : List ℕ) (Tells : Response → Type 0) (r : Response) : Type 0 where
-  Reads : is_reading method ≡ true → Tells r → IsByMethod method Tells r
-  ListsMethods : is_reading method ≡ false → is_options method ≡ true
-      → IsResponse 204 (allowed page_methods ∷ (codes "access-control-allow-origin", codes "*") ∷ (codes "access-control-allow-methods", page_methods) ∷ []) [] r → IsByMethod method Tells r
-  IsNoMethod : is_reading method ≡ false → is_options method ≡ false
-      → IsResponse 405 (json_fields ++ allowed page_methods ∷ []) (codes "{\"error\":\"method not allowed\"}") r → IsByMethod method Tells r
+abbrev pub IsByAction : Action → (Response → Type 0) → Response → Type 0
+IsByAction Reads Tells r = Tells r
+IsByAction ListsMethods Tells r = HasMethods Own r
+IsByAction IsRefused Tells r = RefusesMethod Own r
+
+abbrev pub IsByMethod : List ℕ → (Response → Type 0) → Response → Type 0
+IsByMethod method Tells r = IsByAction (action_of method) Tells r
 
 -- ---- all requests
 

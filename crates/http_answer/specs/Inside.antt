@@ -1,9 +1,11 @@
 -- What private functions take and return.
-use Rattle.std.specs.Prelude.{◌≡◌, ◌⊎◌, ◌++◌, ◌∷◌, [], ℕ, Bool, true, false, List, Option, Result, Ok, Err, Some, None, Vec, codes, map, flat_map}
+use Rattle.std.specs.Prelude.{◌≡◌, ◌⊎◌, ◌++◌, ◌∷◌, ◌-◌, [], ℕ, Bool, true, false, List, Option, Result, Ok, Err, Some, None, Vec, codes, map, flat_map, nat_lt}
 use Rattle.json_lines.specs.declared.api_told.ApiLine.{ApiLine}
 use Rattle.json_lines.specs.ApiTold.{ends_line}
 use Rattle.json_lines.specs.declared.api_told.ApiMove.{ApiMove}
 use Rattle.std.specs.Global.{Global}
+use Rattle.std.specs.Time.{instant_nanos}
+use Rattle.std.specs.declared.time.Instant.{Instant}
 use Rattle.board_core.specs.declared.moves.Move.{Move}
 use Rattle.board_core.specs.declared.parts.Parts.{Parts}
 use Rattle.board_core.specs.ComputedMoves.{position_after}
@@ -28,6 +30,8 @@ use Rattle.system_io.specs.Disks.{DiskFacts}
 use Rattle.table_folder.specs.Folders.{Folder}
 use Rattle.http_answer.specs.declared.asking.Place.{Place}
 use Rattle.http_answer.specs.declared.asking.Place.TheVariants as place
+use Rattle.http_answer.specs.declared.asking.Verb.{Verb}
+use Rattle.http_answer.specs.declared.asking.Verb.TheVariants as verb
 use Rattle.http_answer.specs.declared.asking.Topic.{Topic}
 use Rattle.http_answer.specs.declared.asking.Topic.TheVariants as kind
 use Rattle.http_answer.specs.declared.games.Kept.{Kept}
@@ -36,14 +40,22 @@ use Rattle.http_answer.specs.declared.router.GameTopic.TheVariants as topic
 use Rattle.http_answer.specs.Games.{AskedOfGames, GamesOn, GoesOn, HasPlies, IsNext, IsReportText, IsStart, LacksGames, Ply, TellsAlone, fresh_fields, fresh_json, lacked_text, plies_items, ply_json, whole_game_json}
 use Rattle.http_answer.specs.Games.AskedOfGames.{Games, Metrics, Game, NoStamp, Watch}
 use Rattle.http_answer.specs.Queries.{asked_lines, position_text}
-use Rattle.http_answer.specs.Replies.{Asked, IsPlayedOn, TellsEach, TellsText, object_text, objects_text, page_methods, standard_methods}
+use Rattle.http_answer.specs.Replies.{Access, Action, Asked, IsPlayedOn, TellsEach, TellsText, object_text, objects_text}
+use Rattle.http_answer.specs.Replies.Access.{SharedLists, Shared, Own}
+use Rattle.http_answer.specs.Replies.Action.{Reads, ListsMethods, IsRefused}
 use Rattle.http_answer.specs.Replies.Asked.{Page, Values, Mainline, NoText, ValuesOfEach, TooMany, Methods, OtherMethod, Elsewhere}
 
--- the methods that there are at a place
-abbrev pub methods_at : Place → List ℕ
-methods_at place.Page = page_methods
-methods_at place.Standard = standard_methods
-methods_at place.Mainline = page_methods
+-- who may read what is at a place
+abbrev pub access_at : Place → Access
+access_at place.Standard = SharedLists
+access_at place.Mainline = Shared
+access_at place.Own = Own
+
+-- what a method asks for, of the code's own value for it
+abbrev pub action_for : Verb → Action
+action_for verb.Read = Reads
+action_for verb.ListMethods = ListsMethods
+action_for verb.Refuse = IsRefused
 
 -- what is asked for, of the code's own value for it
 abbrev pub asked_for : Topic → Asked
@@ -53,8 +65,8 @@ asked_for (kind.Mainline text) = Mainline text.items
 asked_for kind.NoText = NoText
 asked_for (kind.Lines body) = ValuesOfEach (asked_lines body)
 asked_for kind.TooManyLines = TooMany
-asked_for (kind.Methods p) = Methods (methods_at p)
-asked_for (kind.OtherMethod p) = OtherMethod (methods_at p)
+asked_for (kind.Methods p) = Methods (access_at p)
+asked_for (kind.OtherMethod p) = OtherMethod (access_at p)
 asked_for kind.Elsewhere = Elsewhere
 
 -- the object for a line of a body comes behind others
@@ -109,6 +121,26 @@ IsKeptReport facts stores on form (Some kept) = IsReport facts stores on form ke
 
 abbrev pub AreKeptReports : {D H S : Type 0} → (D → DiskFacts) → (H → StorePlaces S) → GamesOn D H → Option Kept → Option Kept → Type 0
 AreKeptReports facts stores on json metrics = IsKeptReport facts stores on AsJson json × IsKeptReport facts stores on AsMetrics metrics
+
+-- what was read at one time is less than a second old at another
+abbrev pub is_fresh : Instant → Instant → Bool
+is_fresh since now = nat_lt (instant_nanos now - instant_nanos since) 1_000_000_000
+
+-- a report that is kept is less than a second old at this time, if there is one
+abbrev pub IsFreshReport : Option Instant → Option Kept → Report → Type 0
+IsFreshReport None kept report = ⊥
+IsFreshReport (Some now) None report = ⊥
+IsFreshReport (Some now) (Some kept) report = (is_fresh kept.since now ≡ true) × (report ≡ kept.report)
+
+-- a report is kept with this time; it isn't where there is none
+abbrev pub IsKeptAt : Option Instant → Report → Option Kept → Type 0
+IsKeptAt None report kept = kept ≡ None
+IsKeptAt (Some now) report kept = kept ≡ Some (record { report = report; since = now })
+
+-- the report at this time: a copy of one that was kept and less than a second old, and stays kept; or of one that is kept with this time
+pub data IsReportAt (now : Option Instant) (old new : Option Kept) (r : Report) : Type 0 where
+  Again : (report : Report) → IsFreshReport now old report → IsCopy report r → new ≡ old → IsReportAt now old new r
+  Anew : (report : Report) → IsKeptAt now report new → IsCopy report r → IsReportAt now old new r
 
 -- ---- the object of a game, as it is written
 

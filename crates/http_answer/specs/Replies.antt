@@ -1,5 +1,5 @@
 -- What is answered to a request (RFC 9110; names and meanings as in the tablebase API of Lichess, where it has them).
-use Rattle.std.specs.Prelude.{◌≡◌, ◌⊎◌, ℕ, zero, suc, false, List, [], ◌∷◌, ◌++◌, ◌||◌, Option, Some, None, Result, Ok, Err, codes, if◌then◌else◌, length, nat_le}
+use Rattle.std.specs.Prelude.{◌≡◌, ◌⊎◌, ℕ, zero, suc, Bool, false, List, [], ◌∷◌, ◌++◌, ◌||◌, Option, Some, None, Result, Ok, Err, codes, if◌then◌else◌, length, nat_le}
 use Rattle.std.specs.List.{flat_map}
 use Rattle.std.specs.Str.{bytes_eq}
 use Rattle.board_core.specs.declared.parts.Parts.{Parts}
@@ -29,6 +29,34 @@ use Rattle.table_folder.specs.Settled.{AnswersBy, IsAlone, IsRefusedAt, IsRefuse
 use Rattle.http_answer.specs.Queries.{asked_lines, asked_text}
 use Rattle.http_answer.specs.declared.page.TheConstants.{PAGE}
 
+-- ---- methods
+
+-- who may read what is at a path, and by which methods
+pub data Access : Type 0 where
+  -- any page, and also by POST
+  SharedLists : Access
+  -- any page
+  Shared : Access
+  -- pages of this server alone
+  Own : Access
+
+abbrev pub methods_of : Access → List ℕ
+methods_of SharedLists = codes "GET, HEAD, POST, OPTIONS"
+methods_of Shared = codes "GET, HEAD, OPTIONS"
+methods_of Own = codes "GET, HEAD, OPTIONS"
+
+-- what a method but POST asks for: what is at a path, or which methods there are; or it is none of them
+pub data Action : Type 0 where
+  Reads : Action
+  ListsMethods : Action
+  IsRefused : Action
+
+abbrev pub action_of : List ℕ → Action
+action_of method =
+    if bytes_eq method (codes "GET") || bytes_eq method (codes "HEAD") then Reads
+    else if bytes_eq method (codes "OPTIONS") then ListsMethods
+    else IsRefused
+
 -- ---- what is asked for
 
 pub data Asked : Type 0 where
@@ -44,10 +72,10 @@ pub data Asked : Type 0 where
   ValuesOfEach : (texts : List (List ℕ)) → Asked
   -- those of more texts than one request may have
   TooMany : Asked
-  -- which methods there are, namely these
-  Methods : (methods : List ℕ) → Asked
+  -- which methods there are at a path of this access
+  Methods : (access : Access) → Asked
   -- it by another method than these
-  OtherMethod : (methods : List ℕ) → Asked
+  OtherMethod : (access : Access) → Asked
   -- what isn't here
   Elsewhere : Asked
 
@@ -64,34 +92,31 @@ abbrev pub mainline_of : Option (List ℕ) → Asked
 mainline_of None = NoText
 mainline_of (Some text) = Mainline text
 
--- a body has at most a hundred lines
+-- a body has at most sixteen lines
 abbrev pub values_of_lines : List ℕ → Asked
-values_of_lines body = if nat_le (length (lines_in body)) 100 then ValuesOfEach (asked_lines body) else TooMany
+values_of_lines body = if nat_le (length (lines_in body)) 16 then ValuesOfEach (asked_lines body) else TooMany
 
-abbrev pub page_methods : List ℕ
-page_methods = codes "GET, HEAD, OPTIONS"
-
-abbrev pub standard_methods : List ℕ
-standard_methods = codes "GET, HEAD, POST, OPTIONS"
-
--- by one of these methods
-abbrev pub by_method : List ℕ → List ℕ → Asked → Asked
-by_method methods method told =
-    if bytes_eq method (codes "GET") || bytes_eq method (codes "HEAD") then told
-    else if bytes_eq method (codes "OPTIONS") then Methods methods
-    else OtherMethod methods
+-- what is asked for at a path of this access, where to read it is to ask for this
+abbrev pub by_action : Access → Action → Asked → Asked
+by_action access Reads read = read
+by_action access ListsMethods read = Methods access
+by_action access IsRefused read = OtherMethod access
 
 -- of the one position of a query, or of each of a body
 abbrev pub values_by : List ℕ → Option (List ℕ) → List ℕ → Asked
 values_by method query body =
     if bytes_eq method (codes "POST") then values_of_lines body
-    else by_method standard_methods method (values_of (text_in query))
+    else by_action SharedLists (action_of method) (values_of (text_in query))
+
+-- as in the tablebase API of Lichess, or without its first part
+abbrev pub is_mainline : List ℕ → Bool
+is_mainline path = bytes_eq path (codes "/standard/mainline") || bytes_eq path (codes "/mainline")
 
 abbrev pub asked_of : List ℕ → List ℕ → Option (List ℕ) → List ℕ → Asked
 asked_of method path query body =
     if bytes_eq path (codes "/standard") then values_by method query body
-    else if bytes_eq path (codes "/mainline") then by_method page_methods method (mainline_of (text_in query))
-    else if bytes_eq path (codes "/") then by_method page_methods method Page
+    else if is_mainline path then by_action Shared (action_of method) (mainline_of (text_in query))
+    else if bytes_eq path (codes "/") then by_action Own (action_of method) Page
     else Elsewhere
 
 -- what this request asks for
@@ -100,16 +125,55 @@ asked r = asked_of (head_of r).method (uri_path (head_of r).uri) (uri_query (hea
 
 -- ---- what is answered
 
--- the fields of a response with a body of this type: any page may read it
-abbrev pub fields : List ℕ → List Header
-fields kind = (codes "content-type", kind) ∷ (codes "access-control-allow-origin", codes "*") ∷ []
+-- the type of a body
+abbrev pub typed : List ℕ → Header
+typed kind = (codes "content-type", kind)
 
-abbrev pub json_fields : List Header
-json_fields = fields (codes "application/json")
+abbrev pub json_type : Header
+json_type = typed (codes "application/json")
+
+abbrev pub html_type : Header
+html_type = typed (codes "text/html; charset=utf-8")
+
+-- any page may read the answer (Fetch Standard, section 3.3)
+abbrev pub any_origin : Header
+any_origin = (codes "access-control-allow-origin", codes "*")
+
+-- how long a cache may keep the answer (RFC 9111, section 5.2)
+abbrev pub kept_for : List ℕ → Header
+kept_for lifetime = (codes "cache-control", lifetime)
+
+abbrev pub an_hour : List ℕ
+an_hour = codes "public, max-age=3600"
 
 -- which methods there are
-abbrev pub allowed : List ℕ → Header
-allowed methods = (codes "allow", methods)
+abbrev pub allowed : Access → Header
+allowed access = (codes "allow", methods_of access)
+
+-- what a page from elsewhere may send
+abbrev pub preflight : Access → List Header
+preflight access = any_origin ∷ (codes "access-control-allow-methods", methods_of access) ∷ (codes "access-control-allow-headers", codes "content-type") ∷ []
+
+abbrev pub methods_fields : Access → List Header
+methods_fields SharedLists = allowed SharedLists ∷ preflight SharedLists
+methods_fields Shared = allowed Shared ∷ preflight Shared
+methods_fields Own = allowed Own ∷ []
+
+abbrev pub refusal_fields : Access → List Header
+refusal_fields SharedLists = json_type ∷ allowed SharedLists ∷ any_origin ∷ []
+refusal_fields Shared = json_type ∷ allowed Shared ∷ any_origin ∷ []
+refusal_fields Own = json_type ∷ allowed Own ∷ []
+
+-- which methods there are at a path of this access; and that the method isn't one of them
+abbrev pub HasMethods : Access → Response → Type 0
+HasMethods access r = IsResponse 204 (methods_fields access) [] r
+
+abbrev pub RefusesMethod : Access → Response → Type 0
+RefusesMethod access r = IsResponse 405 (refusal_fields access) (codes "{\"error\":\"method not allowed\"}") r
+
+-- the response to a request about a position that isn't answered by tables
+abbrev pub HasError : ℕ → List ℕ → Response → Type 0
+HasError status text r = IsResponse status (json_type ∷ any_origin ∷ []) text r
 
 -- a position out of the tables' scope isn't found
 abbrev pub value_status : {A : Type 0} → Result A ProbeFault → ℕ
@@ -125,6 +189,13 @@ status_of (line.Refused words) = 500
 status_of (line.Values t moves) = value_status t.told.columns.probed.wdl
 status_of (line.Mainline t plies) = value_status t.told.columns.probed.wdl
 
+-- an answer by tables and of a text without any stays; a file that is refused may be mended
+abbrev pub lifetime_of : ApiLine → List ℕ
+lifetime_of (line.Fault fault) = an_hour
+lifetime_of (line.Refused words) = codes "no-store"
+lifetime_of (line.Values t moves) = an_hour
+lifetime_of (line.Mainline t plies) = an_hour
+
 -- the object of a line
 abbrev pub object_text : ApiLine → List ℕ
 object_text l = json_text (api_json l)
@@ -135,11 +206,11 @@ objects_text = flat_map (λ l. ended (object_text l))
 
 -- the response that has a line
 abbrev pub HasLine : ApiLine → Response → Type 0
-HasLine l r = IsResponse (status_of l) json_fields (object_text l) r
+HasLine l r = IsResponse (status_of l) (json_type ∷ any_origin ∷ kept_for (lifetime_of l) ∷ []) (object_text l) r
 
 -- the response that has lines (as in the Newline Delimited JSON of the API of Lichess)
 abbrev pub HasLines : List ApiLine → Response → Type 0
-HasLines ls r = IsResponse 200 (fields (codes "application/x-ndjson")) (objects_text ls) r
+HasLines ls r = IsResponse 200 (typed (codes "application/x-ndjson") ∷ any_origin ∷ []) (objects_text ls) r
 
 -- the words that refuse the file of a table: its name, and what is wrong with it
 abbrev pub refused_words : FileRefusal → List ℕ
@@ -156,7 +227,8 @@ RefusesFile refusal (line.Mainline t plies) = ⊥
 -- that is needed.
 pub data TellsPosition (disk : DiskFacts) (folder : Folder) (p : Parts) (l : ApiLine) : Type 0 where
   ByTables : AnswersBy disk folder (IsWithMoves p) (λ tables. IsApiLineOf tables p l) → TellsPosition disk folder p l
-  ByRefusal : (refusal : FileRefusal) → IsRefusedFor disk folder (IsWithMoves p) refusal → RefusesFile refusal l → TellsPosition disk folder p l
+  ByRefusal : (refusal : FileRefusal) → IsRefusedFor disk folder (IsWithMoves p) refusal → RefusesFile refusal l
+      → TellsPosition disk folder p l
 
 -- why a text is no position, or what is told of the position
 abbrev pub TellsText : DiskFacts → Folder → List ℕ → ApiLine → Type 0
@@ -214,7 +286,8 @@ IsMainlineOf disk folder p (line.Mainline t plies) =
 pub data TellsMainline (disk : DiskFacts) (folder : Folder) (p : Parts) (l : ApiLine) : Type 0 where
   OfPlay : IsMainlineOf disk folder p l → TellsMainline disk folder p l
   OfPosition : (refusal : FileRefusal) → IsRefusedAt disk folder p refusal → RefusesFile refusal l → TellsMainline disk folder p l
-  OfLine : (t : ApiPosition) → IsPositionBy disk folder p t → (refusal : FileRefusal) → IsRefusedLineOf disk folder (winner_at t) p refusal → RefusesFile refusal l → TellsMainline disk folder p l
+  OfLine : (t : ApiPosition) → IsPositionBy disk folder p t → (refusal : FileRefusal) → IsRefusedLineOf disk folder (winner_at t) p refusal
+      → RefusesFile refusal l → TellsMainline disk folder p l
 
 -- ---- texts
 
@@ -231,15 +304,15 @@ TellsEach disk folder (text ∷ texts) (l ∷ ls) = TellsText disk folder text l
 
 -- the response to what is asked for, by the tables of this folder
 abbrev pub IsReplyTo : DiskFacts → Folder → Asked → Response → Type 0
-IsReplyTo disk folder Page r = IsResponse 200 (fields (codes "text/html; charset=utf-8")) PAGE.now r
+IsReplyTo disk folder Page r = IsResponse 200 (html_type ∷ kept_for an_hour ∷ []) PAGE.now r
 IsReplyTo disk folder (Values text) r = (l : ApiLine) × TellsText disk folder text l × HasLine l r
 IsReplyTo disk folder (Mainline text) r = (l : ApiLine) × TellsMainlineOf disk folder text l × HasLine l r
-IsReplyTo disk folder NoText r = IsResponse 400 json_fields (codes "{\"error\":\"FEN missing\"}") r
+IsReplyTo disk folder NoText r = HasError 400 (codes "{\"error\":\"FEN missing\"}") r
 IsReplyTo disk folder (ValuesOfEach texts) r = (ls : List ApiLine) × TellsEach disk folder texts ls × HasLines ls r
-IsReplyTo disk folder TooMany r = IsResponse 413 json_fields (codes "{\"error\":\"too many lines\"}") r
-IsReplyTo disk folder (Methods methods) r = IsResponse 204 (allowed methods ∷ (codes "access-control-allow-origin", codes "*") ∷ (codes "access-control-allow-methods", methods) ∷ []) [] r
-IsReplyTo disk folder (OtherMethod methods) r = IsResponse 405 (json_fields ++ allowed methods ∷ []) (codes "{\"error\":\"method not allowed\"}") r
-IsReplyTo disk folder Elsewhere r = IsResponse 404 json_fields (codes "{\"error\":\"not found\"}") r
+IsReplyTo disk folder TooMany r = HasError 413 (codes "{\"error\":\"too many lines\"}") r
+IsReplyTo disk folder (Methods access) r = HasMethods access r
+IsReplyTo disk folder (OtherMethod access) r = RefusesMethod access r
+IsReplyTo disk folder Elsewhere r = IsResponse 404 (json_type ∷ []) (codes "{\"error\":\"not found\"}") r
 
 -- the response to a request, by the tables of a folder on a disk
 abbrev pub IsReply : {D : Type 0} → (D → DiskFacts) → FolderOn D → Request (List ℕ) → Response → Type 0

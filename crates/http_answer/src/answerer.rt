@@ -11,7 +11,8 @@ ghost use Rattle.table_folder.specs.Settled.{IsRefusedAt, IsRefusedFor, IsWithMo
 
 use crate::asking::{Topic, topic_of};
 use crate::filling::{
-    add_object_line, fill, fill_json, fill_line, fill_methods, fill_objects, fill_other_method,
+    add_object_line, fill_elsewhere, fill_error, fill_line, fill_methods, fill_objects,
+    fill_other_method, fill_page,
 };
 use crate::lines::first_line;
 use crate::page::PAGE;
@@ -21,7 +22,7 @@ use board_core::{Position, Side};
 use bumpalo::Bump;
 use bytes::Bytes;
 use fen_text::read;
-use http::{HeaderValue, Request, StatusCode};
+use http::{Request, StatusCode};
 use http_server::{Response, Service};
 use json_lines::{ApiLine, ApiMove, ApiPosition, Ask, JsonLine};
 use judge_core::Set;
@@ -324,34 +325,23 @@ impl<'r, D: Disk> Answerer<'r, D> {
         ensures same { self.new ≡ self.old }
     {
         match topic {
-            Topic::Page => fill(
-                response,
-                StatusCode::OK,
-                HeaderValue::from_static("text/html; charset=utf-8"),
-                PAGE.as_bytes(),
-            ),
+            Topic::Page => fill_page(response, PAGE),
             Topic::Values(text) => self.tell_text(text, response),
             Topic::Mainline(text) => self.tell_mainline(text, response),
-            Topic::NoText => fill_json(
+            Topic::NoText => fill_error(
                 response,
                 StatusCode::BAD_REQUEST,
                 b"{\"error\":\"FEN missing\"}",
             ),
             Topic::Lines(body) => self.tell_lines(body.as_slice(), response),
-            Topic::TooManyLines => fill_json(
+            Topic::TooManyLines => fill_error(
                 response,
                 StatusCode::PAYLOAD_TOO_LARGE,
                 b"{\"error\":\"too many lines\"}",
             ),
             Topic::Methods(place) => fill_methods(response, *place),
             Topic::OtherMethod(place) => fill_other_method(response, *place),
-            Topic::Elsewhere => {
-                fill_json(
-                    response,
-                    StatusCode::NOT_FOUND,
-                    b"{\"error\":\"not found\"}",
-                )
-            }
+            Topic::Elsewhere => fill_elsewhere(response),
         }
     }
 }

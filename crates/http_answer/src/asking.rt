@@ -1,8 +1,8 @@
 //! What a request asks for.
 
 ghost use Rattle.std.specs.Prelude.{◌≡◌, IfOk, option_map};
-ghost use Rattle.http_answer.specs.Inside.{asked_for, methods_at};
-ghost use Rattle.http_answer.specs.Replies.{asked, asked_of, by_method, mainline_of, text_in, values_by, values_of, values_of_lines};
+ghost use Rattle.http_answer.specs.Inside.{access_at, action_for, asked_for};
+ghost use Rattle.http_answer.specs.Replies.{action_of, asked, asked_of, by_action, is_mainline, mainline_of, text_in, values_by, values_of, values_of_lines};
 
 use crate::lines::is_list;
 use crate::query::asked_text;
@@ -13,12 +13,23 @@ use std::alloc::{AllocError, Global};
 /// A path at which something is.
 #[derive(Clone, Copy)]
 pub(crate) enum Place {
-    /// That of the page.
-    Page,
-    /// That of values.
+    /// That of values, which any page may read, also those of many positions.
     Standard,
-    /// That of lines of best play.
+    /// That of lines of best play, which any page may read.
     Mainline,
+    /// That of a page or of games, which pages of this server alone may read.
+    Own,
+}
+
+/// What a method other than `POST` asks for at a path.
+#[derive(Clone, Copy)]
+pub(crate) enum Verb {
+    /// What is there.
+    Read,
+    /// Which methods there are.
+    ListMethods,
+    /// Nothing: it isn't one of them.
+    Refuse,
 }
 
 /// What a request asks for.
@@ -85,17 +96,35 @@ fn values_of_lines(body: &Bytes) -> Result<Topic, AllocError>
     }
 }
 
-/// What is asked for at a place by a method, of what is told by those that ask for something to be told.
-fn by_method(place: Place, method: &str, told: Topic) -> Topic
-    ensures { asked_for result ≡ by_method (methods_at place) method.now (asked_for told) }
+/// What a method other than `POST` asks for.
+pub(crate) fn verb_of(method: &str) -> Verb
+    ensures { action_for result ≡ action_of method.now }
 {
     if method == "GET" || method == "HEAD" {
-        told
+        Verb::Read
     } else if method == "OPTIONS" {
-        Topic::Methods(place)
+        Verb::ListMethods
     } else {
-        Topic::OtherMethod(place)
+        Verb::Refuse
     }
+}
+
+/// What is asked for at a place by a method, where to read it is to ask for this.
+fn by_verb(place: Place, verb: Verb, read: Topic) -> Topic
+    ensures { asked_for result ≡ by_action (access_at place) (action_for verb) (asked_for read) }
+{
+    match verb {
+        Verb::Read => read,
+        Verb::ListMethods => Topic::Methods(place),
+        Verb::Refuse => Topic::OtherMethod(place),
+    }
+}
+
+/// Whether a path is that of lines of best play: that of the tablebase API of Lichess, or without its first part.
+fn is_mainline(path: &str) -> bool
+    ensures { result ≡ is_mainline path.now }
+{
+    path == "/standard/mainline" || path == "/mainline"
 }
 
 /// What a method asks for of values, of the position of a query or of those of a body.
@@ -110,8 +139,8 @@ fn values_by(
     if method == "POST" {
         values_of_lines(body)
     } else {
-        let told = values_of(text_in(alloc, query)?);
-        Ok(by_method(Place::Standard, method, told))
+        let read = values_of(text_in(alloc, query)?);
+        Ok(by_verb(Place::Standard, verb_of(method), read))
     }
 }
 
@@ -127,11 +156,11 @@ fn asked_of(
 {
     if path == "/standard" {
         values_by(alloc, method, query, body)
-    } else if path == "/mainline" {
-        let told = mainline_of(text_in(alloc, query)?);
-        Ok(by_method(Place::Mainline, method, told))
+    } else if is_mainline(path) {
+        let read = mainline_of(text_in(alloc, query)?);
+        Ok(by_verb(Place::Mainline, verb_of(method), read))
     } else if path == "/" {
-        Ok(by_method(Place::Page, method, Topic::Page))
+        Ok(by_verb(Place::Own, verb_of(method), Topic::Page))
     } else {
         Ok(Topic::Elsewhere)
     }

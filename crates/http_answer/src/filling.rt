@@ -1,33 +1,50 @@
 //! Responses that are filled.
 
-ghost use Rattle.std.specs.Prelude.{◌≡◌, ◌∷◌, ◌++◌, [], IfOk, OnOk, codes};
+ghost use Rattle.std.specs.Prelude.{◌≡◌, ◌∷◌, ◌++◌, [], OnOk, codes};
 ghost use Rattle.http_server.specs.Response.{IsBlank, IsResponse, fields_of};
-ghost use Rattle.http_answer.specs.Inside.{methods_at};
-ghost use Rattle.http_answer.specs.Replies.{HasLine, allowed, fields, json_fields, object_text, status_of, value_status};
+ghost use Rattle.http_answer.specs.Inside.{access_at};
+ghost use Rattle.http_answer.specs.Replies.{HasError, HasLine, HasMethods, RefusesMethod, allowed, an_hour, any_origin, html_type, json_type, kept_for, lifetime_of, methods_of, object_text, preflight, status_of, typed, value_status};
 ghost use Rattle.move_msg.specs.TextLines.{ended};
 
 use crate::asking::Place;
 use bytes::BufMut;
-use http::{HeaderName, HeaderValue, StatusCode, header};
+use http::{HeaderValue, StatusCode, header};
 use http_server::Response;
 use json_lines::{ApiLine, put_api_line};
 use judge_core::ProbeFault;
 use std::alloc::{AllocError, Global};
 
-/// Adds the fields of a response with a body of this type.
-fn add_fields(response: &mut Response, kind: HeaderValue) -> Result<(), AllocError>
-    ensures fields { OnOk result (fields_of response.new ≡ fields_of response.old ++ fields kind.bytes) }
+/// Adds the type of a body.
+fn add_kind(response: &mut Response, kind: HeaderValue) -> Result<(), AllocError>
+    ensures fields { OnOk result (fields_of response.new ≡ fields_of response.old ++ typed kind.bytes ∷ []) }
     ensures status { response.new.status ≡ response.old.status }
     ensures body { response.new.body ≡ response.old.body }
 {
-    response.add_header(header::CONTENT_TYPE, kind)?;
+    response.add_header(header::CONTENT_TYPE, kind)
+}
+
+/// Adds that any page may read the answer.
+fn add_any_origin(response: &mut Response) -> Result<(), AllocError>
+    ensures fields { OnOk result (fields_of response.new ≡ fields_of response.old ++ any_origin ∷ []) }
+    ensures status { response.new.status ≡ response.old.status }
+    ensures body { response.new.body ≡ response.old.body }
+{
     response.add_header(
         header::ACCESS_CONTROL_ALLOW_ORIGIN,
         HeaderValue::from_static("*"),
     )
 }
 
-/// Fills a response.
+/// Adds which methods there are at a place.
+fn add_allowed(response: &mut Response, place: Place) -> Result<(), AllocError>
+    ensures fields { OnOk result (fields_of response.new ≡ fields_of response.old ++ allowed (access_at place) ∷ []) }
+    ensures status { response.new.status ≡ response.old.status }
+    ensures body { response.new.body ≡ response.old.body }
+{
+    response.add_header(header::ALLOW, methods_at(place))
+}
+
+/// Fills a response that pages of this server alone may read.
 pub(crate) fn fill(
     response: &mut Response,
     status: StatusCode,
@@ -35,23 +52,68 @@ pub(crate) fn fill(
     body: &[u8],
 ) -> Result<(), AllocError>
     requires { IsBlank response.old }
-    ensures { OnOk result (IsResponse status (fields kind.bytes) body.now response.new) }
+    ensures { OnOk result (IsResponse status (typed kind.bytes ∷ []) body.now response.new) }
 {
     response.status = status;
-    add_fields(response, kind)?;
+    add_kind(response, kind)?;
     response.body.put_slice(body)
 }
 
-/// Fills a response with a body as JSON.
-pub(crate) fn fill_json(
+/// Fills a response that any page may read.
+pub(crate) fn fill_shared(
+    response: &mut Response,
+    status: StatusCode,
+    kind: HeaderValue,
+    body: &[u8],
+) -> Result<(), AllocError>
+    requires { IsBlank response.old }
+    ensures { OnOk result (IsResponse status (typed kind.bytes ∷ any_origin ∷ []) body.now response.new) }
+{
+    response.status = status;
+    add_kind(response, kind)?;
+    add_any_origin(response)?;
+    response.body.put_slice(body)
+}
+
+/// Fills a response of this server's own that a cache may keep so long.
+pub(crate) fn fill_kept(
+    response: &mut Response,
+    status: StatusCode,
+    kind: HeaderValue,
+    lifetime: HeaderValue,
+    body: &[u8],
+) -> Result<(), AllocError>
+    requires { IsBlank response.old }
+    ensures { OnOk result (IsResponse status (typed kind.bytes ∷ kept_for lifetime.bytes ∷ []) body.now response.new) }
+{
+    fill(response, status, kind, body)?;
+    response.add_header(header::CACHE_CONTROL, lifetime)
+}
+
+/// Fills a response with a page.
+pub(crate) fn fill_page(response: &mut Response, page: &str) -> Result<(), AllocError>
+    requires { IsBlank response.old }
+    ensures { OnOk result (IsResponse 200 (html_type ∷ kept_for an_hour ∷ []) page.now response.new) }
+{
+    fill_kept(
+        response,
+        StatusCode::OK,
+        HeaderValue::from_static("text/html; charset=utf-8"),
+        HeaderValue::from_static("public, max-age=3600"),
+        page.as_bytes(),
+    )
+}
+
+/// Fills a response with the error of a request about a position, as JSON.
+pub(crate) fn fill_error(
     response: &mut Response,
     status: StatusCode,
     body: &[u8],
 ) -> Result<(), AllocError>
     requires { IsBlank response.old }
-    ensures { OnOk result (IsResponse status json_fields body.now response.new) }
+    ensures { OnOk result (HasError status body.now response.new) }
 {
-    fill(
+    fill_shared(
         response,
         status,
         HeaderValue::from_static("application/json"),
@@ -59,12 +121,25 @@ pub(crate) fn fill_json(
     )
 }
 
+/// Fills a response to a request for what isn't here.
+pub(crate) fn fill_elsewhere(response: &mut Response) -> Result<(), AllocError>
+    requires { IsBlank response.old }
+    ensures { OnOk result (IsResponse 404 (json_type ∷ []) (codes "{\"error\":\"not found\"}") response.new) }
+{
+    fill(
+        response,
+        StatusCode::NOT_FOUND,
+        HeaderValue::from_static("application/json"),
+        b"{\"error\":\"not found\"}",
+    )
+}
+
 /// Fills a response with the objects of lines, a line each.
 pub(crate) fn fill_objects(response: &mut Response, objects: &[u8]) -> Result<(), AllocError>
     requires { IsBlank response.old }
-    ensures { OnOk result (IsResponse 200 (fields (codes "application/x-ndjson")) objects.now response.new) }
+    ensures { OnOk result (IsResponse 200 (typed (codes "application/x-ndjson") ∷ any_origin ∷ []) objects.now response.new) }
 {
-    fill(
+    fill_shared(
         response,
         StatusCode::OK,
         HeaderValue::from_static("application/x-ndjson"),
@@ -74,42 +149,57 @@ pub(crate) fn fill_objects(response: &mut Response, objects: &[u8]) -> Result<()
 
 /// The methods that there are at a place.
 fn methods_at(place: Place) -> HeaderValue
-    ensures { result.bytes ≡ methods_at place }
+    ensures { result.bytes ≡ methods_of (access_at place) }
 {
     match place {
-        Place::Page | Place::Mainline => HeaderValue::from_static("GET, HEAD, OPTIONS"),
+        Place::Mainline | Place::Own => HeaderValue::from_static("GET, HEAD, OPTIONS"),
         Place::Standard => HeaderValue::from_static("GET, HEAD, POST, OPTIONS"),
     }
+}
+
+/// Adds what a page from elsewhere may send to a place.
+fn add_preflight(response: &mut Response, place: Place) -> Result<(), AllocError>
+    ensures fields { OnOk result (fields_of response.new ≡ fields_of response.old ++ preflight (access_at place)) }
+    ensures status { response.new.status ≡ response.old.status }
+    ensures body { response.new.body ≡ response.old.body }
+{
+    add_any_origin(response)?;
+    response.add_header(header::ACCESS_CONTROL_ALLOW_METHODS, methods_at(place))?;
+    response.add_header(
+        header::ACCESS_CONTROL_ALLOW_HEADERS,
+        HeaderValue::from_static("content-type"),
+    )
 }
 
 /// Fills a response that tells which methods there are at a place.
 pub(crate) fn fill_methods(response: &mut Response, place: Place) -> Result<(), AllocError>
     requires { IsBlank response.old }
-    ensures { OnOk result (IsResponse 204 (allowed (methods_at place) ∷ (codes "access-control-allow-origin", codes "*") ∷ (codes "access-control-allow-methods", methods_at place) ∷ []) [] response.new) }
+    ensures { OnOk result (HasMethods (access_at place) response.new) }
 {
     response.status = StatusCode::NO_CONTENT;
-    response.add_header(header::ALLOW, methods_at(place))?;
-    response.add_header(
-        header::ACCESS_CONTROL_ALLOW_ORIGIN,
-        HeaderValue::from_static("*"),
-    )?;
-    response.add_header(
-        HeaderName::from_static("access-control-allow-methods"),
-        methods_at(place),
-    )
+    add_allowed(response, place)?;
+    match place {
+        Place::Standard | Place::Mainline => add_preflight(response, place),
+        Place::Own => Ok(()),
+    }
 }
 
 /// Fills a response that refuses a method at a place.
 pub(crate) fn fill_other_method(response: &mut Response, place: Place) -> Result<(), AllocError>
     requires { IsBlank response.old }
-    ensures { OnOk result (IsResponse 405 (json_fields ++ allowed (methods_at place) ∷ []) (codes "{\"error\":\"method not allowed\"}") response.new) }
+    ensures { OnOk result (RefusesMethod (access_at place) response.new) }
 {
-    fill_json(
+    fill(
         response,
         StatusCode::METHOD_NOT_ALLOWED,
+        HeaderValue::from_static("application/json"),
         b"{\"error\":\"method not allowed\"}",
     )?;
-    response.add_header(header::ALLOW, methods_at(place))
+    add_allowed(response, place)?;
+    match place {
+        Place::Standard | Place::Mainline => add_any_origin(response),
+        Place::Own => Ok(()),
+    }
 }
 
 /// Adds an object of the tablebase API to a text.
@@ -157,6 +247,18 @@ fn status_of(line: &ApiLine) -> StatusCode
     }
 }
 
+/// How long a cache may keep a line.
+fn lifetime_of(line: &ApiLine) -> HeaderValue
+    ensures { result.bytes ≡ lifetime_of line.now }
+{
+    match line {
+        ApiLine::Refused(_) => HeaderValue::from_static("no-store"),
+        ApiLine::Fault(_) | ApiLine::Values(_, _) | ApiLine::Mainline(_, _) => {
+            HeaderValue::from_static("public, max-age=3600")
+        }
+    }
+}
+
 /// Fills a response with a line.
 pub(crate) fn fill_line(
     alloc: Global,
@@ -168,5 +270,11 @@ pub(crate) fn fill_line(
 {
     let mut body = Vec::new(alloc);
     add_object(&mut body, line)?;
-    fill_json(response, status_of(line), &body)
+    fill_shared(
+        response,
+        status_of(line),
+        HeaderValue::from_static("application/json"),
+        &body,
+    )?;
+    response.add_header(header::CACHE_CONTROL, lifetime_of(line))
 }

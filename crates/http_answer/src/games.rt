@@ -5,13 +5,13 @@ ghost use Rattle.game_status.specs.Listings.{CannotList};
 ghost use Rattle.game_status.specs.OneGame.{IsGameFound, ListsNoGame};
 ghost use Rattle.game_status.specs.Reports.{IsStatusReport, form_of};
 ghost use Rattle.http_answer.specs.Games.{HasNoGame, IsFoundGame, IsReportText, LacksGames, games_on};
-ghost use Rattle.http_answer.specs.Inside.{IsCopy};
+ghost use Rattle.http_answer.specs.Inside.{IsCopy, IsFreshReport, IsKeptAt, IsKeptReport, IsReportAt, is_fresh};
 
 use game_status::{GameFound, LackedFolder, ReportForm, look_at_game, over_store, status_report};
 use move_msg::Stamp;
 use std::alloc::{AllocError, Global};
 use std::marker::Model;
-use std::time::{Clock, Duration, Instant};
+use std::time::{Clock, Instant};
 use system_io::{Disk, Host, ReadFault};
 
 /// Folders of games.
@@ -135,25 +135,63 @@ struct Kept {
     since: Instant,
 }
 
-/// Whether a report was read less than a second ago. It counts as old where the clock tells no time.
-fn is_fresh<C: Clock>(clock: &C, kept: &Kept) -> bool {
-    let Ok(now) = Instant::now(clock) else {
-        return false;
-    };
-    match kept.since.checked_add(Duration::from_secs(1)) {
-        Some(end) => now < end,
-        None => true,
+/// The time, if the clock says it.
+fn time_of<C: Clock>(clock: &C) -> Option<Instant> {
+    match Instant::now(clock) {
+        Ok(now) => Some(now),
+        Err(_) => None,
     }
 }
 
-/// A report that is read now, to be kept. It isn't where the clock tells no time.
-fn kept_now<C: Clock>(clock: &C, report: Report) -> Option<Kept>
-    ensures { IfSome result (λ kept. kept.report ≡ report) }
+/// Whether a report that was read at one time is less than a second old at another.
+fn is_fresh(since: Instant, now: Instant) -> bool
+    ensures { result ≡ is_fresh since now }
 {
-    match Instant::now(clock) {
-        Ok(since) => Some(Kept { report, since }),
-        Err(_) => None,
+    now.duration_since(since).as_nanos() < 1_000_000_000
+}
+
+/// The report that is kept, if it is less than a second old at this time. It counts as old where the clock says no time.
+fn fresh_report(now: Option<Instant>, kept: &Option<Kept>) -> Option<&Report>
+    ensures { IfSome result (λ report. IsFreshReport now kept.entry.now report.now) }
+{
+    match (kept, now) {
+        (Some(kept), Some(now)) if is_fresh(kept.since, now) => Some(&kept.report),
+        _ => None,
     }
+}
+
+/// A report that was read at this time, to be kept. It isn't where the clock says no time.
+fn kept_at(now: Option<Instant>, report: Report) -> Option<Kept>
+    ensures { IsKeptAt now report result }
+{
+    match now {
+        Some(since) => Some(Kept { report, since }),
+        None => None,
+    }
+}
+
+/// The report in this form at this time: the one that is kept, if it was read less than a second ago, or one that is read now, and kept
+/// with this time.
+fn report_at<D: Disk, H: Host>(
+    alloc: Global,
+    folders: &GameFolders<'_, D, H>,
+    form: ReportForm,
+    now: Option<Instant>,
+    kept: &mut Option<Kept>,
+) -> Result<Report, AllocError>
+    requires { IsKeptReport D.facts H.stores (games_on folders.now) form kept.old }
+    ensures told { IfOk result (λ r. IfOk r (λ text. IsReportText D.facts H.stores (games_on folders.now) form text.items)) }
+    ensures lacked { IfOk result (λ r. IfErr r (LacksGames D.facts H.stores (games_on folders.now))) }
+    ensures kept { IsKeptReport D.facts H.stores (games_on folders.now) form kept.new }
+    ensures time { IfOk result (IsReportAt now kept.old kept.new) }
+{
+    if let Some(report) = fresh_report(now, kept) {
+        return copy_of(alloc, report);
+    }
+    let report = folders.report(alloc, form)?;
+    let copy = copy_of(alloc, &report)?;
+    *kept = kept_at(now, report);
+    Ok(copy)
 }
 
 /// The folders of games of which requests ask, with the reports on them that were read last.
@@ -191,38 +229,25 @@ impl<'r, D: Disk, H: Host, C: Clock> Games<'r, D, H, C> {
         }
     }
 
-    /// The report as JSON: the one that was read last, if that was less than a second ago, or a new one.
-    pub(crate) fn json(&mut self, alloc: Global) -> Result<Report, AllocError>
-        ensures told { IfOk result (λ r. IfOk r (λ text. IsReportText D.facts H.stores self.old ReportForm.Json text.items)) }
+    /// The report in a form: the one that was read last, if that was less than a second ago, or a new one.
+    pub(crate) fn report(&mut self, alloc: Global, form: ReportForm) -> Result<Report, AllocError>
+        ensures told { IfOk result (λ r. IfOk r (λ text. IsReportText D.facts H.stores self.old form text.items)) }
         ensures lacked { IfOk result (λ r. IfErr r (LacksGames D.facts H.stores self.old)) }
         ensures same { self.new ≡ self.old }
     {
-        if let Some(kept) = &self.json {
-            if is_fresh(self.clock, kept) {
-                return copy_of(alloc, &kept.report);
+        let now = time_of(self.clock);
+        match form {
+            ReportForm::Json => {
+                report_at(alloc, &self.folders, ReportForm::Json, now, &mut self.json)
             }
+            ReportForm::Metrics => report_at(
+                alloc,
+                &self.folders,
+                ReportForm::Metrics,
+                now,
+                &mut self.metrics,
+            ),
         }
-        let report = self.folders.report(alloc, ReportForm::Json)?;
-        let copy = copy_of(alloc, &report)?;
-        self.json = kept_now(self.clock, report);
-        Ok(copy)
-    }
-
-    /// The report as metrics: the one that was read last, if that was less than a second ago, or a new one.
-    pub(crate) fn metrics(&mut self, alloc: Global) -> Result<Report, AllocError>
-        ensures told { IfOk result (λ r. IfOk r (λ text. IsReportText D.facts H.stores self.old ReportForm.Metrics text.items)) }
-        ensures lacked { IfOk result (λ r. IfErr r (LacksGames D.facts H.stores self.old)) }
-        ensures same { self.new ≡ self.old }
-    {
-        if let Some(kept) = &self.metrics {
-            if is_fresh(self.clock, kept) {
-                return copy_of(alloc, &kept.report);
-            }
-        }
-        let report = self.folders.report(alloc, ReportForm::Metrics)?;
-        let copy = copy_of(alloc, &report)?;
-        self.metrics = kept_now(self.clock, report);
-        Ok(copy)
     }
 
     /// What is found of the game with a stamp; none where the folders list no file of it.

@@ -18,7 +18,9 @@
 //! - CLAIM: `Router`, clause `answers`: the response is the one that `IsServed` has for the request's method and path, and the folders
 //!   stay the same. Of all games it is the report that `status` writes as JSON or as metrics, of one game its object with each ply, by a
 //!   look at the folders. A second folder, its comparison and its faults are as `status` has them. 404 where no folder lists the file of
-//!   the stamp, and for each path of games where no folder is named. How often folders are read isn't said, nor how old a report is.
+//!   the stamp, and for each path of games where no folder is named.
+//! - CLAIM: `report_at` (private), clause `time`: a report is a copy of one that was kept less than a second before, by the clock, or of
+//!   one that is kept with this time. When the folders were read for it isn't said.
 //! - CLAIM: `Answerer`, clause `answers`: the response is the reply to the request (`IsReply`), and the folder stays
 //!   the same. For a position it is an object of the tablebase API with each legal move, by tables of the folder of which none is missing
 //!   at the position and after its moves; or the refusal of the file of one that is needed. For a body it is these of each line, in turn.

@@ -5,8 +5,8 @@ ghost use Rattle.move_msg.specs.TextLines.{lines_in};
 
 use fen_text::cut_first;
 
-/// How many lines a body may have.
-const MOST: usize = 100;
+/// How many lines a body may have. All of them are answered in one turn of a connection, and others wait as long.
+const MOST: usize = 16;
 
 /// The first line of a text, whose line feed may be missing, and the text after it; none where the text is empty.
 pub(crate) fn first_line(text: &[u8]) -> Option<(&[u8], &[u8])>
@@ -24,7 +24,7 @@ pub(crate) fn first_line(text: &[u8]) -> Option<(&[u8], &[u8])>
 
 /// Whether a body has no more lines than it may have.
 pub(crate) fn is_list(body: &[u8]) -> bool
-    ensures { result ≡ nat_le (length (lines_in body.now)) 100 }
+    ensures { result ≡ nat_le (length (lines_in body.now)) 16 }
 {
     let mut rest = body;
     let mut before: usize = 0;

@@ -3,18 +3,18 @@
 ghost use Rattle.std.specs.Prelude.{◌≡◌, ◌++◌, ℕ, List, IfNone, IfSome, OnOk};
 ghost use Rattle.http_server.specs.Response.{IsBlank, IsResponse};
 ghost use Rattle.game_status.specs.StatusObjects.{AreNamed};
-ghost use Rattle.http_answer.specs.Games.{AskedOfGames, AsksBelow, AsksByDigits, AsksOfGames, AsksToWatch, HasGame, IsByMethod, TellsOfGames, fresh_fields, fresh_json, lacked_text};
+ghost use Rattle.http_answer.specs.Games.{AskedOfGames, AsksBelow, AsksByDigits, AsksOfGames, AsksToWatch, HasGame, IsByMethod, TellsOfGames, fresh_fields, fresh_json, is_games, is_watch, lacked_text};
 ghost use Rattle.http_answer.specs.Inside.{HasReportText, IsGameText, asked_of_games};
 
 use crate::answerer::Answerer;
-use crate::asking::Place;
-use crate::filling::{fill, fill_methods, fill_other_method};
+use crate::asking::{Place, Verb, verb_of};
+use crate::filling::{fill_kept, fill_methods, fill_other_method, fill_page};
 use crate::games::Games;
 use crate::plies::game_text;
 use crate::watch::WATCH;
 use bytes::Bytes;
-use game_status::{GameFound, LackedFolder, stamp_of};
-use http::{HeaderValue, Request, StatusCode, header};
+use game_status::{GameFound, LackedFolder, ReportForm, stamp_of};
+use http::{HeaderValue, Request, StatusCode};
 use http_server::{Response, Service};
 use move_msg::Stamp;
 use std::alloc::{AllocError, Global};
@@ -81,16 +81,30 @@ fn topic_below(path: &[u8]) -> Option<GameTopic>
     }
 }
 
+/// Whether a path is that of all games, with a slash behind or without.
+fn is_games(path: &str) -> bool
+    ensures { result ≡ is_games path.now }
+{
+    path == "/games" || path == "/games/"
+}
+
+/// Whether a path is that of the page on all games, with a slash behind or without.
+fn is_watch(path: &str) -> bool
+    ensures { result ≡ is_watch path.now }
+{
+    path == "/watch" || path == "/watch/"
+}
+
 /// What a path asks for of games, if it does.
 fn topic_at(path: &str) -> Option<GameTopic>
     ensures some { IfSome result (λ topic. AsksOfGames path.now (asked_of_games topic)) }
     ensures none { IfNone result ((a : AskedOfGames) → AsksOfGames path.now a → ⊥) }
 {
-    if path == "/games" {
+    if is_games(path) {
         Some(GameTopic::Games)
     } else if path == "/metrics" {
         Some(GameTopic::Metrics)
-    } else if path == "/watch" {
+    } else if is_watch(path) {
         Some(GameTopic::Watch)
     } else {
         topic_below(path.as_bytes())
@@ -107,8 +121,13 @@ fn fill_fresh(
     requires { IsBlank response.old }
     ensures { OnOk result (IsResponse status (fresh_fields kind.bytes) body.now response.new) }
 {
-    fill(response, status, kind, body)?;
-    response.add_header(header::CACHE_CONTROL, HeaderValue::from_static("no-store"))
+    fill_kept(
+        response,
+        status,
+        kind,
+        HeaderValue::from_static("no-store"),
+        body,
+    )
 }
 
 /// Fills a response that isn't to be kept, with a body as JSON.
@@ -235,12 +254,12 @@ fn tell<D: Disk, H: Host, C: Clock>(
         GameTopic::Games => fill_report(
             response,
             HeaderValue::from_static("application/json"),
-            &games.json(alloc)?,
+            &games.report(alloc, ReportForm::Json)?,
         ),
         GameTopic::Metrics => fill_report(
             response,
             HeaderValue::from_static("text/plain; version=0.0.4"),
-            &games.metrics(alloc)?,
+            &games.report(alloc, ReportForm::Metrics)?,
         ),
         GameTopic::Game(stamp) => tell_game(answerer, games, alloc, stamp, response),
         GameTopic::NoStamp => fill_fresh_json(
@@ -248,12 +267,7 @@ fn tell<D: Disk, H: Host, C: Clock>(
             StatusCode::BAD_REQUEST,
             b"{\"error\":\"no stamp\"}",
         ),
-        GameTopic::Watch => fill(
-            response,
-            StatusCode::OK,
-            HeaderValue::from_static("text/html; charset=utf-8"),
-            WATCH.as_bytes(),
-        ),
+        GameTopic::Watch => fill_page(response, WATCH),
     }
 }
 
@@ -271,12 +285,10 @@ fn tell_by_method<D: Disk, H: Host, C: Clock>(
     ensures same { answerer.new ≡ answerer.old }
     ensures same_games { games.new ≡ games.old }
 {
-    if method == "GET" || method == "HEAD" {
-        tell(answerer, games, alloc, topic, response)
-    } else if method == "OPTIONS" {
-        fill_methods(response, Place::Page)
-    } else {
-        fill_other_method(response, Place::Page)
+    match verb_of(method) {
+        Verb::Read => tell(answerer, games, alloc, topic, response),
+        Verb::ListMethods => fill_methods(response, Place::Own),
+        Verb::Refuse => fill_other_method(response, Place::Own),
     }
 }
 

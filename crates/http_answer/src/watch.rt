@@ -92,7 +92,7 @@ const square = i => \"abcdefgh\"[i % 8] + (8 - (i >> 3));\n\
 const drawn = man => man === \".\" ? \"\" : `<svg viewBox=\"0 0 40 40\" class=\"${man < \"a\" ? \"white\" : \"black\"}\" aria-hidden=\"true\">${SHAPES[man.toLowerCase()]}</svg>`;\n\
 const named = man => man === \".\" ? \"empty\" : (man < \"a\" ? \"white \" : \"black \") + NAMES[man.toLowerCase()];\n\
 const stamp = (/\\/watch\\/([0-9a-f]{32})$/.exec(location.pathname) || [])[1];\n\
-const base = stamp ? \"../\" : \"\";\n\
+const base = location.pathname.split(\"/\").at(-2) === \"watch\" ? \"../\" : \"\";\n\
 const make = (name, text, kind) => {\n\
   const it = document.createElement(name);\n\
   if (text !== undefined) it.textContent = text;\n\
@@ -149,7 +149,7 @@ function card(g) {\n\
   if (cards.has(g.stamp)) return cards.get(g.stamp);\n\
   const li = make(\"li\"), link = make(\"a\"), head = make(\"h2\");\n\
   li.dataset.stamp = g.stamp;\n\
-  link.href = \"watch/\" + g.stamp;\n\
+  link.href = base + \"watch/\" + g.stamp;\n\
   head.append(link);\n\
   const board = make(\"div\", undefined, \"board\");\n\
   board.setAttribute(\"role\", \"img\");\n\

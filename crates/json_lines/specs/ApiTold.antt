@@ -1,6 +1,6 @@
 -- What is told of a position for the tablebase API: what tables tell of it and of its legal moves, and which distances are precise.
-use Rattle.std.specs.Prelude.{◌≡◌, ℕ, ℤ, zero, suc, pos, Bool, true, false, not, ◌&&◌, ◌||◌, List, [], ◌∷◌, Option, Some, None, Result, Ok, Err, map, if◌then◌else◌, int_lt}
-use Rattle.std.specs.List.{All, list_all}
+use Rattle.std.specs.Prelude.{◌≡◌, ℕ, ℤ, zero, suc, pos, Bool, true, false, ◌||◌, List, [], ◌∷◌, Option, Some, None, Result, Ok, Err, map, if◌then◌else◌, int_lt}
+use Rattle.std.specs.List.{All}
 use Rattle.board_core.specs.declared.parts.Parts.{Parts}
 use Rattle.board_core.specs.declared.piece.Side.{Side}
 use Rattle.board_core.specs.declared.moves.Move.{Move}
@@ -11,7 +11,6 @@ use Rattle.fen_text.specs.Fen.{SpellsPosition, IsFirstFenFault}
 use Rattle.judge_core.specs.declared.ask.Ask.TheVariants.{Strict}
 use Rattle.judge_core.specs.declared.fault.ProbeFault.{ProbeFault}
 use Rattle.judge_core.specs.Precision.{is_precise}
-use Rattle.judge_core.specs.ProbeResult.{has_both}
 use Rattle.judge_core.specs.Root.{is_checkmate, zeroes_clock}
 use Rattle.judge_core.specs.Tables.{Tables}
 use Rattle.json_lines.specs.declared.api_told.ApiLine.{ApiLine}
@@ -44,17 +43,6 @@ IsApiLineOf tables p (line.Fault fault) = ⊥
 IsApiLineOf tables p (line.Refused words) = ⊥
 IsApiLineOf tables p (line.Values t moves) = IsApiPosition tables p t × IsApiRoot tables p moves.items
 IsApiLineOf tables p (line.Mainline t plies) = ⊥
-
--- both values after the move are told, and it doesn't mate
-abbrev pub is_by_tables : ApiMove → Bool
-is_by_tables t = has_both t.told.probed && not (is_checkmate t.told.state)
-
--- so it is after each move of a position whose values are told
-abbrev pub is_line_by_tables : ApiLine → Bool
-is_line_by_tables (line.Fault fault) = false
-is_line_by_tables (line.Refused words) = false
-is_line_by_tables (line.Values t moves) = has_both t.told.columns.probed && list_all is_by_tables moves.items
-is_line_by_tables (line.Mainline t plies) = false
 
 -- the line of the position that a text spells, or that of the text's fault
 pub data IsApiLineFor (text : List ℕ) (IsLine : Parts → ApiLine → Type 0) (l : ApiLine) : Type 0 where

@@ -1,8 +1,8 @@
 //! What is told of a position for the tablebase API.
 
 ghost use Rattle.std.specs.Prelude.{◌≡◌, IfOk, OnOk, map};
-ghost use Rattle.std.specs.List.{All, list_all};
-ghost use Rattle.json_lines.specs.ApiTold.{IsApiLineOf, IsApiPosition, IsApiRoot, IsBestMove, IsPrecisionAfter, ends_line, is_by_tables, is_line_by_tables, told_in, winner_of};
+ghost use Rattle.std.specs.List.{All};
+ghost use Rattle.json_lines.specs.ApiTold.{IsApiLineOf, IsApiPosition, IsApiRoot, IsBestMove, IsPrecisionAfter, ends_line, told_in, winner_of};
 ghost use Rattle.judge_core.specs.declared.ask.Ask.TheVariants.{Strict};
 ghost use Rattle.json_lines.specs.Inside.Playing.{AddsMove};
 ghost use Rattle.json_lines.specs.Told.{AreOrdered};
@@ -191,24 +191,6 @@ fn api_root(
     with_precision(alloc, set, &moves)
 }
 
-/// Whether both values after a move are told by tables, as they are where it doesn't mate.
-fn is_by_tables(played: &ApiMove) -> bool
-    ensures { result ≡ is_by_tables played.now }
-{
-    played.told.probed.has_both() && !played.told.state.is_checkmate()
-}
-
-/// Whether so it is after each of these moves.
-fn are_by_tables(moves: &[ApiMove]) -> bool
-    ensures { result ≡ list_all is_by_tables moves.now }
-{
-    let mut all = true;
-    for played in moves {
-        all &= is_by_tables(played);
-    }
-    all
-}
-
 impl ApiLine {
     /// What tables tell of a position and of its legal moves.
     ///
@@ -226,17 +208,5 @@ impl ApiLine {
         let told = ApiPosition::of(alloc, set, position)?;
         let moves = api_root(alloc, set, position)?;
         Ok(ApiLine::Values(told, moves))
-    }
-
-    /// Whether it tells the values of a position and after each of its moves, and all are by tables: none is missing, and no move mates.
-    pub fn is_by_tables(&self) -> bool
-        ensures { result ≡ is_line_by_tables self.now }
-    {
-        match self {
-            ApiLine::Values(position, moves) => {
-                position.told.columns.probed.has_both() && are_by_tables(moves)
-            }
-            ApiLine::Fault(_) | ApiLine::Refused(_) | ApiLine::Mainline(_, _) => false,
-        }
     }
 }

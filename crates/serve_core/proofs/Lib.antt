@@ -1,2 +1,4 @@
+pub mod Refusing
 pub mod Replying
+pub mod SameFolders
 pub mod Telling

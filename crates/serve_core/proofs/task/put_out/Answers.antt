@@ -1,7 +1,7 @@
 use Rattle.std.proofs.Common.{subst}
 use Rattle.line_teller.specs.ToldLines.{HasFront}
 use Rattle.serve_core.proofs.Telling.{whole_is_front}
-use Rattle.serve_core.proofs.serving.put_out.Goals as goal
+use Rattle.serve_core.proofs.task.put_out.Goals as goal
 
 pub returns-in-Err-flush_all-clause-told : goal.returns-in-Err-flush_all-clause-told
 returns-in-Err-flush_all-clause-told g c =
