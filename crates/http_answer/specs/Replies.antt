@@ -189,12 +189,23 @@ status_of (line.Refused words) = 500
 status_of (line.Values t moves) = value_status t.told.columns.probed.wdl
 status_of (line.Mainline t plies) = value_status t.told.columns.probed.wdl
 
--- an answer by tables and of a text without any stays; a file that is refused may be mended
+abbrev pub not_at_all : List ℕ
+not_at_all = codes "no-store"
+
+-- a value stays, and so does that a position has too many men; a table that is missing may come, and a damaged one be mended
+abbrev pub value_lifetime : {A : Type 0} → Result A ProbeFault → List ℕ
+value_lifetime (Ok value) = an_hour
+value_lifetime (Err probe.OutOfScope) = an_hour
+value_lifetime (Err (probe.NotCovered material)) = not_at_all
+value_lifetime (Err (probe.Damaged material)) = not_at_all
+value_lifetime (Err probe.OutOfMemory) = not_at_all
+
+-- that of a text that is no position stays too; a file that is refused may be mended
 abbrev pub lifetime_of : ApiLine → List ℕ
 lifetime_of (line.Fault fault) = an_hour
-lifetime_of (line.Refused words) = codes "no-store"
-lifetime_of (line.Values t moves) = an_hour
-lifetime_of (line.Mainline t plies) = an_hour
+lifetime_of (line.Refused words) = not_at_all
+lifetime_of (line.Values t moves) = value_lifetime t.told.columns.probed.wdl
+lifetime_of (line.Mainline t plies) = value_lifetime t.told.columns.probed.wdl
 
 -- the object of a line
 abbrev pub object_text : ApiLine → List ℕ

@@ -3,7 +3,7 @@
 ghost use Rattle.std.specs.Prelude.{◌≡◌, ◌∷◌, ◌++◌, [], OnOk, codes};
 ghost use Rattle.http_server.specs.Response.{IsBlank, IsResponse, fields_of};
 ghost use Rattle.http_answer.specs.Inside.{access_at};
-ghost use Rattle.http_answer.specs.Replies.{HasError, HasLine, HasMethods, RefusesMethod, allowed, an_hour, any_origin, html_type, json_type, kept_for, lifetime_of, methods_of, object_text, preflight, status_of, typed, value_status};
+ghost use Rattle.http_answer.specs.Replies.{HasError, HasLine, HasMethods, RefusesMethod, allowed, an_hour, any_origin, html_type, json_type, kept_for, lifetime_of, methods_of, object_text, preflight, status_of, typed, value_lifetime, value_status};
 ghost use Rattle.move_msg.specs.TextLines.{ended};
 
 use crate::asking::Place;
@@ -247,14 +247,27 @@ fn status_of(line: &ApiLine) -> StatusCode
     }
 }
 
+/// How long a cache may keep an answer with this value.
+fn value_lifetime(value: Result<i32, ProbeFault>) -> HeaderValue
+    ensures { result.bytes ≡ value_lifetime value }
+{
+    match value {
+        Ok(_) | Err(ProbeFault::OutOfScope) => HeaderValue::from_static("public, max-age=3600"),
+        Err(ProbeFault::NotCovered(_) | ProbeFault::Damaged(_) | ProbeFault::OutOfMemory) => {
+            HeaderValue::from_static("no-store")
+        }
+    }
+}
+
 /// How long a cache may keep a line.
 fn lifetime_of(line: &ApiLine) -> HeaderValue
     ensures { result.bytes ≡ lifetime_of line.now }
 {
     match line {
+        ApiLine::Fault(_) => HeaderValue::from_static("public, max-age=3600"),
         ApiLine::Refused(_) => HeaderValue::from_static("no-store"),
-        ApiLine::Fault(_) | ApiLine::Values(_, _) | ApiLine::Mainline(_, _) => {
-            HeaderValue::from_static("public, max-age=3600")
+        ApiLine::Values(position, _) | ApiLine::Mainline(position, _) => {
+            value_lifetime(position.told.columns.probed.wdl)
         }
     }
 }

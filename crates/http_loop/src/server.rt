@@ -23,6 +23,9 @@ use std::{io, mem};
 /// How many calls of the system a connection has in a turn, at most.
 const TURN: usize = 32;
 
+/// How many keys are reported as ready at once without more memory: as many as the system's sockets report.
+const READY: usize = 1024;
+
 /// How many connections come in a round, at most.
 const COMING: usize = 64;
 
@@ -267,7 +270,7 @@ fn close_late<L: Listener>(
 fn give_turns<L: Listener, S: Service>(
     listener: &mut L,
     peers: &mut Slab<Peer<L::Reader, L::Writer>>,
-    ready: Vec<usize>,
+    ready: &[usize],
     going: &mut VecDeque<usize>,
     service: &mut S,
     now: Instant,
@@ -277,8 +280,8 @@ fn give_turns<L: Listener, S: Service>(
     ensures fewer { slab_len peers.new ≤ slab_len peers.old }
 {
     for key in ready {
-        if !goes_on(peers, key) {
-            give_turn(listener, peers, going, service, key, now);
+        if !goes_on(peers, *key) {
+            give_turn(listener, peers, going, service, *key, now);
         }
     }
 }
@@ -329,7 +332,7 @@ fn close_each<L: Listener>(listener: &mut L, peers: &mut Slab<Peer<L::Reader, L:
 }
 
 impl<'r, C: Clock, L: Listener + Drop> Server<'r, C, L> {
-    /// A server over a listener, none of whose streams is open. The error comes where there is no clock.
+    /// A server over a listener, none of whose streams is open. The error comes where there is no clock, or memory is refused.
     pub fn new(
         clock: &'r C,
         alloc: Global,
@@ -351,7 +354,7 @@ impl<'r, C: Clock, L: Listener + Drop> Server<'r, C, L> {
             limits,
             listener,
             peers: Slab::new(alloc),
-            ready: Vec::new(alloc),
+            ready: Vec::with_capacity(alloc, READY)?,
             going: VecDeque::new(alloc),
             now,
             swept: now,
@@ -422,7 +425,8 @@ impl<'r, C: Clock, L: Listener + Drop> Server<'r, C, L> {
 
     /// Waits until a stream comes or is ready, or for as long as `sweep` of the limits says. Then each connection that has become ready
     /// has a turn, and behind these one of those that might have gone on, the longest waiting; and those are closed that took too long.
-    /// There are never more connections than the limits say. The error comes where the system can't wait, or memory is refused.
+    /// There are never more connections than the limits say. It takes no memory but for connections, and one to which memory is refused
+    /// is closed; a listener may take some. The error comes where the system can't wait, or memory is refused.
     pub fn round<S: Service>(&mut self, service: &mut S) -> io::Result<()>
         ensures served { ServesCalls L.streams L.Reader.remaining L.Writer.contents S.answers service.old service.new self.old self.new }
         ensures few { KeepsLimits self.old self.new }
@@ -430,8 +434,10 @@ impl<'r, C: Clock, L: Listener + Drop> Server<'r, C, L> {
         self.wait()?;
         let ready = mem::replace(&mut self.ready, Vec::new(self.alloc));
         let (listener, peers) = (&mut self.listener, &mut self.peers);
-        give_turns(listener, peers, ready, &mut self.going, service, self.now);
+        give_turns(listener, peers, &ready, &mut self.going, service, self.now);
         give_next(listener, peers, &mut self.going, service, self.now);
+        self.ready = ready;
+        self.ready.clear();
         self.sweep();
         Ok(())
     }
