@@ -279,9 +279,10 @@ fn give_turns<L: Listener, S: Service>(
         (L.streams listener.old) peers.old (L.streams listener.new) peers.new }
     ensures fewer { slab_len peers.new ≤ slab_len peers.old }
 {
-    for key in ready {
-        if !goes_on(peers, *key) {
-            give_turn(listener, peers, going, service, *key, now);
+    for place in 0..ready.len() {
+        let key = ready[place];
+        if !goes_on(peers, key) {
+            give_turn(listener, peers, going, service, key, now);
         }
     }
 }
