@@ -97,7 +97,7 @@ impl<'r, D: Disk> Answerer<'r, D> {
     }
 
     /// An answerer by this folder over another arena, with no table open. The error comes where memory is refused.
-    pub(crate) fn apart<'s>(&self, arena: &'s Bump) -> Result<Answerer<'s, D>, AllocError>
+    fn apart<'s>(&self, arena: &'s Bump) -> Result<Answerer<'s, D>, AllocError>
     where
         'r: 's,
         ensures { IfOk result (λ a. a ≡ self.now) }

@@ -12,7 +12,6 @@ use crate::filling::{fill_kept, fill_methods, fill_other_method, fill_page};
 use crate::games::Games;
 use crate::plies::game_text;
 use crate::watch::WATCH;
-use bumpalo::Bump;
 use bytes::Bytes;
 use game_status::{GameFound, LackedFolder, ReportForm, stamp_of};
 use http::{HeaderValue, Request, StatusCode};
@@ -293,30 +292,6 @@ fn tell_by_method<D: Disk, H: Host, C: Clock>(
     }
 }
 
-/// Fills the response to what is asked for of games by a method. Where there is no room for a table that is needed, all that the request
-/// needs are read for it alone.
-fn tell_with_room<D: Disk, H: Host, C: Clock>(
-    answerer: &mut Answerer<'_, D>,
-    games: &mut Games<'_, D, H, C>,
-    alloc: Global,
-    method: &str,
-    topic: GameTopic,
-    response: &mut Response,
-) -> Result<(), AllocError>
-    requires { IsBlank response.old }
-    ensures told { OnOk result (IsByMethod method.now (TellsOfGames D.facts H.stores answerer.old games.old (asked_of_games topic)) response.new) }
-    ensures same { answerer.new ≡ answerer.old }
-    ensures same_games { games.new ≡ games.old }
-{
-    if tell_by_method(answerer, games, alloc, method, topic, response).is_ok() {
-        return Ok(());
-    }
-    response.clear();
-    let arena = Bump::new(alloc);
-    let mut apart = answerer.apart(&arena)?;
-    tell_by_method(&mut apart, games, alloc, method, topic, response)
-}
-
 impl<'r, D: Disk, H: Host, C: Clock> Service for Router<'r, D, H, C> {
     ghost use Rattle.http_answer.specs.Games.{Routes};
 
@@ -331,7 +306,7 @@ impl<'r, D: Disk, H: Host, C: Clock> Service for Router<'r, D, H, C> {
             return self.answerer.call(request, response);
         };
         match topic_at(request.uri().path()) {
-            Some(topic) => tell_with_room(
+            Some(topic) => tell_by_method(
                 &mut self.answerer,
                 games,
                 self.alloc,

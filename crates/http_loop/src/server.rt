@@ -266,6 +266,25 @@ fn close_late<L: Listener>(
     }
 }
 
+/// Gives the connection under a key that has become ready a turn, unless it waits for one anyway.
+fn give_ready_turn<L: Listener, S: Service>(
+    listener: &mut L,
+    peers: &mut Slab<Peer<L::Reader, L::Writer>>,
+    going: &mut VecDeque<usize>,
+    service: &mut S,
+    key: usize,
+    now: Instant,
+)
+    ensures served { (config : Config) → ServesOn L.Reader.remaining L.Writer.contents S.answers service.old service.new config
+        (L.streams listener.old) peers.old (L.streams listener.new) peers.new }
+    ensures fewer { slab_len peers.new ≤ slab_len peers.old }
+{
+    if goes_on(peers, key) {
+        return;
+    }
+    give_turn(listener, peers, going, service, key, now);
+}
+
 /// Gives each connection that has become ready a turn, but for those that wait for one anyway.
 fn give_turns<L: Listener, S: Service>(
     listener: &mut L,
@@ -279,11 +298,8 @@ fn give_turns<L: Listener, S: Service>(
         (L.streams listener.old) peers.old (L.streams listener.new) peers.new }
     ensures fewer { slab_len peers.new ≤ slab_len peers.old }
 {
-    for place in 0..ready.len() {
-        let key = ready[place];
-        if !goes_on(peers, key) {
-            give_turn(listener, peers, going, service, key, now);
-        }
+    for key in ready {
+        give_ready_turn(listener, peers, going, service, *key, now);
     }
 }
 

@@ -10,13 +10,13 @@ pub returns-in-Some-topic_at-clause-ok : goal.returns-in-Some-topic_at-clause-ok
 returns-in-Some-topic_at-clause-ok g c =
     let a = asked_of_games c.in-Some-topic_at.topic in
     let asks = subst (λ (path : List ℕ). AsksOfGames path a) (c.path.ensures.value ∙ ap uri_path c.uri.ensures) c.in-Some-topic_at.ensures.some in
-    on_ok_weaker c.tell_with_room.result
+    on_ok_weaker c.tell_by_method.result
     (λ told. record {
-      served = OfGames c.in-Some.games c.in-Some.is a asks (subst (λ (method : List ℕ). IsByMethod method (TellsOfGames g.D.Disk.facts g.H.Host.stores c.args.self.now.answerer c.in-Some.games a) c.tell_with_room.new.response) (c.as_str.ensures.value ∙ c.method.ensures) told);
-      tables_stay = c.tell_with_room.ensures.same;
-      games_stay = ap Some c.tell_with_room.ensures.same_games ∙ sym c.in-Some.is;
+      served = OfGames c.in-Some.games c.in-Some.is a asks (subst (λ (method : List ℕ). IsByMethod method (TellsOfGames g.D.Disk.facts g.H.Host.stores c.args.self.now.answerer c.in-Some.games a) c.tell_by_method.new.response) (c.as_str.ensures.value ∙ c.method.ensures) told);
+      tables_stay = c.tell_by_method.ensures.same;
+      games_stay = ap Some c.tell_by_method.ensures.same_games ∙ sym c.in-Some.is;
     })
-    c.tell_with_room.ensures.told
+    c.tell_by_method.ensures.told
 
 pub returns-in-None-clause-ok : goal.returns-in-None-clause-ok
 returns-in-None-clause-ok g c =
