@@ -28,6 +28,17 @@ pub enum AnswerTask<'a> {
     Run(RunSchedule<'a>),
 }
 
+/// The same task. It is made anew, since the borrow checker doesn't cover a copy of it behind a reference (docs/PROVING.md).
+fn same_run<'a>(run: &RunSchedule<'a>) -> RunSchedule<'a>
+    ensures { result ≡ run.now }
+{
+    RunSchedule {
+        tables: run.tables,
+        cache: run.cache,
+        delay: run.delay,
+    }
+}
+
 impl<'a> AnswerTask<'a> {
     /// The task, if it is one that is answered here.
     pub fn of(task: &Task<'a>) -> Option<AnswerTask<'a>>
@@ -37,7 +48,7 @@ impl<'a> AnswerTask<'a> {
             Task::Version(_) => Some(AnswerTask::Version),
             Task::Show(_) => Some(AnswerTask::Show),
             Task::Moves(moves) => Some(AnswerTask::Moves(*moves)),
-            Task::Run(run) => Some(AnswerTask::Run(*run)),
+            Task::Run(run) => Some(AnswerTask::Run(same_run(run))),
             _ => None,
         }
     }

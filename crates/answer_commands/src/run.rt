@@ -142,8 +142,10 @@ fn answer_world(alloc: Global, world: &World) -> Result<Answer, AllocError>
     ensures lines { IfOk result (λ a. (game : Judged) (last : Worlds) → TellsWorld game world.now last → answer_lines a ≡ world_words last) }
     ensures status { IfOk result (λ a. answer_status a ≡ 0) }
 {
-    let lines = lines_of(alloc, world)?;
-    Ok(Answer::Lines(lines))
+    match lines_of(alloc, world) {
+        Ok(lines) => Ok(Answer::Lines(lines)),
+        Err(refused) => Err(refused),
+    }
 }
 
 /// Two arbiters after the events of a schedule, or the refusal of the first file that is no table.

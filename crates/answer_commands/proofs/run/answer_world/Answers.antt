@@ -1,4 +1,4 @@
 use Rattle.answer_commands.proofs.run.answer_world.Goals as goal
 
-pub returns-clause-lines : goal.returns-clause-lines
-returns-clause-lines c = λ game last h. c.in_ok-lines.ensures game last h
+pub returns-in-Ok-clause-lines : goal.returns-in-Ok-clause-lines
+returns-in-Ok-clause-lines c = λ game last h. c.in-Ok.ensures game last h
