@@ -7,8 +7,9 @@
 //! of which is read when a position asks for it, and its answers are a function of the request and of this folder.
 //!
 //! `Games` holds a folder of games, and a second one, if it is named, as `game_status` reads them, with the records of their stores. What
-//! `status` writes of all games is read anew where it was read a second ago or longer. One game is read at each request, and its plies
-//! are asked of the tables.
+//! `status` writes of all games is read anew where it was read a second ago or longer: a report is a copy of one that was kept less than a
+//! second before, by the clock, or of one that is kept with this time (`report_at`, private, clause `time`). One game is read at each
+//! request, and its plies are asked of the tables.
 //!
 //! Inside: `query` and `lines` (texts of positions in a query and in a body), `asking` (what a request asks for), `filling`, `answerer`,
 //! `page`; `games` (folders of games, and reports), `plies` (the object of a game), `router`, `watch` (a page).
@@ -19,8 +20,6 @@
 //!   stay the same. Of all games it is the report that `status` writes as JSON or as metrics, of one game its object with each ply, by a
 //!   look at the folders. A second folder, its comparison and its faults are as `status` has them. 404 where no folder lists the file of
 //!   the stamp, and for each path of games where no folder is named.
-//! - CLAIM: `report_at` (private), clause `time`: a report is a copy of one that was kept less than a second before, by the clock, or of
-//!   one that is kept with this time. When the folders were read for it isn't said.
 //! - CLAIM: `Answerer`, clause `answers`: the response is the reply to the request (`IsReply`), and the folder stays
 //!   the same. For a position it is an object of the tablebase API with each legal move, by tables of the folder of which none is missing
 //!   at the position and after its moves; or the refusal of the file of one that is needed. For a body it is these of each line, in turn.

@@ -11,15 +11,16 @@
 //! which the process didn't run counts for none. What still comes at a socket that was closed is passed over for a while, so that the last
 //! answer isn't lost.
 //!
+//! In a turn (`take_turn`, private) a connection received what its reader gave, its writer got what it handed out, and its calls are those
+//! of the service. Where memory for an answer was refused it ends. One that waits behind its turn has answered each whole request that it
+//! received, unless bytes wait to be sent (clause `rests`).
+//!
 //! Definitions, in reading order: `Streams`, `Serving`, `Servers`; `Memory`; `Premises`.
 //!
 //! - CLAIM: `Server::round`, clause `served`; `Server::new`, clause `served`; `Server::close`, clauses `served`, `closed`: over a
 //!   listener whose streams are known, what each stream gave is what one connection received, and what it got is what this connection sent,
 //!   also of those that were closed; each of its calls is one that was made of the service, in the chain of all its calls.
 //! - CLAIM: `Server::round`, clause `few`; `Server::new`, clauses `limits`, `none`: there are never more connections than the limits say.
-//! - CLAIM: the private `take_turn`, clauses `read`, `written`, `calls`, `aborted`, `rests`: in a turn a connection received what its reader
-//!   gave, its writer got what it handed out, and its calls are those of the service. Where memory for an answer was refused it ends. One
-//!   that waits behind it has answered each whole request that it received, unless bytes wait to be sent.
 //! - CLAIM: `MemoryListener`, clause `streams`; `MemoryListener::new`, clauses `known`, `coming`: a listener in memory shows how each stream
 //!   came and was left, from the first one on.
 #![tactic(auto)]
