@@ -3,7 +3,6 @@
 //! Bytes, datagrams and calls that fail go in, over the instances in memory of `system_fakes` and over the system's own files and
 //! sockets; a test comes to its end, or it ends the process where what was kept or sent is another thing.
 //!
-//! - `answer_tests`: what the commands that answer once do outside
 //! - `calls_tests`, `file_keeper_tests`: files in memory that fail and lose power
 //! - `kept_tests`: the system's files
 //! - `loop_tests`: connections over streams in memory

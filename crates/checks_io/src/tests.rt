@@ -1,6 +1,5 @@
 //! The tests, and what they share.
 
-mod answer_tests;
 mod calls_tests;
 mod comparing;
 mod file_keeper_tests;
