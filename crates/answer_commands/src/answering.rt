@@ -28,7 +28,7 @@ pub enum AnswerTask<'a> {
     Run(RunSchedule<'a>),
 }
 
-/// The same task. It is made anew, since the borrow checker doesn't cover a copy of it behind a reference (docs/PROVING.md).
+/// A copy of a task. It is made anew, since the borrow checker doesn't cover a copy of it behind a reference (docs/PROVING.md).
 fn same_run<'a>(run: &RunSchedule<'a>) -> RunSchedule<'a>
     ensures { result ≡ run.now }
 {
@@ -75,7 +75,7 @@ fn answer_task<S: System>(
 /// Answers a task, and returns the status: 0 done, 1 refused, also where the output can't be written, which is noted.
 ///
 /// What the task names is read first, each thing once: for `run` the files of its folder, in rising order of names, and then the input, to
-/// its end; for `show` the input; for the others nothing. What can't be read is told as `refused files`; where memory is refused the line is
+/// its end; for `show` the input; for the others nothing. What can't be read is `refused files`; where memory is refused the line is
 /// `refused memory`. Then the lines of the answer are written, and at last all that was written goes out. Nothing else happens outside.
 pub fn answer<S: System>(
     alloc: Global,

@@ -5,7 +5,7 @@ use http::Request;
 use http_server::{Response, Service};
 use std::alloc::AllocError;
 
-/// A service, and how many requests it may still answer.
+/// A service, and how many requests it has answered.
 #[derive(Drop)]
 pub(crate) struct Counted<S: Drop> {
     /// The service.
