@@ -3,7 +3,7 @@
 //! The bytes of a kept file and the rules of a game go in (`Auditor`: its stamp, start, delay and tables); a `Finding` comes out, by the
 //! definitions of an arbiter's opening, with the record where the bytes spell one (`Audited`). `judge_moves` does so for a record that
 //! has been read. `compare_records` and `compare_files` give the first ply at which two records part. No file is read and nothing is
-//! written here: `game_status` and `adjudicate_core` read the files and write the lines, so it stands below both.
+//! written here: `game_status` and `record_commands` read the files and write the lines, so it stands below both.
 //!
 //! Inside: `auditing` has all of it.
 //!
