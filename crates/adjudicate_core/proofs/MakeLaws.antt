@@ -22,7 +22,7 @@ use Rattle.serve_commands.specs.Outsides.{Outside}
 use Rattle.command_line.specs.Addresses.{addresses_of}
 use Rattle.serve_commands.specs.Listens as listening
 use Rattle.serve_commands.specs.Locks.{kept_lock}
-use Rattle.adjudicate_core.specs.Makes.{IsFrontOfMade, IsMadeBy, IsRecordIn, MakesCalled, MakesFor, before_games, of_listen, of_send, AreWithGames, of_store}
+use Rattle.adjudicate_core.specs.Makes.{IsFrontOfMade, IsMadeBy, IsRecordIn, MakesFor, before_games, of_listen, of_send, AreWithGames, of_store}
 use Rattle.serve_commands.specs.Makes.{IsGameIn, IsOfEntries}
 use Rattle.serve_commands.specs.Sends as sending
 use Rattle.command_line.specs.declared.commands.Task.{Task}
@@ -35,7 +35,6 @@ use Rattle.command_line.specs.declared.words.numbers.StoreForm.{StoreForm}
 use Rattle.command_line.specs.declared.words.numbers.StoreForm.TheVariants as form
 use Rattle.command_line.specs.declared.commands.listen.Listen.{Listen}
 use Rattle.command_line.specs.declared.commands.send.Send.{Send}
-use Rattle.command_line.specs.declared.words.usage.WordsFault.{WordsFault}
 use Rattle.serve_commands.proofs.MakeLaws.{none_entered, puts_makes, put_makes}
 
 nothing_by : (t : Task) → IsMadeBy t []
@@ -223,9 +222,3 @@ module _ {P F : Type 0} (out : Outside P F) (t : Enter) (old new : Option (List 
 
   pub enter_makes : Enters out t old new r → MakesFor (task.Enter t) out.had out.has
   enter_makes h = as_makes t.entries h
-
--- ---- words
-
-pub none_called : (called : Result (List (List ℕ)) WordsFault) (had : Option (List Made)) → MakesCalled called had had
-none_called (Ok words) had = inl (Passes-nil had)
-none_called (Err fault) had = Passes-nil had

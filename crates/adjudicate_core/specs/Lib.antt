@@ -1,4 +1,4 @@
-pub mod Serve
-pub mod Version
 pub mod Makes
 pub mod Running
+pub mod Beside
+pub mod Program

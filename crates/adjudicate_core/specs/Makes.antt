@@ -1,6 +1,6 @@
 -- What each task makes at the host, whatever it comes to: nothing else is opened to be written, and nothing else sends (this project's
 -- own).
-use Rattle.std.specs.Prelude.{◌≡◌, ◌⊎◌, ◌++◌, ℕ, List, [], ◌∷◌, Option, Result, Ok, Err, drop}
+use Rattle.std.specs.Prelude.{◌≡◌, ◌⊎◌, ◌++◌, ℕ, List, [], ◌∷◌, Option}
 use Rattle.std.specs.List.{AllByRecursion}
 use Rattle.system_io.specs.Histories.{Passes}
 use Rattle.system_io.specs.Hosts.{FileAt, LockAt, Made, PortAt, StoreAt}
@@ -8,7 +8,6 @@ use Rattle.arbiter_server.specs.GameFolders.{kept_path}
 use Rattle.command_line.specs.Addresses.{addresses_of}
 use Rattle.game_status.specs.StoreReadings.{store_path}
 use Rattle.serve_commands.specs.Locks.{games_lock, kept_lock}
-use Rattle.command_line.specs.Tasks.{IsTask}
 use Rattle.command_line.specs.declared.commands.Task.{Task}
 use Rattle.command_line.specs.declared.commands.Task.TheVariants as task
 use Rattle.command_line.specs.declared.commands.host.HostGames.{HostGames}
@@ -16,7 +15,6 @@ use Rattle.command_line.specs.declared.words.numbers.StoreForm.{StoreForm}
 use Rattle.command_line.specs.declared.words.numbers.StoreForm.TheVariants as form
 use Rattle.command_line.specs.declared.commands.listen.Listen.{Listen}
 use Rattle.command_line.specs.declared.commands.send.Send.{Send}
-use Rattle.command_line.specs.declared.words.usage.WordsFault.{WordsFault}
 use Rattle.serve_commands.specs.Makes.{IsOfEntries}
 
 -- the first of these, in their order, and nothing else
@@ -79,12 +77,3 @@ IsMadeBy (task.Serve t) more = more ≡ []
 -- from one history of the host to a later one
 abbrev pub MakesFor : Task → Option (List Made) → Option (List Made) → Type 0
 MakesFor t had has = (more : List Made) × Passes had has more × IsMadeBy t more
-
--- what is made for words: what is for the task that they name, and else nothing
-abbrev pub Makes : List (List ℕ) → Option (List Made) → Option (List Made) → Type 0
-Makes words had has = Passes had has [] ⊎ ((t : Task) × IsTask words t × MakesFor t had has)
-
--- so it is for all words that a program is called with, of which the first is its own name
-abbrev pub MakesCalled : Result (List (List ℕ)) WordsFault → Option (List Made) → Option (List Made) → Type 0
-MakesCalled (Ok words) had has = Makes (drop 1 words) had has
-MakesCalled (Err fault) had has = Passes had has []

@@ -21,29 +21,21 @@ use Rattle.serve_commands.specs.Hostings.{HostsGames, written}
 use Rattle.task_files.specs.Sources.{CannotRead, IsGiven, TakesMemory}
 use Rattle.table_commands.specs.Judge as judges
 use Rattle.table_commands.specs.Probe as probes
-use Rattle.record_commands.specs.Moves as of_moves
-use Rattle.table_commands.specs.List as lists
-use Rattle.table_commands.specs.Check as checks
-use Rattle.record_commands.specs.Show as shows
-use Rattle.record_commands.specs.Run as runs
 use Rattle.table_commands.specs.Game as games
 use Rattle.table_commands.specs.Games as of_games
 use Rattle.table_commands.specs.Pgn as of_pgn
-use Rattle.record_commands.specs.Record as records
-use Rattle.record_commands.specs.Audit as audits
 use Rattle.record_commands.specs.AuditGames as game_audits
 use Rattle.record_commands.specs.GameRecord as game_records
-use Rattle.adjudicate_core.specs.Version as versions
 use Rattle.table_commands.specs.Probes as of_probes
 use Rattle.table_commands.specs.Root as roots
 use Rattle.table_commands.specs.Follow as follows
 use Rattle.serve_commands.specs.Status as statuses
-use Rattle.adjudicate_core.specs.Serve as serves
+use Rattle.serve_core.specs.Serve as serves
 use Rattle.answer_parts.specs.Keys.{HasKeys, LacksKeys}
 use Rattle.sealed_port.specs.KeyedHosts.{keyed_host}
 use Rattle.sealed_port.specs.Sealing.{SealedView, sealed_facts}
 use Rattle.sealed_port.specs.declared.seal_port.Keys.{Keys}
-use Rattle.answer_parts.specs.Reply.{AnswersOnce, AnswersRead, IsText}
+use Rattle.answer_parts.specs.Reply.{AnswersOnce, IsText}
 use Rattle.answer_parts.specs.Telling.{TellsOne}
 use Rattle.command_line.specs.Tasks.{IsTask, IsMisuse, NamesNoCommand, key_in, named_in}
 
@@ -56,26 +48,18 @@ abbrev pub status_ended : Result Ended WriteFault → Result ℕ WriteFault
 status_ended (Ok ended) = Ok (ended_status ended)
 status_ended (Err fault) = Err fault
 
--- what the program answers to a task from what was read for it, where so is told how a source's run ends: `judge`, `probe`, `moves`, `game` and `audit` take memory for a
--- text that is a position, `record` for what is laid out as a record, `list`, `check` and `run` always, `show` and `version` never
+-- what is answered beside the timeline to a task from what was read for it, where so is said how a source's run ends: `judge`, `probe` and
+-- `game` take memory for a text that is a position; the tasks over the timeline aren't answered here
 abbrev pub AnswersFrom : {P F S : Type 0} → OutsideWithStores P F S → (Ended → Type 0) → Task → Given → Option (List ℕ) → Option (List ℕ) → Result ℕ WriteFault → Type 0
 AnswersFrom m Told (task.Judge t) given old new r = AnswersOnce (judges.IsReply m.outside.disk t given) (IsText t.fen.now) old new r
 AnswersFrom m Told (task.Probe t) given old new r = AnswersOnce (probes.IsReply m.outside.disk t given) (IsText t.fen.now) old new r
-AnswersFrom m Told (task.Moves t) given old new r = AnswersOnce (of_moves.IsReply t) (IsText t.fen.now) old new r
-AnswersFrom m Told (task.List t) given old new r = AnswersRead (lists.IsReply m.outside.disk t) (lists.IsListUnread m.outside.disk t) old new r
-AnswersFrom m Told (task.Check t) given old new r = AnswersRead (checks.IsReply m.outside.disk t) (checks.IsCheckUnread m.outside.disk t) old new r
-AnswersFrom m Told (task.Show t) given old new r = shows.Answers given old new r
-AnswersFrom m Told (task.Run t) given old new r = AnswersOnce (runs.IsReply t given) (Unit {0}) old new r
 AnswersFrom m Told (task.Listen t) given old new r = Listens m.outside.host (serving_seen_as m.outside.host.file r) t given m.outside.had m.outside.has old new r
 AnswersFrom m Told (task.Probes t) given old new r = of_probes.Puts m.outside.disk m.outside.source t given old new r
 AnswersFrom m Told (task.Game t) given old new r = AnswersOnce (games.IsReply m.outside.disk t given) (IsText t.fen.now) old new r
 AnswersFrom m Told (task.Games t) given old new r = of_games.Puts m.outside.disk m.outside.source t given old new r
 AnswersFrom m Told (task.Pgn t) given old new r = of_pgn.Puts m.outside.disk m.outside.source t given old new r
-AnswersFrom m Told (task.Record t) given old new r = AnswersOnce (records.IsReply given.kept) (records.RecordTakesMemory given.kept) old new r
 AnswersFrom m Told (task.GameRecord t) given old new r = game_records.Puts m.outside.disk m.stores t old new r
-AnswersFrom m Told (task.Audit t) given old new r = AnswersOnce (audits.IsReply t given) (IsText t.start.now) old new r
 AnswersFrom m Told (task.AuditGames t) given old new r = game_audits.Puts m.outside.disk m.stores t given old new r
-AnswersFrom m Told (task.Version t) given old new r = versions.Answers old new r
 AnswersFrom m Told (task.Send t) given old new r = (e : Result Ended WriteFault) × (r ≡ status_ended e) × IfOk e Told × SendsGame m.outside t old new e
 AnswersFrom m Told (task.Enter t) given old new r = Enters m.outside t old new r
 AnswersFrom m Told (task.Host t) given old new r = HostsGames (hosting_places m) (written (hosting_places m) t.games.now) t given m.outside.had m.outside.has old new r
@@ -83,6 +67,7 @@ AnswersFrom m Told (task.Root t) given old new r = roots.Puts m.outside.disk m.o
 AnswersFrom m Told (task.Follow t) given old new r = follows.Puts m.outside.disk m.outside.source t given old new r
 AnswersFrom m Told (task.Status t) given old new r = statuses.PutsOver m.outside.disk m.stores t old new r
 AnswersFrom m Told (task.Serve t) given old new r = serves.Serves m.outside.disk t old new r
+AnswersFrom m Told _ given old new r = ⊥
 
 -- to a task the program answers from what it reads; or something that it reads for it can't be read; or memory was refused while
 -- it read
@@ -107,21 +92,7 @@ pub data AnswersByKey {P F S : Type 0} (m : OutsideWithStores P F S) (Told : End
   NoKeys : (path : List ℕ) → key_in t ≡ Some path → (words : List ℕ) → LacksKeys m.outside.disk path words → TellsOne words old new r → AnswersByKey m Told t old new r
   NoRoomForKeys : (path : List ℕ) → key_in t ≡ Some path → TellsOne refused_memory old new r → AnswersByKey m Told t old new r
 
--- what the program makes of its words: the answer to the task that they name; or they are misused, which is told, and nothing is
--- written; or memory was refused before there was a task, where they name a command
-pub data Performs {P F S : Type 0} (m : OutsideWithStores P F S) (IsTold : Misuse → Type 0) (Told : Ended → Type 0) (words : List (List ℕ)) (old new : Option (List ℕ)) (r : Result ℕ WriteFault) : Type 0 where
-  ToTask : (t : Task) → IsTask words t → AnswersByKey m Told t old new r → Performs m IsTold Told words old new r
-  ToMisuse : (misuse : Misuse) → IsMisuse words misuse → IsTold misuse → new ≡ old → r ≡ Ok 2 → Performs m IsTold Told words old new r
-  ToNone : (NamesNoCommand words → ⊥) → TellsOne refused_memory old new r → Performs m IsTold Told words old new r
-
 -- the words that a program is called with, or why there are none
 abbrev pub called_by : Result (Vec (String Global) Global) WordsFault → Result (List (List ℕ)) WordsFault
 called_by (Ok words) = Ok (map string_bytes words.items)
 called_by (Err fault) = Err fault
-
--- what it makes of all words that it was called with, of which the first is its own name; one that is no text is told as a misuse;
--- or memory was refused for them
-pub data Called {P F S : Type 0} (m : OutsideWithStores P F S) (IsTold : Misuse → Type 0) (Told : Ended → Type 0) (called : Result (List (List ℕ)) WordsFault) (old new : Option (List ℕ)) (r : Result ℕ WriteFault) : Type 0 where
-  OnWords : (words : List (List ℕ)) → called ≡ Ok words → Performs m IsTold Told (drop 1 words) old new r → Called m IsTold Told called old new r
-  OnNoText : (word : Vec ℕ Global) (bytes : Bor (List ℕ)) → called ≡ Err (NoText word) → bytes.now ≡ word.items → IsTold (misuse.NoText bytes) → new ≡ old → r ≡ Ok 2 → Called m IsTold Told called old new r
-  NoRoomForWords : TellsOne refused_memory old new r → Called m IsTold Told called old new r

@@ -1,41 +1,42 @@
 //! The adjudicator's program: words in, lines and a status out.
 //!
-//! `run` lets `parse` of command_line make a task of the words, reads by `Inputs::read` of `task_files` what it names, and answers it by the
-//! function of its command: in `table_commands`, `record_commands`, `serve_commands`, or here. `run_program` takes all words that a program
-//! was called with. The man page of a command has its lines; the statuses are 0 done, 1 refused, 2 misuse.
+//! `run_program` takes all words that a program was called with, lets `parse` of command_line make a task of them, and answers it: over the
+//! timeline by `answer_commands`, or, where the command hasn't gone over yet, by the function of its command in `table_commands`,
+//! `record_commands` or `serve_commands`, over what `Inputs::read` of `task_files` reads for it. The man page of a command has its lines;
+//! the statuses are 0 done, 1 refused, 2 misuse.
 //!
-//! Inside: `program` over a `System` of serve_commands, of which `machine` has all that is known as one argument; `pages` is what answers
-//! requests of HTTP; `noting` notes that a folder has no tables; `version`.
+//! Inside: `program`, the words; `beside`, the commands that aren't over the timeline, over `Others`, of which `others` has all that is
+//! known as one argument, and `machine` that of their system; `noting` notes that a folder has no tables. Requests of HTTP are
+//! answered by `serve` of serve_core, where they come (`Pages`).
 //!
-//! Definitions, in reading order: `Serve`, `Version`, `Makes`, `Running` (`Performs`, `Called`). Its cases stand in `rows`, nearly all of its
-//! files.
+//! Definitions, in reading order: `Makes`, `Running` (`AnswersByKey`), `Beside` (`AnswersBeside`), `Program` (`Runs`). Its cases
+//! stand in `rows`, nearly all of its files.
 //!
-//! - CLAIM: `run`, clause `runs`; `run_program`: the program on its words answers the task that they
-//!   name over what it read, or one of its sources failed (`refused files`), or memory was refused, or the words are misused and
-//!   nothing is written. The definition of each command's answer is in `AnswersFrom`. Of a call that ends with the writer's error
-//!   it says that a front of that answer was written: the lines before whole, and of the last a front. For `list`, `check`, `status`,
-//!   `audit --games`, `run`, `probes`, `root`, `host` and the list of `enter` refused memory has no cause.
-//! - CLAIM: `run`, `run_program`, clause `cause`: an error comes only of a type of writer that may refuse a write, or from which what was
-//!   written can't go out (`HasFailed`). A body that knows no more of its writer has that only from a call of it that failed.
-//! - CLAIM: `run`, clause `made`; `run_program`, clause `made`: at the host nothing is opened but what `IsMadeBy` has of the task,
-//!   whatever it comes to: `listen` opens its port, the lock and the kept file, `send` its port, `host` the lock, its port and files
-//!   of records, `enter` files of games. Which of these it has opened where it ends so, and that a record's file is opened once for
-//!   each Move or Fetch at most, is in `Listens`, `SendsGame`, `HostsGames`.
-//! - CLAIM: `run`, clauses `runs`, `quiet`; `run_program`: standard error gets bytes for a misuse, as `tell_misuse` of command_line has it,
-//!   for a task with progress, and where `send` ends as `refused lost`, as `tell_silence` of serve_commands has it; and for nothing else.
+//! - CLAIM: `run_program`: the words are those of one task, and the program does what the definition of its command says; or they are
+//!   misused, which is said on standard error, and nothing is written; or memory was refused, which is the one line. Of a task over
+//!   the timeline nothing is made or written beside it, and one beside it leaves the timeline.
+//! - CLAIM: `run_program`: beside the timeline a task is answered over what the program read for it, or one of its sources failed (`refused
+//!   files`), or memory was refused. Of a write that is refused it says that a front of the answer was written: the lines before whole, and
+//!   of the last a front. For `status`, `audit --games`, `probes`, `root`, `host` and the list of `enter` refused memory has no cause.
+//! - CLAIM: `run_program`: the status is the answer's where all that was written has gone out, and else 1; that a write was refused has a
+//!   cause: a type of writer that may refuse one, or from which what was written can't go out (`HasFailed`). A body that knows no more of
+//!   its writer has that only from a call of it that failed.
+//! - CLAIM: `run_program`: at the host nothing is opened but what `IsMadeBy` has of the task, whatever it comes to: `listen` opens its port,
+//!   the lock and the kept file, `send` its port, `host` the lock, its port and files of records, `enter` files of games. Which of these it
+//!   has opened where it ends so, and that a record's file is opened once for each Move or Fetch at most, is in `Listens`, `SendsGame`,
+//!   `HostsGames`.
+//! - CLAIM: `run_program`: standard error gets bytes for a misuse, as `tell_misuse` of command_line has it, for a task with progress, and
+//!   where `send` ends as `refused lost`, as `tell_silence` of serve_commands has it; and for nothing else.
 //! - CLAIM: `run_program`: with `--key` the ports of `listen`, `host` and `send` are sealed by the keys of the file, and all else
 //!   is as without it. What is refused of the file is told before all else, as `keys_at` of answer_parts has it.
-//! - CLAIM: `Pages::serve_requests`, clauses `told`, `cause`: of `serve` a manifest that can't be read or is malformed, a folder that can't
-//!   be read, an address that can't be bound and refused memory, the first in this order is told in one line, with status 1; else the line
-//!   is `ready` and the address, and nothing more is written but that the port was lost.
 #![tactic(auto)]
 
+mod beside;
 mod machine;
 mod noting;
-mod pages;
+mod others;
 mod program;
-mod version;
 
 pub use machine::Machine;
-pub use pages::Pages;
-pub use program::{refuse_memory, run, run_program};
+pub use others::{Others, SeenOthers};
+pub use program::{refuse_memory, run_program};

@@ -1,7 +1,7 @@
 -- The legal moves as lines.
-use Rattle.std.proofs.Common.{◌≡◌, ◌∙◌, ◌≤◌, ◌++◌, ℕ, Bool, List, Option, [], ap, length, map, refl, subst, sym, take}
+use Rattle.std.proofs.Common.{◌≡◌, ◌∙◌, ◌≤◌, ℕ, Bool, List, Option, ap, length, map, subst, take}
 use Rattle.std.proofs.lemmas.List.{take_all}
-use Rattle.std.specs.Prelude.{Result, Ok, Err}
+use Rattle.std.specs.Prelude.{Result}
 use Rattle.answer_commands.specs.Inside.Answering.{IsMovesAnswer, MovesListed, NoRoom, NotText, PrintsAnswered}
 use Rattle.answer_commands.specs.Moves.{NoRoomForMoves, OfNone, OfPosition, PrintsMoves, move_line, move_lines}
 use Rattle.answer_commands.specs.Printing.{Prints}

@@ -1,10 +1,9 @@
 -- What is written, one thing after another, and what a refused write leaves.
-use Rattle.std.proofs.Common.{◌≡◌, ◌∙◌, ◌⊎◌, ◌++◌, ◌∷◌, ◌+◌, ◌<◌, ◌≤◌, [], ℕ, List, Option, Some, append_assoc, ap, drop, drop-cons, get_or, inl, inr, length, map, refl, subst, suc, sym, take, take-append-drop}
+use Rattle.std.proofs.Common.{◌≡◌, ◌∙◌, ◌++◌, ◌∷◌, ◌+◌, ◌<◌, ◌≤◌, [], ℕ, List, Option, Some, append_assoc, ap, drop, drop-cons, get_or, inl, inr, length, map, refl, subst, suc, sym, take, take-append-drop}
 use Rattle.std.proofs.lemmas.List.{map-append, take_all, take_more}
 use Rattle.std.specs.Prelude.{Result, Ok, Err, IsErrOf}
 use Rattle.answer_parts.specs.Lines.{words_of}
 use Rattle.answer_parts.specs.declared.answers.lines.Line.{Line}
-use Rattle.line_teller.specs.ToldLines.{HasFailed}
 use Rattle.move_msg.specs.TextLines.{ended}
 use Rattle.system_io.specs.Inputs.{InputFacts}
 use Rattle.system_io.specs.declared.output.WriteFault.{WriteFault}
@@ -15,7 +14,7 @@ use Rattle.timeline.specs.Events.{Event, Flushed, Noted, Refused, Wrote}
 use Rattle.timeline.specs.Outsides.{Adds, AddsSome, Outside}
 use Rattle.timeline.specs.declared.stream.Stream.TheVariants.{Output}
 use Rattle.answer_commands.specs.Inputs.{IsUnread}
-use Rattle.answer_commands.specs.Printing.{ArePrinted, Closes, IsCutIn, NotOut, OutputFails, Performs, Prints, WasRefused, output_lost, printed}
+use Rattle.answer_commands.specs.Printing.{Closes, IsCutIn, NotOut, NotesLost, OutputFails, Performs, Prints, WasRefused, output_lost, printed}
 
 abbrev Doing : Type 1
 Doing = List Event → Option ℕ → Type 0
@@ -152,7 +151,7 @@ cut_with o a b lines status f q = (q.0, q.1, (printed lines, Some status, (refl,
 
 -- what was written can't go out, whatever was answered
 pub not_out : {T P F K S L : Type 0} (o : Outside T P F K S L) (a b c : T) (answered : Result ℕ WriteFault) (status : ℕ) → (o.output b Output).stuck → status ≡ 1
-    → Adds o a b (Refused Output ∷ []) → Adds o b c (Noted output_lost ∷ []) → AddsSome o a c (Closes o c answered status)
+    → Adds o a b (Refused Output ∷ []) → NotesLost o b c → AddsSome o a c (Closes o c answered status)
 not_out o a b c answered status stuck one p q = (
   Refused Output ∷ Noted output_lost ∷ [],
   adds_more o a b c (Refused Output ∷ []) (Noted output_lost ∷ []) p q,
@@ -160,16 +159,16 @@ not_out o a b c answered status stuck one p q = (
 )
   where
     by_answer : (answered : Result ℕ WriteFault) → Closes o c answered status (Refused Output ∷ Noted output_lost ∷ [])
-    by_answer (Ok done) = NotOut done refl (record { at = b; so = inr stuck }) refl one
-    by_answer (Err fault) = WasRefused fault (Refused Output) refl (inr refl) refl one
+    by_answer (Ok done) = NotOut done b refl stuck q refl one
+    by_answer (Err fault) = WasRefused fault (Refused Output) b refl (inr (refl, stuck)) q refl one
 
 -- it went out, but a write was refused before
-pub was_refused : {T P F K S L : Type 0} (o : Outside T P F K S L) (a b c : T) (answered : Result ℕ WriteFault) (fault : WriteFault) (status : ℕ) → answered ≡ Err fault → status ≡ 1
-    → Adds o a b (Flushed Output ∷ []) → Adds o b c (Noted output_lost ∷ []) → AddsSome o a c (Closes o c answered status)
-was_refused o a b c answered fault status is one p q = (
+pub was_refused : {T P F K S L : Type 0} (o : Outside T P F K S L) (a b c : T) (answered : Result ℕ WriteFault) (fault : WriteFault) (status : ℕ) → answered ≡ Err fault → status ≡ 1 → (o.output b Output).gone
+    → Adds o a b (Flushed Output ∷ []) → NotesLost o b c → AddsSome o a c (Closes o c answered status)
+was_refused o a b c answered fault status is one gone p q = (
   Flushed Output ∷ Noted output_lost ∷ [],
   adds_more o a b c (Flushed Output ∷ []) (Noted output_lost ∷ []) p q,
-  WasRefused fault (Flushed Output) is (inl refl) refl one,
+  WasRefused fault (Flushed Output) b is (inl (refl, gone)) q refl one,
 )
 
 -- ---- what isn't read

@@ -1,10 +1,10 @@
 -- What is answered to a schedule, and what is printed of it.
-use Rattle.std.proofs.Common.{◌≡◌, ◌∙◌, ◌++◌, ◌∷◌, [], ℕ, List, Option, Some, ap, length, map, refl, subst, sym}
+use Rattle.std.proofs.Common.{◌≡◌, ◌∷◌, [], ℕ, List, Option, ap, length, map, refl, subst}
 use Rattle.std.specs.Prelude.{Result, Ok, Err, IfOk}
 use Rattle.answer_commands.specs.Inputs.{IsInput}
 use Rattle.answer_commands.specs.Inside.Answering.{PrintsAnswered, answer_lines, answer_status}
 use Rattle.answer_commands.specs.Inside.Running.{AnswersGame, IsRunAnswer, RunsRead}
-use Rattle.answer_commands.specs.Printing.{Performs, Prints, printed}
+use Rattle.answer_commands.specs.Printing.{Performs, Prints}
 use Rattle.answer_commands.specs.Run.{ByTables, NoRoomToRun, NoTables, Ran, ReadsFiles, RunsAll, RunsInput, RunsSchedule, scheduled_game, world_words}
 use Rattle.answer_commands.specs.declared.answers.Answer.{Answer}
 use Rattle.command_line.specs.declared.commands.run.RunSchedule.{RunSchedule}

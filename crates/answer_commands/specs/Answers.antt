@@ -1,11 +1,15 @@
 -- What happens outside for a task that is answered once (this project's own).
-use Rattle.std.specs.Prelude.{ℕ, List, Option, Some, None}
+use Rattle.std.specs.Prelude.{◌≡◌, ℕ, List, Option, Some, None, Result, Ok, Err}
 use Rattle.command_line.specs.declared.commands.Task.{Task}
 use Rattle.command_line.specs.declared.commands.Task.TheVariants as task
 use Rattle.timeline.specs.Events.{Event}
 use Rattle.timeline.specs.Outsides.{AddsSome, Outside}
+use Rattle.answer_commands.specs.Check.{check_reply}
+use Rattle.answer_commands.specs.Listing.{list_reply}
 use Rattle.answer_commands.specs.Moves.{PrintsMoves}
 use Rattle.answer_commands.specs.Printing.{Ends}
+use Rattle.answer_commands.specs.Records.{audit_asking, record_asking}
+use Rattle.answer_commands.specs.Replies.{RepliesTo, replying_by}
 use Rattle.answer_commands.specs.Run.{RunsSchedule}
 use Rattle.answer_commands.specs.Show.{ShowsMessages}
 use Rattle.answer_commands.specs.Version.{PrintsVersion}
@@ -18,7 +22,16 @@ answered_once (task.Version t) = Some answer.Version
 answered_once (task.Show t) = Some answer.Show
 answered_once (task.Moves t) = Some (answer.Moves t)
 answered_once (task.Run t) = Some (answer.Run t)
+answered_once (task.Record t) = Some (answer.Record t)
+answered_once (task.Audit t) = Some (answer.Audit t)
+answered_once (task.List t) = Some (answer.List t)
+answered_once (task.Check t) = Some (answer.Check t)
 answered_once _ = None
+
+-- a task is one of these, or it isn't
+abbrev pub IsOnce : Task → Result AnswerTask Task → Type 0
+IsOnce t (Ok once) = answered_once t ≡ Some once
+IsOnce t (Err other) = (answered_once t ≡ None) × (other ≡ t)
 
 -- what the command does, up to the output's end: these events, with this status
 abbrev pub Does : {T P F K S L : Type 0} → Outside T P F K S L → AnswerTask → List Event → Option ℕ → Type 0
@@ -26,6 +39,10 @@ Does o answer.Version events status = PrintsVersion events status
 Does o answer.Show events status = ShowsMessages o.input events status
 Does o (answer.Moves t) events status = PrintsMoves t events status
 Does o (answer.Run t) events status = RunsSchedule o t events status
+Does o (answer.Record t) events status = RepliesTo (replying_by o (record_asking t)) events status
+Does o (answer.Audit t) events status = RepliesTo (replying_by o (audit_asking t)) events status
+Does o (answer.List t) events status = RepliesTo (list_reply o.disk t) events status
+Does o (answer.Check t) events status = RepliesTo (check_reply o.disk t) events status
 
 -- THE CONTRACT OF THE COMMANDS: the task, all that is known outside, what happened before and after, and the status
 abbrev pub Answers : {T P F K S L : Type 0} → AnswerTask → Outside T P F K S L → T → T → ℕ → Type 0

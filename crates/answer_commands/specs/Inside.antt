@@ -3,3 +3,5 @@ pub mod Answering
 pub mod Fronts
 pub mod Streaming
 pub mod Running
+pub mod Replying
+pub mod Looking

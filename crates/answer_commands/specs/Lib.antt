@@ -4,5 +4,9 @@ pub mod Version
 pub mod Show
 pub mod Moves
 pub mod Run
+pub mod Replies
+pub mod Records
+pub mod Listing
+pub mod Check
 pub mod Answers
 pub mod Inside

@@ -1,5 +1,5 @@
 -- `moves [--san] FEN`: the legal moves of a position (this project's own).
-use Rattle.std.specs.Prelude.{◌≡◌, ◌++◌, ℕ, Bool, true, false, List, [], ◌∷◌, map, Option, Some}
+use Rattle.std.specs.Prelude.{◌++◌, ℕ, Bool, true, false, List, [], ◌∷◌, map, Option}
 use Rattle.answer_parts.specs.Lines.{refused_fen}
 use Rattle.board_core.specs.ComputedMoves.{legal_moves}
 use Rattle.board_core.specs.Position.{IsPosition}

@@ -1,22 +1,25 @@
 //! Tasks that are answered once.
 
-ghost use Rattle.std.specs.Prelude.{◌≡◌, OnErr, Some, option_map};
-ghost use Rattle.answer_commands.specs.Answers.{Answers, Does, answered_once};
+ghost use Rattle.std.specs.Prelude.{OnErr};
+ghost use Rattle.answer_commands.specs.Answers.{Answers, Does, IsOnce};
 ghost use Rattle.answer_commands.specs.Printing.{OutputFails, Performs};
 ghost use Rattle.timeline.specs.Outsides.{AddsSome};
 
+use crate::check::print_check;
+use crate::list::print_manifest;
 use crate::moves::print_moves;
 use crate::printing::end;
+use crate::replying::reply_to;
 use crate::run::run_schedule;
 use crate::show::show_input;
 use crate::version::print_version;
-use command_line::{Moves, RunSchedule, Task};
+use command_line::{Audit, Check, List, Moves, RunSchedule, ShowRecord, Task};
 use std::alloc::Global;
 use system_io::WriteFault;
 use timeline::System;
 
 /// A task that is answered once.
-#[derive(Clone, Copy)]
+#[derive(Drop)]
 pub enum AnswerTask<'a> {
     /// The program's version.
     Version,
@@ -26,30 +29,31 @@ pub enum AnswerTask<'a> {
     Moves(Moves<'a>),
     /// Two arbiters under the schedule of the input.
     Run(RunSchedule<'a>),
-}
-
-/// A copy of a task. It is made anew, since the borrow checker doesn't cover a copy of it behind a reference (docs/PROVING.md).
-fn same_run<'a>(run: &RunSchedule<'a>) -> RunSchedule<'a>
-    ensures { result ≡ run.now }
-{
-    RunSchedule {
-        tables: run.tables,
-        cache: run.cache,
-        delay: run.delay,
-    }
+    /// What a kept file says.
+    Record(ShowRecord<'a>),
+    /// Whether kept files are records of a game, and whether they agree.
+    Audit(Audit<'a>),
+    /// The manifest of the tables in a folder.
+    List(List<'a>),
+    /// Whether the tables in a folder are those of a manifest.
+    Check(Check<'a>),
 }
 
 impl<'a> AnswerTask<'a> {
-    /// The task, if it is one that is answered here.
-    pub fn of(task: &Task<'a>) -> Option<AnswerTask<'a>>
-        ensures { result ≡ answered_once task.now }
+    /// The task, if it is one that is answered here; else it comes back.
+    pub fn of(task: Task<'a>) -> Result<AnswerTask<'a>, Task<'a>>
+        ensures { IsOnce task.entry result }
     {
         match task {
-            Task::Version(_) => Some(AnswerTask::Version),
-            Task::Show(_) => Some(AnswerTask::Show),
-            Task::Moves(moves) => Some(AnswerTask::Moves(*moves)),
-            Task::Run(run) => Some(AnswerTask::Run(same_run(run))),
-            _ => None,
+            Task::Version(_) => Ok(AnswerTask::Version),
+            Task::Show(_) => Ok(AnswerTask::Show),
+            Task::Moves(moves) => Ok(AnswerTask::Moves(moves)),
+            Task::Run(run) => Ok(AnswerTask::Run(run)),
+            Task::Record(record) => Ok(AnswerTask::Record(record)),
+            Task::Audit(audit) => Ok(AnswerTask::Audit(audit)),
+            Task::List(list) => Ok(AnswerTask::List(list)),
+            Task::Check(check) => Ok(AnswerTask::Check(check)),
+            other => Err(other),
         }
     }
 }
@@ -69,13 +73,19 @@ fn answer_task<S: System>(
         AnswerTask::Show => show_input(alloc, system, timeline),
         AnswerTask::Moves(task) => print_moves(alloc, task, system, timeline),
         AnswerTask::Run(task) => run_schedule(alloc, task, system, timeline),
+        AnswerTask::Record(task) => reply_to(alloc, task, system, timeline),
+        AnswerTask::Audit(task) => reply_to(alloc, task, system, timeline),
+        AnswerTask::List(task) => print_manifest(alloc, task, system, timeline),
+        AnswerTask::Check(task) => print_check(alloc, task, system, timeline),
     }
 }
 
 /// Answers a task, and returns the status: 0 done, 1 refused, also where the output can't be written, which is noted.
 ///
 /// What the task names is read first, each thing once: for `run` the files of its folder, in rising order of names, and then the input, to
-/// its end; for `show` the input; for the others nothing. What can't be read is `refused files`; where memory is refused the line is
+/// its end; for `show` the input; for `record` a kept file; for `audit` the manifest, the files of its folder and the kept files; for
+/// `check` the manifest, and then, as for `list`, the files of its folder one by one, of which one is held at a time; for the others nothing.
+/// With `--progress` of these two a line goes to standard error after each hundred million bytes. What can't be read is `refused files`; where memory is refused the line is
 /// `refused memory`. Then the lines of the answer are written, and at last all that was written goes out. Nothing else happens outside.
 pub fn answer<S: System>(
     alloc: Global,

@@ -15,7 +15,7 @@ use system_io::{ReadFault, WriteFault};
 use timeline::{Stream, System};
 
 /// Writes lines, each at once. Nothing more is written after one that is refused.
-fn print_lines<S: System>(
+pub(crate) fn print_lines<S: System>(
     system: &S,
     timeline: &mut S::Timeline,
     lines: &[Line],

@@ -6,13 +6,11 @@ use Rattle.std.specs.Io.KnownBytes.{Appends}
 use Rattle.line_teller.specs.ToldLines.{HasFront}
 use Rattle.line_teller.proofs.FrontLaws.{front_first, front_of_lines}
 use Rattle.move_msg.specs.TextLines.{ended, text_of}
-use Rattle.std.specs.Prelude.{Result, Ok, Err, IfOk, IsErrOf, OnErr, get_or}
+use Rattle.std.specs.Prelude.{Result, Ok, Err, IfOk, OnErr, get_or}
 use Rattle.answer_parts.specs.declared.answers.Answer.{Answer}
-use Rattle.answer_parts.specs.Asked.{PutsAnswered, PutsRead, reply_of}
-use Rattle.answer_parts.specs.Reply.{AnswersOnce, AnswersRead, NoRoomToRead, ReadAll, Refused, Replied, Reply, Unread}
+use Rattle.answer_parts.specs.Asked.{PutsAnswered, reply_of}
+use Rattle.answer_parts.specs.Reply.{AnswersOnce, Refused, Replied, Reply}
 use Rattle.system_io.specs.declared.output.WriteFault.{WriteFault}
-use Rattle.system_io.specs.declared.reading.ReadFault.{ReadFault}
-use Rattle.system_io.specs.declared.reading.ReadFault.TheVariants.{OutOfMemory, Unreadable}
 
 -- lines so far, and a front of the next, are a front of all of them
 pub front_of_all : {X : Type 0} (f : X → List ℕ) (xs : List X) (i : ℕ) (x other : X) (old mid new : Option (List ℕ)) → i < length xs → x ≡ get_or xs i other → Appends old mid (text_of (map f (take i xs))) → HasFront mid new (ended (f x)) → HasFront old new (text_of (map f xs))
@@ -28,17 +26,3 @@ front_of_all f xs i x other old mid new within at wrote cut =
 pub once : {E : Type 0} (answered : Result Answer E) (IsReply : Reply → Type 0) → IfOk answered (λ a. IsReply (reply_of a)) → (result : Result ℕ WriteFault) (old new : Option (List ℕ)) → PutsAnswered answered old new result → (TakesMemory : Type 0) → OnErr answered TakesMemory → AnswersOnce IsReply TakesMemory old new result
 once (Ok a) IsReply is result old new puts TakesMemory memory = Replied (reply_of a) is puts
 once (Err e) IsReply is result old new puts TakesMemory memory = Refused memory puts
-
-always : {A E : Type 0} (r : Result A E) → OnErr r (Unit {0})
-always (Ok a) = tt
-always (Err e) = tt
-
--- by one that takes memory for every reply
-pub once_always : {E : Type 0} (answered : Result Answer E) (IsReply : Reply → Type 0) → IfOk answered (λ a. IsReply (reply_of a)) → (result : Result ℕ WriteFault) (old new : Option (List ℕ)) → PutsAnswered answered old new result → AnswersOnce IsReply (Unit {0}) old new result
-once_always answered IsReply is result old new puts = once answered IsReply is result old new puts (Unit {0}) (always answered)
-
--- by one that reads files on the way
-pub after_reading : (answered : Result Answer ReadFault) (IsReply : Reply → Type 0) (CannotRead : Type 0) → IfOk answered (λ a. IsReply (reply_of a)) → (IsErrOf answered Unreadable → CannotRead) → (result : Result ℕ WriteFault) (old new : Option (List ℕ)) → PutsRead answered old new result → AnswersRead IsReply CannotRead old new result
-after_reading (Ok a) IsReply CannotRead is cause result old new puts = ReadAll (reply_of a) is puts
-after_reading (Err Unreadable) IsReply CannotRead is cause result old new puts = Unread (cause refl) puts
-after_reading (Err OutOfMemory) IsReply CannotRead is cause result old new puts = NoRoomToRead puts

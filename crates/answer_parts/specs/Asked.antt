@@ -8,10 +8,8 @@ use Rattle.answer_parts.specs.JsonAnswers.{json_reply}
 use Rattle.answer_parts.specs.Lines.{refusal_words, words_of}
 use Rattle.answer_parts.specs.Reply.{Reply, WritesReply, refusal_reply, status_if}
 use Rattle.answer_parts.specs.Telling.{TellsOne}
-use Rattle.line_teller.specs.ToldLines.{refused_files, refused_memory}
+use Rattle.line_teller.specs.ToldLines.{refused_memory}
 use Rattle.system_io.specs.declared.output.WriteFault.{WriteFault}
-use Rattle.system_io.specs.declared.reading.ReadFault.{ReadFault}
-use Rattle.system_io.specs.declared.reading.ReadFault.TheVariants.{OutOfMemory, Unreadable}
 
 -- the reply that an answer is
 abbrev pub reply_of : Answer → Reply
@@ -25,9 +23,3 @@ reply_of (JsonFault fault) = json_reply (line.Fault fault)
 abbrev pub PutsAnswered : {E : Type 0} → Result Answer E → Option (List ℕ) → Option (List ℕ) → Result ℕ WriteFault → Type 0
 PutsAnswered (Ok answer) old new r = WritesReply old new (reply_of answer) r
 PutsAnswered (Err e) old new r = TellsOne refused_memory old new r
-
--- the same where something may not have been read
-abbrev pub PutsRead : Result Answer ReadFault → Option (List ℕ) → Option (List ℕ) → Result ℕ WriteFault → Type 0
-PutsRead (Ok answer) old new r = WritesReply old new (reply_of answer) r
-PutsRead (Err Unreadable) old new r = TellsOne refused_files old new r
-PutsRead (Err OutOfMemory) old new r = TellsOne refused_memory old new r

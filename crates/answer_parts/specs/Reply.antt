@@ -9,7 +9,7 @@ use Rattle.move_msg.specs.TextLines.{ended}
 use Rattle.system_io.specs.declared.output.WriteFault.{WriteFault}
 use Rattle.answer_parts.specs.Lines.{refused_fen}
 use Rattle.answer_parts.specs.Telling.{TellsOne, TellsWholeText}
-use Rattle.line_teller.specs.ToldLines.{refused_files, refused_memory}
+use Rattle.line_teller.specs.ToldLines.{refused_memory}
 
 pub record Reply : Type 0 where
   pub text : List ℕ
@@ -50,9 +50,3 @@ WritesReply old new reply r = TellsWholeText reply.text reply.status old new r
 pub data AnswersOnce (IsReply : Reply → Type 0) (TakesMemory : Type 0) (old new : Option (List ℕ)) (r : Result ℕ WriteFault) : Type 0 where
   Replied : (reply : Reply) → IsReply reply → WritesReply old new reply r → AnswersOnce IsReply TakesMemory old new r
   Refused : TakesMemory → TellsOne refused_memory old new r → AnswersOnce IsReply TakesMemory old new r
-
--- what a command answers that reads files on the way: its reply; or something that it reads can't be read; or memory was refused
-pub data AnswersRead (IsReply : Reply → Type 0) (CannotRead : Type 0) (old new : Option (List ℕ)) (r : Result ℕ WriteFault) : Type 0 where
-  ReadAll : (reply : Reply) → IsReply reply → WritesReply old new reply r → AnswersRead IsReply CannotRead old new r
-  Unread : CannotRead → TellsOne refused_files old new r → AnswersRead IsReply CannotRead old new r
-  NoRoomToRead : TellsOne refused_memory old new r → AnswersRead IsReply CannotRead old new r

@@ -2,7 +2,7 @@
 
 ghost use Rattle.std.specs.Prelude.{◌≡◌, OnErr, map};
 ghost use Rattle.move_msg.specs.TextLines.{text_of};
-ghost use Rattle.answer_parts.specs.Asked.{PutsAnswered, PutsRead, reply_of};
+ghost use Rattle.answer_parts.specs.Asked.{PutsAnswered, reply_of};
 ghost use Rattle.answer_parts.specs.Lines.{words_of};
 ghost use Rattle.answer_parts.specs.Reply.{WritesReply, status_if, status_told};
 ghost use Rattle.system_io.specs.Outputs.{WritesFront};
@@ -19,7 +19,7 @@ use crate::answers::lines::{Line, put_line, put_refusal};
 use crate::answers::refusals::Refusal;
 use fen_text::FenFault;
 use std::alloc::AllocError;
-use system_io::{Output, ReadFault, WriteFault};
+use system_io::{Output, WriteFault};
 
 /// An answer before it is written.
 #[derive(Drop)]
@@ -104,20 +104,5 @@ pub fn put_answered<W: Output>(
     match answered {
         Ok(answer) => put_answer(out, &answer),
         Err(_) => put_refusal(out, Refusal::Memory),
-    }
-}
-
-/// Writes an answer, or why something for it wasn't read, and returns the status.
-pub fn put_read<W: Output>(
-    out: &mut W,
-    answered: Result<Answer, ReadFault>,
-) -> Result<u8, WriteFault>
-    ensures told { PutsRead answered (W.contents out.old) (W.contents out.new) result }
-    ensures cause { OnErr result (HasFailed W.facts) }
-{
-    match answered {
-        Ok(answer) => put_answer(out, &answer),
-        Err(ReadFault::Unreadable) => put_refusal(out, Refusal::Files),
-        Err(ReadFault::OutOfMemory) => put_refusal(out, Refusal::Memory),
     }
 }

@@ -11,7 +11,7 @@
 //! Definitions, in reading order: `Lines`, `Reply`, `Telling`, `LineAnswers`, `JsonAnswers`, `Asked` (what an `Answer` is) for answers;
 //! `Looks`, `Refusals`, `Manifests`, `Manifesting`, `Keys`, `Keying`, `Stores` for files. Its cases stand in `rows`.
 //!
-//! - CLAIM: `put_answer`, `put_answered`, `put_read`, `put_line`, `put_refusal`, clause `cause`: an error comes only of a type of writer
+//! - CLAIM: `put_answer`, `put_answered`, `put_line`, `put_refusal`, clause `cause`: an error comes only of a type of writer
 //!   that may refuse a write, or from which what was written can't go out (`HasFailed`).
 //! - CLAIM: `put_answered`, clause `told`: the answer goes out with its status, or the line `refused memory` where memory was refused for it;
 //!   where the writer fails, a front of it.
@@ -29,11 +29,11 @@ mod manifests;
 mod stores;
 mod tables;
 
-pub use answers::json_faults::put_json_fault;
+pub use answers::json_faults::{fault_line, put_json_fault};
 pub use answers::line_answers::put_told;
 pub use answers::lines::{KeptCount, Line, RootLine, put_line, put_refusal};
 pub use answers::refusals::{EntryFault, Refusal};
-pub use answers::{Answer, put_answer, put_answered, put_read, status_if, status_told};
+pub use answers::{Answer, put_answer, put_answered, status_if, status_told};
 pub use keys::keys_at;
 pub use manifests::{manifest_for, manifest_of_sources};
 pub use stores::disk_over;

@@ -9,7 +9,6 @@ ghost use Rattle.move_msg.specs.Manifests.{SpellsManifest};
 use crate::answers::refusals::Refusal;
 use move_msg::{Line, Manifest, ManifestFault, manifest_of, manifest_read, manifest_write};
 use std::alloc::{AllocError, Global};
-use std::io;
 use system_io::{Disk, ReadFault};
 use task_files::{Inputs, looks_in};
 
@@ -35,14 +34,7 @@ fn manifest_in<D: Disk>(alloc: Global, disk: &D, folder: &str) -> Result<Vec<u8>
     ensures ok { IfOk result (λ text. IsNamedManifest (D.facts disk.now) None folder.now text.items) }
     ensures err { IfErr result (LacksManifestOrRoom (D.facts disk.now) None folder.now) }
 {
-    let lines: Vec<Line> = match looks_in(
-        alloc,
-        disk,
-        folder,
-        &Manifest::Unnamed,
-        &mut io::sink(),
-        false,
-    ) {
+    let lines: Vec<Line> = match looks_in(alloc, disk, folder, &Manifest::Unnamed) {
         Ok(lines) => lines,
         Err(ReadFault::Unreadable) => return Err(Refusal::Files),
         Err(ReadFault::OutOfMemory) => return Err(Refusal::Memory),

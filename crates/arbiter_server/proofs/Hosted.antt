@@ -1,5 +1,5 @@
 -- A host's run, and one more round after it.
-use Rattle.std.proofs.Common.{◌≡◌, ℕ, ◌+◌, ◌<◌, ◌≤◌, List, [], ◌∷◌, ◌++◌, length, map, Option, None, refl, sym, ap, subst, ◌∙◌, append-nil, append_assoc, length-append, arith, ◌⊎◌, inl, inr, suc, Some}
+use Rattle.std.proofs.Common.{◌≡◌, ℕ, Bool, true, false, ◌+◌, ◌<◌, ◌≤◌, List, [], ◌∷◌, ◌++◌, length, map, Option, None, refl, sym, ap, subst, ◌∙◌, append-nil, append_assoc, length-append, arith, ◌⊎◌, inl, inr, suc, Some}
 use Rattle.std.specs.Prelude.{Result, Ok, Err, IfOk}
 use Rattle.std.specs.List.{AllByRecursion, flat_map}
 use Rattle.std.proofs.lemmas.List.{length-map, map-append, nil_from_length}
@@ -11,7 +11,7 @@ use Rattle.system_io.specs.Ports.{Missed, Passed, Passing, PortFacts}
 use Rattle.system_io.proofs.HistoryLaws.{Passes-nil, Passes-trans}
 use Rattle.system_io.specs.declared.output.WriteFault.{WriteFault}
 use Rattle.arbiter_server.specs.GoingOut.{GoOut, LastIsCut, LinesEnd, Writers}
-use Rattle.arbiter_server.specs.ServedLines.{refused_port, refused_store}
+use Rattle.arbiter_server.specs.ServedLines.{refused_port}
 use Rattle.arbiter_server.proofs.PortLaws.{Passed-nil, Passed-on, Passed-trans, Risen-later}
 use Rattle.arbiter_server.proofs.GoingLaws.{cut_later, go_join, none_out}
 use Rattle.arbiter_server.specs.declared.open_game.OpenGame.{OpenGame}
@@ -21,11 +21,11 @@ use Rattle.arbiter_server.specs.Folders.{FolderFacts, GivesKeepers, GivesLess, K
 use Rattle.arbiter_server.specs.Acts.{Action, DatagramReply, Otherwise, all_replies}
 use Rattle.arbiter_server.specs.Games.{CommonView, Fresh, GameStatus, Open, Shut}
 use Rattle.arbiter_server.specs.Room.{at_stamp}
-use Rattle.arbiter_server.specs.Rounds.{IsRound, Round, replies_of_rounds, round_came, round_passing}
+use Rattle.arbiter_server.specs.Rounds.{EndSent, IsRound, Round, ends_sent, replies_of_rounds, reply_line, round_came, round_lines, round_passing}
 use Rattle.arbiter_server.specs.Seats.{OpenByStamp, StandsForLife}
 use Rattle.arbiter_server.specs.Servers.{ServerView, Stays}
-use Rattle.arbiter_server.specs.Hosts.{Ends, GivesWhatIsLeft, Hosts, NothingLost, PortLost, StoreLost, ToldOf, all_lines, CommitsEach, FindsWhatIsKept, IsCommitted}
-use Rattle.arbiter_server.specs.Turns.{RoundComesTo, CutsAt, Dropped, Effect, HasServed, HearsAll, IsKept, Leads, LeadsFrom, LogsLines, Missing, Outcome, Sent, ShutsFrom, TakesTurn, TurnsTo, all_effects, effects_of, goes_after, logged_from, outcome_lines, replies_in, taken_by_effects, texts_after}
+use Rattle.arbiter_server.specs.Hosts.{Ends, GivesWhatIsLeft, Hosts, Loss, NothingLost, PortLost, StoreLost, ToldOf, all_lines, CommitsEach, FindsWhatIsKept, IsCommitted, loss_line}
+use Rattle.arbiter_server.specs.Turns.{RoundComesTo, Concluded, CutsAt, Dropped, Effect, HasServed, HearsAll, IsKept, Leads, LeadsFrom, LogsLines, Missing, Outcome, ShutsFrom, TakesTurn, TurnsTo, all_effects, effects_of, goes_after, logged_from, outcome_lines, replies_in, taken_by_effects, texts_after}
 use Rattle.arbiter_server.proofs.Turning.{closings_open, closings_say, each_join, leads_join, openings_join, replies_join, taken_join, their_replies, they_take, joined_acts}
 use Rattle.arbiter_server.proofs.Handing.{not_open}
 use Rattle.arbiter_server.specs.declared.line_log.LineLog.{LineLog}
@@ -35,16 +35,21 @@ use Rattle.arbiter_server.proofs.Logging.{logged_join, logged_none, no_texts, te
 
 -- the lines of rounds
 abbrev pub lines_of_rounds : List Round → List (List ℕ)
-lines_of_rounds rounds = map (λ (r : DatagramReply). r.line) (replies_of_rounds rounds)
+lines_of_rounds rounds = flat_map round_lines rounds
 
 abbrev lines_of_one : Round → List (List ℕ)
-lines_of_one round = map (λ (r : DatagramReply). r.line) round.replies
+lines_of_one round = round_lines round
+
+-- where its answers are withheld, they may be
+abbrev MayWithhold : Type 0 → Round → Type 0
+MayWithhold may_fail r = r.is_sent ≡ false → may_fail
 
 -- so many datagrams came and were answered
 pub record HasHosted {G K W : Type 0} (s : Keepers K) (t : CommonView) (finds : G → GivesKeepers K) (w : Writers W) (form : LogForm) (log : LineLog) (gives : GivesKeepers K) (at : OpenByStamp K) (k0 : ℕ) (file : List ℕ → List Made) (made made' : Option (List Made)) (port now : PortFacts) (out out' : W) (n : ℕ) : Type 0 where
   pub effects : List Effect
   pub rounds : List Round
   pub are_rounds : AllByRecursion (IsRound t.together) rounds
+  pub withheld : AllByRecursion (MayWithhold s.may_fail) rounds
   pub replies_are : replies_in effects ≡ replies_of_rounds rounds
   pub leads : Leads s t Otherwise 0 (λ stamp. Fresh) gives at k0 effects
   pub makes : Passes made made' (flat_map file (taken_by_effects effects))
@@ -86,9 +91,20 @@ split_last (y ∷ xs) x (f ∷ fs) later e =
       | inr rest ↦ inr (rest.0, (let same : xs ≡ fs ++ rest.0 = rest.1 in cc))
     ]
 
-commit_at : {G K : Type 0} (s : Keepers K) (t : CommonView) (finds : G → GivesKeepers K) (acts all : List (Action K)) (rounds : List Round) (r : Round) (more : List (Action K)) → all ≡ acts ++ more → CommitsEach s t finds acts rounds → IsCommitted s t finds all (rounds ++ r ∷ [])
-    → (first later : List Round) → rounds ++ r ∷ [] ≡ first ++ later → 0 < length first → (later ≡ []) ⊎ ((l : List Round) × (rounds ≡ first ++ l)) → IsCommitted s t finds all first
-commit_at s t finds acts all rounds r more is each now first later split some (inl none) = subst (IsCommitted s t finds all) (split ∙ ap (λ (l : List Round). first ++ l) none ∙ append-nil first) now
+-- the last round is the one behind the others
+ends_with : (before : Bool) (rounds : List Round) (r : Round) → ends_sent before (rounds ++ r ∷ []) ≡ r.is_sent
+ends_with before [] r = refl
+ends_with before (x ∷ rounds) r = ends_with x.is_sent rounds r
+
+none_sent : (first later : List Round) → [] ≡ first ++ later → EndSent first → ⊥
+none_sent [] later is sent = absurd (let wrong : false ≡ true = sent in cc)
+none_sent (r ∷ first) later is sent = absurd (let n : 0 ≡ suc (length (first ++ later)) = ap length is in omega (arith, n))
+
+commit_at : {G K : Type 0} (s : Keepers K) (t : CommonView) (finds : G → GivesKeepers K) (acts all : List (Action K)) (rounds : List Round) (r : Round) (more : List (Action K)) → all ≡ acts ++ more → CommitsEach s t finds acts rounds → (r.is_sent ≡ true → IsCommitted s t finds all (rounds ++ r ∷ []))
+    → (first later : List Round) → rounds ++ r ∷ [] ≡ first ++ later → EndSent first → (later ≡ []) ⊎ ((l : List Round) × (rounds ≡ first ++ l)) → IsCommitted s t finds all first
+commit_at s t finds acts all rounds r more is each now first later split some (inl none) =
+    let whole : rounds ++ r ∷ [] ≡ first = split ∙ ap (λ (l : List Round). first ++ l) none ∙ append-nil first in
+    subst (IsCommitted s t finds all) whole (now (sym (ends_with false rounds r) ∙ ap (ends_sent false) whole ∙ some))
 commit_at s t finds acts all rounds r more is each now first later split some (inr rest) = committed_more s t finds acts all first more is (each first rest.0 rest.1 some)
 
 -- what a start finds of a game, where that is what the folder gives
@@ -149,11 +165,15 @@ all_rounds : (most : ℕ) (rounds : List Round) (r : Round) → AllByRecursion (
 all_rounds most [] r are is = (is, tt)
 all_rounds most (x ∷ rounds) r are is = (are.0, all_rounds most rounds r are.1 is)
 
+all_may : (may_fail : Type 0) (rounds : List Round) (r : Round) → AllByRecursion (MayWithhold may_fail) rounds → MayWithhold may_fail r → AllByRecursion (MayWithhold may_fail) (rounds ++ r ∷ [])
+all_may may_fail [] r are is = (is, tt)
+all_may may_fail (x ∷ rounds) r are is = (are.0, all_may may_fail rounds r are.1 is)
+
 replies_more : (rounds : List Round) (r : Round) → replies_of_rounds (rounds ++ r ∷ []) ≡ replies_of_rounds rounds ++ r.replies
 replies_more rounds r = flat_map-append (λ (x : Round). x.replies) rounds (r ∷ []) ∙ ap (λ (l : List DatagramReply). replies_of_rounds rounds ++ l) (append-nil r.replies)
 
 lines_more : (rounds : List Round) (r : Round) → lines_of_rounds (rounds ++ r ∷ []) ≡ lines_of_rounds rounds ++ lines_of_one r
-lines_more rounds r = ap (map (λ (x : DatagramReply). x.line)) (replies_more rounds r) ∙ map-append (λ (x : DatagramReply). x.line) (replies_of_rounds rounds) r.replies
+lines_more rounds r = flat_map-append round_lines rounds (r ∷ []) ∙ ap (λ (l : List (List ℕ)). lines_of_rounds rounds ++ l) (append-nil (round_lines r))
 
 passing_more : (n : ℕ) (rounds : List Round) (r : Round) → flat_map (round_passing n) (rounds ++ r ∷ []) ≡ flat_map (round_passing n) rounds ++ round_passing n r
 passing_more n rounds r = flat_map-append (round_passing n) rounds (r ∷ []) ∙ ap (λ (l : List Passing). flat_map (round_passing n) rounds ++ l) (append-nil (round_passing n r))
@@ -170,6 +190,7 @@ module _ {G K W : Type 0} (s : Keepers K) (t : CommonView) (finds : G → GivesK
     effects = [];
     rounds = [];
     are_rounds = tt;
+    withheld = tt;
     replies_are = refl;
     leads = record {
       acts = [];
@@ -186,7 +207,7 @@ module _ {G K W : Type 0} (s : Keepers K) (t : CommonView) (finds : G → GivesK
     remembered = subst (Remembers log) (sym (no_texts [])) remembers;
     same = same;
     came = refl;
-    committed = λ first later is some. absurd (let none : 0 ≡ length first + length later = ap length is ∙ length-append first later in omega (arith, none, some));
+    committed = λ first later is sent. absurd (none_sent first later is sent);
   }
 
   -- all came
@@ -198,6 +219,7 @@ module _ {G K W : Type 0} (s : Keepers K) (t : CommonView) (finds : G → GivesK
     rounds = had.rounds;
     ending = NothingLost;
     are_rounds = had.are_rounds;
+    withheld = had.withheld;
     is_ending = tt;
     replies_are = had.replies_are ∙ sym (append-nil (replies_of_rounds had.rounds));
     passed = subst (Passed port now) (sym (append-nil (flat_map (round_passing port.addresses) had.rounds))) had.passed;
@@ -238,12 +260,12 @@ module _ {G K W : Type 0} (s : Keepers K) (t : CommonView) (finds : G → GivesK
     they_join rs h = joined_acts s t Otherwise 0 k0 k1 old new at at' (λ stamp. Fresh) had.effects h.effects had.leads h.goes
 
     -- what it leaves is committed
-    commits_with : (r : Round) (h : HearsAll Onward file mid last r.replies) → Kept → CommitsEach s t finds (leads_with r.replies h).acts (rounds_with r)
+    commits_with : (r : Round) (h : HearsAll Onward file mid last r.replies) → (r.is_sent ≡ true → Kept) → CommitsEach s t finds (leads_with r.replies h).acts (rounds_with r)
     commits_with r h kept =
         let led = leads_with r.replies h in
         let said : all_replies led.acts ≡ replies_of_rounds (rounds_with r) = sym (ap replies_in (sym led.effects_are) ∙ their_replies led.acts) ∙ replies_with r.replies h ∙ sym (replies_more had.rounds r) in
         λ first later is some. commit_at s t finds had.leads.acts led.acts had.rounds r (later_acts r.replies h) (they_join r.replies h) had.committed
-        (record { first = led.acts; rest = []; are = sym (append-nil led.acts); answered = said; games = led.new; each = led.turns.each; folder = games; found = λ stamp. found_by s t (new stamp) (finds games stamp) (at' stamp) (led.new stamp) (kept stamp) (led.stand stamp) })
+        (λ sent. record { first = led.acts; rest = []; are = sym (append-nil led.acts); answered = said; games = led.new; each = led.turns.each; folder = games; found = λ stamp. found_by s t (new stamp) (finds games stamp) (at' stamp) (led.new stamp) (kept sent stamp) (led.stand stamp) })
         first later is some (split_last had.rounds r first later is)
 
     passed_with : (r : Round) → Passed now later (round_passing now.addresses r) → Passed port later (flat_map (round_passing port.addresses) (rounds_with r))
@@ -253,14 +275,15 @@ module _ {G K W : Type 0} (s : Keepers K) (t : CommonView) (finds : G → GivesK
     size_with rs h = ap length (replies_with rs h) ∙ length-append (replies_of_rounds had.rounds) rs ∙ ap (λ (n : ℕ). n + length rs) had.came
 
     -- the answers of a round were sent, and its lines told
-    more_hosted : (r : Round) → IsRound most r → HearsAll Onward file mid last r.replies → Passed now later (round_passing now.addresses r) → Kept → {T : Type 0} (x : T) → LogsLines w (texts_after [] so_far) log log' (lines_of_one r) out out' (Ok x)
+    more_hosted : (r : Round) → IsRound most r → HearsAll Onward file mid last r.replies → Passed now later (round_passing now.addresses r) → (r.is_sent ≡ true → Kept) → MayWithhold s.may_fail r → {T : Type 0} (x : T) → LogsLines w (texts_after [] so_far) log log' (lines_of_one r) out out' (Ok x)
         → HasHosted s t finds w form log' new at' k1 file made last port later first out' (k + length r.replies)
-    more_hosted r is h one kept {T} x tells =
+    more_hosted r is h one kept may {T} x tells =
         let told = told_all w form so_far (lines_of_one r) log log' first out out' had.same had.lines x tells in
         record {
           effects = had.effects ++ h.effects;
           rounds = rounds_with r;
           are_rounds = all_rounds t.together had.rounds r had.are_rounds (round_within most t.together r within is);
+          withheld = all_may s.may_fail had.rounds r had.withheld may;
           replies_are = replies_with r.replies h ∙ sym (replies_more had.rounds r);
           leads = leads_with r.replies h;
           makes = made_more file made mid last had.effects h.effects had.makes h.made;
@@ -286,6 +309,7 @@ module _ {G K W : Type 0} (s : Keepers K) (t : CommonView) (finds : G → GivesK
             rounds = had.rounds;
             ending = PortLost;
             are_rounds = had.are_rounds;
+            withheld = had.withheld;
             is_ending = Risen-later port.faults now.faults later.faults count one.2;
             replies_are = replies_with [] one.0;
             passed = Passed-trans port now later (flat_map (round_passing port.addresses) had.rounds) (Missed ∷ []) had.passed one.1;
@@ -296,9 +320,9 @@ module _ {G K W : Type 0} (s : Keepers K) (t : CommonView) (finds : G → GivesK
           }
 
       -- a round can't be committed
-      lost_store : (r : Round) (ended : Result ℕ WriteFault) → IfOk ended (λ status. status ≡ 1) → RoundComesTo Onward file Kept s.may_fail mid last most now later (Dropped r) → (told : ToldOf form t.together (so_far ++ refused_store ∷ []) ended) → LinesEnd w first (logged form told.told) out' ended
+      lost_store : (r : Round) (loss : Loss) (ended : Result ℕ WriteFault) → IfOk ended (λ status. status ≡ 1) → RoundComesTo Onward file Kept s.may_fail mid last most now later (Dropped r loss) → (told : ToldOf form t.together (so_far ++ loss_line loss ∷ []) ended) → LinesEnd w first (logged form told.told) out' ended
           → HasServed s t finds w form n new at' k1 file made last port later first out' ended
-      lost_store r ended status one told went =
+      lost_store r loss ended status one told went =
           let few = one.0.few in
           let size = size_with r.replies one.1 in
           record {
@@ -306,8 +330,9 @@ module _ {G K W : Type 0} (s : Keepers K) (t : CommonView) (finds : G → GivesK
             leads = leads_with r.replies one.1;
             made = made_more file made mid last had.effects one.1.effects had.makes one.1.made;
             rounds = had.rounds;
-            ending = StoreLost r;
+            ending = StoreLost r loss;
             are_rounds = had.are_rounds;
+            withheld = had.withheld;
             is_ending = (round_within most t.together r within one.0, one.3);
             replies_are = replies_with r.replies one.1;
             passed = Passed-trans port now later (flat_map (round_passing port.addresses) had.rounds) (round_came r) had.passed one.2;
@@ -318,7 +343,7 @@ module _ {G K W : Type 0} (s : Keepers K) (t : CommonView) (finds : G → GivesK
           }
 
       -- a line of a round is cut short
-      cut_round : (r : Round) (fault : WriteFault) → RoundComesTo Onward file Kept s.may_fail mid last most now later (Sent r) → (told : ToldOf {T = ℕ} form t.together (so_far ++ lines_of_one r) (Err fault)) → LastIsCut w first (logged form told.told) out'
+      cut_round : (r : Round) (fault : WriteFault) → RoundComesTo Onward file Kept s.may_fail mid last most now later (Concluded r) → (told : ToldOf {T = ℕ} form t.together (so_far ++ lines_of_one r) (Err fault)) → LastIsCut w first (logged form told.told) out'
           → HasServed s t finds w form n new at' k1 file made last port later first out' (Err fault)
       cut_round r fault one told went =
           let few = one.0.few in
@@ -331,6 +356,7 @@ module _ {G K W : Type 0} (s : Keepers K) (t : CommonView) (finds : G → GivesK
             rounds = rounds_with r;
             ending = NothingLost;
             are_rounds = all_rounds t.together had.rounds r had.are_rounds (round_within most t.together r within one.0);
+            withheld = all_may s.may_fail had.rounds r had.withheld one.4;
             is_ending = tt;
             replies_are = replies_with r.replies one.1 ∙ sym (replies_more had.rounds r) ∙ sym (append-nil (replies_of_rounds (rounds_with r)));
             passed = subst (Passed port later) (sym (append-nil (flat_map (round_passing port.addresses) (rounds_with r)))) (passed_with r one.2);
@@ -342,14 +368,14 @@ module _ {G K W : Type 0} (s : Keepers K) (t : CommonView) (finds : G → GivesK
 
       -- whatever came of the round
       ends_cut : (o : Outcome) (fault : WriteFault) → RoundComesTo Onward file Kept s.may_fail mid last most now later o → LogsLines {T = AfterRound} w (texts_after [] so_far) log log' (outcome_lines o) out out' (Err fault) → HasServed s t finds w form n new at' k1 file made last port later first out' (Err fault)
-      ends_cut (Sent r) fault one tells =
+      ends_cut (Concluded r) fault one tells =
           let few = one.0.few in
-          let size : length (lines_of_one r) ≡ length r.replies = length-map r.replies (λ (x : DatagramReply). x.line) in
+          let size : length (lines_of_one r) ≡ length r.replies = length-map r.replies (reply_line r.is_sent) in
           let cut = told_cut w form so_far (lines_of_one r) log log' first out out' had.same had.lines t.together fault (omega (arith, few, size, within)) tells in
           cut_round r fault one cut.0 cut.1
-      ends_cut (Dropped r) fault one tells =
-          let cut = told_cut w form so_far (refused_store ∷ []) log log' first out out' had.same had.lines t.together fault (omega (arith, some, within)) tells in
-          lost_store r (Err fault) tt one cut.0 cut.1
+      ends_cut (Dropped r loss) fault one tells =
+          let cut = told_cut w form so_far (loss_line loss ∷ []) log log' first out out' had.same had.lines t.together fault (omega (arith, some, within)) tells in
+          lost_store r loss (Err fault) tt one cut.0 cut.1
       ends_cut Missing fault one tells =
           let cut = told_cut w form so_far (refused_port ∷ []) log log' first out out' had.same had.lines t.together fault (omega (arith, some, within)) tells in
           lost_port (Err fault) tt one cut.0 cut.1
@@ -359,25 +385,25 @@ module _ {G K W : Type 0} (s : Keepers K) (t : CommonView) (finds : G → GivesK
       whole ls = record { told = ls; untold = []; are = sym (append-nil ls); all = refl; few = tt; last = tt }
 
       ends_lost : (o : Outcome) → goes_after o ≡ Stops → RoundComesTo Onward file Kept s.may_fail mid last most now later o → LogsLines {T = AfterRound} w (texts_after [] so_far) log log' (outcome_lines o) out out' (Ok Stops) → HasServed s t finds w form n new at' k1 file made last port later first out' (Ok 1)
-      ends_lost (Sent r) stops one tells = absurd (let wrong : GoesOn (length r.replies) ≡ Stops = stops in cc)
-      ends_lost (Dropped r) stops one tells =
-          lost_store r (Ok 1) refl one (whole (so_far ++ refused_store ∷ [])) (told_all w form so_far (refused_store ∷ []) log log' first out out' had.same had.lines Stops tells).0
+      ends_lost (Concluded r) stops one tells = absurd (let wrong : GoesOn (length r.replies) ≡ Stops = stops in cc)
+      ends_lost (Dropped r loss) stops one tells =
+          lost_store r loss (Ok 1) refl one (whole (so_far ++ loss_line loss ∷ [])) (told_all w form so_far (loss_line loss ∷ []) log log' first out out' had.same had.lines Stops tells).0
       ends_lost Missing stops one tells =
           lost_port (Ok 1) refl one (whole (so_far ++ refused_port ∷ [])) (told_all w form so_far (refused_port ∷ []) log log' first out out' had.same had.lines Stops tells).0
 
     goes_on : (o : Outcome) (m : ℕ) → goes_after o ≡ GoesOn m → RoundComesTo Onward file Kept s.may_fail mid last most now later o → LogsLines {T = AfterRound} w (texts_after [] so_far) log log' (outcome_lines o) out out' (Ok (GoesOn m)) → HasHosted s t finds w form log' new at' k1 file made last port later first out' (k + m)
-    goes_on (Sent r) m is one tells =
+    goes_on (Concluded r) m is one tells =
         let size : length r.replies ≡ m = (let e : GoesOn (length r.replies) ≡ GoesOn m = is in cc) in
-        subst (λ (n : ℕ). HasHosted s t finds w form log' new at' k1 file made last port later first out' (k + n)) size (more_hosted r one.0 one.1 one.2 one.3 (GoesOn m) tells)
-    goes_on (Dropped r) m is one tells = absurd (let wrong : Stops ≡ GoesOn m = is in cc)
+        subst (λ (n : ℕ). HasHosted s t finds w form log' new at' k1 file made last port later first out' (k + n)) size (more_hosted r one.0 one.1 one.2 one.3 one.4 (GoesOn m) tells)
+    goes_on (Dropped r loss) m is one tells = absurd (let wrong : Stops ≡ GoesOn m = is in cc)
     goes_on Missing m is one tells = absurd (let wrong : Stops ≡ GoesOn m = is in cc)
 
     -- how many datagrams a round may have
     came_within : (o : Outcome) (m : ℕ) → goes_after o ≡ GoesOn m → RoundComesTo Onward file Kept s.may_fail mid last most now later o → (0 < m) × (m ≤ most)
-    came_within (Sent r) m is one =
+    came_within (Concluded r) m is one =
         let size : length r.replies ≡ m = (let e : GoesOn (length r.replies) ≡ GoesOn m = is in cc) in
         (subst (λ (x : ℕ). 0 < x) size one.0.some, subst (λ (x : ℕ). x ≤ most) size one.0.few)
-    came_within (Dropped r) m is one = absurd (let wrong : Stops ≡ GoesOn m = is in cc)
+    came_within (Dropped r loss) m is one = absurd (let wrong : Stops ≡ GoesOn m = is in cc)
     came_within Missing m is one = absurd (let wrong : Stops ≡ GoesOn m = is in cc)
 
     -- the round is taken after it
@@ -451,6 +477,7 @@ hosts_closed {G} {K = K} s t finds w form n gives gives' at at' count file made 
           rounds = had.rounds;
           ending = had.ending;
           are_rounds = had.are_rounds;
+          withheld = had.withheld;
           is_ending = had.is_ending;
           replies_are = sym replies ∙ had.replies_are;
           passed = had.passed;

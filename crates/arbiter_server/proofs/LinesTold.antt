@@ -1,5 +1,5 @@
 -- Lines that a log tells, one after the other.
-use Rattle.std.proofs.Common.{◌≡◌, ◌∙◌, ℕ, ◌+◌, ◌<◌, ◌≤◌, List, [], ◌∷◌, ◌++◌, length, take, drop, get_or, refl, sym, ap, subst, append-nil}
+use Rattle.std.proofs.Common.{◌≡◌, ◌∙◌, ℕ, Bool, ◌+◌, ◌<◌, ◌≤◌, List, [], ◌∷◌, ◌++◌, length, take, drop, get_or, refl, sym, ap, subst, append-nil}
 use Rattle.std.specs.Prelude.{Ok, Err}
 use Rattle.std.proofs.lemmas.List.{map-append, take_all, take_more, take-append-drop}
 use Rattle.system_io.specs.declared.output.WriteFault.{WriteFault}
@@ -8,8 +8,7 @@ use Rattle.arbiter_server.specs.declared.line_log.LogForm.{LogForm}
 use Rattle.arbiter_server.specs.declared.gathering.Held.{Held}
 use Rattle.arbiter_server.specs.GoingOut.{GoOut, LastIsCut, Writers}
 use Rattle.arbiter_server.specs.LineLogs.{LogsLine, Remembers, form_of, picked}
-use Rattle.arbiter_server.specs.Told.{line_words}
-use Rattle.arbiter_server.specs.Turns.{LogsLines, answer_lines, logged_from, texts_after}
+use Rattle.arbiter_server.specs.Turns.{LogsLines, answer_line, answer_lines, logged_from, texts_after}
 use Rattle.arbiter_server.proofs.GoingLaws.{cut_later, go_join, none_out}
 use Rattle.arbiter_server.proofs.Logging.{from_more, from_none, no_texts, only_one, texts_more}
 
@@ -73,13 +72,15 @@ cut_again w before old new lines out out' fault tells = record { told = tells.to
 
 -- ---- the lines of answers
 
-pub lines_to : (answers : List Held) (i : ℕ) (a : Held) → i < length answers → a ≡ get_or answers i a → answer_lines (take (i + 1) answers) ≡ answer_lines (take i answers) ++ line_words a.answered.line ∷ []
-lines_to answers i a lt is =
-    ap answer_lines (take_more answers i a lt ∙ ap (λ (x : Held). take i answers ++ x ∷ []) (sym is)) ∙ map-append (λ (x : Held). line_words x.answered.line) (take i answers) (a ∷ [])
+module _ (are_sent : Bool) where
+  pub lines_to : (answers : List Held) (i : ℕ) (a : Held) → i < length answers → a ≡ get_or answers i a → answer_lines are_sent (take (i + 1) answers) ≡ answer_lines are_sent (take i answers) ++ answer_line are_sent a ∷ []
+  lines_to answers i a lt is =
+      ap (answer_lines are_sent) (take_more answers i a lt ∙ ap (λ (x : Held). take i answers ++ x ∷ []) (sym is)) ∙ map-append (answer_line are_sent) (take i answers) (a ∷ [])
 
-pub lines_split : (answers : List Held) (i : ℕ) (a : Held) → i < length answers → a ≡ get_or answers i a → answer_lines answers ≡ (answer_lines (take i answers) ++ line_words a.answered.line ∷ []) ++ answer_lines (drop (i + 1) answers)
-lines_split answers i a lt is =
-    ap answer_lines (sym (take-append-drop (i + 1) answers)) ∙ map-append (λ (x : Held). line_words x.answered.line) (take (i + 1) answers) (drop (i + 1) answers) ∙ ap (λ (ls : List (List ℕ)). ls ++ answer_lines (drop (i + 1) answers)) (lines_to answers i a lt is)
+  pub lines_split : (answers : List Held) (i : ℕ) (a : Held) → i < length answers → a ≡ get_or answers i a → answer_lines are_sent answers ≡ (answer_lines are_sent (take i answers) ++ answer_line are_sent a ∷ []) ++ answer_lines are_sent (drop (i + 1) answers)
+  lines_split answers i a lt is =
+      ap (answer_lines are_sent) (sym (take-append-drop (i + 1) answers)) ∙ map-append (answer_line are_sent) (take (i + 1) answers) (drop (i + 1) answers)
+      ∙ ap (λ (ls : List (List ℕ)). ls ++ answer_lines are_sent (drop (i + 1) answers)) (lines_to answers i a lt is)
 
-pub lines_all : (answers : List Held) (i : ℕ) → length answers ≤ i → answer_lines (take i answers) ≡ answer_lines answers
-lines_all answers i le = ap answer_lines (take_all i answers le)
+  pub lines_all : (answers : List Held) (i : ℕ) → length answers ≤ i → answer_lines are_sent (take i answers) ≡ answer_lines are_sent answers
+  lines_all answers i le = ap (answer_lines are_sent) (take_all i answers le)

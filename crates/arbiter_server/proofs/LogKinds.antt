@@ -11,7 +11,7 @@ use Rattle.arbiter_core.specs.declared.fault.DeliverFault.{DeliverFault}
 use Rattle.arbiter_core.specs.declared.fault.DeliverFault.TheVariants as deliver
 use Rattle.arbiter_server.specs.declared.datagram_report.DatagramReport.{DatagramReport}
 use Rattle.arbiter_server.specs.declared.datagram_report.DatagramReport.TheVariants as heard
-use Rattle.arbiter_server.specs.LineLogs.{common, line_kind, place_in, told_part}
+use Rattle.arbiter_server.specs.LineLogs.{common, line_kind, of_no_message, place_in}
 use Rattle.arbiter_server.specs.ServedLines.{heard_line, refused_datagram}
 use Rattle.arbiter_server.specs.Told.{stamped}
 
@@ -38,8 +38,7 @@ kind_behind stamp words size =
     let size_is : length text ≡ length (digits ++ codes " ") + length (ended words) = ap (λ (l : List ℕ). length l) split ∙ length-append (digits ++ codes " ") (ended words) in
     let front : length (digits ++ codes " ") ≡ length digits + 1 = length_push digits 32 in
     let end : length (ended words) ≡ length words + 1 = length_push words 10 in
-    let part : told_part text ≡ ended words = ap (λ (t : Bool). cond t text (drop 33 text)) (not_short (length text) (omega (arith, size_is, front, long, end))) ∙ behind in
-    ap (λ (l : List ℕ). place_in 0 common l) part
+    ap (λ (t : Bool). cond t (place_in 3 of_no_message text) (place_in 0 common (drop 33 text))) (not_short (length text) (omega (arith, size_is, front, long, end))) ∙ ap (λ (l : List ℕ). place_in 0 common l) behind
 
 -- what an arbiter tells is of no kind
 refused_none : (fault : DeliverFault) → place_in 0 common (ended (refused_datagram fault)) ≡ None

@@ -14,16 +14,16 @@ use Rattle.system_io.specs.Ports.{Came, Missed, Passed, Passing, PortFacts}
 use Rattle.system_io.proofs.HistoryLaws.{Passes-nil, Passes-trans}
 use Rattle.arbiter_server.specs.declared.open_game.OpenGame.{OpenGame}
 use Rattle.arbiter_server.specs.declared.gathering.Held.{Held}
-use Rattle.arbiter_server.specs.Acts.{DatagramReply, LastDone, Otherwise}
+use Rattle.arbiter_server.specs.Acts.{DatagramReply, LastDone, Otherwise, stamp_for}
 use Rattle.arbiter_server.specs.Folders.{FolderFacts, GivesKeepers, GivesOthers, Keepers, keepers, keepers_at}
 use Rattle.arbiter_server.specs.Games.{CommonView}
 use Rattle.arbiter_server.specs.Room.{at_stamp}
-use Rattle.arbiter_server.specs.Rounds.{IsFull, ReceiveFails, RoundEnd, came_of, end_passing, round_came, round_passing, round_sent, sent_of}
+use Rattle.arbiter_server.specs.Rounds.{IsFull, IsRound, ReceiveFails, Round, RoundEnd, came_of, end_passing, reply_line, round_came, round_passing, round_sent, sent_of}
 use Rattle.arbiter_server.specs.Seats.{OpenByStamp, StandsForLife, in_hand}
 use Rattle.arbiter_server.specs.Servers.{ServerView, Stays}
 use Rattle.arbiter_server.specs.Serving.{handed}
-use Rattle.arbiter_server.specs.Told.{line_words}
-use Rattle.arbiter_server.specs.Turns.{AreAnswersTo, Effect, Gathers, Going, HearsAll, HearsOne, LeadsFrom, TurnsTo, datagram_reply, effects_with, answer_lines, replies_in, answers_sent, taken_by_effects}
+use Rattle.arbiter_server.specs.Told.{line_words, stamp_in_line, withheld_words}
+use Rattle.arbiter_server.specs.Turns.{AreAnswersTo, Effect, Gathers, Going, HearsAll, HearsOne, LeadsFrom, TurnsTo, datagram_reply, effects_with, answer_line, answer_lines, replies_in, answers_sent, taken_by_effects}
 use Rattle.arbiter_server.proofs.PortLaws.{Passed-nil, Passed-on, Passed-trans, Risen-later}
 use Rattle.arbiter_server.proofs.Turning.{leads_join, leads_not, less_stands, replies_join, replies_with, taken_join, taken_with}
 
@@ -88,19 +88,23 @@ hears_one turns file had has more r made goes = record {
 -- ---- what is to be sent and told
 
 pub none_for : AreAnswersTo [] []
-none_for = record { sent = λ addresses. refl; lines = refl; count = refl }
+none_for = record { sent = λ addresses. refl; lines = λ are_sent. refl; count = refl }
 
-pub one_for : (datagram : List ℕ) (a : Held) → AreAnswersTo (datagram_reply datagram a.answered ∷ []) (a ∷ [])
-one_for datagram a = record { sent = λ addresses. refl; lines = refl; count = refl }
+pub one_for : (datagram : List ℕ) (a : Held) → stamp_in_line a.answered.line ≡ stamp_for datagram → AreAnswersTo (datagram_reply datagram a.answered ∷ []) (a ∷ [])
+one_for datagram a of = record {
+  sent = λ addresses. refl;
+  lines = λ are_sent. ap (λ (stamp : Option (List ℕ)). cond are_sent (line_words a.answered.line) (withheld_words stamp (line_words a.answered.line)) ∷ []) of;
+  count = refl;
+}
 
 pub for_join : (xs ys : List DatagramReply) (ps qs : List Held) → AreAnswersTo xs ps → AreAnswersTo ys qs → AreAnswersTo (xs ++ ys) (ps ++ qs)
 for_join xs ys ps qs one two = record {
   sent = λ addresses.
       flat_map-append (λ (a : Held). flat_map (handed addresses) a.answered.outputs.items) ps qs ∙ ap (λ (l : List Passing). l ++ answers_sent addresses qs) (one.sent addresses) ∙ ap (λ (l : List Passing). flat_map (sent_of addresses) xs ++ l) (two.sent addresses)
       ∙ sym (flat_map-append (sent_of addresses) xs ys);
-  lines =
-      let all : answer_lines (ps ++ qs) ≡ answer_lines ps ++ answer_lines qs = map-append (λ (a : Held). line_words a.answered.line) ps qs in
-      all ∙ ap (λ (l : List (List ℕ)). l ++ answer_lines qs) one.lines ∙ ap (λ (l : List (List ℕ)). map (λ (r : DatagramReply). r.line) xs ++ l) two.lines ∙ sym (map-append (λ (r : DatagramReply). r.line) xs ys);
+  lines = λ are_sent.
+      let all : answer_lines are_sent (ps ++ qs) ≡ answer_lines are_sent ps ++ answer_lines are_sent qs = map-append (answer_line are_sent) ps qs in
+      all ∙ ap (λ (l : List (List ℕ)). l ++ answer_lines are_sent qs) (one.lines are_sent) ∙ ap (λ (l : List (List ℕ)). map (reply_line are_sent) xs ++ l) (two.lines are_sent) ∙ sym (map-append (reply_line are_sent) xs ys);
   count = let a = one.count in let b = two.count in let c = length-append ps qs in let d = length-append xs ys in omega (arith, a, b, c, d);
 }
 
@@ -124,7 +128,7 @@ one_heard facts folder start now later stays had mid has port between port' data
       replies = before.replies ++ r ∷ [];
       heard = hears_join facts folder start now later stays had mid has before.replies (r ∷ []) before.heard one.heard;
       passed = subst (Passed port port') (sym (map-append came_of before.replies (r ∷ []))) (Passed-trans port between port' (map came_of before.replies) (Came datagram ∷ []) before.passed came);
-      are = subst (AreAnswersTo (before.replies ++ r ∷ [])) (sym one.behind) (for_join before.replies (r ∷ []) old (one.held ∷ []) before.are (one_for datagram one.held));
+      are = subst (AreAnswersTo (before.replies ++ r ∷ [])) (sym one.behind) (for_join before.replies (r ∷ []) old (one.held ∷ []) before.are (one_for datagram one.held one.of));
     }
 
 pub pushed : {A T E : Type 0} (r : Result T E) (new all old : List A) → IsOk r → new ≡ cond (is_ok r) all old → new ≡ all
@@ -155,7 +159,7 @@ module _ (turns : Going) (file : List ℕ → List Made) (had has : Option (List
   pub gathered : (end : RoundEnd) → Passed between port' (end_passing end) → 0 < length answers → length answers ≤ most → (length answers ≡ most → end ≡ IsFull) → Gathers turns file had has most port port' answers true
   gathered end ended some few full =
       let count = so_far.are.count in (
-        record { replies = so_far.replies; end = end },
+        record { replies = so_far.replies; end = end; is_sent = true },
         record { some = omega (arith, some, count); few = omega (arith, few, count); full = λ is. full (count ∙ is) },
         so_far.heard,
         Passed-trans port between port' (map came_of so_far.replies) (end_passing end) so_far.passed ended,
@@ -186,6 +190,14 @@ sent_more a b c answers i x lt is p q =
     ∙ ap (λ (l : List Passing). before ++ l) (append-nil (flat_map (handed a.addresses) x.answered.outputs.items)) in
     subst (Passed a c) (sym joined) (Passed-on a b c before (λ (n : ℕ). flat_map (handed n) x.answered.outputs.items) p q)
 
--- a round that came, and whose answers were sent
-pub sent_round : (turns : Going) (file : List ℕ → List Made) (had has : Option (List Made)) (most : ℕ) (port between port' : PortFacts) (answers : List Held) (g : Gathers turns file had has most port between answers true) → Passed between port' (answers_sent between.addresses answers) → Passed port port' (round_passing port.addresses g.0)
-sent_round turns file had has most port between port' answers g sent = Passed-on port between port' (round_came g.0) (λ n. round_sent n g.0) g.3 (subst (Passed between port') (g.4.sent between.addresses) sent)
+-- a round whose answers are sent or withheld
+abbrev pub fated : Bool → Round → Round
+fated is_sent r = record { replies = r.replies; end = r.end; is_sent = is_sent }
+
+pub is_fated : (most : ℕ) (is_sent : Bool) (r : Round) → IsRound most r → IsRound most (fated is_sent r)
+is_fated most is_sent r is = record { some = is.some; few = is.few; full = is.full }
+
+-- a round that came, and whose answers were sent, or withheld
+pub sent_round : (turns : Going) (file : List ℕ → List Made) (had has : Option (List Made)) (most : ℕ) (port between port' : PortFacts) (answers : List Held) (g : Gathers turns file had has most port between answers true) → (is_sent : Bool) → Passed between port' (cond is_sent (answers_sent between.addresses answers) []) → Passed port port' (round_passing port.addresses (fated is_sent g.0))
+sent_round turns file had has most port between port' answers g is_sent sent =
+    Passed-on port between port' (round_came g.0) (λ n. round_sent n (fated is_sent g.0)) g.3 (subst (λ (l : List Passing). Passed between port' (cond is_sent l [])) (g.4.sent between.addresses) sent)

@@ -1,5 +1,5 @@
 -- What a host leaves (this project's own).
-use Rattle.std.specs.Prelude.{◌≡◌, ◌<◌, ◌≤◌, ◌++◌, ℕ, List, [], ◌∷◌, length, map, Result, Ok, Err, IfOk, OnOk, OnErr}
+use Rattle.std.specs.Prelude.{◌≡◌, ◌<◌, ◌≤◌, ◌++◌, ℕ, false, List, [], ◌∷◌, length, Result, Ok, Err, IfOk, OnOk, OnErr}
 use Rattle.std.specs.List.{AllByRecursion, flat_map}
 use Rattle.system_io.specs.Failures.{Risen}
 use Rattle.system_io.specs.Ports.{Passing, Missed, Passed, PortFacts}
@@ -7,10 +7,10 @@ use Rattle.system_io.specs.declared.output.WriteFault.{WriteFault}
 use Rattle.arbiter_server.specs.GoingOut.{LinesEnd, Writers}
 use Rattle.arbiter_server.specs.LineLogs.{logged}
 use Rattle.arbiter_server.specs.declared.line_log.LogForm.{LogForm}
-use Rattle.arbiter_server.specs.ServedLines.{refused_port, refused_store}
+use Rattle.arbiter_server.specs.ServedLines.{refused_memory, refused_port, refused_store}
 use Rattle.arbiter_server.specs.Folders.{GivesKeepers, Keepers}
 use Rattle.arbiter_server.specs.Acts.{Action, AreInRoom, AreOpenings, DatagramReply, IsClosing, IsSorted, Otherwise, acts_of, all_replies, all_taken}
-use Rattle.arbiter_server.specs.Rounds.{IsRound, Round, replies_of_rounds, round_came, round_passing}
+use Rattle.arbiter_server.specs.Rounds.{EndSent, IsRound, Round, replies_of_rounds, round_came, round_lines, round_passing}
 use Rattle.arbiter_server.specs.Games.{CommonView, Fresh, Goes, IsNotOpen, GameStatus, Open, Shut}
 
 -- each game's own acts lead from where it was never opened to where it is now, by the steps of an arbiter alone; each act is of the
@@ -22,48 +22,57 @@ pub record IsHosted {K : Type 0} (s : Keepers K) (t : CommonView) (acts : List (
   pub opened : AreOpenings acts
   pub closed : (stamp : List ℕ) → IsNotOpen (games stamp)
 
+-- why no more can be committed: the store can't be written, or memory was refused to note what a game keeps
+pub data Loss : Type 0 where
+  NotWritten : Loss
+  NotNoted : Loss
+
+abbrev pub loss_line : Loss → List ℕ
+loss_line NotWritten = refused_store
+loss_line NotNoted = refused_memory
+
 -- how a run ends: all datagrams came, or the writer failed; or none can be received; or what the games of a round keep can't be committed,
--- and its answers are dropped
+-- and no more can, and its answers are dropped
 pub data Ending : Type 0 where
   NothingLost : Ending
   PortLost : Ending
-  StoreLost : (round : Round) → Ending
+  StoreLost : (round : Round) (loss : Loss) → Ending
 
 abbrev pub dropped_replies : Ending → List DatagramReply
 dropped_replies NothingLost = []
 dropped_replies PortLost = []
-dropped_replies (StoreLost round) = round.replies
+dropped_replies (StoreLost round loss) = round.replies
 
 abbrev pub ending_passing : Ending → List Passing
 ending_passing NothingLost = []
 ending_passing PortLost = Missed ∷ []
-ending_passing (StoreLost round) = round_came round
+ending_passing (StoreLost round loss) = round_came round
 
 abbrev pub ending_lines : Ending → List (List ℕ)
 ending_lines NothingLost = []
 ending_lines PortLost = refused_port ∷ []
-ending_lines (StoreLost round) = refused_store ∷ []
+ending_lines (StoreLost round loss) = loss_line loss ∷ []
 
 -- the port is lost only where its count of failures rose, and a store only where it may be
 abbrev pub IsEnding : Type 0 → ℕ → PortFacts → PortFacts → Ending → Type 0
 IsEnding may_fail most port port' NothingLost = Unit {0}
 IsEnding may_fail most port port' PortLost = Risen port.faults port'.faults
-IsEnding may_fail most port port' (StoreLost round) = IsRound most round × may_fail
+IsEnding may_fail most port port' (StoreLost round loss) = IsRound most round × may_fail
 
 -- all that passes at a port of so many addresses
 abbrev pub all_passing : ℕ → List Round → Ending → List Passing
 all_passing addresses rounds ending = flat_map (round_passing addresses) rounds ++ ending_passing ending
 
--- a line for each datagram that is answered, and one where the port or the store is lost
+-- a line for each datagram of the rounds, and one where the port or the store is lost
 abbrev pub all_lines : List Round → Ending → List (List ℕ)
-all_lines rounds ending = map (λ r. r.line) (replies_of_rounds rounds) ++ ending_lines ending
+all_lines rounds ending = flat_map round_lines rounds ++ ending_lines ending
 
 -- the status of a run for n datagrams, of which so many came: 0 where all did, 1 where the port or the store was lost
 abbrev pub Ends : ℕ → ℕ → Ending → Result ℕ WriteFault → Type 0
 Ends n came NothingLost (Ok status) = (came ≡ n) × (status ≡ 0)
 Ends n came NothingLost (Err fault) = came ≤ n
 Ends n came PortLost ended = (came < n) × IfOk ended (λ status. status ≡ 1)
-Ends n came (StoreLost round) ended = (came ≤ n) × IfOk ended (λ status. status ≡ 1)
+Ends n came (StoreLost round loss) ended = (came ≤ n) × IfOk ended (λ status. status ≡ 1)
 
 -- where the writer failed, the line that it failed at is the last one, and none that the log leaves out
 abbrev pub EndsAtCut : {T : Type 0} → LogForm → List (List ℕ) → Result T WriteFault → Type 0
@@ -108,6 +117,7 @@ pub record HostedRun {K : Type 0} (s : Keepers K) (t : CommonView) (n : ℕ) (ta
   pub rounds : List Round
   pub ending : Ending
   pub are_rounds : AllByRecursion (IsRound t.together) rounds
+  pub withheld : AllByRecursion (λ r. r.is_sent ≡ false → s.may_fail) rounds
   pub is_ending : IsEnding s.may_fail t.together port port' ending
   pub replies_are : all_replies acts ≡ replies_of_rounds rounds ++ dropped_replies ending
   pub passed : Passed port port' (all_passing port.addresses rounds ending)
@@ -133,9 +143,9 @@ pub record IsCommitted {G K : Type 0} (s : Keepers K) (t : CommonView) (finds : 
   pub folder : G
   pub found : (stamp : List ℕ) → FindsWhatIsKept s (finds folder stamp) (games stamp)
 
--- so it is after each round
+-- so it is after each round whose answers are sent
 abbrev pub CommitsEach : {G K : Type 0} → Keepers K → CommonView → (G → GivesKeepers K) → List (Action K) → List Round → Type 0
-CommitsEach s t finds acts rounds = (first later : List Round) → rounds ≡ first ++ later → 0 < length first → IsCommitted s t finds acts first
+CommitsEach s t finds acts rounds = (first later : List Round) → rounds ≡ first ++ later → EndSent first → IsCommitted s t finds acts first
 
 -- What a log of this form has of the line of each datagram goes out before the datagrams of the next round are awaited. These keepers
 -- may be given after it.

@@ -14,17 +14,13 @@ use Rattle.arbiter_server.specs.Remembering.{Remembered}
 
 -- ---- whose a line is
 
--- what a line tells: what stands behind its stamp, where there is room for one
-abbrev pub told_part : List ℕ → List ℕ
-told_part text = cond (ltb (length text) 34) text (drop 33 text)
-
--- what is told of datagrams that anyone can send, by kinds
+-- what is told of datagrams that anyone can send, by kinds: behind a stamp, and of bytes that are no message
 abbrev pub common : List (List ℕ)
-common =
-    codes "refused NoGame\n"
-    ∷ codes "refused NotOpen\n"
-    ∷ codes "refused memory\n"
-    ∷ codes "- refused NotAMessage NoTag\n"
+common = codes "refused NoGame\n" ∷ codes "refused NotOpen\n" ∷ codes "refused memory\n" ∷ []
+
+abbrev pub of_no_message : List (List ℕ)
+of_no_message =
+    codes "- refused NotAMessage NoTag\n"
     ∷ codes "- refused NotAMessage BadLength\n"
     ∷ codes "- refused NotAMessage BadHead\n"
     ∷ codes "- refused NotAMessage BadKind\n"
@@ -34,9 +30,9 @@ abbrev pub place_in : ℕ → List (List ℕ) → List ℕ → Option ℕ
 place_in n [] told = None
 place_in n (kind ∷ kinds) told = cond (bytes_eq told kind) (Some n) (place_in (n + 1) kinds told)
 
--- the number of the kind that a line is of; a line of a game is of none
+-- the number of the kind that a line is of, where there is room for a stamp by what stands behind it; any other line is of none
 unfoldable pub line_kind : List ℕ → Option ℕ
-line_kind text = place_in 0 common (told_part text)
+line_kind text = cond (ltb (length text) 34) (place_in 3 of_no_message text) (place_in 0 common (drop 33 text))
 
 -- the value of a hexadecimal digit
 abbrev pub digit_of : ℕ → ℕ

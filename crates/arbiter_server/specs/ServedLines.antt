@@ -36,6 +36,9 @@ refused_port = codes "refused port"
 abbrev pub refused_store : List ℕ
 refused_store = codes "refused store"
 
+abbrev pub refused_memory : List ℕ
+refused_memory = codes "refused memory"
+
 abbrev pub refused_keeper : List ℕ
 refused_keeper = codes "refused keeper"
 

@@ -13,12 +13,14 @@ use Rattle.arbiter_server.specs.Folders.{FolderFacts, GivesKeepers, Keepers}
 use Rattle.arbiter_server.specs.GameFiles.{game_as_told}
 use Rattle.arbiter_server.specs.GameFolders.{HasGame}
 
--- where the files of games are, the store, and what was noted since its last commit; or no more can be committed
+-- where the files of games are, the store, what was noted since its last commit, and the games that are left, of which no keeper is given;
+-- or no more can be committed
 pub record StoredGames (D S : Type 0) : Type 0 where
   pub disk : D
   pub folder : List ℕ
   pub store : S
   pub noted : List Entry
+  pub left : List (List ℕ)
   pub is_lost : Bool
 
 -- what is kept of each game: what was noted, in place of what the store has

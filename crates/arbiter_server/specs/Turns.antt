@@ -20,7 +20,7 @@ use Rattle.arbiter_server.specs.LineLogs.{Remembers, changes_after, form_of, log
 use Rattle.arbiter_server.specs.declared.line_log.LineLog.{LineLog}
 use Rattle.arbiter_server.specs.declared.line_log.LogForm.{LogForm}
 use Rattle.arbiter_server.specs.declared.line_log.LogForm.TheVariants as form
-use Rattle.arbiter_server.specs.ServedLines.{refused_port, refused_store}
+use Rattle.arbiter_server.specs.ServedLines.{refused_port}
 use Rattle.arbiter_server.specs.Serving.{handed}
 use Rattle.arbiter_server.specs.declared.fault.OpenGameError.{OpenGameError}
 use Rattle.arbiter_server.specs.declared.open_game.OpenGame.{OpenGame}
@@ -29,12 +29,12 @@ use Rattle.arbiter_server.specs.declared.server.AfterRound.TheVariants.{GoesOn, 
 use Rattle.arbiter_server.specs.Folders.{FolderFacts, GivesKeepers, GivesLess, GivesOthers, Keepers, keepers}
 use Rattle.arbiter_server.specs.declared.gathering.Held.{Held}
 use Rattle.arbiter_server.specs.declared.turn.Answered.{Answered}
-use Rattle.arbiter_server.specs.Told.{line_words, unopened_by}
+use Rattle.arbiter_server.specs.Told.{line_words, stamp_in_line, unopened_by, withheld_words}
 use Rattle.arbiter_server.specs.Acts.{Action, Answers, AreInRoom, AreOpenings, Closes as ClosesGame, IsClosing, IsSorted, LastDone, HasAnswered, MayAnswer, Opening, Opens, Otherwise, Refuses as RefusesGame, DatagramReply, Strange, Unread, acts_of, exchange_reply, opens_for, opens_game, stamp_for, unopened, unread}
 use Rattle.arbiter_server.specs.Games.{CommonView, Fresh, Goes, IsSetupOfStamp, IsToldAs}
-use Rattle.arbiter_server.specs.Hosts.{CommitsEach, Ending, Ends, IsEnding, ToldOf, all_lines, all_passing, dropped_replies}
+use Rattle.arbiter_server.specs.Hosts.{CommitsEach, Ending, Ends, IsEnding, Loss, ToldOf, all_lines, all_passing, dropped_replies, loss_line}
 use Rattle.arbiter_server.specs.Room.{at_stamp}
-use Rattle.arbiter_server.specs.Rounds.{IsRound, Round, replies_of_rounds, round_came, round_passing, sent_of}
+use Rattle.arbiter_server.specs.Rounds.{IsRound, Round, replies_of_rounds, reply_line, round_came, round_lines, round_passing, sent_of}
 use Rattle.arbiter_server.specs.Seats.{OpenByStamp, AreLives, Evicts, IsOpenGame, Lives, in_hand}
 use Rattle.arbiter_server.specs.Servers.{ServerState, ServerFacts, ServerView}
 
@@ -273,19 +273,24 @@ pub record HearsAll (turns : Going) (file : List ℕ → List Made) (had has : O
 abbrev pub answers_sent : ℕ → List Held → List Passing
 answers_sent addresses answers = flat_map (λ a. flat_map (handed addresses) a.answered.outputs.items) answers
 
-abbrev pub answer_lines : List Held → List (List ℕ)
-answer_lines answers = map (λ a. line_words a.answered.line) answers
+-- the line of one, which is sent or withheld
+abbrev pub answer_line : Bool → Held → List ℕ
+answer_line is_sent a = cond is_sent (line_words a.answered.line) (withheld_words (stamp_in_line a.answered.line) (line_words a.answered.line))
+
+abbrev pub answer_lines : Bool → List Held → List (List ℕ)
+answer_lines are_sent answers = map (answer_line are_sent) answers
 
 -- they are those of these replies
 pub record AreAnswersTo (replies : List DatagramReply) (answers : List Held) : Type 0 where
   pub sent : (addresses : ℕ) → answers_sent addresses answers ≡ flat_map (sent_of addresses) replies
-  pub lines : answer_lines answers ≡ map (λ r. r.line) replies
+  pub lines : (are_sent : Bool) → answer_lines are_sent answers ≡ map (reply_line are_sent) replies
   pub count : length answers ≡ length replies
 
 -- a datagram is answered behind those before it
 pub record HearsOne (turns : Going) (file : List ℕ → List Made) (had has : Option (List Made)) (datagram : List ℕ) (old new : List Held) : Type 0 where
   pub held : Held
   pub heard : HearsAll turns file had has (datagram_reply datagram held.answered ∷ [])
+  pub of : stamp_in_line held.answered.line ≡ stamp_for datagram
   pub behind : new ≡ old ++ held ∷ []
 
 -- so it is from one moment of a server and a history to the next
@@ -310,26 +315,26 @@ receiving server history port = record { server = server; history = history; por
 abbrev pub GathersFrom : {G K H P : Type 0} → KeeperFacts K → FolderFacts G K → (H → Option (List Made)) → (P → PortFacts) → ℕ → Receiving G K H P → Receiving G K H P → List Held → Bool → Type 0
 GathersFrom facts folder made ports most old new answers came = Gathers (TurnsTo facts folder old.server new.server) (folder.taken (folder.place old.server.games)) (made old.history) (made new.history) most (ports old.port) (ports new.port) answers came
 
--- what came of a round: what its games keep is committed, and its answers are sent; or they are dropped, since it can't be committed; or
--- the port is lost
+-- what came of a round: what its games keep is committed, and its answers are sent, or memory was refused for that, and they are withheld;
+-- or they are dropped, since no more can be committed; or the port is lost
 pub data Outcome : Type 0 where
-  Sent : (round : Round) → Outcome
-  Dropped : (round : Round) → Outcome
+  Concluded : (round : Round) → Outcome
+  Dropped : (round : Round) (loss : Loss) → Outcome
   Missing : Outcome
 
 abbrev pub RoundComesTo : Going → (List ℕ → List Made) → Type 0 → Type 0 → Option (List Made) → Option (List Made) → ℕ → PortFacts → PortFacts → Outcome → Type 0
-RoundComesTo turns file kept may_fail had has most port port' (Sent round) = IsRound most round × HearsAll turns file had has round.replies × Passed port port' (round_passing port.addresses round) × kept
-RoundComesTo turns file kept may_fail had has most port port' (Dropped round) = IsRound most round × HearsAll turns file had has round.replies × Passed port port' (round_came round) × may_fail
+RoundComesTo turns file kept may_fail had has most port port' (Concluded round) = IsRound most round × HearsAll turns file had has round.replies × Passed port port' (round_passing port.addresses round) × (round.is_sent ≡ true → kept) × (round.is_sent ≡ false → may_fail)
+RoundComesTo turns file kept may_fail had has most port port' (Dropped round loss) = IsRound most round × HearsAll turns file had has round.replies × Passed port port' (round_came round) × may_fail
 RoundComesTo turns file kept may_fail had has most port port' Missing = HearsAll turns file had has [] × Passed port port' (Missed ∷ []) × Risen port.faults port'.faults
 
 abbrev pub outcome_lines : Outcome → List (List ℕ)
-outcome_lines (Sent round) = map (λ r. r.line) round.replies
-outcome_lines (Dropped round) = refused_store ∷ []
+outcome_lines (Concluded round) = round_lines round
+outcome_lines (Dropped round loss) = loss_line loss ∷ []
 outcome_lines Missing = refused_port ∷ []
 
 abbrev pub goes_after : Outcome → AfterRound
-goes_after (Sent round) = GoesOn (length round.replies)
-goes_after (Dropped round) = Stops
+goes_after (Concluded round) = GoesOn (length round.replies)
+goes_after (Dropped round loss) = Stops
 goes_after Missing = Stops
 
 -- ---- lines
@@ -380,6 +385,7 @@ pub record HasServed {G K W : Type 0} (s : Keepers K) (t : CommonView) (finds : 
   pub rounds : List Round
   pub ending : Ending
   pub are_rounds : AllByRecursion (IsRound t.together) rounds
+  pub withheld : AllByRecursion (λ r. r.is_sent ≡ false → s.may_fail) rounds
   pub is_ending : IsEnding s.may_fail t.together port port' ending
   pub replies_are : replies_in effects ≡ replies_of_rounds rounds ++ dropped_replies ending
   pub passed : Passed port port' (all_passing port.addresses rounds ending)

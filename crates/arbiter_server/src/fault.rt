@@ -1,4 +1,4 @@
-//! Why a game isn't open, and that a store is lost.
+//! Why a game isn't open, and why what games keep isn't committed.
 
 ghost use Rattle.std.specs.Prelude.{◌≡◌};
 ghost use Rattle.arbiter_server.specs.Told.{unopened_by};
@@ -22,9 +22,16 @@ pub enum OpenGameError {
     OutOfMemory,
 }
 
-/// What games keep could not be committed.
+/// Why what games keep isn't committed.
 #[derive(Clone, Copy, Debug, PartialEq, Eq)]
-pub struct Uncommitted;
+pub enum Uncommitted {
+    /// The store can't be written. No more can be committed.
+    StoreLost,
+    /// Memory was refused to note what a game keeps. No more can be committed.
+    NotNoted,
+    /// Memory was refused to commit it. It stays noted, and may be committed later.
+    OutOfMemory,
+}
 
 impl OpenGameError {
     /// What is told of a game whose arbiter can't be opened.

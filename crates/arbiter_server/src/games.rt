@@ -64,7 +64,8 @@ pub trait Games {
         ensures others { GivesOthers stamp (facts.gives self.old) (facts.gives self.new) }
         ensures place { facts.place self.new ≡ facts.place self.old };
 
-    /// Commits what was noted: from then on a start finds what is given here. No answer to a datagram goes out before.
+    /// Commits what was noted: from then on a start finds what is given here. No answer to a datagram goes out before. Where memory alone
+    /// is refused, it stays noted.
     fn commit(&mut self) -> Result<(), Uncommitted>
         ensures kept { OnOk result (GivesLess (facts.gives self.new) (facts.finds self.new)) }
         ensures same { GivesLess (facts.gives self.old) (facts.gives self.new) }

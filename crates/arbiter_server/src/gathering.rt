@@ -6,9 +6,11 @@ ghost use Rattle.system_io.specs.Ports.{Came, Missed, Passed, Quiet};
 ghost use Rattle.arbiter_server.specs.GoingOut.{writers};
 ghost use Rattle.arbiter_server.specs.LineLogs.{Remembers};
 ghost use Rattle.arbiter_server.specs.Servers.{Stays};
-ghost use Rattle.arbiter_server.specs.Turns.{GathersFrom, HearsOneFrom, LogsLines, answer_lines, answers_sent, receiving};
+ghost use Rattle.arbiter_server.specs.Turns.{GathersFrom, HearsOneFrom, LogsLines, answer_line, answer_lines, answers_sent, receiving};
+ghost use Rattle.arbiter_server.specs.Told.{line_words};
 
 use crate::games::Games;
+use crate::line::Line;
 use crate::line_log::LineLog;
 use crate::open_games::OpenGames;
 use crate::serving::send_all;
@@ -102,16 +104,28 @@ pub(crate) fn send_answers<P: Port>(port: &mut P, answers: &[Held])
     }
 }
 
-/// Writes the line of each answer where it is one that is written, in order, up to one that can't be.
+/// The line that is told of an answer, which is sent or withheld.
+fn told_line(held: &Held, is_sent: bool) -> Line
+    ensures { line_words result ≡ answer_line is_sent held.now }
+{
+    if is_sent {
+        held.answered.line
+    } else {
+        held.answered.line.withheld()
+    }
+}
+
+/// Writes the line of each answer, which is sent or withheld, where it is one that is written, in order, up to one that can't be.
 pub(crate) fn tell_answers<W: Output>(
     log: &mut LineLog,
     out: &mut W,
     answers: &[Held],
+    are_sent: bool,
 ) -> Result<(), WriteFault>
-    ensures { (before : List (List ℕ)) → Remembers log.old before → LogsLines (writers W.Write.contents W.facts) before log.old log.new (answer_lines answers.now) out.old out.new result }
+    ensures { (before : List (List ℕ)) → Remembers log.old before → LogsLines (writers W.Write.contents W.facts) before log.old log.new (answer_lines are_sent answers.now) out.old out.new result }
 {
     for held in answers {
-        match log.tell(out, held.answered.line) {
+        match log.tell(out, told_line(held, are_sent)) {
             Ok(()) => {}
             Err(fault) => return Err(fault),
         }

@@ -5,7 +5,7 @@ ghost use Rattle.arrayvec.specs.ArrayVec.{array_vec_len};
 ghost use Rattle.hex.specs.Hex.{encode_lower};
 ghost use Rattle.move_msg.specs.TextLines.{ended};
 ghost use Rattle.arbiter_server.specs.LineLogs.{common, line_kind, place_in};
-ghost use Rattle.arbiter_server.specs.Told.{line_words, stamped, unopened_words};
+ghost use Rattle.arbiter_server.specs.Told.{line_words, stamp_in_line, stamped, unopened_words, withheld_words};
 
 use crate::datagram_report::DatagramReport;
 use crate::fault::OpenGameError;
@@ -25,8 +25,10 @@ pub(crate) enum Line {
     Unread(MessageFault),
     /// None can be received.
     PortLost,
-    /// What games keep can't be committed.
+    /// What games keep can't be committed, since the store can't be written,
     StoreLost,
+    /// or since memory was refused to note it.
+    MemoryLost,
 }
 
 /// The bytes of a line, with its line feed. They take no memory, so that no line is lost for want of it.
@@ -159,7 +161,19 @@ impl Line {
             Line::Answered(stamp, _heard) => open_kind(stamp),
             Line::Unopened(stamp, why) => unopened_kind(stamp, why),
             Line::Unread(fault) => Some(unread_kind(fault)),
-            Line::PortLost | Line::StoreLost => None,
+            Line::PortLost | Line::StoreLost | Line::MemoryLost => None,
+        }
+    }
+
+    /// What is told of a datagram whose answer is withheld, since memory was refused to commit what its game keeps.
+    pub(crate) fn withheld(self) -> Line
+        ensures { line_words result ≡ withheld_words (stamp_in_line self) (line_words self) }
+    {
+        match self {
+            Line::Answered(stamp, _) | Line::Unopened(stamp, _) => {
+                Line::Unopened(stamp, OpenGameError::OutOfMemory)
+            }
+            Line::Unread(_) | Line::PortLost | Line::StoreLost | Line::MemoryLost => self,
         }
     }
 
@@ -173,6 +187,7 @@ impl Line {
             Line::Unread(fault) => unread_line(fault),
             Line::PortLost => joined(DatagramReport::PortLost.line().as_str().as_bytes(), b""),
             Line::StoreLost => joined(b"refused store\n", b""),
+            Line::MemoryLost => joined(b"refused memory\n", b""),
         }
     }
 }

@@ -1,13 +1,15 @@
 //! The games that are open, with their tables and their folder.
 
-ghost use Rattle.std.specs.Prelude.{◌≡◌, ◌<◌, ◌≤◌, [], ℕ, List, None, length, IfOk, IfErr, OnOk, OnErr};
+ghost use Rattle.std.specs.Prelude.{◌≡◌, ◌<◌, ◌≤◌, [], ℕ, List, None, Some, length, IfOk, IfErr, OnOk, OnErr};
 ghost use Rattle.move_msg.specs.Messages.{stamp_in};
 ghost use Rattle.system_io.specs.Histories.{Passes};
 ghost use Rattle.arbiter_core.specs.Setups.{terms_with};
+ghost use Rattle.arbiter_server.specs.Acts.{stamp_for};
 ghost use Rattle.arbiter_server.specs.Games.{common_with};
 ghost use Rattle.arbiter_server.specs.Room.{at_stamp};
 ghost use Rattle.arbiter_server.specs.Seats.{IsOpenGame};
 ghost use Rattle.arbiter_server.specs.Servers.{IsIdle, IsNewServer, Stays};
+ghost use Rattle.arbiter_server.specs.Told.{stamp_in_line};
 ghost use Rattle.arbiter_server.specs.Turns.{ComesBack, OpensFor, OpensFound, OpensOneGame, TriesFor, TriesFound, TriesOneGame, lent};
 ghost use Rattle.arbiter_server.specs.Turns.{AnswersInHand, AnswersMessage, IsKept, MakesAnd, Refuses, RepliesSo, ShutsAnyhow, TakesOneGame, TurnsTo, datagram_reply};
 
@@ -173,6 +175,7 @@ impl<'a, G: Games + Drop> OpenGames<'a, G> {
         requires seated { IsOpenGame G.Keeper.facts self.old.common.set seat }
         ensures stays { Stays G.facts self.old self.new }
         ensures answers { AnswersInHand G.Keeper.facts G.facts self.old seat.entry message.now self.new result }
+        ensures of { stamp_in_line result.line ≡ Some (stamp_in message.now) }
     {
         let stamp = message.stamp();
         let mut seat = seat;
@@ -190,6 +193,7 @@ impl<'a, G: Games + Drop> OpenGames<'a, G> {
     fn answer(&mut self, history: &mut G::History, message: &Message) -> Answered
         ensures stays { Stays G.facts self.old self.new }
         ensures answers { MakesAnd G.facts G.made self.old.games history.old history.new (AnswersMessage G.Keeper.facts G.facts self.old message.now self.new result) }
+        ensures of { stamp_in_line result.line ≡ Some (stamp_in message.now) }
     {
         match self.seat_for(history, message) {
             Ok(seat) => self.answer_at(seat, message),
@@ -201,6 +205,7 @@ impl<'a, G: Games + Drop> OpenGames<'a, G> {
     pub(crate) fn hear(&mut self, history: &mut G::History, bytes: &[u8]) -> Answered
         ensures stays { Stays G.facts self.old self.new }
         ensures turns { MakesAnd G.facts G.made self.old.games history.old history.new (RepliesSo G.Keeper.facts G.facts self.old self.new (datagram_reply bytes.now result)) }
+        ensures of { stamp_in_line result.line ≡ stamp_for bytes.now }
     {
         match Message::decode(bytes) {
             Ok(message) => self.answer(history, &message),

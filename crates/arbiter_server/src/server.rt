@@ -1,14 +1,16 @@
 //! A server of games: the games that are open, and a round of datagrams after another.
 
-ghost use Rattle.std.specs.Prelude.{◌≡◌, ◌<◌, ◌≤◌, [], IfOk};
+ghost use Rattle.std.specs.Prelude.{◌≡◌, ◌<◌, ◌≤◌, [], ℕ, List, IfOk, cond, length};
+ghost use Rattle.system_io.specs.Ports.{Passed};
 ghost use Rattle.arbiter_server.specs.Games.{common_with};
 ghost use Rattle.arbiter_server.specs.GoingOut.{writers};
 ghost use Rattle.arbiter_server.specs.LineLogs.{Remembers};
 ghost use Rattle.arbiter_server.specs.Servers.{HostsFor, IsIdle, IsNewServer, Stays, at, given};
 ghost use Rattle.arbiter_server.specs.Told.{line_words};
-ghost use Rattle.arbiter_server.specs.Turns.{OneRound, ServesOn, TellsLoss};
+ghost use Rattle.arbiter_server.specs.Turns.{LogsLines, OneRound, ServesOn, TellsLoss, answer_lines, answers_sent};
 
 use crate::config::ServerConfig;
+use crate::fault::Uncommitted;
 use crate::games::Games;
 use crate::gathering::{Held, gather, send_answers, tell_answers};
 use crate::line::Line;
@@ -38,6 +40,27 @@ fn tell_loss<W: Output>(
 {
     match log.tell(out, line) {
         Ok(()) => Ok(AfterRound::Stops),
+        Err(fault) => Err(fault),
+    }
+}
+
+/// Sends the answers of a round, or withholds them, and writes their lines.
+fn conclude<P: Port, W: Output>(
+    port: &mut P,
+    log: &mut LineLog,
+    out: &mut W,
+    answers: &[Held],
+    are_sent: bool,
+) -> Result<AfterRound, WriteFault>
+    ensures passed { Passed (P.facts port.old) (P.facts port.new) (cond are_sent (answers_sent (P.facts port.old).addresses answers.now) []) }
+    ensures told { (before : List (List ℕ)) → Remembers log.old before → LogsLines (writers W.Write.contents W.facts) before log.old log.new (answer_lines are_sent answers.now) out.old out.new result }
+    ensures goes { IfOk result (λ after. after ≡ AfterRound.GoesOn (length answers.now)) }
+{
+    if are_sent {
+        send_answers(port, answers);
+    }
+    match tell_answers(log, out, answers, are_sent) {
+        Ok(()) => Ok(AfterRound::GoesOn(answers.len())),
         Err(fault) => Err(fault),
     }
 }
@@ -86,7 +109,7 @@ impl<'a, G: Games + Drop> Server<'a, G> {
     }
 
     /// Answers the datagrams of a round, and writes their lines. What their games keep is committed before any answer goes out: where
-    /// that fails none does.
+    /// that fails none does, and where memory alone was refused for it the run goes on.
     fn round<P: Port, W: Output>(
         &mut self,
         history: &mut G::History,
@@ -103,13 +126,11 @@ impl<'a, G: Games + Drop> Server<'a, G> {
         if !gather(&mut self.games, history, port, n, &mut self.answers) {
             return tell_loss(log, out, Line::PortLost);
         }
-        if self.games.commit().is_err() {
-            return tell_loss(log, out, Line::StoreLost);
-        }
-        send_answers(port, &self.answers);
-        match tell_answers(log, out, &self.answers) {
-            Ok(()) => Ok(AfterRound::GoesOn(self.answers.len())),
-            Err(fault) => Err(fault),
+        match self.games.commit() {
+            Ok(()) => conclude(port, log, out, &self.answers, true),
+            Err(Uncommitted::OutOfMemory) => conclude(port, log, out, &self.answers, false),
+            Err(Uncommitted::StoreLost) => tell_loss(log, out, Line::StoreLost),
+            Err(Uncommitted::NotNoted) => tell_loss(log, out, Line::MemoryLost),
         }
     }
 
@@ -149,8 +170,10 @@ impl<'a, G: Games + Drop> Server<'a, G> {
     /// game, in 32 lower-case hexadecimal digits: then comes what `serve` tells, or why the game isn't open, `refused NotOpen`,
     /// `refused NoGame`, `refused OtherGame`, `refused game` and a line of its file, `refused keeper` or `refused memory`. For bytes
     /// that are no message it is `- refused NotAMessage` and what is wrong with them. No refusal ends the run: a game whose keeper failed
-    /// is closed, and opened again over its file when its next move or request comes. Where no datagram can be received the line is
-    /// `refused port`, and where what the games of a round keep can't be committed it is `refused store`; the status is 1 then.
+    /// is closed, and opened again over its file when its next move or request comes. Where memory is refused to commit what the games of
+    /// a round keep, no answer of it goes out, and of each of its messages `refused memory` is told: what they keep is committed with a
+    /// later round. Where no datagram can be received the line is `refused port`, where the store can't be written it is `refused store`,
+    /// and where memory was refused to note what a game keeps, `refused memory` without a stamp; the status is 1 then.
     ///
     /// The history is lent to take keepers, and nothing else is made: where a game is opened, or is to be, its keeper is taken once. No
     /// more games are open than `at_once` of the configuration says, but that one more is opened before one is closed for it.

@@ -30,7 +30,7 @@ module _ {D : Type 0} {g : Ghosts D} where
   leaves_games files (left.Unopened now) h = h
   leaves_games files (left.Store now) h = λ found may db held games has. subst (λ (t : Trees). HoldsGames t games) (sym ((h found may).1 db held)) has
 
-pub finds_batch : (was now : Records) (entries : List Entry) (r : Result (Unit {0}) DatabaseFault) (db : Trees) → OnOk r (AreSame now (with_all was entries))
+pub finds_batch : {E : Type 0} (was now : Records) (entries : List Entry) (r : Result (Unit {0}) E) (db : Trees) → OnOk r (AreSame now (with_all was entries))
     → OnOk r (HoldsGames db now) → HoldsGames db was ⊎ HoldsGames db (with_all was entries) → FindsBatch was entries r db
 finds_batch was now entries (Ok done) db same has either = holds_same db now (with_all was entries) (λ stamp. sym (same stamp)) has
 finds_batch was now entries (Err e) db same has either = either

@@ -11,7 +11,6 @@ use Rattle.sqlite.specs.declared.file.Leftover.TheVariants as left
 use Rattle.sqlite.specs.Files.{AreFoundIn, HoldsDatabase, LeavesFiles, image_of}
 use Rattle.sqlite.specs.Closing.{HoldsAlone}
 use Rattle.system_io.specs.declared.record_store.Entry.{Entry}
-use Rattle.game_store.specs.declared.fault.DatabaseFault.{DatabaseFault}
 use Rattle.system_io.specs.Records.{Records, with_all, AreSame}
 use Rattle.game_store.specs.Shelves.{HoldsBatchOrNot, HoldsGames, KeepsGames}
 
@@ -29,7 +28,7 @@ pub record HoldsGamesAlone (image : Image) (games : Records) : Type 0 where
   pub holds : HoldsGames trees games
 
 -- a batch is there, or it was not acknowledged and the games are as they were
-abbrev pub FindsBatch : Records → List Entry → Result (Unit {0}) DatabaseFault → Trees → Type 0
+abbrev pub FindsBatch : {E : Type 0} → Records → List Entry → Result (Unit {0}) E → Trees → Type 0
 FindsBatch games entries (Ok done) db = HoldsGames db (with_all games entries)
 FindsBatch games entries (Err e) db = HoldsBatchOrNot games entries db
 

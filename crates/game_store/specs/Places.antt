@@ -1,5 +1,6 @@
 -- Where stores are opened, and which games two files hold (this project's own).
-use Rattle.std.specs.Prelude.{◌≡◌, ℕ, List, IsTrue, ⊤}
+use Rattle.std.specs.Prelude.{◌≡◌, ℕ, Bool, true, false, List, Vec, IsTrue, ⊤}
+use Rattle.std.specs.Global.{Global}
 use Rattle.sqlite.specs.declared.error.Error.TheVariants.{SqliteFailure}
 use Rattle.sqlite.specs.declared.error.ErrorCode.TheVariants as code
 use Rattle.sqlite.specs.Files.{over_files}
@@ -11,6 +12,9 @@ use Rattle.sqlite_store.specs.declared.store.FileStore.{FileStore}
 use Rattle.sqlite_wal.specs.Recovery.{Image}
 use Rattle.system_io.specs.declared.record_store.StoreFault.{StoreFault}
 use Rattle.system_io.specs.declared.record_store.StoreFault.TheVariants.{OutOfMemory, Unreadable}
+use Rattle.system_io.specs.declared.record_store.Entry.{Entry}
+use Rattle.system_io.specs.declared.record_store.PutFault.{PutFault}
+use Rattle.system_io.specs.declared.record_store.PutFault.TheVariants as put
 use Rattle.system_io.specs.Records.{StorePlaces}
 use Rattle.game_store.specs.declared.fault.DatabaseFault.{DatabaseFault}
 use Rattle.game_store.specs.declared.fault.DatabaseFault.TheVariants.{Sqlite}
@@ -48,6 +52,12 @@ copies_fault_of (Sqlite (SqliteFailure code.SystemIoFailure)) = OutOfMemory
 copies_fault_of (Sqlite (SqliteFailure code.DiskFull)) = OutOfMemory
 copies_fault_of (Sqlite (SqliteFailure code.Closed)) = OutOfMemory
 copies_fault_of fault = store_fault_of fault
+
+-- a batch is not put for want of memory where that was the fault, and the store goes on
+abbrev pub put_fault_of : StoreFault → Bool → Vec Entry Global → PutFault
+put_fault_of OutOfMemory true batch = put.OutOfMemory batch
+put_fault_of OutOfMemory false batch = put.Failed
+put_fault_of Unreadable goes_on batch = put.Failed
 
 -- a database file and its log in memory, with these bytes
 pub record HaveBytes (db log : List ℕ) (files : Files Memory) : Type 0 where

@@ -68,7 +68,10 @@ impl<D: Disk + Drop> Store<FileStore<D>> {
 
     /// Puts a batch and stops without a close. Read with the crash argument of the log (a stop in the middle of a call is a disk of
     /// which each call fails from then on) it speaks of a stop and of a loss of power at any moment of the call.
-    pub fn put_and_stop(self, entries: Vec<Entry>) -> (Result<(), DatabaseFault>, FileStore<D>)
+    pub fn put_and_stop(
+        self,
+        entries: Vec<Entry>,
+    ) -> (Result<(), (DatabaseFault, Vec<Entry>)>, FileStore<D>)
         requires { IsOpen over_files self }
         // The next opening finds the whole batch, or, unless it was acknowledged, the games as they were.
         ensures { IsClean (view result.1) → NextOpenFinds result.1 (FindsBatch (committed over_files self) entries.items result.0) }

@@ -8,7 +8,7 @@
 //!
 //! - `store`: the store (`Store`); `files`: a store over two files; `fault`: why something fails
 //! - `sqlite_stores`: where stores are opened, and how their files are read (`SqliteStores`); `machine_stores`: the same under the short
-//!   names that `main` passes on (`MachineStores`)
+//!   names that `main` passes on (`MachineStores`); `store_file`: whether the file of an open store was replaced
 //! - `memory`: the games in memory; `tables`: what tables a database has; `reading`: an opening; `writing`: a batch; `store_tests`: stops
 //!   and losses of power
 //!
@@ -31,6 +31,7 @@
 //!   alone has the games, after a stop the next opening finds what the store could be left with.
 //! - CLAIM: `Store::put_and_stop`: whatever of the two files a stop or a loss of power leaves, the next opening finds the whole batch,
 //!   or, only where it was not acknowledged, the games as they were.
+//! - CLAIM: `Store::put_all`, clause `refused`: where memory alone was refused, the store goes on as it was, and the batch comes back.
 //! - CLAIM: `SqliteStores`: an opened store has the games that its two files held, and a start finds them; the
 //!   games that are read of two files are those that an opening over these bytes finds. No clause ties an opened store to its path, or
 //!   says when it is refused.
@@ -43,6 +44,7 @@ mod memory;
 mod reading;
 mod sqlite_stores;
 mod store;
+mod store_file;
 #[cfg(test)]
 mod store_tests;
 mod tables;

@@ -4,9 +4,10 @@ ghost use Rattle.game_store.specs.Places.{stores_within};
 
 use crate::sqlite_stores::{AnyFiles, SqliteStores};
 use crate::store::Store;
+use crate::store_file::StoreFile;
 use sqlite::{FileFrom, FileStore};
 use std::alloc::Global;
-use system_io::{Entry, Key, RecordStore, StoreFailed, StoreFault, Stores};
+use system_io::{Entry, Key, PutFault, RecordStore, StoreFault, Stores};
 
 /// A database at a path.
 type Database = Store<FileStore<FileFrom<AnyFiles>>>;
@@ -14,20 +15,26 @@ type Database = Store<FileStore<FileFrom<AnyFiles>>>;
 /// Where such databases are.
 type Databases<'r> = SqliteStores<'r, AnyFiles>;
 
-/// A store at a path of this machine.
+/// A store at a path of this machine. It puts nothing where another file has taken the place of its database, as far as the path was
+/// looked at: before a put, at most once a second.
 #[derive(Drop)]
-pub struct MachineStore {
+pub struct MachineStore<'r> {
     database: Database,
+    file: StoreFile<'r>,
 }
 
-impl RecordStore for MachineStore {
+impl<'r> RecordStore for MachineStore<'r> {
     ghost facts = { λ s. ⟦<Database as RecordStore>⟧.facts s.database };
 
     fn find(&self, stamp: &Key) -> Option<&[u8]> {
         self.database.find(stamp)
     }
 
-    fn put_all(&mut self, entries: Vec<Entry>) -> Result<(), StoreFailed> {
+    fn put_all(&mut self, entries: Vec<Entry>) -> Result<(), PutFault> {
+        if self.file.is_replaced() {
+            self.file.note_replaced();
+            return Err(PutFault::Failed);
+        }
         self.database.put_all(entries)
     }
 }
@@ -35,6 +42,7 @@ impl RecordStore for MachineStore {
 /// The stores of this machine, as `SqliteStores` has them over files of which nothing is known.
 #[derive(Drop)]
 pub struct MachineStores<'r> {
+    rt: &'r HostRuntime,
     databases: Databases<'r>,
 }
 
@@ -42,20 +50,25 @@ impl<'r> MachineStores<'r> {
     /// The stores of this machine.
     pub fn new(rt: &'r HostRuntime) -> MachineStores<'r> {
         MachineStores {
+            rt,
             databases: SqliteStores::new(rt, AnyFiles),
         }
     }
 }
 
 impl<'r> Stores for MachineStores<'r> {
-    type Store = MachineStore;
+    type Store = MachineStore<'r>;
 
     ghost facts = { λ m. stores_within (λ s. s.database) (⟦<Databases<'r> as Stores>⟧.facts m.databases) };
 
-    fn open(&self, alloc: Global, path: &str) -> Result<MachineStore, StoreFault> {
-        match self.databases.open(alloc, path) {
-            Ok(database) => Ok(MachineStore { database }),
-            Err(fault) => Err(fault),
+    fn open(&self, alloc: Global, path: &str) -> Result<MachineStore<'r>, StoreFault> {
+        let database = match self.databases.open(alloc, path) {
+            Ok(database) => database,
+            Err(fault) => return Err(fault),
+        };
+        match StoreFile::at(self.rt, alloc, path) {
+            Ok(file) => Ok(MachineStore { database, file }),
+            Err(_) => Err(StoreFault::OutOfMemory),
         }
     }
 

@@ -106,7 +106,7 @@ fn plain_path(alloc: Global, path: &str) -> Result<String, AllocError>
 }
 
 /// What is told of a store that can't be had.
-fn told(fault: DatabaseFault) -> StoreFault
+pub(crate) fn told(fault: DatabaseFault) -> StoreFault
     ensures { result ≡ store_fault_of fault }
 {
     match fault {

@@ -1,20 +1,22 @@
 //! The store of a folder of games.
 
-ghost use Rattle.std.specs.Prelude.{◌≡◌, IfOk, IfErr, OnOk, OnErr, map, option_map};
+ghost use Rattle.std.specs.Prelude.{◌≡◌, IfOk, IfErr, IsTrue, OnOk, OnErr, map, option_map};
 ghost use Rattle.sqlite.specs.State.{HasCleanDisk, Survives};
 ghost use Rattle.sqlite.specs.Held.{state};
 ghost use Rattle.system_io.specs.Records.{AreSame, records_of, with_all};
 ghost use Rattle.game_store.specs.Listing.{ListsGames, as_listed};
+ghost use Rattle.game_store.specs.Places.{put_fault_of, store_fault_of};
 ghost use Rattle.game_store.specs.Shelves.{HoldsBatchOrNot, HoldsGames, IsOpen, IsTrusted, KeepsCommitted, Leaves, committed, database, remembered};
 
 use crate::fault::DatabaseFault;
 use crate::memory::{Kept, Memory, entries_of};
 use crate::reading::prepare;
-use crate::writing::put;
+use crate::sqlite_stores::told;
+use crate::writing::{put, takes_more};
 use sqlite::{Alter, Connection};
 use std::alloc::{AllocError, Global};
 use std::marker::Model;
-use system_io::{Entry, Key, RecordStore, StoreFailed};
+use system_io::{Entry, Key, PutFault, RecordStore, StoreFault};
 
 /// The records of all games of a folder, in a database and in memory.
 pub struct Store<S: Alter> {
@@ -97,8 +99,8 @@ impl<S: Alter> Store<S> {
     }
 
     /// Puts all records or none, by one commit. The record of a game stands in place of the one before, and of two in one batch the
-    /// later one. An error may shut the store: it is then opened again.
-    pub fn put_batch(&mut self, entries: Vec<Entry>) -> Result<(), DatabaseFault>
+    /// later one. An error may shut the store: it is then opened again. The batch comes back with it.
+    pub fn put_batch(&mut self, entries: Vec<Entry>) -> Result<(), (DatabaseFault, Vec<Entry>)>
         // At `Ok` each entry is committed, in turn, and what is kept of all other games is as before,
         ensures all { IsTrusted S.Store self.new → OnOk result (AreSame (committed S.Store self.new) (with_all (committed S.Store self.old) entries.items)) }
         ensures open { IsTrusted S.Store self.new → OnOk result (IsOpen S.Store self.new) }
@@ -106,6 +108,7 @@ impl<S: Alter> Store<S> {
         // and after an error that leaves the store open, nothing is.
         ensures none { IsTrusted S.Store self.new → IsOpen S.Store self.new → OnErr result (AreSame (committed S.Store self.new) (committed S.Store self.old)) }
         ensures same { OnErr result (AreSame (remembered self.new) (remembered self.old)) }
+        ensures back { IfErr result (λ e. e.1.items ≡ entries.items) }
         // Memory has what is committed, before and after.
         ensures had { IsTrusted S.Store self.old → IsOpen S.Store self.old → AreSame (remembered self.old) (committed S.Store self.old) }
         ensures has { IsTrusted S.Store self.new → IsOpen S.Store self.new → AreSame (remembered self.new) (committed S.Store self.new) }
@@ -116,15 +119,41 @@ impl<S: Alter> Store<S> {
         ensures crash { Survives (database S.Store self.old) (database S.Store self.new) (λ db. IsOpen S.Store self.old → HoldsGames db (with_all (committed S.Store self.old) entries.items)) }
         ensures lasts { IsTrusted S.Store self.new → IsOpen S.Store self.new → Leaves S.Store self.new (λ db. HoldsGames db (committed S.Store self.new)) }
     {
-        self.memory.add_all(&entries)?;
+        match self.memory.add_all(&entries) {
+            Ok(()) => {}
+            Err(fault) => return Err((fault, entries)),
+        }
         prove!(self.conn.is_autocommit());
         match put(&mut self.conn, &self.memory, &entries) {
             Ok(()) => {
                 self.memory.keep_all(entries);
                 Ok(())
             }
-            Err(error) => Err(DatabaseFault::Sqlite(error)),
+            Err(error) => Err((DatabaseFault::Sqlite(error), entries)),
         }
+    }
+
+    /// Whether the store goes on after a batch that could not be put.
+    fn goes_on(&mut self) -> bool
+        ensures open { IsTrusted S.Store self.new → IsTrue result → IsOpen S.Store self.new }
+        ensures was { IsTrusted S.Store self.new → IsOpen S.Store self.new → IsOpen S.Store self.old }
+        ensures none { IsTrusted S.Store self.new → IsOpen S.Store self.new → AreSame (committed S.Store self.new) (committed S.Store self.old) }
+        ensures same { AreSame (remembered self.new) (remembered self.old) }
+        ensures has { IsTrusted S.Store self.new → IsOpen S.Store self.new → AreSame (remembered self.new) (committed S.Store self.new) }
+        ensures crash { Survives (database S.Store self.old) (database S.Store self.new) (λ _. ⊥) }
+        ensures lasts { IsTrusted S.Store self.new → IsOpen S.Store self.new → Leaves S.Store self.new (λ db. HoldsGames db (committed S.Store self.new)) }
+    {
+        takes_more(&mut self.conn)
+    }
+}
+
+/// What is told of a batch that was not put: want of memory where that was the fault and the store goes on.
+fn told_of_put(fault: DatabaseFault, goes_on: bool, batch: Vec<Entry>) -> PutFault
+    ensures { result ≡ put_fault_of (store_fault_of fault) goes_on batch }
+{
+    match (told(fault), goes_on) {
+        (StoreFault::OutOfMemory, true) => PutFault::OutOfMemory(batch),
+        _ => PutFault::Failed,
     }
 }
 
@@ -137,10 +166,10 @@ impl<S: Alter> RecordStore for Store<S> {
         self.record_of(stamp)
     }
 
-    fn put_all(&mut self, entries: Vec<Entry>) -> Result<(), StoreFailed> {
+    fn put_all(&mut self, entries: Vec<Entry>) -> Result<(), PutFault> {
         match self.put_batch(entries) {
             Ok(()) => Ok(()),
-            Err(_) => Err(StoreFailed),
+            Err((fault, batch)) => Err(told_of_put(fault, self.goes_on(), batch)),
         }
     }
 }

@@ -92,3 +92,17 @@ pub(crate) fn put<S: Alter>(
     put_each(&mut tx, memory, entries)?;
     tx.commit()
 }
+
+/// Whether a database still takes a statement, after one that failed.
+pub(crate) fn takes_more<S: Alter>(conn: &mut Connection<S>) -> bool
+    requires outside { conn.old.in_transaction ≡ false }
+    ensures open { HasCleanDisk (state S.Store conn.new) → IsTrue result → IsTrue (state S.Store conn.new).is_open }
+    ensures kept { HasCleanDisk (state S.Store conn.new) → KeepsCommit (state S.Store conn.old) (state S.Store conn.new) }
+    ensures outside { conn.new.in_transaction ≡ false }
+    ensures crash { Survives (state S.Store conn.old) (state S.Store conn.new) (λ _. ⊥) }
+{
+    match conn.prepare("") {
+        Ok(_) => true,
+        Err(_) => false,
+    }
+}

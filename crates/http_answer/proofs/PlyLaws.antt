@@ -23,28 +23,28 @@ use Rattle.http_answer.specs.Inside.{AddsGame, AddsMoves, AddsNext, AddsPlies, A
 module _ (disk : DiskFacts) (folder : Folder) (start : Parts) (moves : List Move) (before : Written) where
   -- of the plies after moves, all up to this position are written; whatever plies come after the rest, all of them are the plies after all moves
   pub record SoFar (p : Parts) (rest : List Move) (now : Written) : Type 0 where
-    pub told : List Token
-    pub written : AddsTokens before now told
-    pub goes : (ts : List Ply) → GoesOn disk folder p rest ts → (us : List Ply) × GoesOn disk folder start moves us × (plies_tokens us ≡ told ++ plies_tokens ts)
+    pub so_far : List Token
+    pub written : AddsTokens before now so_far
+    pub goes : (ts : List Ply) → GoesOn disk folder p rest ts → (us : List Ply) × GoesOn disk folder start moves us × (plies_tokens us ≡ so_far ++ plies_tokens ts)
 
   pub at_start : SoFar start moves before
-  at_start = record { told = []; written = no_tokens before; goes = λ ts h. (ts, h, refl) }
+  at_start = record { so_far = []; written = no_tokens before; goes = λ ts h. (ts, h, refl) }
 
   -- one ply more
   pub one_more : (p next : Parts) (rest tail : List Move) (m : Move) (now new : Written) → rest ≡ m ∷ tail → SoFar p rest now → AddsNext disk folder p m now new next → SoFar next tail new
   one_more p next rest tail m now new front h (t, is, at, wrote) = record {
-    told = h.told ++ json_tokens (ply_json t);
-    written = both before now new h.told (json_tokens (ply_json t)) h.written wrote;
+    so_far = h.so_far ++ json_tokens (ply_json t);
+    written = both before now new h.so_far (json_tokens (ply_json t)) h.written wrote;
     goes = λ ts on.
         let all = h.goes (t ∷ ts) (subst (λ (ms : List Move). GoesOn disk folder p ms (t ∷ ts)) (sym front) (is, subst (λ (q : Parts). GoesOn disk folder q tail ts) (sym at) on)) in
-        (all.0, all.1, all.2 ∙ sym (append_assoc h.told (json_tokens (ply_json t)) (plies_tokens ts)));
+        (all.0, all.1, all.2 ∙ sym (append_assoc h.so_far (json_tokens (ply_json t)) (plies_tokens ts)));
   }
 
   -- no ply more
   pub no_more : (p : Parts) (rest : List Move) (now : Written) → SoFar p rest now → GoesOn disk folder p rest [] → AddsMoves disk folder start moves before now
   no_more p rest now h on =
       let all = h.goes [] on in
-      (all.0, all.1, record { before = h.written.before; tokens = h.written.tokens ∙ ap (λ l. before.tokens ++ l) (sym (append-nil h.told) ∙ sym all.2) })
+      (all.0, all.1, record { before = h.written.before; tokens = h.written.tokens ∙ ap (λ l. before.tokens ++ l) (sym (append-nil h.so_far) ∙ sym all.2) })
 
   -- there are no moves left
   pub at_end : (p : Parts) (rest : List Move) (now : Written) → SoFar p rest now → rest ≡ [] → AddsMoves disk folder start moves before now

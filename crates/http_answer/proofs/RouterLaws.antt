@@ -1,17 +1,23 @@
 -- What is answered to a request that asks of games.
-use Rattle.std.proofs.Common.{◌≡◌, ◌∙◌, ℕ, true, false, List, Option, Some, sym, subst, inl, inr}
-use Rattle.std.specs.Prelude.{IfErr, IfOk, Result, Ok, Err, codes, is_some}
+use Rattle.std.proofs.Common.{◌≡◌, ◌∙◌, ℕ, true, false, List, Option, Some, ap, sym, subst}
+use Rattle.std.specs.Prelude.{Err, Ok, OnOk, Result, codes, is_ok, is_some}
 use Rattle.std.specs.Str.{bytes_eq}
 use Rattle.std.proofs.lemmas.Bool.{false≢true}
 use Rattle.http_server.specs.declared.response.Response.{Response}
 use Rattle.http_server.specs.Response.{IsResponse}
 use Rattle.system_io.specs.Disks.{DiskFacts}
 use Rattle.system_io.specs.Records.{StorePlaces}
-use Rattle.table_folder.specs.Folders.{Folder}
+use Rattle.table_folder.specs.Folders.{Folder, FolderOn}
+use Rattle.game_status.specs.declared.report.ReportForm.TheVariants.{Json as AsJson, Metrics as AsMetrics}
 use Rattle.game_status.specs.declared.one_game.GameFound.{GameFound}
-use Rattle.game_status.specs.declared.report.ReportForm.{ReportForm}
-use Rattle.http_answer.specs.Games.{AskedOfGames, AsksBelow, AsksOfGames, AsksOfThese, ForGames, ForMetrics, ForMore, ForWatch, Found, GamesOn, HasGame, HasReport, IsFoundGame, IsReportText, LacksGames, fresh_json, is_games, is_watch}
-use Rattle.http_answer.specs.Inside.{HasReportText, IsGameText, Report}
+use Rattle.http_answer.specs.Games.{AskedOfGames, AsksBelow, AsksOfGames, AsksOfThese, ForGames, ForMetrics, ForMore, ForWatch, Found, GamesOn, HasGame, IsFoundGame, fresh_json, is_games, is_watch}
+use Rattle.http_answer.specs.Games.{GamesByClock, IsByAction, MayAnswer}
+use Rattle.http_answer.specs.Games.AskedOfGames.{Games, Metrics, Game, NoStamp, Watch}
+use Rattle.http_answer.specs.Inside.{IsGameText}
+use Rattle.http_answer.specs.declared.router.Router.{Router}
+use Rattle.http_answer.specs.Places.{Action}
+use Rattle.http_answer.specs.Places.Action.{Reads, ListsMethods, IsRefused, IsUnknown}
+use Rattle.http_answer.proofs.ReportLaws.{aged_stays}
 
 -- a path that is none of these
 pub not_asked : (path : List ℕ) → is_games path ≡ false → bytes_eq path (codes "/metrics") ≡ false → is_watch path ≡ false → ((a : AskedOfGames) → AsksBelow path a → ⊥) → (a : AskedOfGames) → AsksOfGames path a → ⊥
@@ -20,18 +26,46 @@ not_asked path games metrics watch lacks a (ForMetrics e is) = false≢true (sym
 not_asked path games metrics watch lacks a (ForWatch e is) = false≢true (sym watch ∙ e)
 not_asked path games metrics watch lacks a (ForMore x y z h) = lacks a h
 
--- a report, or what is lacking
-pub reported : {D H S : Type 0} (facts : D → DiskFacts) (stores : H → StorePlaces S) (on : GamesOn D H) (form : ReportForm) (report : Report) (kind : List ℕ) (r : Response) → IfOk report (λ text. IsReportText facts stores on form text.items) → IfErr report (LacksGames facts stores on)
-    → HasReportText report kind r → HasReport facts stores on form kind r
-reported facts stores on form (Ok text) kind r told lacks has = inl (text.items, told, has)
-reported facts stores on form (Err why) kind r told lacks has = inr (why, lacks, has)
-
 -- the object of a game
-pub tells_found : {D H S : Type 0} (tables : DiskFacts) (folder : Folder) (facts : D → DiskFacts) (stores : H → StorePlaces S) (on : GamesOn D H) (stamp : List ℕ) (g : GameFound) (text : List ℕ) (r : Response) → IsFoundGame facts stores on stamp g
+pub game_found : {D H S : Type 0} (tables : DiskFacts) (folder : Folder) (facts : D → DiskFacts) (stores : H → StorePlaces S) (on : GamesOn D H) (stamp : List ℕ) (g : GameFound) (text : List ℕ) (r : Response) → IsFoundGame facts stores on stamp g
     → IsGameText tables folder (is_some on.other) stamp g text → IsResponse 200 fresh_json text r → HasGame tables folder facts stores on stamp r
-tells_found tables folder facts stores on stamp g text r found (ts, are, whole, back) has =
+game_found tables folder facts stores on stamp g text r found (ts, are, whole, back) has =
     Found text (record { found = g; is_found = found; plies = ts; are_plies = are; is_text = whole; reads_back = back }) has
 
 -- a path that asks for no games
-pub elsewhere : {D H : Type 0} (games : Option (GamesOn D H)) (on : GamesOn D H) (path seen : List ℕ) → games ≡ Some on → seen ≡ path → ((a : AskedOfGames) → AsksOfGames seen a → ⊥) → (a : AskedOfGames) → AsksOfThese games path a → ⊥
-elsewhere {D} {H} games on path seen is at lacks a asks = lacks a (subst (λ (p : List ℕ). AsksOfGames p a) (sym at) (subst (λ (g : Option (GamesOn D H)). AsksOfThese g path a) is asks))
+pub elsewhere : {G : Type 0} (games : Option G) (on : G) (path seen : List ℕ) → games ≡ Some on → seen ≡ path → ((a : AskedOfGames) → AsksOfGames seen a → ⊥) → (a : AskedOfGames) → AsksOfThese games path a → ⊥
+elsewhere {G} games on path seen is at lacks a asks = lacks a (subst (λ (p : List ℕ). AsksOfGames p a) (sym at) (subst (λ (g : Option G). AsksOfThese g path a) is asks))
+
+-- what is so where a call is well
+pub ok_then : {T E P : Type 0} (r : Result T E) → is_ok r ≡ true → OnOk r P → P
+ok_then (Ok x) e p = p
+ok_then (Err y) e p = absurd (false≢true e)
+
+-- ---- the folders of games stay
+
+module _ {D H C S : Type 0} (facts : D → DiskFacts) (stores : H → StorePlaces S) (says : C → Option ℕ → Type 0) (tables : FolderOn D) (was now : GamesByClock D H C) (r : Response) where
+  same_on : now ≡ was → now.on ≡ was.on
+  same_on same = ap (λ (g : GamesByClock D H C). g.on) same
+
+  answered_stays : (a : AskedOfGames) → MayAnswer facts stores says tables a was now r → now.on ≡ was.on
+  answered_stays Games (report, is, has, (time, said, at)) = aged_stays time AsJson was now report at
+  answered_stays Metrics (report, is, has, (time, said, at)) = aged_stays time AsMetrics was now report at
+  answered_stays (Game stamp) (has, same) = same_on same
+  answered_stays NoStamp (has, same) = same_on same
+  answered_stays Watch (has, same) = same_on same
+
+  pub by_action_stays : (action : Action) (a : AskedOfGames) → IsByAction action (MayAnswer facts stores says tables a) was now r → now.on ≡ was.on
+  by_action_stays Reads a h = answered_stays a h
+  by_action_stays ListsMethods a (has, same) = same_on same
+  by_action_stays IsRefused a (has, same) = same_on same
+  by_action_stays IsUnknown a (has, same) = same_on same
+
+-- ---- a router stays
+
+module _ {D H C P F K R I : Type 0} (r : Router D H C P F K R I) where
+  abbrev pub routed : FolderOn D → Option (GamesByClock D H C) → Router D H C P F K R I
+  routed answerer games = record { alloc = r.alloc; answerer = answerer; games = games }
+
+  pub router_same : (a : FolderOn D) (g now : GamesByClock D H C) → a ≡ r.answerer → now ≡ g → r.games ≡ Some g → routed a (Some now) ≡ r
+  router_same a g now tables same is =
+      ap (λ (x : FolderOn D). routed x (Some now)) tables ∙ ap (λ (x : GamesByClock D H C). routed r.answerer (Some x)) same ∙ ap (routed r.answerer) (sym is)

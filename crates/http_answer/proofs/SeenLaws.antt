@@ -9,7 +9,7 @@ use Rattle.json_lines.specs.declared.told.JsonLine.{JsonLine}
 use Rattle.judge_core.specs.Tables.{Tables}
 use Rattle.table_folder.specs.Folders.{Folder, FolderOn}
 use Rattle.table_folder.specs.Settled.{AreSettled, IsSettled}
-use Rattle.http_answer.specs.Games.{GamesOn, IsFoundGame, TellsAlone}
+use Rattle.http_answer.specs.Games.{GamesOn, IsFoundGame, AnswersAlone}
 use Rattle.game_status.specs.declared.one_game.GameFound.{GameFound}
 use Rattle.game_status.specs.OneGame.{IsGameFound}
 use Rattle.game_status.specs.StatusObjects.{AreNamed}
@@ -33,8 +33,8 @@ module _ {S : Type 0} (disk : DiskFacts) (stores : StorePlaces S) (games : List 
 -- ---- tables
 
 -- by a folder, as contracts see it
-pub alone_so : {D : Type 0} (facts : D → DiskFacts) (inside now : FolderOn D) (p : Parts) (l : JsonLine) → inside ≡ now → TellsAlone (facts inside.disk) inside.folder p l → TellsAlone (facts now.disk) now.folder p l
-alone_so {D} facts inside now p l same tells = subst (λ (on : FolderOn D). TellsAlone (facts on.disk) on.folder p l) same tells
+pub alone_so : {D : Type 0} (facts : D → DiskFacts) (inside now : FolderOn D) (p : Parts) (l : JsonLine) → inside ≡ now → AnswersAlone (facts inside.disk) inside.folder p l → AnswersAlone (facts now.disk) now.folder p l
+alone_so {D} facts inside now p l same says = subst (λ (on : FolderOn D). AnswersAlone (facts on.disk) on.folder p l) same says
 
 -- ---- a folder, and a second one if it is named
 

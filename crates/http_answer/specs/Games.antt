@@ -1,6 +1,5 @@
 -- What is answered to a request that asks of games, by folders of games and by tables (this project's own).
-use Rattle.std.specs.Prelude.{◌≡◌, ◌≢◌, ◌⊎◌, ◌++◌, ℕ, Bool, true, false, List, [], ◌∷◌, ◌||◌, Option, Some, None, Result, Ok, Err, Vec, codes, is_some, option_map}
-use Rattle.std.specs.Global.{Global}
+use Rattle.std.specs.Prelude.{◌≡◌, ◌++◌, ◌-◌, ℕ, Bool, true, false, List, [], ◌∷◌, ◌||◌, Option, Some, None, Result, Ok, Err, codes, if◌then◌else◌, is_some, nat_lt, option_map}
 use Rattle.std.specs.Str.{bytes_eq}
 use Rattle.board_core.specs.declared.moves.Move.{Move}
 use Rattle.board_core.specs.declared.parts.Parts.{Parts}
@@ -42,9 +41,10 @@ use Rattle.game_status.specs.StoredDisks.{IsSoOverStore, IsSoOverStores, LacksFo
 use Rattle.table_folder.specs.declared.fault.FileRefusal.{FileRefusal}
 use Rattle.table_folder.specs.Folders.{Folder, FolderOn}
 use Rattle.table_folder.specs.Settled.{AnswersBy, IsAlone, IsRefusedAt}
-use Rattle.http_answer.specs.Replies.{Action, HasMethods, IsReply, RefusesMethod, action_of, an_hour, html_type, kept_for, refused_words, typed}
-use Rattle.http_answer.specs.Replies.Access.{Own}
-use Rattle.http_answer.specs.Replies.Action.{Reads, ListsMethods, IsRefused}
+use Rattle.http_answer.specs.Places.{Action, HasMethods, LacksMethod, RefusesMethod, action_of, an_hour, html_type, kept_for, methods_of, typed}
+use Rattle.http_answer.specs.Places.Action.{Reads, ListsMethods, IsRefused, IsUnknown}
+use Rattle.http_answer.specs.Places.Place.{FoldersOfGames}
+use Rattle.http_answer.specs.Replies.{IsReply, refused_words}
 use Rattle.http_answer.specs.declared.games.GameFolders.{GameFolders}
 use Rattle.http_answer.specs.declared.watch.TheConstants.{WATCH}
 
@@ -76,12 +76,78 @@ pub data LacksGames {D H S : Type 0} (facts : D → DiskFacts) (stores : H → S
 abbrev pub IsReportText : {D H S : Type 0} → (D → DiskFacts) → (H → StorePlaces S) → GamesOn D H → ReportForm → List ℕ → Type 0
 IsReportText facts stores on form text = IsSeen facts stores on (λ d. IsStatusReport (form_of form) d on.games on.other text true)
 
+-- a report, or why there is none
+abbrev pub Report : Type 0
+Report = Result (List ℕ) LackedFolder
+
+abbrev pub IsReport : {D H S : Type 0} → (D → DiskFacts) → (H → StorePlaces S) → GamesOn D H → ReportForm → Report → Type 0
+IsReport facts stores on form (Ok text) = IsReportText facts stores on form text
+IsReport facts stores on form (Err why) = LacksGames facts stores on why
+
+-- ---- the age of a report
+
+-- a report that was read, and when, in nanoseconds of the clock
+pub record KeptReport : Type 0 where
+  pub report : Report
+  pub since : ℕ
+
+-- it is less than a second old
+abbrev pub is_fresh : ℕ → ℕ → Bool
+is_fresh since now = nat_lt (now - since) 1_000_000_000
+
+-- the report that is answered again at this time, if there is one
+abbrev pub fresh_at : Option ℕ → Option KeptReport → Option Report
+fresh_at None kept = None
+fresh_at (Some now) None = None
+fresh_at (Some now) (Some kept) = if is_fresh kept.since now then Some kept.report else None
+
+-- a report is kept with the time, and not where the clock says none
+abbrev pub kept_at : Option ℕ → Report → Option KeptReport
+kept_at None report = None
+kept_at (Some now) report = Some (record { report = report; since = now })
+
+-- folders of games, by a clock, with what is kept of reports in each form
+pub record GamesByClock (D H C : Type 0) : Type 0 where
+  pub on : GamesOn D H
+  pub clock : C
+  pub json : Option KeptReport
+  pub metrics : Option KeptReport
+
+-- of which no report was read yet
+abbrev pub unread_games : {D H C : Type 0} → GamesOn D H → C → GamesByClock D H C
+unread_games on clock = record { on = on; clock = clock; json = None; metrics = None }
+
+-- what is kept in this form; and the same games with this kept in it
+abbrev pub kept_by : {D H C : Type 0} → ReportForm → GamesByClock D H C → Option KeptReport
+kept_by AsJson g = g.json
+kept_by AsMetrics g = g.metrics
+
+abbrev pub with_kept : {D H C : Type 0} → ReportForm → Option KeptReport → GamesByClock D H C → GamesByClock D H C
+with_kept AsJson kept g = record { on = g.on; clock = g.clock; json = kept; metrics = g.metrics }
+with_kept AsMetrics kept g = record { on = g.on; clock = g.clock; json = g.json; metrics = kept }
+
+-- The report in this form at this time: the one that is kept, if that is less than a second old; and else one that is read, and kept with
+-- the time.
+pub data IsReportAt {D H C : Type 0} (now : Option ℕ) (form : ReportForm) (old new : GamesByClock D H C) (report : Report) : Type 0 where
+  Again : fresh_at now (kept_by form old) ≡ Some report → new ≡ old → IsReportAt now form old new report
+  Anew : fresh_at now (kept_by form old) ≡ None → new ≡ with_kept form (kept_at now report) old → IsReportAt now form old new report
+
+-- it is so at a time that the clock says
+abbrev pub IsAged : {D H C : Type 0} → (C → Option ℕ → Type 0) → ReportForm → GamesByClock D H C → GamesByClock D H C → Report → Type 0
+IsAged says form old new report = (now : Option ℕ) × says old.clock now × IsReportAt now form old new report
+
+-- ---- one game
+
 -- what is found of the game with a stamp; and that the folders list no file of it
 abbrev pub IsFoundGame : {D H S : Type 0} → (D → DiskFacts) → (H → StorePlaces S) → GamesOn D H → List ℕ → GameFound → Type 0
 IsFoundGame facts stores on stamp g = IsSeen facts stores on (λ d. IsGameFound d on.games on.other stamp g.first g.both)
 
 abbrev pub HasNoGame : {D H S : Type 0} → (D → DiskFacts) → (H → StorePlaces S) → GamesOn D H → List ℕ → Type 0
 HasNoGame facts stores on stamp = IsSeen facts stores on (λ d. ListsNoGame d on.games on.other stamp)
+
+abbrev pub IsGameOrNone : {D H S : Type 0} → (D → DiskFacts) → (H → StorePlaces S) → GamesOn D H → List ℕ → Option GameFound → Type 0
+IsGameOrNone facts stores on stamp None = HasNoGame facts stores on stamp
+IsGameOrNone facts stores on stamp (Some g) = IsFoundGame facts stores on stamp g
 
 -- ---- the plies of a game
 
@@ -93,9 +159,9 @@ RefusesAlone refusal (line.Position t) = ⊥
 RefusesAlone refusal (line.Root t moves) = ⊥
 
 -- What tables of the folder say of a position, of which none is missing at it; or the refusal of a file of one that is needed.
-pub data TellsAlone (disk : DiskFacts) (folder : Folder) (p : Parts) (l : JsonLine) : Type 0 where
-  ByTables : AnswersBy disk folder (IsAlone p) (λ tables. IsLineOf Strict false tables p l) → TellsAlone disk folder p l
-  ByRefusal : (refusal : FileRefusal) → IsRefusedAt disk folder p refusal → RefusesAlone refusal l → TellsAlone disk folder p l
+pub data AnswersAlone (disk : DiskFacts) (folder : Folder) (p : Parts) (l : JsonLine) : Type 0 where
+  ByTables : AnswersBy disk folder (IsAlone p) (λ tables. IsLineOf Strict false tables p l) → AnswersAlone disk folder p l
+  ByRefusal : (refusal : FileRefusal) → IsRefusedAt disk folder p refusal → RefusesAlone refusal l → AnswersAlone disk folder p l
 
 -- a ply: the move that led to it, in both notations, which is none at the start; its position; and what tables say of that
 pub record Ply : Type 0 where
@@ -108,14 +174,14 @@ pub record IsStart (disk : DiskFacts) (folder : Folder) (start : Parts) (t : Ply
   pub uci : t.uci ≡ None
   pub san : t.san ≡ None
   pub position : t.position ≡ start
-  pub line : TellsAlone disk folder t.position t.line
+  pub line : AnswersAlone disk folder t.position t.line
 
 -- the ply after a legal move
 pub record IsNext (disk : DiskFacts) (folder : Folder) (p : Parts) (m : Move) (t : Ply) : Type 0 where
   pub uci : t.uci ≡ Some (move_text m)
   pub san : t.san ≡ Some (san_of p m)
   pub position : position_after p m ≡ Some t.position
-  pub line : TellsAlone disk folder t.position t.line
+  pub line : AnswersAlone disk folder t.position t.line
 
 -- the plies after these moves: all of them, or up to the first move that isn't legal in its turn
 abbrev pub GoesOn : DiskFacts → Folder → Parts → List Move → List Ply → Type 0
@@ -131,10 +197,14 @@ abbrev pub moves_in : Option Records → List Move
 moves_in None = []
 moves_in (Some r) = r.moves
 
+-- those of one folder
+abbrev pub ArePliesOf : DiskFacts → Folder → Side → List Ply → Type 0
+ArePliesOf disk folder side ts = ArePlies disk folder side.game.start (moves_in side.kept) ts
+
 -- the plies of what a folder has; none where that is at fault
 abbrev pub HasPlies : DiskFacts → Folder → Look → List Ply → Type 0
-HasPlies disk folder (look.One side) ts = ArePlies disk folder side.game.start (moves_in side.kept) ts
-HasPlies disk folder (look.Both side other compared) ts = ArePlies disk folder side.game.start (moves_in side.kept) ts
+HasPlies disk folder (look.One side) ts = ArePliesOf disk folder side ts
+HasPlies disk folder (look.Both side other compared) ts = ArePliesOf disk folder side ts
 HasPlies disk folder (look.AtFault fault) ts = ts ≡ []
 HasPlies disk folder (look.OtherAtFault fault) ts = ts ≡ []
 
@@ -235,13 +305,17 @@ abbrev pub lacked_text : LackedFolder → List ℕ
 lacked_text lacked.Files = codes "{\"error\":\"refused files\"}"
 lacked_text lacked.Store = codes "{\"error\":\"refused store\"}"
 
-abbrev pub TellsLack : {D H S : Type 0} → (D → DiskFacts) → (H → StorePlaces S) → GamesOn D H → Response → Type 0
-TellsLack facts stores on r = (why : LackedFolder) × LacksGames facts stores on why × IsResponse 500 fresh_json (lacked_text why) r
+-- the response with a report, of this type; or with what is lacking
+abbrev pub HasReportText : Report → List ℕ → Response → Type 0
+HasReportText (Ok text) kind r = IsResponse 200 (fresh_fields kind) text r
+HasReportText (Err why) kind r = IsResponse 500 fresh_json (lacked_text why) r
 
--- a report in this form, of this type
-abbrev pub HasReport : {D H S : Type 0} → (D → DiskFacts) → (H → StorePlaces S) → GamesOn D H → ReportForm → List ℕ → Response → Type 0
-HasReport facts stores on form kind r =
-    ((text : List ℕ) × IsReportText facts stores on form text × IsResponse 200 (fresh_fields kind) text r) ⊎ TellsLack facts stores on r
+-- the response with a report in this form, of which so is true
+abbrev pub HasReport : {D H S : Type 0} → (D → DiskFacts) → (H → StorePlaces S) → GamesOn D H → ReportForm → List ℕ → (Report → Type 0) → Response → Type 0
+HasReport facts stores on form kind Is r = (report : Report) × IsReport facts stores on form report × HasReportText report kind r × Is report
+
+abbrev pub AnswersLack : {D H S : Type 0} → (D → DiskFacts) → (H → StorePlaces S) → GamesOn D H → Response → Type 0
+AnswersLack facts stores on r = (why : LackedFolder) × LacksGames facts stores on why × IsResponse 500 fresh_json (lacked_text why) r
 
 -- the object of the game with a stamp, by tables of this folder; a parser reads the object back
 pub record HasWholeGame {D H S : Type 0} (tables : DiskFacts) (folder : Folder) (facts : D → DiskFacts) (stores : H → StorePlaces S) (on : GamesOn D H) (stamp : List ℕ) (text : List ℕ) : Type 0 where
@@ -256,47 +330,65 @@ pub record HasWholeGame {D H S : Type 0} (tables : DiskFacts) (folder : Folder) 
 pub data HasGame {D H S : Type 0} (tables : DiskFacts) (folder : Folder) (facts : D → DiskFacts) (stores : H → StorePlaces S) (on : GamesOn D H) (stamp : List ℕ) (r : Response) : Type 0 where
   Found : (text : List ℕ) → HasWholeGame tables folder facts stores on stamp text → IsResponse 200 fresh_json text r → HasGame tables folder facts stores on stamp r
   Unknown : HasNoGame facts stores on stamp → IsResponse 404 fresh_json (codes "{\"error\":\"game not found\"}") r → HasGame tables folder facts stores on stamp r
-  Lacking : TellsLack facts stores on r → HasGame tables folder facts stores on stamp r
+  Lacking : AnswersLack facts stores on r → HasGame tables folder facts stores on stamp r
 
--- what is told of what is asked for, by the tables of a folder and by folders of games
-abbrev pub TellsOfGames : {D H S : Type 0} → (D → DiskFacts) → (H → StorePlaces S) → FolderOn D → GamesOn D H → AskedOfGames → Response → Type 0
-TellsOfGames facts stores tables on Games r = HasReport facts stores on AsJson (codes "application/json") r
-TellsOfGames facts stores tables on Metrics r = HasReport facts stores on AsMetrics (codes "text/plain; version=0.0.4") r
-TellsOfGames facts stores tables on (Game stamp) r = HasGame (facts tables.disk) tables.folder facts stores on stamp r
-TellsOfGames facts stores tables on NoStamp r = IsResponse 400 fresh_json (codes "{\"error\":\"no stamp\"}") r
-TellsOfGames facts stores tables on Watch r = IsResponse 200 (html_type ∷ kept_for an_hour ∷ []) WATCH.now r
+-- What is answered to what is asked for, by the tables of a folder and by folders of games, by a clock that says such times. What is kept
+-- of reports stays where none is asked for.
+abbrev pub AnswersOfGames : {D H C S : Type 0} → (D → DiskFacts) → (H → StorePlaces S) → (C → Option ℕ → Type 0) → FolderOn D
+    → GamesByClock D H C → GamesByClock D H C → AskedOfGames → Response → Type 0
+AnswersOfGames facts stores says tables old new Games r = HasReport facts stores old.on AsJson (codes "application/json") (IsAged says AsJson old new) r
+AnswersOfGames facts stores says tables old new Metrics r = HasReport facts stores old.on AsMetrics (codes "text/plain; version=0.0.4") (IsAged says AsMetrics old new) r
+AnswersOfGames facts stores says tables old new (Game stamp) r = HasGame (facts tables.disk) tables.folder facts stores old.on stamp r × (new ≡ old)
+AnswersOfGames facts stores says tables old new NoStamp r = IsResponse 400 fresh_json (codes "{\"error\":\"no stamp\"}") r × (new ≡ old)
+AnswersOfGames facts stores says tables old new Watch r = IsResponse 200 (html_type ∷ kept_for an_hour ∷ []) WATCH.now r × (new ≡ old)
 
--- it is told; or which methods there are; or that this one isn't among them
-abbrev pub IsByAction : Action → (Response → Type 0) → Response → Type 0
-IsByAction Reads Tells r = Tells r
-IsByAction ListsMethods Tells r = HasMethods Own r
-IsByAction IsRefused Tells r = RefusesMethod Own r
+-- the same, as a relation of what is kept before and after
+abbrev pub MayAnswer : {D H C S : Type 0} → (D → DiskFacts) → (H → StorePlaces S) → (C → Option ℕ → Type 0) → FolderOn D → AskedOfGames
+    → GamesByClock D H C → GamesByClock D H C → Response → Type 0
+MayAnswer facts stores says tables a old new r = AnswersOfGames facts stores says tables old new a r
 
-abbrev pub IsByMethod : List ℕ → (Response → Type 0) → Response → Type 0
-IsByMethod method Tells r = IsByAction (action_of method) Tells r
+-- it is answered so; or which methods there are, or that this one isn't among them, and all stays
+abbrev pub IsByAction : {G : Type 0} → Action → (G → G → Response → Type 0) → G → G → Response → Type 0
+IsByAction Reads Answers old new r = Answers old new r
+IsByAction ListsMethods Answers old new r = HasMethods FoldersOfGames r × (new ≡ old)
+IsByAction IsRefused Answers old new r = RefusesMethod FoldersOfGames r × (new ≡ old)
+IsByAction IsUnknown Answers old new r = LacksMethod r × (new ≡ old)
+
+abbrev pub IsByMethod : {G : Type 0} → List ℕ → (G → G → Response → Type 0) → G → G → Response → Type 0
+IsByMethod method Answers old new r = IsByAction (action_of (methods_of FoldersOfGames) method) Answers old new r
 
 -- ---- all requests
-
--- of games, if folders of games are named
-abbrev pub AsksOfThese : {D H : Type 0} → Option (GamesOn D H) → List ℕ → AskedOfGames → Type 0
-AsksOfThese None path a = ⊥
-AsksOfThese (Some on) path a = AsksOfGames path a
 
 abbrev pub path_of : Request (List ℕ) → List ℕ
 path_of request = uri_path (head_of request).uri
 
--- the response to a request, by the tables of a folder and by folders of games, if they are named
-pub data IsServed {D H S : Type 0} (facts : D → DiskFacts) (stores : H → StorePlaces S) (tables : FolderOn D) (games : Option (GamesOn D H)) (request : Request (List ℕ)) (r : Response) : Type 0 where
-  OfTables : ((a : AskedOfGames) → AsksOfThese games (path_of request) a → ⊥) → IsReply facts tables request r → IsServed facts stores tables games request r
-  OfGames : (on : GamesOn D H) → games ≡ Some on → (a : AskedOfGames) → AsksOfGames (path_of request) a
-      → IsByMethod (head_of request).method (TellsOfGames facts stores tables on a) r → IsServed facts stores tables games request r
+-- a request that asks of games, where folders of games are named
+abbrev pub AsksOfThese : {G : Type 0} → Option G → List ℕ → AskedOfGames → Type 0
+AsksOfThese None path a = ⊥
+AsksOfThese (Some games) path a = AsksOfGames path a
 
--- a call is served so
-abbrev pub IsServedCall : {D H S : Type 0} → (D → DiskFacts) → (H → StorePlaces S) → FolderOn D → Option (GamesOn D H) → Call → Type 0
-IsServedCall facts stores tables games c = IsServed facts stores tables games c.0 c.1
+-- the response to a request, by the tables of a folder and by folders of games, if they are named
+pub data IsServed {D H C S : Type 0} (facts : D → DiskFacts) (stores : H → StorePlaces S) (says : C → Option ℕ → Type 0) (tables : FolderOn D)
+    (old new : Option (GamesByClock D H C)) (request : Request (List ℕ)) (r : Response) : Type 0 where
+  OfTables : ((a : AskedOfGames) → AsksOfThese old (path_of request) a → ⊥) → IsReply facts tables request r → new ≡ old → IsServed facts stores says tables old new request r
+  OfGames : (was now : GamesByClock D H C) → old ≡ Some was → new ≡ Some now → (a : AskedOfGames) → AsksOfGames (path_of request) a
+      → IsByMethod (head_of request).method (MayAnswer facts stores says tables a) was now r → IsServed facts stores says tables old new request r
+
+-- the folders of games, if they are named
+abbrev pub places_of : {D H C : Type 0} → Option (GamesByClock D H C) → Option (GamesOn D H)
+places_of games = option_map (λ g. g.on) games
+
+-- a call is served so by these folders, whatever is kept of reports before and after it
+pub record IsServedCall {D H C S : Type 0} (facts : D → DiskFacts) (stores : H → StorePlaces S) (says : C → Option ℕ → Type 0) (tables : FolderOn D)
+    (on : Option (GamesOn D H)) (c : Call) : Type 0 where
+  pub old : Option (GamesByClock D H C)
+  pub new : Option (GamesByClock D H C)
+  pub same : places_of old ≡ on
+  pub served : IsServed facts stores says tables old new c.0 c.1
 
 -- what a router does, by its folders, which stay the same
-pub record Routes {D H S : Type 0} (facts : D → DiskFacts) (stores : H → StorePlaces S) (tables : FolderOn D) (games : Option (GamesOn D H)) (request : Request (List ℕ)) (r : Response) (new : FolderOn D) (now : Option (GamesOn D H)) : Type 0 where
-  pub served : IsServed facts stores tables games request r
-  pub tables_stay : new ≡ tables
-  pub games_stay : now ≡ games
+pub record Routes {D H C S : Type 0} (facts : D → DiskFacts) (stores : H → StorePlaces S) (says : C → Option ℕ → Type 0) (tables : FolderOn D)
+    (old : Option (GamesByClock D H C)) (request : Request (List ℕ)) (r : Response) (after : FolderOn D) (new : Option (GamesByClock D H C)) : Type 0 where
+  pub served : IsServed facts stores says tables old new request r
+  pub tables_stay : after ≡ tables
+  pub games_stay : places_of new ≡ places_of old

@@ -1,5 +1,5 @@
 -- What private functions take and return.
-use Rattle.std.specs.Prelude.{◌≡◌, ◌⊎◌, ◌++◌, ◌∷◌, ◌-◌, [], ℕ, Bool, true, false, List, Option, Result, Ok, Err, Some, None, Vec, codes, map, flat_map, nat_lt}
+use Rattle.std.specs.Prelude.{◌≡◌, ◌⊎◌, ◌++◌, ◌∷◌, [], ℕ, Bool, true, false, List, Option, Result, Ok, Err, Some, None, Vec, codes, map, flat_map, option_map}
 use Rattle.json_lines.specs.declared.api_told.ApiLine.{ApiLine}
 use Rattle.json_lines.specs.ApiTold.{ends_line}
 use Rattle.json_lines.specs.declared.api_told.ApiMove.{ApiMove}
@@ -37,25 +37,32 @@ use Rattle.http_answer.specs.declared.asking.Topic.TheVariants as kind
 use Rattle.http_answer.specs.declared.games.Kept.{Kept}
 use Rattle.http_answer.specs.declared.router.GameTopic.{GameTopic}
 use Rattle.http_answer.specs.declared.router.GameTopic.TheVariants as topic
-use Rattle.http_answer.specs.Games.{AskedOfGames, GamesOn, GoesOn, HasPlies, IsNext, IsReportText, IsStart, LacksGames, Ply, TellsAlone, fresh_fields, fresh_json, lacked_text, plies_items, ply_json, whole_game_json}
+use Rattle.game_status.specs.declared.stored_disk.LackedFolder.TheVariants as lacked
+use Rattle.game_status.specs.Listings.{CannotList}
+use Rattle.game_status.specs.OneGame.{IsGameFound, ListsNoGame}
+use Rattle.http_answer.specs.Games.{AnswersAlone, AskedOfGames, GamesOn, GoesOn, HasPlies, IsNext, IsReport, IsSeen, IsStart, KeptReport, Ply, Report, fresh_json, plies_items, ply_json, whole_game_json}
 use Rattle.http_answer.specs.Games.AskedOfGames.{Games, Metrics, Game, NoStamp, Watch}
 use Rattle.http_answer.specs.Queries.{asked_lines, position_text}
-use Rattle.http_answer.specs.Replies.{Access, Action, Asked, IsPlayedOn, TellsEach, TellsText, object_text, objects_text}
-use Rattle.http_answer.specs.Replies.Access.{SharedLists, Shared, Own}
-use Rattle.http_answer.specs.Replies.Action.{Reads, ListsMethods, IsRefused}
-use Rattle.http_answer.specs.Replies.Asked.{Page, Values, Mainline, NoText, ValuesOfEach, TooMany, Methods, OtherMethod, Elsewhere}
+use Rattle.http_answer.specs.Places.{Action, Place as PlaceHere}
+use Rattle.http_answer.specs.Places.Action.{Reads, ListsMethods, IsRefused, IsUnknown}
+use Rattle.http_answer.specs.Places.Place.{Board, Positions, Mainlines, FoldersOfGames, Whole}
+use Rattle.http_answer.specs.Replies.{Asked, IsPlayedOn, AnswersEach, AnswersText, object_text, objects_text}
+use Rattle.http_answer.specs.Replies.Asked.{Page, Values, Mainline, NoText, ValuesOfEach, TooMany, Methods, OtherMethod, UnknownMethod, Elsewhere}
 
--- who may read what is at a place
-abbrev pub access_at : Place → Access
-access_at place.Standard = SharedLists
-access_at place.Mainline = Shared
-access_at place.Own = Own
+-- what is at a path, of the code's own value for it
+abbrev pub place_for : Place → PlaceHere
+place_for place.Board = Board
+place_for place.Positions = Positions
+place_for place.Mainlines = Mainlines
+place_for place.Games = FoldersOfGames
+place_for place.Whole = Whole
 
 -- what a method asks for, of the code's own value for it
 abbrev pub action_for : Verb → Action
 action_for verb.Read = Reads
 action_for verb.ListMethods = ListsMethods
 action_for verb.Refuse = IsRefused
+action_for verb.Unknown = IsUnknown
 
 -- what is asked for, of the code's own value for it
 abbrev pub asked_for : Topic → Asked
@@ -65,17 +72,18 @@ asked_for (kind.Mainline text) = Mainline text.items
 asked_for kind.NoText = NoText
 asked_for (kind.Lines body) = ValuesOfEach (asked_lines body)
 asked_for kind.TooManyLines = TooMany
-asked_for (kind.Methods p) = Methods (access_at p)
-asked_for (kind.OtherMethod p) = OtherMethod (access_at p)
+asked_for (kind.Methods p) = Methods (place_for p)
+asked_for (kind.OtherMethod p) = OtherMethod (place_for p)
+asked_for kind.UnknownMethod = UnknownMethod
 asked_for kind.Elsewhere = Elsewhere
 
 -- the object for a line of a body comes behind others
 abbrev pub AddsObject : DiskFacts → Folder → List ℕ → List ℕ → List ℕ → Type 0
-AddsObject disk folder words old new = (l : ApiLine) × TellsText disk folder (position_text words) l × (new ≡ old ++ ended (object_text l))
+AddsObject disk folder words old new = (l : ApiLine) × AnswersText disk folder (position_text words) l × (new ≡ old ++ ended (object_text l))
 
 -- these are the objects for the lines of a body
 abbrev pub AreObjects : DiskFacts → Folder → List ℕ → List ℕ → Type 0
-AreObjects disk folder body objects = (ls : List ApiLine) × TellsEach disk folder (asked_lines body) ls × (objects ≡ objects_text ls)
+AreObjects disk folder body objects = (ls : List ApiLine) × AnswersEach disk folder (asked_lines body) ls × (objects ≡ objects_text ls)
 
 -- One ply of a line of best play: no move is legal, or one is added, which ends the line or leads to this position.
 abbrev pub IsOnePly : DiskFacts → Folder → Parts → List ApiMove → List ApiMove → Option Parts → Type 0
@@ -95,52 +103,44 @@ asked_of_games (topic.Game stamp) = Game stamp
 asked_of_games topic.NoStamp = NoStamp
 asked_of_games topic.Watch = Watch
 
--- a report, or what is lacking of a folder
-abbrev pub Report : Type 0
-Report = Result (Vec ℕ Global) LackedFolder
+-- a report as it is read
+abbrev pub ReadReport : Type 0
+ReadReport = Result (Vec ℕ Global) LackedFolder
 
-abbrev pub IsCopy : Report → Report → Type 0
-IsCopy (Ok a) (Ok b) = b.items ≡ a.items
-IsCopy (Ok a) (Err why) = ⊥
-IsCopy (Err why) (Ok b) = ⊥
-IsCopy (Err why) (Err again) = again ≡ why
+-- what it is
+abbrev pub report_in : ReadReport → Report
+report_in (Ok text) = Ok text.items
+report_in (Err why) = Err why
 
--- the response with a report, or with what is lacking
-abbrev pub HasReportText : Report → List ℕ → Response → Type 0
-HasReportText (Ok text) kind r = IsResponse 200 (fresh_fields kind) text.items r
-HasReportText (Err why) kind r = IsResponse 500 fresh_json (lacked_text why) r
+-- what is kept of reports, of the code's own value for it
+abbrev pub kept_in : Option Kept → Option KeptReport
+kept_in kept = option_map (λ k. record { report = report_in k.report; since = instant_nanos k.since }) kept
 
--- what was read of the folders in this form, if it was
-abbrev pub IsReport : {D H S : Type 0} → (D → DiskFacts) → (H → StorePlaces S) → GamesOn D H → ReportForm → Report → Type 0
-IsReport facts stores on form (Ok text) = IsReportText facts stores on form text.items
-IsReport facts stores on form (Err why) = LacksGames facts stores on why
+-- a report is kept with this time; it isn't where there is none
+abbrev pub IsKeptAt : Option Instant → ReadReport → Option Kept → Type 0
+IsKeptAt None report kept = kept ≡ None
+IsKeptAt (Some now) report kept = kept ≡ Some (record { report = report; since = now })
 
+-- a report that is kept is one of these folders in this form
 abbrev pub IsKeptReport : {D H S : Type 0} → (D → DiskFacts) → (H → StorePlaces S) → GamesOn D H → ReportForm → Option Kept → Type 0
 IsKeptReport facts stores on form None = Unit {0}
-IsKeptReport facts stores on form (Some kept) = IsReport facts stores on form kept.report
+IsKeptReport facts stores on form (Some kept) = IsReport facts stores on form (report_in kept.report)
 
 abbrev pub AreKeptReports : {D H S : Type 0} → (D → DiskFacts) → (H → StorePlaces S) → GamesOn D H → Option Kept → Option Kept → Type 0
 AreKeptReports facts stores on json metrics = IsKeptReport facts stores on AsJson json × IsKeptReport facts stores on AsMetrics metrics
 
--- what was read at one time is less than a second old at another
-abbrev pub is_fresh : Instant → Instant → Bool
-is_fresh since now = nat_lt (instant_nanos now - instant_nanos since) 1_000_000_000
+-- what a folder of a disk has of a game, and a second one if it is named; none where they list no file of it
+abbrev pub FindsGame : DiskFacts → List ℕ → Option (List ℕ) → List ℕ → Option GameFound → Type 0
+FindsGame disk games other stamp None = ListsNoGame disk games other stamp
+FindsGame disk games other stamp (Some g) = IsGameFound disk games other stamp g.first g.both
 
--- a report that is kept is less than a second old at this time, if there is one
-abbrev pub IsFreshReport : Option Instant → Option Kept → Report → Type 0
-IsFreshReport None kept report = ⊥
-IsFreshReport (Some now) None report = ⊥
-IsFreshReport (Some now) (Some kept) report = (is_fresh kept.since now ≡ true) × (report ≡ kept.report)
+-- what is found in folders of games by a look at them
+abbrev pub IsFoundBy : {D H S T : Type 0} → (D → DiskFacts) → (H → StorePlaces S) → GamesOn D H → (DiskFacts → List ℕ → Option (List ℕ) → T → Type 0) → T → Type 0
+IsFoundBy facts stores on finds found = IsSeen facts stores on (λ d. finds d on.games on.other found)
 
--- a report is kept with this time; it isn't where there is none
-abbrev pub IsKeptAt : Option Instant → Report → Option Kept → Type 0
-IsKeptAt None report kept = kept ≡ None
-IsKeptAt (Some now) report kept = kept ≡ Some (record { report = report; since = now })
-
--- the report at this time: a copy of one that was kept and less than a second old, and stays kept; or of one that is kept with this time
-pub data IsReportAt (now : Option Instant) (old new : Option Kept) (r : Report) : Type 0 where
-  Again : (report : Report) → IsFreshReport now old report → IsCopy report r → new ≡ old → IsReportAt now old new r
-  Anew : (report : Report) → IsKeptAt now report new → IsCopy report r → IsReportAt now old new r
+-- the folders can't be listed
+abbrev pub LacksList : DiskFacts → List ℕ → Option (List ℕ) → LackedFolder → Type 0
+LacksList disk games other why = (why ≡ lacked.Files) × CannotList disk games other
 
 -- ---- the object of a game, as it is written
 
@@ -152,7 +152,7 @@ position_members p l more = member (codes "fen") (string (fen_of p)) (member (co
 
 -- a position and what tables say of it were written
 abbrev pub AddsPosition : DiskFacts → Folder → Parts → Written → Written → Type 0
-AddsPosition disk folder p old new = (l : JsonLine) × TellsAlone disk folder p l × AddsMembers old new (position_members p l)
+AddsPosition disk folder p old new = (l : JsonLine) × AnswersAlone disk folder p l × AddsMembers old new (position_members p l)
 
 -- a ply was written
 abbrev pub AddsStart : DiskFacts → Folder → Parts → Written → Written → Type 0
@@ -186,3 +186,7 @@ abbrev pub IsGameText : DiskFacts → Folder → Bool → List ℕ → GameFound
 IsGameText disk folder compares stamp g text =
     (ts : List Ply) × HasPlies disk folder g.first ts × (text ≡ json_text (whole_game_json compares stamp g ts))
     × (document text ≡ Some (whole_game_json compares stamp g ts))
+
+-- the response has such a text
+abbrev pub HasGameText : DiskFacts → Folder → Bool → List ℕ → GameFound → Response → Type 0
+HasGameText disk folder compares stamp g r = (text : List ℕ) × IsGameText disk folder compares stamp g text × IsResponse 200 fresh_json text r

@@ -1,4 +1,6 @@
-pub mod Queries
-pub mod Replies
 pub mod Games
 pub mod Inside
+pub mod Places
+pub mod Queries
+pub mod Replies
+pub mod Times

@@ -26,36 +26,11 @@ use Rattle.table_folder.specs.declared.fault.FileRefusal.{FileRefusal}
 use Rattle.table_folder.specs.Faults.{file_fault_name}
 use Rattle.table_folder.specs.Folders.{Folder, FolderOn}
 use Rattle.table_folder.specs.Settled.{AnswersBy, IsAlone, IsRefusedAt, IsRefusedFor, IsWithMoves}
+use Rattle.http_answer.specs.Places.{Action, HasMethods, LacksMethod, Place, RefusesMethod, action_of, an_hour, any_origin, html_type, json_type, kept_for, methods_of, place_at, typed}
+use Rattle.http_answer.specs.Places.Action.{Reads, ListsMethods, IsRefused, IsUnknown}
+use Rattle.http_answer.specs.Places.Place.{Board, Positions, Mainlines, FoldersOfGames, Whole}
 use Rattle.http_answer.specs.Queries.{asked_lines, asked_text}
 use Rattle.http_answer.specs.declared.page.TheConstants.{PAGE}
-
--- ---- methods
-
--- who may read what is at a path, and by which methods
-pub data Access : Type 0 where
-  -- any page, and also by POST
-  SharedLists : Access
-  -- any page
-  Shared : Access
-  -- pages of this server alone
-  Own : Access
-
-abbrev pub methods_of : Access → List ℕ
-methods_of SharedLists = codes "GET, HEAD, POST, OPTIONS"
-methods_of Shared = codes "GET, HEAD, OPTIONS"
-methods_of Own = codes "GET, HEAD, OPTIONS"
-
--- what a method but POST asks for: what is at a path, or which methods there are; or it is none of them
-pub data Action : Type 0 where
-  Reads : Action
-  ListsMethods : Action
-  IsRefused : Action
-
-abbrev pub action_of : List ℕ → Action
-action_of method =
-    if bytes_eq method (codes "GET") || bytes_eq method (codes "HEAD") then Reads
-    else if bytes_eq method (codes "OPTIONS") then ListsMethods
-    else IsRefused
 
 -- ---- what is asked for
 
@@ -72,10 +47,12 @@ pub data Asked : Type 0 where
   ValuesOfEach : (texts : List (List ℕ)) → Asked
   -- those of more texts than one request may have
   TooMany : Asked
-  -- which methods there are at a path of this access
-  Methods : (access : Access) → Asked
+  -- which methods there are at a place
+  Methods : (place : Place) → Asked
   -- it by another method than these
-  OtherMethod : (access : Access) → Asked
+  OtherMethod : (place : Place) → Asked
+  -- it by a method that nobody knows
+  UnknownMethod : Asked
   -- what isn't here
   Elsewhere : Asked
 
@@ -96,80 +73,34 @@ mainline_of (Some text) = Mainline text
 abbrev pub values_of_lines : List ℕ → Asked
 values_of_lines body = if nat_le (length (lines_in body)) 16 then ValuesOfEach (asked_lines body) else TooMany
 
--- what is asked for at a path of this access, where to read it is to ask for this
-abbrev pub by_action : Access → Action → Asked → Asked
-by_action access Reads read = read
-by_action access ListsMethods read = Methods access
-by_action access IsRefused read = OtherMethod access
-
 -- of the one position of a query, or of each of a body
 abbrev pub values_by : List ℕ → Option (List ℕ) → List ℕ → Asked
-values_by method query body =
-    if bytes_eq method (codes "POST") then values_of_lines body
-    else by_action SharedLists (action_of method) (values_of (text_in query))
+values_by method query body = if bytes_eq method (codes "POST") then values_of_lines body else values_of (text_in query)
 
--- as in the tablebase API of Lichess, or without its first part
-abbrev pub is_mainline : List ℕ → Bool
-is_mainline path = bytes_eq path (codes "/standard/mainline") || bytes_eq path (codes "/mainline")
+-- to read what is at a place; only the methods of the server as a whole can be asked, and games are asked of elsewhere (`Games`)
+abbrev pub reads_at : Place → List ℕ → Option (List ℕ) → List ℕ → Asked
+reads_at Board method query body = Page
+reads_at Positions method query body = values_by method query body
+reads_at Mainlines method query body = mainline_of (text_in query)
+reads_at FoldersOfGames method query body = Elsewhere
+reads_at Whole method query body = Elsewhere
 
-abbrev pub asked_of : List ℕ → List ℕ → Option (List ℕ) → List ℕ → Asked
-asked_of method path query body =
-    if bytes_eq path (codes "/standard") then values_by method query body
-    else if is_mainline path then by_action Shared (action_of method) (mainline_of (text_in query))
-    else if bytes_eq path (codes "/") then by_action Own (action_of method) Page
-    else Elsewhere
+-- by an action at a place, where to read it is to ask for this
+abbrev pub by_action : Place → Action → Asked → Asked
+by_action place Reads read = read
+by_action place ListsMethods read = Methods place
+by_action place IsRefused read = OtherMethod place
+by_action place IsUnknown read = UnknownMethod
+
+abbrev pub asked_at : Option Place → List ℕ → Option (List ℕ) → List ℕ → Asked
+asked_at None method query body = Elsewhere
+asked_at (Some place) method query body = by_action place (action_of (methods_of place) method) (reads_at place method query body)
 
 -- what this request asks for
 abbrev pub asked : Request (List ℕ) → Asked
-asked r = asked_of (head_of r).method (uri_path (head_of r).uri) (uri_query (head_of r).uri) (body_of r)
+asked r = asked_at (place_at (uri_path (head_of r).uri)) (head_of r).method (uri_query (head_of r).uri) (body_of r)
 
 -- ---- what is answered
-
--- the type of a body
-abbrev pub typed : List ℕ → Header
-typed kind = (codes "content-type", kind)
-
-abbrev pub json_type : Header
-json_type = typed (codes "application/json")
-
-abbrev pub html_type : Header
-html_type = typed (codes "text/html; charset=utf-8")
-
--- any page may read the answer (Fetch Standard, section 3.3)
-abbrev pub any_origin : Header
-any_origin = (codes "access-control-allow-origin", codes "*")
-
--- how long a cache may keep the answer (RFC 9111, section 5.2)
-abbrev pub kept_for : List ℕ → Header
-kept_for lifetime = (codes "cache-control", lifetime)
-
-abbrev pub an_hour : List ℕ
-an_hour = codes "public, max-age=3600"
-
--- which methods there are
-abbrev pub allowed : Access → Header
-allowed access = (codes "allow", methods_of access)
-
--- what a page from elsewhere may send
-abbrev pub preflight : Access → List Header
-preflight access = any_origin ∷ (codes "access-control-allow-methods", methods_of access) ∷ (codes "access-control-allow-headers", codes "content-type") ∷ []
-
-abbrev pub methods_fields : Access → List Header
-methods_fields SharedLists = allowed SharedLists ∷ preflight SharedLists
-methods_fields Shared = allowed Shared ∷ preflight Shared
-methods_fields Own = allowed Own ∷ []
-
-abbrev pub refusal_fields : Access → List Header
-refusal_fields SharedLists = json_type ∷ allowed SharedLists ∷ any_origin ∷ []
-refusal_fields Shared = json_type ∷ allowed Shared ∷ any_origin ∷ []
-refusal_fields Own = json_type ∷ allowed Own ∷ []
-
--- which methods there are at a path of this access; and that the method isn't one of them
-abbrev pub HasMethods : Access → Response → Type 0
-HasMethods access r = IsResponse 204 (methods_fields access) [] r
-
-abbrev pub RefusesMethod : Access → Response → Type 0
-RefusesMethod access r = IsResponse 405 (refusal_fields access) (codes "{\"error\":\"method not allowed\"}") r
 
 -- the response to a request about a position that isn't answered by tables
 abbrev pub HasError : ℕ → List ℕ → Response → Type 0
@@ -236,14 +167,14 @@ RefusesFile refusal (line.Mainline t plies) = ⊥
 
 -- What tables of the folder say of a position and of its legal moves, of which none is missing at these; or the refusal of a file of one
 -- that is needed.
-pub data TellsPosition (disk : DiskFacts) (folder : Folder) (p : Parts) (l : ApiLine) : Type 0 where
-  ByTables : AnswersBy disk folder (IsWithMoves p) (λ tables. IsApiLineOf tables p l) → TellsPosition disk folder p l
+pub data AnswersPosition (disk : DiskFacts) (folder : Folder) (p : Parts) (l : ApiLine) : Type 0 where
+  ByTables : AnswersBy disk folder (IsWithMoves p) (λ tables. IsApiLineOf tables p l) → AnswersPosition disk folder p l
   ByRefusal : (refusal : FileRefusal) → IsRefusedFor disk folder (IsWithMoves p) refusal → RefusesFile refusal l
-      → TellsPosition disk folder p l
+      → AnswersPosition disk folder p l
 
--- why a text is no position, or what is told of the position
-abbrev pub TellsText : DiskFacts → Folder → List ℕ → ApiLine → Type 0
-TellsText disk folder text l = IsApiLineFor text (TellsPosition disk folder) l
+-- why a text is no position, or the answer for the position
+abbrev pub AnswersText : DiskFacts → Folder → List ℕ → ApiLine → Type 0
+AnswersText disk folder text l = IsApiLineFor text (AnswersPosition disk folder) l
 
 -- ---- lines of best play
 
@@ -294,35 +225,36 @@ IsMainlineOf disk folder p (line.Mainline t plies) =
 
 -- The line of best play from a position; or the refusal of the file of a table that the position needs, or where a side wins a ply of the
 -- line.
-pub data TellsMainline (disk : DiskFacts) (folder : Folder) (p : Parts) (l : ApiLine) : Type 0 where
-  OfPlay : IsMainlineOf disk folder p l → TellsMainline disk folder p l
-  OfPosition : (refusal : FileRefusal) → IsRefusedAt disk folder p refusal → RefusesFile refusal l → TellsMainline disk folder p l
+pub data AnswersMainline (disk : DiskFacts) (folder : Folder) (p : Parts) (l : ApiLine) : Type 0 where
+  OfPlay : IsMainlineOf disk folder p l → AnswersMainline disk folder p l
+  OfPosition : (refusal : FileRefusal) → IsRefusedAt disk folder p refusal → RefusesFile refusal l → AnswersMainline disk folder p l
   OfLine : (t : ApiPosition) → IsPositionBy disk folder p t → (refusal : FileRefusal) → IsRefusedLineOf disk folder (winner_at t) p refusal
-      → RefusesFile refusal l → TellsMainline disk folder p l
+      → RefusesFile refusal l → AnswersMainline disk folder p l
 
 -- ---- texts
 
 -- why a text is no position, or the line of best play from the position
-abbrev pub TellsMainlineOf : DiskFacts → Folder → List ℕ → ApiLine → Type 0
-TellsMainlineOf disk folder text l = IsApiLineFor text (TellsMainline disk folder) l
+abbrev pub AnswersMainlineOf : DiskFacts → Folder → List ℕ → ApiLine → Type 0
+AnswersMainlineOf disk folder text l = IsApiLineFor text (AnswersMainline disk folder) l
 
--- what is told of each text, in turn
-abbrev pub TellsEach : DiskFacts → Folder → List (List ℕ) → List ApiLine → Type 0
-TellsEach disk folder [] [] = Unit {0}
-TellsEach disk folder [] (l ∷ ls) = ⊥
-TellsEach disk folder (text ∷ texts) [] = ⊥
-TellsEach disk folder (text ∷ texts) (l ∷ ls) = TellsText disk folder text l × TellsEach disk folder texts ls
+-- the answer for each text, in turn
+abbrev pub AnswersEach : DiskFacts → Folder → List (List ℕ) → List ApiLine → Type 0
+AnswersEach disk folder [] [] = Unit {0}
+AnswersEach disk folder [] (l ∷ ls) = ⊥
+AnswersEach disk folder (text ∷ texts) [] = ⊥
+AnswersEach disk folder (text ∷ texts) (l ∷ ls) = AnswersText disk folder text l × AnswersEach disk folder texts ls
 
 -- the response to what is asked for, by the tables of this folder
 abbrev pub IsReplyTo : DiskFacts → Folder → Asked → Response → Type 0
 IsReplyTo disk folder Page r = IsResponse 200 (html_type ∷ kept_for an_hour ∷ []) PAGE.now r
-IsReplyTo disk folder (Values text) r = (l : ApiLine) × TellsText disk folder text l × HasLine l r
-IsReplyTo disk folder (Mainline text) r = (l : ApiLine) × TellsMainlineOf disk folder text l × HasLine l r
+IsReplyTo disk folder (Values text) r = (l : ApiLine) × AnswersText disk folder text l × HasLine l r
+IsReplyTo disk folder (Mainline text) r = (l : ApiLine) × AnswersMainlineOf disk folder text l × HasLine l r
 IsReplyTo disk folder NoText r = HasError 400 (codes "{\"error\":\"FEN missing\"}") r
-IsReplyTo disk folder (ValuesOfEach texts) r = (ls : List ApiLine) × TellsEach disk folder texts ls × HasLines ls r
+IsReplyTo disk folder (ValuesOfEach texts) r = (ls : List ApiLine) × AnswersEach disk folder texts ls × HasLines ls r
 IsReplyTo disk folder TooMany r = HasError 413 (codes "{\"error\":\"too many lines\"}") r
-IsReplyTo disk folder (Methods access) r = HasMethods access r
-IsReplyTo disk folder (OtherMethod access) r = RefusesMethod access r
+IsReplyTo disk folder (Methods place) r = HasMethods place r
+IsReplyTo disk folder (OtherMethod place) r = RefusesMethod place r
+IsReplyTo disk folder UnknownMethod r = LacksMethod r
 IsReplyTo disk folder Elsewhere r = IsResponse 404 (json_type ∷ []) (codes "{\"error\":\"not found\"}") r
 
 -- the response to a request, by the tables of a folder on a disk

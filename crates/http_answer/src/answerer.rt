@@ -2,17 +2,17 @@
 
 ghost use Rattle.std.specs.Prelude.{◌≡◌, ◌≤◌, ◌++◌, ◌∷◌, [], List, IfErr, IfOk, OnOk};
 ghost use Rattle.http_server.specs.Response.{IsBlank};
-ghost use Rattle.http_answer.specs.Games.{TellsAlone};
+ghost use Rattle.http_answer.specs.Games.{AnswersAlone};
 ghost use Rattle.http_answer.specs.Inside.{AddsObject, AreObjects, IsOnePly, asked_for};
 ghost use Rattle.http_answer.specs.Queries.{asked_lines};
-ghost use Rattle.http_answer.specs.Replies.{HasLine, HasLines, IsBestPlay, IsLineOfPlay, IsPlayedOn, IsPositionBy, IsRefusedInLine, IsRefusedLineOf, IsReplyTo, RefusesFile, TellsMainline, TellsMainlineOf, TellsEach, TellsPosition, TellsText, most_plies, refused_words};
+ghost use Rattle.http_answer.specs.Replies.{HasLine, HasLines, IsBestPlay, IsLineOfPlay, IsPlayedOn, IsPositionBy, IsRefusedInLine, IsRefusedLineOf, IsReplyTo, RefusesFile, AnswersMainline, AnswersMainlineOf, AnswersEach, AnswersPosition, AnswersText, most_plies, refused_words};
 ghost use Rattle.json_lines.specs.declared.api_told.ApiLine.{ApiLine};
 ghost use Rattle.table_folder.specs.Settled.{IsRefusedAt, IsRefusedFor, IsWithMoves};
 
 use crate::asking::{Topic, topic_of};
 use crate::filling::{
     add_object_line, fill_elsewhere, fill_error, fill_line, fill_methods, fill_objects,
-    fill_other_method, fill_page,
+    fill_other_method, fill_page, fill_unknown_method,
 };
 use crate::lines::first_line;
 use crate::page::PAGE;
@@ -97,7 +97,7 @@ impl<'r, D: Disk> Answerer<'r, D> {
     }
 
     /// An answerer by this folder over another arena, with no table open. The error comes where memory is refused.
-    fn apart<'s>(&self, arena: &'s Bump) -> Result<Answerer<'s, D>, AllocError>
+    pub(crate) fn apart<'s>(&self, arena: &'s Bump) -> Result<Answerer<'s, D>, AllocError>
     where
         'r: 's,
         ensures { IfOk result (λ a. a ≡ self.now) }
@@ -108,7 +108,7 @@ impl<'r, D: Disk> Answerer<'r, D> {
 
     /// What tables say of a position and of its legal moves, or the refusal of the file of one that is needed.
     fn line_of(&mut self, position: &Position) -> Result<ApiLine, AllocError>
-        ensures told { IfOk result (TellsPosition (D.facts self.old.disk) self.old.folder position.now) }
+        ensures answer { IfOk result (AnswersPosition (D.facts self.old.disk) self.old.folder position.now) }
         ensures same { self.new ≡ self.old }
     {
         if let Err(refusal) = self
@@ -122,7 +122,7 @@ impl<'r, D: Disk> Answerer<'r, D> {
 
     /// What tables say of a position, or the refusal of the file of one that it needs.
     pub(crate) fn line_alone(&mut self, position: &Position) -> Result<JsonLine, AllocError>
-        ensures told { IfOk result (TellsAlone (D.facts self.old.disk) self.old.folder position.now) }
+        ensures answer { IfOk result (AnswersAlone (D.facts self.old.disk) self.old.folder position.now) }
         ensures same { self.new ≡ self.old }
     {
         if let Err(refusal) = self.folder.settle(self.alloc, &mut self.set, position)? {
@@ -131,9 +131,9 @@ impl<'r, D: Disk> Answerer<'r, D> {
         JsonLine::of_position(self.alloc, &mut self.set, position, Ask::Strict, false)
     }
 
-    /// What is told of a text.
+    /// The answer for a text.
     fn line_for(&mut self, text: &[u8]) -> Result<ApiLine, AllocError>
-        ensures told { IfOk result (TellsText (D.facts self.old.disk) self.old.folder text.now) }
+        ensures answer { IfOk result (AnswersText (D.facts self.old.disk) self.old.folder text.now) }
         ensures same { self.new ≡ self.old }
     {
         match read(text) {
@@ -142,30 +142,20 @@ impl<'r, D: Disk> Answerer<'r, D> {
         }
     }
 
-    /// Fills the response for a text.
-    fn tell_text(&mut self, text: &[u8], response: &mut Response) -> Result<(), AllocError>
-        requires { IsBlank response.old }
-        ensures told { OnOk result ((l : ApiLine) × TellsText (D.facts self.old.disk) self.old.folder text.now l × HasLine l response.new) }
-        ensures same { self.new ≡ self.old }
-    {
-        let line = self.line_for(text)?;
-        fill_line(self.alloc, response, &line)
-    }
-
-    /// What tables tell of a position, or the refusal of the file of one that it needs.
-    fn position_told(
+    /// What tables say of a position, or the refusal of the file of one that it needs.
+    fn position_by(
         &mut self,
         position: &Position,
     ) -> Result<Result<ApiPosition, FileRefusal>, AllocError>
-        ensures told { IfOk result (λ told. IfOk told (IsPositionBy (D.facts self.old.disk) self.old.folder position.now)) }
-        ensures refused { IfOk result (λ told. IfErr told (IsRefusedAt (D.facts self.old.disk) self.old.folder position.now)) }
+        ensures answer { IfOk result (λ found. IfOk found (IsPositionBy (D.facts self.old.disk) self.old.folder position.now)) }
+        ensures refused { IfOk result (λ found. IfErr found (IsRefusedAt (D.facts self.old.disk) self.old.folder position.now)) }
         ensures same { self.new ≡ self.old }
     {
         if let Err(refusal) = self.folder.settle_one(self.alloc, &mut self.set, position)? {
             return Ok(Err(refusal));
         }
-        let told = ApiPosition::of(self.alloc, &mut self.set, position)?;
-        Ok(Ok(told))
+        let known = ApiPosition::of(self.alloc, &mut self.set, position)?;
+        Ok(Ok(known))
     }
 
     /// The best move of a position, or the refusal of the file of a table that is needed.
@@ -173,8 +163,8 @@ impl<'r, D: Disk> Answerer<'r, D> {
         &mut self,
         position: &Position,
     ) -> Result<Result<Option<ApiMove>, FileRefusal>, AllocError>
-        ensures told { IfOk result (λ told. IfOk told (IsPlayedOn (D.facts self.old.disk) self.old.folder position.now)) }
-        ensures refused { IfOk result (λ told. IfErr told (IsRefusedFor (D.facts self.old.disk) self.old.folder (IsWithMoves position.now))) }
+        ensures answer { IfOk result (λ found. IfOk found (IsPlayedOn (D.facts self.old.disk) self.old.folder position.now)) }
+        ensures refused { IfOk result (λ found. IfErr found (IsRefusedFor (D.facts self.old.disk) self.old.folder (IsWithMoves position.now))) }
         ensures same { self.new ≡ self.old }
     {
         if let Err(refusal) = self
@@ -193,8 +183,8 @@ impl<'r, D: Disk> Answerer<'r, D> {
         position: &Position,
         plies: &mut Vec<ApiMove>,
     ) -> Result<Result<Option<Position>, FileRefusal>, AllocError>
-        ensures played { IfOk result (λ told. IfOk told (IsOnePly (D.facts self.old.disk) self.old.folder position.now plies.old.items plies.new.items)) }
-        ensures refused { IfOk result (λ told. IfErr told (IsRefusedFor (D.facts self.old.disk) self.old.folder (IsWithMoves position.now))) }
+        ensures played { IfOk result (λ found. IfOk found (IsOnePly (D.facts self.old.disk) self.old.folder position.now plies.old.items plies.new.items)) }
+        ensures refused { IfOk result (λ found. IfErr found (IsRefusedFor (D.facts self.old.disk) self.old.folder (IsWithMoves position.now))) }
         ensures same { self.new ≡ self.old }
     {
         let best = match self.best_move(position)? {
@@ -216,8 +206,8 @@ impl<'r, D: Disk> Answerer<'r, D> {
         &mut self,
         start: &Position,
     ) -> Result<Result<Vec<ApiMove>, FileRefusal>, AllocError>
-        ensures told { IfOk result (λ told. IfOk told (λ plies. IsBestPlay (D.facts self.old.disk) self.old.folder start.now plies.items)) }
-        ensures refused { IfOk result (λ told. IfErr told (IsRefusedInLine (D.facts self.old.disk) self.old.folder most_plies start.now)) }
+        ensures answer { IfOk result (λ found. IfOk found (λ plies. IsBestPlay (D.facts self.old.disk) self.old.folder start.now plies.items)) }
+        ensures refused { IfOk result (λ found. IfErr found (IsRefusedInLine (D.facts self.old.disk) self.old.folder most_plies start.now)) }
         ensures same { self.new ≡ self.old }
     {
         let mut plies = Vec::new(self.alloc);
@@ -238,8 +228,8 @@ impl<'r, D: Disk> Answerer<'r, D> {
         winner: Option<Side>,
         start: &Position,
     ) -> Result<Result<Vec<ApiMove>, FileRefusal>, AllocError>
-        ensures told { IfOk result (λ told. IfOk told (λ plies. IsLineOfPlay (D.facts self.old.disk) self.old.folder winner start.now plies.items)) }
-        ensures refused { IfOk result (λ told. IfErr told (IsRefusedLineOf (D.facts self.old.disk) self.old.folder winner start.now)) }
+        ensures answer { IfOk result (λ found. IfOk found (λ plies. IsLineOfPlay (D.facts self.old.disk) self.old.folder winner start.now plies.items)) }
+        ensures refused { IfOk result (λ found. IfErr found (IsRefusedLineOf (D.facts self.old.disk) self.old.folder winner start.now)) }
         ensures same { self.new ≡ self.old }
     {
         match winner {
@@ -250,22 +240,22 @@ impl<'r, D: Disk> Answerer<'r, D> {
 
     /// A position and the line of best play from it, or the refusal of the file of a table that is needed.
     fn mainline_of(&mut self, position: &Position) -> Result<ApiLine, AllocError>
-        ensures told { IfOk result (TellsMainline (D.facts self.old.disk) self.old.folder position.now) }
+        ensures answer { IfOk result (AnswersMainline (D.facts self.old.disk) self.old.folder position.now) }
         ensures same { self.new ≡ self.old }
     {
-        let told = match self.position_told(position)? {
-            Ok(told) => told,
+        let known = match self.position_by(position)? {
+            Ok(known) => known,
             Err(refusal) => return Ok(refusal_of(&refusal)),
         };
-        match self.line_of_play(told.winner(), position)? {
-            Ok(plies) => Ok(ApiLine::Mainline(told, plies)),
+        match self.line_of_play(known.winner(), position)? {
+            Ok(plies) => Ok(ApiLine::Mainline(known, plies)),
             Err(refusal) => Ok(refusal_of(&refusal)),
         }
     }
 
-    /// What is told of the line of best play from the position of a text.
+    /// The line of best play from the position of a text.
     fn mainline_for(&mut self, text: &[u8]) -> Result<ApiLine, AllocError>
-        ensures told { IfOk result (TellsMainlineOf (D.facts self.old.disk) self.old.folder text.now) }
+        ensures answer { IfOk result (AnswersMainlineOf (D.facts self.old.disk) self.old.folder text.now) }
         ensures same { self.new ≡ self.old }
     {
         match read(text) {
@@ -274,19 +264,9 @@ impl<'r, D: Disk> Answerer<'r, D> {
         }
     }
 
-    /// Fills the response for the line of best play from the position of a text.
-    fn tell_mainline(&mut self, text: &[u8], response: &mut Response) -> Result<(), AllocError>
-        requires { IsBlank response.old }
-        ensures told { OnOk result ((l : ApiLine) × TellsMainlineOf (D.facts self.old.disk) self.old.folder text.now l × HasLine l response.new) }
-        ensures same { self.new ≡ self.old }
-    {
-        let line = self.mainline_for(text)?;
-        fill_line(self.alloc, response, &line)
-    }
-
     /// Adds the object for a line of a body, and a line feed.
     fn add_line(&mut self, words: &[u8], objects: &mut Vec<u8>) -> Result<(), AllocError>
-        ensures told { OnOk result (AddsObject (D.facts self.old.disk) self.old.folder words.now objects.old.items objects.new.items) }
+        ensures answer { OnOk result (AddsObject (D.facts self.old.disk) self.old.folder words.now objects.old.items objects.new.items) }
         ensures same { self.new ≡ self.old }
     {
         let text = position_text(self.alloc, words)?;
@@ -296,7 +276,7 @@ impl<'r, D: Disk> Answerer<'r, D> {
 
     /// The objects for the lines of a body, a line each.
     fn objects_for(&mut self, body: &[u8]) -> Result<Vec<u8>, AllocError>
-        ensures told { IfOk result (λ objects. AreObjects (D.facts self.old.disk) self.old.folder body.now objects.items) }
+        ensures answer { IfOk result (λ objects. AreObjects (D.facts self.old.disk) self.old.folder body.now objects.items) }
         ensures same { self.new ≡ self.old }
     {
         let mut objects = Vec::new(self.alloc);
@@ -309,9 +289,9 @@ impl<'r, D: Disk> Answerer<'r, D> {
     }
 
     /// Fills the response for the lines of a body.
-    fn tell_lines(&mut self, body: &[u8], response: &mut Response) -> Result<(), AllocError>
+    fn answer_lines(&mut self, body: &[u8], response: &mut Response) -> Result<(), AllocError>
         requires { IsBlank response.old }
-        ensures told { OnOk result ((ls : List ApiLine) × TellsEach (D.facts self.old.disk) self.old.folder (asked_lines body.now) ls × HasLines ls response.new) }
+        ensures answer { OnOk result ((ls : List ApiLine) × AnswersEach (D.facts self.old.disk) self.old.folder (asked_lines body.now) ls × HasLines ls response.new) }
         ensures same { self.new ≡ self.old }
     {
         let objects = self.objects_for(body)?;
@@ -326,14 +306,14 @@ impl<'r, D: Disk> Answerer<'r, D> {
     {
         match topic {
             Topic::Page => fill_page(response, PAGE),
-            Topic::Values(text) => self.tell_text(text, response),
-            Topic::Mainline(text) => self.tell_mainline(text, response),
+            Topic::Values(text) => fill_line(self.alloc, response, &self.line_for(text)?),
+            Topic::Mainline(text) => { fill_line(self.alloc, response, &self.mainline_for(text)?) }
             Topic::NoText => fill_error(
                 response,
                 StatusCode::BAD_REQUEST,
                 b"{\"error\":\"FEN missing\"}",
             ),
-            Topic::Lines(body) => self.tell_lines(body.as_slice(), response),
+            Topic::Lines(body) => self.answer_lines(body.as_slice(), response),
             Topic::TooManyLines => fill_error(
                 response,
                 StatusCode::PAYLOAD_TOO_LARGE,
@@ -341,6 +321,7 @@ impl<'r, D: Disk> Answerer<'r, D> {
             ),
             Topic::Methods(place) => fill_methods(response, *place),
             Topic::OtherMethod(place) => fill_other_method(response, *place),
+            Topic::UnknownMethod => fill_unknown_method(response),
             Topic::Elsewhere => fill_elsewhere(response),
         }
     }

@@ -1,8 +1,9 @@
 //! What a request asks for.
 
 ghost use Rattle.std.specs.Prelude.{◌≡◌, IfOk, option_map};
-ghost use Rattle.http_answer.specs.Inside.{access_at, action_for, asked_for};
-ghost use Rattle.http_answer.specs.Replies.{action_of, asked, asked_of, by_action, is_mainline, mainline_of, text_in, values_by, values_of, values_of_lines};
+ghost use Rattle.http_answer.specs.Inside.{action_for, asked_for, place_for};
+ghost use Rattle.http_answer.specs.Places.{action_of, is_among, known_methods, methods_of, place_at, reading, reading_and_posting};
+ghost use Rattle.http_answer.specs.Replies.{asked, asked_at, mainline_of, reads_at, text_in, values_by, values_of, values_of_lines};
 
 use crate::lines::is_list;
 use crate::query::asked_text;
@@ -10,18 +11,22 @@ use bytes::Bytes;
 use http::Request;
 use std::alloc::{AllocError, Global};
 
-/// A path at which something is.
+/// What is at a path.
 #[derive(Clone, Copy)]
 pub(crate) enum Place {
-    /// That of values, which any page may read, also those of many positions.
-    Standard,
-    /// That of lines of best play, which any page may read.
-    Mainline,
-    /// That of a page or of games, which pages of this server alone may read.
-    Own,
+    /// The page with a board.
+    Board,
+    /// Values of positions, which any page may read.
+    Positions,
+    /// Lines of best play, which any page may read.
+    Mainlines,
+    /// Games of folders, and the page on them.
+    Games,
+    /// The server as a whole, of which only its methods can be asked.
+    Whole,
 }
 
-/// What a method other than `POST` asks for at a path.
+/// What a method asks for at a place.
 #[derive(Clone, Copy)]
 pub(crate) enum Verb {
     /// What is there.
@@ -30,6 +35,8 @@ pub(crate) enum Verb {
     ListMethods,
     /// Nothing: it isn't one of them.
     Refuse,
+    /// Nothing: nobody knows it.
+    Unknown,
 }
 
 /// What a request asks for.
@@ -51,6 +58,8 @@ pub(crate) enum Topic {
     Methods(Place),
     /// It by another method.
     OtherMethod(Place),
+    /// It by a method that nobody knows.
+    UnknownMethod,
     /// What isn't here.
     Elsewhere,
 }
@@ -96,35 +105,79 @@ fn values_of_lines(body: &Bytes) -> Result<Topic, AllocError>
     }
 }
 
-/// What a method other than `POST` asks for.
-pub(crate) fn verb_of(method: &str) -> Verb
-    ensures { action_for result ≡ action_of method.now }
+/// Whether a method is one of those by which a place is read.
+fn is_reading(method: &str) -> bool
+    ensures { result ≡ is_among method.now reading }
 {
-    if method == "GET" || method == "HEAD" {
-        Verb::Read
-    } else if method == "OPTIONS" {
-        Verb::ListMethods
-    } else {
+    method == "GET" || method == "HEAD" || method == "OPTIONS"
+}
+
+/// Whether a method is one of these or `POST`.
+fn is_reading_or_posting(method: &str) -> bool
+    ensures { result ≡ is_among method.now reading_and_posting }
+{
+    method == "GET" || method == "HEAD" || method == "POST" || method == "OPTIONS"
+}
+
+/// Whether a place has a method.
+fn has_method(place: Place, method: &str) -> bool
+    ensures { result ≡ is_among method.now (methods_of (place_for place)) }
+{
+    match place {
+        Place::Board | Place::Mainlines | Place::Games => is_reading(method),
+        Place::Positions | Place::Whole => is_reading_or_posting(method),
+    }
+}
+
+/// Whether a method is one that a server knows.
+fn is_known(method: &str) -> bool
+    ensures { result ≡ is_among method.now known_methods }
+{
+    method == "GET"
+        || method == "HEAD"
+        || method == "POST"
+        || method == "PUT"
+        || method == "DELETE"
+        || method == "CONNECT"
+        || method == "OPTIONS"
+        || method == "TRACE"
+        || method == "PATCH"
+}
+
+/// What a method asks for at a place.
+pub(crate) fn verb_at(place: Place, method: &str) -> Verb
+    ensures { action_for result ≡ action_of (methods_of (place_for place)) method.now }
+{
+    if has_method(place, method) {
+        if method == "OPTIONS" {
+            Verb::ListMethods
+        } else {
+            Verb::Read
+        }
+    } else if is_known(method) {
         Verb::Refuse
+    } else {
+        Verb::Unknown
     }
 }
 
-/// What is asked for at a place by a method, where to read it is to ask for this.
-fn by_verb(place: Place, verb: Verb, read: Topic) -> Topic
-    ensures { asked_for result ≡ by_action (access_at place) (action_for verb) (asked_for read) }
+/// What is at a path, if something is.
+fn place_at(path: &str) -> Option<Place>
+    ensures { option_map place_for result ≡ place_at path.now }
 {
-    match verb {
-        Verb::Read => read,
-        Verb::ListMethods => Topic::Methods(place),
-        Verb::Refuse => Topic::OtherMethod(place),
+    if path == "/" {
+        Some(Place::Board)
+    } else if path == "/standard" {
+        Some(Place::Positions)
+    } else if path == "/standard/mainline" {
+        Some(Place::Mainlines)
+    } else if path == "/mainline" {
+        Some(Place::Mainlines)
+    } else if path == "*" {
+        Some(Place::Whole)
+    } else {
+        None
     }
-}
-
-/// Whether a path is that of lines of best play: that of the tablebase API of Lichess, or without its first part.
-fn is_mainline(path: &str) -> bool
-    ensures { result ≡ is_mainline path.now }
-{
-    path == "/standard/mainline" || path == "/mainline"
 }
 
 /// What a method asks for of values, of the position of a query or of those of a body.
@@ -139,30 +192,46 @@ fn values_by(
     if method == "POST" {
         values_of_lines(body)
     } else {
-        let read = values_of(text_in(alloc, query)?);
-        Ok(by_verb(Place::Standard, verb_of(method), read))
+        Ok(values_of(text_in(alloc, query)?))
     }
 }
 
-/// What a method, a path, a query and a body ask for.
-fn asked_of(
+/// What is asked for by who reads what is at a place.
+fn reads_at(
     alloc: Global,
+    place: Place,
     method: &str,
-    path: &str,
     query: Option<&str>,
     body: &Bytes,
 ) -> Result<Topic, AllocError>
-    ensures { IfOk result (λ w. asked_for w ≡ asked_of method.now path.now (option_map (λ s. s.now) query.entry) body.now) }
+    ensures { IfOk result (λ w. asked_for w ≡ reads_at (place_for place) method.now (option_map (λ s. s.now) query.entry) body.now) }
 {
-    if path == "/standard" {
-        values_by(alloc, method, query, body)
-    } else if is_mainline(path) {
-        let read = mainline_of(text_in(alloc, query)?);
-        Ok(by_verb(Place::Mainline, verb_of(method), read))
-    } else if path == "/" {
-        Ok(by_verb(Place::Own, verb_of(method), Topic::Page))
-    } else {
-        Ok(Topic::Elsewhere)
+    match place {
+        Place::Board => Ok(Topic::Page),
+        Place::Positions => values_by(alloc, method, query, body),
+        Place::Mainlines => Ok(mainline_of(text_in(alloc, query)?)),
+        Place::Games | Place::Whole => Ok(Topic::Elsewhere),
+    }
+}
+
+/// What is asked for at a path by a method, a query and a body, where so much is at the path.
+fn asked_at(
+    alloc: Global,
+    place: Option<Place>,
+    method: &str,
+    query: Option<&str>,
+    body: &Bytes,
+) -> Result<Topic, AllocError>
+    ensures { IfOk result (λ w. asked_for w ≡ asked_at (option_map place_for place) method.now (option_map (λ s. s.now) query.entry) body.now) }
+{
+    let Some(place) = place else {
+        return Ok(Topic::Elsewhere);
+    };
+    match verb_at(place, method) {
+        Verb::Read => reads_at(alloc, place, method, query, body),
+        Verb::ListMethods => Ok(Topic::Methods(place)),
+        Verb::Refuse => Ok(Topic::OtherMethod(place)),
+        Verb::Unknown => Ok(Topic::UnknownMethod),
     }
 }
 
@@ -171,10 +240,10 @@ pub(crate) fn topic_of(alloc: Global, request: &Request<Bytes>) -> Result<Topic,
     ensures { IfOk result (λ w. asked_for w ≡ asked request.now) }
 {
     let uri = request.uri();
-    asked_of(
+    asked_at(
         alloc,
+        place_at(uri.path()),
         request.method().as_str(),
-        uri.path(),
         uri.query(),
         request.body(),
     )

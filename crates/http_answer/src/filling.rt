@@ -2,8 +2,9 @@
 
 ghost use Rattle.std.specs.Prelude.{◌≡◌, ◌∷◌, ◌++◌, [], OnOk, codes};
 ghost use Rattle.http_server.specs.Response.{IsBlank, IsResponse, fields_of};
-ghost use Rattle.http_answer.specs.Inside.{access_at};
-ghost use Rattle.http_answer.specs.Replies.{HasError, HasLine, HasMethods, RefusesMethod, allowed, an_hour, any_origin, html_type, json_type, kept_for, lifetime_of, methods_of, object_text, preflight, status_of, typed, value_lifetime, value_status};
+ghost use Rattle.http_answer.specs.Inside.{place_for};
+ghost use Rattle.http_answer.specs.Places.{HasMethods, LacksMethod, RefusesMethod, allowed, an_hour, any_origin, html_type, json_type, kept_for, listed, methods_of, preflight, typed};
+ghost use Rattle.http_answer.specs.Replies.{HasError, HasLine, lifetime_of, object_text, status_of, value_lifetime, value_status};
 ghost use Rattle.move_msg.specs.TextLines.{ended};
 
 use crate::asking::Place;
@@ -37,7 +38,7 @@ fn add_any_origin(response: &mut Response) -> Result<(), AllocError>
 
 /// Adds which methods there are at a place.
 fn add_allowed(response: &mut Response, place: Place) -> Result<(), AllocError>
-    ensures fields { OnOk result (fields_of response.new ≡ fields_of response.old ++ allowed (access_at place) ∷ []) }
+    ensures fields { OnOk result (fields_of response.new ≡ fields_of response.old ++ allowed (place_for place) ∷ []) }
     ensures status { response.new.status ≡ response.old.status }
     ensures body { response.new.body ≡ response.old.body }
 {
@@ -149,17 +150,19 @@ pub(crate) fn fill_objects(response: &mut Response, objects: &[u8]) -> Result<()
 
 /// The methods that there are at a place.
 fn methods_at(place: Place) -> HeaderValue
-    ensures { result.bytes ≡ methods_of (access_at place) }
+    ensures { result.bytes ≡ listed (methods_of (place_for place)) }
 {
     match place {
-        Place::Mainline | Place::Own => HeaderValue::from_static("GET, HEAD, OPTIONS"),
-        Place::Standard => HeaderValue::from_static("GET, HEAD, POST, OPTIONS"),
+        Place::Board | Place::Mainlines | Place::Games => {
+            HeaderValue::from_static("GET, HEAD, OPTIONS")
+        }
+        Place::Positions | Place::Whole => HeaderValue::from_static("GET, HEAD, POST, OPTIONS"),
     }
 }
 
 /// Adds what a page from elsewhere may send to a place.
 fn add_preflight(response: &mut Response, place: Place) -> Result<(), AllocError>
-    ensures fields { OnOk result (fields_of response.new ≡ fields_of response.old ++ preflight (access_at place)) }
+    ensures fields { OnOk result (fields_of response.new ≡ fields_of response.old ++ preflight (place_for place)) }
     ensures status { response.new.status ≡ response.old.status }
     ensures body { response.new.body ≡ response.old.body }
 {
@@ -171,23 +174,23 @@ fn add_preflight(response: &mut Response, place: Place) -> Result<(), AllocError
     )
 }
 
-/// Fills a response that tells which methods there are at a place.
+/// Fills a response with the methods that there are at a place.
 pub(crate) fn fill_methods(response: &mut Response, place: Place) -> Result<(), AllocError>
     requires { IsBlank response.old }
-    ensures { OnOk result (HasMethods (access_at place) response.new) }
+    ensures { OnOk result (HasMethods (place_for place) response.new) }
 {
     response.status = StatusCode::NO_CONTENT;
     add_allowed(response, place)?;
     match place {
-        Place::Standard | Place::Mainline => add_preflight(response, place),
-        Place::Own => Ok(()),
+        Place::Positions | Place::Mainlines => add_preflight(response, place),
+        Place::Board | Place::Games | Place::Whole => Ok(()),
     }
 }
 
 /// Fills a response that refuses a method at a place.
 pub(crate) fn fill_other_method(response: &mut Response, place: Place) -> Result<(), AllocError>
     requires { IsBlank response.old }
-    ensures { OnOk result (RefusesMethod (access_at place) response.new) }
+    ensures { OnOk result (RefusesMethod (place_for place) response.new) }
 {
     fill(
         response,
@@ -197,9 +200,22 @@ pub(crate) fn fill_other_method(response: &mut Response, place: Place) -> Result
     )?;
     add_allowed(response, place)?;
     match place {
-        Place::Standard | Place::Mainline => add_any_origin(response),
-        Place::Own => Ok(()),
+        Place::Positions | Place::Mainlines => add_any_origin(response),
+        Place::Board | Place::Games | Place::Whole => Ok(()),
     }
+}
+
+/// Fills a response to a method that nobody knows.
+pub(crate) fn fill_unknown_method(response: &mut Response) -> Result<(), AllocError>
+    requires { IsBlank response.old }
+    ensures { OnOk result (LacksMethod response.new) }
+{
+    fill(
+        response,
+        StatusCode::NOT_IMPLEMENTED,
+        HeaderValue::from_static("application/json"),
+        b"{\"error\":\"method not implemented\"}",
+    )
 }
 
 /// Adds an object of the tablebase API to a text.

@@ -7,23 +7,25 @@
 //! of which is read when a position asks for it, and its answers are a function of the request and of this folder.
 //!
 //! `Games` holds a folder of games, and a second one, if it is named, as `game_status` reads them, with the records of their stores. What
-//! `status` writes of all games is read anew where it was read a second ago or longer: a report is a copy of one that was kept less than a
-//! second before, by the clock, or of one that is kept with this time (`report_at`, private, clause `time`). One game is read at each
-//! request, and its plies are asked of the tables.
+//! `status` writes of all games is read where none is kept that is less than a second old, by what `Times` says. One game is read at each
+//! request, and its plies are asked of the tables; where one of these has no room, tables are read for it alone.
 //!
 //! Inside: `query` and `lines` (texts of positions in a query and in a body), `asking` (what a request asks for), `filling`, `answerer`,
-//! `page`; `games` (folders of games, and reports), `plies` (the object of a game), `router`, `watch` (a page).
+//! `page`; `times`, `games` (folders of games, and reports), `plies` (the object of a game), `router`, `watch` (a page).
 //!
-//! Definitions, in reading order: `Queries`, `Replies`; `Games`.
+//! Definitions, in reading order: `Queries`, `Places`, `Replies`; `Times`, `Games`.
 //!
 //! - CLAIM: `Router`, clause `answers`: the response is the one that `IsServed` has for the request's method and path, and the folders
 //!   stay the same. Of all games it is the report that `status` writes as JSON or as metrics, of one game its object with each ply, by a
 //!   look at the folders. A second folder, its comparison and its faults are as `status` has them. 404 where no folder lists the file of
 //!   the stamp, and for each path of games where no folder is named.
+//! - CLAIM: `Router`, clause `answers`: a report on all games is the one that is kept, where that is less than a second old by the clock, and
+//!   else one that is read, which is kept with the time (`IsAged`).
 //! - CLAIM: `Answerer`, clause `answers`: the response is the reply to the request (`IsReply`), and the folder stays
 //!   the same. For a position it is an object of the tablebase API with each legal move, by tables of the folder of which none is missing
 //!   at the position and after its moves; or the refusal of the file of one that is needed. For a body it is these of each line, in turn.
-//!   For a line of best play each ply is the first root move of its position, by tables of the folder of which none is missing there.
+//!   For a line of best play each ply is the first root move of its position, by tables of the folder of which none is missing there. What
+//!   is at a path, by which methods, and which pages may read it is in three tables (`places`, `methods_of`, `is_shared`).
 //! - CLAIM: `asked_text`, clause `text`: the text of the first member `fen` of the query, decoded, with a space for each `_`, and with
 //!   both counters.
 #![tactic(auto)]
@@ -37,6 +39,7 @@ mod page;
 mod plies;
 mod query;
 mod router;
+mod times;
 mod watch;
 
 pub use answerer::Answerer;
@@ -44,4 +47,5 @@ pub use games::{GameFolders, Games};
 pub use page::PAGE;
 pub use query::asked_text;
 pub use router::Router;
+pub use times::{ClockTimes, StatedTime, Times};
 pub use watch::WATCH;

@@ -6,7 +6,7 @@ ghost use Rattle.json.specs.Json.{document};
 ghost use Rattle.json.specs.Tree.{json_tokens};
 ghost use Rattle.json_lines.specs.Objects.{line_json};
 ghost use Rattle.game_status.specs.StatusObjects.{AddsMembers, AddsTokens, AreNamed};
-ghost use Rattle.http_answer.specs.Games.{ArePlies, HasPlies, delay_in, moves_in};
+ghost use Rattle.http_answer.specs.Games.{ArePliesOf, HasPlies, delay_in, moves_in};
 ghost use Rattle.http_answer.specs.Inside.{AddsGame, AddsList, AddsMoves, AddsNext, AddsPlies, AddsPosition, AddsStart, IsGameText, move_members};
 
 use crate::answerer::Answerer;
@@ -152,7 +152,7 @@ fn add_plies_of<D: Disk>(
     text: &mut Writer,
     side: &Side,
 ) -> Result<(), AllocError>
-    ensures added { OnOk result (AddsPlies (ArePlies (D.facts answerer.old.disk) answerer.old.folder side.now.game.start (moves_in side.now.kept)) text.old text.new) }
+    ensures added { OnOk result (AddsPlies (ArePliesOf (D.facts answerer.old.disk) answerer.old.folder side.now) text.old text.new) }
     ensures same { answerer.new ≡ answerer.old }
 {
     let start = &side.game.start;

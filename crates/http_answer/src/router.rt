@@ -1,24 +1,27 @@
 //! Which part answers a request: the tables, or the folders of games.
 
-ghost use Rattle.std.specs.Prelude.{◌≡◌, ◌++◌, ℕ, List, IfNone, IfSome, OnOk};
+ghost use Rattle.std.specs.Prelude.{◌≡◌, ◌++◌, ℕ, List, IfNone, IfSome, None, OnErr, OnOk};
 ghost use Rattle.http_server.specs.Response.{IsBlank, IsResponse};
 ghost use Rattle.game_status.specs.StatusObjects.{AreNamed};
-ghost use Rattle.http_answer.specs.Games.{AskedOfGames, AsksBelow, AsksByDigits, AsksOfGames, AsksToWatch, HasGame, IsByMethod, TellsOfGames, fresh_fields, fresh_json, is_games, is_watch, lacked_text};
-ghost use Rattle.http_answer.specs.Inside.{HasReportText, IsGameText, asked_of_games};
+ghost use Rattle.http_answer.specs.Games.{AnswersOfGames, AskedOfGames, AsksBelow, AsksByDigits, AsksOfGames, AsksToWatch, HasGame, HasReport, HasReportText, IsAged, IsByMethod, IsReportAt, MayAnswer, fresh_at, fresh_fields, fresh_json, is_games, is_watch, kept_by, lacked_text};
+ghost use Rattle.http_answer.specs.Inside.{HasGameText, asked_of_games, report_in};
+ghost use Rattle.http_answer.specs.Times.{nanos};
 
 use crate::answerer::Answerer;
-use crate::asking::{Place, Verb, verb_of};
-use crate::filling::{fill_kept, fill_methods, fill_other_method, fill_page};
+use crate::asking::{Place, Verb, verb_at};
+use crate::filling::{fill_kept, fill_methods, fill_other_method, fill_page, fill_unknown_method};
 use crate::games::Games;
 use crate::plies::game_text;
+use crate::times::Times;
 use crate::watch::WATCH;
+use bumpalo::Bump;
 use bytes::Bytes;
 use game_status::{GameFound, LackedFolder, ReportForm, stamp_of};
 use http::{HeaderValue, Request, StatusCode};
 use http_server::{Response, Service};
 use move_msg::Stamp;
 use std::alloc::{AllocError, Global};
-use std::time::Clock;
+use std::time::Instant;
 use system_io::{Disk, Host};
 
 /// What is asked for of games.
@@ -157,7 +160,7 @@ fn lacked_text(lacked: LackedFolder) -> &'static str
     }
 }
 
-/// Fills a response that tells what is lacking of a folder.
+/// Fills a response with what is lacking of a folder.
 fn fill_lacked(response: &mut Response, lacked: LackedFolder) -> Result<(), AllocError>
     requires { IsBlank response.old }
     ensures { OnOk result (IsResponse 500 fresh_json (lacked_text lacked) response.new) }
@@ -176,7 +179,7 @@ fn fill_report(
     report: &Result<Vec<u8>, LackedFolder>,
 ) -> Result<(), AllocError>
     requires { IsBlank response.old }
-    ensures { OnOk result (HasReportText report.now kind.bytes response.new) }
+    ensures { OnOk result (HasReportText (report_in report.now) kind.bytes response.new) }
 {
     match report {
         Ok(text) => fill_fresh(response, StatusCode::OK, kind, text),
@@ -196,7 +199,7 @@ fn fill_game<D: Disk>(
     requires first { AreNamed found.now.first }
     requires both { AreNamed found.now.both }
     requires blank { IsBlank response.old }
-    ensures told { OnOk result ((text : List ℕ) × IsGameText (D.facts answerer.old.disk) answerer.old.folder compares stamp found.now text × IsResponse 200 fresh_json text response.new) }
+    ensures game { OnOk result (HasGameText (D.facts answerer.old.disk) answerer.old.folder compares stamp found.now response.new) }
     ensures same { answerer.new ≡ answerer.old }
 {
     let text = game_text(answerer, alloc, stamp, found, compares)?;
@@ -205,7 +208,7 @@ fn fill_game<D: Disk>(
 
 /// Answers by the tables of a folder, and by folders of games, if they are named.
 #[derive(Drop)]
-pub struct Router<'r, D: Disk, H: Host, C: Clock> {
+pub struct Router<'r, D: Disk, H: Host, C: Times> {
     /// Where memory comes from.
     pub alloc: Global,
     /// What answers by the tables.
@@ -215,7 +218,7 @@ pub struct Router<'r, D: Disk, H: Host, C: Clock> {
 }
 
 /// Fills the response to what is asked for of the game with a stamp.
-fn tell_game<D: Disk, H: Host, C: Clock>(
+fn answer_game<D: Disk, H: Host, C: Times>(
     answerer: &mut Answerer<'_, D>,
     games: &Games<'_, D, H, C>,
     alloc: Global,
@@ -223,7 +226,7 @@ fn tell_game<D: Disk, H: Host, C: Clock>(
     response: &mut Response,
 ) -> Result<(), AllocError>
     requires { IsBlank response.old }
-    ensures told { OnOk result (HasGame (D.facts answerer.old.disk) answerer.old.folder D.facts H.stores games.now stamp response.new) }
+    ensures game { OnOk result (HasGame (D.facts answerer.old.disk) answerer.old.folder D.facts H.stores games.now.on stamp response.new) }
     ensures same { answerer.new ≡ answerer.old }
 {
     match games.game(alloc, stamp)? {
@@ -237,8 +240,68 @@ fn tell_game<D: Disk, H: Host, C: Clock>(
     }
 }
 
+/// The same, by tables that are read for it alone where one that is needed has no room.
+fn answer_game_with_room<D: Disk, H: Host, C: Times>(
+    answerer: &mut Answerer<'_, D>,
+    games: &Games<'_, D, H, C>,
+    alloc: Global,
+    stamp: Stamp,
+    response: &mut Response,
+) -> Result<(), AllocError>
+    requires { IsBlank response.old }
+    ensures game { OnOk result (HasGame (D.facts answerer.old.disk) answerer.old.folder D.facts H.stores games.now.on stamp response.new) }
+    ensures same { answerer.new ≡ answerer.old }
+{
+    if answer_game(answerer, games, alloc, stamp, response).is_ok() {
+        return Ok(());
+    }
+    response.clear();
+    let arena = Bump::new(alloc);
+    let mut apart = answerer.apart(&arena)?;
+    answer_game(&mut apart, games, alloc, stamp, response)
+}
+
+/// Fills the response with a report in a form, of this type, that is read at this time, since none is kept that is fresh; and keeps it.
+fn answer_anew<D: Disk, H: Host, C: Times>(
+    games: &mut Games<'_, D, H, C>,
+    form: ReportForm,
+    now: Option<Instant>,
+    alloc: Global,
+    kind: HeaderValue,
+    response: &mut Response,
+) -> Result<(), AllocError>
+    requires blank { IsBlank response.old }
+    requires stale { fresh_at (nanos now) (kept_by form games.old) ≡ None }
+    ensures report { OnOk result (HasReport D.facts H.stores games.old.on form kind.bytes (IsReportAt (nanos now) form games.old games.new) response.new) }
+    ensures same { OnErr result (games.new ≡ games.old) }
+{
+    let report = games.read(alloc, form)?;
+    fill_report(response, kind, &report)?;
+    games.keep(form, now, report);
+    Ok(())
+}
+
+/// Fills the response with a report in a form, of this type.
+fn answer_report<D: Disk, H: Host, C: Times>(
+    games: &mut Games<'_, D, H, C>,
+    alloc: Global,
+    form: ReportForm,
+    kind: HeaderValue,
+    response: &mut Response,
+) -> Result<(), AllocError>
+    requires { IsBlank response.old }
+    ensures report { OnOk result (HasReport D.facts H.stores games.old.on form kind.bytes (IsAged C.says form games.old games.new) response.new) }
+    ensures same { OnErr result (games.new ≡ games.old) }
+{
+    let now = games.time();
+    match games.fresh(form, now) {
+        Some(report) => fill_report(response, kind, report),
+        None => answer_anew(games, form, now, alloc, kind, response),
+    }
+}
+
 /// Fills the response to what is asked for of games.
-fn tell<D: Disk, H: Host, C: Clock>(
+fn answer<D: Disk, H: Host, C: Times>(
     answerer: &mut Answerer<'_, D>,
     games: &mut Games<'_, D, H, C>,
     alloc: Global,
@@ -246,22 +309,26 @@ fn tell<D: Disk, H: Host, C: Clock>(
     response: &mut Response,
 ) -> Result<(), AllocError>
     requires { IsBlank response.old }
-    ensures told { OnOk result (TellsOfGames D.facts H.stores answerer.old games.old (asked_of_games topic) response.new) }
+    ensures answered { OnOk result (AnswersOfGames D.facts H.stores C.says answerer.old games.old games.new (asked_of_games topic) response.new) }
     ensures same { answerer.new ≡ answerer.old }
-    ensures same_games { games.new ≡ games.old }
+    ensures same_games { OnErr result (games.new ≡ games.old) }
 {
     match topic {
-        GameTopic::Games => fill_report(
-            response,
+        GameTopic::Games => answer_report(
+            games,
+            alloc,
+            ReportForm::Json,
             HeaderValue::from_static("application/json"),
-            &games.report(alloc, ReportForm::Json)?,
-        ),
-        GameTopic::Metrics => fill_report(
             response,
-            HeaderValue::from_static("text/plain; version=0.0.4"),
-            &games.report(alloc, ReportForm::Metrics)?,
         ),
-        GameTopic::Game(stamp) => tell_game(answerer, games, alloc, stamp, response),
+        GameTopic::Metrics => answer_report(
+            games,
+            alloc,
+            ReportForm::Metrics,
+            HeaderValue::from_static("text/plain; version=0.0.4"),
+            response,
+        ),
+        GameTopic::Game(stamp) => answer_game_with_room(answerer, games, alloc, stamp, response),
         GameTopic::NoStamp => fill_fresh_json(
             response,
             StatusCode::BAD_REQUEST,
@@ -272,7 +339,7 @@ fn tell<D: Disk, H: Host, C: Clock>(
 }
 
 /// Fills the response to what is asked for of games by a method.
-fn tell_by_method<D: Disk, H: Host, C: Clock>(
+fn answer_by_method<D: Disk, H: Host, C: Times>(
     answerer: &mut Answerer<'_, D>,
     games: &mut Games<'_, D, H, C>,
     alloc: Global,
@@ -281,21 +348,22 @@ fn tell_by_method<D: Disk, H: Host, C: Clock>(
     response: &mut Response,
 ) -> Result<(), AllocError>
     requires { IsBlank response.old }
-    ensures told { OnOk result (IsByMethod method.now (TellsOfGames D.facts H.stores answerer.old games.old (asked_of_games topic)) response.new) }
+    ensures answer { OnOk result (IsByMethod method.now (MayAnswer D.facts H.stores C.says answerer.old (asked_of_games topic)) games.old games.new response.new) }
     ensures same { answerer.new ≡ answerer.old }
-    ensures same_games { games.new ≡ games.old }
+    ensures same_games { OnErr result (games.new ≡ games.old) }
 {
-    match verb_of(method) {
-        Verb::Read => tell(answerer, games, alloc, topic, response),
-        Verb::ListMethods => fill_methods(response, Place::Own),
-        Verb::Refuse => fill_other_method(response, Place::Own),
+    match verb_at(Place::Games, method) {
+        Verb::Read => answer(answerer, games, alloc, topic, response),
+        Verb::ListMethods => fill_methods(response, Place::Games),
+        Verb::Refuse => fill_other_method(response, Place::Games),
+        Verb::Unknown => fill_unknown_method(response),
     }
 }
 
-impl<'r, D: Disk, H: Host, C: Clock> Service for Router<'r, D, H, C> {
+impl<'r, D: Disk, H: Host, C: Times> Service for Router<'r, D, H, C> {
     ghost use Rattle.http_answer.specs.Games.{Routes};
 
-    ghost answers = { λ old request response new. Routes D.facts H.stores old.answerer old.games request response new.answerer new.games };
+    ghost answers = { λ old request response new. Routes D.facts H.stores C.says old.answerer old.games request response new.answerer new.games };
 
     fn call(
         &mut self,
@@ -306,7 +374,7 @@ impl<'r, D: Disk, H: Host, C: Clock> Service for Router<'r, D, H, C> {
             return self.answerer.call(request, response);
         };
         match topic_at(request.uri().path()) {
-            Some(topic) => tell_by_method(
+            Some(topic) => answer_by_method(
                 &mut self.answerer,
                 games,
                 self.alloc,

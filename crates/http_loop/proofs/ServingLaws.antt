@@ -54,6 +54,11 @@ at_with_value {T} s key was is P found p =
     let updates = Updates-with_value s key is (rw found refl) in
     subst (λ (o : Option T). IfSome o P) (sym updates.changed) p
 
+pub with_value_updates : {T : Type 0} (s : Slab T) (key : ℕ) (was is : T) → get s key ≡ Some was
+    → Updates s (with_value s key is) key (get (with_value s key is) key)
+with_value_updates s key was is found =
+    let updates = Updates-with_value s key is (rw found refl) in record { changed = refl; others = updates.others }
+
 -- a connection to which nothing happened rests as before
 pub rests_still : (config config' : Config) (h h' : History) → config' ≡ config → h' ≡ h → Rests config h → Rests config' h'
 rests_still config config' h h' same still rests =
@@ -62,7 +67,7 @@ rests_still config config' h h' same still rests =
 module _ {R W : Type 0} where
   same_one : (peer : Option (Peer R W)) → HaveSame peer peer
   same_one None = tt
-  same_one (Some peer) = record { reader = refl; writer = refl; connection = refl }
+  same_one (Some peer) = record { reader = refl; writer = refl; connection = refl; goes_on = refl }
 
   same_then : (a b c : Option (Peer R W)) → HaveSame a b → HaveSame b c → HaveSame a c
   same_then None None None x y = tt
@@ -74,6 +79,7 @@ module _ {R W : Type 0} where
     reader = y.reader ∙ x.reader;
     writer = y.writer ∙ x.writer;
     connection = y.connection ∙ x.connection;
+    goes_on = y.goes_on ∙ x.goes_on;
   }
 
   pub same_all : (peers : Slab (Peer R W)) → HaveSameEnds peers peers

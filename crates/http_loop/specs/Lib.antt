@@ -1,6 +1,10 @@
+pub mod Times
 pub mod Streams
 pub mod Serving
+pub mod Turns
+pub mod Late
 pub mod Servers
 pub mod Ends
 pub mod Memory
+pub mod Lingering
 pub mod Premises

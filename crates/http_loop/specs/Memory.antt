@@ -1,33 +1,39 @@
 -- What is known of a listener in memory.
-use Rattle.std.specs.Prelude.{Bool, true, false, List, map, Option, Some, None, option_map, slice_index_or}
-use Rattle.std.specs.Io.Cursor.{cursor_remaining}
+use Rattle.std.specs.Prelude.{◌≡◌, List, [], ◌∷◌, map, reverse, Option, None, option_map, slice_index_or}
 use Rattle.http_loop.specs.declared.memory.Coming.{Coming}
 use Rattle.http_loop.specs.declared.memory.Left.{Left}
 use Rattle.http_loop.specs.declared.memory.MemoryListener.{MemoryListener}
-use Rattle.http_loop.specs.Ends.{coming_stream}
-use Rattle.http_loop.specs.Streams.{Closed, Streams}
+use Rattle.http_loop.specs.Ends.{coming_stream, ends_stream}
+use Rattle.http_loop.specs.Streams.{Closed, Stream, Streams}
+use Rattle.http_loop.specs.Times.{Moments}
 
 abbrev pub closed_stream : Left → Closed
 closed_stream left = record {
   came = coming_stream left.came;
-  left = record { gives = cursor_remaining (λ v. Some v.items) left.reader; got = Some left.writer.items };
+  left = ends_stream (left.reader, left.writer);
 }
 
--- those that have still to come
+-- those that have still to come, the next one first
 abbrev pub coming_at : MemoryListener → List Coming
-coming_at listener = listener.coming.items
+coming_at listener = reverse listener.coming.items
+
+-- the first of those that were to come is this one, and the others have still to come
+abbrev pub ComesFirst : List Coming → List Coming → Stream → Type 0
+ComesFirst old new came = (first : Coming) × (old ≡ first ∷ new) × (came ≡ coming_stream first)
+
+-- no stream lingers
+abbrev pub none_lingers : MemoryListener → Moments
+none_lingers listener = []
 
 abbrev pub closed_in : MemoryListener → List Left
 closed_in listener = listener.closed.items
 
--- those that are open and those that were closed, if that is known
-abbrev pub streams_in : Bool → List (Option Coming) → List Left → Option Streams
-streams_in false opened closed = None
-streams_in true opened closed = Some (record {
+-- those that are open, each under its key, and those that were closed
+abbrev pub streams_in : List (Option Coming) → List Left → Streams
+streams_in opened closed = record {
   opened = λ key. option_map coming_stream (slice_index_or opened key None);
   closed = map closed_stream closed;
-})
+}
 
--- nothing is known once memory for one that was closed was refused
-abbrev pub memory_streams : MemoryListener → Option Streams
-memory_streams listener = streams_in listener.is_known listener.opened.items listener.closed.items
+abbrev pub memory_streams : MemoryListener → Streams
+memory_streams listener = streams_in listener.opened.items listener.closed.items

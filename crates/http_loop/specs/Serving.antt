@@ -25,11 +25,12 @@ abbrev pub AreServed : Config → List Call → List Closed → Type 0
 AreServed config calls streams = All (λ c. IsServedOver config calls c.came c.left) streams
 
 module _ {R W : Type 0} where
-  -- its ends and its connection are the same
+  -- its ends and its connection are the same, and whether it may go on
   pub record IsTheSame (old new : Peer R W) : Type 0 where
     pub reader : new.reader ≡ old.reader
     pub writer : new.writer ≡ old.writer
     pub connection : new.connection ≡ old.connection
+    pub goes_on : new.goes_on ≡ old.goes_on
 
   abbrev pub HaveSame : Option (Peer R W) → Option (Peer R W) → Type 0
   HaveSame None None = Unit {0}
@@ -79,3 +80,18 @@ module _ {R W : Type 0} (remaining : R → Option (List ℕ)) (contents : W → 
   ServesOn answers old new config known peers known' peers' =
       (more : List Call) × Chain answers old more new
       × ((calls : List Call) (before : List Closed) → IsServing config calls before known peers → IsServing config (calls ++ more) before known' peers')
+
+module _ {L R W : Type 0} (streams : L → Option Streams) (remaining : R → Option (List ℕ)) (contents : W → Option (List ℕ)) where
+  -- the streams of a listener are served still, after a step of it and its connections
+  abbrev pub StayServed : Config → L → Slab (Peer R W) → L → Slab (Peer R W) → Type 0
+  StayServed config old peers new peers' = StillServes remaining contents config (streams old) peers (streams new) peers'
+
+  -- so it is whatever the limits of the connections are
+  abbrev pub AllStayServed : L → Slab (Peer R W) → L → Slab (Peer R W) → Type 0
+  AllStayServed old peers new peers' = (config : Config) → StayServed config old peers new peers'
+
+  -- so it is after the service was called, and the calls lead from one of its states to the other
+  abbrev pub ServedBy : {S : Type 0} → (S → Request (List ℕ) → Response → S → Type 0) → S → S
+      → L → Slab (Peer R W) → L → Slab (Peer R W) → Type 0
+  ServedBy answers before after old peers new peers' =
+      (config : Config) → ServesOn remaining contents answers before after config (streams old) peers (streams new) peers'

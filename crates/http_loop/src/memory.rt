@@ -1,15 +1,15 @@
 //! A listener in memory.
 
-ghost use Rattle.std.specs.Prelude.{◌≡◌, [], IfOk, IsSome, Some};
-ghost use Rattle.std.specs.Io.Cursor.{cursor_remaining};
-ghost use Rattle.http_loop.specs.Ends.{coming_stream};
-ghost use Rattle.http_loop.specs.Streams.{stream_of};
+ghost use Rattle.std.specs.Prelude.{◌≡◌, ◌+◌, ◌≤◌, [], IfOk, OnErr, Some, count_by, is_some, reverse, vec_capacity, vec_len};
+ghost use Rattle.http_loop.specs.Ends.{coming_stream, ends_stream};
+ghost use Rattle.http_loop.specs.Streams.{Closes, Opens, Stays};
+ghost use Rattle.http_loop.specs.Times.{LingerFrom, Remain};
 
 use crate::listener::Listener;
 use std::alloc::{AllocError, Global};
 use std::io;
 use std::io::{Cursor, ErrorKind};
-use std::time::Duration;
+use std::time::{Duration, Instant};
 
 /// A stream that comes: what it will give, and what it has got before.
 #[derive(Drop)]
@@ -31,20 +31,19 @@ pub struct Left {
     pub writer: Vec<u8>,
 }
 
-/// A listener whose streams, the last one first, give the bytes that are stated, and keep those that they get. Where memory for what was
-/// closed is refused nothing is known of it any more.
+/// A listener whose streams, the last one first, give the bytes that are stated, and keep those that they get. None of them lingers.
 #[derive(Drop)]
 pub struct MemoryListener {
     alloc: Global,
     coming: Vec<Coming>,
     opened: Vec<Option<Coming>>,
     closed: Vec<Left>,
-    is_known: bool,
+    ghost has_room: { vec_len closed + count_by is_some opened.items ≤ vec_capacity closed },
 }
 
 /// Both ends of a stream that comes.
 fn ends_of(alloc: Global, coming: &Coming) -> Result<(Cursor<Vec<u8>>, Vec<u8>), AllocError>
-    ensures { IfOk result (λ ends. stream_of (cursor_remaining (λ v. Some v.items)) (λ v. Some v.items) ends.0 ends.1 ≡ coming_stream coming.now) }
+    ensures { IfOk result (λ ends. ends_stream ends ≡ coming_stream coming.now) }
 {
     let gives = Vec::from_slice(alloc, coming.gives.as_slice())?;
     let got = Vec::from_slice(alloc, coming.got.as_slice())?;
@@ -55,15 +54,14 @@ impl MemoryListener {
     ghost use Rattle.http_loop.specs.Memory.{closed_in, coming_at, memory_streams};
     ghost use Rattle.http_loop.specs.Streams.{HasNoOpen};
 
-    /// A listener at which these come, with so many keys at most. The error comes where memory is refused.
+    /// A listener at which these come, the last one first, with so many keys at most. The error comes where memory is refused.
     pub fn new(
         alloc: Global,
         coming: Vec<Coming>,
         keys: usize,
     ) -> Result<MemoryListener, AllocError>
-        ensures none { IfOk result (λ listener. HasNoOpen (memory_streams listener)) }
-        ensures known { IfOk result (λ listener. IsSome (memory_streams listener)) }
-        ensures coming { IfOk result (λ listener. coming_at listener ≡ coming.items) }
+        ensures none { IfOk result (λ listener. HasNoOpen (Some (memory_streams listener))) }
+        ensures coming { IfOk result (λ listener. coming_at listener ≡ reverse coming.items) }
         ensures closed { IfOk result (λ listener. closed_in listener ≡ []) }
     {
         let mut opened = Vec::new(alloc);
@@ -75,7 +73,6 @@ impl MemoryListener {
             coming,
             opened,
             closed: Vec::new(alloc),
-            is_known: true,
         })
     }
 
@@ -88,15 +85,21 @@ impl MemoryListener {
 }
 
 impl Listener for MemoryListener {
-    ghost use Rattle.http_loop.specs.Memory.{memory_streams};
+    ghost use Rattle.http_loop.specs.Memory.{ComesFirst, coming_at, memory_streams, none_lingers};
 
     type Reader = Cursor<Vec<u8>>;
 
     type Writer = Vec<u8>;
 
-    ghost streams = { memory_streams };
+    ghost streams = { λ listener. Some (memory_streams listener) };
 
-    fn wait(&mut self, ready: &mut Vec<usize>, _time: Duration) -> io::Result<()> {
+    ghost lingering = { none_lingers };
+
+    fn wait(&mut self, ready: &mut Vec<usize>, _time: Duration) -> io::Result<()>
+        ensures streams { Stays (Some (memory_streams self.old)) (Some (memory_streams self.new)) }
+        ensures lingering { Remain (none_lingers self.old) (none_lingers self.new) }
+        ensures coming { coming_at self.new ≡ coming_at self.old }
+    {
         for key in 0..self.opened.len() {
             if self.opened[key].is_some() {
                 ready.push(key)?;
@@ -105,34 +108,41 @@ impl Listener for MemoryListener {
         Ok(())
     }
 
-    fn accept(&mut self, key: usize) -> io::Result<(Cursor<Vec<u8>>, Vec<u8>)> {
-        if key >= self.opened.len() {
-            return Err(ErrorKind::WouldBlock.into());
-        }
-        let Some(coming) = self.coming.pop() else {
-            return Err(ErrorKind::WouldBlock.into());
+    fn accept(&mut self, key: usize) -> io::Result<(Cursor<Vec<u8>>, Vec<u8>)>
+        ensures ok { IfOk result (λ ends. Opens (Some (memory_streams self.old)) (Some (memory_streams self.new)) key (ends_stream ends)) }
+        ensures err { OnErr result (Stays (Some (memory_streams self.old)) (Some (memory_streams self.new))) }
+        ensures lingering { none_lingers self.new ≡ none_lingers self.old }
+        ensures first { IfOk result (λ ends. ComesFirst (coming_at self.old) (coming_at self.new) (ends_stream ends)) }
+        ensures none { OnErr result (coming_at self.new ≡ coming_at self.old) }
+    {
+        let ends = match self.coming.last() {
+            Some(coming) if key < self.opened.len() => ends_of(self.alloc, coming)?,
+            _ => return Err(ErrorKind::WouldBlock.into()),
         };
-        let ends = ends_of(self.alloc, &coming)?;
-        self.opened[key] = Some(coming);
+        self.closed.reserve(self.opened.len())?;
+        self.opened[key] = self.coming.pop();
         Ok(ends)
     }
 
-    fn close(&mut self, key: usize, reader: Cursor<Vec<u8>>, writer: Vec<u8>) {
+    fn close(&mut self, key: usize, reader: Cursor<Vec<u8>>, writer: Vec<u8>, _now: Instant)
+        ensures streams { Closes (Some (memory_streams self.old)) (Some (memory_streams self.new)) key (ends_stream (reader, writer)) }
+        ensures lingering { LingerFrom _now (none_lingers self.old) (none_lingers self.new) }
+        ensures coming { coming_at self.new ≡ coming_at self.old }
+    {
         if key >= self.opened.len() {
             return;
         }
         let Some(came) = self.opened[key].take() else {
             return;
         };
-        let left = Left {
+        self.closed.push_reserved(Left {
             came,
             reader,
             writer,
-        };
-        match self.closed.push(left) {
-            Ok(()) => return,
-            Err(_) => {}
-        }
-        self.is_known = false;
+        });
     }
+
+    fn let_go(&mut self, _now: Instant, _limit: Duration) {}
+
+    fn count_anew(&mut self, _now: Instant) {}
 }

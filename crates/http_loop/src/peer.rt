@@ -1,10 +1,10 @@
 //! One connection, over a reader and a writer that don't wait.
 
-ghost use Rattle.std.specs.Prelude.{◌≡◌, ◌≤◌, ℕ, List, ◌++◌, false};
-ghost use Rattle.std.specs.Io.KnownBytes.{Appends, Consumes};
+ghost use Rattle.std.specs.Prelude.{◌≡◌, ◌≤◌, ◌||◌, IsFalse, IsTrue, false, if◌then◌else◌};
 ghost use Rattle.http_server.specs.Connection.{config_of, history};
 ghost use Rattle.http_server.specs.Exchange.{Calls};
 ghost use Rattle.http_server.specs.History.{IsDone, Rests};
+ghost use Rattle.http_loop.specs.Turns.{HandsOut, KeepsTime, Receives, SendsSome, StaysIdle, may_go_on};
 
 use http_server::{Connection, Service, State};
 use std::io;
@@ -73,7 +73,9 @@ fn idle(fate: Fate) -> Turn
 }
 
 /// What a call that failed means.
-fn failed(error: &io::Error) -> Turn {
+fn failed(error: &io::Error) -> Turn
+    ensures { result.has_sent ≡ false }
+{
     match error.kind() {
         ErrorKind::WouldBlock => idle(Fate::Waits),
         ErrorKind::Interrupted => idle(Fate::GoesOn),
@@ -83,13 +85,11 @@ fn failed(error: &io::Error) -> Turn {
 
 /// Writes once, or reads once.
 fn step<R: Read, W: Write>(connection: &mut Connection, reader: &mut R, writer: &mut W) -> Turn
-    ensures read { (more : List ℕ)
-        × Consumes (R.remaining reader.old) (R.remaining reader.new) more
-        × ((history connection.new).received ≡ (history connection.old).received ++ more) }
-    ensures written { (more : List ℕ)
-        × Appends (W.contents writer.old) (W.contents writer.new) more
-        × ((history connection.new).sent ≡ (history connection.old).sent ++ more) }
+    ensures read { Receives (R.remaining reader.old) (R.remaining reader.new) (history connection.old) (history connection.new) }
+    ensures written { HandsOut (W.contents writer.old) (W.contents writer.new) (history connection.old) (history connection.new) }
     ensures calls { (history connection.new).calls ≡ (history connection.old).calls }
+    ensures sends { IsTrue result.has_sent → SendsSome (history connection.old) (history connection.new) }
+    ensures reads { IsFalse result.has_read → (history connection.new).received ≡ (history connection.old).received }
     ensures state { (history connection.new).state ≡ (history connection.old).state }
     ensures done { IsDone (history connection.old) → result.fate ≡ Fate.Ends }
     ensures waits { result.fate ≡ Fate.Waits → history connection.new ≡ history connection.old }
@@ -128,14 +128,11 @@ pub(crate) fn take_turn<S: Service, R: Read, W: Write>(
     writer: &mut W,
     most: usize,
 ) -> Turn
-    ensures read { (more : List ℕ)
-        × Consumes (R.remaining reader.old) (R.remaining reader.new) more
-        × ((history connection.new).received ≡ (history connection.old).received ++ more) }
-    ensures written { (more : List ℕ)
-        × Appends (W.contents writer.old) (W.contents writer.new) more
-        × ((history connection.new).sent ≡ (history connection.old).sent ++ more) }
-    ensures calls { Calls S.answers service.old service.new
-        (history connection.old).calls (history connection.new).calls }
+    ensures read { Receives (R.remaining reader.old) (R.remaining reader.new) (history connection.old) (history connection.new) }
+    ensures written { HandsOut (W.contents writer.old) (W.contents writer.new) (history connection.old) (history connection.new) }
+    ensures calls { Calls S.answers service.old service.new (history connection.old).calls (history connection.new).calls }
+    ensures sends { IsTrue result.has_sent → SendsSome (history connection.old) (history connection.new) }
+    ensures reads { IsFalse result.has_read → (history connection.new).received ≡ (history connection.old).received }
     ensures aborted { 1 ≤ most → (history connection.new).state ≡ State.Aborted → result.fate ≡ Fate.Ends }
     ensures rests { result.fate ≡ Fate.Waits → Rests (config_of connection.new) (history connection.new) }
     ensures config { config_of connection.new ≡ config_of connection.old }
@@ -146,8 +143,8 @@ pub(crate) fn take_turn<S: Service, R: Read, W: Write>(
         connection.advance(service);
         let turn = step(connection, reader, writer);
         let is_second = has_sent && turn.has_sent;
-        has_sent = has_sent || turn.has_sent;
-        has_read = has_read || turn.has_read;
+        has_sent |= turn.has_sent;
+        has_read |= turn.has_read;
         match turn.fate {
             Fate::GoesOn if !is_second => {}
             fate => {
@@ -166,6 +163,13 @@ pub(crate) fn take_turn<S: Service, R: Read, W: Write>(
     }
 }
 
+/// From when the time of a connection is counted: from now on where an answer has gone out, or the first bytes came.
+fn counted_from(since: Instant, now: Instant, has_sent: bool, has_begun: bool) -> Instant
+    ensures { result ≡ (if has_sent || has_begun then now else since) }
+{
+    if has_sent || has_begun { now } else { since }
+}
+
 impl<R: Read + Drop, W: Write + Drop> Peer<R, W> {
     /// A turn of its connection, at this time.
     pub(crate) fn take_turn<S: Service>(
@@ -174,16 +178,17 @@ impl<R: Read + Drop, W: Write + Drop> Peer<R, W> {
         most: usize,
         now: Instant,
     ) -> Fate
-        ensures read { (more : List ℕ)
-            × Consumes (R.remaining self.old.reader) (R.remaining self.new.reader) more
-            × ((history self.new.connection).received ≡ (history self.old.connection).received ++ more) }
-        ensures written { (more : List ℕ)
-            × Appends (W.contents self.old.writer) (W.contents self.new.writer) more
-            × ((history self.new.connection).sent ≡ (history self.old.connection).sent ++ more) }
+        ensures read { Receives (R.remaining self.old.reader) (R.remaining self.new.reader)
+            (history self.old.connection) (history self.new.connection) }
+        ensures written { HandsOut (W.contents self.old.writer) (W.contents self.new.writer)
+            (history self.old.connection) (history self.new.connection) }
         ensures calls { Calls S.answers service.old service.new
             (history self.old.connection).calls (history self.new.connection).calls }
         ensures aborted { 1 ≤ most → (history self.new.connection).state ≡ State.Aborted → result ≡ Fate.Ends }
         ensures rests { result ≡ Fate.Waits → Rests (config_of self.new.connection) (history self.new.connection) }
+        ensures goes_on { self.new.goes_on ≡ may_go_on result }
+        ensures since { KeepsTime now self.old self.new }
+        ensures idle { StaysIdle self.old self.new }
         ensures config { config_of self.new.connection ≡ config_of self.old.connection }
     {
         let turn = take_turn(
@@ -193,10 +198,9 @@ impl<R: Read + Drop, W: Write + Drop> Peer<R, W> {
             &mut self.writer,
             most,
         );
-        if turn.has_sent || (turn.has_read && self.is_idle) {
-            self.since = now;
-        }
-        self.is_idle = turn.has_sent || (self.is_idle && !turn.has_read);
+        let has_begun = turn.has_read & self.is_idle;
+        self.since = counted_from(self.since, now, turn.has_sent, has_begun);
+        self.is_idle = turn.has_sent | (self.is_idle & !turn.has_read);
         self.goes_on = matches!(turn.fate, Fate::GoesOn);
         turn.fate
     }

@@ -1,24 +1,21 @@
 //! The system's sockets.
 
+ghost use Rattle.std.specs.Prelude.{◌≡◌, [], IfOk};
+ghost use Rattle.http_loop.specs.Times.{LingerFrom};
+
+use crate::lingering::{Lingering, has_ended};
 use crate::listener::Listener;
 use mio::net::{TcpListener, TcpStream};
 use mio::{Events, Interest, Poll, Token};
 use std::alloc::Global;
-use std::collections::VecDeque;
 use std::io;
 use std::io::{ErrorKind, Read, Write};
 use std::net::{Net, Shutdown, SocketAddr};
 use std::rc::Rc;
-use std::time::Duration;
+use std::time::{Duration, Instant};
 
 /// How many streams are reported as ready at once, at most: more than a server has.
 const EVENTS: usize = 1024;
-
-/// Of how many streams that were closed what still comes is passed over, at most.
-const LEAVING: usize = 32;
-
-/// How many reads of a stream that was closed there are in a round, at most.
-const READS: usize = 8;
 
 /// The token of the listener.
 const LISTENER: Token = Token(usize::MAX);
@@ -53,36 +50,27 @@ impl Write for Outgoing {
     }
 }
 
-/// Reads what has come, and passes it over. Whether the stream has ended.
-fn has_ended(mut socket: &TcpStream) -> bool {
-    let mut buffer = [0; 4096];
-    for _ in 0..READS {
-        match socket.read(&mut buffer) {
-            Ok(0) => return true,
-            Ok(_) => {}
-            Err(error) => return error.kind() != ErrorKind::WouldBlock,
-        }
-    }
-    false
-}
-
 /// An address of the system at which connections of TCP come.
 ///
-/// A stream that is closed gets its end at once. Where the other side has not closed it yet, what still comes is passed over for a while,
-/// since a socket that is closed with bytes unread resets the connection, and the last answer may be lost.
+/// A stream that is closed gets its end at once. Where the other side has not closed it yet the socket lingers: what still comes is passed
+/// over, since a socket that is closed with bytes unread resets the connection, and the last answer may be lost. At most 32 linger, and a
+/// server lets go of each after two seconds.
 #[derive(Drop)]
 pub struct Sockets {
     alloc: Global,
     poll: Poll,
     events: Events,
     listener: TcpListener,
-    /// Those that were closed here, the first one first.
-    leaving: VecDeque<Rc<TcpStream>>,
+    lingering: Lingering,
 }
 
 impl Sockets {
+    ghost use Rattle.http_loop.specs.Lingering.{lingering_at};
+
     /// Listens at this address.
-    pub fn bind<N: Net>(net: &N, alloc: Global, address: SocketAddr) -> io::Result<Sockets> {
+    pub fn bind<N: Net>(net: &N, alloc: Global, address: SocketAddr) -> io::Result<Sockets>
+        ensures { IfOk result (λ sockets. lingering_at sockets ≡ []) }
+    {
         let poll = Poll::new(net)?;
         let mut listener = TcpListener::bind(net, address)?;
         poll.registry()
@@ -92,7 +80,7 @@ impl Sockets {
             poll,
             events: Events::with_capacity(alloc, EVENTS)?,
             listener,
-            leaving: VecDeque::new(alloc),
+            lingering: Lingering::new(alloc),
         })
     }
 
@@ -101,20 +89,20 @@ impl Sockets {
         self.listener.local_addr()
     }
 
-    /// Ends a stream on this side. Of the streams that the other side has not ended the first one makes room, and where memory is refused
-    /// the stream is closed at once.
-    fn leave(&mut self, socket: Rc<TcpStream>) {
+    /// Ends a stream on this side, at this time. It lingers where the other side has not ended it.
+    fn leave(&mut self, socket: Rc<TcpStream>, now: Instant)
+        ensures { LingerFrom now (lingering_at self.old) (lingering_at self.new) }
+    {
         if socket.shutdown(Shutdown::Write).is_err() || has_ended(&socket) {
             return;
         }
-        if self.leaving.len() >= LEAVING {
-            self.leaving.pop_front();
-        }
-        let _kept = self.leaving.push_back(socket).is_ok();
+        self.lingering.push(socket, now);
     }
 
     /// A stream that has come, which is reported as ready under this key.
-    fn accept_stream(&mut self, key: usize) -> io::Result<TcpStream> {
+    fn accept_stream(&mut self, key: usize) -> io::Result<TcpStream>
+        ensures { lingering_at self.new ≡ lingering_at self.old }
+    {
         let (mut stream, _) = self.listener.accept()?;
         let _set = stream.set_nodelay(true).is_ok();
         self.poll.registry().register(
@@ -127,6 +115,7 @@ impl Sockets {
 }
 
 impl Listener for Sockets {
+    ghost use Rattle.http_loop.specs.Lingering.{lingering_at};
     ghost use Rattle.http_loop.specs.Premises.{system_streams};
 
     type Reader = Incoming;
@@ -134,6 +123,8 @@ impl Listener for Sockets {
     type Writer = Outgoing;
 
     ghost streams = { λ _. system_streams };
+
+    ghost lingering = { lingering_at };
 
     fn wait(&mut self, ready: &mut Vec<usize>, time: Duration) -> io::Result<()> {
         match self.poll.poll(&mut self.events, Some(time)) {
@@ -146,7 +137,7 @@ impl Listener for Sockets {
                 ready.push(event.token().0)?;
             }
         }
-        self.leaving.retain(|socket| !has_ended(socket));
+        self.lingering.pass_over();
         Ok(())
     }
 
@@ -161,8 +152,16 @@ impl Listener for Sockets {
         Ok((Incoming { socket }, outgoing))
     }
 
-    fn close(&mut self, _key: usize, reader: Incoming, _writer: Outgoing) {
+    fn close(&mut self, _key: usize, reader: Incoming, _writer: Outgoing, now: Instant) {
         let Incoming { socket } = reader;
-        self.leave(socket);
+        self.leave(socket, now);
+    }
+
+    fn let_go(&mut self, now: Instant, limit: Duration) {
+        self.lingering.let_go(now, limit);
+    }
+
+    fn count_anew(&mut self, now: Instant) {
+        self.lingering.count_anew(now);
     }
 }

@@ -1,4 +1,1 @@
-pub mod TextLaws
-pub mod ShowLaws
-pub mod ScheduleLaws
 pub mod AuditAgreementLaws

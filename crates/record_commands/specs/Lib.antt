@@ -1,11 +1,6 @@
-pub mod Schedules
 pub mod Audits
-pub mod Show
-pub mod Moves
-pub mod Run
 pub mod Record
 pub mod GameRecord
 pub mod Audit
 pub mod AuditGames
 pub mod AuditAgreements
-pub mod Inside

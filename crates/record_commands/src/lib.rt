@@ -1,15 +1,12 @@
-//! The commands that answer once, of moves, messages, schedules and records: `show`, `moves`, `run`, `record`, `record --games`, `audit`,
-//! `audit --games`.
+//! The commands that answer once, of records: `record`, `record --games`, `audit`, `audit --games`.
 //!
 //! Each is a module with a function `answer`, which takes the task that `parse` of command_line made, and what was read for it.
 //!
 //! Inside: a file for each command, with its definitions in the file of the same name in `specs/`; `laws`, what is true of several.
 //!
-//! Definitions, in reading order: `Schedules`, `Audits`, those of the commands, `AuditAgreements`. Its cases stand in `rows`;
+//! Definitions, in reading order: `Audits`, those of the commands, `AuditAgreements`. Its cases stand in `rows`;
 //! `tools/audit_kept` and `tools/audit_games` try the audits of the program as it is built.
 //!
-//! - CLAIM: `run::answer`: of a schedule the answer of status 0 is of the last of its worlds, in each of which both records are true to the
-//!   game (`IsRunReply`).
 //! - CLAIM: `audit::answer`, clause `ok`; `audit_games::answer`, clause `told`: each kept file is judged as an arbiter of the game judges it
 //!   at its opening; of two records the answer has the ply at which they part.
 //! - CLAIM: `laws::games_are_audited_alike`: what `audit --games` tells of a game whose record a folder keeps is what `audit` tells of that
@@ -22,7 +19,4 @@ pub mod audit;
 pub mod audit_games;
 pub mod game_record;
 pub mod laws;
-pub mod moves;
 pub mod record;
-pub mod run;
-pub mod show;

@@ -7,7 +7,7 @@ use crate::shelf::{Shelf, head_of, is_comment, parted};
 use crate::slow_input::SlowInput;
 use std::alloc::{AllocError, Global};
 use std::cell::Cell;
-use system_io::WriteFault;
+use system_fakes::MemoryInput;
 
 /// What is run.
 #[derive(Clone, Copy)]
@@ -31,8 +31,8 @@ pub(crate) struct Wanted {
     /// The output need only begin so.
     pub(crate) is_front: bool,
     pub(crate) errors: Vec<u8>,
-    pub(crate) ended: Result<u8, WriteFault>,
-    /// How many notes the host is told.
+    pub(crate) status: u8,
+    /// How many notes there are.
     pub(crate) notes: usize,
 }
 
@@ -84,7 +84,7 @@ impl Wanted {
             output: Vec::new(alloc),
             is_front: false,
             errors: Vec::new(alloc),
-            ended: Ok(0),
+            status: 0,
             notes: 0,
         }
     }
@@ -115,6 +115,14 @@ impl<'t> Case<'t> {
             bytes: &self.input,
             fails: self.input_fails,
             is_taken: Cell::new(false),
+        }
+    }
+
+    /// Its standard input, for a command that is over a timeline.
+    pub(crate) fn memory_input(&self) -> MemoryInput<'_> {
+        MemoryInput {
+            bytes: &self.input,
+            fails: self.input_fails,
         }
     }
 
@@ -185,6 +193,7 @@ impl<'t> Case<'t> {
         self.store = match text {
             "unopened" => StoreEnds::Unopened,
             "fails" => StoreEnds::Fails,
+            "refuses" => StoreEnds::Refuses,
             _ => return Err(Fault::Line),
         };
         Ok(())
@@ -194,7 +203,7 @@ impl<'t> Case<'t> {
     fn set_status(&mut self, text: &str) -> Result<(), Fault> {
         match text.parse::<u8>() {
             Ok(status) => {
-                self.wanted.ended = Ok(status);
+                self.wanted.status = status;
                 Ok(())
             }
             Err(_) => Err(Fault::Line),

@@ -2,7 +2,7 @@
 //!
 //! A case is the words of a command, what lies in the folder and on standard input, and what must be printed, with which status.
 //! `data/README.md` says how one is written. A case is data: it costs no proof. It runs through `adjudicate_core` as the program
-//! does, over a disk, an input and a host in memory, or through `row_calls`.
+//! does, over an outside in memory, or through `row_calls`.
 //!
 //! To add a case, write it into a file of `data/`. The gate runs the files that `args` names; `rt try -- data/disk.txt` here runs
 //! one file without any proof.

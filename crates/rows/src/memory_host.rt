@@ -222,7 +222,7 @@ impl<'a> Host for MemoryHost<'a> {
         if self.store == StoreEnds::Unopened {
             return Err(StoreFault::Unreadable);
         }
-        Ok(MemoryStore::new(alloc, self.store == StoreEnds::Fails))
+        Ok(MemoryStore::new(alloc, self.store))
     }
 
     fn stored(

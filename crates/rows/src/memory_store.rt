@@ -5,7 +5,7 @@ ghost use Rattle.arbiter_server.specs.StoreGames.{bytes_at};
 ghost use Rattle.system_io.specs.Records.{Records, with_all};
 
 use std::alloc::Global;
-use system_io::{Entry, Key, RecordStore, StoreFailed};
+use system_io::{Entry, Key, PutFault, RecordStore};
 
 /// What a host's store comes to.
 #[derive(Clone, Copy, PartialEq, Eq)]
@@ -16,21 +16,23 @@ pub(crate) enum StoreEnds {
     Unopened,
     /// It can't be written.
     Fails,
+    /// Memory is refused to its first batch.
+    Refuses,
 }
 
 /// The batches that were put, in order.
 #[derive(Drop)]
 pub(crate) struct MemoryStore {
     batches: Vec<Vec<Entry>>,
-    fails: bool,
+    ends: StoreEnds,
 }
 
 impl MemoryStore {
     /// An empty store.
-    pub(crate) fn new(alloc: Global, fails: bool) -> MemoryStore {
+    pub(crate) fn new(alloc: Global, ends: StoreEnds) -> MemoryStore {
         MemoryStore {
             batches: Vec::new(alloc),
-            fails,
+            ends,
         }
     }
 }
@@ -62,13 +64,17 @@ impl RecordStore for MemoryStore {
         found
     }
 
-    fn put_all(&mut self, entries: Vec<Entry>) -> Result<(), StoreFailed> {
-        if self.fails {
-            return Err(StoreFailed);
+    fn put_all(&mut self, entries: Vec<Entry>) -> Result<(), PutFault> {
+        if self.ends == StoreEnds::Fails {
+            return Err(PutFault::Failed);
+        }
+        if self.ends == StoreEnds::Refuses || self.batches.reserve(1).is_err() {
+            self.ends = StoreEnds::Keeps;
+            return Err(PutFault::OutOfMemory(entries));
         }
         match self.batches.push(entries) {
             Ok(()) => Ok(()),
-            Err(_) => Err(StoreFailed),
+            Err(_) => Err(PutFault::Failed),
         }
     }
 }

@@ -23,8 +23,9 @@ impl Paper {
     }
 
     /// What was written.
-    pub(crate) fn bytes(&self) -> &[u8] {
-        &self.bytes
+    pub(crate) fn into_bytes(self) -> Vec<u8> {
+        let Paper { bytes, .. } = self;
+        bytes
     }
 }
 

@@ -3,7 +3,6 @@
 use crate::case::Wanted;
 use std::alloc::{AllocError, Global};
 use std::fmt::Write;
-use system_io::WriteFault;
 
 /// The number of the first line in which two texts differ, the first being 1, and that line of each, if it has so many.
 fn lines_apart<'a>(wanted: &'a str, got: &'a str) -> (usize, Option<&'a str>, Option<&'a str>) {
@@ -71,7 +70,7 @@ pub(crate) fn check_errors(
     wanted: &Wanted,
     errors: &[u8],
 ) -> Result<(), AllocError> {
-    let is_begun = wanted.ended == Ok(2) && !wanted.errors.ends_with(b"\n");
+    let is_begun = wanted.status == 2 && !wanted.errors.ends_with(b"\n");
     let is_right = if is_begun {
         !errors.is_empty() && errors.starts_with(&wanted.errors)
     } else {
@@ -84,18 +83,14 @@ pub(crate) fn check_errors(
 }
 
 /// Compares the end.
-pub(crate) fn check_end(
-    report: &mut String,
-    wanted: Result<u8, WriteFault>,
-    got: Result<u8, WriteFault>,
-) -> Result<(), AllocError> {
+pub(crate) fn check_end(report: &mut String, wanted: u8, got: u8) -> Result<(), AllocError> {
     if wanted == got {
         return Ok(());
     }
-    writeln!(report, "  end: wanted {wanted:?}, got {got:?}")
+    writeln!(report, "  status: wanted {wanted}, got {got}")
 }
 
-/// Compares how many notes the host was told.
+/// Compares how many notes there were.
 pub(crate) fn check_notes(
     report: &mut String,
     wanted: usize,
@@ -107,16 +102,20 @@ pub(crate) fn check_notes(
     writeln!(report, "  notes: wanted {wanted}, got {got}")
 }
 
-/// Compares the end where a write was refused.
+/// Compares the end where a write was refused: the status is 1, and that is noted.
 pub(crate) fn check_refused(
     report: &mut String,
     number: usize,
-    got: Result<u8, WriteFault>,
+    status: u8,
+    notes: usize,
 ) -> Result<(), AllocError> {
-    if got == Err(WriteFault::Io) {
+    if status == 1 && notes > 0 {
         return Ok(());
     }
-    writeln!(report, "  write {number} is refused: got {got:?}")
+    writeln!(
+        report,
+        "  write {number} is refused: status {status}, {notes} notes"
+    )
 }
 
 /// Notes that there is no such call, or that it isn't given what it takes.

@@ -10,67 +10,161 @@ use crate::report::{
 };
 use crate::shelf::parted;
 use crate::system::tell_system;
-use adjudicate_core::run;
-use command_line::{Task, Usage, parse};
+use adjudicate_core::{Others, run_program};
+use command_line::{Task, Usage, WordsFault, parse};
 use line_teller::tell_lines;
 use row_calls::{Fault, Given, tell_call};
 use serve_commands::System;
 use std::alloc::{AllocError, Global};
 use system_fakes::MemoryDisk;
-use system_io::{Input, WriteFault};
+use system_io::Input;
+use timeline::Stream;
+use timeline_fakes::{MemorySystem, MemoryTimeline, Recorded};
 
-/// How the program ends, and how many notes its host is told.
+/// What came of a run.
+#[derive(Drop)]
+struct Ending {
+    /// The program's status.
+    status: u8,
+    /// How many notes were made.
+    notes: usize,
+    output: Vec<u8>,
+    errors: Vec<u8>,
+}
+
+/// Which writes of a run are refused.
+#[derive(Clone, Copy)]
+struct Refusals {
+    /// The number of a write of the output, the first being 0.
+    output: Option<usize>,
+    /// The number of one of standard error.
+    errors: Option<usize>,
+}
+
+/// The words that the program is called with, its own name first.
+fn texts_of(alloc: Global, words: &[&str]) -> Result<Vec<String>, AllocError> {
+    let mut called = Vec::new(alloc);
+    called.push(String::from_str(alloc, "adjudicate")?)?;
+    for word in words {
+        called.push(String::from_str(alloc, word)?)?;
+    }
+    Ok(called)
+}
+
+/// These words, or that memory is refused for them.
+fn called_by(alloc: Global, words: &[&str]) -> Result<Vec<String>, WordsFault> {
+    match texts_of(alloc, words) {
+        Ok(called) => Ok(called),
+        Err(_) => Err(WordsFault::OutOfMemory),
+    }
+}
+
+/// The outside of the commands that are over a timeline.
+fn outside<'a>(case: &'a Case<'_>, disk: &MemoryDisk<'a>) -> MemorySystem<'a> {
+    MemorySystem {
+        disk: *disk,
+        input: case.memory_input(),
+        kept: &[],
+        own: None,
+        turns: &[],
+    }
+}
+
+impl Ending {
+    /// Adds what happened on a timeline.
+    fn add(&mut self, timeline: &MemoryTimeline) -> Result<(), AllocError> {
+        let Some(events) = timeline.events() else {
+            return Err(AllocError);
+        };
+        for event in events {
+            match event {
+                Recorded::Wrote { to, bytes } => match to {
+                    Stream::Output => self.output.extend_from_slice(bytes)?,
+                    Stream::Errors => self.errors.extend_from_slice(bytes)?,
+                },
+                Recorded::Noted { .. } => self.notes = self.notes.saturating_add(1),
+                _ => {}
+            }
+        }
+        Ok(())
+    }
+}
+
+/// How the program ends.
 fn ended_over(
     alloc: Global,
     case: &Case<'_>,
     disk: &MemoryDisk<'_>,
-    output: &mut Paper,
-    errors: &mut Paper,
-) -> (Result<u8, WriteFault>, usize) {
+    refusals: Refusals,
+) -> Result<Ending, AllocError> {
     let host = case.host();
-    let system = System {
-        disk,
-        input: &case.input(),
-        host: &host,
-        pages: &Closed {},
+    let mut others = Others {
+        system: System {
+            disk,
+            input: &case.input(),
+            host: &host,
+            pages: &Closed::new(),
+        },
+        history: Unwritten {},
+        out: Paper::new(alloc, refusals.output),
+        errors: Paper::new(alloc, refusals.errors),
     };
-    let ended = run(
+    let mut timeline = MemoryTimeline::new(alloc, refusals.output);
+    let status = run_program(
         alloc,
-        &case.words,
-        &system,
-        &mut Unwritten {},
-        output,
-        errors,
+        &called_by(alloc, &case.words),
+        &outside(case, disk),
+        &mut timeline,
+        &mut others,
     );
-    (ended, host.notes.get())
+    let mut ending = Ending {
+        status,
+        notes: host.notes.get(),
+        output: others.out.into_bytes(),
+        errors: others.errors.into_bytes(),
+    };
+    ending.add(&timeline)?;
+    Ok(ending)
 }
 
-/// How the teller ends, as a status: 0 where all is told, else 1.
+/// How the teller ends, with the status 0 where all is told, else 1, and a note where a write is refused.
 fn told(
     alloc: Global,
     case: &Case<'_>,
     output: &mut Paper,
     errors: &mut Paper,
-) -> Result<u8, WriteFault> {
-    let Ok(mut lines) = case.input().lines(alloc) else {
-        return Err(WriteFault::Io);
-    };
+) -> Result<(u8, usize), AllocError> {
+    let mut lines = case.input().lines(alloc)?;
     let progress = !case.words.is_empty();
-    let told = tell_lines(alloc, &mut Counting, &mut lines, output, errors, progress);
-    told.map(|all| if all { 0 } else { 1 })
+    match tell_lines(alloc, &mut Counting, &mut lines, output, errors, progress) {
+        Ok(all) => Ok((if all { 0 } else { 1 }, 0)),
+        Err(_) => Ok((1, 1)),
+    }
 }
 
-/// How a case ends, and how many notes the host is told.
+/// How a case of the teller ends.
+fn told_over(alloc: Global, case: &Case<'_>, refusals: Refusals) -> Result<Ending, AllocError> {
+    let mut output = Paper::new(alloc, refusals.output);
+    let mut errors = Paper::new(alloc, refusals.errors);
+    let (status, notes) = told(alloc, case, &mut output, &mut errors)?;
+    Ok(Ending {
+        status,
+        notes,
+        output: output.into_bytes(),
+        errors: errors.into_bytes(),
+    })
+}
+
+/// How a case ends.
 fn ended(
     alloc: Global,
     case: &Case<'_>,
     disk: &MemoryDisk<'_>,
-    output: &mut Paper,
-    errors: &mut Paper,
-) -> (Result<u8, WriteFault>, usize) {
+    refusals: Refusals,
+) -> Result<Ending, AllocError> {
     match case.call {
-        Call::LineHandler => (told(alloc, case, output, errors), 0),
-        _ => ended_over(alloc, case, disk, output, errors),
+        Call::LineHandler => told_over(alloc, case, refusals),
+        _ => ended_over(alloc, case, disk, refusals),
     }
 }
 
@@ -141,16 +235,18 @@ fn check_run(
     case: &Case<'_>,
     disk: &MemoryDisk<'_>,
 ) -> Result<(), AllocError> {
-    let mut output = Paper::new(alloc, None);
-    let mut errors = Paper::new(alloc, if case.is_mute { Some(0) } else { None });
-    let (got, notes) = ended(alloc, case, disk, &mut output, &mut errors);
-    check_end(report, case.wanted.ended, got)?;
-    check_notes(report, case.wanted.notes, notes)?;
-    check_output(alloc, report, &case.wanted, output.bytes())?;
+    let refusals = Refusals {
+        output: None,
+        errors: if case.is_mute { Some(0) } else { None },
+    };
+    let got = ended(alloc, case, disk, refusals)?;
+    check_end(report, case.wanted.status, got.status)?;
+    check_notes(report, case.wanted.notes, got.notes)?;
+    check_output(alloc, report, &case.wanted, &got.output)?;
     if case.is_mute {
         return Ok(());
     }
-    check_errors(alloc, report, &case.wanted, errors.bytes())
+    check_errors(alloc, report, &case.wanted, &got.errors)
 }
 
 /// Looks at how a run ends of which this write is refused.
@@ -161,10 +257,12 @@ fn check_write(
     disk: &MemoryDisk<'_>,
     number: usize,
 ) -> Result<(), AllocError> {
-    let mut output = Paper::new(alloc, Some(number));
-    let mut errors = Paper::new(alloc, None);
-    let (got, _) = ended(alloc, case, disk, &mut output, &mut errors);
-    check_refused(report, number, got)
+    let refusals = Refusals {
+        output: Some(number),
+        errors: None,
+    };
+    let got = ended(alloc, case, disk, refusals)?;
+    check_refused(report, number, got.status, got.notes)
 }
 
 /// Looks at what comes of a run, and of one more for each write that is refused.

@@ -166,7 +166,7 @@ pub data StoresAndHosts {P F S T : Type 0} (p : HostOutside P F S) (seen : Hoste
   NoStore : Passes had has [] → p.stores.refuses (store_path h.games.now) fault.Unreadable → TellsOne refused_store (seen.written old) (seen.written new) r → StoresAndHosts p seen h t had has old new r
   NoRoomForStore : Passes had has [] → TellsOne refused_memory (seen.written old) (seen.written new) r → StoresAndHosts p seen h t had has old new r
   NotImported : Passes had has (StoreAt (store_path h.games.now) ∷ []) → (why : ImportFault) → CannotImport p.disk h.games.now why → TellsOne (import_words why) (seen.written old) (seen.written new) r → StoresAndHosts p seen h t had has old new r
-  Imported : (between : Option (List Made)) → Passes had between (StoreAt (store_path h.games.now) ∷ []) → (first now : S) → p.stores.is_at (store_path h.games.now) first → IsImported p.disk h.games.now (p.store first).has (p.store now).has → BindsAndHosts p.host seen h t between has old new r → StoresAndHosts p seen h t had has old new r
+  Imported : (between : Option (List Made)) → Passes had between (StoreAt (store_path h.games.now) ∷ []) → (first now : S) → p.stores.is_at (store_path h.games.now) first → ((left : List (List ℕ)) × IsImported p.disk h.games.now (p.store first).has (p.store now).has left) → BindsAndHosts p.host seen h t between has old new r → StoresAndHosts p seen h t had has old new r
 
 -- so the words say it
 abbrev pub KeepsAndHosts : {P F S T : Type 0} → StoreForm → HostOutside P F S → FilesOrStore T → HostGames → CommonView → Option (List Made) → Option (List Made) → T → T → Result ℕ WriteFault → Type 0

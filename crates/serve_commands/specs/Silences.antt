@@ -11,7 +11,6 @@ use Rattle.system_io.specs.declared.output.WriteFault.{WriteFault}
 use Rattle.command_line.specs.declared.commands.Task.{Task}
 use Rattle.command_line.specs.declared.commands.Task.TheVariants as task
 use Rattle.command_line.specs.declared.commands.send.Send.{Send}
-use Rattle.command_line.specs.Tasks.{tells_progress}
 use Rattle.command_line.specs.Uses.{GoesOut}
 
 -- an arbiter that has acknowledged no move and reported no verdict
@@ -43,7 +42,3 @@ pub record TellsLost {E : Type 0} (facts : E → OutputFacts) (contents : E → 
 -- nothing is written but that
 abbrev pub TellsIfLost : {E : Type 0} → (E → OutputFacts) → (E → Option (List ℕ)) → E → E → Task → Result ℕ WriteFault → Type 0
 TellsIfLost facts contents old new t r = (new ≡ old) ⊎ TellsLost facts contents old new t r
-
--- who hears of it: a task that tells its progress, or a source's whose run ended so
-abbrev pub IsLoud : {E : Type 0} → (E → OutputFacts) → (E → Option (List ℕ)) → E → E → Task → Result ℕ WriteFault → Type 0
-IsLoud facts contents old new t r = (tells_progress t ≡ true) ⊎ TellsLost facts contents old new t r

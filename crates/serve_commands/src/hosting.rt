@@ -21,11 +21,14 @@ use crate::listening::ready_line_at;
 use crate::locking::{IN_GAMES, lock};
 use crate::system::System;
 use answer_parts::{Refusal, gather, manifest_of_sources, put_refusal};
-use arbiter_server::{DiskGames, Games, LineLog, Server, ServerConfig, StoreGames, put_line};
+use arbiter_server::{
+    DiskGames, Games, LineLog, Server, ServerConfig, StoreGames, kept_path, put_line,
+};
 use command_line::{HostGames, StoreForm};
 use game_status::{ImportFault, STORE_NAME, has_half_store, has_name, import_records};
 use judge_core::Set;
-use std::alloc::Global;
+use move_msg::Stamp;
+use std::alloc::{AllocError, Global};
 use std::num::NonZeroUsize;
 use system_io::{BindFault, Disk, Host, Output, Port, ReadFault, StoreFault, WriteFault};
 use task_files::Inputs;
@@ -210,8 +213,24 @@ fn import_refusal(fault: ImportFault) -> Refusal
     }
 }
 
+/// The note on the file of a game that holds no record of it.
+fn left_line(alloc: Global, folder: &str, stamp: Stamp) -> Result<String, AllocError> {
+    let path = kept_path(alloc, folder, stamp)?;
+    format!(in alloc; "{path:?}: no record of its game, which is refused")
+}
+
+/// Notes whose files hold no record of their games, and so stay.
+fn note_left<H: Host>(alloc: Global, host: &H, folder: &str, left: &[Stamp]) {
+    for stamp in left {
+        if let Ok(line) = left_line(alloc, folder, *stamp) {
+            host.note(line.as_str());
+        }
+    }
+}
+
 /// Opens the store of the folder, lets the records of files go over into it that it hasn't, and serves the games, whose records are kept
-/// there. A store that can't be opened or written is told as `refused store`, a record that can't be read as `refused keeper`.
+/// there. A store that can't be opened or written is told as `refused store`, a record that can't be read as `refused keeper`. A file that holds
+/// no record of its game stays, is noted, and its game is refused.
 fn store_and_serve<'a, D: Disk, H: Host, W: Output>(
     alloc: Global,
     plan: &HostPlan<'_, '_, 'a, D, H>,
@@ -229,8 +248,9 @@ fn store_and_serve<'a, D: Disk, H: Host, W: Output>(
         Err(refusal) => return put_refusal(out, refusal),
     };
     match import_records(alloc, plan.disk, folder, &mut store) {
-        Ok(()) => {
-            let games = StoreGames::over(alloc, plan.disk, plan.host, folder, store);
+        Ok(left) => {
+            note_left(alloc, plan.host, folder, &left);
+            let games = StoreGames::over(alloc, plan.disk, plan.host, folder, store, left);
             bind_and_serve(alloc, plan, Served { tables, games }, lock, history, out)
         }
         Err(fault) => put_refusal(out, import_refusal(fault)),

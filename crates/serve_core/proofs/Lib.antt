@@ -1,4 +1,5 @@
+pub mod Lines
 pub mod Refusing
 pub mod Replying
 pub mod SameFolders
-pub mod Telling
+pub mod Written

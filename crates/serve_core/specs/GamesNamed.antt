@@ -1,13 +1,9 @@
 -- The folders of games that the words of `serve` name (this project's own).
 use Rattle.std.specs.Prelude.{Option, option_map}
 use Rattle.command_line.specs.declared.commands.serve.Serve.{Serve}
-use Rattle.http_answer.specs.Games.{GamesOn}
+use Rattle.http_answer.specs.Games.{GamesByClock, unread_games}
 use Rattle.serve_core.specs.declared.task.Outside.{Outside}
 
--- on a disk, with the host that reads stores
-abbrev pub games_named : {D H : Type 0} → D → H → Serve → Option (GamesOn D H)
-games_named disk host t = option_map (λ games. record { disk = disk; host = host; games = games.now; other = option_map (λ s. s.now) t.other }) t.games
-
--- on the disk and with the host of what the task is answered by
-abbrev pub games_for : {C D H : Type 0} → Outside C D H → Serve → Option (GamesOn D H)
-games_for o t = games_named o.disk.now o.host.now t
+-- on the disk and with the host of what the task is answered by, and by its clock; no report on them was read yet
+abbrev pub games_for : {T D H : Type 0} → Outside T D H → Serve → Option (GamesByClock D H T)
+games_for o t = option_map (λ games. unread_games (record { disk = o.disk.now; host = o.host.now; games = games.now; other = option_map (λ s. s.now) t.other }) o.times.now) t.games

@@ -8,22 +8,29 @@ use Rattle.system_io.specs.declared.reading.ReadFault.{ReadFault}
 use Rattle.system_io.specs.declared.reading.ReadFault.TheVariants as read
 use Rattle.task_files.specs.Outside.{FolderFails, IsToldAt}
 use Rattle.table_folder.specs.Folders.{Folder, IsFolderAt}
-use Rattle.adjudicate_core.specs.Serve.{manifest_path}
+use Rattle.serve_core.specs.Serve.{manifest_path}
 use Rattle.table_commands.specs.FolderAnswers.{IsSound}
 use Rattle.answer_parts.specs.Lines.{refused_manifest}
 use Rattle.command_line.specs.declared.commands.serve.Serve.{Serve}
 use Rattle.serve_core.specs.declared.refusals.Refusal.{Refusal}
 use Rattle.serve_core.specs.declared.refusals.Refusal.TheVariants as refusal
+use Rattle.serve_core.specs.declared.refusals.Unbound.{Unbound}
+use Rattle.serve_core.specs.declared.refusals.Unbound.TheVariants as unbound
 
 -- what a file that wasn't read means
 abbrev pub refusal_of : ReadFault → Refusal
 refusal_of read.Unreadable = refusal.Files
 refusal_of read.OutOfMemory = refusal.Memory
 
--- what an address that wasn't bound means, by the kind of the system's error
-abbrev pub unbound_of : ReadFault → Refusal
-unbound_of read.Unreadable = refusal.Port
-unbound_of read.OutOfMemory = refusal.Memory
+-- why an address isn't bound, or requests can't be awaited any more, by the kind of the system's error
+abbrev pub unbound_of : ReadFault → Unbound
+unbound_of read.Unreadable = unbound.Address
+unbound_of read.OutOfMemory = unbound.Memory
+
+-- which refusal that is
+abbrev pub refusal_for : Unbound → Refusal
+refusal_for unbound.Address = refusal.Port
+refusal_for unbound.Memory = refusal.Memory
 
 -- the line that says it
 abbrev pub refusal_words : Refusal → List ℕ
@@ -56,10 +63,3 @@ LacksFolder disk t refusal.Files = CannotReadManifest disk t ⊎ CannotReadFolde
 LacksFolder disk t (refusal.Manifest line) = IsToldAt disk (manifest_path t) (Some (Err line))
 LacksFolder disk t refusal.Port = ⊥
 LacksFolder disk t refusal.Memory = Unit {0}
-
--- why an address can't be bound
-abbrev pub IsUnbound : Refusal → Type 0
-IsUnbound refusal.Files = ⊥
-IsUnbound (refusal.Manifest line) = ⊥
-IsUnbound refusal.Port = Unit {0}
-IsUnbound refusal.Memory = Unit {0}

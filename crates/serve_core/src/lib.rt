@@ -1,28 +1,36 @@
 //! The server of a folder of tables, from what its words say to its status.
 //!
-//! `SystemPages` is what adjudicate_core's program is lent for `serve` (`Pages`): the line `ready ADDR` comes out, or one that refuses.
-//! It binds the address, and then all is `serve_task`, over any listener: requests are answered by `http_answer` over the folders that the
-//! words name, connections are served by `http_loop`.
+//! `serve` is what adjudicate_core's program calls: it opens a server (`Pages`: `SystemPages` over the system's sockets), and then all is
+//! `serve_task`, over any listener. The line `ready ADDR` comes out, or one that refuses; requests are answered by `http_answer` over the
+//! folders that the words name, connections are served by `http_loop`.
 //!
-//! Inside: `counting` (how many requests were answered), `logging` (a line of each), `answering`, `refusals`, `task` (over any listener),
-//! `serving` (the system's sockets).
+//! Inside: `logging` (a service whose requests are counted, and a line of each), `answering`, `refusals`, `pages`, `task` (over any
+//! listener), `serving` (the system's sockets).
 //!
+//! Definitions, in reading order: `Serve`; `Limits`, `Streams`, `Tasks`; `Logging`.
+//!
+//! - CLAIM: `serve`, `serve_task`, clauses `written`, `cause`: a manifest that can't be read or is malformed, a folder that can't be read, an
+//!   address that can't be bound and refused memory, the first in this order is written in one line, with status 1; else the line is `ready`
+//!   and the address, and nothing more is written but that the port was lost, or memory for it (`Serves`).
 //! - CLAIM: `serve_task`, clause `replied`: over a listener whose streams are known each stream got the replies to the requests that it
 //!   gave, by the folder of tables, the manifest and the folders of games that the words name, in their order, whatever the others gave;
-//!   and all are closed (`RepliesToTask`). Where the manifest or the folder is refused no request is read.
-//! - CLAIM: `answer_requests`, clause `replied`: the same, by the folders of a service (`IsRepliedOver`).
-//! - CLAIM: `request_line`: what `--log` writes of a request.
+//!   and all are closed (`RepliesToTask`). Where no request is read the status isn't 0.
+//! - CLAIM: `answer_requests`, clause `replied`: the same, by the folders of a service (`RoutesOver`, `IsRepliedOver`).
+//! - CLAIM: `Pages::open`, clause `opened`: the server has the limits of `HasLimits`, and has served no stream.
+//! - CLAIM: `Logged`, clause `answers`: of each request that is answered the line `request_line` comes in the log, or is left out, and no
+//!   other one (`Logs`).
 #![tactic(auto)]
 
 mod answering;
-mod counting;
 mod logging;
+mod pages;
 mod refusals;
 mod serving;
 mod task;
 
 pub use answering::answer_requests;
-pub use logging::{Logged, request_line};
-pub use refusals::Refusal;
-pub use serving::SystemPages;
+pub use logging::{HostLog, Log, Logged, MemoryLog, request_line};
+pub use pages::{Bound, Pages};
+pub use refusals::{Refusal, Unbound};
+pub use serving::{SystemPages, serve};
 pub use task::{Outside, serve_task};

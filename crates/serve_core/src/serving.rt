@@ -1,23 +1,27 @@
 //! The system's sockets, over which requests are answered.
 
-ghost use Rattle.std.specs.Prelude.{◌≡◌};
+ghost use Rattle.std.specs.Prelude.{◌≡◌, IfOk, OnErr};
 ghost use Rattle.std.specs.IoError.{error_kind};
-ghost use Rattle.system_io.specs.Reading.{read_fault_of};
+ghost use Rattle.line_teller.specs.ToldLines.{HasFailed};
+ghost use Rattle.serve_core.specs.Limits.{HasLimits};
 ghost use Rattle.serve_core.specs.Refusals.{unbound_of};
+ghost use Rattle.serve_core.specs.Serve.{Serves};
+ghost use Rattle.system_io.specs.Reading.{read_fault_of};
 
-use crate::refusals::Refusal;
-use crate::task::{Outside, refuse_unbound, serve_task};
-use adjudicate_core::Pages;
+use crate::pages::{Bound, Pages};
+use crate::refusals::Unbound;
+use crate::task::{Outside, serve_task};
 use command_line::Serve;
+use http_answer::ClockTimes;
 use http_loop::{Limits, Server, Sockets};
 use http_server::Config;
 use std::alloc::Global;
 use std::hash::RandomState;
 use std::io;
-use std::net::{Net, SocketAddr, ToSocketAddrs};
+use std::net::{Net, ToSocketAddrs};
 use std::random::RandomSource;
 use std::time::{Clock, Duration};
-use system_io::{Disk, Host, Output, ReadFault, WriteFault};
+use system_io::{Disk, Host, Output, WriteFault};
 
 /// How many connections there are at once, at most.
 const CONNECTIONS: usize = 512;
@@ -25,16 +29,37 @@ const CONNECTIONS: usize = 512;
 /// How many bytes the body of a request has, at most.
 const LONGEST_BODY: usize = 16 * 1024;
 
-/// The system's clock and sockets, by which requests of HTTP are answered.
+/// The system's clock and sockets.
 #[derive(Clone, Copy)]
 pub struct SystemPages<'r, R> {
     rt: &'r R,
+    times: ClockTimes<'r, R>,
 }
 
 impl<'r, R> SystemPages<'r, R> {
     /// Over the system's own.
     pub fn new(rt: &'r R) -> SystemPages<'r, R> {
-        SystemPages { rt }
+        SystemPages {
+            rt,
+            times: ClockTimes { clock: rt },
+        }
+    }
+}
+
+/// The limits of a server.
+fn limits() -> Limits
+    ensures { HasLimits result }
+{
+    Limits {
+        // At most two requests of a connection are answered in a turn.
+        config: Config {
+            max_pending: 0,
+            max_body_len: LONGEST_BODY,
+            ..Config::default()
+        },
+        connections: CONNECTIONS,
+        exchange: Duration::from_secs(10),
+        sweep: Duration::from_secs(1),
     }
 }
 
@@ -50,65 +75,58 @@ fn bound<R: Net>(rt: &R, alloc: Global, address: &str) -> io::Result<Sockets> {
     Err(refused)
 }
 
-/// A server at the first address of a host name and a port that can be bound, and that address.
-fn server_at<'r, R: Clock + Net + RandomSource>(
-    rt: &'r R,
-    alloc: Global,
-    address: &str,
-) -> io::Result<(Server<'r, R, Sockets>, SocketAddr)> {
-    // A peer names the fields of a request, so their maps take secret keys.
-    let keys = RandomState::new(rt)?;
-    let limits = Limits {
-        // At most two requests of a connection are answered in a turn.
-        config: Config {
-            max_pending: 0,
-            max_body_len: LONGEST_BODY,
-            ..Config::default()
-        },
-        connections: CONNECTIONS,
-        exchange: Duration::from_secs(10),
-        sweep: Duration::from_secs(1),
-    };
-    let sockets = bound(rt, alloc, address)?;
-    let own = sockets.address()?;
-    let server = Server::new(rt, alloc, keys, limits, sockets)?;
-    Ok((server, own))
+impl<'r, R: Clock + Net + RandomSource> Pages for SystemPages<'r, R> {
+    type Clock = R;
+
+    type Times = ClockTimes<'r, R>;
+
+    type Listener = Sockets;
+
+    fn times(&self) -> &ClockTimes<'r, R> {
+        &self.times
+    }
+
+    fn open(&self, alloc: Global, address: &str) -> io::Result<Bound<'_, R, Sockets>> {
+        // A peer names the fields of a request, so their maps take secret keys.
+        let keys = RandomState::new(self.rt)?;
+        let sockets = bound(self.rt, alloc, address)?;
+        let own = sockets.address()?;
+        let server = Server::new(self.rt, alloc, keys, limits(), sockets)?;
+        Ok(Bound { server, own })
+    }
 }
 
-/// Notes why an address can't be bound, and says which refusal that is: of memory where the system says so, and else of the address.
-fn unbound<H: Host>(alloc: Global, host: &H, address: &str, error: io::Error) -> Refusal
+/// Notes why an address can't be bound, and says which refusal that is.
+fn note_unbound<H: Host>(alloc: Global, host: &H, address: &str, error: io::Error) -> Unbound
     ensures { result ≡ unbound_of (read_fault_of (error_kind error)) }
 {
     if let Ok(line) = format!(in alloc; "{address} can't be bound: {error}") {
         host.note(line.as_str());
     }
-    match ReadFault::from(error) {
-        ReadFault::Unreadable => Refusal::Port,
-        ReadFault::OutOfMemory => Refusal::Memory,
-    }
+    Unbound::by(error)
 }
 
-impl<'r, R: Clock + Net + RandomSource> Pages for SystemPages<'r, R> {
-    fn serve_requests<D: Disk, H: Host, W: Output>(
-        &self,
-        alloc: Global,
-        disk: &D,
-        host: &H,
-        task: &Serve<'_>,
-        out: &mut W,
-    ) -> Result<u8, WriteFault> {
-        let outside = Outside {
-            alloc,
-            clock: self.rt,
-            disk,
-            host,
-        };
-        match server_at(self.rt, alloc, task.bind) {
-            Ok((mut server, own)) => serve_task(&outside, task, own, &mut server, out),
-            Err(error) => {
-                let why = unbound(alloc, host, task.bind, error);
-                refuse_unbound(&outside, task, why, out)
-            }
-        }
-    }
+/// Answers requests as the words say, where they come, by `serve_task`.
+pub fn serve<G: Pages, D: Disk, H: Host, W: Output>(
+    alloc: Global,
+    pages: &G,
+    disk: &D,
+    host: &H,
+    task: &Serve<'_>,
+    out: &mut W,
+) -> Result<u8, WriteFault>
+    ensures written { Serves (D.facts disk.now) task.now (W.contents out.old) (W.contents out.new) result }
+    ensures cause { OnErr result (HasFailed W.facts) }
+{
+    let outside = Outside {
+        alloc,
+        times: pages.times(),
+        disk,
+        host,
+    };
+    let mut bound = match pages.open(alloc, task.bind) {
+        Ok(bound) => Ok(bound),
+        Err(error) => Err(note_unbound(alloc, host, task.bind, error)),
+    };
+    serve_task(&outside, task, &mut bound, out)
 }

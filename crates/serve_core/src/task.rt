@@ -3,18 +3,21 @@
 ghost use Rattle.std.specs.Prelude.{◌≡◌, IfErr, IfOk, OnErr, string_bytes, ℕ, List};
 ghost use Rattle.line_teller.specs.ToldLines.{HasFailed};
 ghost use Rattle.move_msg.specs.ToldBy.{told_by};
-ghost use Rattle.adjudicate_core.specs.Serve.{Serves, ServesFolder, ready_line};
-ghost use Rattle.answer_parts.specs.Telling.{TellsWholeText};
+ghost use Rattle.answer_parts.specs.Telling.{TellsOne, TellsWholeText};
+ghost use Rattle.std.specs.IoError.{error_kind};
+ghost use Rattle.system_io.specs.Reading.{read_fault_of};
 ghost use Rattle.serve_core.specs.GamesNamed.{games_for};
-ghost use Rattle.serve_core.specs.Refusals.{IsTaskManifest, IsUnbound, LacksFolder};
-ghost use Rattle.serve_core.specs.Tasks.{MayReply, RepliesToTask};
+ghost use Rattle.serve_core.specs.Refusals.{IsTaskManifest, LacksFolder, refusal_for, refusal_words, unbound_of};
+ghost use Rattle.serve_core.specs.Serve.{Serves, ServesFolder, ready_line};
+ghost use Rattle.serve_core.specs.Tasks.{MayRoute, MayServe, IfBound, RepliesToTask};
 
 use crate::answering::answer_requests;
-use crate::logging::Logged;
-use crate::refusals::Refusal;
+use crate::logging::{HostLog, Logged};
+use crate::pages::Bound;
+use crate::refusals::{Refusal, Unbound};
 use command_line::Serve;
-use http_answer::{Answerer, GameFolders, Games, Router};
-use http_loop::{Listener, Server};
+use http_answer::{Answerer, GameFolders, Games, Router, Times};
+use http_loop::Listener;
 use move_msg::Manifest;
 use std::alloc::{AllocError, Global};
 use std::io;
@@ -30,11 +33,11 @@ const BLOCKS: usize = 4096;
 
 /// What a task is answered by.
 #[derive(Clone, Copy)]
-pub struct Outside<'r, C, D, H> {
+pub struct Outside<'r, T, D, H> {
     /// Where memory comes from.
     pub alloc: Global,
-    /// The clock.
-    pub clock: &'r C,
+    /// What says the time by which the age of reports is counted.
+    pub times: &'r T,
     /// Where the folders are.
     pub disk: &'r D,
     /// What reads stores of records, and what is noted to.
@@ -54,10 +57,10 @@ fn manifest_of<D: Disk>(alloc: Global, disk: &D, task: &Serve<'_>) -> Result<Man
 }
 
 /// The folders of games that the words name, if they do.
-fn games_of<'r, C: Clock, D: Disk, H: Host>(
-    outside: &Outside<'r, C, D, H>,
+fn games_of<'r, T: Times, D: Disk, H: Host>(
+    outside: &Outside<'r, T, D, H>,
     task: &Serve<'r>,
-) -> Option<Games<'r, D, H, C>>
+) -> Option<Games<'r, D, H, T>>
     ensures { result ≡ games_for outside.now task.now }
 {
     let games = task.games?;
@@ -67,7 +70,7 @@ fn games_of<'r, C: Clock, D: Disk, H: Host>(
         games,
         other: task.other,
     };
-    Some(Games::of(folders, outside.clock))
+    Some(Games::of(folders, outside.times))
 }
 
 /// The line that says at which address requests come.
@@ -79,7 +82,7 @@ fn ready_text(alloc: Global, own: SocketAddr) -> Result<String, AllocError>
 
 /// Writes a text, and lets it go out.
 fn put_out<W: Output>(out: &mut W, text: &str) -> Result<u8, WriteFault>
-    ensures told { TellsWholeText text.now 0 (W.contents out.old) (W.contents out.new) result }
+    ensures written { TellsWholeText text.now 0 (W.contents out.old) (W.contents out.new) result }
     ensures cause { OnErr result (HasFailed W.facts) }
 {
     match out.put(text.as_bytes()) {
@@ -100,63 +103,84 @@ fn note_lost<H: Host>(alloc: Global, host: &H, error: &io::Error) {
 
 /// What answers the requests of a task, whether they are logged, and how many of them are answered.
 #[derive(Drop)]
-struct Answering<'r, C: Clock, D: Disk, H: Host> {
-    router: Router<'r, D, H, C>,
+struct Answering<'r, D: Disk, H: Host, T: Times> {
+    router: Router<'r, D, H, T>,
     is_logged: bool,
     requests: u64,
 }
 
-/// Writes at which address requests come, and answers them.
-fn serve_at<C: Clock, L: Listener + Drop, D: Disk, H: Host, W: Output>(
-    outside: &Outside<'_, C, D, H>,
-    by: Answering<'_, C, D, H>,
-    own: SocketAddr,
-    server: &mut Server<'_, C, L>,
-    out: &mut W,
-) -> Result<u8, WriteFault>
-    ensures told { ServesFolder (W.contents out.old) (W.contents out.new) result }
-    ensures cause { OnErr result (HasFailed W.facts) }
-    ensures replied { MayReply D.facts H.stores L.streams L.Reader.remaining L.Writer.contents
-        by.entry.router.answerer by.entry.router.games server.old server.new }
+/// A service that is logged by a host, if its requests are.
+fn logged<'r, 'h, D: Disk, H: Host, T: Times>(
+    alloc: Global,
+    host: &'h H,
+    router: Router<'r, D, H, T>,
+    is_logged: bool,
+) -> Logged<Router<'r, D, H, T>, HostLog<'h, H>>
+    ensures { result.service ≡ router.entry }
 {
-    let service = Logged {
-        service: by.router,
-        alloc: outside.alloc,
-        host: if by.is_logged {
-            Some(outside.host)
+    Logged {
+        service: router,
+        answered: 0,
+        alloc,
+        log: if is_logged {
+            Some(HostLog { host })
         } else {
             None
         },
-    };
-    let Ok(text) = ready_text(outside.alloc, own) else {
+    }
+}
+
+/// Writes why requests can't be awaited any more, and notes the system's reason.
+fn put_lost<H: Host, W: Output>(
+    alloc: Global,
+    host: &H,
+    error: io::Error,
+    out: &mut W,
+) -> Result<u8, WriteFault>
+    ensures written { TellsOne (refusal_words (refusal_for (unbound_of (read_fault_of (error_kind error))))) (W.contents out.old) (W.contents out.new) result }
+    ensures cause { OnErr result (HasFailed W.facts) }
+{
+    note_lost(alloc, host, &error);
+    Refusal::at(Unbound::by(error)).put(out)
+}
+
+/// Writes at which address requests come, and answers them.
+fn serve_at<C: Clock, L: Listener + Drop, T: Times, D: Disk, H: Host, W: Output>(
+    outside: &Outside<'_, T, D, H>,
+    by: Answering<'_, D, H, T>,
+    bound: &mut Bound<'_, C, L>,
+    out: &mut W,
+) -> Result<u8, WriteFault>
+    ensures written { ServesFolder (W.contents out.old) (W.contents out.new) result }
+    ensures cause { OnErr result (HasFailed W.facts) }
+    ensures replied { MayRoute D.facts H.stores T.says L.streams L.Reader.remaining L.Writer.contents by.entry.router bound.old.server bound.new.server result }
+{
+    let service = logged(outside.alloc, outside.host, by.router, by.is_logged);
+    let Ok(text) = ready_text(outside.alloc, bound.own) else {
         return Refusal::Memory.put(out);
     };
     let status = match put_out(out, text.as_str()) {
         Ok(status) => status,
         Err(fault) => return Err(fault),
     };
-    match answer_requests(server, service, by.requests) {
+    match answer_requests(&mut bound.server, service, by.requests) {
         Ok(()) => Ok(status),
-        Err(error) => {
-            note_lost(outside.alloc, outside.host, &error);
-            Refusal::Port.put(out)
-        }
+        Err(error) => put_lost(outside.alloc, outside.host, error, out),
     }
 }
 
 /// Answers requests by a folder of tables, and by the folders of games that the words name.
-fn serve_folder<C: Clock, L: Listener + Drop, D: Disk, H: Host, W: Output>(
-    outside: &Outside<'_, C, D, H>,
+fn serve_folder<C: Clock, L: Listener + Drop, T: Times, D: Disk, H: Host, W: Output>(
+    outside: &Outside<'_, T, D, H>,
     folder: TableFolder<'_, D>,
     task: &Serve<'_>,
-    own: SocketAddr,
-    server: &mut Server<'_, C, L>,
+    bound: &mut Bound<'_, C, L>,
     out: &mut W,
 ) -> Result<u8, WriteFault>
-    ensures told { ServesFolder (W.contents out.old) (W.contents out.new) result }
+    ensures written { ServesFolder (W.contents out.old) (W.contents out.new) result }
     ensures cause { OnErr result (HasFailed W.facts) }
-    ensures replied { MayReply D.facts H.stores L.streams L.Reader.remaining L.Writer.contents
-        folder.entry (games_for outside.now task.now) server.old server.new }
+    ensures replied { MayServe D.facts H.stores T.says L.streams L.Reader.remaining L.Writer.contents
+        outside.now task.now folder.entry bound.old bound.new result }
 {
     let Ok(answerer) = Answerer::over(outside.alloc, folder, BLOCKS) else {
         return Refusal::Memory.put(out);
@@ -171,24 +195,42 @@ fn serve_folder<C: Clock, L: Listener + Drop, D: Disk, H: Host, W: Output>(
         is_logged: task.log,
         requests: task.requests,
     };
-    serve_at(outside, by, own, server, out)
+    serve_at(outside, by, bound, out)
+}
+
+/// Answers requests at the address that is bound, as `serve_folder` does; or writes why none is bound.
+fn serve_folder_if<C: Clock, L: Listener + Drop, T: Times, D: Disk, H: Host, W: Output>(
+    outside: &Outside<'_, T, D, H>,
+    folder: TableFolder<'_, D>,
+    task: &Serve<'_>,
+    bound: &mut Result<Bound<'_, C, L>, Unbound>,
+    out: &mut W,
+) -> Result<u8, WriteFault>
+    ensures written { ServesFolder (W.contents out.old) (W.contents out.new) result }
+    ensures cause { OnErr result (HasFailed W.facts) }
+    ensures replied { IfBound D.facts H.stores T.says L.streams L.Reader.remaining L.Writer.contents
+        outside.now task.now folder.entry bound.old bound.new result }
+{
+    match bound {
+        Ok(bound) => serve_folder(outside, folder, task, bound, out),
+        Err(unbound) => Refusal::at(*unbound).put(out),
+    }
 }
 
 /// Answers requests over the streams of a server, by the folders that the words name: after as many as they say it closes all streams, and
 /// returns the status 0. Before that the line `ready` and its own address come out; or one line that refuses, with the status 1, in this
-/// order: the manifest, and the folder of the tables. `refused port` comes behind `ready` where the listener can't wait any more, whose
-/// reason is noted. `refused memory` may come in place of any. The error comes only where the writer failed.
-pub fn serve_task<C: Clock, L: Listener + Drop, D: Disk, H: Host, W: Output>(
-    outside: &Outside<'_, C, D, H>,
+/// order: the manifest, the folder of the tables, and the address. `refused port` comes behind `ready` where the listener can't wait any
+/// more, and `refused memory` where it lacks memory for that; the reason is noted. `refused memory` may come in place of any. The error
+/// comes only where the writer failed.
+pub fn serve_task<C: Clock, L: Listener + Drop, T: Times, D: Disk, H: Host, W: Output>(
+    outside: &Outside<'_, T, D, H>,
     task: &Serve<'_>,
-    own: SocketAddr,
-    server: &mut Server<'_, C, L>,
+    bound: &mut Result<Bound<'_, C, L>, Unbound>,
     out: &mut W,
 ) -> Result<u8, WriteFault>
-    ensures told { Serves (D.facts outside.now.disk.now) task.now (W.contents out.old) (W.contents out.new) result }
+    ensures written { Serves (D.facts outside.now.disk.now) task.now (W.contents out.old) (W.contents out.new) result }
     ensures cause { OnErr result (HasFailed W.facts) }
-    ensures replied { RepliesToTask D.facts H.stores L.streams L.Reader.remaining L.Writer.contents
-        outside.now task.now server.old server.new }
+    ensures replied { RepliesToTask D.facts H.stores T.says L.streams L.Reader.remaining L.Writer.contents outside.now task.now bound.old bound.new result }
 {
     let manifest = match manifest_of(outside.alloc, outside.disk, task) {
         Ok(manifest) => manifest,
@@ -196,29 +238,7 @@ pub fn serve_task<C: Clock, L: Listener + Drop, D: Disk, H: Host, W: Output>(
     };
     let arena = arena_for(outside.alloc, task.memory);
     match TableFolder::open(outside.alloc, outside.disk, task.tables, &manifest, &arena) {
-        Ok(folder) => serve_folder(outside, folder, task, own, server, out),
-        Err(fault) => Refusal::of(fault).put(out),
-    }
-}
-
-/// Refuses a task whose address can't be bound, for this reason; what is wrong with its manifest or its folder of tables comes first.
-pub(crate) fn refuse_unbound<C: Clock, D: Disk, H: Host, W: Output>(
-    outside: &Outside<'_, C, D, H>,
-    task: &Serve<'_>,
-    unbound: Refusal,
-    out: &mut W,
-) -> Result<u8, WriteFault>
-    requires { IsUnbound unbound }
-    ensures told { Serves (D.facts outside.now.disk.now) task.now (W.contents out.old) (W.contents out.new) result }
-    ensures cause { OnErr result (HasFailed W.facts) }
-{
-    let manifest = match manifest_of(outside.alloc, outside.disk, task) {
-        Ok(manifest) => manifest,
-        Err(refusal) => return refusal.put(out),
-    };
-    let room = arena_for(outside.alloc, task.memory);
-    match TableFolder::open(outside.alloc, outside.disk, task.tables, &manifest, &room) {
-        Ok(_folder) => unbound.put(out),
+        Ok(folder) => serve_folder_if(outside, folder, task, bound, out),
         Err(fault) => Refusal::of(fault).put(out),
     }
 }

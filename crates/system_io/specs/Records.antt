@@ -2,6 +2,8 @@
 use Rattle.std.specs.Prelude.{◌≡◌, ◌⊎◌, ℕ, List, Option, Some, None, if◌then◌else◌, fold}
 use Rattle.std.specs.Str.{bytes_eq}
 use Rattle.system_io.specs.declared.record_store.Entry.{Entry}
+use Rattle.system_io.specs.declared.record_store.PutFault.{PutFault}
+use Rattle.system_io.specs.declared.record_store.PutFault.TheVariants.{Failed, OutOfMemory}
 use Rattle.system_io.specs.declared.record_store.StoreFault.{StoreFault}
 
 -- how many moves the record of a game has, and its bytes
@@ -50,6 +52,11 @@ IsSettled s = s.trusted → IsAtRest s
 -- a start finds these records, or all with the whole batch
 abbrev pub FindsBatchOrNot : StoreFacts → Records → List Entry → Type 0
 FindsBatchOrNot s records entries = s.trusted → (found : Records) → s.starts found → AreSame found records ⊎ AreSame found (with_all records entries)
+
+-- after a batch that wasn't put for want of memory a start finds what the store has, and the batch comes back
+abbrev pub GivesBack : StoreFacts → List Entry → PutFault → Type 0
+GivesBack s entries Failed = Unit {0}
+GivesBack s entries (OutOfMemory batch) = IsSettled s × (batch.items ≡ entries)
 
 -- ---- where stores are
 

@@ -45,6 +45,7 @@
 //!   order, and to nobody else.
 //! - CLAIM: `Host::bind`, `Host::file`, `Host::lock`, `Host::store`, clauses `made`: each port, file, lock and store that a host opens
 //!   is in the history that it is lent, in order, and nothing else is.
+//! - CLAIM: `RecordStore::put_all`, clause `refused`: where memory alone was refused, a store goes on as it was, and the batch comes back.
 //! - CLAIM: `Host::lock`, clauses `given`, `cause`; `SystemHost::lock`, clause `at`: the file that is locked is the one at the path.
 #![tactic(auto)]
 
@@ -89,7 +90,7 @@ pub use output::{BufferedOutput, Output, WriteFault, end};
 pub use port::{NO_TAG, Port, PortFault};
 pub use reading::{MOST_BYTES, ReadFault, read_at_most};
 pub use recipient::{Recipient, SENDER};
-pub use record_store::{Entry, Key, RecordStore, StoreFailed, StoreFault, Stores};
+pub use record_store::{Entry, Key, PutFault, RecordStore, StoreFault, Stores};
 pub use socket::Socket;
 pub use system_disk::SystemDisk;
 pub use system_file::{SystemCalls, SystemFile};

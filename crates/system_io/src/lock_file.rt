@@ -34,14 +34,15 @@ impl From<io::Error> for LockFault {
 /// What stands behind a file's path in that of the lock beside it.
 const BESIDE: &str = ".lock";
 
-/// Whether a path is that of the lock beside what is no regular file, such as a folder or a link that leads nowhere.
-fn is_beside_none<R: Files>(rt: &R, path: &str) -> bool {
-    let Some(kept) = path.strip_suffix(BESIDE) else {
-        return false;
-    };
+/// What stands beside the lock at a path, and why nothing can be kept there: it is no regular file, such as a folder, or a link that leads
+/// nowhere.
+pub(crate) fn fault_beside<'p, R: Files>(rt: &R, path: &'p str) -> Option<(&'p str, io::Error)> {
+    let kept = path.strip_suffix(BESIDE)?;
     match fs::metadata(rt, kept) {
-        Ok(stands) => !stands.is_file(),
-        Err(_) => fs::symlink_metadata(rt, kept).is_ok(),
+        Ok(stands) if stands.is_file() => None,
+        Ok(_) => Some((kept, irregular())),
+        Err(error) if fs::symlink_metadata(rt, kept).is_ok() => Some((kept, error)),
+        Err(_) => None,
     }
 }
 
@@ -55,8 +56,8 @@ fn open_standing<R: Files<File = File>>(rt: &R, path: &str) -> io::Result<File> 
 
 /// Opens the file at a path, which is made where nothing stands. None is made beside what is no regular file, where nothing can be kept.
 fn open<R: Files<File = File>>(rt: &R, path: &str) -> io::Result<File> {
-    if is_beside_none(rt, path) {
-        return Err(irregular());
+    if let Some((_, error)) = fault_beside(rt, path) {
+        return Err(error);
     }
     match only_new().open(rt, path) {
         Ok(file) => Ok(file),

@@ -1,7 +1,7 @@
 //! Stores of records.
 
 ghost use Rattle.std.specs.Prelude.{◌≡◌, option_map, IfErr, IfOk, OnErr, OnOk};
-ghost use Rattle.system_io.specs.Records.{AreSame, FindsBatchOrNot, IsSettled, StoreFacts, StorePlaces, records_of, with_all};
+ghost use Rattle.system_io.specs.Records.{AreSame, FindsBatchOrNot, GivesBack, IsSettled, StoreFacts, StorePlaces, records_of, with_all};
 
 use std::alloc::Global;
 
@@ -19,10 +19,14 @@ pub struct Entry {
     pub record: Vec<u8>,
 }
 
-/// A store could not put a batch: memory or the disk failed. It may be of no use from then on; one that is opened again finds what
-/// stood there, or all with the whole batch.
-#[derive(Clone, Copy, Debug, PartialEq, Eq)]
-pub struct StoreFailed;
+/// Why a store could not put a batch.
+#[derive(Drop)]
+pub enum PutFault {
+    /// The store failed. It may be of no use from then on; one that is opened again finds what stood there, or all with the whole batch.
+    Failed,
+    /// Memory was refused, and nothing else failed: the store goes on as it was. The batch comes back.
+    OutOfMemory(Vec<Entry>),
+}
 
 /// A store of records, each under the stamp of its game.
 pub trait RecordStore {
@@ -34,13 +38,15 @@ pub trait RecordStore {
         ensures { option_map (λ b. b.now) result ≡ option_map (λ r. r.bytes) ((facts self.now).has stamp.now) };
 
     /// Puts all records or none. The record of a game stands in place of the one before, and of two in one batch the later one.
-    fn put_all(&mut self, entries: Vec<Entry>) -> Result<(), StoreFailed>
+    fn put_all(&mut self, entries: Vec<Entry>) -> Result<(), PutFault>
         // At `Ok` it has each entry, put in turn, and what it has of all other games is as before; a start finds just that,
         ensures all { OnOk result (AreSame (facts self.new).has (with_all (facts self.old).has entries.items)) }
         ensures kept { OnOk result (IsSettled (facts self.new)) }
         // and after an error it has what it had, and a start finds that, or all with the whole batch.
         ensures same { OnErr result (AreSame (facts self.new).has (facts self.old).has) }
-        ensures stops { OnErr result (IsSettled (facts self.old) → FindsBatchOrNot (facts self.new) (facts self.old).has entries.items) };
+        ensures stops { OnErr result (IsSettled (facts self.old) → FindsBatchOrNot (facts self.new) (facts self.old).has entries.items) }
+        // Where memory alone was refused, a start finds just what it had, and the batch comes back.
+        ensures refused { IfErr result (GivesBack (facts self.new) entries.items) };
 }
 
 /// Why a store can't be had, or what its files hold can't be told.

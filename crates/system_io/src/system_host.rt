@@ -1,7 +1,7 @@
 //! Ports and kept files of the system.
 
 use crate::host::{BindFault, Host, LockFault};
-use crate::lock_file::LockFile;
+use crate::lock_file::{LockFile, fault_beside};
 use crate::notes::tell_refused;
 use crate::record_store::{Entry, StoreFault, Stores};
 use crate::system_file::SystemFile;
@@ -43,10 +43,14 @@ where
         (SystemHost { rt, notes, stores }, Unrecorded { _one: () })
     }
 
-    /// Why the file at a path isn't locked, which is told where no other process has locked it.
+    /// Why the file at a path isn't locked. Where no other process has locked it, a note names the file at fault: that one, or what stands
+    /// beside it where a file is kept.
     fn unlocked(&self, path: &str, error: io::Error) -> LockFault {
         if error.kind() != io::ErrorKind::WouldBlock {
-            tell_refused(self.notes, path, &error);
+            match fault_beside(self.rt, path) {
+                Some((kept, why)) => tell_refused(self.notes, kept, &why),
+                None => tell_refused(self.notes, path, &error),
+            }
         }
         LockFault::from(error)
     }

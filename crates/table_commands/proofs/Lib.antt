@@ -1,5 +1,3 @@
-pub mod TableLaws
-pub mod LookLaws
 pub mod PgnLaws
 pub mod RootLines
 pub mod JsonLaws

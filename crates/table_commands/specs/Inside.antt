@@ -1,4 +1,3 @@
 -- Invariants of values and intermediate results of functions. Private clauses alone cite them.
-pub mod Looking
 pub mod LookingUp
 pub mod JsonLines

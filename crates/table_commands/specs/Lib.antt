@@ -9,6 +9,4 @@ pub mod Game
 pub mod Games
 pub mod Pgn
 pub mod Follow
-pub mod List
-pub mod Check
 pub mod Inside

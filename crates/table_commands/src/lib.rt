@@ -1,4 +1,4 @@
-//! The commands that answer once, from tables: `judge`, `probe`, `probes`, `root`, `game`, `games`, `pgn`, `follow`, `list`, `check`.
+//! The commands that answer once, from tables: `judge`, `probe`, `probes`, `root`, `game`, `games`, `pgn`, `follow`.
 //!
 //! Each is a module with a function `answer`, which takes the task that `parse` of command_line made, and what was read for it. Tables are
 //! read before, or each when a position asks for it.
@@ -24,7 +24,6 @@
 //!   that function alone.
 #![tactic(auto)]
 
-pub mod check;
 mod folders;
 pub mod follow;
 pub mod game;
@@ -32,7 +31,6 @@ pub mod games;
 mod json_answers;
 pub mod judge;
 mod judging;
-pub mod list;
 pub mod pgn;
 pub mod probe;
 pub mod probes;

@@ -1,3 +1,5 @@
 pub mod NameLaws
 pub mod LookLaws
 pub mod ReadLaws
+pub mod InputReadLaws
+pub mod TurnLaws

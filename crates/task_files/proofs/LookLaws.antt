@@ -11,7 +11,7 @@ use Rattle.task_files.specs.Outside.{IsAtItsPath}
 
 -- ---- one more
 
-made_more : {L : Type 0} (P : L → File → Type 0) (looks : List L) (files : List File) (look : L) (f : File) → AreMadeOf P looks files → P look f → AreMadeOf P (looks ++ look ∷ []) (files ++ f ∷ [])
+pub made_more : {L : Type 0} (P : L → File → Type 0) (looks : List L) (files : List File) (look : L) (f : File) → AreMadeOf P looks files → P look f → AreMadeOf P (looks ++ look ∷ []) (files ++ f ∷ [])
 made_more P [] [] look f h p = (p, tt)
 made_more P [] (g ∷ files) look f h p = absurd h
 made_more P (l ∷ looks) [] look f h p = absurd h

@@ -140,7 +140,7 @@ pub reads_so : {T P F K S L : Type 0} (o : Outside T P F K S L) (a b c : T) (fol
 reads_so o a b c folder manifest wanted r p q = (p.0 ++ q.0, adds_more o a b c p.0 q.0 p.1 q.1, FilesRead wanted p.0 q.0 p.2 q.2 refl)
 
 -- what was read of the wanted names of a folder are files that a manifest may have
-files_of_listing : (disk : DiskFacts) (folder : List ℕ) (manifest : Manifest) (wanted : List (List ℕ)) (listing : List Event) (files : List File) → names_of files ≡ wanted → ListsTables disk folder manifest (Ok wanted) listing → AreFiles files
+pub files_of_listing : (disk : DiskFacts) (folder : List ℕ) (manifest : Manifest) (wanted : List (List ℕ)) (listing : List Event) (files : List File) → names_of files ≡ wanted → ListsTables disk folder manifest (Ok wanted) listing → AreFiles files
 files_of_listing disk folder manifest wanted listing files named (Listed names others note lists may are is same) =
     are_files (told_by manifest) names files (subst (AreWantedOf (told_by manifest) names) (sym (ok_is wanted others refl same) ∙ sym named) are)
 files_of_listing disk folder manifest wanted listing files named (NotListed fault cause is same) = absurd (cc)

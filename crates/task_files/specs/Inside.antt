@@ -1,3 +1,4 @@
 -- Intermediate results of functions. Private clauses alone cite them.
 pub mod Placing
 pub mod Reading
+pub mod Readings

@@ -4,4 +4,6 @@ pub mod Given
 pub mod Sources
 pub mod Made
 pub mod TableReads
+pub mod InputReads
+pub mod TableLooks
 pub mod Inside

@@ -32,7 +32,7 @@ taken (Err e) = Err e
 abbrev pub HasTable : List (List ℕ) → Type 0
 HasTable names = (name : List ℕ) × Contains names name × IsFileName name
 
--- that a folder lists no table's file may be noted: where memory for the line isn't refused, it is
+-- that a folder lists no table's file is noted, or memory for the line was refused; nothing else is
 pub data MayNote (folder : List ℕ) (names : List (List ℕ)) (more : List Event) : Type 0 where
   NotNoted : more ≡ [] → MayNote folder names more
   IsNoted : (HasTable names → ⊥) → more ≡ Noted (codes "no table in " ++ folder) ∷ [] → MayNote folder names more

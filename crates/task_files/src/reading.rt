@@ -1,26 +1,23 @@
 //! The files of tables in a folder.
 
-ghost use Rattle.std.specs.Prelude.{◌≡◌, ◌↔◌, ℕ, List, false, map, string_bytes, IfOk, IfSome, IfNone, OnOk, IsErrOf, IsTrue};
-ghost use Rattle.std.specs.Io.KnownBytes.{Appends};
+ghost use Rattle.std.specs.Prelude.{◌≡◌, ◌↔◌, ℕ, List, map, string_bytes, IfOk, IfSome, IfNone, OnOk, IsErrOf, IsTrue};
 ghost use Rattle.std.specs.List.{Contains};
 ghost use Rattle.move_msg.specs.Manifests.{entry_of};
 ghost use Rattle.move_msg.specs.TableNames.{IsFileName};
 ghost use Rattle.move_msg.specs.Files.{AreFiles, File, table_file_of};
-ghost use Rattle.move_msg.specs.TextLines.{ended};
 ghost use Rattle.task_files.specs.FileNames.{AreRisingNames};
 ghost use Rattle.move_msg.specs.ToldBy.{told_by};
 ghost use Rattle.system_io.specs.Disks.{AtFile};
 ghost use Rattle.task_files.specs.Outside.{AreFilesIn, AreNamesIn, AreWantedOf, FolderFails, IsAtItsPath, IsWanted, ListsTwice, path_in};
 ghost use Rattle.task_files.specs.Made.{AreMadeOf};
-ghost use Rattle.task_files.specs.Inside.Reading.{AreLooksAt, read_words};
+ghost use Rattle.task_files.specs.Inside.Reading.{AreLooksAt};
 ghost use Rattle.task_files.specs.Inside.Placing.{IsNamePlace, AddsName};
 
 use crate::file_name::FileName;
 use move_msg::{Line, Manifest, NamedFile};
 use std::alloc::{AllocError, Global};
 use std::cmp::Ordering;
-use std::io::{self, Write};
-use system_io::{Disk, ReadFault, WriteFault};
+use system_io::{Disk, ReadFault};
 
 /// Whether one of the lines has this name.
 fn is_named(lines: &[Line], name: &str) -> bool
@@ -170,56 +167,22 @@ pub fn read_file<D: Disk>(
     }
 }
 
-/// The number of bytes between two lines of progress.
-const PROGRESS_BYTES: u64 = 100_000_000;
-
-/// Writes the progress, in hundreds of millions of bytes.
-fn put_read<E: Write>(errors: &mut E, hundreds: u64) -> Result<(), WriteFault>
-    ensures { OnOk result (Appends (E.contents errors.old) (E.contents errors.new) (ended (read_words hundreds))) }
-{
-    match writeln!(errors, "{hundreds}00 MB done") {
-        Ok(()) => Ok(()),
-        Err(_) => Err(WriteFault::Io),
-    }
-}
-
-/// Writes the progress, if requested, where another hundred million bytes are read. A failure changes nothing.
-fn tell_read<E: Write>(errors: &mut E, progress: bool, before: u64, now: u64)
-    ensures quiet { progress ≡ false → errors.new ≡ errors.old }
-{
-    let hundreds = now / PROGRESS_BYTES;
-    if !progress || before / PROGRESS_BYTES == hundreds {
-        return;
-    }
-    match put_read(errors, hundreds) {
-        Ok(()) => {}
-        Err(_) => {}
-    }
-}
-
 /// Reads the files of these names in a folder one by one, and keeps a look made from each.
-fn look_at_files<D: Disk, L: TableRequest, E: Write>(
+fn look_at_files<D: Disk, L: TableRequest>(
     alloc: Global,
     disk: &D,
     folder: &str,
     names: &[FileName],
-    errors: &mut E,
-    progress: bool,
 ) -> Result<Vec<L>, ReadFault>
     ensures looks { IfOk result (λ looks. AreLooksAt (D.facts disk.now) folder.now L.made_of names.now looks.items) }
     ensures cause { IsErrOf result ReadFault.Unreadable → (name : List ℕ) × Contains names.now name × (D.facts disk.now).fails (AtFile (path_in folder.now name)) }
-    ensures quiet { progress ≡ false → errors.new ≡ errors.old }
 {
     let mut looks = Vec::new(alloc);
-    let mut read: u64 = 0;
     for name in names {
         let file = match read_file(alloc, disk, folder, name) {
             Ok(file) => file,
             Err(fault) => return Err(fault),
         };
-        let before = read;
-        read = read.saturating_add(file.bytes.len() as u64);
-        tell_read(errors, progress, before, read);
         let Ok(look) = L::of(alloc, file) else {
             return Err(ReadFault::OutOfMemory);
         };
@@ -253,25 +216,21 @@ pub fn names_in<D: Disk>(
 /// files, and with a manifest only those that its lines name. One file at a time is held.
 ///
 /// `Unreadable` where the folder or one of these files can't be read or has more than 2^30 bytes, or the folder lists
-/// one of them twice. With `progress` a line such as `300 MB done` goes to `errors` after each hundred million bytes.
-/// Without it nothing is written there. A failure there changes nothing.
-pub fn looks_in<D: Disk, L: TableRequest, E: Write>(
+/// one of them twice.
+pub fn looks_in<D: Disk, L: TableRequest>(
     alloc: Global,
     disk: &D,
     folder: &str,
     manifest: &Manifest,
-    errors: &mut E,
-    progress: bool,
 ) -> Result<Vec<L>, ReadFault>
     ensures ok { IfOk result (λ looks. (files : List File) × AreFilesIn (D.facts disk.now) folder.now (told_by manifest.now) files × AreFiles files × AreMadeOf L.made_of looks.items files) }
     ensures cause { IsErrOf result ReadFault.Unreadable → FolderFails (D.facts disk.now) folder.now (told_by manifest.now) }
-    ensures quiet { progress ≡ false → errors.new ≡ errors.old }
 {
     let wanted = match names_in(alloc, disk, folder, manifest) {
         Ok(wanted) => wanted,
         Err(fault) => return Err(fault),
     };
-    look_at_files(alloc, disk, folder, &wanted, errors, progress)
+    look_at_files(alloc, disk, folder, &wanted)
 }
 
 /// The wanted table files of a folder, in rising order of names. Wanted are those with names of table files, and with a
@@ -289,5 +248,5 @@ pub fn files_in<D: Disk>(
     ensures files { IfOk result (λ files. AreFiles (map table_file_of files.items)) }
     ensures cause { IsErrOf result ReadFault.Unreadable → FolderFails (D.facts disk.now) folder.now (told_by manifest.now) }
 {
-    looks_in(alloc, disk, folder, manifest, &mut io::sink(), false)
+    looks_in(alloc, disk, folder, manifest)
 }

@@ -47,11 +47,11 @@ impl<'a> InputPaths<'a> {
 /// kept files.
 #[derive(Drop)]
 pub struct Inputs {
-    files: Vec<NamedFile>,
-    manifest: Manifest,
-    input: Vec<u8>,
-    kept: Vec<u8>,
-    other_kept: Vec<u8>,
+    pub(crate) files: Vec<NamedFile>,
+    pub(crate) manifest: Manifest,
+    pub(crate) input: Vec<u8>,
+    pub(crate) kept: Vec<u8>,
+    pub(crate) other_kept: Vec<u8>,
 }
 
 impl Model for Inputs {
@@ -136,10 +136,10 @@ fn read_kept<D: Disk>(alloc: Global, disk: &D, path: Option<&str>) -> Result<Vec
 
 /// What is read beside tables: the input, and two kept files.
 #[derive(Drop)]
-struct Texts {
-    input: Vec<u8>,
-    kept: Vec<u8>,
-    other_kept: Vec<u8>,
+pub(crate) struct Texts {
+    pub(crate) input: Vec<u8>,
+    pub(crate) kept: Vec<u8>,
+    pub(crate) other_kept: Vec<u8>,
 }
 
 /// Reads what these places name beside tables.

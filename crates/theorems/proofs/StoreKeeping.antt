@@ -15,7 +15,7 @@ use Rattle.system_io.specs.Records.{StoreFacts}
 use Rattle.arbiter_server.specs.Acts.{Action, Unread, Strange, Refuses, Opens, Answers, Closes, acts_of, all_replies, game_of, is_stamp, replies_of}
 use Rattle.arbiter_server.specs.Games.{CommonView, Fresh, GameStatus, Open, Shut}
 use Rattle.arbiter_server.specs.Hosts.{FindsWhatIsKept, IsCommitted}
-use Rattle.arbiter_server.specs.Rounds.{Round, replies_of_rounds}
+use Rattle.arbiter_server.specs.Rounds.{EndSent, Round, replies_of_rounds}
 use Rattle.arbiter_server.specs.Serving.{outputs_of}
 use Rattle.arbiter_server.specs.StoreGames.{store_finds, store_keepers}
 use Rattle.arbiter_server.proofs.Telling.{AllTell}
@@ -266,9 +266,9 @@ module _ (grow : PutsGrow) (disk : DiskFacts) (folder stamp : List ℕ) (setup :
         by : (sent : List Round) → r.sent ≡ sent → AllByRecursion (IfAnswers IsTold) (acts_of stamp r.acts)
         by [] is = unsent IsTold is
         by (x ∷ xs) is =
-            let some : 0 < length (r.sent ++ []) = subst (λ (rounds : List Round). 0 < length (rounds ++ [])) (sym is) (omega arith) in
+            let whole : EndSent (r.sent ++ []) = subst EndSent (sym (append-nil r.sent)) (elim ran.ends [ inl none ↦ absurd (let n : length (x ∷ xs) ≡ 0 = ap length (sym is ∙ none) in omega (arith, n)) | inr ends ↦ ends ]) in
             let are : r.sent ++ r.later ≡ (r.sent ++ []) ++ r.later = ap (λ (rounds : List Round). rounds ++ r.later) (sym (append-nil r.sent)) in
-            let c = ran.commits (r.sent ++ []) r.later are some in
+            let c = ran.commits (r.sent ++ []) r.later are whole in
             front_answers IsTold stamp r.acts r.rest c.first c.rest c.are (replied [] c)
             (acts_so (Held memory_facts setup (c.games stamp)) IsTold (λ e h. (h.of_setup, h.tells)) (acts_of stamp c.first) (held (r.sent ++ []) c))
 

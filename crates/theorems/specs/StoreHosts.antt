@@ -1,9 +1,9 @@
 -- The games of a host over one store, in each run and over all runs of the host, wherever each of them stopped (this project's own).
 --
--- Of each run the contract of `Server::serve` gives its acts and its rounds, and of each front of the rounds a moment of the store at
--- which a start finds of each game what its own keeper keeps by then (`CommitsEach` of arbiter_server). That moment comes before the
--- answers of the last of these rounds go out.
-use Rattle.std.specs.Prelude.{◌≡◌, ◌<◌, ◌++◌, ℕ, List, [], ◌∷◌, length, Some}
+-- Of each run the contract of `Server::serve` gives its acts and its rounds, and of each front of the rounds that ends with one whose
+-- answers are sent a moment of the store at which a start finds of each game what its own keeper keeps by then (`CommitsEach` of
+-- arbiter_server). That moment comes before the answers of the last of these rounds go out.
+use Rattle.std.specs.Prelude.{◌≡◌, ◌⊎◌, ◌++◌, ℕ, List, [], ◌∷◌, Some}
 use Rattle.std.specs.List.{AllByRecursion}
 use Rattle.arbiter_core.specs.Delivers.{Exchange}
 use Rattle.arbiter_core.specs.Memory.{Memory}
@@ -17,7 +17,7 @@ use Rattle.arbiter_server.specs.Games.{CommonView, Fresh, GameStatus, Open, Shut
 use Rattle.arbiter_server.specs.Hosts.{CommitsEach}
 use Rattle.arbiter_server.specs.Lives.{StillHolds}
 use Rattle.arbiter_server.specs.OverFiles.{GoesOn, IsItsRecord}
-use Rattle.arbiter_server.specs.Rounds.{Round, replies_of_rounds}
+use Rattle.arbiter_server.specs.Rounds.{EndSent, Round, replies_of_rounds}
 use Rattle.arbiter_server.specs.Serving.{outputs_of}
 use Rattle.arbiter_server.specs.StoreGames.{store_finds, store_keepers}
 use Rattle.theorems.specs.HostFiles.{IfAnswers, IsOfSetup}
@@ -58,13 +58,13 @@ AnswersAreFound disk facts folder =
     (t : CommonView) (acts : List (Action Memory)) (rounds first later : List Round)
     → CommitsEach (store_keepers disk folder) t (store_finds facts) acts rounds
     → rounds ≡ first ++ later
-    → 0 < length first
+    → EndSent first
     → AreStored facts acts first
 
 -- ---- all runs
 
 -- A run of a host over a store, as far as it went: the acts by which its answers went out, and those that were to follow them in a run
--- that returns; the rounds whose answers went out, those of the last one all or some of them, and the rounds that were to follow; and the
+-- that returns; the rounds up to the last one whose answers went out, all or some of them, and the rounds that were to follow; and the
 -- store that the run left.
 pub record StoreRun (S : Type 0) : Type 0 where
   pub acts : List (Action Memory)
@@ -95,8 +95,8 @@ FoundAt facts stamp before (Open at) committed next = store_finds facts committe
 -- its answers, or where that put was stopped or failed, and all of it is there.)
 pub data FindsAtStop {S : Type 0} (facts : S → StoreFacts) (s : Keepers Memory) (t : CommonView) (stamp : List ℕ) (before : S) (r : StoreRun S) (commits : CommitsEach s t (store_finds facts) (r.acts ++ r.rest) (r.sent ++ r.later)) (next : Memory) : Type 0 where
   AtStart : r.sent ≡ [] → store_finds facts before stamp next → FindsAtStop facts s t stamp before r commits next
-  AtCommit : (more later : List Round) (are : r.sent ++ r.later ≡ (r.sent ++ more) ++ later) (some : 0 < length (r.sent ++ more))
-      → FoundAt facts stamp before ((commits (r.sent ++ more) later are some).games stamp) (commits (r.sent ++ more) later are some).folder next
+  AtCommit : (more later : List Round) (are : r.sent ++ r.later ≡ (r.sent ++ more) ++ later) (ends : EndSent (r.sent ++ more))
+      → FoundAt facts stamp before ((commits (r.sent ++ more) later are ends).games stamp) (commits (r.sent ++ more) later are ends).folder next
       → FindsAtStop facts s t stamp before r commits next
 
 -- a run over a store that was left so
@@ -106,6 +106,7 @@ pub record StoreRanOver {S : Type 0} (facts : S → StoreFacts) (s : Keepers Mem
   -- returns, of which alone a contract speaks.
   pub commits : CommitsEach s common (store_finds facts) (r.acts ++ r.rest) (r.sent ++ r.later)
   pub answered : all_replies r.acts ≡ replies_of_rounds r.sent
+  pub ends : (r.sent ≡ []) ⊎ EndSent r.sent
   -- Premise (who writes the folder of games): the game found under the stamp is one. That no other has this stamp rests on SHA-256.
   pub one : AllByRecursion (IsOfSetup setup) (acts_of stamp (r.acts ++ r.rest))
   -- Premise (who else writes the store, the disk): the game's first keeper keeps what a start finds over the store that the run before it

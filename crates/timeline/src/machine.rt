@@ -11,8 +11,8 @@ use std::rt::Files;
 use std::time::{Clock, Duration};
 use system_io::{
     BindFault, BufferedOutput, Disk, Entry, FileCalls, FileWithMode, Host, Input, KeptFile, Key,
-    LineDisk, LineReader, LockFault, LockFile, Output, Port, PortFault, ReadFault, RecordStore,
-    StoreFailed, StoreFault, Stores, SystemCalls, SystemFile, SystemHost, UdpPort, Unrecorded,
+    LineDisk, LineReader, LockFault, LockFile, Output, Port, PortFault, PutFault, ReadFault,
+    RecordStore, StoreFault, Stores, SystemCalls, SystemFile, SystemHost, UdpPort, Unrecorded,
     WriteFault, begin, replace,
 };
 
@@ -366,7 +366,7 @@ where
         _timeline: &mut Self::Timeline,
         store: &mut Self::Store,
         entries: Vec<Entry>,
-    ) -> Result<(), StoreFailed> {
+    ) -> Result<(), PutFault> {
         store.store.put_all(entries)
     }
 

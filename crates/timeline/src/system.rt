@@ -8,7 +8,7 @@ ghost use Rattle.system_io.specs.Failures.{Counts, Risen};
 ghost use Rattle.system_io.specs.KeptFiles.{CannotStart, IsOneOfFound, bytes_of};
 ghost use Rattle.system_io.specs.LineReaders.{ReadsIfAny};
 ghost use Rattle.system_io.specs.Outputs.{WritesFront};
-ghost use Rattle.system_io.specs.Records.{AreSame, IsSettled, records_of, with_all};
+ghost use Rattle.system_io.specs.Records.{AreSame, GivesBack, IsSettled, records_of, with_all};
 ghost use Rattle.timeline.specs.Events.{FileOpened, FileRead, FileSought, FileWithModeRead, Flushed, FolderListed, Found, FromFile, FromInput, InputRead, LinesOpened, Locked, Noted, PortBound, Put, RecordSought, Refused, StoreOpened};
 ghost use Rattle.timeline.specs.Events.{IsWritten, by_result, bytes_found, bytes_read, came_in_time, came_or_missed, commit_event, done_by, found_by, is_done, line_event, mode_read, names_read};
 ghost use Rattle.timeline.specs.Outsides.{Adds, AddsSome, AreNamed, FailsOrIsKnown, HeardNothing, IsConsistent, LeavesBatchOrNot, LeavesOldOrNew, Outside, SendsToSame, sent_by};
@@ -19,7 +19,7 @@ use std::io;
 use std::net::SocketAddr;
 use std::time::Duration;
 use system_io::{
-    BindFault, Entry, FileWithMode, Key, LockFault, PortFault, ReadFault, StoreFailed, StoreFault,
+    BindFault, Entry, FileWithMode, Key, LockFault, PortFault, PutFault, ReadFault, StoreFault,
     WriteFault,
 };
 
@@ -348,13 +348,15 @@ pub trait System {
         timeline: &mut Self::Timeline,
         store: &mut Self::Store,
         entries: Vec<Entry>,
-    ) -> Result<(), StoreFailed>
+    ) -> Result<(), PutFault>
         // At `Ok` it has each entry, put in turn, and what it has of all other games is as before; a start finds just that,
         ensures all { OnOk result (AreSame ((outside self.now).store store.new).has (with_all ((outside self.now).store store.old).has entries.items)) }
         ensures kept { OnOk result (IsSettled ((outside self.now).store store.new)) }
         // and after an error it has what it had, and a start finds that, or all with the whole batch.
         ensures same { OnErr result (AreSame ((outside self.now).store store.new).has ((outside self.now).store store.old).has) }
         ensures stops { OnErr result (LeavesBatchOrNot ((outside self.now).store store.old) ((outside self.now).store store.new) entries.items) }
+        // Where memory alone was refused, a start finds just what it had, and the batch comes back.
+        ensures refused { IfErr result (GivesBack ((outside self.now).store store.new) entries.items) }
         ensures path { (outside self.now).store_path store.new ≡ (outside self.now).store_path store.old }
         ensures made { Adds (outside self.now) timeline.old timeline.new (commit_event result ((outside self.now).store_path store.old) entries.items ∷ []) };
 

@@ -1,13 +1,13 @@
 //! The outside in memory, which records all that happens.
 
-ghost use Rattle.std.specs.Prelude.{◌≡◌, ◌≤◌, None, Ok, map, IfOk, IfSome, OnErr, OnOk};
+ghost use Rattle.std.specs.Prelude.{◌≡◌, ◌≤◌, None, Ok, map, IfErr, IfOk, IfSome, OnErr, OnOk};
 ghost use Rattle.system_io.specs.Failures.{Risen};
 ghost use Rattle.system_io.specs.Recipients.{address_named};
-ghost use Rattle.system_io.specs.Records.{with_all};
+ghost use Rattle.system_io.specs.Records.{GivesBack, with_all};
 ghost use Rattle.system_fakes.specs.MemoryInputs.{memory_line_facts};
 ghost use Rattle.timeline.specs.Events.{Passes, done_by, has_line_feed, is_done, sent_to, sent_to_each};
 ghost use Rattle.timeline.specs.Outsides.{AreNamed, HeardNothing, SendsToSame};
-ghost use Rattle.timeline_fakes.specs.Memories.{events_in, has_in, lock_path, port_state, store_path};
+ghost use Rattle.timeline_fakes.specs.Memories.{events_in, has_in, lock_path, port_state, store_facts, store_path};
 
 use crate::memory_file::{KeptStart, MemoryFile};
 use crate::memory_port::{MemoryPort, Turn, address_of, fill};
@@ -25,7 +25,7 @@ use std::time::Duration;
 use system_fakes::{AtPath, MemoryDisk, MemoryInput, MemoryLines};
 use system_io::{
     BindFault, Disk, Entry, FileWithMode, Input, Key, LineDisk, LineReader, LockFault, PortFault,
-    ReadFault, Recipient, StoreFailed, StoreFault, WriteFault, begin, replace,
+    PutFault, ReadFault, Recipient, StoreFault, WriteFault, begin, replace,
 };
 use timeline::{Stream, System};
 
@@ -207,23 +207,27 @@ fn store_at(
     }
 }
 
-/// Puts a batch in a store.
+/// Puts a batch in a store. It counts as two calls: where the first fails, the store does, and where the second fails, memory is refused.
 fn put_batch(
     timeline: &mut MemoryTimeline,
     store: &mut MemoryStore,
     entries: Vec<Entry>,
-) -> Result<(), StoreFailed>
+) -> Result<(), PutFault>
     ensures events { events_in timeline.new ≡ events_in timeline.old }
     ensures all { OnOk result (has_in store.new ≡ with_all (has_in store.old) entries.items) }
     ensures same { OnErr result (has_in store.new ≡ has_in store.old) }
+    ensures refused { IfErr result (GivesBack (store_facts store.new) entries.items) }
     ensures path { store.new.path ≡ store.old.path }
 {
     if timeline.is_failing() {
-        return Err(StoreFailed);
+        return Err(PutFault::Failed);
+    }
+    if timeline.is_failing() || store.batches.reserve(1).is_err() {
+        return Err(PutFault::OutOfMemory(entries));
     }
     match store.batches.push(entries) {
         Ok(()) => Ok(()),
-        Err(_) => Err(StoreFailed),
+        Err(_) => Err(PutFault::Failed),
     }
 }
 
@@ -564,7 +568,7 @@ impl<'a> System for MemorySystem<'a> {
         timeline: &mut MemoryTimeline,
         store: &mut MemoryStore,
         entries: Vec<Entry>,
-    ) -> Result<(), StoreFailed> {
+    ) -> Result<(), PutFault> {
         let copies = same_entries(timeline.alloc(), &entries);
         let got = put_batch(timeline, store, entries);
         let made = committed(timeline.alloc(), &store.path, copies, is_done(&got));

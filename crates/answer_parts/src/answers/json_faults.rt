@@ -30,7 +30,7 @@ fn position_fault_line(fault: PositionFault) -> &'static str
 
 /// The object that says why a text is no position, with its line feed.
 #[tactic(auto, unfolding(json::specs::Print::escape_byte, json::specs::Print::print_from))]
-fn fault_line(fault: FenFault) -> &'static str
+pub fn fault_line(fault: FenFault) -> &'static str
     ensures { result.now ≡ ended (json_text (fault_json fault)) }
 {
     match fault {

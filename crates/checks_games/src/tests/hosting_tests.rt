@@ -138,7 +138,7 @@ impl<'r> Games for Folder<'r> {
         }
         match self.commit {
             Keep::Good => Ok(()),
-            Keep::FailsOld | Keep::FailsNew => Err(Uncommitted),
+            Keep::FailsOld | Keep::FailsNew => Err(Uncommitted::StoreLost),
         }
     }
 }

@@ -1,7 +1,7 @@
 //! A host without stores.
 
 use std::alloc::Global;
-use system_io::{Entry, Key, RecordStore, StoreFailed, StoreFault, Stores};
+use system_io::{Entry, Key, PutFault, RecordStore, StoreFault, Stores};
 
 /// A place at which no store can be opened.
 #[derive(Drop)]
@@ -20,8 +20,8 @@ impl RecordStore for NoStore {
         None
     }
 
-    fn put_all(&mut self, _entries: Vec<Entry>) -> Result<(), StoreFailed> {
-        Err(StoreFailed)
+    fn put_all(&mut self, _entries: Vec<Entry>) -> Result<(), PutFault> {
+        Err(PutFault::Failed)
     }
 }
 

@@ -8,3 +8,15 @@ returns-in-Moves-clause-made g c = rw c.in-Moves.is c.print_moves.ensures.made
 
 pub returns-in-Run-clause-made : goal.returns-in-Run-clause-made
 returns-in-Run-clause-made g c = rw c.in-Run.is c.run_schedule.ensures.made
+
+pub returns-in-Record-clause-made : goal.returns-in-Record-clause-made
+returns-in-Record-clause-made g c = rw c.in-Record.is c.reply_to.ensures.made
+
+pub returns-in-Audit-clause-made : goal.returns-in-Audit-clause-made
+returns-in-Audit-clause-made g c = rw c.in-Audit.is c.reply_to-in-Audit.ensures.made
+
+pub returns-in-List-clause-made : goal.returns-in-List-clause-made
+returns-in-List-clause-made g c = rw c.in-List.is c.print_manifest.ensures.made
+
+pub returns-in-Check-clause-made : goal.returns-in-Check-clause-made
+returns-in-Check-clause-made g c = rw c.in-Check.is c.print_check.ensures.made

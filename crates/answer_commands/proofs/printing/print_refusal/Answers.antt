@@ -1,4 +1,4 @@
-use Rattle.std.proofs.Common.{◌∷◌, [], ap, refl}
+use Rattle.std.proofs.Common.{◌∷◌, [], refl}
 use Rattle.answer_parts.specs.Lines.{refusal_words}
 use Rattle.move_msg.specs.TextLines.{ended}
 use Rattle.answer_commands.specs.Printing.{Prints}

@@ -1,5 +1,4 @@
-use Rattle.std.proofs.Common.{ap, refl}
-use Rattle.std.proofs.lemmas.Result.{IfOk-weaker}
+use Rattle.std.proofs.Common.{refl}
 use Rattle.answer_commands.specs.Run.{NoTable}
 use Rattle.answer_commands.proofs.RunLaws.{ran_all}
 use Rattle.answer_commands.proofs.run.answer_game.Goals as goal

@@ -8,6 +8,7 @@ returns-clause-one g c =
     record {
       held = record { answered = c.hear-answered.result; sender = c.args.sender };
       heard = hears_one _ _ _ _ turns.0 (datagram_reply c.args.bytes.now c.hear-answered.result) turns.1 turns.2;
+      of = c.hear-answered.ensures.of;
       behind = pushed c.push-fits.result _ _ _ (c.push-fits.ensures.succeeds c.requires) c.push-fits.ensures.items;
     }
 

@@ -7,5 +7,5 @@ use Rattle.arbiter_server.proofs.gathering.tell_answers.Given as goal
 
 abbrev pub invariant-loop-held : goal.invariant-loop-held
 invariant-loop-held g l = record {
-  told : (before : List (List ℕ)) → Remembers l.initial.log before → HasTold (writers g.W.Write.contents g.W.Output.facts) before l.initial.log l.log (answer_lines (take l.held-index l.answers)) l.initial.out l.out;
+  told : (before : List (List ℕ)) → Remembers l.initial.log before → HasTold (writers g.W.Write.contents g.W.Output.facts) before l.initial.log l.log (answer_lines l.fn.are_sent (take l.held-index l.answers)) l.initial.out l.out;
 }

@@ -4,7 +4,7 @@ use Rattle.http_answer.proofs.plies.add_moves.Given as goal
 
 abbrev pub invariant-loop-m : goal.invariant-loop-m
 invariant-loop-m g l = record {
-  told : SoFar (g.D.Disk.facts l.fn.answerer.disk) l.fn.answerer.folder l.fn.start l.fn.moves l.fn.text l.position l.rest l.text;
+  so_far : SoFar (g.D.Disk.facts l.fn.answerer.disk) l.fn.answerer.folder l.fn.start l.fn.moves l.fn.text l.position l.rest l.text;
   same : l.answerer ≡ l.fn.answerer;
 }
 

@@ -1,8 +1,9 @@
-use Rattle.std.proofs.Common.{◌≡◌, ◌≤◌, ℕ, List, ◌++◌}
+use Rattle.std.proofs.Common.{◌≡◌, ◌≤◌, ℕ, List, ◌++◌, true, false}
 use Rattle.std.specs.Io.KnownBytes.{Appends, Consumes}
 use Rattle.http_server.specs.Connection.{config_of, history}
 use Rattle.http_server.specs.Exchange.{Calls}
 use Rattle.http_server.specs.declared.state.State.TheVariants.{Aborted}
+use Rattle.http_loop.specs.Turns.{SendsSome}
 use Rattle.http_loop.proofs.peer.take_turn.Given as goal
 
 abbrev pub invariant-loop : goal.invariant-loop
@@ -15,4 +16,6 @@ invariant-loop g l =
     × (new.sent ≡ old.sent ++ more))
     × Calls g.S.Service.answers l.fn.service l.service old.calls new.calls
     × (config_of l.connection ≡ config_of l.fn.connection)
+    × (l.has_sent ≡ true → SendsSome old new)
+    × (l.has_read ≡ false → new.received ≡ old.received)
     × (1 ≤ l.counter → new.state ≡ Aborted → ⊥)

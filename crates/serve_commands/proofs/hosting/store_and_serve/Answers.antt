@@ -21,5 +21,5 @@ returns-in-Ok-import_records-clause-told g c =
     let host = hosted (g.H.Host.facts c.args.plan.now.host.now) g.H.Port.Port.facts g.H.File.KeptFile.facts in
     let w = writers g.W.Write.contents g.W.Output.facts in
     let told = rw c.over-games.ensures at c.bind_and_serve.ensures.told in
-    Imported _ c.in-Ok.ensures.made _ _ c.in-Ok.ensures.at c.in-Ok-import_records.ensures.ok
+    Imported _ c.in-Ok.ensures.made _ _ c.in-Ok.ensures.at (_, c.in-Ok-import_records.ensures.ok)
     (bound_less host w (store_keepers (g.D.Disk.facts disk) folder) (λ stamp. []) _ _ (store_commits g.D.Disk.facts g.H.Store.RecordStore.facts disk folder) _ _ _ _ _ _ c.bind_and_serve.result told)

@@ -3,4 +3,4 @@ use Rattle.serve_core.proofs.answering.answer_rounds.Given as goal
 
 abbrev pub invariant-loop : goal.invariant-loop
 invariant-loop g l =
-    ServesCalls g.L.Listener.streams g.L.Reader.Read.remaining g.L.Writer.Write.contents g.S.Service.answers l.fn.counted.service l.counted.service l.fn.server l.server
+    ServesCalls g.L.Listener.streams g.L.Reader.Read.remaining g.L.Writer.Write.contents g.S.Service.answers l.fn.logged.service l.logged.service l.fn.server l.server

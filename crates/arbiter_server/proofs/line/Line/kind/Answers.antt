@@ -24,5 +24,8 @@ pub returns-in-PortLost-clause-is : goal.returns-in-PortLost-clause-is
 unfolding line_kind
 returns-in-PortLost-clause-is c = elim c.in-PortLost.is [
   | inl is ↦ ap (λ (l : Line). line_kind (ended (line_words l))) is
-  | inr is ↦ ap (λ (l : Line). line_kind (ended (line_words l))) is
+  | inr other ↦ elim other [
+    | inl is ↦ ap (λ (l : Line). line_kind (ended (line_words l))) is
+    | inr is ↦ ap (λ (l : Line). line_kind (ended (line_words l))) is
+  ]
 ]

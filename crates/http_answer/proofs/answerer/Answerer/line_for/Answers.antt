@@ -3,8 +3,8 @@ use Rattle.std.proofs.lemmas.Result.{IfOk-weaker}
 use Rattle.json_lines.specs.ApiTold.{ForNone, ForPosition}
 use Rattle.http_answer.proofs.answerer.Answerer.line_for.Goals as goal
 
-pub returns-in-Err-clause-told : goal.returns-in-Err-clause-told
-returns-in-Err-clause-told g c = ForNone c.in-Err.fault c.in-Err.ensures.err refl
+pub returns-in-Err-clause-answer : goal.returns-in-Err-clause-answer
+returns-in-Err-clause-answer g c = ForNone c.in-Err.fault c.in-Err.ensures.err refl
 
-pub returns-in-Ok-clause-told : goal.returns-in-Ok-clause-told
-returns-in-Ok-clause-told g c = IfOk-weaker c.line_of.result _ _ (λ l told. ForPosition c.in-Ok.position c.in-Ok.ensures.ok c.in-Ok.ensures.position told) c.line_of.ensures.told
+pub returns-in-Ok-clause-answer : goal.returns-in-Ok-clause-answer
+returns-in-Ok-clause-answer g c = IfOk-weaker c.line_of.result _ _ (λ l is. ForPosition c.in-Ok.position c.in-Ok.ensures.ok c.in-Ok.ensures.position is) c.line_of.ensures.answer

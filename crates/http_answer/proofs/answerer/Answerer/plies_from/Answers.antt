@@ -3,11 +3,11 @@ use Rattle.std.specs.Prelude.{IfErr, IfOk}
 use Rattle.table_folder.specs.Settled.{IsRefusedFor, IsWithMoves}
 use Rattle.http_answer.specs.Inside.{IsOnePly}
 use Rattle.http_answer.proofs.BestPlay.{IsPlayedSoFar, all_played, line_ends, line_refused, none_left, one_left, one_ply_more}
-use Rattle.http_answer.proofs.Telling.{seen_by}
+use Rattle.http_answer.proofs.AnswerLaws.{seen_by}
 use Rattle.http_answer.proofs.answerer.Answerer.plies_from.Goals as goal
 
-pub returns-in-Ok-None-clause-told : goal.returns-in-Ok-None-clause-told
-returns-in-Ok-None-clause-told g c =
+pub returns-in-Ok-None-clause-answer : goal.returns-in-Ok-None-clause-answer
+returns-in-Ok-None-clause-answer g c =
     let disk = g.D.Disk.facts c.args.self.now.disk in
     let folder = c.args.self.now.folder in
     let so_far = subst (λ (n : ℕ). IsPlayedSoFar disk folder n c.args.start.now c.loop.position c.loop.plies.items) (one_left c.loop.counter (omega (arith, c.loop-test.true))) c.loop.invariant.so_far in
@@ -33,8 +33,8 @@ loop-preserved g c =
       same = c.play_on.ensures.same ∙ c.loop.invariant.same;
     }
 
-pub returns-clause-told : goal.returns-clause-told
-returns-clause-told g c =
+pub returns-clause-answer : goal.returns-clause-answer
+returns-clause-answer g c =
     let disk = g.D.Disk.facts c.args.self.now.disk in
     let folder = c.args.self.now.folder in
     all_played disk folder c.args.start.now c.loop.position c.loop.plies.items

@@ -1,13 +1,12 @@
-use Rattle.std.proofs.Common.{ℕ, List, subst}
-use Rattle.std.specs.Prelude.{OnOk}
-use Rattle.http_answer.specs.Replies.{IsReplyTo}
-use Rattle.http_answer.specs.Replies.Asked.{Mainline, Values}
+use Rattle.std.proofs.lemmas.Result.{on_ok_weaker}
 use Rattle.http_answer.proofs.answerer.Answerer.reply.Goals as goal
 
-pub returns-in-Values-clause-replied : goal.returns-in-Values-clause-replied
-returns-in-Values-clause-replied g c =
-    rw c.in-Values.is (subst (λ (text : List ℕ). OnOk c.tell_text.result (IsReplyTo (g.D.Disk.facts c.args.self.now.disk) c.args.self.now.folder (Values text) c.tell_text.new.response)) c.deref.ensures.value c.tell_text.ensures.told)
+pub returns-in_ok-line_for-in-Values-clause-replied : goal.returns-in_ok-line_for-in-Values-clause-replied
+returns-in_ok-line_for-in-Values-clause-replied g c =
+    let got = c.in_ok-line_for-in-Values in
+    rw c.in-Values.is (on_ok_weaker c.fill_line.result (λ has. (got.field-0, rw c.deref.ensures.value at got.ensures.answer, has)) c.fill_line.ensures)
 
-pub returns-in-Mainline-clause-replied : goal.returns-in-Mainline-clause-replied
-returns-in-Mainline-clause-replied g c =
-    rw c.in-Mainline.is (subst (λ (text : List ℕ). OnOk c.tell_mainline.result (IsReplyTo (g.D.Disk.facts c.args.self.now.disk) c.args.self.now.folder (Mainline text) c.tell_mainline.new.response)) c.deref-in-Mainline.ensures.value c.tell_mainline.ensures.told)
+pub returns-in_ok-mainline_for-in-Mainline-clause-replied : goal.returns-in_ok-mainline_for-in-Mainline-clause-replied
+returns-in_ok-mainline_for-in-Mainline-clause-replied g c =
+    let got = c.in_ok-mainline_for-in-Mainline in
+    rw c.in-Mainline.is (on_ok_weaker c.fill_line-in-Mainline.result (λ has. (got.field-0, rw c.deref-in-Mainline.ensures.value at got.ensures.answer, has)) c.fill_line-in-Mainline.ensures)

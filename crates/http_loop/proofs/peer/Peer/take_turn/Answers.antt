@@ -1,15 +1,10 @@
-use Rattle.std.proofs.Common.{◌≡◌, ap, subst, sym}
-use Rattle.http_server.specs.Connection.{config_of, history}
-use Rattle.http_server.specs.History.{Rests}
-use Rattle.http_server.specs.declared.connection.Connection.{Connection}
+use Rattle.std.proofs.Common.{refl}
+use Rattle.http_loop.proofs.PeerLaws.{keeps_time, stays_idle}
 use Rattle.http_loop.proofs.peer.Peer.take_turn.Goals as goal
-use Rattle.http_loop.proofs.peer.Peer.take_turn.Goals.{then-turn, else-turn+else-self}
 
-pub returns-clause-rests : goal.returns-clause-rests
-returns-clause-rests g c =
-    let same : c.if-turn.self.connection ≡ c.take_turn-turn.new.connection =
-    elim c.if-turn.branch [
-      | then-turn w ↦ ap (λ p. p.connection) w.self-is
-      | else-turn+else-self w ↦ ap (λ p. p.connection) w.self-is
-    ] in
-    λ is. subst (λ (k : Connection). Rests (config_of k) (history k)) (sym same) (c.take_turn-turn.ensures.rests is)
+pub returns-clause-since : goal.returns-clause-since
+returns-clause-since g c = keeps_time c.args.now c.args.self.now _ c.take_turn-turn.result.has_sent _ c.take_turn-turn.result.has_read c.counted_from-self.ensures refl c.take_turn-turn.ensures.sends
+
+pub returns-clause-idle : goal.returns-clause-idle
+returns-clause-idle g c =
+    stays_idle c.args.self.now _ c.take_turn-turn.result.has_sent c.take_turn-turn.result.has_read _ refl refl c.take_turn-turn.ensures.sends c.take_turn-turn.ensures.reads

@@ -1,0 +1,275 @@
+//! The commands that aren't over the timeline yet.
+
+ghost use Rattle.std.specs.Prelude.{◌≡◌, None, OnErr, false};
+ghost use Rattle.std.specs.Io.KnownBytes.{Keeps};
+ghost use Rattle.answer_commands.specs.Answers.{answered_once};
+ghost use Rattle.line_teller.specs.ToldLines.{HasFailed};
+ghost use Rattle.adjudicate_core.specs.Beside.{AnswersBeside, MisusedBeside, RefusesBeside};
+ghost use Rattle.adjudicate_core.specs.Makes.{MakesFor};
+ghost use Rattle.adjudicate_core.specs.Running.{AnswersByKey, AnswersFrom, AnswersTask};
+ghost use Rattle.command_line.specs.Tasks.{tells_progress};
+ghost use Rattle.serve_commands.specs.Silences.{TellsIfLost, TellsSilence};
+ghost use Rattle.system_io.specs.Outputs.{HasEnded};
+
+use crate::machine::Machine;
+use crate::noting::TablesNoted;
+use crate::others::{Others, SeenOthers};
+use answer_parts::{Refusal, keys_at, put_answered, put_refusal};
+use command_line::{Misuse, Task, tell_misuse};
+use record_commands::{audit_games, game_record};
+use sealed_port::Keyed;
+use serve_commands::{System as Parts, enter, host_games, listen, send, status, tell_silence};
+use serve_core::{Pages, serve};
+use std::alloc::Global;
+use system_io::{Host, Input, LineDisk, Output, ReadFault, WriteFault};
+use table_commands::{follow, game, games, judge, pgn, probe, probes, root};
+use task_files::Inputs;
+
+/// What a task is answered from.
+struct Context<'s, 'a, D, I, H, G> {
+    /// What was read for it.
+    sources: &'s Inputs,
+    /// What it reads, and where it opens ports and files, while it is answered.
+    system: &'s Parts<'a, D, I, H, G>,
+}
+
+/// Answers a task from what was read for it, and returns the status, 0 done or 1 refused.
+///
+/// `judge` and `probe` use all files, or with a manifest those of its lines, in its order. They report the first
+/// refusal: of the text, then of the manifest, then of a file.
+///
+/// Where memory is refused, the line `refused memory` comes in place of all else, for `probes` after the whole lines
+/// before it, with status 1. A text that is no position takes none. The error comes only where the writer failed. `status` reads its folder here. With `--progress` the
+/// progress of `probes` goes to `err` after every 10,000 lines. For `send` who was silent goes there, where an arbiter doesn't answer. No other task writes there.
+fn answer_given<'s, D: LineDisk, I: Input, H: Host, G: Pages, W: Output, E: Output>(
+    alloc: Global,
+    task: &Task,
+    given: Context<'_, 's, D, I, H, G>,
+    history: &mut H::History,
+    out: &mut W,
+    err: &mut E,
+) -> Result<u8, WriteFault>
+    requires over { answered_once task.now ≡ None }
+    ensures quiet { tells_progress task.now ≡ false → TellsIfLost E.facts E.contents err.old err.new task.now result }
+    ensures answered { AnswersFrom (⟦<Parts<'s, D, I, H, G> as Machine>⟧.from given.entry.system.now history.old history.new) (TellsSilence E.facts E.contents err.old err.new) task.now given.entry.sources.now (W.contents out.old) (W.contents out.new) result }
+    ensures made { MakesFor task.now (H.made history.old) (H.made history.new) }
+    ensures cause { OnErr result (HasFailed W.facts) }
+{
+    let Context { sources, system } = given;
+    match task {
+        Task::Judge(task) => put_answered(out, judge::answer(alloc, task, sources, system.disk)),
+        Task::Probe(task) => put_answered(out, probe::answer(alloc, task, sources, system.disk)),
+        Task::Listen(task) => listen(alloc, task, sources, system.host, history, out),
+        Task::Probes(task) => probes::answer(
+            alloc,
+            task,
+            sources,
+            system.disk,
+            system.input,
+            out,
+            err,
+        ),
+        Task::Game(task) => put_answered(out, game::answer(alloc, task, sources, system.disk)),
+        Task::Games(task) => games::answer(
+            alloc,
+            task,
+            sources,
+            system.disk,
+            system.input,
+            out,
+            err,
+        ),
+        Task::Pgn(task) => pgn::answer(alloc, task, sources, system.disk, system.input, out),
+        Task::GameRecord(task) => game_record::answer(alloc, task, system.disk, system.host, out),
+        Task::AuditGames(task) => audit_games::answer(
+            alloc,
+            task,
+            sources,
+            system.disk,
+            system.host,
+            out,
+        ),
+        Task::Version(_)
+        | Task::Show(_)
+        | Task::Moves(_)
+        | Task::Run(_)
+        | Task::Record(_)
+        | Task::Audit(_)
+        | Task::List(_)
+        | Task::Check(_) => unreachable!(),
+        Task::Send(task) => tell_silence(err, send(alloc, task, system, history, out)),
+        Task::Enter(task) => enter(alloc, task, system, history, out),
+        Task::Host(task) => host_games(alloc, task, sources, system, history, out),
+        Task::Root(task) => root::answer(alloc, task, sources, system.disk, system.input, out, err),
+        Task::Follow(task) => follow::answer(alloc, task, sources, system.disk, system.input, out),
+        Task::Status(task) => status::answer(alloc, task, system.disk, system.host, out),
+        Task::Serve(task) => serve(alloc, system.pages, system.disk, system.host, task, out),
+    }
+}
+
+/// Answers a task from what it reads. A host is told where the folder of its tables has none.
+fn run_task<'s, D: LineDisk, I: Input, H: Host, G: Pages, W: Output, E: Output>(
+    alloc: Global,
+    task: &Task,
+    system: &Parts<'s, D, I, H, G>,
+    history: &mut H::History,
+    out: &mut W,
+    err: &mut E,
+) -> Result<u8, WriteFault>
+    requires over { answered_once task.now ≡ None }
+    ensures quiet { tells_progress task.now ≡ false → TellsIfLost E.facts E.contents err.old err.new task.now result }
+    ensures answered { AnswersTask (⟦<Parts<'s, D, I, H, G> as Machine>⟧.from system.now history.old history.new) (TellsSilence E.facts E.contents err.old err.new) task.now (W.contents out.old) (W.contents out.new) result }
+    ensures made { MakesFor task.now (H.made history.old) (H.made history.new) }
+    ensures cause { OnErr result (HasFailed W.facts) }
+{
+    let disk = TablesNoted {
+        disk: system.disk,
+        host: system.host,
+        tables: task.tables(),
+    };
+    let system = &Parts {
+        disk: &disk,
+        input: system.input,
+        host: system.host,
+        pages: system.pages,
+    };
+    let places = task.places();
+    match Inputs::read(alloc, system.disk, system.input, &places) {
+        Ok(sources) => {
+            let given = Context {
+                sources: &sources,
+                system,
+            };
+            answer_given(alloc, task, given, history, out, err)
+        }
+        Err(ReadFault::Unreadable) => put_refusal(out, Refusal::Files),
+        Err(ReadFault::OutOfMemory) => put_refusal(out, Refusal::Memory),
+    }
+}
+
+/// Notes which file of keys is refused. Of one that can't be read the disk has said so.
+fn note_refused<H: Host>(alloc: Global, host: &H, path: &str, refusal: &Refusal) {
+    let line = match refusal {
+        Refusal::SharedKey => format!(in alloc; "{path}: the group or others have rights to it"),
+        Refusal::Key(line) => format!(in alloc; "{path}: line {line} is no key"),
+        _ => return,
+    };
+    if let Ok(line) = line {
+        host.note(line.as_str());
+    }
+}
+
+/// Answers a task from what it reads. Where it names a file of keys, the ports of the host are sealed by these. The refusal of that
+/// file comes before all others.
+fn run_by_key<'s, D: LineDisk, I: Input, H: Host, G: Pages, W: Output, E: Output>(
+    alloc: Global,
+    task: &Task,
+    system: &Parts<'s, D, I, H, G>,
+    history: &mut H::History,
+    out: &mut W,
+    err: &mut E,
+) -> Result<u8, WriteFault>
+    requires over { answered_once task.now ≡ None }
+    ensures quiet { tells_progress task.now ≡ false → TellsIfLost E.facts E.contents err.old err.new task.now result }
+    ensures answered { AnswersByKey (⟦<Parts<'s, D, I, H, G> as Machine>⟧.from system.now history.old history.new) (TellsSilence E.facts E.contents err.old err.new) task.now (W.contents out.old) (W.contents out.new) result }
+    ensures made { MakesFor task.now (H.made history.old) (H.made history.new) }
+    ensures cause { OnErr result (HasFailed W.facts) }
+{
+    match task.key() {
+        None => run_task(alloc, task, system, history, out, err),
+        Some(path) => match keys_at(alloc, system.disk, path) {
+            Ok(Ok(keys)) => {
+                let keyed = Keyed::over(system.host, keys);
+                let sealed = Parts {
+                    disk: system.disk,
+                    input: system.input,
+                    host: &keyed,
+                    pages: system.pages,
+                };
+                run_task(alloc, task, &sealed, history, out, err)
+            }
+            Ok(Err(refusal)) => {
+                note_refused(alloc, system.host, path, &refusal);
+                put_refusal(out, refusal)
+            }
+            Err(_) => put_refusal(out, Refusal::Memory),
+        },
+    }
+}
+
+/// Lets all go out that was written, and returns the program's status: that of what was answered, or 1 where a write was refused or what
+/// was written can't go out, which is noted.
+fn end_noted<H: Host, W: Output>(host: &H, out: &mut W, answered: Result<u8, WriteFault>) -> u8
+    ensures kept { Keeps (W.contents out.old) (W.contents out.new) }
+    ensures ended { HasEnded (W.facts out.new) answered result }
+{
+    match (answered, out.flush_all()) {
+        (Ok(status), Ok(())) => status,
+        _ => {
+            host.note("the output can't be written");
+            1
+        }
+    }
+}
+
+/// Answers a task beside the timeline, and returns the program's status.
+pub(crate) fn run_beside<
+    's,
+    D: LineDisk,
+    I: Input,
+    H: Host,
+    G: Pages,
+    W: Output + Drop,
+    E: Output + Drop,
+>(alloc: Global, task: &Task, others: &mut Others<'s, D, I, H, G, H::History, W, E>) -> u8
+where
+    H::History: Drop,
+    requires over { answered_once task.now ≡ None }
+    ensures { AnswersBeside (⟦<Others<'s, D, I, H, G, H::History, W, E> as SeenOthers>⟧.seen others.old others.new) task.now result }
+{
+    let answered = run_by_key(
+        alloc,
+        task,
+        &others.system,
+        &mut others.history,
+        &mut others.out,
+        &mut others.errors,
+    );
+    end_noted(others.system.host, &mut others.out, answered)
+}
+
+/// Writes that memory was refused before there was a task, and returns the program's status.
+pub(crate) fn refuse_beside<
+    's,
+    D: LineDisk,
+    I: Input,
+    H: Host,
+    G: Pages,
+    W: Output + Drop,
+    E: Output + Drop,
+>(others: &mut Others<'s, D, I, H, G, H::History, W, E>) -> u8
+where
+    H::History: Drop,
+    ensures { RefusesBeside (⟦<Others<'s, D, I, H, G, H::History, W, E> as SeenOthers>⟧.seen others.old others.new) result }
+{
+    let answered = put_refusal(&mut others.out, Refusal::Memory);
+    end_noted(others.system.host, &mut others.out, answered)
+}
+
+/// Says what is wrong with the words, and returns the program's status.
+pub(crate) fn misuse_beside<
+    's,
+    D: LineDisk,
+    I: Input,
+    H: Host,
+    G: Pages,
+    W: Output + Drop,
+    E: Output + Drop,
+>(alloc: Global, misuse: &Misuse<'_>, others: &mut Others<'s, D, I, H, G, H::History, W, E>) -> u8
+where
+    H::History: Drop,
+    ensures { MisusedBeside (⟦<Others<'s, D, I, H, G, H::History, W, E> as SeenOthers>⟧.seen others.old others.new) misuse.now result }
+{
+    tell_misuse(alloc, &mut others.errors, misuse);
+    end_noted(others.system.host, &mut others.out, Ok(2))
+}

@@ -1,0 +1,6 @@
+use Rattle.std.proofs.Common.{◌∙◌, sym}
+use Rattle.http_answer.proofs.RouterLaws.{ok_then}
+use Rattle.http_answer.proofs.router.answer_game_with_room.Goals as goal
+
+pub returns-then-is_ok-clause-game : goal.returns-then-is_ok-clause-game
+returns-then-is_ok-clause-game g c = ok_then c.answer_game.result (sym c.is_ok.ensures.value ∙ c.if-is_ok.true) c.answer_game.ensures.game

@@ -1,7 +1,0 @@
-use Rattle.std.proofs.Common.{◌≡◌, map, take}
-use Rattle.record_commands.specs.Moves.{move_line}
-use Rattle.answer_parts.specs.Lines.{words_of}
-use Rattle.record_commands.proofs.moves.answer_moves.Given as goal
-
-abbrev pub invariant-loop-m : goal.invariant-loop-m
-invariant-loop-m l = map words_of l.lines.items ≡ map (move_line l.fn.san l.fn.position) (take l.m-index l.m-items)

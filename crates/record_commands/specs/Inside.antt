@@ -1,2 +1,0 @@
--- Invariants of values and intermediate results of functions. Private clauses alone cite them.
-pub mod Fronts
