@@ -18,12 +18,12 @@ type Databases<'r> = SqliteStores<'r, AnyFiles>;
 /// A store at a path of this machine. It puts nothing where another file has taken the place of its database, as far as the path was
 /// looked at: before a put, at most once a second.
 #[derive(Drop)]
-pub struct MachineStore<'r> {
+pub struct MachineStore {
     database: Database,
-    file: StoreFile<'r>,
+    file: StoreFile,
 }
 
-impl<'r> RecordStore for MachineStore<'r> {
+impl RecordStore for MachineStore {
     ghost facts = { λ s. ⟦<Database as RecordStore>⟧.facts s.database };
 
     fn find(&self, stamp: &Key) -> Option<&[u8]> {
@@ -42,7 +42,7 @@ impl<'r> RecordStore for MachineStore<'r> {
 /// The stores of this machine, as `SqliteStores` has them over files of which nothing is known.
 #[derive(Drop)]
 pub struct MachineStores<'r> {
-    rt: &'r HostRuntime,
+    rt: HostRuntime,
     databases: Databases<'r>,
 }
 
@@ -50,18 +50,18 @@ impl<'r> MachineStores<'r> {
     /// The stores of this machine.
     pub fn new(rt: &'r HostRuntime) -> MachineStores<'r> {
         MachineStores {
-            rt,
+            rt: *rt,
             databases: SqliteStores::new(rt, AnyFiles),
         }
     }
 }
 
 impl<'r> Stores for MachineStores<'r> {
-    type Store = MachineStore<'r>;
+    type Store = MachineStore;
 
     ghost facts = { λ m. stores_within (λ s. s.database) (⟦<Databases<'r> as Stores>⟧.facts m.databases) };
 
-    fn open(&self, alloc: Global, path: &str) -> Result<MachineStore<'r>, StoreFault> {
+    fn open(&self, alloc: Global, path: &str) -> Result<MachineStore, StoreFault> {
         let database = match self.databases.open(alloc, path) {
             Ok(database) => database,
             Err(fault) => return Err(fault),

@@ -37,8 +37,8 @@ fn is_due(passed: Duration) -> bool
 
 /// The file of a store, as it was opened at a path.
 #[derive(Drop)]
-pub(crate) struct StoreFile<'r> {
-    rt: &'r HostRuntime,
+pub(crate) struct StoreFile {
+    rt: HostRuntime,
     path: String,
     /// Its numbers, where the system gave them.
     numbers: Option<FileNumbers>,
@@ -46,14 +46,10 @@ pub(crate) struct StoreFile<'r> {
     looked: Option<Instant>,
 }
 
-impl<'r> StoreFile<'r> {
+impl StoreFile {
     /// The file that stands at a path now. The error comes only where memory is refused.
-    pub(crate) fn at(
-        rt: &'r HostRuntime,
-        alloc: Global,
-        path: &str,
-    ) -> Result<StoreFile<'r>, AllocError> {
-        let numbers = match fs::metadata(rt, path) {
+    pub(crate) fn at(rt: HostRuntime, alloc: Global, path: &str) -> Result<StoreFile, AllocError> {
+        let numbers = match fs::metadata(&rt, path) {
             Ok(metadata) => Some(numbers_of(&metadata)),
             Err(_) => None,
         };
@@ -61,13 +57,13 @@ impl<'r> StoreFile<'r> {
             rt,
             path: String::from_str(alloc, path)?,
             numbers,
-            looked: Instant::now(rt).ok(),
+            looked: Instant::now(&rt).ok(),
         })
     }
 
     /// Whether another file stands at the path, or none. Where the system doesn't say, it counts as the same.
     fn is_other(&self, numbers: FileNumbers) -> bool {
-        match fs::metadata(self.rt, self.path.as_str()) {
+        match fs::metadata(&self.rt, self.path.as_str()) {
             Ok(metadata) => numbers_of(&metadata) != numbers,
             Err(error) => error.kind() == io::ErrorKind::NotFound,
         }
@@ -75,7 +71,7 @@ impl<'r> StoreFile<'r> {
 
     /// Whether the path is to be looked at again, which counts as a look.
     fn looks_now(&mut self) -> bool {
-        let now = Instant::now(self.rt).ok();
+        let now = Instant::now(&self.rt).ok();
         let is_due = match (now, self.looked) {
             (Some(now), Some(looked)) => is_due(now.duration_since(looked)),
             _ => true,
