@@ -91,10 +91,10 @@ impl Ending {
 }
 
 /// How the program ends.
-fn ended_over(
+fn ended_over<'a>(
     alloc: Global,
-    case: &Case<'_>,
-    disk: &MemoryDisk<'_>,
+    case: &'a Case<'a>,
+    disk: &'a MemoryDisk<'a>,
     refusals: Refusals,
 ) -> Result<Ending, AllocError> {
     let host = case.host();
