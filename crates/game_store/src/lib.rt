@@ -31,7 +31,6 @@
 //!   alone has the games, after a stop the next opening finds what the store could be left with.
 //! - CLAIM: `Store::put_and_stop`: whatever of the two files a stop or a loss of power leaves, the next opening finds the whole batch,
 //!   or, only where it was not acknowledged, the games as they were.
-//! - CLAIM: `Store::put_all`, clause `refused`: where memory alone was refused, the store goes on as it was, and the batch comes back.
 //! - CLAIM: `SqliteStores`: an opened store has the games that its two files held, and a start finds them; the
 //!   games that are read of two files are those that an opening over these bytes finds. No clause ties an opened store to its path, or
 //!   says when it is refused.
