@@ -61,7 +61,7 @@ impl<'a> FollowGame<'a> {
     }
 
     /// What is read for it before it answers.
-    pub(crate) fn places(&self) -> InputPaths<'a>
+    pub fn places(&self) -> InputPaths<'a>
         ensures { named_by result ≡ named self.now }
     {
         InputPaths {
