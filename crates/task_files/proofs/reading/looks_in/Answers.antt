@@ -1,4 +1,4 @@
-use Rattle.std.proofs.Common.{inr, subst, sym}
+use Rattle.std.proofs.Common.{inl, inr, subst, sym}
 use Rattle.std.proofs.lemmas.Result.{IfOk-weaker}
 use Rattle.task_files.specs.Outside.{AreWantedOf}
 use Rattle.move_msg.specs.ToldBy.{told_by}
@@ -21,3 +21,9 @@ returns-clause-cause g c = λ is.
     let failed = rw c.deref.ensures.value at c.look_at_files.ensures.cause is in
     let only = c.in-Ok.ensures.ok.are.only failed.0 failed.1 in
     inr (_, c.in-Ok.ensures.ok.listed, inr (record { name = failed.0; listed = only.0; file = only.1; wanted = only.2; unread = failed.2 }))
+
+pub returns-in-Err-clause-cause : goal.returns-in-Err-clause-cause
+returns-in-Err-clause-cause g c = λ is. elim (c.in-Err.ensures.cause is) [
+  | inl fails ↦ inl fails
+  | inr (names, lists, twice) ↦ inr (names, lists, inl twice)
+]

@@ -6,8 +6,8 @@ use Rattle.table_folder.proofs.folder.TableFolder.settle.Given as goal
 
 abbrev pub invariant-loop-columns : goal.invariant-loop-columns
 invariant-loop-columns g l =
-    AreOf (g.D.Disk.facts l.self.disk) l.self.folder l.set.tables × HasAll l.fn.set.tables l.set.tables × (l.set.cache ≡ l.fn.set.cache)
-    × AddsOnlyMissed (g.D.Disk.facts l.self.disk) l.self.folder (IsAlone l.position) l.fn.set.tables l.set.tables
+    AreOf (g.F.TableFiles.facts l.self.disk) l.self.folder l.set.tables × HasAll l.fn.set.tables l.set.tables × (l.set.cache ≡ l.fn.set.cache)
+    × AddsOnlyMissed (g.F.TableFiles.facts l.self.disk) l.self.folder (IsAlone l.position) l.fn.set.tables l.set.tables
 
 abbrev pub decreases-loop-columns : goal.decreases-loop-columns
 decreases-loop-columns g l = length l.set.tables - table_count l.set.tables
