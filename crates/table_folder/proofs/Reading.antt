@@ -1,11 +1,11 @@
 -- What is read while tables are opened.
 use Rattle.std.proofs.Common.{◌≡◌, ◌<◌, ◌+◌, ◌++◌, ◌∷◌, [], ℕ, suc, List, length, map, get_or, set, Option, Some, None, IsSome, Result, Ok, Err, refl, sym, ap, subst, ◌∙◌, inl, inr, arith, append_assoc, append-nil}
-use Rattle.std.proofs.lemmas.Bool.{cases_eq}
+use Rattle.std.proofs.lemmas.Bool.{cases_eq, false≢true}
 use Rattle.std.proofs.lemmas.List.{get_or-set_same, get_or-set_other, length-append, map-append}
 use Rattle.std.proofs.lemmas.List.Elements.{Contains-append_cases, Contains-append_left, Contains-append_right, Contains-push, Contains-push_cases}
 use Rattle.std.specs.List.{Contains}
 use Rattle.std.specs.Global.{Global}
-use Rattle.std.specs.Prelude.{IfOk, IsErrOf, Vec}
+use Rattle.std.specs.Prelude.{IfOk, IsErr, IsErrOf, Vec}
 use Rattle.std.specs.declared.alloc.AllocError.{AllocError}
 use Rattle.move_msg.specs.Files.{File, table_file_of}
 use Rattle.move_msg.specs.ToldBy.{told_by}
@@ -19,18 +19,20 @@ use Rattle.table_file.specs.declared.kind.TableKind.{TableKind}
 use Rattle.table_file.specs.Names.{file_name}
 use Rattle.table_file.specs.Tables.{Contents}
 use Rattle.judge_core.specs.MoreTables.{HasAll, table_count}
-use Rattle.judge_core.specs.Tables.{Tables, slot, table_at}
+use Rattle.judge_core.specs.Tables.{Holding, Tables, slot, table_at}
 use Rattle.task_files.specs.FileNames.{names_of}
 use Rattle.task_files.specs.Outside.{AreNamesIn, AreWantedOf, CannotList, FolderFails, IsAtItsPath, path_in}
 use Rattle.task_files.specs.TableReads.{ListsTables, ReadsTable, listed, table_read, taken_file}
 use Rattle.task_files.specs.TableReads as listing
 use Rattle.timeline.specs.Events.{Event, FileRead, FolderListed}
-use Rattle.table_folder.specs.declared.fault.FileFault.{FileFault}
+use Rattle.table_folder.specs.declared.fault.FileFault.TheVariants as file
 use Rattle.table_folder.specs.declared.fault.FileRefusal.{FileRefusal}
 use Rattle.table_folder.specs.Folders.{Folder, Found, Says, digest_in, found_in}
 use Rattle.table_folder.specs.Folders as folders
-use Rattle.table_folder.specs.Reads.{AreOpened, HasNoRoom, IsOpened, LooksAt, OpensTables, PassesSome, ReadsLast}
+use Rattle.table_folder.specs.Reads.{AreOpened, HasNoRoom, IsOpened, LooksAt, OpensTables, PassesSome, ReadsLast, refusal_of}
+use Rattle.table_folder.specs.Inside.{looked}
 use Rattle.table_folder.specs.Reads as reads
+use Rattle.table_folder.specs.declared.settling.Look.{Look}
 use Rattle.table_folder.proofs.Adding.{count_more, slot_below, slots_differ}
 use Rattle.table_folder.proofs.Only.{not_both}
 use Rattle.table_folder.proofs.Staying.{lacks_too, there_or_not}
@@ -49,16 +51,16 @@ passes_both a b c A B C step p q = (p.0 ++ q.0, Passes-trans a b c p.0 q.0 p.1 q
 -- ---- the folder
 
 -- two results are the same value
-pub ok_is : {A E : Type 0} (a b : A) → Ok {B = E} a ≡ Ok b → a ≡ b
-ok_is a b e = cc
+ok_is : {A E : Type 0} {r : Result A E} (a b : A) → r ≡ Ok a → r ≡ Ok b → a ≡ b
+ok_is a b p q = cc
 
-err_is : {A E : Type 0} (a b : E) → Err {A = A} a ≡ Err b → a ≡ b
-err_is a b e = cc
+err_is : {A E : Type 0} {r : Result A E} (a b : E) → r ≡ Err a → r ≡ Err b → a ≡ b
+err_is a b p q = cc
 
 -- the names of a folder that was listed
 pub names_in_listing : (disk : DiskFacts) (folder : List ℕ) (manifest : Manifest) (wanted : List (List ℕ)) (more : List Event) → ListsTables disk folder manifest (Ok wanted) more → AreNamesIn disk folder (told_by manifest) wanted
 names_in_listing disk folder manifest wanted more (listing.Listed names others note lists may are made is) =
-    record { names = names; listed = lists; are = subst (AreWantedOf (told_by manifest) names) (sym (ok_is wanted others is)) are }
+    record { names = names; listed = lists; are = subst (AreWantedOf (told_by manifest) names) (sym (ok_is wanted others refl is)) are }
 names_in_listing disk folder manifest wanted more (listing.NotListed fault cause made is) = absurd cc
 names_in_listing disk folder manifest wanted more (listing.ListedTwice names note lists may fault cause made is) = absurd cc
 
@@ -84,19 +86,50 @@ reads_by_file disk folder name (Err fault) named at cause = (FileRead (path_in f
 -- why it couldn't be listed
 pub fails_by_listing : (disk : DiskFacts) (folder : List ℕ) (manifest : Manifest) (more : List Event) → ListsTables disk folder manifest (Err Unreadable) more → FolderFails disk folder (told_by manifest)
 fails_by_listing disk folder manifest more (listing.Listed names others note lists may are made is) = absurd cc
-fails_by_listing disk folder manifest more (listing.NotListed fault cause made is) = inl (cause (sym (err_is Unreadable fault is)))
-fails_by_listing disk folder manifest more (listing.ListedTwice names note lists may fault cause made is) = inr (names, lists, inl (cause (sym (err_is Unreadable fault is))))
+fails_by_listing disk folder manifest more (listing.NotListed fault cause made is) = inl (cause (sym (err_is Unreadable fault refl is)))
+fails_by_listing disk folder manifest more (listing.ListedTwice names note lists may fault cause made is) = inr (names, lists, inl (cause (sym (err_is Unreadable fault refl is))))
 
 -- ---- one file
 
 -- what is found by a look at a file is what the file says
 pub says_so : (disk : DiskFacts) (folder : Folder) (name : List ℕ) (found : Result Found AllocError) (more : List Event) → LooksAt disk folder name found more → IfOk found (Says disk folder name)
 says_so disk folder name (Err e) more looks = tt
-says_so disk folder name (Ok found) more (reads.NotListed none is made) = folders.NotListed none (ok_is found _ is)
-says_so disk folder name (Ok found) more (reads.NotRead listed fails is made) = folders.NotRead listed fails (ok_is found _ is)
+says_so disk folder name (Ok found) more (reads.NotListed none is made) = folders.NotListed none (ok_is found _ refl is)
+says_so disk folder name (Ok found) more (reads.NotRead listed fails is made) = folders.NotRead listed fails (ok_is found _ refl is)
 says_so disk folder name (Ok found) more (reads.IsRead listed f named at is made) =
-    folders.Read listed f.bytes (subst (λ n. disk.holds (path_in folder.path n) f.bytes) named at.0) (ok_is found _ is)
-says_so disk folder name (Ok found) more (reads.NoRoomForTable listed r reads e is) = absurd cc
+    folders.Read listed f.bytes (subst (λ n. disk.holds (path_in folder.path n) f.bytes) named at.0) (ok_is found _ refl is)
+says_so disk folder name (Ok found) more (reads.NoRoomForTable listed r read e is) = absurd cc
+
+-- a listed file that was read, by what its bytes say
+looks_by : (disk : DiskFacts) (folder : Folder) (name : List ℕ) (f : File) (r : Result Found AllocError) (more : List Event) → Contains folder.names name → IfOk r (λ found. found ≡ found_in (digest_in folder.manifest name) name f.bytes) → ReadsTable disk folder.path name (Ok f) more → LooksAt disk folder name r more
+looks_by disk folder name f (Err e) more listed found read = reads.NoRoomForTable listed (Ok f) read e refl
+looks_by disk folder name f (Ok x) more listed found (listing.IsRead g named at made is) =
+    let same : g ≡ f = sym (ok_is f g refl is) in
+    reads.IsRead listed g named at (ap Ok (found ∙ ap (λ (h : File). found_in (digest_in folder.manifest name) name h.bytes) (sym same))) made
+looks_by disk folder name f (Ok x) more listed found (listing.NotRead fault cause made is) = absurd cc
+looks_by disk folder name f (Ok x) more listed found (listing.NoPath made is) = absurd cc
+
+pub looks_by_file : (disk : DiskFacts) (folder : Folder) (name : List ℕ) (f : File) (r : Result Found AllocError) (a b : Option (List Event)) → Contains folder.names name → IfOk r (λ found. found ≡ found_in (digest_in folder.manifest name) name f.bytes) → PassesSome a b (ReadsTable disk folder.path name (Ok f)) → PassesSome a b (LooksAt disk folder name r)
+looks_by_file disk folder name f r a b listed found p = (p.0, p.1, looks_by disk folder name f r p.0 listed found p.2)
+
+-- one that can't be read
+unread : (disk : DiskFacts) (folder : Folder) (name : List ℕ) (more : List Event) → Contains folder.names name → ReadsTable disk folder.path name (Err Unreadable) more → LooksAt disk folder name (Ok (Err file.Unreadable)) more
+unread disk folder name more listed (listing.IsRead g named at made is) = absurd cc
+unread disk folder name more listed (listing.NotRead fault cause made is) =
+    let same : fault ≡ Unreadable = sym (err_is Unreadable fault refl is) in
+    reads.NotRead listed (cause same) refl (made ∙ ap (λ x. FileRead (path_in folder.path name) (Err x) ∷ []) same)
+unread disk folder name more listed (listing.NoPath made is) = absurd cc
+
+pub looks_unread : (disk : DiskFacts) (folder : Folder) (name : List ℕ) (a b : Option (List Event)) → Contains folder.names name → PassesSome a b (ReadsTable disk folder.path name (Err Unreadable)) → PassesSome a b (LooksAt disk folder name (Ok (Err file.Unreadable)))
+looks_unread disk folder name a b listed p = (p.0, p.1, unread disk folder name p.0 listed p.2)
+
+-- one for which memory was refused
+pub looks_no_room : (disk : DiskFacts) (folder : Folder) (name : List ℕ) (fault : ReadFault) (e : AllocError) (a b : Option (List Event)) → Contains folder.names name → PassesSome a b (ReadsTable disk folder.path name (Err fault)) → PassesSome a b (LooksAt disk folder name (Err e))
+looks_no_room disk folder name fault e a b listed p = (p.0, p.1, reads.NoRoomForTable listed (Err fault) p.2 e refl)
+
+-- one that isn't listed
+pub looks_nowhere : (disk : DiskFacts) (folder : Folder) (name : List ℕ) (a : Option (List Event)) → (Contains folder.names name → ⊥) → PassesSome a a (LooksAt disk folder name (Ok (Err file.Missing)))
+looks_nowhere disk folder name a none = ([], Passes-nil a, reads.NotListed none refl refl)
 
 -- ---- tables
 
@@ -105,7 +138,7 @@ none_opened disk folder tables = record {
   kept = λ kind key t there. there;
   each = λ f h. absurd (omega (arith, h.1));
   all = λ kind key known none some. absurd (not_both (table_at tables kind key) none some);
-  count = refl;
+  count = omega arith;
 }
 
 -- a file that was opened stays one while the set gets more tables
@@ -199,6 +232,22 @@ opens_none disk folder tables = record { files = []; opened = none_opened disk f
 pub opens_till : (disk : DiskFacts) (folder : Folder) (old new : Tables) (e : AllocError) (more : List Event) → OpensTables disk folder old new (Ok None) more → OpensTables disk folder old new (Err e) more
 opens_till disk folder old new e more h = record { files = h.files; opened = h.opened; last = h.last; ends = inl h.ends; made = h.made }
 
+-- nothing was read, and the set is as it was
+pub opens_nothing : (disk : DiskFacts) (folder : Folder) (old new : Holding) (a : Option (List Event)) → new ≡ old → PassesSome a a (OpensTables disk folder old.tables new.tables (Ok None))
+opens_nothing disk folder old new a same = subst (λ (h : Holding). PassesSome a a (OpensTables disk folder old.tables h.tables (Ok None))) (sym same) (passes_none a _ (opens_none disk folder old.tables))
+
+-- memory was refused, for whatever was asked
+opens_err : (disk : DiskFacts) (folder : Folder) (old new : Tables) (e other : AllocError) (more : List Event) → OpensTables disk folder old new (Err e) more → OpensTables disk folder old new (Err other) more
+opens_err disk folder old new e other more h = record { files = h.files; opened = h.opened; last = h.last; ends = h.ends; made = h.made }
+
+pub opens_for_err : {A : Type 0} (disk : DiskFacts) (folder : Folder) (old new : Tables) (r : Result (Result A FileRefusal) AllocError) (e : AllocError) (a b : Option (List Event)) → IsErr r → PassesSome a b (OpensTables disk folder old new (Err e)) → PassesSome a b (OpensTables disk folder old new (refusal_of r))
+opens_for_err disk folder old new (Ok x) e a b is p = absurd (false≢true is)
+opens_for_err disk folder old new (Err other) e a b is p = passes_so a b _ _ (opens_err disk folder old new e other) p
+
+pub looks_for_err : (disk : DiskFacts) (folder : Folder) (old new : Tables) (r : Result Look AllocError) (e : AllocError) (a b : Option (List Event)) → IsErr r → PassesSome a b (OpensTables disk folder old new (Err e)) → PassesSome a b (OpensTables disk folder old new (looked r))
+looks_for_err disk folder old new (Ok x) e a b is p = absurd (false≢true is)
+looks_for_err disk folder old new (Err other) e a b is p = passes_so a b _ _ (opens_err disk folder old new e other) p
+
 pub opens_more : (disk : DiskFacts) (folder : Folder) (old mid new : Tables) (r : Result (Option FileRefusal) AllocError) (x y : List Event) → OpensTables disk folder old mid (Ok None) x → OpensTables disk folder mid new r y → OpensTables disk folder old new r (x ++ y)
 opens_more disk folder old mid new r x y p q =
     let read = table_read folder.path in
@@ -216,12 +265,12 @@ opens_one disk folder old new kind key table more known slots lacks put (reads.N
 opens_one disk folder old new kind key table more known slots lacks put (reads.NotRead listed fails is made) = absurd cc
 opens_one disk folder old new kind key table more known slots lacks put (reads.IsRead listed f named at is made) = record {
   files = f ∷ [];
-  opened = one_opened old new kind key table f known slots lacks put named at (subst (λ n. found_in (digest_in folder.manifest n) n f.bytes ≡ Ok table) (sym named) (sym (ok_is _ _ is)));
+  opened = one_opened old new kind key table f known slots lacks put named at (subst (λ n. found_in (digest_in folder.manifest n) n f.bytes ≡ Ok table) (sym named) (sym (ok_is _ _ refl is)));
   last = [];
   ends = refl;
   made = made;
 }
-opens_one disk folder old new kind key table more known slots lacks put (reads.NoRoomForTable listed r reads e is) = absurd cc
+opens_one disk folder old new kind key table more known slots lacks put (reads.NoRoomForTable listed r read e is) = absurd cc
 
 -- by what is found in the file of a table that the set lacked: it has that table now; or it is as it was
 pub opens_by : (disk : DiskFacts) (folder : Folder) (old new : Tables) (kind : TableKind) (key : ℕ) (table : Contents) (a b : Option (List Event)) → key < 145 → length old ≡ 290 → table_at old kind key ≡ None → new ≡ set old (slot kind key) (Some table) → PassesSome a b (LooksAt disk folder (file_name kind key) (Ok (Ok table))) → PassesSome a b (OpensTables disk folder old new (Ok None))

@@ -1,6 +1,6 @@
 -- What happens outside while a folder is opened, and while tables of it are opened that positions miss (this project's own).
 use Rattle.std.specs.Prelude.{◌≡◌, ◌<◌, ◌⊎◌, ◌+◌, ◌++◌, ℕ, List, [], ◌∷◌, length, map, Option, Some, None, IsSome, Result, Ok, Err}
-use Rattle.std.specs.List.{AllByRecursion, Contains}
+use Rattle.std.specs.List.{Contains}
 use Rattle.std.specs.declared.alloc.AllocError.{AllocError}
 use Rattle.move_msg.specs.Files.{File}
 use Rattle.move_msg.specs.declared.told.Manifest.{Manifest}
@@ -57,7 +57,7 @@ pub record IsOpened (disk : DiskFacts) (folder : Folder) (old new : Tables) (f :
 -- The second set has what the first has, and these are the files of the tables that it has beside that: of each table one, as there are as many.
 pub record AreOpened (disk : DiskFacts) (folder : Folder) (old new : Tables) (files : List File) : Type 0 where
   pub kept : HasAll old new
-  pub each : AllByRecursion (IsOpened disk folder old new) files
+  pub each : (f : File) → Contains files f → IsOpened disk folder old new f
   pub all : (kind : TableKind) (key : ℕ) → key < 145 → table_at old kind key ≡ None → IsSome (table_at new kind key) → Contains (names_of files) (file_name kind key)
   pub count : length files + table_count old ≡ table_count new
 
