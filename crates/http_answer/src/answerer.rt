@@ -113,7 +113,7 @@ impl<'r, D: Disk> Answerer<'r, D> {
     {
         if let Err(refusal) = self
             .folder
-            .settle_moves(self.alloc, &mut self.set, position)?
+            .settle_moves(&mut (), self.alloc, &mut self.set, position)?
         {
             return Ok(refusal_of(&refusal));
         }
@@ -125,7 +125,10 @@ impl<'r, D: Disk> Answerer<'r, D> {
         ensures answer { IfOk result (AnswersAlone (D.facts self.old.disk) self.old.folder position.now) }
         ensures same { self.new ≡ self.old }
     {
-        if let Err(refusal) = self.folder.settle(self.alloc, &mut self.set, position)? {
+        if let Err(refusal) = self
+            .folder
+            .settle(&mut (), self.alloc, &mut self.set, position)?
+        {
             return Ok(JsonLine::Refused(refused_words(&refusal)));
         }
         JsonLine::of_position(self.alloc, &mut self.set, position, Ask::Strict, false)
@@ -151,7 +154,10 @@ impl<'r, D: Disk> Answerer<'r, D> {
         ensures refused { IfOk result (λ found. IfErr found (IsRefusedAt (D.facts self.old.disk) self.old.folder position.now)) }
         ensures same { self.new ≡ self.old }
     {
-        if let Err(refusal) = self.folder.settle_one(self.alloc, &mut self.set, position)? {
+        if let Err(refusal) = self
+            .folder
+            .settle_one(&mut (), self.alloc, &mut self.set, position)?
+        {
             return Ok(Err(refusal));
         }
         let known = ApiPosition::of(self.alloc, &mut self.set, position)?;
@@ -169,7 +175,7 @@ impl<'r, D: Disk> Answerer<'r, D> {
     {
         if let Err(refusal) = self
             .folder
-            .settle_moves(self.alloc, &mut self.set, position)?
+            .settle_moves(&mut (), self.alloc, &mut self.set, position)?
         {
             return Ok(Err(refusal));
         }

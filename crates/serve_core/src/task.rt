@@ -237,7 +237,14 @@ pub fn serve_task<C: Clock, L: Listener + Drop, T: Times, D: Disk, H: Host, W: O
         Err(refusal) => return refusal.put(out),
     };
     let arena = arena_for(outside.alloc, task.memory);
-    match TableFolder::open(outside.alloc, outside.disk, task.tables, &manifest, &arena) {
+    match TableFolder::open(
+        outside.alloc,
+        outside.disk,
+        &mut (),
+        task.tables,
+        &manifest,
+        &arena,
+    ) {
         Ok(folder) => serve_folder_if(outside, folder, task, bound, out),
         Err(fault) => Refusal::of(fault).put(out),
     }

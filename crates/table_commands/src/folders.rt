@@ -83,7 +83,7 @@ pub(crate) fn folder_at<'r, D: Disk>(
     if let Manifest::BadLine(line) = manifest {
         return Ok(Err(Refusal::Manifest(*line)));
     }
-    match TableFolder::open(alloc, disk, path, manifest, arena) {
+    match TableFolder::open(alloc, disk, &mut (), path, manifest, arena) {
         Ok(folder) => Ok(Ok(folder)),
         Err(ReadFault::Unreadable) => Ok(Err(Refusal::Files)),
         Err(ReadFault::OutOfMemory) => Err(AllocError),
@@ -153,7 +153,8 @@ impl<'r, D: Disk> OpenFolder<'r, D> {
         ensures found { IfOk result (Finds (D.facts self.old.disk) self.old.folder (IsAlone position.now) (AreColumns position.now)) }
         ensures folder { self.new ≡ self.old }
     {
-        self.folder.settle(self.alloc, &mut self.set, position)
+        self.folder
+            .settle(&mut (), self.alloc, &mut self.set, position)
     }
 
     /// What is told of the legal moves of a position, and of the position.
@@ -182,7 +183,7 @@ impl<'r, D: Disk> OpenFolder<'r, D> {
     {
         if let Err(refusal) = self
             .folder
-            .settle_moves(self.alloc, &mut self.set, position)?
+            .settle_moves(&mut (), self.alloc, &mut self.set, position)?
         {
             return Ok(Err(refusal));
         }
@@ -218,7 +219,7 @@ impl<'r, D: Disk> OpenFolder<'r, D> {
     {
         if let Err(refusal) = self
             .folder
-            .settle_moves(self.alloc, &mut self.set, position)?
+            .settle_moves(&mut (), self.alloc, &mut self.set, position)?
         {
             return Ok(Err(refusal));
         }

@@ -29,7 +29,7 @@ pub(crate) fn begin<'r, D: Disk>(
     ensures later { IsLater (by_folder (D.facts folder.now.disk) folder.now.folder set.old.tables) (by_folder (D.facts folder.now.disk) folder.now.folder set.new.tables) }
 {
     settled_games_stay(folder);
-    if let Err(refusal) = folder.settle_one(alloc, set, start)? {
+    if let Err(refusal) = folder.settle_one(&mut (), alloc, set, start)? {
         return Ok(Err(refusal));
     }
     match set.begin(alloc, start) {
@@ -53,7 +53,7 @@ pub(crate) fn move_on<'r, D: Disk>(
     ensures later { IsLater (by_folder (D.facts folder.now.disk) folder.now.folder set.old.tables) (by_folder (D.facts folder.now.disk) folder.now.folder set.new.tables) }
 {
     settled_games_stay(folder);
-    if let Err(refusal) = folder.settle_one(alloc, set, &position)? {
+    if let Err(refusal) = folder.settle_one(&mut (), alloc, set, &position)? {
         return Ok(Err(refusal));
     }
     match set.move_on(alloc, standing, position) {

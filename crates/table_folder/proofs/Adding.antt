@@ -53,17 +53,17 @@ titled reads differ disk folder kind key t known (Read listed bytes held e) =
 
 -- ---- slots
 
-slots_differ : (kind other : TableKind) (j k : ℕ) → j < 145 → k < 145 → slot kind j ≡ slot other k → (kind ≡ other) × (j ≡ k)
+pub slots_differ : (kind other : TableKind) (j k : ℕ) → j < 145 → k < 145 → slot kind j ≡ slot other k → (kind ≡ other) × (j ≡ k)
 slots_differ Wdl Wdl j k jj kk e = (refl, e)
 slots_differ Wdl Dtz j k jj kk e = absurd (omega (arith, e, jj))
 slots_differ Dtz Wdl j k jj kk e = absurd (omega (arith, e, kk))
 slots_differ Dtz Dtz j k jj kk e = (refl, omega (arith, e))
 
-slot_below : (kind : TableKind) (key : ℕ) → key < 145 → slot kind key < 290
+pub slot_below : (kind : TableKind) (key : ℕ) → key < 145 → slot kind key < 290
 slot_below Wdl key lt = omega (arith, lt)
 slot_below Dtz key lt = omega (arith, lt)
 
-count_more : (xs : Tables) (i : ℕ) (t : Contents) → i < length xs → get_or xs i None ≡ None → count_by is_some (set xs i (Some t)) ≡ suc (count_by is_some xs)
+pub count_more : (xs : Tables) (i : ℕ) (t : Contents) → i < length xs → get_or xs i None ≡ None → count_by is_some (set xs i (Some t)) ≡ suc (count_by is_some xs)
 count_more xs i t lt none = omega (arith, sum_by-set (λ (x : Option Contents). cond (is_some x) 1 0) xs i (Some t) None lt, ap {B = ℕ} (λ (x : Option Contents). cond (is_some x) 1 0) none)
 
 -- no table is in an empty set

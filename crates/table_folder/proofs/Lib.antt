@@ -5,6 +5,7 @@ pub mod Adding
 pub mod Staying
 pub mod Only
 pub mod Walking
+pub mod Reading
 pub mod Whole
 pub mod WholeMoves
 pub mod ValueFirst

@@ -9,7 +9,7 @@ use Rattle.table_folder.specs.Settled.{AddsOnlyMissed, IsMissedFor}
 use Rattle.table_folder.proofs.Staying.{there_or_not}
 
 -- what is lacked isn't there
-not_both : {X : Type 0} (x : Option X) → x ≡ None → IsSome x → ⊥
+pub not_both : {X : Type 0} (x : Option X) → x ≡ None → IsSome x → ⊥
 not_both None e some = absurd (false≢true some)
 not_both (Some t) e some = absurd cc
 

@@ -27,7 +27,7 @@ if_missed (Err (NotCovered key)) has = has key refl
 if_missed (Err (Damaged key)) has = tt
 
 -- a set lacks what one with more tables lacks
-lacks_too : (old new : Tables) (kind : TableKind) (key : ℕ) → HasAll old new → table_at new kind key ≡ None → table_at old kind key ≡ None
+pub lacks_too : (old new : Tables) (kind : TableKind) (key : ℕ) → HasAll old new → table_at new kind key ≡ None → table_at old kind key ≡ None
 lacks_too old new kind key more none =
     elim (there_or_not (table_at old kind key)) [
       | inl lacks ↦ lacks

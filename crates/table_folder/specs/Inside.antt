@@ -1,5 +1,6 @@
 -- Intermediate results of functions. Private clauses alone cite them.
-use Rattle.std.specs.Prelude.{◌≡◌, ◌≤◌, ◌+◌, ◌⊎◌, ℕ, length, slice_set, Some, None, Ok, Err}
+use Rattle.std.specs.Prelude.{◌≡◌, ◌≤◌, ◌+◌, ◌⊎◌, ℕ, length, slice_set, Option, Some, None, Result, Ok, Err}
+use Rattle.std.specs.declared.alloc.AllocError.{AllocError}
 use Rattle.board_core.specs.declared.parts.Parts.{Parts}
 use Rattle.system_io.specs.Disks.{DiskFacts}
 use Rattle.table_file.specs.declared.kind.TableKind.{TableKind}
@@ -15,7 +16,7 @@ use Rattle.judge_core.specs.Tables.{Tables, slot, table_at}
 use Rattle.table_folder.specs.declared.fault.FileRefusal.{FileRefusal}
 use Rattle.table_folder.specs.declared.settling.Look.{Look}
 use Rattle.table_folder.specs.declared.settling.Look.TheVariants.{Settled, Opened, Refused}
-use Rattle.table_folder.specs.Folders.{AreOf, Folder, Says}
+use Rattle.table_folder.specs.Folders.{AreOf, Folder, FolderOn, Says}
 use Rattle.table_folder.specs.Settled.{AddsOnlyMissed, IsAlone, IsRefusedAt, IsSettled}
 
 -- by what both probes tell, this table is missed
@@ -48,3 +49,15 @@ IsLook disk folder old new p (Settled columns) =
     (new ≡ old) × IsProbed old p columns.probed × (columns.verdict ≡ ruling old p) × IsSettled folder old p
 IsLook disk folder old new p Opened = IsOneMoreOf disk folder old new p
 IsLook disk folder old new p (Refused refusal) = (new ≡ old) × IsRefusedAt disk folder p refusal
+
+-- what a look refuses, if it does
+abbrev pub looked : Result Look AllocError → Result (Option FileRefusal) AllocError
+looked (Ok (Settled columns)) = Ok None
+looked (Ok Opened) = Ok None
+looked (Ok (Refused refusal)) = Ok (Some refusal)
+looked (Err e) = Err e
+
+-- the folder that was opened
+abbrev pub folder_of : {D E : Type 0} → Result (FolderOn D) E → Result Folder E
+folder_of (Ok f) = Ok f.folder
+folder_of (Err e) = Err e

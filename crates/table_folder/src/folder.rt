@@ -4,21 +4,24 @@ ghost use Rattle.std.specs.Prelude.{◌≡◌, ◌↔◌, ℕ, List, map, Some, 
 ghost use Rattle.std.specs.List.{Contains};
 ghost use Rattle.move_msg.specs.Manifests.{entry_of};
 ghost use Rattle.move_msg.specs.ToldBy.{told_by};
-ghost use Rattle.task_files.specs.Outside.{FolderFails, path_in};
+ghost use Rattle.task_files.specs.Outside.{FolderFails};
 ghost use Rattle.table_file.specs.Names.{file_name};
 ghost use Rattle.table_file.specs.Tables.{contents_at};
 ghost use Rattle.table_folder.specs.Folders.{HasTable, IsFolderAt, Says, digest_in, found_in, found_table};
+ghost use Rattle.table_folder.specs.Inside.{folder_of};
+ghost use Rattle.table_folder.specs.Reads.{LooksAt, OpensFolder, PassesSome};
 
 use crate::fault::FileFault;
+use crate::files::TableFiles;
 use bumpalo::Bump;
 use move_msg::{Line, Manifest, file_digest};
 use place_index::Material;
 use std::alloc::{AllocError, Global};
 use std::marker::Model;
 use std::rc::RcSlice;
-use system_io::{Disk, ReadFault};
+use system_io::ReadFault;
 use table_file::{Table, TableFault, TableKind, file_name, open};
-use task_files::{FileName, names_in, read_file};
+use task_files::FileName;
 
 /// A folder of tables whose files are read when they are asked for.
 ///
@@ -26,20 +29,20 @@ use task_files::{FileName, names_in, read_file};
 /// that are opened stay in the arena until that is dropped. An arena with a limit bounds them: where a table has no more room in it,
 /// memory is refused.
 #[derive(Drop)]
-pub struct TableFolder<'r, D> {
-    disk: &'r D,
+pub struct TableFolder<'r, F> {
+    disk: &'r F,
     path: &'r str,
     manifest: &'r Manifest,
     names: RcSlice<FileName>,
     arena: &'r Bump,
 }
 
-impl<'r, D> Model for TableFolder<'r, D> {
+impl<'r, F> Model for TableFolder<'r, F> {
     ghost use Rattle.std.specs.Rc.{rc_slice_items};
     ghost use Rattle.move_msg.specs.ToldBy.{told_by};
     ghost use Rattle.table_folder.specs.Folders.{FolderOn};
 
-    ghost Value = { FolderOn D };
+    ghost Value = { FolderOn F };
 
     ghost view = { λ f. record { disk = f.disk.now; folder = record { path = f.path.now; names = rc_slice_items f.names; manifest = told_by f.manifest.now } } };
 }
@@ -71,23 +74,25 @@ fn digest_of(lines: &[Line], name: &str) -> Option<[u8; 32]>
     None
 }
 
-impl<'r, D: Disk> TableFolder<'r, D> {
+impl<'r, F: TableFiles> TableFolder<'r, F> {
     /// The folder at a path: its names are listed, and no file is read. With a manifest the tables are those that it names, and their
     /// files are held to its digests.
     ///
     /// `Unreadable` where the folder can't be read, or lists a name twice that is wanted. `OutOfMemory` where memory is refused.
     pub fn open(
         alloc: Global,
-        disk: &'r D,
+        disk: &'r F,
+        log: &mut F::Log,
         path: &'r str,
         manifest: &'r Manifest,
         arena: &'r Bump,
-    ) -> Result<TableFolder<'r, D>, ReadFault>
+    ) -> Result<TableFolder<'r, F>, ReadFault>
         ensures disk { IfOk result (λ f. f.disk ≡ disk.now) }
-        ensures folder { IfOk result (λ f. IsFolderAt (D.facts disk.now) path.now (told_by manifest.now) f.folder) }
-        ensures cause { IsErrOf result ReadFault.Unreadable → FolderFails (D.facts disk.now) path.now (told_by manifest.now) }
+        ensures folder { IfOk result (λ f. IsFolderAt (F.facts disk.now) path.now (told_by manifest.now) f.folder) }
+        ensures cause { IsErrOf result ReadFault.Unreadable → FolderFails (F.facts disk.now) path.now (told_by manifest.now) }
+        ensures made { PassesSome (F.events disk.now log.old) (F.events disk.now log.new) (OpensFolder (F.facts disk.now) path.now manifest.now (folder_of result)) }
     {
-        let names = match names_in(alloc, disk, path, manifest) {
+        let names = match disk.wanted_names(log, alloc, path, manifest) {
             Ok(names) => names,
             Err(fault) => return Err(fault),
         };
@@ -104,7 +109,7 @@ impl<'r, D: Disk> TableFolder<'r, D> {
     }
 
     /// This folder over another arena, where the bytes of the tables stay that it opens. The error comes where memory is refused.
-    pub fn apart<'s>(&self, arena: &'s Bump) -> Result<TableFolder<'s, D>, AllocError>
+    pub fn apart<'s>(&self, arena: &'s Bump) -> Result<TableFolder<'s, F>, AllocError>
     where
         'r: 's,
         ensures { IfOk result (λ folder. folder ≡ self.now) }
@@ -153,34 +158,6 @@ impl<'r, D: Disk> TableFolder<'r, D> {
         }
     }
 
-    /// The bytes of a listed file, where they agree with the manifest.
-    fn bytes_of(
-        &self,
-        alloc: Global,
-        listed: &FileName,
-    ) -> Result<Result<Vec<u8>, FileFault>, AllocError>
-        requires { Contains self.now.folder.names listed.now }
-        ensures held { IfOk result (λ found. IfOk found (λ bytes. (D.facts self.now.disk).holds (path_in self.now.folder.path listed.now) bytes.items)) }
-        ensures found { IfOk result (λ found. IfOk found (λ bytes. found_in (digest_in self.now.folder.manifest listed.now) listed.now bytes.items ≡ found_table (contents_at listed.now bytes.items))) }
-        ensures fault { IfOk result (λ found. IfErr found (λ fault. Says (D.facts self.now.disk) self.now.folder listed.now (Err fault))) }
-    {
-        let file = match read_file(alloc, self.disk, self.path, listed) {
-            Ok(file) => file,
-            Err(ReadFault::Unreadable) => return Ok(Err(FileFault::Unreadable)),
-            Err(ReadFault::OutOfMemory) => return Err(AllocError),
-        };
-        match self.digest(listed.as_str()) {
-            None => Ok(Ok(file.bytes)),
-            Some(digest) => {
-                if file_digest(&file.bytes) == digest {
-                    Ok(Ok(file.bytes))
-                } else {
-                    Ok(Err(FileFault::Changed))
-                }
-            }
-        }
-    }
-
     /// The table of bytes that are kept in the arena, but for those of no table.
     fn keep(
         &self,
@@ -198,32 +175,57 @@ impl<'r, D: Disk> TableFolder<'r, D> {
         open_file(alloc, name, kept)
     }
 
-    /// The table of a listed file.
+    /// The table of the bytes of a file of this name, where they agree with the manifest.
+    fn table_in(
+        &self,
+        alloc: Global,
+        name: &str,
+        bytes: &[u8],
+    ) -> Result<Result<Table<'r>, FileFault>, AllocError>
+        ensures { IfOk result (λ found. found ≡ found_in (digest_in self.now.folder.manifest name.now) name.now bytes.now) }
+    {
+        match self.digest(name) {
+            None => self.keep(alloc, name, bytes),
+            Some(digest) => {
+                if file_digest(bytes) == digest {
+                    self.keep(alloc, name, bytes)
+                } else {
+                    Ok(Err(FileFault::Changed))
+                }
+            }
+        }
+    }
+
+    /// The table of a listed file, which is read.
     fn table_of(
         &self,
+        log: &mut F::Log,
         alloc: Global,
         listed: &FileName,
     ) -> Result<Result<Table<'r>, FileFault>, AllocError>
         requires { Contains self.now.folder.names listed.now }
-        ensures { IfOk result (Says (D.facts self.now.disk) self.now.folder listed.now) }
+        ensures { PassesSome (F.events self.now.disk log.old) (F.events self.now.disk log.new) (LooksAt (F.facts self.now.disk) self.now.folder listed.now result) }
     {
-        match self.bytes_of(alloc, listed)? {
-            Ok(bytes) => self.keep(alloc, listed.as_str(), &bytes),
-            Err(fault) => Ok(Err(fault)),
+        match self.disk.table_file(log, alloc, self.path, listed) {
+            Ok(file) => self.table_in(alloc, listed.as_str(), &file.bytes),
+            Err(ReadFault::Unreadable) => Ok(Err(FileFault::Unreadable)),
+            Err(ReadFault::OutOfMemory) => Err(AllocError),
         }
     }
 
-    /// The table of a kind for a material, as the folder's file of its name has it.
+    /// The table of a kind for a material, as the folder's file of its name has it. That file is read, if it is listed.
     pub(crate) fn table(
         &self,
+        log: &mut F::Log,
         alloc: Global,
         kind: TableKind,
         material: &Material,
     ) -> Result<Result<Table<'r>, FileFault>, AllocError>
-        ensures { IfOk result (Says (D.facts self.now.disk) self.now.folder (file_name kind material.now)) }
+        ensures says { IfOk result (Says (F.facts self.now.disk) self.now.folder (file_name kind material.now)) }
+        ensures made { PassesSome (F.events self.now.disk log.old) (F.events self.now.disk log.new) (LooksAt (F.facts self.now.disk) self.now.folder (file_name kind material.now) result) }
     {
         match self.listed(file_name(kind, material).as_str()) {
-            Some(listed) => self.table_of(alloc, listed),
+            Some(listed) => self.table_of(log, alloc, listed),
             None => Ok(Err(FileFault::Missing)),
         }
     }

@@ -34,10 +34,12 @@
 #![tactic(auto)]
 
 mod fault;
+mod files;
 mod folder;
 pub mod laws;
 mod needing;
 mod settling;
 
 pub use fault::{FileFault, FileRefusal};
+pub use files::{SystemFiles, TableFiles};
 pub use folder::{TableFolder, open_file};

@@ -1,6 +1,6 @@
 //! Until no table of a folder is missing at a position.
 
-ghost use Rattle.std.specs.Prelude.{◌≡◌, ◌↔◌, ◌<◌, ◌≤◌, ℕ, replicate, OnErr, None, Some, IfOk, IfErr, IfSome, IfNone, IsTrue, Ok, Err};
+ghost use Rattle.std.specs.Prelude.{◌≡◌, ◌↔◌, ◌<◌, ◌≤◌, ℕ, length, replicate, OnErr, None, Some, IfOk, IfErr, IfSome, IfNone, IsTrue, Ok, Err};
 ghost use Rattle.judge_core.specs.ProbeResult.{IsProbed};
 ghost use Rattle.judge_core.specs.MoreTables.{HasAll};
 ghost use Rattle.judge_core.specs.Ruling.{ruling};
@@ -8,16 +8,17 @@ ghost use Rattle.judge_core.specs.Tables.{table_at};
 ghost use Rattle.table_file.specs.declared.kind.TableKind.{TableKind};
 ghost use Rattle.table_folder.specs.Folders.{AreOf, HasTable};
 ghost use Rattle.table_folder.specs.Settled.{AddsOnlyMissed, ComesInTurn, IsAlone, IsRefusedAt, IsSettled};
-ghost use Rattle.table_folder.specs.Inside.{AddsTable, IsLook, IsRefusalOf, MissesBy};
+ghost use Rattle.table_folder.specs.Inside.{AddsTable, IsLook, IsRefusalOf, MissesBy, looked};
+ghost use Rattle.table_folder.specs.Reads.{OpensTables, PassesSome, refusal_of};
 
 use crate::fault::FileRefusal;
+use crate::files::TableFiles;
 use crate::folder::TableFolder;
 use board_core::Position;
 use judge_core::laws::adding_keeps_the_rest;
 use judge_core::{Columns, ProbeFault, ProbeResult, Set};
 use place_index::Material;
 use std::alloc::{AllocError, Global};
-use system_io::Disk;
 use table_file::{TableKind, file_name, names_differ, reads_what_is_laid_out};
 
 /// What a look at a position comes to.
@@ -37,13 +38,13 @@ struct MissingTable {
     material: Material,
 }
 
-impl<'r, D: Disk> TableFolder<'r, D> {
+impl<'r, F: TableFiles> TableFolder<'r, F> {
     /// An empty set for the folder's tables that may keep this many decoded blocks, 1 to 4096. No file is read. The error comes where
     /// memory is refused.
     pub fn new_set(&self, alloc: Global, cache: usize) -> Result<Set<'r>, AllocError>
         requires some { 1 ≤ cache }
         requires most { cache ≤ 4096 }
-        ensures opened { IfOk result (λ set. AreOf (D.facts self.now.disk) self.now.folder set.tables) }
+        ensures opened { IfOk result (λ set. AreOf (F.facts self.now.disk) self.now.folder set.tables) }
         ensures empty { IfOk result (λ set. set.tables ≡ replicate 290 None) }
         ensures cache { IfOk result (λ set. set.cache ≡ cache) }
     {
@@ -96,23 +97,26 @@ impl<'r, D: Disk> TableFolder<'r, D> {
     /// Adds a table to a set that lacks it; a file at fault is refused.
     fn add(
         &self,
+        log: &mut F::Log,
         alloc: Global,
         set: &mut Set<'r>,
         missing: MissingTable,
     ) -> Result<Result<(), FileRefusal>, AllocError>
-        requires { table_at set.old.tables missing.kind missing.material ≡ None }
+        requires lacks { table_at set.old.tables missing.kind missing.material ≡ None }
+        requires slots { length set.old.tables ≡ 290 }
         ensures known { missing.material < 145 }
-        ensures added { IfOk result (λ added. IfOk added (λ _. AddsTable (D.facts self.now.disk) self.now.folder set.old.tables set.new.tables missing.kind missing.material)) }
-        ensures refused { IfOk result (λ added. IfErr added (IsRefusalOf (D.facts self.now.disk) self.now.folder missing.kind missing.material)) }
+        ensures added { IfOk result (λ added. IfOk added (λ _. AddsTable (F.facts self.now.disk) self.now.folder set.old.tables set.new.tables missing.kind missing.material)) }
+        ensures refused { IfOk result (λ added. IfErr added (IsRefusalOf (F.facts self.now.disk) self.now.folder missing.kind missing.material)) }
         ensures unchanged { IfOk result (λ added. IfErr added (λ _. set.new ≡ set.old)) }
         ensures memory { OnErr result (set.new ≡ set.old) }
+        ensures made { PassesSome (F.events self.now.disk log.old) (F.events self.now.disk log.new) (OpensTables (F.facts self.now.disk) self.now.folder set.old.tables set.new.tables (refusal_of result)) }
         ensures cache { set.new.cache ≡ set.old.cache }
     {
         names_differ();
         reads_what_is_laid_out();
         let MissingTable { kind, material } = missing;
         let _key = material.key();
-        let table = match self.table(alloc, kind, &material)? {
+        let table = match self.table(log, alloc, kind, &material)? {
             Ok(table) => table,
             Err(fault) => {
                 let name = file_name(kind, &material);
@@ -127,13 +131,15 @@ impl<'r, D: Disk> TableFolder<'r, D> {
     /// Looks at a position: opens the table of the folder that is missing, if one is.
     fn look(
         &self,
+        log: &mut F::Log,
         alloc: Global,
         set: &mut Set<'r>,
         position: &Position,
     ) -> Result<Look, AllocError>
-        requires { AreOf (D.facts self.now.disk) self.now.folder set.old.tables }
-        ensures look { IfOk result (IsLook (D.facts self.now.disk) self.now.folder set.old.tables set.new.tables position.now) }
+        requires { AreOf (F.facts self.now.disk) self.now.folder set.old.tables }
+        ensures look { IfOk result (IsLook (F.facts self.now.disk) self.now.folder set.old.tables set.new.tables position.now) }
         ensures memory { OnErr result (set.new ≡ set.old) }
+        ensures made { PassesSome (F.events self.now.disk log.old) (F.events self.now.disk log.new) (OpensTables (F.facts self.now.disk) self.now.folder set.old.tables set.new.tables (looked result)) }
         ensures cache { set.new.cache ≡ set.old.cache }
     {
         adding_keeps_the_rest();
@@ -141,7 +147,7 @@ impl<'r, D: Disk> TableFolder<'r, D> {
         let Some(missing) = self.missing(set, &columns.probed) else {
             return Ok(Look::Settled(columns));
         };
-        match self.add(alloc, set, missing)? {
+        match self.add(log, alloc, set, missing)? {
             Ok(()) => Ok(Look::Opened),
             Err(refusal) => Ok(Look::Refused(refusal)),
         }
@@ -153,22 +159,24 @@ impl<'r, D: Disk> TableFolder<'r, D> {
     /// The error comes where memory is refused. Tables that are open stay open whatever the result is.
     pub fn settle(
         &self,
+        log: &mut F::Log,
         alloc: Global,
         set: &mut Set<'r>,
         position: &Position,
     ) -> Result<Result<Columns, FileRefusal>, AllocError>
-        requires { AreOf (D.facts self.now.disk) self.now.folder set.old.tables }
-        ensures opened { AreOf (D.facts self.now.disk) self.now.folder set.new.tables }
+        requires { AreOf (F.facts self.now.disk) self.now.folder set.old.tables }
+        ensures opened { AreOf (F.facts self.now.disk) self.now.folder set.new.tables }
         ensures kept { HasAll set.old.tables set.new.tables }
-        ensures only { AddsOnlyMissed (D.facts self.now.disk) self.now.folder (IsAlone position.now) set.old.tables set.new.tables }
+        ensures only { AddsOnlyMissed (F.facts self.now.disk) self.now.folder (IsAlone position.now) set.old.tables set.new.tables }
         ensures probed { IfOk result (λ settled. IfOk settled (λ columns. IsProbed set.new.tables position.now columns.probed)) }
         ensures verdict { IfOk result (λ settled. IfOk settled (λ columns. columns.verdict ≡ ruling set.new.tables position.now)) }
         ensures settled { IfOk result (λ settled. IfOk settled (λ _. IsSettled self.now.folder set.new.tables position.now)) }
-        ensures refused { IfOk result (λ settled. IfErr settled (IsRefusedAt (D.facts self.now.disk) self.now.folder position.now)) }
+        ensures refused { IfOk result (λ settled. IfErr settled (IsRefusedAt (F.facts self.now.disk) self.now.folder position.now)) }
+        ensures made { PassesSome (F.events self.now.disk log.old) (F.events self.now.disk log.new) (OpensTables (F.facts self.now.disk) self.now.folder set.old.tables set.new.tables (refusal_of result)) }
         ensures cache { set.new.cache ≡ set.old.cache }
     {
         loop {
-            match self.look(alloc, set, position)? {
+            match self.look(log, alloc, set, position)? {
                 Look::Settled(columns) => return Ok(Ok(columns)),
                 Look::Refused(refusal) => return Ok(Err(refusal)),
                 Look::Opened => {}

@@ -50,6 +50,10 @@ pub record AreFilesIn (disk : DiskFacts) (folder : List ℕ) (told : Option Told
   pub wanted : AreWantedOf told names (names_of files)
   pub bytes : AllByRecursion (IsAtItsPath disk folder) files
 
+-- the folder can't be read, or lists a wanted file twice
+abbrev pub CannotList : DiskFacts → List ℕ → Option ToldManifest → Type 0
+CannotList disk folder told = disk.fails (AtFolder folder) ⊎ ((names : List (List ℕ)) × disk.lists folder names × ListsTwice told names)
+
 -- a wanted file of the folder can't be read
 pub record FailsAt (disk : DiskFacts) (folder : List ℕ) (told : Option ToldManifest) (names : List (List ℕ)) : Type 0 where
   pub name : List ℕ

@@ -8,7 +8,7 @@ ghost use Rattle.move_msg.specs.Files.{AreFiles, File, table_file_of};
 ghost use Rattle.task_files.specs.FileNames.{AreRisingNames};
 ghost use Rattle.move_msg.specs.ToldBy.{told_by};
 ghost use Rattle.system_io.specs.Disks.{AtFile};
-ghost use Rattle.task_files.specs.Outside.{AreFilesIn, AreNamesIn, AreWantedOf, FolderFails, IsAtItsPath, IsWanted, ListsTwice, path_in};
+ghost use Rattle.task_files.specs.Outside.{AreFilesIn, AreNamesIn, AreWantedOf, CannotList, FolderFails, IsAtItsPath, IsWanted, ListsTwice, path_in};
 ghost use Rattle.task_files.specs.Made.{AreMadeOf};
 ghost use Rattle.task_files.specs.Inside.Reading.{AreLooksAt};
 ghost use Rattle.task_files.specs.Inside.Placing.{IsNamePlace, AddsName};
@@ -204,7 +204,7 @@ pub fn names_in<D: Disk>(
     manifest: &Manifest,
 ) -> Result<Vec<FileName>, ReadFault>
     ensures ok { IfOk result (λ wanted. AreNamesIn (D.facts disk.now) folder.now (told_by manifest.now) wanted.items) }
-    ensures cause { IsErrOf result ReadFault.Unreadable → FolderFails (D.facts disk.now) folder.now (told_by manifest.now) }
+    ensures cause { IsErrOf result ReadFault.Unreadable → CannotList (D.facts disk.now) folder.now (told_by manifest.now) }
 {
     match disk.names(alloc, folder) {
         Ok(names) => wanted_names(alloc, &names, manifest),
