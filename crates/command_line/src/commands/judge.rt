@@ -53,7 +53,7 @@ impl<'a> Judge<'a> {
     }
 
     /// What is read for it before it answers.
-    pub(crate) fn places(&self) -> InputPaths<'a>
+    pub fn places(&self) -> InputPaths<'a>
         ensures { named_by result ≡ named self.now }
     {
         InputPaths {
