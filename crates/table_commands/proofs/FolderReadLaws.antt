@@ -75,8 +75,8 @@ module _ (disk : DiskFacts) (path : List ℕ) (manifest : Manifest) (folder : Fo
       → IfOk r (λ s. IfOk s (λ c. IsProbed tables p c.probed)) → IfOk r (λ s. IfOk s (λ c. c.verdict ≡ ruling tables p)) → IfOk r (λ s. IfOk s (λ c. IsSettled folder tables p)) → IfOk r (λ s. IfErr s (IsRefusedAt disk folder p))
       → PassesSome a b (OpensAt disk path manifest (Ok (Ok folder))) → PassesSome b c (OpensTables disk folder old tables (refusal_of r))
       → PassesSome a c (FindsIn disk path manifest (IsAlone p) (AreColumns p) (found_by r))
-  finds_settled a b c old tables r none are missed probed verdict settled refused p q =
-      passes_both a b c _ _ _ (λ listing reading opens reads. finds_by tables r listing reading opens (record { opened = are; only = subst (λ t. AddsOnlyMissed disk folder (IsAlone p) t tables) none missed; reads = subst (λ t. OpensTables disk folder t tables (refusal_of r) reading) none reads }) probed verdict settled refused) p q
+  finds_settled a b c old tables r none are missed probed verdict settled refused first second =
+      passes_both a b c _ _ _ (λ listing reading opens reads. finds_by tables r listing reading opens (record { opened = are; only = subst (λ t. AddsOnlyMissed disk folder (IsAlone p) t tables) none missed; reads = subst (λ t. OpensTables disk folder t tables (refusal_of r) reading) none reads }) probed verdict settled refused) first second
 
   -- a folder was opened, and memory was refused for an empty set
   pub finds_no_set : {X : Type 0} (Is : Tables → X → Type 0) (a b : Option (List Event)) (e : AllocError) → PassesSome a b (OpensAt disk path manifest (Ok (Ok folder))) → PassesSome a b (FindsIn disk path manifest (IsAlone p) Is (Err e))
@@ -115,10 +115,10 @@ finds_as disk path manifest IsNeeded Is So f so found events (NoRoomForTables fo
 
 -- a reply of what is found by a folder
 pub makes_in : {X : Type 0} (disk : DiskFacts) (path : List ℕ) (manifest : Manifest) (IsNeeded : Tables → Parts → Type 0) (Is : Tables → X → Type 0) (So : Tables → Reply → Type 0) (f : X → Reply) → ((tables : Tables) (x : X) → Is tables x → So tables (f x)) → (x : X) (result : Result Reply ReadFault) (a b : Option (List Event)) → (result ≡ Ok (f x)) ⊎ (result ≡ Err read.OutOfMemory) → PassesSome a b (FindsIn disk path manifest IsNeeded Is (Ok (Ok x))) → PassesSome a b (MakesInFolder disk path (told_by manifest) IsNeeded So result)
-makes_in disk path manifest IsNeeded Is So f so x result a b is p = passes_so a b _ _ (λ events finds. (manifest, refl, Ok (Ok (f x)), finds_as disk path manifest IsNeeded Is So f so (Ok (Ok x)) events finds, is)) p
+makes_in disk path manifest IsNeeded Is So f so x result a b is p = passes_so a b _ _ (λ events finds. (manifest, refl, (Ok (Ok (f x)), finds_as disk path manifest IsNeeded Is So f so (Ok (Ok x)) events finds, is))) p
 
 pub makes_of_found : {X : Type 0} (disk : DiskFacts) (path : List ℕ) (manifest : Manifest) (IsNeeded : Tables → Parts → Type 0) (Is : Tables → X → Type 0) (So : Tables → Reply → Type 0) (f : X → Reply) → ((tables : Tables) (x : X) → Is tables x → So tables (f x)) → (found : Result (Result X Refusal) AllocError) (result : Result Reply ReadFault) (a b : Option (List Event)) → IsReplyOf (found_as f found) result → PassesSome a b (FindsIn disk path manifest IsNeeded Is found) → PassesSome a b (MakesInFolder disk path (told_by manifest) IsNeeded So result)
-makes_of_found disk path manifest IsNeeded Is So f so found result a b is p = passes_so a b _ _ (λ events finds. (manifest, refl, found_as f found, finds_as disk path manifest IsNeeded Is So f so found events finds, is)) p
+makes_of_found disk path manifest IsNeeded Is So f so found result a b is p = passes_so a b _ _ (λ events finds. (manifest, refl, (found_as f found, finds_as disk path manifest IsNeeded Is So f so found events finds, is))) p
 
 -- memory was refused for what is found, and so for the reply
 pub makes_err : {X : Type 0} (disk : DiskFacts) (path : List ℕ) (manifest : Manifest) (IsNeeded : Tables → Parts → Type 0) (Is : Tables → X → Type 0) (So : Tables → Reply → Type 0) (f : X → Reply) → ((tables : Tables) (x : X) → Is tables x → So tables (f x)) → (r : Result Answer AllocError) (e : AllocError) (a b : Option (List Event)) → IsErr r → PassesSome a b (FindsIn disk path manifest IsNeeded Is (Err e)) → PassesSome a b (MakesInFolder disk path (told_by manifest) IsNeeded So (made_reply r))
@@ -136,8 +136,8 @@ made_or_not (Err e) reply is = inr refl
 
 -- a reply by tables that were given
 pub makes_of_given : {E : Type 0} (tables : Result Tables (List ℕ)) (IsAnswer : Tables → Parts → Reply → Type 0) (p : Parts) (r : Result Answer E) (a : Option (List Event)) → IfOk r (λ x. ByTables tables IsAnswer p (reply_of x)) → PassesSome a a (MakesOfGiven tables IsAnswer p (made_reply r))
-makes_of_given tables IsAnswer p (Ok x) a by = ([], Passes-nil a, refl, inr (reply_of x, refl, by))
-makes_of_given tables IsAnswer p (Err e) a by = ([], Passes-nil a, refl, inl refl)
+makes_of_given tables IsAnswer p (Ok x) a by = ([], Passes-nil a, (refl, inr (reply_of x, refl, by)))
+makes_of_given tables IsAnswer p (Err e) a by = ([], Passes-nil a, (refl, inl refl))
 
 -- ---- texts
 
