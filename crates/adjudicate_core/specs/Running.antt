@@ -19,8 +19,6 @@ use Rattle.source_core.specs.Lines.{ended_status}
 use Rattle.serve_commands.specs.Enters.{Enters}
 use Rattle.serve_commands.specs.Hostings.{HostsGames, written}
 use Rattle.task_files.specs.Sources.{CannotRead, IsGiven, TakesMemory}
-use Rattle.table_commands.specs.Judge as judges
-use Rattle.table_commands.specs.Probe as probes
 use Rattle.table_commands.specs.Game as games
 use Rattle.table_commands.specs.Games as of_games
 use Rattle.table_commands.specs.Pgn as of_pgn
@@ -48,11 +46,8 @@ abbrev pub status_ended : Result Ended WriteFault → Result ℕ WriteFault
 status_ended (Ok ended) = Ok (ended_status ended)
 status_ended (Err fault) = Err fault
 
--- what is answered beside the timeline to a task from what was read for it, where so is said how a source's run ends: `judge`, `probe` and
--- `game` take memory for a text that is a position; the tasks over the timeline aren't answered here
+-- what is answered beside the timeline to a task from what was read for it, where so is said how a source's run ends: `game` takes memory for a text that is a position; the tasks over the timeline aren't answered here
 abbrev pub AnswersFrom : {P F S : Type 0} → OutsideWithStores P F S → (Ended → Type 0) → Task → Given → Option (List ℕ) → Option (List ℕ) → Result ℕ WriteFault → Type 0
-AnswersFrom m Told (task.Judge t) given old new r = AnswersOnce (judges.IsReply m.outside.disk t given) (IsText t.fen.now) old new r
-AnswersFrom m Told (task.Probe t) given old new r = AnswersOnce (probes.IsReply m.outside.disk t given) (IsText t.fen.now) old new r
 AnswersFrom m Told (task.Listen t) given old new r = Listens m.outside.host (serving_seen_as m.outside.host.file r) t given m.outside.had m.outside.has old new r
 AnswersFrom m Told (task.Probes t) given old new r = of_probes.Puts m.outside.disk m.outside.source t given old new r
 AnswersFrom m Told (task.Game t) given old new r = AnswersOnce (games.IsReply m.outside.disk t given) (IsText t.fen.now) old new r

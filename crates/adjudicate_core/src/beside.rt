@@ -22,7 +22,7 @@ use serve_commands::{System as Parts, enter, host_games, listen, send, status, t
 use serve_core::{Pages, serve};
 use std::alloc::Global;
 use system_io::{Host, Input, LineDisk, Output, ReadFault, WriteFault};
-use table_commands::{follow, game, games, judge, pgn, probe, probes, root};
+use table_commands::{follow, game, games, pgn, probes, root};
 use task_files::Inputs;
 
 /// What a task is answered from.
@@ -34,9 +34,6 @@ struct Context<'s, 'a, D, I, H, G> {
 }
 
 /// Answers a task from what was read for it, and returns the status, 0 done or 1 refused.
-///
-/// `judge` and `probe` use all files, or with a manifest those of its lines, in its order. They report the first
-/// refusal: of the text, then of the manifest, then of a file.
 ///
 /// Where memory is refused, the line `refused memory` comes in place of all else, for `probes` after the whole lines
 /// before it, with status 1. A text that is no position takes none. The error comes only where the writer failed. `status` reads its folder here. With `--progress` the
@@ -57,8 +54,6 @@ fn answer_given<'s, D: LineDisk, I: Input, H: Host, G: Pages, W: Output, E: Outp
 {
     let Context { sources, system } = given;
     match task {
-        Task::Judge(task) => put_answered(out, judge::answer(alloc, task, sources, system.disk)),
-        Task::Probe(task) => put_answered(out, probe::answer(alloc, task, sources, system.disk)),
         Task::Listen(task) => listen(alloc, task, sources, system.host, history, out),
         Task::Probes(task) => probes::answer(
             alloc,
@@ -96,7 +91,9 @@ fn answer_given<'s, D: LineDisk, I: Input, H: Host, G: Pages, W: Output, E: Outp
         | Task::Record(_)
         | Task::Audit(_)
         | Task::List(_)
-        | Task::Check(_) => unreachable!(),
+        | Task::Check(_)
+        | Task::Judge(_)
+        | Task::Probe(_) => unreachable!(),
         Task::Send(task) => tell_silence(err, send(alloc, task, system, history, out)),
         Task::Enter(task) => enter(alloc, task, system, history, out),
         Task::Host(task) => host_games(alloc, task, sources, system, history, out),

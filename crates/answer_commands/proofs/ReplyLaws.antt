@@ -14,7 +14,12 @@ use Rattle.timeline.specs.Outsides.{AddsSome, Outside}
 use Rattle.timeline.specs.declared.stream.Stream.TheVariants.{Output}
 use Rattle.answer_commands.specs.Inside.Replying.{WritesAnswered}
 use Rattle.answer_commands.specs.Printing.{Performs, Prints, printed}
-use Rattle.answer_commands.specs.Replies.{NoRoomToReply, Replied, RepliesTo, Replying, Unread, WritesReply}
+use Rattle.answer_commands.specs.Replies.{Making, NoRoomToReply, Replied, RepliesTo, Replying, Unread, WritesReply, making_by}
+use Rattle.system_io.specs.declared.reading.ReadFault.TheVariants.{OutOfMemory}
+use Rattle.table_commands.specs.FolderReads.{made_reply}
+use Rattle.task_files.specs.Given.{Given}
+use Rattle.task_files.specs.InputReads.{Both, FirstAlone, ReadsGiven}
+use Rattle.timeline.proofs.EventLaws.{adds_more}
 use Rattle.answer_commands.proofs.PrintLaws.{prints_so, then_does, then_prints}
 
 abbrev pub reply : List ℕ → ℕ → Reply
@@ -58,3 +63,20 @@ module _ {T P F K S L X : Type 0} (o : Outside T P F K S L) (t : Replying X) whe
 
   pub unread : (a b c : T) (fault : ReadFault) (r : Result ℕ WriteFault) → AddsSome o a b (t.Reads (Err fault)) → AddsSome o b c (Performs (Prints (cut_words fault ∷ []) 1) r) → AddsSome o a c (Performs (RepliesTo t) r)
   unread a b c fault r p q = then_prints o a b c p.0 (RepliesTo t) (cut_words fault ∷ []) 1 r (Unread fault p.0 p.2 refl refl) p.1 q
+
+-- ---- while more is read
+
+module _ {T P F K S L : Type 0} (o : Outside T P F K S L) (t : Making) where
+  after_making : {E : Type 0} (given : Given) (reading making : List Event) (answered : Result Answer E) → ReadsGiven o t.named (Ok given) reading → t.Makes o.disk given (made_reply answered) making
+      → (events : List Event) (status : Option ℕ) → WritesAnswered answered events status → RepliesTo (making_by o t) ((reading ++ making) ++ events) status
+  after_making given reading making (Ok a) read makes events status w = Replied (reply_of a) (reading ++ making) events (reply_of a) (Both given reading making read makes refl) refl w refl
+  after_making given reading making (Err e) read makes events status w =
+      prints_so (RepliesTo (making_by o t)) (reading ++ making) (refused_memory ∷ []) 1 (Unread OutOfMemory (reading ++ making) (Both given reading making read makes refl) refl refl) events status w
+
+  pub made : {E : Type 0} (a b c d : T) (given : Given) (answered : Result Answer E) (r : Result ℕ WriteFault)
+      → AddsSome o a b (ReadsGiven o t.named (Ok given)) → AddsSome o b c (t.Makes o.disk given (made_reply answered)) → AddsSome o c d (Performs (WritesAnswered answered) r) → AddsSome o a d (Performs (RepliesTo (making_by o t)) r)
+  made a b c d given answered r p q w =
+      then_does o a c d (p.0 ++ q.0) (WritesAnswered answered) (RepliesTo (making_by o t)) r (after_making given p.0 q.0 answered p.2 q.2) (adds_more o a b c p.0 q.0 p.1 q.1) w
+
+  pub unmade : (a b c : T) (fault : ReadFault) (r : Result ℕ WriteFault) → AddsSome o a b (ReadsGiven o t.named (Err fault)) → AddsSome o b c (Performs (Prints (cut_words fault ∷ []) 1) r) → AddsSome o a c (Performs (RepliesTo (making_by o t)) r)
+  unmade a b c fault r p q = unread o (making_by o t) a b c fault r (p.0, p.1, FirstAlone fault p.2 refl) q

@@ -9,9 +9,10 @@ use Rattle.answer_commands.specs.Listing.{list_reply}
 use Rattle.answer_commands.specs.Moves.{PrintsMoves}
 use Rattle.answer_commands.specs.Printing.{Ends}
 use Rattle.answer_commands.specs.Records.{audit_asking, record_asking}
-use Rattle.answer_commands.specs.Replies.{RepliesTo, replying_by}
+use Rattle.answer_commands.specs.Replies.{RepliesTo, making_by, replying_by}
 use Rattle.answer_commands.specs.Run.{RunsSchedule}
 use Rattle.answer_commands.specs.Show.{ShowsMessages}
+use Rattle.answer_commands.specs.TableReplies.{judge_making, probe_making}
 use Rattle.answer_commands.specs.Version.{PrintsVersion}
 use Rattle.answer_commands.specs.declared.answering.AnswerTask.{AnswerTask}
 use Rattle.answer_commands.specs.declared.answering.AnswerTask.TheVariants as answer
@@ -26,6 +27,8 @@ answered_once (task.Record t) = Some (answer.Record t)
 answered_once (task.Audit t) = Some (answer.Audit t)
 answered_once (task.List t) = Some (answer.List t)
 answered_once (task.Check t) = Some (answer.Check t)
+answered_once (task.Judge t) = Some (answer.Judge t)
+answered_once (task.Probe t) = Some (answer.Probe t)
 answered_once _ = None
 
 -- a task is one of these, or it isn't
@@ -43,6 +46,8 @@ Does o (answer.Record t) events status = RepliesTo (replying_by o (record_asking
 Does o (answer.Audit t) events status = RepliesTo (replying_by o (audit_asking t)) events status
 Does o (answer.List t) events status = RepliesTo (list_reply o.disk t) events status
 Does o (answer.Check t) events status = RepliesTo (check_reply o.disk t) events status
+Does o (answer.Judge t) events status = RepliesTo (making_by o (judge_making t)) events status
+Does o (answer.Probe t) events status = RepliesTo (making_by o (probe_making t)) events status
 
 -- THE CONTRACT OF THE COMMANDS: the task, all that is known outside, what happened before and after, and the status
 abbrev pub Answers : {T P F K S L : Type 0} → AnswerTask → Outside T P F K S L → T → T → ℕ → Type 0

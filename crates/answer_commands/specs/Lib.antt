@@ -6,6 +6,7 @@ pub mod Moves
 pub mod Run
 pub mod Replies
 pub mod Records
+pub mod TableReplies
 pub mod Listing
 pub mod Check
 pub mod Answers

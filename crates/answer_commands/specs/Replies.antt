@@ -3,9 +3,10 @@ use Rattle.std.specs.Prelude.{◌≡◌, ◌++◌, ℕ, List, [], ◌∷◌, map
 use Rattle.std.specs.List.{flat_map}
 use Rattle.answer_parts.specs.Reply.{Reply}
 use Rattle.line_teller.specs.ToldLines.{cut_words, refused_memory}
+use Rattle.system_io.specs.Disks.{DiskFacts}
 use Rattle.system_io.specs.declared.reading.ReadFault.{ReadFault}
 use Rattle.task_files.specs.Given.{Given}
-use Rattle.task_files.specs.InputReads.{Reading, ReadsGiven}
+use Rattle.task_files.specs.InputReads.{Reading, ReadsGiven, Then}
 use Rattle.task_files.specs.Sources.{Named}
 use Rattle.timeline.specs.Events.{Event, Wrote}
 use Rattle.timeline.specs.Outsides.{Outside}
@@ -42,3 +43,11 @@ pub record Asking : Type 1 where
 
 abbrev pub replying_by : {T P F K S L : Type 0} → Outside T P F K S L → Asking → Replying Given
 replying_by o t = record { Reads = ReadsGiven o t.named; IsReply = t.IsReply; TakesMemory = t.TakesMemory }
+
+-- a task whose reply is made while more is read: what is read first, and its reply by that, with what is read for the reply
+pub record Making : Type 1 where
+  pub named : Named
+  pub Makes : DiskFacts → Given → Reading Reply
+
+abbrev pub making_by : {T P F K S L : Type 0} → Outside T P F K S L → Making → Replying Reply
+making_by o t = record { Reads = Then (ReadsGiven o t.named) (t.Makes o.disk); IsReply = λ reply r. r ≡ reply; TakesMemory = λ _. ⊥ }

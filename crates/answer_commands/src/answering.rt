@@ -9,11 +9,11 @@ use crate::check::print_check;
 use crate::list::print_manifest;
 use crate::moves::print_moves;
 use crate::printing::end;
-use crate::replying::reply_to;
+use crate::replying::{make_reply, reply_to};
 use crate::run::run_schedule;
 use crate::show::show_input;
 use crate::version::print_version;
-use command_line::{Audit, Check, List, Moves, RunSchedule, ShowRecord, Task};
+use command_line::{Audit, Check, Judge, List, Moves, Probe, RunSchedule, ShowRecord, Task};
 use std::alloc::Global;
 use system_io::WriteFault;
 use timeline::System;
@@ -37,6 +37,10 @@ pub enum AnswerTask<'a> {
     List(List<'a>),
     /// Whether the tables in a folder are those of a manifest.
     Check(Check<'a>),
+    /// The verdict on a position.
+    Judge(Judge<'a>),
+    /// What tables tell of a position.
+    Probe(Probe<'a>),
 }
 
 impl<'a> AnswerTask<'a> {
@@ -53,6 +57,8 @@ impl<'a> AnswerTask<'a> {
             Task::Audit(audit) => Ok(AnswerTask::Audit(audit)),
             Task::List(list) => Ok(AnswerTask::List(list)),
             Task::Check(check) => Ok(AnswerTask::Check(check)),
+            Task::Judge(judge) => Ok(AnswerTask::Judge(judge)),
+            Task::Probe(probe) => Ok(AnswerTask::Probe(probe)),
             other => Err(other),
         }
     }
@@ -77,6 +83,8 @@ fn answer_task<S: System>(
         AnswerTask::Audit(task) => reply_to(alloc, task, system, timeline),
         AnswerTask::List(task) => print_manifest(alloc, task, system, timeline),
         AnswerTask::Check(task) => print_check(alloc, task, system, timeline),
+        AnswerTask::Judge(task) => make_reply(alloc, task, system, timeline),
+        AnswerTask::Probe(task) => make_reply(alloc, task, system, timeline),
     }
 }
 
@@ -84,7 +92,8 @@ fn answer_task<S: System>(
 ///
 /// What the task names is read first, each thing once: for `run` the files of its folder, in rising order of names, and then the input, to
 /// its end; for `show` the input; for `record` a kept file; for `audit` the manifest, the files of its folder and the kept files; for
-/// `check` the manifest, and then, as for `list`, the files of its folder one by one, of which one is held at a time; for the others nothing.
+/// `judge` and `probe` the manifest and the files of its folder, or with `--lazy` the manifest, and then for a position the folder's names and
+/// the files of the tables that it misses; for `check` the manifest, and then, as for `list`, the files of its folder one by one, of which one is held at a time; for the others nothing.
 /// With `--progress` of these two a line goes to standard error after each hundred million bytes. What can't be read is `refused files`; where memory is refused the line is
 /// `refused memory`. Then the lines of the answer are written, and at last all that was written goes out. Nothing else happens outside.
 pub fn answer<S: System>(

@@ -1,14 +1,14 @@
-//! The commands over one timeline: `version`, `show`, `moves`, `run`, `record`, `audit`, `list` and `check`.
+//! The commands over one timeline: `version`, `show`, `moves`, `run`, `record`, `audit`, `list`, `check`, `judge` and `probe`.
 //!
 //! `answer` does all that such a command does outside: it reads what the task names, writes the answer, sees to it that all goes out, and
 //! returns the status, 0 done or 1 refused. The contract has every event, in order, and says that there is no other one. Where the output
 //! fails, that is a front of them; then it is noted, and the status is 1.
 //!
-//! Inside: a file for each command, but for `record` and `audit`, which reply by what `record_commands` makes of what was read
-//! (`replying`); `answers` (an answer before it is written), `printing` (lines, refusals and the output's end), `answering` (all of them).
+//! Inside: a file for each command, but for `record` and `audit`, which reply by what `record_commands` makes of what was read, and `judge`
+//! and `probe`, which reply by what `table_commands` makes of it, and may read tables meanwhile (`replying`); `answers` (an answer before it is written), `printing` (lines, refusals and the output's end), `answering` (all of them).
 //!
 //! Definitions, in reading order: `Printing` (`Prints`, `IsCutIn`, `Performs`, `Closes`, `Ends`), `Inputs`, `Version`, `Show`, `Moves`, `Run`,
-//! `Replies` (`RepliesTo`), `Records`, `Listing`, `Check`, `Answers` (`Does`, `Answers`).
+//! `Replies` (`RepliesTo`), `Records`, `TableReplies`, `Listing`, `Check`, `Answers` (`Does`, `Answers`).
 //!
 //! - CLAIM: `answer`: what is read is read once, before anything is written to the output; nothing is written to the errors but the progress
 //!   of `list` and `check`, where it is wanted, and nothing else happens outside. An error of the output leaves a front of these events.
@@ -18,6 +18,8 @@
 //!   schedule, then the first file that is no table; else the lines are those of the last of its worlds, in each of which both records are
 //!   true to the game.
 //! - CLAIM: `answer`: `list` and `check` read their files one by one, in rising order of names. (That one is held at a time is code.)
+//! - CLAIM: `answer`: `judge` and `probe` read what they name once, in order. With `--lazy` the folder of the tables is listed once after
+//!   that, and then the file of each table that the position misses is read once; of no other.
 #![tactic(auto)]
 
 mod answering;

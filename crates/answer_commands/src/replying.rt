@@ -4,19 +4,24 @@ ghost use Rattle.std.specs.Prelude.{◌≡◌, map, IfOk, OnErr};
 ghost use Rattle.answer_commands.specs.Inside.Replying.{WritesAnswered};
 ghost use Rattle.answer_commands.specs.Printing.{OutputFails, Performs};
 ghost use Rattle.answer_commands.specs.Records.{audit_asking, record_asking};
-ghost use Rattle.answer_commands.specs.Replies.{Asking, RepliesTo, WritesReply, replying_by};
+ghost use Rattle.answer_commands.specs.Replies.{Asking, Making, RepliesTo, WritesReply, making_by, replying_by};
+ghost use Rattle.answer_commands.specs.TableReplies.{judge_making, probe_making};
 ghost use Rattle.answer_parts.specs.Asked.{reply_of};
 ghost use Rattle.answer_parts.specs.Lines.{words_of};
 ghost use Rattle.move_msg.specs.TextLines.{text_of};
+ghost use Rattle.table_commands.specs.FolderReads.{made_reply};
+ghost use Rattle.table_folder.specs.Reads.{PassesSome};
 ghost use Rattle.task_files.specs.Sources.{named_by};
 ghost use Rattle.timeline.specs.Outsides.{AddsSome};
 
 use crate::printing::{print_lines, print_refusal, print_unread};
 use answer_parts::{Answer, Line, Refusal, fault_line, status_if};
-use command_line::{Audit, ShowRecord};
+use command_line::{Audit, Judge, Probe, ShowRecord};
 use record_commands::{audit, record};
 use std::alloc::{AllocError, Global};
 use system_io::WriteFault;
+use table_commands::{judge, probe};
+use table_folder::{SystemFiles, TableFiles};
 use task_files::{InputPaths, Inputs, read_inputs};
 use timeline::{Stream, System};
 
@@ -137,6 +142,83 @@ pub(crate) fn reply_to<R: ReplyTask, S: System>(
     let names = task.names();
     match read_inputs(alloc, system, timeline, &names) {
         Ok(given) => print_replied(system, timeline, task.reply(alloc, &given)),
+        Err(fault) => print_unread(system, timeline, fault),
+    }
+}
+
+/// A task whose reply is made while more is read.
+pub(crate) trait MakingTask {
+    /// What it names, and its reply by what was read, with what is read for the reply.
+    ghost making: { Self → Making };
+
+    /// What is read for it first.
+    fn names(&self) -> InputPaths<'_>
+        ensures { named_by result ≡ (making self.now).named };
+
+    /// Its reply by what was read, and by what is read for it now. The error comes only where memory is refused.
+    fn make<F: TableFiles>(
+        &self,
+        alloc: Global,
+        log: &mut F::Log,
+        given: &Inputs,
+        files: &F,
+    ) -> Result<Answer, AllocError>
+        ensures { PassesSome (F.events files.now log.old) (F.events files.now log.new) ((making self.now).Makes (F.facts files.now) given.now (made_reply result)) };
+}
+
+impl<'a> MakingTask for Judge<'a> {
+    ghost making = { judge_making };
+
+    fn names(&self) -> InputPaths<'_> {
+        self.places()
+    }
+
+    fn make<F: TableFiles>(
+        &self,
+        alloc: Global,
+        log: &mut F::Log,
+        given: &Inputs,
+        files: &F,
+    ) -> Result<Answer, AllocError> {
+        judge::answer(alloc, log, self, given, files)
+    }
+}
+
+impl<'a> MakingTask for Probe<'a> {
+    ghost making = { probe_making };
+
+    fn names(&self) -> InputPaths<'_> {
+        self.places()
+    }
+
+    fn make<F: TableFiles>(
+        &self,
+        alloc: Global,
+        log: &mut F::Log,
+        given: &Inputs,
+        files: &F,
+    ) -> Result<Answer, AllocError> {
+        probe::answer(alloc, log, self, given, files)
+    }
+}
+
+/// Reads what a task names, makes its reply while more is read, writes that, and returns the status.
+pub(crate) fn make_reply<M: MakingTask, S: System>(
+    alloc: Global,
+    task: &M,
+    system: &S,
+    timeline: &mut S::Timeline,
+) -> Result<u8, WriteFault>
+    ensures made { AddsSome (S.outside system.now) timeline.old timeline.new (Performs (RepliesTo (making_by (S.outside system.now) (M.making task.now))) result) }
+    ensures cause { OnErr result (OutputFails (S.outside system.now)) }
+{
+    let names = task.names();
+    match read_inputs(alloc, system, timeline, &names) {
+        Ok(given) => {
+            let files = SystemFiles { system };
+            let answered = task.make(alloc, timeline, &given, &files);
+            print_replied(system, timeline, answered)
+        }
         Err(fault) => print_unread(system, timeline, fault),
     }
 }

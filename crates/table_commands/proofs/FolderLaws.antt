@@ -42,7 +42,7 @@ use Rattle.table_folder.specs.declared.fault.FileRefusal.{FileRefusal}
 use Rattle.table_folder.specs.Folders.{AreOf, Folder, FolderOn}
 use Rattle.answer_parts.specs.LineAnswers.{PutsLinesOrNone}
 use Rattle.table_folder.specs.Settled.{AnswersBy, AreSettled, IsAlone, IsInPlayBy, IsRefusedAt, IsRefusedFor, IsSettled, IsWithMoves}
-use Rattle.table_commands.specs.Inside.LookingUp.{AreColumns, CannotList, FindsAll, FindsBadFile, FindsColumns, FindsNoFolder, HasBadLine, LacksFolder}
+use Rattle.table_commands.specs.Inside.LookingUp.{AreColumns, CannotList, HasBadLine, LacksFolder}
 use Rattle.answer_parts.specs.Lines.{refusal_words, refused_move}
 use Rattle.move_notation.specs.Notations.{IsBadWordIn, notation_by}
 use Rattle.std.specs.Borrow.{Bor}
@@ -82,23 +82,6 @@ in_folder facts a b folder path manifest IsNeeded refused IsAnswer p r same at i
     InFolder folder at (subst (λ d. AnswersIn (facts d) folder IsNeeded refused IsAnswer p r) same is)
 
 -- ---- columns
-
--- what is found is a reply, where its columns give one
-pub by_found : (disk : DiskFacts) (path : List ℕ) (manifest : Option ToldManifest) (p : Parts) (IsAnswer : Tables → Parts → Reply → Type 0) (r : Reply) (columns : Columns) → ((tables : Tables) → AreColumns p tables columns → IsAnswer tables p r) → FindsColumns disk path manifest p (Ok columns) → ByFolder disk path manifest IsAlone refused_table IsAnswer p r
-by_found disk path manifest p IsAnswer r columns gives (FindsNoFolder refused lacks e) = absurd cc
-by_found disk path manifest p IsAnswer r columns gives (FindsBadFile folder at file refused e) = absurd cc
-by_found disk path manifest p IsAnswer r columns gives (FindsAll folder at other by e) =
-    let same : other ≡ columns = cc in
-    InFolder folder at (inl (record { tables = by.tables; opened = by.opened; settled = by.settled; answers = gives by.tables (subst (λ x. AreColumns p by.tables x) same by.answers) }))
-
-pub none_found : (disk : DiskFacts) (path : List ℕ) (manifest : Option ToldManifest) (p : Parts) (IsAnswer : Tables → Parts → Reply → Type 0) (r : Reply) (refused : Refusal) → FindsColumns disk path manifest p (Err refused) → r ≡ refusal_reply (refusal_words refused) → ByFolder disk path manifest IsAlone refused_table IsAnswer p r
-none_found disk path manifest p IsAnswer r refused (FindsNoFolder other lacks e) is =
-    let same : refused ≡ other = cc in
-    lacks_folder lacks (is ∙ ap (λ x. refusal_reply (refusal_words x)) same)
-none_found disk path manifest p IsAnswer r refused (FindsBadFile folder at file at_fault e) is =
-    let same : refused ≡ refusal.File file.name file.fault = cc in
-    InFolder folder at (inr (file, at_fault, is ∙ ap (λ x. refusal_reply (refusal_words x)) same))
-none_found disk path manifest p IsAnswer r refused (FindsAll folder at columns by e) is = absurd cc
 
 module _ (disk : DiskFacts) (folder : Folder) (tables : Tables) (p : Parts) where
   -- what is settled at a position is settled at all that it alone needs

@@ -9,10 +9,11 @@ use Rattle.task_files.specs.Given.{Given}
 use Rattle.std.specs.Borrow.{Bor}
 use Rattle.system_io.specs.Disks.{DiskFacts}
 use Rattle.table_folder.specs.Settled.{IsAlone}
-use Rattle.table_commands.specs.FolderAnswers.{ByFolder, refused_table}
+use Rattle.table_commands.specs.FolderReads.{MakesForText, MakesInFolder, MakesOfGiven}
+use Rattle.task_files.specs.InputReads.{Reading}
 use Rattle.command_line.specs.LazyFolders.{read_when_asked}
 use Rattle.answer_parts.specs.Looks.{gathered}
-use Rattle.answer_parts.specs.Reply.{ByTables, IsForText, Reply}
+use Rattle.answer_parts.specs.Reply.{Reply}
 use Rattle.command_line.specs.declared.commands.judge.Judge.{Judge}
 
 -- the verdict's name, or that the game goes on
@@ -22,10 +23,14 @@ judged tables p = record { text = ended (verdict_words (ruling tables p)); statu
 abbrev pub IsJudged : Tables → Parts → Reply → Type 0
 IsJudged tables p r = r ≡ judged tables p
 
--- by the tables of a folder that are read when the position asks for them, or by those that were given
-abbrev pub IsJudgedBy : DiskFacts → Given → Option (Bor (List ℕ)) → Parts → Reply → Type 0
-IsJudgedBy disk given (Some path) = ByFolder disk path.now given.told IsAlone refused_table IsJudged
-IsJudgedBy disk given None = ByTables (gathered given) IsJudged
+abbrev pub JudgedBy : Parts → Tables → Reply → Type 0
+JudgedBy p tables r = IsJudged tables p r
 
-abbrev pub IsReply : DiskFacts → Judge → Given → Reply → Type 0
-IsReply disk t given r = IsForText t.fen.now (IsJudgedBy disk given (read_when_asked t.lazy t.tables)) r
+-- by the tables of a folder that are read when the position asks for them, or by those that were given
+abbrev pub JudgesAt : DiskFacts → Given → Option (Bor (List ℕ)) → Parts → Reading Reply
+JudgesAt disk given (Some path) p = MakesInFolder disk path.now given.told (IsAlone p) (JudgedBy p)
+JudgesAt disk given None p = MakesOfGiven (gathered given) IsJudged p
+
+-- its reply after what it names was read, by what happens outside
+abbrev pub Judges : DiskFacts → Judge → Given → Reading Reply
+Judges disk t given = MakesForText t.fen.now (JudgesAt disk given (read_when_asked t.lazy t.tables))

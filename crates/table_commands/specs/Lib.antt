@@ -1,4 +1,5 @@
 pub mod FolderAnswers
+pub mod FolderReads
 pub mod TableAnswers
 pub mod JsonAnswers
 pub mod Judge

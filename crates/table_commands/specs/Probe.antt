@@ -10,10 +10,11 @@ use Rattle.answer_parts.specs.Lines.{told_words}
 use Rattle.std.specs.Borrow.{Bor}
 use Rattle.system_io.specs.Disks.{DiskFacts}
 use Rattle.table_folder.specs.Settled.{IsAlone}
-use Rattle.table_commands.specs.FolderAnswers.{ByFolder, refused_table}
+use Rattle.table_commands.specs.FolderReads.{MakesForText, MakesInFolder, MakesOfGiven}
+use Rattle.task_files.specs.InputReads.{Reading}
 use Rattle.command_line.specs.LazyFolders.{read_when_asked}
 use Rattle.answer_parts.specs.Looks.{gathered}
-use Rattle.answer_parts.specs.Reply.{ByTables, IsForText, Reply, status_if}
+use Rattle.answer_parts.specs.Reply.{Reply, status_if}
 use Rattle.command_line.specs.declared.commands.probe.Probe.{Probe}
 
 -- a line a question, the value and then the distance
@@ -27,10 +28,14 @@ probed_reply probed = record {
 abbrev pub IsProbeReply : Tables → Parts → Reply → Type 0
 IsProbeReply tables p r = (probed : ProbeResult) × IsProbed tables p probed × (r ≡ probed_reply probed)
 
--- by the tables of the folder that are read when the position asks for them, or by those that were given
-abbrev pub IsProbedBy : DiskFacts → Given → Option (Bor (List ℕ)) → Parts → Reply → Type 0
-IsProbedBy disk given (Some path) = ByFolder disk path.now given.told IsAlone refused_table IsProbeReply
-IsProbedBy disk given None = ByTables (gathered given) IsProbeReply
+abbrev pub ProbedBy : Parts → Tables → Reply → Type 0
+ProbedBy p tables r = IsProbeReply tables p r
 
-abbrev pub IsReply : DiskFacts → Probe → Given → Reply → Type 0
-IsReply disk t given r = IsForText t.fen.now (IsProbedBy disk given (read_when_asked t.lazy (Some t.tables))) r
+-- by the tables of the folder that are read when the position asks for them, or by those that were given
+abbrev pub ProbesAt : DiskFacts → Given → Option (Bor (List ℕ)) → Parts → Reading Reply
+ProbesAt disk given (Some path) p = MakesInFolder disk path.now given.told (IsAlone p) (ProbedBy p)
+ProbesAt disk given None p = MakesOfGiven (gathered given) IsProbeReply p
+
+-- its reply after what it names was read, by what happens outside
+abbrev pub Probes : DiskFacts → Probe → Given → Reading Reply
+Probes disk t given = MakesForText t.fen.now (ProbesAt disk given (read_when_asked t.lazy (Some t.tables)))

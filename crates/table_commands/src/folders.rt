@@ -8,9 +8,11 @@ ghost use Rattle.judge_core.specs.Games.{IsOutcome};
 ghost use Rattle.judge_core.specs.declared.ask.Ask.TheVariants.{Strict};
 ghost use Rattle.table_commands.specs.Root.{IsRootReply};
 ghost use Rattle.table_commands.specs.FolderAnswers.{Finds, IsOpenAt};
+ghost use Rattle.table_commands.specs.FolderReads.{FindsIn, OpensAt};
+ghost use Rattle.table_folder.specs.Reads.{PassesSome};
 ghost use Rattle.table_commands.specs.JsonAnswers.{needed_by};
 ghost use Rattle.answer_parts.specs.Asked.{reply_of};
-ghost use Rattle.table_commands.specs.Inside.LookingUp.{AreColumns, FindsColumns, LacksFolder};
+ghost use Rattle.table_commands.specs.Inside.LookingUp.{AreColumns, LacksFolder, folder_opened};
 
 use crate::judging::judge_game;
 use crate::root::told_by;
@@ -24,7 +26,7 @@ use move_msg::Manifest;
 use std::alloc::{AllocError, Global};
 use std::marker::Model;
 use system_io::{Disk, ReadFault};
-use table_folder::{FileRefusal, TableFolder};
+use table_folder::{FileRefusal, TableFiles, TableFolder};
 
 /// An arena for the tables that a command keeps: of so many megabytes at most, where a number is given.
 pub fn arena_for(alloc: Global, memory: Option<Megabytes>) -> Bump {
@@ -69,21 +71,23 @@ impl<'r, D: Disk> Model for OpenFolder<'r, D> {
 }
 
 /// Opens a folder; no table is read. The refusal is that of a malformed manifest, then of the folder.
-pub(crate) fn folder_at<'r, D: Disk>(
+pub(crate) fn folder_at<'r, F: TableFiles>(
     alloc: Global,
-    disk: &'r D,
+    disk: &'r F,
+    log: &mut F::Log,
     path: &'r str,
     manifest: &'r Manifest,
     arena: &'r Bump,
-) -> Result<Result<TableFolder<'r, D>, Refusal>, AllocError>
+) -> Result<Result<TableFolder<'r, F>, Refusal>, AllocError>
     ensures disk { IfOk result (λ found. IfOk found (λ folder. folder.disk ≡ disk.now)) }
-    ensures folder { IfOk result (λ found. IfOk found (λ folder. IsOpenAt (D.facts disk.now) path.now (told_by manifest.now) folder.folder)) }
-    ensures refused { IfOk result (λ found. IfErr found (LacksFolder (D.facts disk.now) path.now (told_by manifest.now))) }
+    ensures folder { IfOk result (λ found. IfOk found (λ folder. IsOpenAt (F.facts disk.now) path.now (told_by manifest.now) folder.folder)) }
+    ensures refused { IfOk result (λ found. IfErr found (LacksFolder (F.facts disk.now) path.now (told_by manifest.now))) }
+    ensures made { PassesSome (F.events disk.now log.old) (F.events disk.now log.new) (OpensAt (F.facts disk.now) path.now manifest.now (folder_opened result)) }
 {
     if let Manifest::BadLine(line) = manifest {
         return Ok(Err(Refusal::Manifest(*line)));
     }
-    match TableFolder::open(alloc, disk, &mut (), path, manifest, arena) {
+    match TableFolder::open(alloc, disk, log, path, manifest, arena) {
         Ok(folder) => Ok(Ok(folder)),
         Err(ReadFault::Unreadable) => Ok(Err(Refusal::Files)),
         Err(ReadFault::OutOfMemory) => Err(AllocError),
@@ -103,7 +107,7 @@ impl<'r, D: Disk> OpenFolder<'r, D> {
         ensures folder { IfOk result (λ found. IfOk found (λ o. IsOpenAt (D.facts disk.now) path.now (told_by manifest.now) o.folder)) }
         ensures refused { IfOk result (λ found. IfErr found (LacksFolder (D.facts disk.now) path.now (told_by manifest.now))) }
     {
-        let folder = match folder_at(alloc, disk, path, manifest, arena)? {
+        let folder = match folder_at(alloc, disk, &mut (), path, manifest, arena)? {
             Ok(folder) => folder,
             Err(refusal) => return Ok(Err(refusal)),
         };
@@ -296,19 +300,21 @@ impl<'r, D: Disk> OpenFolder<'r, D> {
 
 /// Both probes of a position and the verdict on it by the tables of a folder, of which those are read that the position asks for, or
 /// the refusal: of a malformed manifest, then of the folder, then of the first file that is asked for and at fault.
-pub(crate) fn columns_in<D: Disk>(
+pub(crate) fn columns_in<F: TableFiles>(
     alloc: Global,
-    place: &FolderPlace<'_, D>,
+    log: &mut F::Log,
+    place: &FolderPlace<'_, F>,
     position: &Position,
 ) -> Result<Result<Columns, Refusal>, AllocError>
-    ensures { IfOk result (FindsColumns (D.facts place.now.disk.now) place.now.path.now (told_by place.now.manifest.now) position.now) }
+    ensures { PassesSome (F.events place.now.disk.now log.old) (F.events place.now.disk.now log.new) (FindsIn (F.facts place.now.disk.now) place.now.path.now place.now.manifest.now (IsAlone position.now) (AreColumns position.now) result) }
 {
     let arena = Bump::new(alloc);
-    let mut folder = match OpenFolder::at(alloc, place.disk, place.path, place.manifest, &arena)? {
+    let folder = match folder_at(alloc, place.disk, log, place.path, place.manifest, &arena)? {
         Ok(folder) => folder,
         Err(refusal) => return Ok(Err(refusal)),
     };
-    match folder.columns(position)? {
+    let mut set = folder.new_set(alloc, CacheSize::usual().blocks())?;
+    match folder.settle(log, alloc, &mut set, position)? {
         Ok(columns) => Ok(Ok(columns)),
         Err(refused) => Ok(Err(Refusal::File(refused.name, refused.fault))),
     }

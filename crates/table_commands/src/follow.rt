@@ -62,7 +62,7 @@ impl<'r, D: Disk> FolderJudge<'r, D> {
         ensures opened { IfOk result (λ found. IfOk found (λ j. AreOf (D.facts j.on.disk) j.on.folder j.tables)) }
         ensures refused { IfOk result (λ found. IfErr found (LacksFolder (D.facts disk.now) path.now (told_by manifest.now))) }
     {
-        let folder = match folder_at(alloc, disk, path, manifest, arena)? {
+        let folder = match folder_at(alloc, disk, &mut (), path, manifest, arena)? {
             Ok(folder) => folder,
             Err(refusal) => return Ok(Err(refusal)),
         };

@@ -1,13 +1,14 @@
 //! `judge`: the verdict on a position.
 
-ghost use Rattle.std.specs.Prelude.{IfOk, OnErr};
-ghost use Rattle.table_commands.specs.Judge.{IsJudged, IsJudgedBy, IsReply};
+ghost use Rattle.std.specs.Prelude.{IfOk};
+ghost use Rattle.table_commands.specs.Judge.{IsJudged, JudgedBy, Judges, JudgesAt};
+ghost use Rattle.table_folder.specs.Reads.{PassesSome};
 ghost use Rattle.table_folder.specs.Settled.{IsAlone};
-ghost use Rattle.table_commands.specs.FolderAnswers.{ByFolder, refused_table};
+ghost use Rattle.table_commands.specs.FolderReads.{MakesInFolder, made_reply};
 ghost use Rattle.command_line.specs.LazyFolders.{read_when_asked};
 ghost use Rattle.answer_parts.specs.Asked.{reply_of};
 ghost use Rattle.answer_parts.specs.Looks.{gathered};
-ghost use Rattle.answer_parts.specs.Reply.{ByTables, IsText};
+ghost use Rattle.answer_parts.specs.Reply.{ByTables};
 ghost use Rattle.move_msg.specs.ToldBy.{told_by};
 
 use crate::folders::{FolderPlace, columns_in};
@@ -16,7 +17,7 @@ use board_core::Position;
 use command_line::{CacheSize, Judge, read_when_asked};
 use fen_text::read;
 use std::alloc::{AllocError, Global};
-use system_io::Disk;
+use table_folder::TableFiles;
 use task_files::Inputs;
 
 /// The verdict by the tables of files, or that the game goes on, or the refusal of the files: of a manifest at fault, then of
@@ -36,28 +37,30 @@ fn verdict_of(alloc: Global, sources: &Inputs, position: &Position) -> Result<An
 }
 
 /// The verdict by the tables of a folder, of which those are read that the position asks for, or the refusal of one of these.
-fn verdict_in<D: Disk>(
+fn verdict_in<F: TableFiles>(
     alloc: Global,
-    place: &FolderPlace<'_, D>,
+    log: &mut F::Log,
+    place: &FolderPlace<'_, F>,
     position: &Position,
 ) -> Result<Answer, AllocError>
-    ensures { IfOk result (λ a. ByFolder (D.facts place.now.disk.now) place.now.path.now (told_by place.now.manifest.now) IsAlone refused_table IsJudged position.now (reply_of a)) }
+    ensures { PassesSome (F.events place.now.disk.now log.old) (F.events place.now.disk.now log.new) (MakesInFolder (F.facts place.now.disk.now) place.now.path.now (told_by place.now.manifest.now) (IsAlone position.now) (JudgedBy position.now) (made_reply result)) }
 {
-    match columns_in(alloc, place, position)? {
+    match columns_in(alloc, log, place, position)? {
         Ok(columns) => Ok(Answer::One(Line::Ruling(columns.verdict), true)),
         Err(refusal) => Ok(Answer::Refused(refusal)),
     }
 }
 
 /// The verdict on a position by the tables that were read, or by those that it asks for.
-fn answer_position<D: Disk>(
+fn answer_position<F: TableFiles>(
     alloc: Global,
+    log: &mut F::Log,
     task: &Judge<'_>,
     sources: &Inputs,
-    disk: &D,
+    disk: &F,
     position: &Position,
 ) -> Result<Answer, AllocError>
-    ensures { IfOk result (λ a. IsJudgedBy (D.facts disk.now) sources.now (read_when_asked task.now.lazy task.now.tables) position.now (reply_of a)) }
+    ensures { PassesSome (F.events disk.now log.old) (F.events disk.now log.new) (JudgesAt (F.facts disk.now) sources.now (read_when_asked task.now.lazy task.now.tables) position.now (made_reply result)) }
 {
     match read_when_asked(task.lazy, task.tables) {
         Some(path) => {
@@ -67,7 +70,7 @@ fn answer_position<D: Disk>(
                 path,
                 manifest,
             };
-            verdict_in(alloc, &place, position)
+            verdict_in(alloc, log, &place, position)
         }
         None => verdict_of(alloc, sources, position),
     }
@@ -75,17 +78,17 @@ fn answer_position<D: Disk>(
 
 /// The verdict on the position of the text: a text that is none is refused first. With `--lazy` a table is read when the position
 /// asks for it, and what is at fault in another one isn't told.
-pub fn answer<D: Disk>(
+pub fn answer<F: TableFiles>(
     alloc: Global,
+    log: &mut F::Log,
     task: &Judge<'_>,
     sources: &Inputs,
-    disk: &D,
+    disk: &F,
 ) -> Result<Answer, AllocError>
-    ensures ok { IfOk result (λ a. IsReply (D.facts disk.now) task.now sources.now (reply_of a)) }
-    ensures memory { OnErr result (IsText task.now.fen.now) }
+    ensures { PassesSome (F.events disk.now log.old) (F.events disk.now log.new) (Judges (F.facts disk.now) task.now sources.now (made_reply result)) }
 {
     match read(task.fen.as_bytes()) {
         Err(fault) => Ok(Answer::Refused(Refusal::Fen(fault))),
-        Ok(position) => answer_position(alloc, task, sources, disk, &position),
+        Ok(position) => answer_position(alloc, log, task, sources, disk, &position),
     }
 }

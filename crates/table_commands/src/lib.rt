@@ -6,11 +6,13 @@
 //! Inside: a file for each command, with its definitions in the file of the same name in `specs/`; `json_answers`, answers as JSON;
 //! `folders` reads a table when a position asks for it, `judging` those that the plies of a game ask for.
 //!
-//! Definitions, in reading order: `FolderAnswers`, `TableAnswers`, `JsonAnswers`, then those of the commands. Its cases stand in `rows`.
+//! Definitions, in reading order: `FolderAnswers`, `FolderReads`, `TableAnswers`, `JsonAnswers`, then those of the commands. Its cases stand in `rows`.
 //!
-//! - CLAIM: `judge::answer`, clause `ok`; `probe::answer`, clause `ok`; `probes::answer`, clause `written`; `root::answer`, clause `written`;
-//!   `game::answer`, clause `ok`; `games::answer`, clause `written`; `pgn::answer`, clause `told`: `judge` and `probe` with `--lazy`, and
-//!   the others without `--all-tables`, `--determined` and `--soon`, answer by tables of the folder of which none is missing at the
+//! - CLAIM: `judge::answer`, `probe::answer`: they answer as `Judges` and `Probes` say, with all that is read for it in order: with `--lazy`
+//!   the folder is listed once, and then the file of each table that the position misses is read once, up to one that is refused; else
+//!   nothing more is read.
+//! - CLAIM: `probes::answer`, clause `written`; `root::answer`, clause `written`;
+//!   `game::answer`, clause `ok`; `games::answer`, clause `written`; `pgn::answer`, clause `told`: without `--all-tables`, `--determined` and `--soon`, answer by tables of the folder of which none is missing at the
 //!   positions that they need, or refuse the file of one that is needed (`ByFolder`, `PutsByFolder`, `IsRulingIn`).
 //! - CLAIM: `pgn::answer`, clause `told`: `pgn` refuses its tables first; then it tells the games of its file or of the input as
 //!   `GameTeller::tell_games` of pgn_teller has them, and last the sums.

@@ -1,13 +1,14 @@
 //! `probe`: the values of a position in tables.
 
-ghost use Rattle.std.specs.Prelude.{◌≡◌, Some, IfOk, OnErr};
-ghost use Rattle.table_commands.specs.Probe.{IsProbeReply, IsProbedBy, IsReply, probed_reply};
+ghost use Rattle.std.specs.Prelude.{◌≡◌, Some, IfOk};
+ghost use Rattle.table_commands.specs.Probe.{IsProbeReply, ProbedBy, Probes, ProbesAt, probed_reply};
+ghost use Rattle.table_folder.specs.Reads.{PassesSome};
 ghost use Rattle.table_folder.specs.Settled.{IsAlone};
-ghost use Rattle.table_commands.specs.FolderAnswers.{ByFolder, refused_table};
+ghost use Rattle.table_commands.specs.FolderReads.{MakesInFolder, made_reply};
 ghost use Rattle.command_line.specs.LazyFolders.{read_when_asked};
 ghost use Rattle.answer_parts.specs.Asked.{reply_of};
 ghost use Rattle.answer_parts.specs.Looks.{gathered};
-ghost use Rattle.answer_parts.specs.Reply.{ByTables, IsText};
+ghost use Rattle.answer_parts.specs.Reply.{ByTables};
 ghost use Rattle.move_msg.specs.ToldBy.{told_by};
 
 use crate::folders::{FolderPlace, columns_in};
@@ -17,7 +18,7 @@ use command_line::{CacheSize, Probe, read_when_asked};
 use fen_text::read;
 use judge_core::{Column, ProbeResult, Set};
 use std::alloc::{AllocError, Global};
-use system_io::Disk;
+use table_folder::TableFiles;
 use task_files::Inputs;
 
 /// Both probes, a line each.
@@ -52,28 +53,30 @@ fn told_of(alloc: Global, sources: &Inputs, position: &Position) -> Result<Answe
 }
 
 /// The values in the tables of a folder, of which those are read that the position asks for, or the refusal of one of these.
-fn told_in<D: Disk>(
+fn told_in<F: TableFiles>(
     alloc: Global,
-    place: &FolderPlace<'_, D>,
+    log: &mut F::Log,
+    place: &FolderPlace<'_, F>,
     position: &Position,
 ) -> Result<Answer, AllocError>
-    ensures { IfOk result (λ a. ByFolder (D.facts place.now.disk.now) place.now.path.now (told_by place.now.manifest.now) IsAlone refused_table IsProbeReply position.now (reply_of a)) }
+    ensures { PassesSome (F.events place.now.disk.now log.old) (F.events place.now.disk.now log.new) (MakesInFolder (F.facts place.now.disk.now) place.now.path.now (told_by place.now.manifest.now) (IsAlone position.now) (ProbedBy position.now) (made_reply result)) }
 {
-    match columns_in(alloc, place, position)? {
+    match columns_in(alloc, log, place, position)? {
         Ok(columns) => tell(alloc, columns.probed),
         Err(refusal) => Ok(Answer::Refused(refusal)),
     }
 }
 
 /// The values of a position in the tables that were read, or in those that it asks for.
-fn answer_position<D: Disk>(
+fn answer_position<F: TableFiles>(
     alloc: Global,
+    log: &mut F::Log,
     task: &Probe<'_>,
     sources: &Inputs,
-    disk: &D,
+    disk: &F,
     position: &Position,
 ) -> Result<Answer, AllocError>
-    ensures { IfOk result (λ a. IsProbedBy (D.facts disk.now) sources.now (read_when_asked task.now.lazy (Some task.now.tables)) position.now (reply_of a)) }
+    ensures { PassesSome (F.events disk.now log.old) (F.events disk.now log.new) (ProbesAt (F.facts disk.now) sources.now (read_when_asked task.now.lazy (Some task.now.tables)) position.now (made_reply result)) }
 {
     match read_when_asked(task.lazy, Some(task.tables)) {
         Some(path) => {
@@ -83,7 +86,7 @@ fn answer_position<D: Disk>(
                 path,
                 manifest,
             };
-            told_in(alloc, &place, position)
+            told_in(alloc, log, &place, position)
         }
         None => told_of(alloc, sources, position),
     }
@@ -91,17 +94,17 @@ fn answer_position<D: Disk>(
 
 /// The values of the position of the text. A text that is no position is refused first. With `--lazy` a table is read when the
 /// position asks for it, and what is at fault in another one isn't told.
-pub fn answer<D: Disk>(
+pub fn answer<F: TableFiles>(
     alloc: Global,
+    log: &mut F::Log,
     task: &Probe<'_>,
     sources: &Inputs,
-    disk: &D,
+    disk: &F,
 ) -> Result<Answer, AllocError>
-    ensures ok { IfOk result (λ a. IsReply (D.facts disk.now) task.now sources.now (reply_of a)) }
-    ensures memory { OnErr result (IsText task.now.fen.now) }
+    ensures { PassesSome (F.events disk.now log.old) (F.events disk.now log.new) (Probes (F.facts disk.now) task.now sources.now (made_reply result)) }
 {
     match read(task.fen.as_bytes()) {
         Err(fault) => Ok(Answer::Refused(Refusal::Fen(fault))),
-        Ok(position) => answer_position(alloc, task, sources, disk, &position),
+        Ok(position) => answer_position(alloc, log, task, sources, disk, &position),
     }
 }

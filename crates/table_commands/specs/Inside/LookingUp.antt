@@ -8,7 +8,7 @@ use Rattle.judge_core.specs.Tables.{Tables}
 use Rattle.move_msg.specs.ToldManifests.{ToldManifest}
 use Rattle.system_io.specs.Disks.{DiskFacts}
 use Rattle.table_folder.specs.declared.fault.FileRefusal.{FileRefusal}
-use Rattle.table_folder.specs.Folders.{Folder}
+use Rattle.table_folder.specs.Folders.{Folder, FolderOn}
 use Rattle.table_folder.specs.Settled.{AnswersBy, IsAlone, IsRefusedFor}
 use Rattle.task_files.specs.Outside.{FolderFails}
 use Rattle.table_commands.specs.FolderAnswers.{IsOpenAt, IsSound}
@@ -24,8 +24,8 @@ pub data LacksFolder (disk : DiskFacts) (path : List ℕ) (manifest : Option Tol
   HasBadLine : (line : ℕ) → manifest ≡ Some (Err line) → refused ≡ refusal.Manifest line → LacksFolder disk path manifest refused
   CannotList : IsSound manifest → FolderFails disk path manifest → refused ≡ refusal.Files → LacksFolder disk path manifest refused
 
--- what a folder's tables say of a position, or why they say nothing
-pub data FindsColumns (disk : DiskFacts) (path : List ℕ) (manifest : Option ToldManifest) (p : Parts) (found : Result Columns Refusal) : Type 0 where
-  FindsNoFolder : (refused : Refusal) → LacksFolder disk path manifest refused → found ≡ Err refused → FindsColumns disk path manifest p found
-  FindsBadFile : (folder : Folder) → IsOpenAt disk path manifest folder → (file : FileRefusal) → IsRefusedFor disk folder (IsAlone p) file → found ≡ Err (refusal.File file.name file.fault) → FindsColumns disk path manifest p found
-  FindsAll : (folder : Folder) → IsOpenAt disk path manifest folder → (columns : Columns) → AnswersBy disk folder (IsAlone p) (λ tables. AreColumns p tables columns) → found ≡ Ok columns → FindsColumns disk path manifest p found
+-- the folder that was opened
+abbrev pub folder_opened : {D E : Type 0} → Result (Result (FolderOn D) Refusal) E → Result (Result Folder Refusal) E
+folder_opened (Ok (Ok f)) = Ok (Ok f.folder)
+folder_opened (Ok (Err refused)) = Ok (Err refused)
+folder_opened (Err e) = Err e

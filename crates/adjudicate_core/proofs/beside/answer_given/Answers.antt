@@ -6,20 +6,14 @@ use Rattle.serve_commands.proofs.HostLaws.{hosted_games}
 use Rattle.adjudicate_core.proofs.MakeLaws.{enter_makes, files_with, host_makes, listen_makes, makes_nothing, send_makes, store_with}
 use Rattle.adjudicate_core.proofs.beside.answer_given.Goals as goal
 
-pub returns-in-Judge : goal.returns-in-Judge
-returns-in-Judge g c = record { answered = rw c.in-Judge.is (once c.answer.result _ c.answer.ensures.ok c.put_answered.result _ _ c.put_answered.ensures.told _ c.answer.ensures.memory); quiet = λ unasked. inl refl; made = makes_nothing _ _; cause = c.put_answered.ensures.cause }
-
-pub returns-in-Probe : goal.returns-in-Probe
-returns-in-Probe g c = record { answered = rw c.in-Probe.is (once c.answer-in-Probe.result _ c.answer-in-Probe.ensures.ok c.put_answered-in-Probe.result _ _ c.put_answered-in-Probe.ensures.told _ c.answer-in-Probe.ensures.memory); quiet = λ unasked. inl refl; made = makes_nothing _ _; cause = c.put_answered-in-Probe.ensures.cause }
-
 pub returns-in-Listen : goal.returns-in-Listen
 returns-in-Listen g c = record { answered = rw c.in-Listen.is (listened _ _ _ _ _ _ _ _ c.listen.result c.listen.ensures.told); quiet = λ unasked. inl refl; made = rw c.in-Listen.is (listen_makes _ _ _ _ _ _ _ _ c.listen.result c.listen.ensures.told); cause = c.listen.ensures.cause }
 
 pub returns-in-Probes : goal.returns-in-Probes
-returns-in-Probes g c = record { answered = rw c.in-Probes.is c.answer-in-Probes.ensures.written; quiet = λ unasked. inl (c.answer-in-Probes.ensures.quiet (ap tells_progress (sym c.in-Probes.is) ∙ unasked)); made = makes_nothing _ _; cause = c.answer-in-Probes.ensures.cause }
+returns-in-Probes g c = record { answered = rw c.in-Probes.is c.answer.ensures.written; quiet = λ unasked. inl (c.answer.ensures.quiet (ap tells_progress (sym c.in-Probes.is) ∙ unasked)); made = makes_nothing _ _; cause = c.answer.ensures.cause }
 
 pub returns-in-Game : goal.returns-in-Game
-returns-in-Game g c = record { answered = rw c.in-Game.is (once c.answer-in-Game.result _ c.answer-in-Game.ensures.ok c.put_answered-in-Game.result _ _ c.put_answered-in-Game.ensures.told _ c.answer-in-Game.ensures.memory); quiet = λ unasked. inl refl; made = makes_nothing _ _; cause = c.put_answered-in-Game.ensures.cause }
+returns-in-Game g c = record { answered = rw c.in-Game.is (once c.answer-in-Game.result _ c.answer-in-Game.ensures.ok c.put_answered.result _ _ c.put_answered.ensures.told _ c.answer-in-Game.ensures.memory); quiet = λ unasked. inl refl; made = makes_nothing _ _; cause = c.put_answered.ensures.cause }
 
 pub returns-in-Games : goal.returns-in-Games
 returns-in-Games g c = record { answered = rw c.in-Games.is c.answer-in-Games.ensures.written; quiet = λ unasked. inl (c.answer-in-Games.ensures.quiet (ap tells_progress (sym c.in-Games.is) ∙ unasked)); made = makes_nothing _ _; cause = c.answer-in-Games.ensures.cause }

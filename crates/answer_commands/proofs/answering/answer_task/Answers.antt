@@ -20,3 +20,9 @@ returns-in-List-clause-made g c = rw c.in-List.is c.print_manifest.ensures.made
 
 pub returns-in-Check-clause-made : goal.returns-in-Check-clause-made
 returns-in-Check-clause-made g c = rw c.in-Check.is c.print_check.ensures.made
+
+pub returns-in-Judge-clause-made : goal.returns-in-Judge-clause-made
+returns-in-Judge-clause-made g c = rw c.in-Judge.is c.make_reply.ensures.made
+
+pub returns-in-Probe-clause-made : goal.returns-in-Probe-clause-made
+returns-in-Probe-clause-made g c = rw c.in-Probe.is c.make_reply-in-Probe.ensures.made
