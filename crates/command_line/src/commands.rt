@@ -233,6 +233,8 @@ pub(crate) struct Summary {
     pub(crate) about: &'static str,
     /// A command line.
     pub(crate) example: &'static str,
+    /// What is to know of the lines that it prints; nothing where the text is empty.
+    pub(crate) output: &'static str,
 }
 
 impl Name {

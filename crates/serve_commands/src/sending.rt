@@ -166,7 +166,9 @@ fn bind_and_send<D: Disk, I: Input, H: Host, W: Output, G>(
     match bind(alloc, system.host, history, task.bind, task.to) {
         Ok(port) => {
             let mut watched = Watched::over(alloc, port, system.host, &terms, task.to);
-            send_over(alloc, terms, game.start, system.input, &mut watched, out)
+            let ended = send_over(alloc, terms, game.start, system.input, &mut watched, out);
+            watched.note_end();
+            ended
         }
         Err(BindFault::Unbound) => {
             note_unbound(alloc, system.host, task.bind);

@@ -21,6 +21,28 @@ enum Answer {
     Came(Option<SocketAddr>),
 }
 
+/// Whether an arbiter has acknowledged fewer moves than before.
+#[derive(Clone, Copy)]
+enum Back {
+    /// It hasn't, or has made up for them.
+    No,
+    /// It did so once, when moves had been sent so often. That answer may have been late on its way.
+    Once(u32),
+    /// It did so again after a further sending, with this number of moves, which is noted.
+    Noted(u32),
+}
+
+/// What an arbiter has acknowledged in a run of a source.
+#[derive(Clone, Copy)]
+struct Acknowledged {
+    /// The greatest number of moves.
+    most: u32,
+    /// Whether it was fewer after that.
+    back: Back,
+    /// The address from which the last acknowledgement came, where that is known.
+    from: Option<SocketAddr>,
+}
+
 /// What is known of the answers to a run of a source.
 #[derive(Drop)]
 struct Watch<'w, H> {
@@ -35,6 +57,12 @@ struct Watch<'w, H> {
     first: Answer,
     /// The answer of the other.
     second: Answer,
+    /// What the arbiter with the number 1 has acknowledged.
+    by_first: Acknowledged,
+    /// What the other has.
+    by_second: Acknowledged,
+    /// How often moves were sent.
+    sendings: u32,
     /// Whether an arbiter with more moves is to be noted.
     notes_started: bool,
     /// How long answers were awaited in vain since the last note of that.
@@ -56,6 +84,46 @@ fn is_awaited(answer: Answer) -> bool {
     matches!(answer, Answer::Awaited)
 }
 
+impl Acknowledged {
+    /// Nothing.
+    fn nothing() -> Acknowledged {
+        Acknowledged {
+            most: 0,
+            back: Back::No,
+            from: None,
+        }
+    }
+
+    /// With an acknowledgement of so many moves from an address, after so many sendings.
+    fn with(self, count: u32, from: Option<SocketAddr>, sendings: u32) -> Acknowledged {
+        if count >= self.most {
+            return Acknowledged {
+                most: count,
+                back: Back::No,
+                from,
+            };
+        }
+        let back = match self.back {
+            Back::No => Back::Once(sendings),
+            Back::Once(before) if before < sendings => Back::Noted(count),
+            back => back,
+        };
+        Acknowledged {
+            most: self.most,
+            back,
+            from,
+        }
+    }
+
+    /// How many moves it has gone back to, where that is noted.
+    fn noted(self) -> Option<u32> {
+        match self.back {
+            Back::Noted(count) => Some(count),
+            Back::No | Back::Once(_) => None,
+        }
+    }
+}
+
 /// Whether each of the addresses of a word, separated by commas, is an IP address with a port, and none of them this one.
 fn is_none_of(to: &str, address: SocketAddr) -> bool {
     for word in to.split(',') {
@@ -73,6 +141,7 @@ impl<'w, H: Host> Watch<'w, H> {
         let Ok(Message::Move { number, .. }) = Message::decode(bytes) else {
             return;
         };
+        self.sendings = self.sendings.saturating_add(1);
         if number >= self.sent {
             self.sent = number.saturating_add(1);
             self.first = Answer::Awaited;
@@ -86,7 +155,10 @@ impl<'w, H: Host> Watch<'w, H> {
             return;
         };
         let (who, count) = match report {
-            Report::Acknowledges { who, count } => (who, count),
+            Report::Acknowledges { who, count } => {
+                self.note_count(who, count, from);
+                (who, count)
+            }
             Report::Rules { who, ruling } => (who, ruling.ply),
         };
         match who {
@@ -99,6 +171,35 @@ impl<'w, H: Host> Watch<'w, H> {
         if self.notes_started && count > self.sent {
             self.notes_started = false;
             self.note_started(count, from);
+        }
+    }
+
+    /// An arbiter acknowledged so many moves.
+    fn note_count(&mut self, who: ArbiterId, count: u32, from: Option<SocketAddr>) {
+        let before = match who {
+            ArbiterId::A => self.by_first,
+            ArbiterId::B => self.by_second,
+        };
+        let after = before.with(count, from, self.sendings);
+        match who {
+            ArbiterId::A => self.by_first = after,
+            ArbiterId::B => self.by_second = after,
+        }
+        if before.noted().is_none() {
+            self.note_back(after);
+        }
+    }
+
+    /// Notes that an arbiter went back, where it did.
+    fn note_back(&self, acknowledged: Acknowledged) {
+        let (Some(count), Some(address)) = (acknowledged.noted(), acknowledged.from) else {
+            return;
+        };
+        let most = acknowledged.most;
+        if let Ok(line) = format!(in self.alloc;
+            "the arbiter at {address} went back from {most} to {count} moves"
+        ) {
+            self.host.note(line.as_str());
         }
     }
 
@@ -177,8 +278,8 @@ impl<'w, H: Host> Watch<'w, H> {
 }
 
 /// A port over another one at which a source sends. A host is told of the first silence, and again after each further ten seconds of it,
-/// of answers from addresses to which nothing is sent, and once of an arbiter that has more moves than were sent, where the game need not
-/// be new.
+/// of answers from addresses to which nothing is sent, once of an arbiter that has more moves than were sent, where the game need not
+/// be new, and of an arbiter that acknowledged fewer moves than before, twice with a sending between: once then, and once at the end.
 #[derive(Drop)]
 pub(crate) struct Watched<'w, P: Drop, H> {
     port: P,
@@ -206,11 +307,20 @@ impl<'w, P: Port + Drop, H: Host> Watched<'w, P, H> {
                 sent: 0,
                 first: Answer::Awaited,
                 second: Answer::Awaited,
+                by_first: Acknowledged::nothing(),
+                by_second: Acknowledged::nothing(),
+                sendings: 0,
                 notes_started: terms.origin == Origin::Any,
                 silent: Duration::from_secs(BETWEEN_NOTES),
                 stray: None,
             },
         }
+    }
+
+    /// Notes once more which arbiters went back and didn't make up for it.
+    pub(crate) fn note_end(&self) {
+        self.watch.note_back(self.watch.by_first);
+        self.watch.note_back(self.watch.by_second);
     }
 }
 

@@ -79,6 +79,7 @@ pub(crate) const SUMMARY: Summary = Summary {
     group: Group::Games,
     about: "whether kept records are those of a game, and agree",
     example: "adjudicate audit --games east --other west --tables DIR",
+    output: "",
 };
 
 impl<'a> Audit<'a> {

@@ -40,7 +40,8 @@ pub(crate) const VALUES: [Value; 3] = [
 pub(crate) const SUMMARY: Summary = Summary {
     group: Group::Tables,
     about: "whether the tables in a folder are those of a manifest",
-    example: "adjudicate check --manifest manifest DIR",
+    example: "adjudicate check --manifest tables.txt DIR",
+    output: "",
 };
 
 impl<'a> Check<'a> {

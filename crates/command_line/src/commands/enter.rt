@@ -88,6 +88,7 @@ pub(crate) const SUMMARY: Summary = Summary {
     group: Group::Games,
     about: "enters a game in a folder, and prints its stamp; or each game of a list",
     example: "adjudicate enter --name Game1 --start \"7k/8/6K1/8/8/8/8/1Q6 w - - 0 1\" --tables DIR --games east",
+    output: "the stamp, which depends on the tables: an arbiter with other tables has another game",
 };
 
 /// The task for one game.

@@ -41,6 +41,7 @@ pub(crate) const SUMMARY: Summary = Summary {
     group: Group::Games,
     about: "each ply of the game on standard input, as its moves come",
     example: "echo b1b8 | adjudicate follow \"7k/8/6K1/8/8/8/8/1Q6 w - - 0 1\"",
+    output: "",
 };
 
 impl<'a> Follow<'a> {

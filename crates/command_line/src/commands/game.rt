@@ -41,6 +41,7 @@ pub(crate) const SUMMARY: Summary = Summary {
     group: Group::Games,
     about: "the outcome of the moves on standard input",
     example: "echo b1b8 | adjudicate game \"7k/8/6K1/8/8/8/8/1Q6 w - - 0 1\"",
+    output: "",
 };
 
 impl<'a> FollowGame<'a> {

@@ -41,6 +41,7 @@ pub(crate) const SUMMARY: Summary = Summary {
     group: Group::Games,
     about: "the outcome of each line on standard input: a start, a tab, moves",
     example: "adjudicate games --tables DIR < games",
+    output: "",
 };
 
 impl<'a> FollowGames<'a> {

@@ -99,6 +99,7 @@ pub(crate) const SUMMARY: Summary = Summary {
     group: Group::Arbiters,
     about: "an arbiter of each game of a folder, at one UDP port",
     example: "adjudicate host --games east --tables DIR --me 1 --bind 127.0.0.1:7331 --to sender,127.0.0.1:7332",
+    output: "",
 };
 
 /// The folders and the addresses.

@@ -36,6 +36,7 @@ pub(crate) const SUMMARY: Summary = Summary {
     group: Group::Positions,
     about: "the verdict of a position, or open",
     example: "adjudicate judge --tables DIR \"8/8/8/4k3/8/8/8/KN6 w - - 0 1\"",
+    output: "",
 };
 
 impl<'a> Judge<'a> {

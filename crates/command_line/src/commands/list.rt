@@ -30,7 +30,8 @@ pub(crate) const VALUES: [Value; 2] = [PROGRESS, FOLDER];
 pub(crate) const SUMMARY: Summary = Summary {
     group: Group::Tables,
     about: "the manifest of the tables in a folder",
-    example: "adjudicate list DIR > manifest",
+    example: "adjudicate list DIR > tables.txt",
+    output: "",
 };
 
 impl<'a> List<'a> {

@@ -87,6 +87,7 @@ pub(crate) const SUMMARY: Summary = Summary {
     about: "an arbiter of one game, at a UDP port",
     example: "adjudicate listen --name Game1 --start \"7k/8/6K1/8/8/8/8/1Q6 w - - 0 1\" --tables DIR --me 1 \\
       --bind 127.0.0.1:7311 --to sender,127.0.0.1:7312 --kept a.kept",
+    output: "",
 };
 
 /// The addresses and the kept file.

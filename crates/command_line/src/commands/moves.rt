@@ -37,6 +37,7 @@ pub(crate) const SUMMARY: Summary = Summary {
     group: Group::Positions,
     about: "the legal moves of a position, one a line",
     example: "adjudicate moves \"8/8/8/4k3/8/8/8/KN6 w - - 0 1\"",
+    output: "",
 };
 
 impl<'a> Moves<'a> {

@@ -214,7 +214,7 @@ pub(crate) const KEY: Value = Value {
     name: "key",
     form: Form::Option,
     word: "FILE",
-    about: "seals datagrams by the keys of this file; they are bare unless set",
+    about: "seals by the keys of FILE: 1 or 2 lines of 64 hex digits, mode 600; else bare",
     stands: Stands::Optional,
 };
 

@@ -66,6 +66,8 @@ pub(crate) const SUMMARY: Summary = Summary {
     group: Group::Games,
     about: "the first verdict of each game of a PGN file, beside its result",
     example: "adjudicate pgn --tables DIR games.pgn",
+    output: "a game: its number, its plies, ply and word of its first verdict or - open, its result, and
+    agree, differ, or - where there is nothing to compare",
 };
 
 impl<'a> JudgePgn<'a> {

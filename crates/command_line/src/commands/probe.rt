@@ -36,6 +36,7 @@ pub(crate) const SUMMARY: Summary = Summary {
     group: Group::Positions,
     about: "the WDL and DTZ values of a position",
     example: "adjudicate probe --tables DIR \"8/8/8/4k3/8/8/8/KQ6 w - - 0 1\"",
+    output: "",
 };
 
 impl<'a> Probe<'a> {

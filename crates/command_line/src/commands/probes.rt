@@ -55,6 +55,7 @@ pub(crate) const SUMMARY: Summary = Summary {
     group: Group::Positions,
     about: "the values and the verdict of each position on standard input",
     example: "adjudicate probes --tables DIR < positions",
+    output: "",
 };
 
 impl<'a> Probes<'a> {

@@ -56,6 +56,7 @@ pub(crate) const SUMMARY: Summary = Summary {
     group: Group::Games,
     about: "what a kept record says; or the record of a game in a folder",
     example: "adjudicate record --games DIR 72b21246fca973341bd3df781b702e9f",
+    output: "",
 };
 
 impl<'a> ShowRecord<'a> {

@@ -54,6 +54,7 @@ pub(crate) const SUMMARY: Summary = Summary {
     group: Group::Positions,
     about: "the legal moves of positions by their values, the best first",
     example: "adjudicate root --tables DIR \"8/8/8/4k3/8/8/8/KQ6 w - - 0 1\"",
+    output: "",
 };
 
 impl<'a> Root<'a> {

@@ -34,6 +34,7 @@ pub(crate) const SUMMARY: Summary = Summary {
     group: Group::Arbiters,
     about: "two arbiters under the schedule on standard input",
     example: "adjudicate run --tables DIR < schedule",
+    output: "",
 };
 
 impl<'a> RunSchedule<'a> {

@@ -142,6 +142,10 @@ pub(crate) const SUMMARY: Summary = Summary {
     about: "sends the moves on standard input to the arbiters of a game",
     example: "echo b1b8 | adjudicate send --game east/72b21246fca973341bd3df781b702e9f.game \\
       --to 127.0.0.1:7331,127.0.0.1:7332",
+    output: "acked N: both arbiters have recorded move N; verdict N WORD: both have this verdict after it
+  refused lost: a move was sent --tries times, and not both arbiters have answered it; on standard
+    error stands what each acknowledged last. No answer came from one that isn't there, has no such
+    game or other keys, or answers elsewhere, since its --to isn't this --bind",
 };
 
 /// The numbers.

@@ -70,6 +70,7 @@ pub(crate) const SUMMARY: Summary = Summary {
     group: Group::Positions,
     about: "pages with a board and of games, and the tablebase API of Lichess, over HTTP",
     example: "adjudicate serve --tables DIR --bind 127.0.0.1:8080 --games east",
+    output: "",
 };
 
 /// The second folder, if it is named; not without the first one.

@@ -12,6 +12,7 @@ pub(crate) const SUMMARY: Summary = Summary {
     group: Group::Arbiters,
     about: "the messages on standard input, one a line",
     example: "adjudicate show < messages",
+    output: "",
 };
 
 /// The messages of the input.

@@ -53,6 +53,9 @@ pub(crate) const SUMMARY: Summary = Summary {
     group: Group::Games,
     about: "how far the games of a folder have come, and whether two folders agree",
     example: "adjudicate status --games east --other west",
+    output: "a game: its stamp, how many moves it has, its verdict or none, its name; - none without a record
+  with --other agree: both have the same; behind N: one has N moves fewer, and no verdict;
+    differ PLY: they differ first at this ply; unopened: one has no record, and the other no move",
 };
 
 /// As which report it is shown, by whether metrics and JSON are asked for.

@@ -12,6 +12,7 @@ pub(crate) const SUMMARY: Summary = Summary {
     group: Group::Tables,
     about: "the version of this program",
     example: "adjudicate version",
+    output: "",
 };
 
 /// The program's version.

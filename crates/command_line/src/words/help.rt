@@ -227,7 +227,22 @@ fn push_values(alloc: Global, text: &mut String, values: &[Value]) -> Result<(),
     Ok(())
 }
 
-/// What help of a command says behind its name: what the command is for, its use, a row for each of its values, and an example.
+/// Adds an example, what is to know of the output, and where all of it is told.
+fn push_example(text: &mut String, name: Name) -> Result<(), AllocError> {
+    let summary = name.summary();
+    text.push_str("example:\n  ")?;
+    text.push_str(summary.example)?;
+    if !summary.output.is_empty() {
+        text.push_str("\n\noutput:\n  ")?;
+        text.push_str(summary.output)?;
+    }
+    text.push_str("\n\nman adjudicate-")?;
+    text.push_str(name.word())?;
+    text.push_str(" has each line and refusal\n")
+}
+
+/// What help of a command says behind its name: what the command is for, its use, a row for each of its values, an example, and what is to
+/// know of its output.
 pub(crate) fn use_of(alloc: Global, name: Name) -> Result<String, AllocError> {
     let summary = name.summary();
     let mut text = String::from_str(alloc, summary.about)?;
@@ -247,9 +262,7 @@ pub(crate) fn use_of(alloc: Global, name: Name) -> Result<String, AllocError> {
         push_values(alloc, &mut text, name.shown())?;
         text.push_str("\n")?;
     }
-    text.push_str("example:\n  ")?;
-    text.push_str(summary.example)?;
-    text.push_str("\n")?;
+    push_example(&mut text, name)?;
     Ok(text)
 }
 
