@@ -6,3 +6,8 @@ pub mod RunLaws
 pub mod LookLaws
 pub mod ReplyLaws
 pub mod ListLaws
+pub mod KeepLaws
+pub mod StoreLaws
+pub mod StampLaws
+pub mod EntryLaws
+pub mod EnterLaws

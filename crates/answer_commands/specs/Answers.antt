@@ -5,6 +5,7 @@ use Rattle.command_line.specs.declared.commands.Task.TheVariants as task
 use Rattle.timeline.specs.Events.{Event}
 use Rattle.timeline.specs.Outsides.{AddsSome, Outside}
 use Rattle.answer_commands.specs.Check.{check_reply}
+use Rattle.answer_commands.specs.Enter.{EntersGames}
 use Rattle.answer_commands.specs.Listing.{list_reply}
 use Rattle.answer_commands.specs.Moves.{PrintsMoves}
 use Rattle.answer_commands.specs.Printing.{Ends}
@@ -26,6 +27,7 @@ answered_once (task.Record t) = Some (answer.Record t)
 answered_once (task.Audit t) = Some (answer.Audit t)
 answered_once (task.List t) = Some (answer.List t)
 answered_once (task.Check t) = Some (answer.Check t)
+answered_once (task.Enter t) = Some (answer.Enter t)
 answered_once _ = None
 
 -- a task is one of these, or it isn't
@@ -43,6 +45,7 @@ Does o (answer.Record t) events status = RepliesTo (replying_by o (record_asking
 Does o (answer.Audit t) events status = RepliesTo (replying_by o (audit_asking t)) events status
 Does o (answer.List t) events status = RepliesTo (list_reply o.disk t) events status
 Does o (answer.Check t) events status = RepliesTo (check_reply o.disk t) events status
+Does o (answer.Enter t) events status = EntersGames o t events status
 
 -- THE CONTRACT OF THE COMMANDS: the task, all that is known outside, what happened before and after, and the status
 abbrev pub Answers : {T P F K S L : Type 0} → AnswerTask → Outside T P F K S L → T → T → ℕ → Type 0

@@ -8,5 +8,11 @@ pub mod Replies
 pub mod Records
 pub mod Listing
 pub mod Check
+pub mod Stamping
+pub mod StoreReads
+pub mod Earlier
+pub mod Keeping
+pub mod Entries
+pub mod Enter
 pub mod Answers
 pub mod Inside

@@ -6,6 +6,7 @@ ghost use Rattle.answer_commands.specs.Printing.{OutputFails, Performs};
 ghost use Rattle.timeline.specs.Outsides.{AddsSome};
 
 use crate::check::print_check;
+use crate::entering::enter_games;
 use crate::list::print_manifest;
 use crate::moves::print_moves;
 use crate::printing::end;
@@ -13,7 +14,7 @@ use crate::replying::reply_to;
 use crate::run::run_schedule;
 use crate::show::show_input;
 use crate::version::print_version;
-use command_line::{Audit, Check, List, Moves, RunSchedule, ShowRecord, Task};
+use command_line::{Audit, Check, Enter, List, Moves, RunSchedule, ShowRecord, Task};
 use std::alloc::Global;
 use system_io::WriteFault;
 use timeline::System;
@@ -37,6 +38,8 @@ pub enum AnswerTask<'a> {
     List(List<'a>),
     /// Whether the tables in a folder are those of a manifest.
     Check(Check<'a>),
+    /// Games that are entered in a folder.
+    Enter(Enter<'a>),
 }
 
 impl<'a> AnswerTask<'a> {
@@ -53,6 +56,7 @@ impl<'a> AnswerTask<'a> {
             Task::Audit(audit) => Ok(AnswerTask::Audit(audit)),
             Task::List(list) => Ok(AnswerTask::List(list)),
             Task::Check(check) => Ok(AnswerTask::Check(check)),
+            Task::Enter(enter) => Ok(AnswerTask::Enter(enter)),
             other => Err(other),
         }
     }
@@ -77,6 +81,7 @@ fn answer_task<S: System>(
         AnswerTask::Audit(task) => reply_to(alloc, task, system, timeline),
         AnswerTask::List(task) => print_manifest(alloc, task, system, timeline),
         AnswerTask::Check(task) => print_check(alloc, task, system, timeline),
+        AnswerTask::Enter(task) => enter_games(alloc, task, system, timeline),
     }
 }
 
@@ -84,7 +89,9 @@ fn answer_task<S: System>(
 ///
 /// What the task names is read first, each thing once: for `run` the files of its folder, in rising order of names, and then the input, to
 /// its end; for `show` the input; for `record` a kept file; for `audit` the manifest, the files of its folder and the kept files; for
-/// `check` the manifest, and then, as for `list`, the files of its folder one by one, of which one is held at a time; for the others nothing.
+/// `check` the manifest, and then, as for `list`, the files of its folder one by one, of which one is held at a time; for `enter` the list, where
+/// there is one, and then the manifest or, as for `list`, the files of the folder of tables; for the others nothing. `enter` then keeps each
+/// game, and tells it, before the next one.
 /// With `--progress` of these two a line goes to standard error after each hundred million bytes. What can't be read is `refused files`; where memory is refused the line is
 /// `refused memory`. Then the lines of the answer are written, and at last all that was written goes out. Nothing else happens outside.
 pub fn answer<S: System>(

@@ -1,1 +1,2 @@
 pub mod KeepLaws
+pub mod StoreLaws

@@ -3,7 +3,7 @@ use Rattle.std.proofs.Common.{◌≡◌, ◌∙◌, ◌∷◌, ◌++◌, ◌+◌
 use Rattle.std.specs.Global.{Global}
 use Rattle.std.specs.List.{Contains}
 use Rattle.std.specs.Prelude.{Result, Ok, Err, IfErr, IfOk, IsErrOf, Vec, String, map, string_bytes}
-use Rattle.game_status.specs.StoreReadings.{HasHalfStore, log_name, store_name}
+use Rattle.enter_try.specs.StoreReadings.{HasHalfStore, log_name, store_name}
 use Rattle.system_io.specs.Disks.{AtFile, AtFolder, most_bytes}
 use Rattle.system_io.specs.Records.{Records}
 use Rattle.system_io.specs.declared.reading.ReadFault.{ReadFault}

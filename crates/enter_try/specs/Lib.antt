@@ -1,1 +1,5 @@
+pub mod StoreReadings
+pub mod StoreReads
+pub mod Earlier
 pub mod Keeping
+pub mod Inside

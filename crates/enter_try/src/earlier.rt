@@ -33,7 +33,7 @@ fn found_in<'a>(entries: &'a [Entry], stamp: Stamp) -> Option<&'a [u8]>
 fn has_stamp(bytes: &[u8], stamp: Stamp) -> bool
     ensures { IsTrue result ↔ (take 16 (drop 3 bytes.now) ≡ stamp) }
 {
-    bytes.len() >= 19 && bytes[3..19] == stamp.0
+    bytes.len() >= 19 && bytes[3..19] == stamp.0[..]
 }
 
 /// How many moves the record of a game has that these bytes spell. It takes no memory.

@@ -1,4 +1,7 @@
 //! Scratch.
 #![tactic(auto)]
 
+mod earlier;
+mod game_status_stub;
 mod keeping;
+mod store_reading;
