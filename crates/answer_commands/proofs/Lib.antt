@@ -8,6 +8,7 @@ pub mod ReplyLaws
 pub mod ListLaws
 pub mod KeepLaws
 pub mod StoreLaws
+pub mod EarlierLaws
 pub mod StampLaws
 pub mod EntryLaws
 pub mod EnterLaws
