@@ -169,13 +169,13 @@ module _ {T P F K S L : Type 0} (o : Outside T P F K S L) (p : Place) where
   entered_none a all = ([], adds_none o a, record { goes = begins all; room = omega arith })
 
   one_more : (all rest tail line : List ℕ) (before : ℕ) (known after : Known) (done : Bool) (t : LineTold) (events entering : List Event) → EnteredSoFar o p all rest before known done events → lines_in rest ≡ line ∷ lines_in tail → TellsOf o p (before + 1) line known after t false entering
-      → (others : Option Bool) (later : List Event) → EntersLines o p (before + 1 + 1) (lines_in tail) after others later → EntersLines o p 1 (lines_in all) Unasked (option_map (λ d. (done && t.done) && d) others) ((events ++ entering ++ printed (t.words ∷ [])) ++ later)
+      → (others : Option Bool) (later : List Event) → EntersLines o p (before + 1 + 1) (lines_in tail) after others later → EntersLines o p 1 (lines_in all) Unasked (option_map (λ d. (done && t.done) && d) others) ((events ++ (entering ++ printed (t.words ∷ []))) ++ later)
   one_more all rest tail line before known after done t events entering h cut tells others later k =
       let line_events : List Event = printed (t.words ∷ []) in
-      let next : EntersLines o p (before + 1) (line ∷ lines_in tail) known (option_map (λ d. t.done && d) others) (entering ++ line_events ++ later) = GoesOn t after others entering later tells k refl refl in
-      let whole = h.goes (option_map (λ d. t.done && d) others) (entering ++ line_events ++ later) (subst (λ (ls : List (List ℕ)). EntersLines o p (before + 1) ls known (option_map (λ d. t.done && d) others) (entering ++ line_events ++ later)) (sym cut) next) in
-      let apart : (events ++ entering ++ line_events) ++ later ≡ events ++ entering ++ line_events ++ later = append_assoc events (entering ++ line_events) later ∙ ap (λ (e : List Event). events ++ e) (append_assoc entering line_events later) in
-      subst (λ (d : Option Bool). EntersLines o p 1 (lines_in all) Unasked d ((events ++ entering ++ line_events) ++ later)) (both_done done t.done others)
+      let next : EntersLines o p (before + 1) (line ∷ lines_in tail) known (option_map (λ d. t.done && d) others) (entering ++ (line_events ++ later)) = GoesOn t after others entering later tells k refl refl in
+      let whole = h.goes (option_map (λ d. t.done && d) others) (entering ++ (line_events ++ later)) (subst (λ (ls : List (List ℕ)). EntersLines o p (before + 1) ls known (option_map (λ d. t.done && d) others) (entering ++ (line_events ++ later))) (sym cut) next) in
+      let apart : (events ++ (entering ++ line_events)) ++ later ≡ events ++ (entering ++ (line_events ++ later)) = append_assoc events (entering ++ line_events) later ∙ ap (λ (e : List Event). events ++ e) (append_assoc entering line_events later) in
+      subst (λ (d : Option Bool). EntersLines o p 1 (lines_in all) Unasked d ((events ++ (entering ++ line_events)) ++ later)) (both_done done t.done others)
       (subst (λ (e : List Event). EntersLines o p 1 (lines_in all) Unasked (option_map (λ d. done && d) (option_map (λ d. t.done && d) others)) e) (sym apart) whole)
 
   -- one line more
@@ -199,7 +199,7 @@ module _ {T P F K S L : Type 0} (o : Outside T P F K S L) (p : Place) where
 
   -- the last one that is told, for which memory was refused
   last_one : (all rest tail line : List ℕ) (before : ℕ) (known after : Known) (done : Bool) (t : LineTold) (events entering : List Event) → EnteredSoFar o p all rest before known done events → lines_in rest ≡ line ∷ lines_in tail → TellsOf o p (before + 1) line known after t true entering
-      → EntersLines o p 1 (lines_in all) Unasked (Some (done && false)) (events ++ entering ++ printed (t.words ∷ []))
+      → EntersLines o p 1 (lines_in all) Unasked (Some (done && false)) (events ++ (entering ++ printed (t.words ∷ [])))
   last_one all rest tail line before known after done t events entering h cut tells =
       h.goes (Some false) (entering ++ printed (t.words ∷ [])) (subst (λ (ls : List (List ℕ)). EntersLines o p (before + 1) ls known (Some false) (entering ++ printed (t.words ∷ []))) (sym cut) (Stops t after entering tells refl refl))
 
@@ -217,7 +217,7 @@ module _ {T P F K S L : Type 0} (o : Outside T P F K S L) (p : Place) where
 
   -- the first ones, up to one that was told
   first_ones : (all rest tail line : List ℕ) (before : ℕ) (known after : Known) (done : Bool) (t : LineTold) (is_last : Bool) (events entering : List Event) → EnteredSoFar o p all rest before known done events → lines_in rest ≡ line ∷ lines_in tail → TellsOf o p (before + 1) line known after t is_last entering
-      → (status : Option ℕ) × EntersAll o p (lines_in all) (events ++ entering ++ printed (t.words ∷ [])) status
+      → (status : Option ℕ) × EntersAll o p (lines_in all) (events ++ (entering ++ printed (t.words ∷ []))) status
   first_ones all rest tail line before known after done t true events entering h cut tells =
       (Some (status_if (done && false)), (Some (done && false), last_one all rest tail line before known after done t events entering h cut tells, refl))
   first_ones all rest tail line before known after done t false events entering h cut tells =
@@ -229,4 +229,4 @@ module _ {T P F K S L : Type 0} (o : Outside T P F K S L) (p : Place) where
       → AddsSome o b c (EntersNext o p (before + 1) line known after (Err fault)) → AddsSome o a c (Performs (EntersAll o p (lines_in all)) (Err fault))
   entered_front a b c all rest tail line before known after done fault h cut (events, q, (t, is_last, entering, tells, front)) =
       let first = first_ones all rest tail line before known after done t is_last h.0 entering h.2 cut tells in
-      (h.0 ++ events, adds_more o a b c h.0 events h.1 q, (h.0 ++ entering ++ printed (t.words ∷ []), first.0, first.1, cut_behind h.0 (entering ++ printed (t.words ∷ [])) events front))
+      (h.0 ++ events, adds_more o a b c h.0 events h.1 q, (h.0 ++ (entering ++ printed (t.words ∷ [])), first.0, first.1, cut_behind h.0 (entering ++ printed (t.words ∷ [])) events front))

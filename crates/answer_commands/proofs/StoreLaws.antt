@@ -116,7 +116,7 @@ module _ {T P F K S L : Type 0} (o : Outside T P F K S L) where
 
   pub no_store : (a b c d : T) (folder : List ℕ) (names : List (List ℕ)) → AddsSome o a b (ListsFolder o.disk folder (Ok names)) → AddsSome o b c (ReadsStore o (store_of folder) names (Err Unreadable)) → Adds o c d (Noted (unread_words folder) ∷ []) → AddsSome o a d (Asks o folder Unread)
   no_store a b c d folder names p q note = (
-    p.0 ++ q.0 ++ Noted (unread_words folder) ∷ [],
+    p.0 ++ (q.0 ++ Noted (unread_words folder) ∷ []),
     adds_more o a b d p.0 (q.0 ++ Noted (unread_words folder) ∷ []) p.1 (adds_more o b c d q.0 (Noted (unread_words folder) ∷ []) q.1 note),
     NoStore names p.0 q.0 p.2 q.2 refl refl,
   )

@@ -125,7 +125,7 @@ pub data TellsOf {T P F K S L : Type 0} (o : Outside T P F K S L) (p : Place) (n
 -- The line with this number is entered and told, and then the rest is done; or memory is refused for it, which is told, and nothing more is
 -- done; or these are the first events alone, and it comes later.
 pub data EntersLine {T P F K S L : Type 0} (o : Outside T P F K S L) (p : Place) (number : ℕ) (line : List ℕ) (known : Known) (Rest : Known → Option Bool → List Event → Type 0) (done : Option Bool) (events : List Event) : Type 0 where
-  GoesOn : (t : LineTold) (after : Known) (others : Option Bool) (entering rest : List Event) → TellsOf o p number line known after t false entering → Rest after others rest → done ≡ option_map (λ d. t.done && d) others → events ≡ entering ++ printed (t.words ∷ []) ++ rest → EntersLine o p number line known Rest done events
+  GoesOn : (t : LineTold) (after : Known) (others : Option Bool) (entering rest : List Event) → TellsOf o p number line known after t false entering → Rest after others rest → done ≡ option_map (λ d. t.done && d) others → events ≡ entering ++ (printed (t.words ∷ []) ++ rest) → EntersLine o p number line known Rest done events
   Stops : (t : LineTold) (after : Known) (entering : List Event) → TellsOf o p number line known after t true entering → done ≡ Some false → events ≡ entering ++ printed (t.words ∷ []) → EntersLine o p number line known Rest done events
   Pauses : done ≡ None → events ≡ [] → EntersLine o p number line known Rest done events
 

@@ -123,11 +123,13 @@ fn earlier_line(stamp: Stamp, count: Option<u32>) -> ArrayString<128>
 {
     let mut line = ArrayString::new();
     line.push_str(stamp_text(stamp).as_str());
-    line.push_str(" was there before");
-    if let Some(count) = count {
-        line.push_str(", with ");
-        line.push_str(Buffer::new().format(count));
-        line.push_str(" moves");
+    match count {
+        Some(count) => {
+            line.push_str(" was there before, with ");
+            line.push_str(Buffer::new().format(count));
+            line.push_str(" moves");
+        }
+        None => line.push_str(" was there before"),
     }
     line
 }

@@ -1,2 +1,4 @@
+pub mod StubNames
 pub mod KeepLaws
 pub mod StoreLaws
+pub mod EarlierLaws

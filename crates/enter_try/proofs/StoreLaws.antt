@@ -3,7 +3,7 @@ use Rattle.std.proofs.Common.{◌≡◌, ◌∙◌, ◌∷◌, ◌++◌, ◌+◌
 use Rattle.std.specs.Global.{Global}
 use Rattle.std.specs.List.{Contains}
 use Rattle.std.specs.Prelude.{Result, Ok, Err, IfErr, IfOk, IsErrOf, Vec, String, map, string_bytes}
-use Rattle.enter_try.specs.StoreReadings.{HasHalfStore, log_name, store_name}
+use Rattle.enter_try.specs.StoreReadings.{HasHalfStore, log_name, path_in, store_name}
 use Rattle.system_io.specs.Disks.{AtFile, AtFolder, most_bytes}
 use Rattle.system_io.specs.Records.{Records}
 use Rattle.system_io.specs.declared.reading.ReadFault.{ReadFault}
@@ -14,6 +14,13 @@ use Rattle.timeline.proofs.EventLaws.{adds_more, adds_none}
 use Rattle.timeline.specs.Events.{Event, FileRead, FolderListed, Noted, bytes_read, names_read}
 use Rattle.timeline.specs.Outsides.{Adds, AddsSome, Outside}
 use Rattle.enter_try.specs.StoreReads.{Asked, Asks, AtNoMoment, AtOneMoment, FolderIs, FolderIsNot, HoldsRecords, Known, ListsFolder, LogListed, MissesMoment, NoFolder, NoLog, NoRoomForPaths, NoRoomToRead, NoStore, NotBoth, OfWhole, Read, ReadsBoth, ReadsListed, ReadsLog, ReadsOnce, ReadsRecords, ReadsStore, ReadsStoreBytes, StoreBytes, StoreFolder, Unread, at_one_moment, most_tries, store_of, unread_words}
+
+-- where the store of a folder is
+abbrev folder_at : List ℕ → List ℕ → List ℕ → StoreFolder
+folder_at folder db log = record { folder = folder; db = db; log = log }
+
+pub store_at : (folder db log : List ℕ) → db ≡ path_in folder store_name → log ≡ path_in folder log_name → folder_at folder db log ≡ store_of folder
+store_at folder db log p q = ap (λ (x : List ℕ). folder_at folder x log) p ∙ ap (λ (x : List ℕ). folder_at folder (path_in folder store_name) x) q
 
 module _ {T P F K S L : Type 0} (o : Outside T P F K S L) where
   pub text_read : (a b : T) (path : List ℕ) (r : Result (Vec ℕ Global) ReadFault) → IfOk r (λ bytes. o.disk.holds path bytes.items) → IfOk r (λ bytes. length bytes.items ≤ most_bytes) → (IsErrOf r Unreadable → o.disk.fails (AtFile path)) → Adds o a b (FileRead path (bytes_read r) ∷ [])
@@ -109,7 +116,7 @@ module _ {T P F K S L : Type 0} (o : Outside T P F K S L) where
 
   pub no_store : (a b c d : T) (folder : List ℕ) (names : List (List ℕ)) → AddsSome o a b (ListsFolder o.disk folder (Ok names)) → AddsSome o b c (ReadsStore o (store_of folder) names (Err Unreadable)) → Adds o c d (Noted (unread_words folder) ∷ []) → AddsSome o a d (Asks o folder Unread)
   no_store a b c d folder names p q note = (
-    p.0 ++ q.0 ++ Noted (unread_words folder) ∷ [],
+    p.0 ++ (q.0 ++ Noted (unread_words folder) ∷ []),
     adds_more o a b d p.0 (q.0 ++ Noted (unread_words folder) ∷ []) p.1 (adds_more o b c d q.0 (Noted (unread_words folder) ∷ []) q.1 note),
     NoStore names p.0 q.0 p.2 q.2 refl refl,
   )

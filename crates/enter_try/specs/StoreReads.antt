@@ -102,7 +102,7 @@ unread_words folder = folder ++ codes "/games.db can't be read: no store of game
 pub data Asks {T P F K S L : Type 0} (o : Outside T P F K S L) (folder : List ℕ) (after : Known) (events : List Event) : Type 0 where
   Asked : (names : List (List ℕ)) (records : Records) (listing reading : List Event) → ListsFolder o.disk folder (Ok names) listing → ReadsStore o (store_of folder) names (Ok records) reading → after ≡ Read records → events ≡ listing ++ reading → Asks o folder after events
   NoFolder : (fault : ReadFault) → ListsFolder o.disk folder (Err fault) events → after ≡ Unread → Asks o folder after events
-  NoStore : (names : List (List ℕ)) (listing reading : List Event) → ListsFolder o.disk folder (Ok names) listing → ReadsStore o (store_of folder) names (Err Unreadable) reading → after ≡ Unread → events ≡ listing ++ reading ++ Noted (unread_words folder) ∷ [] → Asks o folder after events
+  NoStore : (names : List (List ℕ)) (listing reading : List Event) → ListsFolder o.disk folder (Ok names) listing → ReadsStore o (store_of folder) names (Err Unreadable) reading → after ≡ Unread → events ≡ listing ++ (reading ++ Noted (unread_words folder) ∷ []) → Asks o folder after events
   NoRoomToRead : (names : List (List ℕ)) (listing reading : List Event) → ListsFolder o.disk folder (Ok names) listing → ReadsStore o (store_of folder) names (Err OutOfMemory) reading → after ≡ Unread → events ≡ listing ++ reading → Asks o folder after events
   NoRoomForPaths : after ≡ Unread → events ≡ [] → Asks o folder after events
 

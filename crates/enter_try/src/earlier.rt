@@ -40,12 +40,13 @@ fn has_stamp(bytes: &[u8], stamp: Stamp) -> bool
 fn moves_in(bytes: &[u8], stamp: Stamp) -> Option<u32>
     ensures { CountsMoves stamp bytes.now result }
 {
-    if !has_stamp(bytes, stamp) {
-        return None;
-    }
-    match Record::summary(bytes) {
-        Some((count, _code)) => Some(count),
-        None => None,
+    if has_stamp(bytes, stamp) {
+        match Record::summary(bytes) {
+            Some((count, _code)) => Some(count),
+            None => None,
+        }
+    } else {
+        None
     }
 }
 
@@ -100,11 +101,19 @@ fn count_moves<S: System>(
 }
 
 /// A stamp in lower-case hexadecimal digits.
-fn stamp_digits(stamp: Stamp) -> ArrayString<32>
-    ensures { result.bytes ≡ encode_lower stamp }
+fn digits_of(stamp: Stamp) -> [u8; 32]
+    ensures { result ≡ encode_lower stamp }
 {
     let mut digits = [0; 32];
     hex::encode_to_slice(stamp.as_bytes(), &mut digits).unwrap();
+    digits
+}
+
+/// A stamp in lower-case hexadecimal digits, as a text.
+fn stamp_text(stamp: Stamp) -> ArrayString<32>
+    ensures { result.bytes ≡ encode_lower stamp }
+{
+    let digits = digits_of(stamp);
     ArrayString::from_byte_string(&digits).unwrap()
 }
 
@@ -113,12 +122,14 @@ fn earlier_line(stamp: Stamp, count: Option<u32>) -> ArrayString<128>
     ensures { result.bytes ≡ earlier_words stamp count }
 {
     let mut line = ArrayString::new();
-    line.push_str(stamp_digits(stamp).as_str());
-    line.push_str(" was there before");
-    if let Some(count) = count {
-        line.push_str(", with ");
-        line.push_str(Buffer::new().format(count));
-        line.push_str(" moves");
+    line.push_str(stamp_text(stamp).as_str());
+    match count {
+        Some(count) => {
+            line.push_str(" was there before, with ");
+            line.push_str(Buffer::new().format(count));
+            line.push_str(" moves");
+        }
+        None => line.push_str(" was there before"),
     }
     line
 }

@@ -5,4 +5,4 @@ use Rattle.timeline.specs.Events.{bytes_found}
 use Rattle.enter_try.proofs.earlier.found_in.Given as goal
 
 abbrev pub invariant-loop-entry : goal.invariant-loop-entry
-invariant-loop-entry l = bytes_found l.found ≡ option_map (λ r. r.bytes) (records_of (take l.entry-index l.entries) l.stamp)
+invariant-loop-entry l = bytes_found l.found ≡ option_map (λ r. r.bytes) (records_of (take l.entry-index l.entries) l.fn.stamp)
