@@ -11,31 +11,24 @@ use Rattle.arbiter_core.specs.Setups.{SetupView}
 use Rattle.board_core.specs.declared.parts.Parts.{Parts}
 use Rattle.move_msg.specs.declared.stamp.Stamp.{Stamp}
 use Rattle.arbiter_server.specs.GameFolders.{kept_path}
-use Rattle.move_msg.specs.TextLines.{lines_in}
 use Rattle.arbiter_server.specs.Games.{CommonView}
 use Rattle.source_core.specs.declared.lines.Ended.{Ended}
 use Rattle.task_files.specs.Given.{Given}
 use Rattle.game_status.specs.StoreReadings.{store_path}
 use Rattle.serve_commands.specs.Hostings as hosting
-use Rattle.serve_commands.specs.Enters.{BadStart, Entered, Enters, EntersAs, EntersList, Listed, NoList, NoManifest, NoRoom, NoRoomForList, NoRoomForManifest, OfList, Unstamped, entered, place}
 use Rattle.serve_commands.specs.Outsides.{Outside}
 use Rattle.command_line.specs.Addresses.{addresses_of}
 use Rattle.serve_commands.specs.Listens as listening
 use Rattle.serve_commands.specs.Locks.{kept_lock}
 use Rattle.adjudicate_core.specs.Makes.{IsFrontOfMade, IsMadeBy, IsRecordIn, MakesFor, before_games, of_listen, of_send, AreWithGames, of_store}
-use Rattle.serve_commands.specs.Makes.{IsGameIn, IsOfEntries}
 use Rattle.serve_commands.specs.Sends as sending
 use Rattle.command_line.specs.declared.commands.Task.{Task}
 use Rattle.command_line.specs.declared.commands.Task.TheVariants as task
-use Rattle.command_line.specs.declared.commands.enter.Enter.{Enter}
-use Rattle.command_line.specs.declared.commands.enter.Entries.{Entries}
-use Rattle.command_line.specs.declared.commands.enter.Entries.TheVariants.{From, One}
 use Rattle.command_line.specs.declared.commands.host.HostGames.{HostGames}
 use Rattle.command_line.specs.declared.words.numbers.StoreForm.{StoreForm}
 use Rattle.command_line.specs.declared.words.numbers.StoreForm.TheVariants as form
 use Rattle.command_line.specs.declared.commands.listen.Listen.{Listen}
 use Rattle.command_line.specs.declared.commands.send.Send.{Send}
-use Rattle.serve_commands.proofs.MakeLaws.{none_entered, puts_makes, put_makes}
 
 nothing_by : (t : Task) → IsMadeBy t []
 nothing_by (task.Judge t) = refl
@@ -56,7 +49,7 @@ nothing_by (task.Audit t) = refl
 nothing_by (task.AuditGames t) = refl
 nothing_by (task.Version t) = refl
 nothing_by (task.Send t) = (of_send t, refl)
-nothing_by (task.Enter t) = none_entered t.games.now t.entries
+nothing_by (task.Enter t) = refl
 nothing_by (task.Host h) = inl (before_games h, refl)
 nothing_by (task.Root t) = refl
 nothing_by (task.Follow t) = refl
@@ -204,21 +197,3 @@ module _ {P F S T : Type 0} (p : hosting.HostOutside P F S) (seen : hosting.File
   host_makes given had old new (hosting.Clashing made set tables names lists clash told) = hosts_none h.store h _ had has made
   host_makes given had old new (hosting.NoRoom made told) = hosts_none h.store h _ had has made
   host_makes given had old new (hosting.Hosting set tables cache names lists apart manifest is run) = lock_hosts (hosting.common_for h set manifest) had old new run
-
-module _ {P F : Type 0} (out : Outside P F) (t : Enter) (old new : Option (List ℕ)) (r : Result ℕ WriteFault) where
-  list_makes : (text : List ℕ) → EntersList out t text old new r → (more : List Made) × Passes out.had out.has more × AllByRecursion (IsGameIn t.games.now) more
-  list_makes text (Unstamped made words lacks told) = ([], made, tt)
-  list_makes text (NoRoomForManifest made told) = ([], made, tt)
-  list_makes text (Listed manifest is puts) = puts_makes (place out.host t.games.now manifest t.is_new) (lines_in text) out.had out.has old new r puts
-
-  as_makes : (e : Entries) → EntersAs out t e old new r → (more : List Made) × Passes out.had out.has more × IsOfEntries t.games.now e more
-  as_makes (One g) (BadStart made fault first told) = ([], made, inl refl)
-  as_makes (One g) (NoManifest made text words lacks told) = ([], made, inl refl)
-  as_makes (One g) (NoRoom made text told) = ([], made, inl refl)
-  as_makes (One g) (Entered start spells legal manifest is puts) = put_makes (place out.host t.games.now manifest t.is_new) g (entered g start) out.had out.has old new r puts
-  as_makes (From path) (NoList made lacks told) = ([], made, tt)
-  as_makes (From path) (NoRoomForList made told) = ([], made, tt)
-  as_makes (From path) (OfList text is h) = list_makes text h
-
-  pub enter_makes : Enters out t old new r → MakesFor (task.Enter t) out.had out.has
-  enter_makes h = as_makes t.entries h

@@ -15,7 +15,6 @@ use Rattle.command_line.specs.declared.words.numbers.StoreForm.{StoreForm}
 use Rattle.command_line.specs.declared.words.numbers.StoreForm.TheVariants as form
 use Rattle.command_line.specs.declared.commands.listen.Listen.{Listen}
 use Rattle.command_line.specs.declared.commands.send.Send.{Send}
-use Rattle.serve_commands.specs.Makes.{IsOfEntries}
 
 -- the first of these, in their order, and nothing else
 abbrev pub IsFrontOfMade : List Made → List Made → Type 0
@@ -67,7 +66,7 @@ IsMadeBy (task.Audit t) more = more ≡ []
 IsMadeBy (task.AuditGames t) more = more ≡ []
 IsMadeBy (task.Version t) more = more ≡ []
 IsMadeBy (task.Send t) more = IsFrontOfMade (of_send t) more
-IsMadeBy (task.Enter t) more = IsOfEntries t.games.now t.entries more
+IsMadeBy (task.Enter t) more = more ≡ []
 IsMadeBy (task.Host h) more = IsOfHost h more
 IsMadeBy (task.Root t) more = more ≡ []
 IsMadeBy (task.Follow t) more = more ≡ []

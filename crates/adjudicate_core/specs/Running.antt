@@ -16,7 +16,6 @@ use Rattle.serve_commands.specs.Outsides.{OutsideWithStores, outside, hosting_pl
 use Rattle.serve_commands.specs.Sends.{SendsGame}
 use Rattle.source_core.specs.declared.lines.Ended.{Ended}
 use Rattle.source_core.specs.Lines.{ended_status}
-use Rattle.serve_commands.specs.Enters.{Enters}
 use Rattle.serve_commands.specs.Hostings.{HostsGames, written}
 use Rattle.task_files.specs.Sources.{CannotRead, IsGiven, TakesMemory}
 use Rattle.table_commands.specs.Game as games
@@ -56,7 +55,6 @@ AnswersFrom m Told (task.Pgn t) given old new r = of_pgn.Puts m.outside.disk m.o
 AnswersFrom m Told (task.GameRecord t) given old new r = game_records.Puts m.outside.disk m.stores t old new r
 AnswersFrom m Told (task.AuditGames t) given old new r = game_audits.Puts m.outside.disk m.stores t given old new r
 AnswersFrom m Told (task.Send t) given old new r = (e : Result Ended WriteFault) × (r ≡ status_ended e) × IfOk e Told × SendsGame m.outside t old new e
-AnswersFrom m Told (task.Enter t) given old new r = Enters m.outside t old new r
 AnswersFrom m Told (task.Host t) given old new r = HostsGames (hosting_places m) (written (hosting_places m) t.games.now) t given m.outside.had m.outside.has old new r
 AnswersFrom m Told (task.Root t) given old new r = roots.Puts m.outside.disk m.outside.source t given old new r
 AnswersFrom m Told (task.Follow t) given old new r = follows.Puts m.outside.disk m.outside.source t given old new r

@@ -18,7 +18,7 @@ use answer_parts::{Refusal, keys_at, put_answered, put_refusal};
 use command_line::{Misuse, Task, tell_misuse};
 use record_commands::{audit_games, game_record};
 use sealed_port::Keyed;
-use serve_commands::{System as Parts, enter, host_games, listen, send, status, tell_silence};
+use serve_commands::{System as Parts, host_games, listen, send, status, tell_silence};
 use serve_core::{Pages, serve};
 use std::alloc::Global;
 use system_io::{Host, Input, LineDisk, Output, ReadFault, WriteFault};
@@ -93,9 +93,9 @@ fn answer_given<'s, D: LineDisk, I: Input, H: Host, G: Pages, W: Output, E: Outp
         | Task::List(_)
         | Task::Check(_)
         | Task::Judge(_)
-        | Task::Probe(_) => unreachable!(),
+        | Task::Probe(_)
+        | Task::Enter(_) => unreachable!(),
         Task::Send(task) => tell_silence(err, send(alloc, task, system, history, out)),
-        Task::Enter(task) => enter(alloc, task, system, history, out),
         Task::Host(task) => host_games(alloc, task, sources, system, history, out),
         Task::Root(task) => root::answer(alloc, task, sources, system.disk, system.input, out, err),
         Task::Follow(task) => follow::answer(alloc, task, sources, system.disk, system.input, out),

@@ -6,3 +6,9 @@ pub mod RunLaws
 pub mod LookLaws
 pub mod ReplyLaws
 pub mod ListLaws
+pub mod KeepLaws
+pub mod StoreLaws
+pub mod EarlierLaws
+pub mod StampLaws
+pub mod EntryLaws
+pub mod EnterLaws

@@ -5,6 +5,7 @@ use Rattle.command_line.specs.declared.commands.Task.TheVariants as task
 use Rattle.timeline.specs.Events.{Event}
 use Rattle.timeline.specs.Outsides.{AddsSome, Outside}
 use Rattle.answer_commands.specs.Check.{check_reply}
+use Rattle.answer_commands.specs.Enter.{EntersGames}
 use Rattle.answer_commands.specs.Listing.{list_reply}
 use Rattle.answer_commands.specs.Moves.{PrintsMoves}
 use Rattle.answer_commands.specs.Printing.{Ends}
@@ -29,6 +30,7 @@ answered_once (task.List t) = Some (answer.List t)
 answered_once (task.Check t) = Some (answer.Check t)
 answered_once (task.Judge t) = Some (answer.Judge t)
 answered_once (task.Probe t) = Some (answer.Probe t)
+answered_once (task.Enter t) = Some (answer.Enter t)
 answered_once _ = None
 
 -- a task is one of these, or it isn't
@@ -48,6 +50,7 @@ Does o (answer.List t) events status = RepliesTo (list_reply o.disk t) events st
 Does o (answer.Check t) events status = RepliesTo (check_reply o.disk t) events status
 Does o (answer.Judge t) events status = RepliesTo (making_by o (judge_making t)) events status
 Does o (answer.Probe t) events status = RepliesTo (making_by o (probe_making t)) events status
+Does o (answer.Enter t) events status = EntersGames o t events status
 
 -- THE CONTRACT OF THE COMMANDS: the task, all that is known outside, what happened before and after, and the status
 abbrev pub Answers : {T P F K S L : Type 0} → AnswerTask → Outside T P F K S L → T → T → ℕ → Type 0

@@ -5,3 +5,5 @@ pub mod Streaming
 pub mod Running
 pub mod Replying
 pub mod Looking
+pub mod StoreReading
+pub mod Entering

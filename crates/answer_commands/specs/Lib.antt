@@ -9,5 +9,11 @@ pub mod Records
 pub mod TableReplies
 pub mod Listing
 pub mod Check
+pub mod Stamping
+pub mod StoreReads
+pub mod Earlier
+pub mod Keeping
+pub mod Entries
+pub mod Enter
 pub mod Answers
 pub mod Inside

@@ -6,6 +6,7 @@ ghost use Rattle.answer_commands.specs.Printing.{OutputFails, Performs};
 ghost use Rattle.timeline.specs.Outsides.{AddsSome};
 
 use crate::check::print_check;
+use crate::entering::enter_games;
 use crate::list::print_manifest;
 use crate::moves::print_moves;
 use crate::printing::end;
@@ -13,7 +14,7 @@ use crate::replying::{make_reply, reply_to};
 use crate::run::run_schedule;
 use crate::show::show_input;
 use crate::version::print_version;
-use command_line::{Audit, Check, Judge, List, Moves, Probe, RunSchedule, ShowRecord, Task};
+use command_line::{Audit, Check, Enter, Judge, List, Moves, Probe, RunSchedule, ShowRecord, Task};
 use std::alloc::Global;
 use system_io::WriteFault;
 use timeline::System;
@@ -41,6 +42,8 @@ pub enum AnswerTask<'a> {
     Judge(Judge<'a>),
     /// What tables tell of a position.
     Probe(Probe<'a>),
+    /// Games that are entered in a folder.
+    Enter(Enter<'a>),
 }
 
 impl<'a> AnswerTask<'a> {
@@ -59,6 +62,7 @@ impl<'a> AnswerTask<'a> {
             Task::Check(check) => Ok(AnswerTask::Check(check)),
             Task::Judge(judge) => Ok(AnswerTask::Judge(judge)),
             Task::Probe(probe) => Ok(AnswerTask::Probe(probe)),
+            Task::Enter(enter) => Ok(AnswerTask::Enter(enter)),
             other => Err(other),
         }
     }
@@ -85,6 +89,7 @@ fn answer_task<S: System>(
         AnswerTask::Check(task) => print_check(alloc, task, system, timeline),
         AnswerTask::Judge(task) => make_reply(alloc, task, system, timeline),
         AnswerTask::Probe(task) => make_reply(alloc, task, system, timeline),
+        AnswerTask::Enter(task) => enter_games(alloc, task, system, timeline),
     }
 }
 
@@ -93,7 +98,9 @@ fn answer_task<S: System>(
 /// What the task names is read first, each thing once: for `run` the files of its folder, in rising order of names, and then the input, to
 /// its end; for `show` the input; for `record` a kept file; for `audit` the manifest, the files of its folder and the kept files; for
 /// `judge` and `probe` the manifest and the files of its folder, or with `--lazy` the manifest, and then for a position the folder's names and
-/// the files of the tables that it misses; for `check` the manifest, and then, as for `list`, the files of its folder one by one, of which one is held at a time; for the others nothing.
+/// the files of the tables that it misses; for `check` the manifest, and then, as for `list`, the files of its folder one by one, of which
+/// one is held at a time; for `enter` the list, where there is one, and then the manifest or, as for `list`, the files of the folder of tables;
+/// for the others nothing. `enter` then keeps each game, and prints its line, before the next one.
 /// With `--progress` of these two a line goes to standard error after each hundred million bytes. What can't be read is `refused files`; where memory is refused the line is
 /// `refused memory`. Then the lines of the answer are written, and at last all that was written goes out. Nothing else happens outside.
 pub fn answer<S: System>(

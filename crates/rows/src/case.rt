@@ -7,7 +7,8 @@ use crate::shelf::{Shelf, head_of, is_comment, parted};
 use crate::slow_input::SlowInput;
 use std::alloc::{AllocError, Global};
 use std::cell::Cell;
-use system_fakes::MemoryInput;
+use system_fakes::{MemoryInput, Outcome};
+use timeline_fakes::KeptStart;
 
 /// What is run.
 #[derive(Clone, Copy)]
@@ -53,6 +54,8 @@ pub(crate) struct Case<'t> {
     datagrams: Vec<Vec<u8>>,
     stands: Stands,
     kept: Vec<u8>,
+    /// What comes of the calls for a file in a folder that can't be synced: the first fails.
+    unsettled: [Outcome; 1],
     /// What the store of its host comes to.
     store: StoreEnds,
 }
@@ -105,6 +108,7 @@ impl<'t> Case<'t> {
             datagrams: Vec::new(alloc),
             stands: Stands::Unreadable,
             kept: Vec::new(alloc),
+            unsettled: [Outcome::Before],
             store: StoreEnds::Keeps,
         }
     }
@@ -123,6 +127,21 @@ impl<'t> Case<'t> {
         MemoryInput {
             bytes: &self.input,
             fails: self.input_fails,
+        }
+    }
+
+    /// What stands where something is to be kept, for a command that is over a timeline.
+    pub(crate) fn elsewhere(&self) -> KeptStart<'_> {
+        KeptStart {
+            bytes: match self.stands {
+                Stands::Bytes => Some(self.kept.as_slice()),
+                _ => None,
+            },
+            outcomes: match self.stands {
+                Stands::Unsettled => &self.unsettled,
+                _ => &[],
+            },
+            reads_fail: matches!(self.stands, Stands::Unreadable),
         }
     }
 

@@ -65,6 +65,7 @@ fn outside<'a>(case: &'a Case<'_>, disk: &MemoryDisk<'a>) -> MemorySystem<'a> {
         disk: *disk,
         input: case.memory_input(),
         kept: &[],
+        elsewhere: case.elsewhere(),
         own: None,
         turns: &[],
     }

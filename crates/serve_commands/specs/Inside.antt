@@ -1,6 +1,5 @@
 -- Invariants of values and intermediate results of functions. Private clauses alone cite them.
 pub mod Binding
-pub mod Entering
 pub mod HostingParts
 pub mod ListeningParts
 pub mod SendingParts

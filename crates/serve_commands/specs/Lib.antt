@@ -3,9 +3,6 @@ pub mod Locks
 pub mod Listens
 pub mod Silences
 pub mod Sends
-pub mod Entries
-pub mod Enters
-pub mod Makes
 pub mod Hostings
 pub mod Status
 pub mod Inside

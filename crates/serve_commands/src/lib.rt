@@ -1,23 +1,17 @@
-//! The commands that touch ports, locks and files of games: `listen`, `host`, `send`, `enter`, `status`.
+//! The commands that touch ports, locks and records of games and aren't over the timeline yet: `listen`, `host`, `send`, `status`.
 //!
 //! Each takes the task that `parse` of command_line made, and a `System`: disk, input and host. The host's history has all that is opened.
 //!
-//! Inside: `listening`, `hosting`, `entering`, `sending`, `status` run the commands, over `binding`, `locking`; `entries` reads the lines
-//! of a list; `silence` tells which arbiter didn't answer; `watching` (notes of `send`) and `earlier` (notes of `enter`) tell the host what
-//! happens; `system` is what all are lent.
+//! Inside: `listening`, `hosting`, `sending`, `status` run the commands, over `binding`, `locking`; `silence` tells which arbiter didn't
+//! answer; `watching` (notes of `send`) tells the host what happens; `system` is what all are lent.
 //!
-//! Definitions, in reading order: `Outsides`, `Locks`, `Listens`, `Silences`, `Sends`, `Entries`, `Enters`, `Makes`, `Hostings`,
-//! `Status`. Its cases stand in `rows`; `tools/host_games`, `tools/play_games` and `tools/attack` try the program as it is built.
+//! Definitions, in reading order: `Outsides`, `Locks`, `Listens`, `Silences`, `Sends`, `Hostings`, `Status`. Its cases stand in `rows`; `tools/host_games`, `tools/play_games` and `tools/attack` try the program as it is built.
 //!
 //! - CLAIM: `listen`, clause `told`: `listen` refuses its start, its tables, its address and its kept file in this order, and nothing passes
 //!   at the port before an arbiter is opened; with `--ready` the line `ready ADDR` is written first. Each line has gone out before the next.
 //! - CLAIM: `host_games`, clause `told`: `host` refuses its tables, its folder of games where it can't be listed, and its address in this
 //!   order; then the line `ready ADDR` is written, and the games of its folder are hosted by acts as `Server::serve` has them, by a set of the
 //!   tables whose cache is of `--cache` blocks. Each line has gone out before the next.
-//! - CLAIM: `enter`, clause `told`: `enter` refuses its start, its manifest and its file in this order; else the game's text is in the file of
-//!   its stamp, and each later start finds it. After a failed write a start finds what was there or the text. With `--from` it does so for
-//!   the lines of a list in turn, each told by its stamp or by its number and its first fault, and goes on. After a line that can't be
-//!   written, or for which memory is refused, no game is entered.
 //! - CLAIM: `send`, clause `told`: the moves of the input go to the arbiters of the game as `send_game` of source_core has it, under the stamp
 //!   that the words or the file of the game tell; or what is refused of these is the only line.
 //! - CLAIM: `tell_silence`, clauses `told`, `quiet`: where an arbiter doesn't answer, a line of each arbiter tells that no answer came or how
@@ -28,9 +22,6 @@
 #![tactic(auto)]
 
 mod binding;
-mod earlier;
-mod entering;
-mod entries;
 mod hosting;
 mod listening;
 mod locking;
@@ -40,7 +31,6 @@ pub mod status;
 mod system;
 mod watching;
 
-pub use entering::enter;
 pub use hosting::host_games;
 pub use listening::listen;
 pub use sending::send;

@@ -14,6 +14,8 @@ pub struct KeptStart<'a> {
     pub bytes: Option<&'a [u8]>,
     /// What comes of its calls: of a put these are a write beside, a sync, a rename and a sync of the folder.
     pub outcomes: &'a [Outcome],
+    /// Whether no start can read it.
+    pub reads_fail: bool,
 }
 
 /// A file at a path, on a disk that can lose power.
@@ -40,7 +42,7 @@ impl MemoryFile {
         };
         Ok(MemoryFile {
             path,
-            disk: DiskFile::new(alloc, bytes, outcomes, false),
+            disk: DiskFile::new(alloc, bytes, outcomes, start.reads_fail),
         })
     }
 

@@ -36,8 +36,10 @@ pub struct MemorySystem<'a> {
     pub disk: MemoryDisk<'a>,
     /// The input.
     pub input: MemoryInput<'a>,
-    /// What stands where something is to be kept. At any other path nothing stands, and all calls are good.
+    /// What stands where something is to be kept.
     pub kept: &'a [AtPath<'a, KeptStart<'a>>],
+    /// What stands at any other path.
+    pub elsewhere: KeptStart<'a>,
     /// The own address of a port.
     pub own: Option<SocketAddr>,
     /// What comes of its calls that receive, in order.
@@ -50,17 +52,18 @@ pub struct MemoryLock {
     pub(crate) path: Vec<u8>,
 }
 
-/// What stands where something is to be kept at a path.
-fn kept_at<'a>(kept: &'a [AtPath<'a, KeptStart<'a>>], path: &str) -> KeptStart<'a> {
+/// What stands where something is to be kept at a path, or else elsewhere.
+fn kept_at<'a>(
+    kept: &'a [AtPath<'a, KeptStart<'a>>],
+    path: &str,
+    elsewhere: KeptStart<'a>,
+) -> KeptStart<'a> {
     for one in kept {
         if one.path == path {
             return one.holds;
         }
     }
-    KeptStart {
-        bytes: None,
-        outcomes: &[],
-    }
+    elsewhere
 }
 
 /// Whether a whole line has come.
@@ -509,7 +512,7 @@ impl<'a> System for MemorySystem<'a> {
         alloc: Global,
         path: &str,
     ) -> Result<MemoryFile, AllocError> {
-        let got = MemoryFile::new(alloc, path, kept_at(self.kept, path));
+        let got = MemoryFile::new(alloc, path, kept_at(self.kept, path, self.elsewhere));
         let made = file_opened(timeline.alloc(), path, is_done(&got));
         timeline.keep(made);
         got

@@ -3,7 +3,7 @@ use Rattle.command_line.specs.Tasks.{tells_progress}
 use Rattle.answer_parts.proofs.AnswerLaws.{once}
 use Rattle.adjudicate_core.proofs.AnswerLaws.{listened, sent, sent_failed, told_or_quiet}
 use Rattle.serve_commands.proofs.HostLaws.{hosted_games}
-use Rattle.adjudicate_core.proofs.MakeLaws.{enter_makes, files_with, host_makes, listen_makes, makes_nothing, send_makes, store_with}
+use Rattle.adjudicate_core.proofs.MakeLaws.{files_with, host_makes, listen_makes, makes_nothing, send_makes, store_with}
 use Rattle.adjudicate_core.proofs.beside.answer_given.Goals as goal
 
 pub returns-in-Listen : goal.returns-in-Listen
@@ -34,9 +34,6 @@ returns-in-Send g c = record {
   made = rw c.in-Send.is (send_makes _ _ _ _ c.send.result c.send.ensures.told);
   cause = sent_failed _ c.send.result c.tell_silence.result c.tell_silence.ensures.status c.tell_silence.ensures.err c.send.ensures.cause;
 }
-
-pub returns-in-Enter : goal.returns-in-Enter
-returns-in-Enter g c = record { answered = rw c.in-Enter.is c.enter.ensures.told; quiet = λ unasked. inl refl; made = rw c.in-Enter.is (enter_makes _ _ _ _ c.enter.result c.enter.ensures.told); cause = c.enter.ensures.cause }
 
 pub returns-in-Host : goal.returns-in-Host
 returns-in-Host g c = record {
