@@ -1,4 +1,9 @@
 pub mod StubNames
+pub mod StubLooks
+pub mod StubList
+pub mod PrintLaws
 pub mod KeepLaws
 pub mod StoreLaws
 pub mod EarlierLaws
+pub mod StampLaws
+pub mod EnterLaws

@@ -1,1 +1,2 @@
 pub mod StoreReading
+pub mod Entering

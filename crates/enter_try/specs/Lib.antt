@@ -1,5 +1,10 @@
+pub mod StubLines
+pub mod StubGames
 pub mod StoreReadings
 pub mod StoreReads
 pub mod Earlier
 pub mod Keeping
+pub mod Printing
+pub mod Stamping
+pub mod Enter
 pub mod Inside

@@ -1,0 +1,14 @@
+use Rattle.move_msg.specs.TextLines.{lines_in}
+use Rattle.enter_try.specs.Enter.{EntersAll, placed}
+use Rattle.enter_try.proofs.EnterLaws.{by_manifest, no_manifest}
+use Rattle.enter_try.proofs.entering.enter_list.Goals as goal
+
+pub returns-in-Ok-clause-made : goal.returns-in-Ok-clause-made
+returns-in-Ok-clause-made g c =
+    let o = g.S.System.outside c.args.system.now in
+    by_manifest o _ _ _ c.args.task.now (λ manifest. EntersAll o (placed c.args.task.now manifest) (lines_in c.args.list.now)) c.in-Ok.manifest.items c.enter_lines.result c.in-Ok.ensures (rw c.deref.ensures.value at c.enter_lines.ensures.made)
+
+pub returns-in-Err-clause-made : goal.returns-in-Err-clause-made
+returns-in-Err-clause-made g c =
+    let o = g.S.System.outside c.args.system.now in
+    no_manifest o _ _ _ c.args.task.now (λ manifest. EntersAll o (placed c.args.task.now manifest) (lines_in c.args.list.now)) _ c.print_refusal.result c.in-Err.ensures c.print_refusal.ensures.made

@@ -1,0 +1,88 @@
+//! The manifest by which games are stamped that are entered.
+
+ghost use Rattle.std.specs.Prelude.{◌≡◌, ℕ, List, None, Some, option_map};
+ghost use Rattle.enter_try.specs.StubLines.{refusal_words};
+ghost use Rattle.enter_try.specs.Inside.Entering.{stamping_taken};
+ghost use Rattle.enter_try.specs.Stamping.{ReadsStamping};
+ghost use Rattle.line_teller.specs.ToldLines.{cut_words};
+ghost use Rattle.timeline.specs.Outsides.{AddsSome};
+
+use crate::answer_stub::Refusal;
+use move_msg::{Line, Manifest, ManifestFault, manifest_read, manifest_write};
+use std::alloc::Global;
+use system_io::ReadFault;
+use task_files::look_at_tables;
+use timeline::System;
+
+/// Why something wasn't read.
+fn unread(fault: ReadFault) -> Refusal
+    ensures { refusal_words result ≡ cut_words fault }
+{
+    match fault {
+        ReadFault::Unreadable => Refusal::Files,
+        ReadFault::OutOfMemory => Refusal::Memory,
+    }
+}
+
+/// The manifest at a path.
+fn file_manifest<S: System>(
+    alloc: Global,
+    system: &S,
+    timeline: &mut S::Timeline,
+    path: &str,
+) -> Result<Vec<u8>, Refusal>
+    ensures { AddsSome (S.outside system.now) timeline.old timeline.new (λ events. (tables : List ℕ) → ReadsStamping (S.outside system.now).disk (Some path.now) tables (stamping_taken result) events) }
+{
+    let text = match system.read(timeline, alloc, path) {
+        Ok(text) => text,
+        Err(fault) => return Err(unread(fault)),
+    };
+    match manifest_read(alloc, &text) {
+        Ok(_) => Ok(text),
+        Err(ManifestFault::BadLine(number)) => Err(Refusal::Manifest(number)),
+        Err(ManifestFault::OutOfMemory) => Err(Refusal::Memory),
+    }
+}
+
+/// The manifest of the tables in a folder, of which one at a time is held.
+fn folder_manifest<S: System>(
+    alloc: Global,
+    system: &S,
+    timeline: &mut S::Timeline,
+    folder: &str,
+) -> Result<Vec<u8>, Refusal>
+    ensures { AddsSome (S.outside system.now) timeline.old timeline.new (ReadsStamping (S.outside system.now).disk None folder.now (stamping_taken result)) }
+{
+    let looked: Result<Vec<Line>, ReadFault> = look_at_tables(
+        alloc,
+        system,
+        timeline,
+        folder,
+        &Manifest::Unnamed,
+        false,
+    );
+    let lines = match looked {
+        Ok(lines) => lines,
+        Err(fault) => return Err(unread(fault)),
+    };
+    match manifest_write(alloc, &lines) {
+        Ok(text) => Ok(text),
+        Err(_) => Err(Refusal::Memory),
+    }
+}
+
+/// The manifest by which a game is stamped: of the file that is named, or else of the tables in a folder, of which one at a time is held.
+pub(crate) fn stamping_manifest<S: System>(
+    alloc: Global,
+    system: &S,
+    timeline: &mut S::Timeline,
+    named: Option<&str>,
+    tables: &str,
+) -> Result<Vec<u8>, Refusal>
+    ensures { AddsSome (S.outside system.now) timeline.old timeline.new (ReadsStamping (S.outside system.now).disk (option_map (λ s. s.now) named.entry) tables.now (stamping_taken result)) }
+{
+    match named {
+        Some(path) => file_manifest(alloc, system, timeline, path),
+        None => folder_manifest(alloc, system, timeline, tables),
+    }
+}
