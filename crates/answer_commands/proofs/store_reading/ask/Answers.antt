@@ -20,7 +20,7 @@ returns-in-Err-Unreadable g c =
     let o = g.S.System.outside c.args.system.now in
     let names = map string_bytes c.in-Ok-names.names.items in
     let read = rw c.in-Err-Unreadable.field-0-is at c.in-Err-Unreadable.ensures in
-    no_store o _ _ _ _ c.args.folder.now names (listed o _ _ c.args.folder.now names c.in-Ok-names.ensures.listed c.in-Ok-names.ensures.made) (rw c.in-Ok.ensures.paths at (rw c.deref.ensures.value at read)) (rw c.in-Ok.ensures.unread at (rw c.as_str.ensures.value at c.note.ensures))
+    no_store o _ _ _ _ c.args.folder.now names (listed o _ _ c.args.folder.now names c.in-Ok-names.ensures.listed c.in-Ok-names.ensures.made) (rw c.in-Ok.ensures.paths at (rw c.deref.ensures.value at read)) (rw c.in-Ok.ensures.unread at (rw c.as_str.ensures.value at c.note.ensures.made))
 
 pub returns : goal.returns
 returns g c =

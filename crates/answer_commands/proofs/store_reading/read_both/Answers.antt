@@ -1,5 +1,7 @@
-use Rattle.std.proofs.Common.{ap}
+use Rattle.std.proofs.Common.{◌≡◌, ap}
 use Rattle.std.specs.Prelude.{Err}
+use Rattle.system_io.specs.Disks.{AtFile}
+use Rattle.system_io.specs.declared.reading.ReadFault.TheVariants.{Unreadable}
 use Rattle.task_files.proofs.InputReadLaws.{file_read, file_unread}
 use Rattle.answer_commands.specs.Inside.StoreReading.{folder_of}
 use Rattle.answer_commands.proofs.StoreLaws.{both_done, both_half, both_undone}
@@ -9,7 +11,8 @@ pub returns-in-Err : goal.returns-in-Err
 returns-in-Err g c =
     let o = g.S.System.outside c.args.system.now in
     let s = folder_of c.args.store.now in
-    both_undone o _ _ s c.in-Err.fault (file_unread o _ _ s.db _ _ c.in-Err.fault (rw c.as_str.ensures.value at (λ is. c.in-Err.ensures.cause (ap Err is))) (rw c.as_str.ensures.value at c.in-Err.ensures.made))
+    let cause : c.in-Err.fault ≡ Unreadable → o.disk.fails (AtFile s.db) = λ is. rw c.as_str.ensures.value at (c.in-Err.ensures.cause (ap Err is)) in
+    both_undone o _ _ s c.in-Err.fault (file_unread o _ _ s.db _ _ c.in-Err.fault cause (rw c.as_str.ensures.value at c.in-Err.ensures.made))
 
 pub returns-in-Ok-read_log : goal.returns-in-Ok-read_log
 returns-in-Ok-read_log g c =

@@ -15,7 +15,7 @@ returns-then-not-has_name g c =
     let o = g.S.System.outside c.args.system.now in
     let names = map string_bytes c.in-Ok.names.items in
     let has = rw c.deref.ensures.value at c.if-not-has_name.ensures in
-    log_missing o _ _ (folder_of c.args.store.now) names (λ there. false≢true (has.1 there)) (listed o _ _ c.args.store.now.folder.now names c.in-Ok.ensures.listed c.in-Ok.ensures.made)
+    rw c.new.ensures.items (log_missing o _ _ (folder_of c.args.store.now) names (λ there. false≢true (has.1 there)) (listed o _ _ c.args.store.now.folder.now names c.in-Ok.ensures.listed c.in-Ok.ensures.made))
 
 pub returns : goal.returns
 returns g c =

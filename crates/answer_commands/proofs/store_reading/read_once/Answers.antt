@@ -10,7 +10,7 @@ returns-in-Err-read_both g c = once_second (g.S.System.outside c.args.system.now
 
 pub returns-in-Ok-read_log : goal.returns-in-Ok-read_log
 returns-in-Ok-read_log g c =
-    once_done (g.S.System.outside c.args.system.now) _ _ _ _ (folder_of c.args.store.now) c.in-Ok.before.items (store_bytes c.in-Ok-read_both.files) c.in-Ok-read_log.after.items _ (rw (c.deref.ensures.value, c.deref-2.ensures.value) at c.of_one_moment.ensures) c.in-Ok.ensures c.in-Ok-read_both.ensures c.in-Ok-read_log.ensures
+    once_done (g.S.System.outside c.args.system.now) _ _ _ _ (folder_of c.args.store.now) c.in-Ok.before.items (store_bytes c.in-Ok-read_both.files) c.in-Ok-read_log.after.items _ (rw (c.deref.ensures.value, c.deref-in-Ok-read_log.ensures.value) at c.of_one_moment.ensures) c.in-Ok.ensures c.in-Ok-read_both.ensures c.in-Ok-read_log.ensures
 
 pub returns : goal.returns
 returns g c = once_third (g.S.System.outside c.args.system.now) _ _ _ _ (folder_of c.args.store.now) c.in-Ok.before.items (store_bytes c.in-Ok-read_both.files) c.in-Err-read_log.fault c.in-Ok.ensures c.in-Ok-read_both.ensures c.in-Err-read_log.ensures
