@@ -1,5 +1,5 @@
 -- What comes of a manifest, and of the next line of a list; cited by private functions alone.
-use Rattle.std.specs.Prelude.{◌≡◌, ◌++◌, ℕ, Bool, List, [], ◌∷◌, Result, Ok, Err, Vec}
+use Rattle.std.specs.Prelude.{◌≡◌, ◌++◌, ℕ, Bool, true, false, List, [], ◌∷◌, Result, Ok, Err, Vec}
 use Rattle.std.specs.Global.{Global}
 use Rattle.enter_try.specs.StubLines.{refusal_words}
 use Rattle.enter_try.specs.declared.answer_stub.EntryFault.{EntryFault}
