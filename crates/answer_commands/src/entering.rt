@@ -250,18 +250,18 @@ fn enter_line<S: System>(
 }
 
 /// The words for what came of the line with this number.
-fn entry_words(number: usize, entered: Result<Stamp, EntryFault>) -> LineWords
-    ensures { result ≡ (told_entry number entered).words }
+fn entry_words(number: usize, entered: &Result<Stamp, EntryFault>) -> LineWords
+    ensures { result ≡ (told_entry number entered.now).words }
 {
     match entered {
-        Ok(stamp) => stamp_words(stamp),
-        Err(fault) => Refusal::Entry(number, fault).words(),
+        Ok(stamp) => stamp_words(*stamp),
+        Err(fault) => Refusal::Entry(number, *fault).words(),
     }
 }
 
 /// What came of a line for which memory wasn't refused.
-fn step_of(entered: Result<Stamp, EntryFault>) -> Step
-    ensures { (number : ℕ) → result ≡ Step.Told (told_entry number entered).done }
+fn step_of(entered: &Result<Stamp, EntryFault>) -> Step
+    ensures { (number : ℕ) → result ≡ Step.Told (told_entry number entered.now).done }
 {
     match entered {
         Ok(_) => Step::Told(true),
@@ -302,8 +302,8 @@ fn enter_next<S: System>(
         Ok(entered) => tell_step(
             system,
             timeline,
-            entry_words(number, entered),
-            step_of(entered),
+            entry_words(number, &entered),
+            step_of(&entered),
         ),
         Err(_) => tell_step(system, timeline, Refusal::Memory.words(), Step::Cut),
     }
