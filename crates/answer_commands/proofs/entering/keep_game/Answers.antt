@@ -8,7 +8,7 @@ returns-in_default g c = no_paths (g.S.System.outside c.args.system.now) _ (plac
 pub returns-in-Ok-Stood : goal.returns-in-Ok-Stood
 returns-in-Ok-Stood g c =
     let keeps = rw c.in-Ok-Stood.field-0-is at c.in-Ok-Stood.ensures in
-    was_there (g.S.System.outside c.args.system.now) _ _ _ (place_of c.args.place.now) c.args.stamp c.args.text.now _ _ _ _ c.in-Ok.ensures.game c.in-Ok.ensures.kept (rw c.as_str.ensures.value at keeps) (rw c.as_str-2.ensures.value at c.note_earlier.ensures)
+    was_there (g.S.System.outside c.args.system.now) _ _ _ (place_of c.args.place.now) c.args.stamp c.args.text.now _ _ _ _ c.in-Ok.ensures.game c.in-Ok.ensures.kept (rw c.as_str.ensures.value at keeps) (rw c.as_str-in-Ok-Stood.ensures.value at c.note_earlier.ensures)
 
 pub returns-in-Ok-Written : goal.returns-in-Ok-Written
 returns-in-Ok-Written g c =
