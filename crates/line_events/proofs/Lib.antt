@@ -1,0 +1,4 @@
+pub mod PrintLaws
+pub mod LineLaws
+pub mod FeedLaws
+pub mod WritingLaws

@@ -1,0 +1,4 @@
+pub mod Printing
+pub mod LineEvents
+pub mod Writing
+pub mod Inside
