@@ -33,8 +33,8 @@ returns-in-Err-Exists g c =
     let kept = entered_by o _ _ p game c.stamp-stamp.result c.write_game-text.result.items _ _ _ c.stamp-stamp.ensures c.write_game-text.ensures.spells (rw c.as_slice.ensures.value at c.in-Err-Exists.ensures) in
     file_at_fault o p _ _ c.args.line.now game _ keep.Exists entry.Exists _ _ c.in-Err-Exists.field-0-is refl c.in-Ok.ensures.ok kept
 
-pub returns : goal.returns
-returns g c =
+pub returns-in-Err-OutOfMemory : goal.returns-in-Err-OutOfMemory
+returns-in-Err-OutOfMemory g c =
     let o = g.S.System.outside c.args.system.now in
     let p = place_of c.args.place.now in
     let game = game_as_told c.in-Ok.game.name c.in-Ok.game.start c.in-Ok.game.delay in

@@ -12,8 +12,8 @@ returns-in-Ok-clause-made g c =
     let kept = entered_by o _ _ p game c.stamp-stamp.result c.write_game-text.result.items _ _ _ stamp c.write_game-text.ensures.spells (rw c.as_slice.ensures.value at c.in-Ok.ensures) in
     stamp_put o _ _ _ p game c.stamp-stamp.result _ c.print_stamp.result stamp kept c.print_stamp.ensures.made
 
-pub returns-in-Err-clause-made : goal.returns-in-Err-clause-made
-returns-in-Err-clause-made g c =
+pub returns-clause-made : goal.returns-clause-made
+returns-clause-made g c =
     let o = g.S.System.outside c.args.system.now in
     let p = place_of c.args.place.now in
     let game = entered c.args.game.now c.args.start.now in
