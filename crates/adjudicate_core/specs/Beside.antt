@@ -1,12 +1,11 @@
 -- What comes of a task, and of words that name none, beside the timeline (this project's own). It is what the commands do that aren't over
 -- the timeline yet.
-use Rattle.std.specs.Prelude.{◌≡◌, ℕ, List, [], Option, Result, Ok, OnErr, false}
+use Rattle.std.specs.Prelude.{◌≡◌, ℕ, List, [], Option, Result, Ok, OnErr}
 use Rattle.std.specs.Io.KnownBytes.{Keeps}
 use Rattle.adjudicate_core.specs.Makes.{MakesFor}
 use Rattle.adjudicate_core.specs.Running.{AnswersByKey}
 use Rattle.adjudicate_core.specs.declared.others.Others.{Others}
 use Rattle.answer_parts.specs.Telling.{TellsOne}
-use Rattle.command_line.specs.Tasks.{tells_progress}
 use Rattle.command_line.specs.Uses.{TellsMisuse}
 use Rattle.command_line.specs.declared.commands.Task.{Task}
 use Rattle.command_line.specs.declared.words.usage.Misuse.{Misuse}
@@ -32,7 +31,7 @@ pub record OthersView (P F S : Type 0) : Type 1 where
   pub misuse : Misuse → Type 0
   -- the errors say who was silent, where a source's run ended so
   pub silence : Ended → Type 0
-  -- a task that reports no progress leaves the errors as before, or they say who was silent
+  -- the errors are as before, or they say who was silent
   pub lost : Task → Result ℕ WriteFault → Type 0
   -- the errors are as before
   pub is_quiet : Type 0
@@ -73,10 +72,10 @@ pub record EndsBeside {P F S : Type 0} (o : OthersView P F S) (Answers : Option 
 abbrev pub MakesNone : {P F S : Type 0} → OthersView P F S → Type 0
 MakesNone o = Passes o.around.outside.had o.around.outside.has []
 
--- its answer to a task; of a task that reports no progress the errors say at most who was silent
+-- its answer to a task; the errors say at most who was silent
 pub record AnswersQuietly {P F S : Type 0} (o : OthersView P F S) (t : Task) (old new : Option (List ℕ)) (r : Result ℕ WriteFault) : Type 0 where
   pub answers : AnswersByKey o.around o.silence t old new r
-  pub quiet : tells_progress t ≡ false → o.lost t r
+  pub quiet : o.lost t r
 
 -- to a task its answer is written, and at the host what it makes is made
 pub record AnswersBeside {P F S : Type 0} (o : OthersView P F S) (t : Task) (status : ℕ) : Type 0 where

@@ -18,21 +18,11 @@ use Rattle.source_core.specs.declared.lines.Ended.{Ended}
 use Rattle.source_core.specs.Lines.{ended_status}
 use Rattle.serve_commands.specs.Hostings.{HostsGames, written}
 use Rattle.task_files.specs.Sources.{CannotRead, IsGiven, TakesMemory}
-use Rattle.table_commands.specs.Game as games
-use Rattle.table_commands.specs.Games as of_games
-use Rattle.table_commands.specs.Pgn as of_pgn
-use Rattle.record_commands.specs.AuditGames as game_audits
-use Rattle.record_commands.specs.GameRecord as game_records
-use Rattle.table_commands.specs.Probes as of_probes
-use Rattle.table_commands.specs.Root as roots
-use Rattle.table_commands.specs.Follow as follows
-use Rattle.serve_commands.specs.Status as statuses
 use Rattle.serve_core.specs.Serve as serves
 use Rattle.answer_parts.specs.Keys.{HasKeys, LacksKeys}
 use Rattle.sealed_port.specs.KeyedHosts.{keyed_host}
 use Rattle.sealed_port.specs.Sealing.{SealedView, sealed_facts}
 use Rattle.sealed_port.specs.declared.seal_port.Keys.{Keys}
-use Rattle.answer_parts.specs.Reply.{AnswersOnce, IsText}
 use Rattle.answer_parts.specs.Telling.{TellsOne}
 use Rattle.command_line.specs.Tasks.{IsTask, IsMisuse, NamesNoCommand, key_in, named_in}
 
@@ -45,20 +35,11 @@ abbrev pub status_ended : Result Ended WriteFault → Result ℕ WriteFault
 status_ended (Ok ended) = Ok (ended_status ended)
 status_ended (Err fault) = Err fault
 
--- what is answered beside the timeline to a task from what was read for it, where so is said how a source's run ends: `game` takes memory for a text that is a position; the tasks over the timeline aren't answered here
+-- what is answered beside the timeline to a task from what was read for it, where so is said how a source's run ends; the tasks over the timeline aren't answered here
 abbrev pub AnswersFrom : {P F S : Type 0} → OutsideWithStores P F S → (Ended → Type 0) → Task → Given → Option (List ℕ) → Option (List ℕ) → Result ℕ WriteFault → Type 0
 AnswersFrom m Told (task.Listen t) given old new r = Listens m.outside.host (serving_seen_as m.outside.host.file r) t given m.outside.had m.outside.has old new r
-AnswersFrom m Told (task.Probes t) given old new r = of_probes.Puts m.outside.disk m.outside.source t given old new r
-AnswersFrom m Told (task.Game t) given old new r = AnswersOnce (games.IsReply m.outside.disk t given) (IsText t.fen.now) old new r
-AnswersFrom m Told (task.Games t) given old new r = of_games.Puts m.outside.disk m.outside.source t given old new r
-AnswersFrom m Told (task.Pgn t) given old new r = of_pgn.Puts m.outside.disk m.outside.source t given old new r
-AnswersFrom m Told (task.GameRecord t) given old new r = game_records.Puts m.outside.disk m.stores t old new r
-AnswersFrom m Told (task.AuditGames t) given old new r = game_audits.Puts m.outside.disk m.stores t given old new r
 AnswersFrom m Told (task.Send t) given old new r = (e : Result Ended WriteFault) × (r ≡ status_ended e) × IfOk e Told × SendsGame m.outside t old new e
 AnswersFrom m Told (task.Host t) given old new r = HostsGames (hosting_places m) (written (hosting_places m) t.games.now) t given m.outside.had m.outside.has old new r
-AnswersFrom m Told (task.Root t) given old new r = roots.Puts m.outside.disk m.outside.source t given old new r
-AnswersFrom m Told (task.Follow t) given old new r = follows.Puts m.outside.disk m.outside.source t given old new r
-AnswersFrom m Told (task.Status t) given old new r = statuses.PutsOver m.outside.disk m.stores t old new r
 AnswersFrom m Told (task.Serve t) given old new r = serves.Serves m.outside.disk t old new r
 AnswersFrom m Told _ given old new r = ⊥
 

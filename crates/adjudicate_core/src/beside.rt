@@ -1,28 +1,25 @@
 //! The commands that aren't over the timeline yet.
 
-ghost use Rattle.std.specs.Prelude.{◌≡◌, None, OnErr, false};
+ghost use Rattle.std.specs.Prelude.{◌≡◌, None, OnErr};
 ghost use Rattle.std.specs.Io.KnownBytes.{Keeps};
 ghost use Rattle.answer_commands.specs.Answers.{answered_once};
 ghost use Rattle.line_teller.specs.ToldLines.{HasFailed};
 ghost use Rattle.adjudicate_core.specs.Beside.{AnswersBeside, MisusedBeside, RefusesBeside};
 ghost use Rattle.adjudicate_core.specs.Makes.{MakesFor};
 ghost use Rattle.adjudicate_core.specs.Running.{AnswersByKey, AnswersFrom, AnswersTask};
-ghost use Rattle.command_line.specs.Tasks.{tells_progress};
 ghost use Rattle.serve_commands.specs.Silences.{TellsIfLost, TellsSilence};
 ghost use Rattle.system_io.specs.Outputs.{HasEnded};
 
 use crate::machine::Machine;
 use crate::noting::TablesNoted;
 use crate::others::{Others, SeenOthers};
-use answer_parts::{Refusal, keys_at, put_answered, put_refusal};
+use answer_parts::{Refusal, keys_at, put_refusal};
 use command_line::{Misuse, Task, tell_misuse};
-use record_commands::{audit_games, game_record};
 use sealed_port::Keyed;
-use serve_commands::{System as Parts, host_games, listen, send, status, tell_silence};
+use serve_commands::{System as Parts, host_games, listen, send, tell_silence};
 use serve_core::{Pages, serve};
 use std::alloc::Global;
 use system_io::{Host, Input, LineDisk, Output, ReadFault, WriteFault};
-use table_commands::{follow, game, games, pgn, probes, root};
 use task_files::Inputs;
 
 /// What a task is answered from.
@@ -35,9 +32,8 @@ struct Context<'s, 'a, D, I, H, G> {
 
 /// Answers a task from what was read for it, and returns the status, 0 done or 1 refused.
 ///
-/// Where memory is refused, the line `refused memory` comes in place of all else, for `probes` after the whole lines
-/// before it, with status 1. A text that is no position takes none. The error comes only where the writer failed. `status` reads its folder here. With `--progress` the
-/// progress of `probes` goes to `err` after every 10,000 lines. For `send` who was silent goes there, where an arbiter doesn't answer. No other task writes there.
+/// Where memory is refused, the line `refused memory` comes in place of all else, with status 1. The error comes only where the writer
+/// failed. For `send` who was silent goes to `err`, where an arbiter doesn't answer. No other task writes there.
 fn answer_given<'s, D: LineDisk, I: Input, H: Host, G: Pages, W: Output, E: Output>(
     alloc: Global,
     task: &Task,
@@ -47,7 +43,7 @@ fn answer_given<'s, D: LineDisk, I: Input, H: Host, G: Pages, W: Output, E: Outp
     err: &mut E,
 ) -> Result<u8, WriteFault>
     requires over { answered_once task.now ≡ None }
-    ensures quiet { tells_progress task.now ≡ false → TellsIfLost E.facts E.contents err.old err.new task.now result }
+    ensures quiet { TellsIfLost E.facts E.contents err.old err.new task.now result }
     ensures answered { AnswersFrom (⟦<Parts<'s, D, I, H, G> as Machine>⟧.from given.entry.system.now history.old history.new) (TellsSilence E.facts E.contents err.old err.new) task.now given.entry.sources.now (W.contents out.old) (W.contents out.new) result }
     ensures made { MakesFor task.now (H.made history.old) (H.made history.new) }
     ensures cause { OnErr result (HasFailed W.facts) }
@@ -55,35 +51,6 @@ fn answer_given<'s, D: LineDisk, I: Input, H: Host, G: Pages, W: Output, E: Outp
     let Context { sources, system } = given;
     match task {
         Task::Listen(task) => listen(alloc, task, sources, system.host, history, out),
-        Task::Probes(task) => probes::answer(
-            alloc,
-            task,
-            sources,
-            system.disk,
-            system.input,
-            out,
-            err,
-        ),
-        Task::Game(task) => put_answered(out, game::answer(alloc, task, sources, system.disk)),
-        Task::Games(task) => games::answer(
-            alloc,
-            task,
-            sources,
-            system.disk,
-            system.input,
-            out,
-            err,
-        ),
-        Task::Pgn(task) => pgn::answer(alloc, task, sources, system.disk, system.input, out),
-        Task::GameRecord(task) => game_record::answer(alloc, task, system.disk, system.host, out),
-        Task::AuditGames(task) => audit_games::answer(
-            alloc,
-            task,
-            sources,
-            system.disk,
-            system.host,
-            out,
-        ),
         Task::Version(_)
         | Task::Show(_)
         | Task::Moves(_)
@@ -94,12 +61,18 @@ fn answer_given<'s, D: LineDisk, I: Input, H: Host, G: Pages, W: Output, E: Outp
         | Task::Check(_)
         | Task::Judge(_)
         | Task::Probe(_)
-        | Task::Enter(_) => unreachable!(),
+        | Task::Enter(_)
+        | Task::Probes(_)
+        | Task::Root(_)
+        | Task::Game(_)
+        | Task::Games(_)
+        | Task::Pgn(_)
+        | Task::Follow(_)
+        | Task::Status(_)
+        | Task::GameRecord(_)
+        | Task::AuditGames(_) => unreachable!(),
         Task::Send(task) => tell_silence(err, send(alloc, task, system, history, out)),
         Task::Host(task) => host_games(alloc, task, sources, system, history, out),
-        Task::Root(task) => root::answer(alloc, task, sources, system.disk, system.input, out, err),
-        Task::Follow(task) => follow::answer(alloc, task, sources, system.disk, system.input, out),
-        Task::Status(task) => status::answer(alloc, task, system.disk, system.host, out),
         Task::Serve(task) => serve(alloc, system.pages, system.disk, system.host, task, out),
     }
 }
@@ -114,7 +87,7 @@ fn run_task<'s, D: LineDisk, I: Input, H: Host, G: Pages, W: Output, E: Output>(
     err: &mut E,
 ) -> Result<u8, WriteFault>
     requires over { answered_once task.now ≡ None }
-    ensures quiet { tells_progress task.now ≡ false → TellsIfLost E.facts E.contents err.old err.new task.now result }
+    ensures quiet { TellsIfLost E.facts E.contents err.old err.new task.now result }
     ensures answered { AnswersTask (⟦<Parts<'s, D, I, H, G> as Machine>⟧.from system.now history.old history.new) (TellsSilence E.facts E.contents err.old err.new) task.now (W.contents out.old) (W.contents out.new) result }
     ensures made { MakesFor task.now (H.made history.old) (H.made history.new) }
     ensures cause { OnErr result (HasFailed W.facts) }
@@ -167,7 +140,7 @@ fn run_by_key<'s, D: LineDisk, I: Input, H: Host, G: Pages, W: Output, E: Output
     err: &mut E,
 ) -> Result<u8, WriteFault>
     requires over { answered_once task.now ≡ None }
-    ensures quiet { tells_progress task.now ≡ false → TellsIfLost E.facts E.contents err.old err.new task.now result }
+    ensures quiet { TellsIfLost E.facts E.contents err.old err.new task.now result }
     ensures answered { AnswersByKey (⟦<Parts<'s, D, I, H, G> as Machine>⟧.from system.now history.old history.new) (TellsSilence E.facts E.contents err.old err.new) task.now (W.contents out.old) (W.contents out.new) result }
     ensures made { MakesFor task.now (H.made history.old) (H.made history.new) }
     ensures cause { OnErr result (HasFailed W.facts) }

@@ -14,7 +14,7 @@ use Rattle.answer_commands.specs.Enter.{ByManifest, ComesOf, Doing, EntersAll, E
 use Rattle.answer_commands.specs.Entries.{IsFirstEntryFault, SpellsEntry}
 use Rattle.answer_commands.specs.Inside.Entering.{EntersNext, IsStep}
 use Rattle.answer_commands.specs.Keeping.{KeepsText}
-use Rattle.answer_commands.specs.Printing.{ArePrinted, IsCutIn, Performs, Prints, printed}
+use Rattle.answer_parts.specs.Printing.{ArePrinted, AtWrite, IsCutIn, Performs, Prints, printed}
 use Rattle.answer_commands.specs.Stamping.{ReadsStamping}
 use Rattle.answer_commands.specs.StoreReads.{AsksOnce, Known, Unasked}
 use Rattle.answer_commands.specs.declared.entering.Step.{Step}
@@ -22,7 +22,7 @@ use Rattle.answer_commands.specs.declared.entering.Step.TheVariants as step
 use Rattle.answer_commands.specs.declared.keeping.GameText.TheVariants.{Stood, Written}
 use Rattle.answer_commands.specs.declared.keeping.KeepFault.{KeepFault}
 use Rattle.answer_commands.specs.declared.keeping.KeepFault.TheVariants as keep
-use Rattle.answer_commands.proofs.PrintLaws.{cut_behind, then_does, then_prints}
+use Rattle.answer_parts.proofs.PrintLaws.{cut_behind, then_does, then_prints}
 use Rattle.hex.specs.Hex.{encode_lower}
 use Rattle.line_teller.specs.ToldLines.{LineTold, cut_words, refused_memory}
 use Rattle.move_msg.specs.TextLines.{ended, lines_in}
@@ -92,7 +92,7 @@ module _ {T P F K S L : Type 0} (o : Outside T P F K S L) where
 
   -- words whose line was refused
   pub word_cut : (a b : T) (words : List ℕ) → AddsSome o a b (λ more. (n : ℕ) × (more ≡ Wrote Output (take n (ended words)) ∷ Refused Output ∷ [])) → AddsSome o a b (IsCutIn (printed (words ∷ [])))
-  word_cut a b words q = (q.0, q.1, record { before = []; bytes = ended words; after = []; wanted = refl; count = q.2.0; written = q.2.1 })
+  word_cut a b words q = (q.0, q.1, AtWrite [] (ended words) [] refl q.2.0 q.2.1)
 
 -- ---- a line
 

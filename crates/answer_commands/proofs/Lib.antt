@@ -1,4 +1,4 @@
-pub mod PrintLaws
+pub mod EndLaws
 pub mod ShowLaws
 pub mod MoveLaws
 pub mod ScheduleLaws

@@ -25,12 +25,11 @@ use Rattle.timeline.specs.Events.{Event}
 use Rattle.timeline.specs.Outsides.{AddsSome, Outside}
 use Rattle.answer_commands.specs.Check.{Checked, check_reply, checked_by, folder_reply}
 use Rattle.answer_commands.specs.Inside.Looking.{IsManifestOf, IsSeenOf}
-use Rattle.answer_commands.specs.Inside.Replying.{WritesAnswered}
 use Rattle.answer_commands.specs.Listing.{IsListedManifest, list_reply}
-use Rattle.answer_commands.specs.Printing.{Performs, Prints, printed}
+use Rattle.answer_parts.specs.Printing.{Performs, Prints, PrintsReplied, printed}
 use Rattle.answer_commands.specs.Replies.{NoRoomToReply, Replied, RepliesTo, Unread}
 use Rattle.answer_commands.specs.declared.check.FileCheck.{FileCheck}
-use Rattle.answer_commands.proofs.PrintLaws.{then_does}
+use Rattle.answer_parts.proofs.PrintLaws.{then_does}
 use Rattle.answer_commands.proofs.ReplyLaws.{replied, unread}
 
 -- ---- `list`
@@ -56,12 +55,12 @@ always (Err e) = tt
 
 module _ {T P F K S L : Type 0} (o : Outside T P F K S L) (t : ListTask) where
   list_so : {E : Type 0} (a b c : T) (lines : List Line) (answered : Result Answer E) (r : Result ℕ WriteFault) (files : Result (List File) ReadFault) → AreKeptOf IsLineOf (Ok lines) files → IfOk answered (λ x. IsManifestOf (map entry_of lines) (reply_of x))
-      → AddsSome o a b (LooksInFolder o.disk t.folder.now Unnamed t.progress files) → AddsSome o b c (Performs (WritesAnswered answered) r) → AddsSome o a c (Performs (RepliesTo (list_reply o.disk t)) r)
+      → AddsSome o a b (LooksInFolder o.disk t.folder.now Unnamed t.progress files) → AddsSome o b c (Performs (PrintsReplied answered) r) → AddsSome o a c (Performs (RepliesTo (list_reply o.disk t)) r)
   list_so a b c lines answered r (Ok files) made is p q = replied o (list_reply o.disk t) a b c files answered r (answered_so lines files answered made is) (always answered) p q
   list_so a b c lines answered r (Err fault) made is p q = absurd made
 
   pub list_replied : {E : Type 0} (a b c : T) (lines : List Line) (answered : Result Answer E) (r : Result ℕ WriteFault) → IfOk answered (λ x. IsManifestOf (map entry_of lines) (reply_of x))
-      → AddsSome o a b (LooksAt IsLineOf (LooksInFolder o.disk t.folder.now Unnamed t.progress) (Ok lines)) → AddsSome o b c (Performs (WritesAnswered answered) r) → AddsSome o a c (Performs (RepliesTo (list_reply o.disk t)) r)
+      → AddsSome o a b (LooksAt IsLineOf (LooksInFolder o.disk t.folder.now Unnamed t.progress) (Ok lines)) → AddsSome o b c (Performs (PrintsReplied answered) r) → AddsSome o a c (Performs (RepliesTo (list_reply o.disk t)) r)
   list_replied a b c lines answered r is p q = list_so a b c lines answered r p.2.files p.2.made is (p.0, p.1, p.2.reads) q
 
 -- the same fault
@@ -90,12 +89,12 @@ module _ {T P F K S L : Type 0} (o : Outside T P F K S L) (t : Check) (manifest 
   after_looks a b files p = then_gives o a b looks with_told files p
 
   check_so : {E : Type 0} (a b c : T) (seen : List FileCheck) (answered : Result Answer E) (r : Result ℕ WriteFault) (files : Result (List File) ReadFault) → AreKeptOf IsSeenOf (Ok seen) files → IfOk answered (λ x. (fs : List File) → AreMadeOf IsSeenOf seen fs → reply_of x ≡ checked_by fs (told_by manifest))
-      → AddsSome o a b (looks files) → AddsSome o b c (Performs (WritesAnswered answered) r) → AddsSome o a c (Performs (RepliesTo (folder_reply o.disk t manifest)) r)
+      → AddsSome o a b (looks files) → AddsSome o b c (Performs (PrintsReplied answered) r) → AddsSome o a c (Performs (RepliesTo (folder_reply o.disk t manifest)) r)
   check_so a b c seen answered r (Ok files) made is p q = replied o (folder_reply o.disk t manifest) a b c (with_told files) answered r (checked_so manifest seen files answered made is) (always answered) (after_looks a b files p) q
   check_so a b c seen answered r (Err fault) made is p q = absurd made
 
   pub check_replied : {E : Type 0} (a b c : T) (seen : List FileCheck) (answered : Result Answer E) (r : Result ℕ WriteFault) → IfOk answered (λ x. (fs : List File) → AreMadeOf IsSeenOf seen fs → reply_of x ≡ checked_by fs (told_by manifest))
-      → AddsSome o a b (LooksAt IsSeenOf looks (Ok seen)) → AddsSome o b c (Performs (WritesAnswered answered) r) → AddsSome o a c (Performs (RepliesTo (folder_reply o.disk t manifest)) r)
+      → AddsSome o a b (LooksAt IsSeenOf looks (Ok seen)) → AddsSome o b c (Performs (PrintsReplied answered) r) → AddsSome o a c (Performs (RepliesTo (folder_reply o.disk t manifest)) r)
   check_replied a b c seen answered r is p q = check_so a b c seen answered r p.2.files p.2.made is (p.0, p.1, p.2.reads) q
 
   pub check_unread : (a b c : T) (fault : ReadFault) (r : Result ℕ WriteFault) → AddsSome o a b (LooksAt IsSeenOf looks (Err fault)) → AddsSome o b c (Performs (Prints (cut_words fault ∷ []) 1) r) → AddsSome o a c (Performs (RepliesTo (folder_reply o.disk t manifest)) r)

@@ -4,7 +4,7 @@ use Rattle.std.proofs.lemmas.List.{take_all}
 use Rattle.std.specs.Prelude.{Result}
 use Rattle.answer_commands.specs.Inside.Answering.{IsMovesAnswer, MovesListed, NoRoom, NotText, PrintsAnswered}
 use Rattle.answer_commands.specs.Moves.{NoRoomForMoves, OfNone, OfPosition, PrintsMoves, move_line, move_lines}
-use Rattle.answer_commands.specs.Printing.{Prints}
+use Rattle.answer_parts.specs.Printing.{Prints}
 use Rattle.answer_commands.specs.declared.answers.Answer.{Answer}
 use Rattle.answer_parts.specs.Lines.{words_of}
 use Rattle.board_core.specs.ComputedMoves.{legal_moves}

@@ -4,7 +4,7 @@ use Rattle.std.specs.Prelude.{Result, Ok, Err, IfOk}
 use Rattle.answer_commands.specs.Inputs.{IsInput}
 use Rattle.answer_commands.specs.Inside.Answering.{PrintsAnswered, answer_lines, answer_status}
 use Rattle.answer_commands.specs.Inside.Running.{AnswersGame, IsRunAnswer, RunsRead}
-use Rattle.answer_commands.specs.Printing.{Performs, Prints}
+use Rattle.answer_parts.specs.Printing.{Performs, Prints}
 use Rattle.answer_commands.specs.Run.{ByTables, NoRoomToRun, NoTables, Ran, ReadsFiles, RunsAll, RunsInput, RunsSchedule, scheduled_game, world_words}
 use Rattle.answer_commands.specs.declared.answers.Answer.{Answer}
 use Rattle.command_line.specs.declared.commands.run.RunSchedule.{RunSchedule}
@@ -21,7 +21,7 @@ use Rattle.system_io.specs.declared.output.WriteFault.{WriteFault}
 use Rattle.system_io.specs.declared.reading.ReadFault.{ReadFault}
 use Rattle.timeline.specs.Events.{Event, InputRead}
 use Rattle.timeline.specs.Outsides.{AddsSome, Outside}
-use Rattle.answer_commands.proofs.PrintLaws.{then_does, then_prints}
+use Rattle.answer_parts.proofs.PrintLaws.{then_does, then_prints}
 use Rattle.answer_commands.proofs.ScheduleLaws.{last_of}
 
 -- the lines for the last world are the answer

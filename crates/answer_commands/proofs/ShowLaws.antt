@@ -16,10 +16,10 @@ use Rattle.timeline.specs.Events.{Event, InputRead, Wrote}
 use Rattle.timeline.specs.Outsides.{Adds, AddsSome, Outside}
 use Rattle.timeline.specs.declared.stream.Stream.TheVariants.{Output}
 use Rattle.answer_commands.specs.Inside.Streaming.{ShowsAll, ShowsFirst, ShowsStream}
-use Rattle.answer_commands.specs.Printing.{IsCutIn, Performs, Prints, printed}
+use Rattle.answer_parts.specs.Printing.{IsCutIn, Performs, Prints, printed}
 use Rattle.answer_commands.specs.Inputs.{IsInput}
 use Rattle.answer_commands.specs.Show.{ShownAll, ShownFirst, ShowsMessages, shown_lines, shown_status}
-use Rattle.answer_commands.proofs.PrintLaws.{Front, Whole, lines_cut, lines_more, then_prints}
+use Rattle.answer_parts.proofs.PrintLaws.{Front, Whole, lines_cut, lines_more, then_prints}
 
 -- the lines of some messages were written, and the rest of the stream is left
 pub record HasShown {T P F K S L : Type 0} (o : Outside T P F K S L) (stream rest : List ℕ) (old new : T) (number : ℕ) : Type 0 where

@@ -8,12 +8,20 @@ use Rattle.answer_commands.specs.Check.{check_reply}
 use Rattle.answer_commands.specs.Enter.{EntersGames}
 use Rattle.answer_commands.specs.Listing.{list_reply}
 use Rattle.answer_commands.specs.Moves.{PrintsMoves}
-use Rattle.answer_commands.specs.Printing.{Ends}
+use Rattle.answer_commands.specs.Endings.{Ends}
 use Rattle.answer_commands.specs.Records.{audit_asking, record_asking}
 use Rattle.answer_commands.specs.Replies.{RepliesTo, making_by, replying_by}
 use Rattle.answer_commands.specs.Run.{RunsSchedule}
 use Rattle.answer_commands.specs.Show.{ShowsMessages}
-use Rattle.answer_commands.specs.TableReplies.{judge_making, probe_making}
+use Rattle.answer_commands.specs.TableReplies.{RanksMoves, game_making, judge_making, probe_making}
+use Rattle.game_reports.specs.Audits.{AuditsGames}
+use Rattle.game_reports.specs.GameRecords.{PrintsGameRecord}
+use Rattle.game_reports.specs.Statuses.{ReportsStatus}
+use Rattle.table_commands.specs.Follow.{FollowsGame}
+use Rattle.table_commands.specs.Games.{games_asking}
+use Rattle.table_commands.specs.LineTasks.{AnswersLinesOf}
+use Rattle.table_commands.specs.Pgn.{JudgesPgn}
+use Rattle.table_commands.specs.Probes.{probes_asking}
 use Rattle.answer_commands.specs.Version.{PrintsVersion}
 use Rattle.answer_commands.specs.declared.answering.AnswerTask.{AnswerTask}
 use Rattle.answer_commands.specs.declared.answering.AnswerTask.TheVariants as answer
@@ -31,6 +39,15 @@ answered_once (task.Check t) = Some (answer.Check t)
 answered_once (task.Judge t) = Some (answer.Judge t)
 answered_once (task.Probe t) = Some (answer.Probe t)
 answered_once (task.Enter t) = Some (answer.Enter t)
+answered_once (task.Probes t) = Some (answer.Probes t)
+answered_once (task.Root t) = Some (answer.Root t)
+answered_once (task.Game t) = Some (answer.Game t)
+answered_once (task.Games t) = Some (answer.Games t)
+answered_once (task.Pgn t) = Some (answer.Pgn t)
+answered_once (task.Follow t) = Some (answer.Follow t)
+answered_once (task.Status t) = Some (answer.Status t)
+answered_once (task.GameRecord t) = Some (answer.GameRecord t)
+answered_once (task.AuditGames t) = Some (answer.AuditGames t)
 answered_once _ = None
 
 -- a task is one of these, or it isn't
@@ -51,6 +68,15 @@ Does o (answer.Check t) events status = RepliesTo (check_reply o.disk t) events 
 Does o (answer.Judge t) events status = RepliesTo (making_by o (judge_making t)) events status
 Does o (answer.Probe t) events status = RepliesTo (making_by o (probe_making t)) events status
 Does o (answer.Enter t) events status = EntersGames o t events status
+Does o (answer.Probes t) events status = AnswersLinesOf o (probes_asking t) events status
+Does o (answer.Root t) events status = RanksMoves o t events status
+Does o (answer.Game t) events status = RepliesTo (making_by o (game_making t)) events status
+Does o (answer.Games t) events status = AnswersLinesOf o (games_asking t) events status
+Does o (answer.Pgn t) events status = JudgesPgn o t events status
+Does o (answer.Follow t) events status = FollowsGame o t events status
+Does o (answer.Status t) events status = ReportsStatus o t events status
+Does o (answer.GameRecord t) events status = PrintsGameRecord o t events status
+Does o (answer.AuditGames t) events status = AuditsGames o t events status
 
 -- THE CONTRACT OF THE COMMANDS: the task, all that is known outside, what happened before and after, and the status
 abbrev pub Answers : {T P F K S L : Type 0} → AnswerTask → Outside T P F K S L → T → T → ℕ → Type 0

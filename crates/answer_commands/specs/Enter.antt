@@ -16,7 +16,7 @@ use Rattle.command_line.specs.declared.commands.enter.OneGame.{OneGame}
 use Rattle.answer_commands.specs.Earlier.{NotesEarlier}
 use Rattle.answer_commands.specs.Entries.{IsFirstEntryFault, SpellsEntry}
 use Rattle.answer_commands.specs.Keeping.{KeepsText}
-use Rattle.answer_commands.specs.Printing.{Prints, printed}
+use Rattle.answer_parts.specs.Printing.{Prints, printed}
 use Rattle.answer_commands.specs.Stamping.{ReadsStamping}
 use Rattle.answer_commands.specs.StoreReads.{Known, Unasked}
 use Rattle.answer_commands.specs.declared.keeping.GameText.TheVariants.{Stood, Written}

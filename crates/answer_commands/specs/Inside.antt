@@ -3,7 +3,6 @@ pub mod Answering
 pub mod Fronts
 pub mod Streaming
 pub mod Running
-pub mod Replying
 pub mod Looking
 pub mod StoreReading
 pub mod Entering

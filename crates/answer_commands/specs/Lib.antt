@@ -1,4 +1,4 @@
-pub mod Printing
+pub mod Endings
 pub mod Inputs
 pub mod Version
 pub mod Show

@@ -12,7 +12,7 @@ use Rattle.fen_text.specs.declared.fault.FenFault.{FenFault}
 use Rattle.line_teller.specs.ToldLines.{refused_memory}
 use Rattle.san_text.specs.Written.{san_of}
 use Rattle.timeline.specs.Events.{Event}
-use Rattle.answer_commands.specs.Printing.{Prints}
+use Rattle.answer_parts.specs.Printing.{Prints}
 
 -- a move in coordinates; with the flag its text in algebraic notation stands behind a tab
 abbrev pub move_line : Bool → Parts → Move → List ℕ

@@ -1,6 +1,5 @@
 -- What a command does that writes one reply by what it reads, as events (this project's own).
-use Rattle.std.specs.Prelude.{◌≡◌, ◌++◌, ℕ, List, [], ◌∷◌, map, Option, Some, Ok, Err}
-use Rattle.std.specs.List.{flat_map}
+use Rattle.std.specs.Prelude.{◌≡◌, ◌++◌, ℕ, List, [], ◌∷◌, Option, Some, Ok, Err}
 use Rattle.answer_parts.specs.Reply.{Reply}
 use Rattle.line_teller.specs.ToldLines.{cut_words, refused_memory}
 use Rattle.system_io.specs.Disks.{DiskFacts}
@@ -8,20 +7,9 @@ use Rattle.system_io.specs.declared.reading.ReadFault.{ReadFault}
 use Rattle.task_files.specs.Given.{Given}
 use Rattle.task_files.specs.InputReads.{Reading, ReadsGiven, Then}
 use Rattle.task_files.specs.Sources.{Named}
-use Rattle.timeline.specs.Events.{Event, Wrote}
+use Rattle.timeline.specs.Events.{Event}
 use Rattle.timeline.specs.Outsides.{Outside}
-use Rattle.timeline.specs.declared.stream.Stream.TheVariants.{Output}
-use Rattle.answer_commands.specs.Printing.{printed}
-
--- a text is written, in some pieces
-pub record WritesText (text : List ℕ) (events : List Event) : Type 0 where
-  pub pieces : List (List ℕ)
-  pub whole : flat_map (λ piece. piece) pieces ≡ text
-  pub written : events ≡ map (Wrote Output) pieces
-
--- the text of a reply is written, and its status is the status
-abbrev pub WritesReply : Reply → List Event → Option ℕ → Type 0
-WritesReply reply events status = WritesText reply.text events × (status ≡ Some reply.status)
+use Rattle.answer_parts.specs.Printing.{PrintsReply, printed}
 
 -- a task: what is read for it, its reply by that, and when that takes memory
 pub record Replying (A : Type 0) : Type 1 where
@@ -31,7 +19,7 @@ pub record Replying (A : Type 0) : Type 1 where
 
 -- what the task names is read, and then its reply is written; or that memory was refused for the reply; or why something can't be read
 pub data RepliesTo {A : Type 0} (t : Replying A) (events : List Event) (status : Option ℕ) : Type 0 where
-  Replied : (given : A) (reading writing : List Event) (reply : Reply) → t.Reads (Ok given) reading → t.IsReply given reply → WritesReply reply writing status → events ≡ reading ++ writing → RepliesTo t events status
+  Replied : (given : A) (reading writing : List Event) (reply : Reply) → t.Reads (Ok given) reading → t.IsReply given reply → PrintsReply reply writing status → events ≡ reading ++ writing → RepliesTo t events status
   NoRoomToReply : (given : A) (reading : List Event) → t.Reads (Ok given) reading → t.TakesMemory given → events ≡ reading ++ printed (refused_memory ∷ []) → status ≡ Some 1 → RepliesTo t events status
   Unread : (fault : ReadFault) (reading : List Event) → t.Reads (Err fault) reading → events ≡ reading ++ printed (cut_words fault ∷ []) → status ≡ Some 1 → RepliesTo t events status
 

@@ -21,7 +21,7 @@ use Rattle.table_file.specs.declared.fault.TableFault.{TableFault}
 use Rattle.timeline.specs.Events.{Event, InputRead}
 use Rattle.timeline.specs.Outsides.{Outside}
 use Rattle.answer_commands.specs.Inputs.{IsInput, IsUnread, ReadsNamed}
-use Rattle.answer_commands.specs.Printing.{printed}
+use Rattle.answer_parts.specs.Printing.{printed}
 
 -- the game of a schedule, where a verdict by tables must hold for so many further plies
 abbrev pub scheduled_game : Schedule → ℕ → GameView

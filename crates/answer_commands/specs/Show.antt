@@ -10,7 +10,7 @@ use Rattle.system_io.specs.Inputs.{InputFacts}
 use Rattle.system_io.specs.declared.reading.ReadFault.{ReadFault}
 use Rattle.timeline.specs.Events.{Event, InputRead}
 use Rattle.answer_commands.specs.Inputs.{IsInput, IsUnread}
-use Rattle.answer_commands.specs.Printing.{printed}
+use Rattle.answer_parts.specs.Printing.{printed}
 
 -- a line a message, and a refusal where the stream doesn't end after one
 abbrev pub shown_lines : List Message → End → List (List ℕ)

@@ -2,7 +2,8 @@
 
 ghost use Rattle.std.specs.Prelude.{OnErr};
 ghost use Rattle.answer_commands.specs.Answers.{Answers, Does, IsOnce};
-ghost use Rattle.answer_commands.specs.Printing.{OutputFails, Performs};
+ghost use Rattle.answer_parts.specs.Printing.{OutputFails, Performs};
+ghost use Rattle.answer_commands.specs.TableReplies.{RanksMoves};
 ghost use Rattle.timeline.specs.Outsides.{AddsSome};
 
 use crate::check::print_check;
@@ -10,13 +11,18 @@ use crate::entering::enter_games;
 use crate::list::print_manifest;
 use crate::moves::print_moves;
 use crate::printing::end;
-use crate::replying::{make_reply, reply_to};
+use crate::replying::{RootText, make_reply, reply_to};
 use crate::run::run_schedule;
 use crate::show::show_input;
 use crate::version::print_version;
-use command_line::{Audit, Check, Enter, Judge, List, Moves, Probe, RunSchedule, ShowRecord, Task};
+use command_line::{
+    Audit, AuditGames, Check, Enter, Follow, FollowGame, FollowGames, GameRecord, Judge, JudgePgn,
+    List, Moves, Probe, Probes, Root, RunSchedule, ShowRecord, ShowStatus, Task,
+};
+use game_reports::{print_audit, print_game_record, report_status};
 use std::alloc::Global;
 use system_io::WriteFault;
+use table_commands::{answer_lines_of, follow, pgn};
 use timeline::System;
 
 /// A task that is answered once.
@@ -44,6 +50,24 @@ pub enum AnswerTask<'a> {
     Probe(Probe<'a>),
     /// Games that are entered in a folder.
     Enter(Enter<'a>),
+    /// What tables tell of the positions of the input.
+    Probes(Probes<'a>),
+    /// What tables tell of the legal moves of a position, or of those of the input.
+    Root(Root<'a>),
+    /// What the game of the input comes to.
+    Game(FollowGame<'a>),
+    /// What the games of the input come to.
+    Games(FollowGames<'a>),
+    /// What tables say of the games of a PGN file.
+    Pgn(JudgePgn<'a>),
+    /// The game of the input, ply by ply.
+    Follow(Follow<'a>),
+    /// How far the games of a folder have come, or those of two.
+    Status(ShowStatus<'a>),
+    /// The record of a game in a folder.
+    GameRecord(GameRecord<'a>),
+    /// Whether the records of a folder's games, or of two, are sound and agree.
+    AuditGames(AuditGames<'a>),
 }
 
 impl<'a> AnswerTask<'a> {
@@ -63,8 +87,33 @@ impl<'a> AnswerTask<'a> {
             Task::Judge(judge) => Ok(AnswerTask::Judge(judge)),
             Task::Probe(probe) => Ok(AnswerTask::Probe(probe)),
             Task::Enter(enter) => Ok(AnswerTask::Enter(enter)),
+            Task::Probes(probes) => Ok(AnswerTask::Probes(probes)),
+            Task::Root(root) => Ok(AnswerTask::Root(root)),
+            Task::Game(game) => Ok(AnswerTask::Game(game)),
+            Task::Games(games) => Ok(AnswerTask::Games(games)),
+            Task::Pgn(pgn) => Ok(AnswerTask::Pgn(pgn)),
+            Task::Follow(follow) => Ok(AnswerTask::Follow(follow)),
+            Task::Status(status) => Ok(AnswerTask::Status(status)),
+            Task::GameRecord(record) => Ok(AnswerTask::GameRecord(record)),
+            Task::AuditGames(audit) => Ok(AnswerTask::AuditGames(audit)),
             other => Err(other),
         }
+    }
+}
+
+/// Answers the position of a task's words with its legal moves, or each line of the input.
+fn rank_moves<S: System>(
+    alloc: Global,
+    task: &Root<'_>,
+    system: &S,
+    timeline: &mut S::Timeline,
+) -> Result<u8, WriteFault>
+    ensures made { AddsSome (S.outside system.now) timeline.old timeline.new (Performs (RanksMoves (S.outside system.now) task.now) result) }
+    ensures cause { OnErr result (OutputFails (S.outside system.now)) }
+{
+    match task.fen {
+        Some(text) => make_reply(alloc, &RootText { task, text }, system, timeline),
+        None => answer_lines_of(alloc, task, system, timeline),
     }
 }
 
@@ -90,19 +139,34 @@ fn answer_task<S: System>(
         AnswerTask::Judge(task) => make_reply(alloc, task, system, timeline),
         AnswerTask::Probe(task) => make_reply(alloc, task, system, timeline),
         AnswerTask::Enter(task) => enter_games(alloc, task, system, timeline),
+        AnswerTask::Probes(task) => answer_lines_of(alloc, task, system, timeline),
+        AnswerTask::Root(task) => rank_moves(alloc, task, system, timeline),
+        AnswerTask::Game(task) => make_reply(alloc, task, system, timeline),
+        AnswerTask::Games(task) => answer_lines_of(alloc, task, system, timeline),
+        AnswerTask::Pgn(task) => pgn::answer(alloc, task, system, timeline),
+        AnswerTask::Follow(task) => follow::answer(alloc, task, system, timeline),
+        AnswerTask::Status(task) => report_status(alloc, task, system, timeline),
+        AnswerTask::GameRecord(task) => print_game_record(alloc, task, system, timeline),
+        AnswerTask::AuditGames(task) => print_audit(alloc, task, system, timeline),
     }
 }
 
 /// Answers a task, and returns the status: 0 done, 1 refused, also where the output can't be written, which is noted.
 ///
-/// What the task names is read first, each thing once: for `run` the files of its folder, in rising order of names, and then the input, to
-/// its end; for `show` the input; for `record` a kept file; for `audit` the manifest, the files of its folder and the kept files; for
-/// `judge` and `probe` the manifest and the files of its folder, or with `--lazy` the manifest, and then for a position the folder's names and
-/// the files of the tables that it misses; for `check` the manifest, and then, as for `list`, the files of its folder one by one, of which
-/// one is held at a time; for `enter` the list, where there is one, and then the manifest or, as for `list`, the files of the folder of tables;
-/// for the others nothing. `enter` then keeps each game, and prints its line, before the next one.
-/// With `--progress` of these two a line goes to standard error after each hundred million bytes. What can't be read is `refused files`; where memory is refused the line is
-/// `refused memory`. Then the lines of the answer are written, and at last all that was written goes out. Nothing else happens outside.
+/// What the task names is read first, each thing once:
+///
+/// - for `run` the files of its folder, in rising order of names, and then the input, to its end; for `show` the input;
+/// - for `record` a kept file; for `audit` the manifest, the files of its folder and the kept files;
+/// - for `list` the files of its folder, and for `check` the manifest before them: one by one, of which one is held at a time;
+/// - for the commands by tables the manifest and the files of their folder, or the manifest alone, where the folder's names and then the files
+///   of the tables that are missed are read meanwhile; for `game` also the input. `pgn` and `follow` read no more of it than a game or a
+///   line at a time, `probes`, `games` and `root` of many positions a line;
+/// - for `enter` the list, where there is one, and then the manifest or, as for `list`, the files of the folder of tables. Each game is kept,
+///   and its line printed, before the next one;
+/// - for `status`, `audit` of folders and `record` of a game the folders of games, the records of their stores, and then file by file.
+///
+/// What can't be read is `refused files`; where memory is refused the line is `refused memory`. Progress goes to standard error where it is
+/// wanted. At last all that was written goes out. Nothing else happens outside.
 pub fn answer<S: System>(
     alloc: Global,
     task: &AnswerTask,

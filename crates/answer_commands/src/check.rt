@@ -3,7 +3,7 @@
 ghost use Rattle.std.specs.Prelude.{◌≡◌, List, map, IfOk, OnErr};
 ghost use Rattle.answer_commands.specs.Check.{check_reply, checked_by, folder_reply};
 ghost use Rattle.answer_commands.specs.Inside.Looking.{IsSeenOf, fault_seen, reply_seen, sight_of};
-ghost use Rattle.answer_commands.specs.Printing.{OutputFails, Performs};
+ghost use Rattle.answer_parts.specs.Printing.{OutputFails, Performs};
 ghost use Rattle.answer_commands.specs.Replies.{RepliesTo};
 ghost use Rattle.answer_parts.specs.Asked.{reply_of};
 ghost use Rattle.move_msg.specs.Files.{File};
@@ -12,9 +12,7 @@ ghost use Rattle.move_msg.specs.ToldBy.{told_by};
 ghost use Rattle.task_files.specs.Made.{AreMadeOf};
 ghost use Rattle.timeline.specs.Outsides.{AddsSome};
 
-use crate::printing::print_unread;
-use crate::replying::print_replied;
-use answer_parts::{Answer, Line, Refusal};
+use answer_parts::{Answer, Line, Refusal, print_replied, print_unread};
 use command_line::Check;
 use move_msg::{Line as Entry, Manifest, NamedFile};
 use std::alloc::{AllocError, Global};

@@ -1,33 +1,20 @@
 //! The note on a game that was in a folder before it is entered there.
 
-ghost use Rattle.std.specs.Prelude.{◌≡◌, ◌↔◌, option_map, IsTrue, take, drop};
+ghost use Rattle.std.specs.Prelude.{◌≡◌, ◌↔◌, IsTrue, take, drop};
 ghost use Rattle.answer_commands.specs.Earlier.{CountsMoves, FindsCount, NotesKnown, Recounts, SeeksCount, earlier_words};
 ghost use Rattle.answer_commands.specs.Inside.StoreReading.{known_of};
 ghost use Rattle.hex.specs.Hex.{encode_lower};
 ghost use Rattle.system_io.specs.Records.{records_of};
-ghost use Rattle.timeline.specs.Events.{bytes_found};
 ghost use Rattle.timeline.specs.Outsides.{AddsSome};
 
 use crate::store_reading::Records;
 use arrayvec::ArrayString;
+use game_reports::found_in;
 use itoa::Buffer;
 use move_msg::{Record, Stamp};
 use std::alloc::Global;
 use system_io::{Entry, MOST_KEPT_BYTES};
 use timeline::System;
-
-/// The bytes of the record of a game among those of a store. Of two the later one counts.
-fn found_in<'a>(entries: &'a [Entry], stamp: Stamp) -> Option<&'a [u8]>
-    ensures { bytes_found result ≡ option_map (λ r. r.bytes) (records_of entries.now stamp) }
-{
-    let mut found = None;
-    for entry in entries {
-        if entry.stamp == stamp.0 {
-            found = Some(entry.record.as_slice());
-        }
-    }
-    found
-}
 
 /// Whether bytes have a stamp where a record has its own.
 fn has_stamp(bytes: &[u8], stamp: Stamp) -> bool

@@ -1,21 +1,24 @@
-//! The commands over one timeline: `version`, `show`, `moves`, `run`, `record`, `audit`, `list`, `check`, `judge`, `probe` and `enter`.
+//! The commands over one timeline: `version`, `show`, `moves`, `run`, `record`, `audit`, `list`, `check`, `judge`, `probe`, `probes`, `root`,
+//! `game`, `games`, `pgn`, `follow`, `status` and `enter`.
 //!
 //! `answer` does all that such a command does outside: it reads what the task names, writes the answer, sees to it that all goes out, and
 //! returns the status, 0 done or 1 refused. The contract has every event, in order, and says that there is no other one. Where the output
 //! fails, that is a front of them; then it is noted, and the status is 1.
 //!
-//! Inside: a file for each command, but for `record` and `audit`, which reply by what `record_commands` makes of what was read, and `judge`
-//! and `probe`, which reply by what `table_commands` makes of it, and may read tables meanwhile (`replying`); `answers` (an answer before it
-//! is written), `printing` (lines, refusals and the output's end), `answering` (all of them). Of `enter` there are `entries` (the lines of a
-//! list), `stamping` (the manifest), `keeping` (a game's file), `store_reading` and `earlier` (the note on a game that was there before), and
-//! `entering` (the command).
+//! Inside: a file for each command that is made here. The others are done elsewhere: `record` and `audit` reply by what `record_commands`
+//! makes of what was read; `judge`, `probe`, `root FEN` and `game` by what `table_commands` makes of it, which may read tables meanwhile
+//! (`replying`); the commands that answer lines, `pgn` and `follow` are done by `table_commands`, and `status` and what is asked of all games
+//! by `game_reports`. `answers` has an answer before it is written, `printing` lines, refusals and the output's end, `answering` all of them.
+//! Of `enter` there are `entries` (the lines of a list), `stamping` (the manifest), `keeping` (a game's file) and `earlier` (the note on a
+//! game that was there before), and `entering` (the command).
 //!
 //! Definitions, in reading order: `Printing` (`Prints`, `IsCutIn`, `Performs`, `Closes`, `Ends`), `Inputs`, `Version`, `Show`, `Moves`, `Run`,
-//! `Replies` (`RepliesTo`), `Records`, `TableReplies`, `Listing`, `Check`; of `enter` `Stamping`, `Keeping` (`KeepsText`), `StoreReads` (`Asks`),
+//! `Replies` (`RepliesTo`), `Records`, `TableReplies`, `Listing`, `Check`; of `enter` `Stamping`, `Keeping` (`KeepsText`),
 //! `Earlier` (`NotesEarlier`), `Entries`, `Enter` (`KeepsGame`, `EntersGames`); `Answers` (`Does`, `Answers`).
 //!
-//! - CLAIM: `answer`: but for `enter`, what is read is read once, before anything is written to the output; nothing is written to the errors but the progress
-//!   of `list` and `check`, where it is wanted, and nothing else happens outside. An error of the output leaves a front of these events.
+//! - CLAIM: `answer`: what a command names is read once, before anything is written to the output; but `enter`, `status` and what is asked of all
+//!   games read file by file. Nothing is written to the errors but progress, where it is wanted, and nothing else happens outside. An error
+//!   of the output leaves a front of these events.
 //! - CLAIM: `answer`: `version` and `moves` read nothing. `show` answers want of memory only where reading the input takes some, `moves` and
 //!   `audit` only for a text that is a position, `record` only for what is laid out as a record.
 //! - CLAIM: `answer`: `run` reads its folder before the input. It refuses what can't be read first, then the first malformed line of the
@@ -26,8 +29,8 @@
 //!   a game was there before is noted, with the number of moves of its record, where the record can be read. No game of a line is opened
 //!   after a line that can't be written or for whose game memory was refused.
 //! - CLAIM: `answer`: `list` and `check` read their files one by one, in rising order of names. (That one is held at a time is code.)
-//! - CLAIM: `answer`: `judge` and `probe` read what they name once, in order. With `--lazy` the folder of the tables is listed once after
-//!   that, and then the file of each table that the position misses is read once; of no other.
+//! - CLAIM: `answer`: what is answered by tables reads what it names once, in order. Where tables are read when they are asked for, their
+//!   folder is listed once after that, and then the file of each table that a position misses is read once; of no other.
 #![tactic(auto)]
 
 mod answering;

@@ -3,15 +3,13 @@
 ghost use Rattle.std.specs.Prelude.{map, IfOk, OnErr};
 ghost use Rattle.answer_commands.specs.Inside.Looking.{IsManifestOf};
 ghost use Rattle.answer_commands.specs.Listing.{list_reply};
-ghost use Rattle.answer_commands.specs.Printing.{OutputFails, Performs};
+ghost use Rattle.answer_parts.specs.Printing.{OutputFails, Performs};
 ghost use Rattle.answer_commands.specs.Replies.{RepliesTo};
 ghost use Rattle.answer_parts.specs.Asked.{reply_of};
 ghost use Rattle.move_msg.specs.Manifests.{AreEntries, entry_of};
 ghost use Rattle.timeline.specs.Outsides.{AddsSome};
 
-use crate::printing::print_unread;
-use crate::replying::print_replied;
-use answer_parts::Answer;
+use answer_parts::{Answer, print_replied, print_unread};
 use command_line::List;
 use move_msg::{Line, Manifest, manifest_write};
 use std::alloc::{AllocError, Global};

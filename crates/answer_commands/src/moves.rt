@@ -3,7 +3,7 @@
 ghost use Rattle.std.specs.Prelude.{◌≡◌, ◌++◌, ◌∷◌, [], IfOk, OnErr, OnOk, map};
 ghost use Rattle.answer_commands.specs.Inside.Answering.{IsMovesAnswer};
 ghost use Rattle.answer_commands.specs.Moves.{PrintsMoves, move_line, move_lines};
-ghost use Rattle.answer_commands.specs.Printing.{OutputFails, Performs};
+ghost use Rattle.answer_parts.specs.Printing.{OutputFails, Performs};
 ghost use Rattle.answer_parts.specs.Lines.{words_of};
 ghost use Rattle.board_core.specs.Moves.{IsLegal};
 ghost use Rattle.timeline.specs.Outsides.{AddsSome};

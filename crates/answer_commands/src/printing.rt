@@ -1,66 +1,17 @@
-//! Lines that are written, and the output's end.
+//! Answers that are written, and the output's end.
 
-ghost use Rattle.std.specs.Prelude.{◌≡◌, ◌∷◌, [], OnErr, map};
+ghost use Rattle.std.specs.Prelude.{◌≡◌, ◌∷◌, [], OnErr};
 ghost use Rattle.answer_commands.specs.Inside.Answering.{PrintsAnswered, answer_lines, answer_status};
-ghost use Rattle.answer_commands.specs.Printing.{ArePrinted, Closes, OutputFails, Performs, Prints, output_lost};
-ghost use Rattle.answer_parts.specs.Lines.{refusal_words, words_of};
-ghost use Rattle.line_teller.specs.ToldLines.{cut_words};
+ghost use Rattle.answer_commands.specs.Endings.{Closes, output_lost};
+ghost use Rattle.answer_parts.specs.Printing.{OutputFails, Performs, Prints};
 ghost use Rattle.timeline.specs.Events.{Noted};
 ghost use Rattle.timeline.specs.Outsides.{Adds, AddsSome};
 
 use crate::answers::Answer;
-use answer_parts::{Line, Refusal};
+use answer_parts::{Refusal, print_lines, print_refusal};
 use std::alloc::AllocError;
-use system_io::{ReadFault, WriteFault};
+use system_io::WriteFault;
 use timeline::{Stream, System};
-
-/// Writes lines, each at once. Nothing more is written after one that is refused.
-pub(crate) fn print_lines<S: System>(
-    system: &S,
-    timeline: &mut S::Timeline,
-    lines: &[Line],
-) -> Result<(), WriteFault>
-    ensures made { AddsSome (S.outside system.now) timeline.old timeline.new (ArePrinted (map words_of lines.now) result) }
-    ensures cause { OnErr result (OutputFails (S.outside system.now)) }
-{
-    for line in lines {
-        match line.words().write(system, timeline, Stream::Output) {
-            Ok(()) => {}
-            Err(fault) => return Err(fault),
-        }
-    }
-    Ok(())
-}
-
-/// Writes a refusal of all else, and returns the status 1.
-pub(crate) fn print_refusal<S: System>(
-    system: &S,
-    timeline: &mut S::Timeline,
-    refusal: Refusal,
-) -> Result<u8, WriteFault>
-    ensures made { AddsSome (S.outside system.now) timeline.old timeline.new (Performs (Prints (refusal_words refusal ∷ []) 1) result) }
-    ensures cause { OnErr result (OutputFails (S.outside system.now)) }
-{
-    match refusal.words().write(system, timeline, Stream::Output) {
-        Ok(()) => Ok(1),
-        Err(fault) => Err(fault),
-    }
-}
-
-/// Writes why something wasn't read, and returns the status 1.
-pub(crate) fn print_unread<S: System>(
-    system: &S,
-    timeline: &mut S::Timeline,
-    fault: ReadFault,
-) -> Result<u8, WriteFault>
-    ensures made { AddsSome (S.outside system.now) timeline.old timeline.new (Performs (Prints (cut_words fault ∷ []) 1) result) }
-    ensures cause { OnErr result (OutputFails (S.outside system.now)) }
-{
-    match fault {
-        ReadFault::Unreadable => print_refusal(system, timeline, Refusal::Files),
-        ReadFault::OutOfMemory => print_refusal(system, timeline, Refusal::Memory),
-    }
-}
 
 /// Writes an answer, and returns its status.
 fn print_answer<S: System>(

@@ -1,94 +1,25 @@
 //! Commands that write one reply by what they read.
 
-ghost use Rattle.std.specs.Prelude.{◌≡◌, map, IfOk, OnErr};
-ghost use Rattle.answer_commands.specs.Inside.Replying.{WritesAnswered};
-ghost use Rattle.answer_commands.specs.Printing.{OutputFails, Performs};
+ghost use Rattle.std.specs.Prelude.{◌≡◌, IfOk, OnErr};
+ghost use Rattle.answer_parts.specs.Printing.{OutputFails, Performs};
 ghost use Rattle.answer_commands.specs.Records.{audit_asking, record_asking};
-ghost use Rattle.answer_commands.specs.Replies.{Asking, Making, RepliesTo, WritesReply, making_by, replying_by};
-ghost use Rattle.answer_commands.specs.TableReplies.{judge_making, probe_making};
+ghost use Rattle.answer_commands.specs.Replies.{Asking, Making, RepliesTo, making_by, replying_by};
+ghost use Rattle.answer_commands.specs.TableReplies.{game_making, judge_making, probe_making, root_making};
 ghost use Rattle.answer_parts.specs.Asked.{reply_of};
-ghost use Rattle.answer_parts.specs.Lines.{words_of};
-ghost use Rattle.move_msg.specs.TextLines.{text_of};
 ghost use Rattle.table_commands.specs.FolderReads.{made_reply};
 ghost use Rattle.table_folder.specs.Reads.{PassesSome};
 ghost use Rattle.task_files.specs.Sources.{named_by};
 ghost use Rattle.timeline.specs.Outsides.{AddsSome};
 
-use crate::printing::{print_lines, print_refusal, print_unread};
-use answer_parts::{Answer, Line, Refusal, fault_line, status_if};
-use command_line::{Audit, Judge, Probe, ShowRecord};
+use answer_parts::{Answer, print_replied, print_unread};
+use command_line::{Audit, FollowGame, Judge, Probe, Root, ShowRecord};
 use record_commands::{audit, record};
 use std::alloc::{AllocError, Global};
 use system_io::WriteFault;
-use table_commands::{judge, probe};
+use table_commands::{game, judge, probe, root};
 use table_folder::{SystemFiles, TableFiles};
 use task_files::{InputPaths, Inputs, read_inputs};
-use timeline::{Stream, System};
-
-/// Writes a text, and returns this status.
-fn print_text<S: System>(
-    system: &S,
-    timeline: &mut S::Timeline,
-    text: &[u8],
-    status: u8,
-) -> Result<u8, WriteFault>
-    ensures made { AddsSome (S.outside system.now) timeline.old timeline.new (Performs (WritesReply (record { text = text.now; status = status })) result) }
-    ensures cause { OnErr result (OutputFails (S.outside system.now)) }
-{
-    match system.write(timeline, Stream::Output, text) {
-        Ok(()) => Ok(status),
-        Err(fault) => Err(fault),
-    }
-}
-
-/// Writes lines, each at once, and returns this status.
-fn print_all<S: System>(
-    system: &S,
-    timeline: &mut S::Timeline,
-    lines: &[Line],
-    status: u8,
-) -> Result<u8, WriteFault>
-    ensures made { AddsSome (S.outside system.now) timeline.old timeline.new (Performs (WritesReply (record { text = text_of (map words_of lines.now); status = status })) result) }
-    ensures cause { OnErr result (OutputFails (S.outside system.now)) }
-{
-    match print_lines(system, timeline, lines) {
-        Ok(()) => Ok(status),
-        Err(fault) => Err(fault),
-    }
-}
-
-/// Writes an answer, and returns its status.
-fn print_reply<S: System>(
-    system: &S,
-    timeline: &mut S::Timeline,
-    answer: &Answer,
-) -> Result<u8, WriteFault>
-    ensures made { AddsSome (S.outside system.now) timeline.old timeline.new (Performs (WritesReply (reply_of answer.now)) result) }
-    ensures cause { OnErr result (OutputFails (S.outside system.now)) }
-{
-    match answer {
-        Answer::Refused(refusal) => print_refusal(system, timeline, *refusal),
-        Answer::One(line, done) => print_all(system, timeline, &[*line], status_if(*done)),
-        Answer::Lines(lines, done) => print_all(system, timeline, lines, status_if(*done)),
-        Answer::Text(text, done) => print_text(system, timeline, text, status_if(*done)),
-        Answer::JsonFault(fault) => print_text(system, timeline, fault_line(*fault).as_bytes(), 1),
-    }
-}
-
-/// Writes an answer, or the line `refused memory` where memory was refused for it, and returns the status.
-pub(crate) fn print_replied<S: System>(
-    system: &S,
-    timeline: &mut S::Timeline,
-    answered: Result<Answer, AllocError>,
-) -> Result<u8, WriteFault>
-    ensures made { AddsSome (S.outside system.now) timeline.old timeline.new (Performs (WritesAnswered answered) result) }
-    ensures cause { OnErr result (OutputFails (S.outside system.now)) }
-{
-    match answered {
-        Ok(answer) => print_reply(system, timeline, &answer),
-        Err(_) => print_refusal(system, timeline, Refusal::Memory),
-    }
-}
+use timeline::System;
 
 /// A task that is answered by one reply.
 pub(crate) trait ReplyTask {
@@ -199,6 +130,51 @@ impl<'a> MakingTask for Probe<'a> {
         files: &F,
     ) -> Result<Answer, AllocError> {
         probe::answer(alloc, log, self, given, files)
+    }
+}
+
+impl<'a> MakingTask for FollowGame<'a> {
+    ghost making = { game_making };
+
+    fn names(&self) -> InputPaths<'_> {
+        self.places()
+    }
+
+    fn make<F: TableFiles>(
+        &self,
+        alloc: Global,
+        log: &mut F::Log,
+        given: &Inputs,
+        files: &F,
+    ) -> Result<Answer, AllocError> {
+        game::answer(alloc, log, self, given, files)
+    }
+}
+
+/// The legal moves of the position of a text.
+#[derive(Drop)]
+pub(crate) struct RootText<'t, 'a> {
+    /// The task.
+    pub(crate) task: &'t Root<'a>,
+    /// The text.
+    pub(crate) text: &'t str,
+}
+
+impl<'t, 'a> MakingTask for RootText<'t, 'a> {
+    ghost making = { λ t. root_making t.task.now t.text.now };
+
+    fn names(&self) -> InputPaths<'_> {
+        self.task.places()
+    }
+
+    fn make<F: TableFiles>(
+        &self,
+        alloc: Global,
+        log: &mut F::Log,
+        given: &Inputs,
+        files: &F,
+    ) -> Result<Answer, AllocError> {
+        root::answer_text(alloc, log, self.task, given, files, self.text)
     }
 }
 

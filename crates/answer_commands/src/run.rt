@@ -3,7 +3,7 @@
 ghost use Rattle.std.specs.Prelude.{◌≡◌, ◌<◌, ℕ, Option, OnErr, length, map, Err, IfOk, IfErr};
 ghost use Rattle.answer_commands.specs.Inside.Answering.{answer_lines, answer_status};
 ghost use Rattle.answer_commands.specs.Inside.Running.{AnswersGame, AnswersSchedule, IsRunAnswer, RunsRead};
-ghost use Rattle.answer_commands.specs.Printing.{OutputFails, Performs};
+ghost use Rattle.answer_parts.specs.Printing.{OutputFails, Performs};
 ghost use Rattle.answer_commands.specs.Run.{ReadsFiles, RefusesTable, RunsSchedule, counted_record, scheduled_game, side_words, world_words};
 ghost use Rattle.answer_parts.specs.Lines.{refusal_words, refused_line, words_of};
 ghost use Rattle.arbiter_core.specs.Recording.{Recorded};
@@ -18,8 +18,8 @@ ghost use Rattle.task_files.specs.TableReads.{taken};
 ghost use Rattle.timeline.specs.Outsides.{AddsSome};
 
 use crate::answers::Answer;
-use crate::printing::{print_answered, print_unread};
-use answer_parts::{KeptCount, Line, Refusal};
+use crate::printing::print_answered;
+use answer_parts::{KeptCount, Line, Refusal, print_unread};
 use board_core::{Delay, Verdict};
 use command_line::{CacheSize, RunSchedule};
 use move_msg::{ArbiterId, Manifest, NamedFile};

@@ -3,13 +3,12 @@
 ghost use Rattle.std.specs.Prelude.{◌≡◌, OnErr};
 ghost use Rattle.answer_commands.specs.Inside.Fronts.{IsFront};
 ghost use Rattle.answer_commands.specs.Inside.Streaming.{ShowsStream};
-ghost use Rattle.answer_commands.specs.Printing.{OutputFails, Performs};
+ghost use Rattle.answer_parts.specs.Printing.{OutputFails, Performs};
 ghost use Rattle.answer_commands.specs.Show.{ShowsMessages};
 ghost use Rattle.move_msg.specs.Streams.{nothing_fed};
 ghost use Rattle.timeline.specs.Outsides.{AddsSome};
 
-use crate::printing::{print_refusal, print_unread};
-use answer_parts::{Line, Refusal};
+use answer_parts::{Line, Refusal, print_refusal, print_unread};
 use move_msg::{Feeder, Message, MessageFault};
 use std::alloc::Global;
 use system_io::WriteFault;

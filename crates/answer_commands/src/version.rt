@@ -1,7 +1,7 @@
 //! `version`: the program's version.
 
 ghost use Rattle.std.specs.Prelude.{OnErr};
-ghost use Rattle.answer_commands.specs.Printing.{OutputFails, Performs};
+ghost use Rattle.answer_parts.specs.Printing.{OutputFails, Performs};
 ghost use Rattle.answer_commands.specs.Version.{PrintsVersion};
 ghost use Rattle.timeline.specs.Outsides.{AddsSome};
 

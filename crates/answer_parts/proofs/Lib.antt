@@ -1,6 +1,6 @@
-pub mod AnswerLaws
+pub mod PrintLaws
+pub mod ReplyLaws
 pub mod TableLaws
 pub mod TextLaws
-pub mod InputLaws
 pub mod LookLaws
 pub mod StoreLaws

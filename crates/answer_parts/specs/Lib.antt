@@ -1,9 +1,9 @@
 pub mod Lines
 pub mod Reply
 pub mod Telling
-pub mod LineAnswers
 pub mod JsonAnswers
 pub mod Asked
+pub mod Printing
 pub mod Looks
 pub mod Refusals
 pub mod Manifests

@@ -1,5 +1,5 @@
 -- Replies: a text and a status (this project's own).
-use Rattle.std.specs.Prelude.{◌≡◌, ℕ, Bool, List, Option, Result, Ok, Err, if◌then◌else◌}
+use Rattle.std.specs.Prelude.{◌≡◌, ℕ, Bool, List, Result, Ok, Err, if◌then◌else◌}
 use Rattle.board_core.specs.declared.parts.Parts.{Parts}
 use Rattle.board_core.specs.Position.{IsPosition}
 use Rattle.fen_text.specs.declared.fault.FenFault.{FenFault}
@@ -8,8 +8,6 @@ use Rattle.judge_core.specs.Tables.{Tables}
 use Rattle.move_msg.specs.TextLines.{ended}
 use Rattle.system_io.specs.declared.output.WriteFault.{WriteFault}
 use Rattle.answer_parts.specs.Lines.{refused_fen}
-use Rattle.answer_parts.specs.Telling.{TellsOne, TellsWholeText}
-use Rattle.line_teller.specs.ToldLines.{refused_memory}
 
 pub record Reply : Type 0 where
   pub text : List ℕ
@@ -41,12 +39,3 @@ pub data IsForText (text : List ℕ) (IsAnswer : Parts → Reply → Type 0) (r 
 -- the text spells a position
 abbrev pub IsText : List ℕ → Type 0
 IsText text = (p : Parts) × SpellsPosition text p × IsPosition p
-
--- the reply was written whole, and its status told; or, where the writer failed, a front of it was written
-abbrev pub WritesReply : Option (List ℕ) → Option (List ℕ) → Reply → Result ℕ WriteFault → Type 0
-WritesReply old new reply r = TellsWholeText reply.text reply.status old new r
-
--- what a command answers that tells all at once: its reply, or, where the reply takes memory, that memory was refused
-pub data AnswersOnce (IsReply : Reply → Type 0) (TakesMemory : Type 0) (old new : Option (List ℕ)) (r : Result ℕ WriteFault) : Type 0 where
-  Replied : (reply : Reply) → IsReply reply → WritesReply old new reply r → AnswersOnce IsReply TakesMemory old new r
-  Refused : TakesMemory → TellsOne refused_memory old new r → AnswersOnce IsReply TakesMemory old new r

@@ -200,7 +200,7 @@ fn mark_of_look(look: &Look) -> Mark
 }
 
 /// What is told of a game that is audited.
-pub(crate) fn audit_told(stamp: Stamp, look: &AuditLook) -> GameTold
+pub fn audit_told(stamp: Stamp, look: &AuditLook) -> GameTold
     ensures { result ≡ audit_told stamp look.now }
 {
     match look {

@@ -139,8 +139,8 @@ fn unsound_in(
     }
 }
 
-/// What an audit tells of a game of which the files have this.
-fn audit_of(
+/// What an audit tells of a game of which the files have this. The error comes only where memory is refused.
+pub fn audit_of(
     alloc: Global,
     tables: &mut AuditTables<'_>,
     stamp: Stamp,

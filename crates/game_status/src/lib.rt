@@ -12,7 +12,8 @@
 //! Where a host keeps the records of a folder in a store, `store_reading` reads them, also while the host writes, and `stored_disk` is
 //! the disk on which they stand as files: what tells of a folder's files then tells of them, with no change of its own. `importing`
 //! puts records that stand in files into the store of their folder (`import_records`).
-//! `add_moves`, `add_refused_record` and `add_finding` are for lines of the crate above too.
+//! `add_moves`, `add_refused_record` and `add_finding` are for lines of the crate above too. What works on bytes or values alone is also for
+//! `game_reports`, which reads the same over a system.
 //!
 //! Definitions, in reading order: `Listings` (`AreListed`), `Entries` (`HasEntry`, `LacksEntry`), `Sides` (`HasGameAndRecord`,
 //! `LacksSide`), `Comparisons` (`IsComparedAs`), `Tellings` (`TellsGames`, `TellsFolders`), `Statuses` (`IsStatus`, `TellsStatus`),
@@ -59,19 +60,24 @@ mod stored_disk;
 mod telling;
 mod totals;
 
-pub use audit_lines::{AuditLook, Unsound, add_finding};
+pub use audit_lines::{AuditLook, Unsound, add_finding, audit_told};
 pub use comparing::Compared;
 pub use entry::{Entry, EntryFault};
-pub use game_audit::{AuditTables, tell_audit};
+pub use game_audit::{AuditTables, audit_of, tell_audit};
 pub use importing::{ImportFault, import_records};
-pub use listing::{Folder, Folders, stamp_of};
-pub use objects::{add_count, add_first, add_second_if, add_stamp, add_text};
+pub use listing::{Folder, Folders, add_stamps, rising, stamp_of};
+pub use metrics::metrics_text;
+pub use objects::{
+    add_count, add_first, add_game, add_second_if, add_stamp, add_sums, add_text, line_of,
+};
 pub use one_game::{GameFound, look_at_game};
 pub use report::{ReportForm, status_report, write_status_report};
-pub use side::Side;
-pub use status::tell_status;
-pub use status_lines::{Look, add_moves, add_refused_record};
-pub use store_reading::{STORE_NAME, has_half_store, has_name, records_in};
-pub use stored_disk::{LackedFolder, StoredDisk, over_store};
-pub use telling::{GameTeller, Mark, Sums};
+pub use side::{Side, side_of};
+pub use status::{look_at_both, tell_status};
+pub use status_lines::{Look, add_moves, add_refused_record, told_by};
+pub use store_reading::{
+    MOST_TRIES, STORE_LOG_NAME, STORE_NAME, has_half_store, has_name, head_of, path_in, records_in,
+};
+pub use stored_disk::{LackedFolder, StoredDisk, copy_within, keep, over_store};
+pub use telling::{GameTeller, GameTold, Mark, Sums, sums_line};
 pub use totals::Totals;

@@ -58,8 +58,8 @@ fn add_stamp(name: &[u8], ending: &[u8], stamps: &mut BTreeSet<Stamp>) -> Result
     }
 }
 
-/// Adds the stamps whose files with this ending have the names.
-fn add_stamps(
+/// Adds the stamps whose files with this ending have the names. The error comes only where memory is refused.
+pub fn add_stamps(
     names: &[String],
     ending: &[u8],
     stamps: &mut BTreeSet<Stamp>,
@@ -72,8 +72,8 @@ fn add_stamps(
     Ok(())
 }
 
-/// The stamps in rising order.
-fn rising(alloc: Global, stamps: &BTreeSet<Stamp>) -> Result<Vec<Stamp>, AllocError>
+/// The stamps in rising order. The error comes only where memory is refused.
+pub fn rising(alloc: Global, stamps: &BTreeSet<Stamp>) -> Result<Vec<Stamp>, AllocError>
     ensures all { IfOk result (λ all. all.items ≡ stamps.now.keys) }
     ensures rising { OnOk result (IsStrictlySortedBy (slice_cmp nat_cmp) stamps.now.keys) }
 {

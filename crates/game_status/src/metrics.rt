@@ -111,12 +111,9 @@ fn add_compared(text: &mut Vec<u8>, totals: &Totals, compares: bool) -> Result<(
     }
 }
 
-/// The metrics of a folder's games; with those of a comparison where two folders are compared.
-pub(crate) fn metrics_text(
-    alloc: Global,
-    totals: &Totals,
-    compares: bool,
-) -> Result<Vec<u8>, AllocError>
+/// The metrics of a folder's games; with those of a comparison where two folders are compared. The error comes only where memory is
+/// refused.
+pub fn metrics_text(alloc: Global, totals: &Totals, compares: bool) -> Result<Vec<u8>, AllocError>
     ensures { IfOk result (λ text. text.items ≡ metrics_text compares totals.now) }
 {
     let mut text = Vec::new(alloc);

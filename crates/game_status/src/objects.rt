@@ -253,8 +253,13 @@ pub fn add_stamp(text: &mut Writer, stamp: Stamp) -> Result<(), AllocError>
     add_text(text, "stamp", Some(utf8_text(&digits)))
 }
 
-/// Adds the object of a game, of which this is found.
-fn add_game(text: &mut Writer, stamp: Stamp, look: &Look, compares: bool) -> Result<(), AllocError>
+/// Adds the object of a game, of which this is found. The error comes only where memory is refused.
+pub fn add_game(
+    text: &mut Writer,
+    stamp: Stamp,
+    look: &Look,
+    compares: bool,
+) -> Result<(), AllocError>
     requires { AreNamed look.now }
     ensures { OnOk result (AddsTokens text.old text.new (json_tokens (game_json compares (record { stamp = stamp; look = look.now })))) }
 {
@@ -333,8 +338,8 @@ fn add_compared_totals_if(
     }
 }
 
-/// Adds the sums.
-fn add_sums(text: &mut Writer, totals: &Totals, compares: bool) -> Result<(), AllocError>
+/// Adds the sums to an object. The error comes only where memory is refused.
+pub fn add_sums(text: &mut Writer, totals: &Totals, compares: bool) -> Result<(), AllocError>
     ensures { OnOk result (AddsMembers text.old text.new (member (codes "sums") (totals_json compares totals.now))) }
 {
     text.key("sums")?;
@@ -359,8 +364,8 @@ fn add_status<D: Disk>(
     text.end_object()
 }
 
-/// The text of a line with what was written.
-fn line_of(text: Writer) -> Result<Vec<u8>, AllocError>
+/// The text of a line with what was written. The error comes only where memory is refused.
+pub fn line_of(text: Writer) -> Result<Vec<u8>, AllocError>
     ensures line { IfOk result (λ line. line.items ≡ text.before ++ ended (print text.tokens)) }
     ensures reads_back { tokens (print text.tokens) ≡ text.tokens }
 {

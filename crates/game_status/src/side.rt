@@ -47,8 +47,9 @@ fn record_of(
     Ok(Ok(record))
 }
 
-/// How far the game has come by what a folder has of it.
-fn side_of(
+/// How far the game of a stamp has come by what a folder has of it, or why that can't be told. The error comes only where memory is
+/// refused.
+pub fn side_of(
     alloc: Global,
     entry: Entry,
     stamp: Stamp,

@@ -64,7 +64,7 @@ pub(crate) struct StatusTeller<'a, D> {
 }
 
 /// What is told of a game of which both folders have this.
-fn look_at_both(one: Side, other: Side) -> Look
+pub fn look_at_both(one: Side, other: Side) -> Look
     ensures { IsLookAtBoth one other result }
 {
     if !is_same_game(&one.game, &other.game) {

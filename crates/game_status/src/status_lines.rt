@@ -204,7 +204,7 @@ pub(crate) fn other_fault_line(stamp: Stamp, fault: EntryFault) -> LineWords
 }
 
 /// What is told of a game of which this is found.
-pub(crate) fn told_by(stamp: Stamp, look: &Look) -> GameTold
+pub fn told_by(stamp: Stamp, look: &Look) -> GameTold
     ensures { result ≡ game_told_by stamp look.now }
 {
     match look {

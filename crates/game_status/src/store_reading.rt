@@ -21,7 +21,7 @@ use system_io::{Disk, Entry, Host, ReadFault, StoreFault};
 pub const STORE_NAME: &str = "games.db";
 
 /// The name of the log beside it.
-const STORE_LOG_NAME: &str = "games.db-wal";
+pub const STORE_LOG_NAME: &str = "games.db-wal";
 
 /// The name of the journal that SQLite leaves beside it, where it was stopped while it wrote the database without a log.
 const STORE_JOURNAL_NAME: &str = "games.db-journal";
@@ -30,10 +30,10 @@ const STORE_JOURNAL_NAME: &str = "games.db-journal";
 const LOG_HEAD: usize = 32;
 
 /// How often the files of a store are read at most.
-const MOST_TRIES: usize = 8;
+pub const MOST_TRIES: usize = 8;
 
 /// The path of a file in a folder. The error comes only where memory is refused.
-fn path_in(alloc: Global, folder: &str, name: &str) -> Result<String, AllocError>
+pub fn path_in(alloc: Global, folder: &str, name: &str) -> Result<String, AllocError>
     ensures { IfOk result (λ path. string_bytes path ≡ path_in folder.now name.now) }
 {
     let mut path = String::from_str(alloc, folder)?;
@@ -101,8 +101,8 @@ fn read_log<D: Disk>(alloc: Global, disk: &D, folder: &str) -> Result<Vec<u8>, R
     }
 }
 
-/// What a log begins with.
-fn head_of(log: &[u8]) -> &[u8]
+/// What a log begins with, which changes when it begins anew: its first 32 bytes, or all where it has fewer.
+pub fn head_of(log: &[u8]) -> &[u8]
     ensures { result.now ≡ log_head log.now }
 {
     &log[..LOG_HEAD.min(log.len())]

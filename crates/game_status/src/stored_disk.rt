@@ -39,8 +39,8 @@ fn stamp_at(folder: &str, path: &str) -> Option<Stamp>
     }
 }
 
-/// A copy of bytes, if they are at most so many.
-fn copy_within(alloc: Global, bytes: &[u8], most: u64) -> Result<Vec<u8>, ReadFault>
+/// A copy of bytes, if they are at most so many; else they are `Unreadable`.
+pub fn copy_within(alloc: Global, bytes: &[u8], most: u64) -> Result<Vec<u8>, ReadFault>
     ensures bytes { IfOk result (λ copy. copy.items ≡ bytes.now) }
     ensures short { IfOk result (λ copy. length copy.items ≤ most) }
     ensures cause { IsErrOf result ReadFault.Unreadable → most < length bytes.now }
@@ -78,8 +78,8 @@ fn add_names(
     Ok(())
 }
 
-/// Keeps the record of a game in place of the one before.
-fn keep(records: &mut BTreeMap<Stamp, Vec<u8>>, entry: Entry) -> Result<(), AllocError>
+/// Keeps the record of a game in place of the one before. The error comes only where memory is refused.
+pub fn keep(records: &mut BTreeMap<Stamp, Vec<u8>>, entry: Entry) -> Result<(), AllocError>
     ensures { OnOk result (PutsRecord entry (bytes_in records.old) (bytes_in records.new)) }
 {
     let Entry {

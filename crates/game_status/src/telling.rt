@@ -60,7 +60,7 @@ pub struct Sums {
 
 impl Sums {
     /// None was told.
-    pub(crate) fn none() -> Sums
+    pub fn none() -> Sums
         ensures { result ≡ sums_of [] }
     {
         Sums {
@@ -72,7 +72,7 @@ impl Sums {
     }
 
     /// One more was told, which is counted so.
-    pub(crate) fn with(self, mark: Mark) -> Sums
+    pub fn with(self, mark: Mark) -> Sums
         requires { CanCountOneMore self }
         ensures { AddsMark self mark result }
     {
@@ -98,7 +98,7 @@ impl Sums {
     }
 
     /// Whether nothing is at fault and nothing differs.
-    pub(crate) fn are_well(&self) -> bool
+    pub fn are_well(&self) -> bool
         ensures { result ≡ are_well self.now }
     {
         self.faults == 0 && self.differ == 0
@@ -184,8 +184,8 @@ fn add_differ(line: &mut LineWords, differ: u64, compares: bool)
     }
 }
 
-/// The line of the sums.
-fn sums_line(sums: &Sums, compares: bool) -> LineWords
+/// The line of the sums; with those that differ, where two records of each game are compared.
+pub fn sums_line(sums: &Sums, compares: bool) -> LineWords
     ensures { result ≡ sums_words compares sums.now }
 {
     let mut line = counts_line(sums);

@@ -94,7 +94,7 @@ fn one_if(is_so: bool) -> u64
 
 impl Totals {
     /// No game.
-    pub(crate) fn none() -> Totals
+    pub fn none() -> Totals
         ensures { result ≡ totals_of [] }
     {
         Totals {
@@ -106,7 +106,7 @@ impl Totals {
     }
 
     /// With one game more, of which this is found.
-    pub(crate) fn with(self, look: &Look) -> Totals
+    pub fn with(self, look: &Look) -> Totals
         requires { CanAddOneMore self }
         ensures { AddsLook self look.now result }
     {

@@ -1,62 +1,65 @@
--- A game that is told ply by ply as its moves come.
-use Rattle.std.proofs.Common.{◌≡◌, ◌∙◌, sym, ap, subst, refl, ◌⊎◌, inl, inr, ℕ, zero, suc, Bool, ◌+◌, ◌-◌, ◌^◌, ◌<◌, ◌≤◌, true, false, List, [], ◌∷◌, ◌++◌, length, take, Option, Some, None, IsSome, is_some, append-nil, arith}
-use Rattle.std.specs.Prelude.{slice_get, Result, Ok, Err}
-use Rattle.std.specs.Option.{option_and_then}
-use Rattle.std.specs.Io.KnownBytes.{Appends, IsAtEnd, Keeps}
-use Rattle.std.proofs.KnownBytes.{Appends-trans, Keeps-refl}
-use Rattle.std.proofs.lemmas.List.{take_all, take-append-le, length-append}
+-- A game that is followed ply by ply as its moves come.
+use Rattle.std.proofs.Common.{◌≡◌, ◌∙◌, sym, ap, subst, refl, ◌⊎◌, inl, inr, ℕ, zero, suc, Bool, ◌+◌, ◌-◌, ◌^◌, ◌<◌, ◌≤◌, List, [], ◌∷◌, ◌++◌, length, Option, Some, None, append-nil, arith}
+use Rattle.std.specs.Prelude.{slice_get, Ok, Err}
+use Rattle.std.specs.List.{flat_map}
+use Rattle.std.proofs.lemmas.List.{flat_map_more, map-append, take_all, take-append-le, length-append}
+use Rattle.std.proofs.lemmas.Option.{same_Some}
 use Rattle.board_core.specs.declared.moves.Move.{Move as Moves}
 use Rattle.board_core.specs.declared.parts.Parts.{Parts}
 use Rattle.board_core.specs.declared.verdict.Verdict.{Verdict}
 use Rattle.board_core.specs.ComputedMoves.{position_after}
-use Rattle.judge_core.specs.Games.{IsGoing, IsOutcome, IsUnruled, Rules, position_after_all, verdict_after}
+use Rattle.judge_core.specs.Games.{IsGoing, IsUnruled, Rules, position_after_all, verdict_after}
 use Rattle.judge_core.specs.declared.game.GameOutcome.TheVariants as outcome
+use Rattle.judge_core.specs.MoreTables.{HasAll}
 use Rattle.judge_core.specs.Standings.{IsAt, Reached}
-use Rattle.judge_core.proofs.Plies.{goes_on}
-use Rattle.judge_core.proofs.WholeGames.{is_first_at_end, is_going_at_end}
-use Rattle.table_folder.specs.declared.fault.FileRefusal.{FileRefusal}
-use Rattle.game_teller.specs.Judges.{IsLater, JudgeFacts, JudgesOn, StandsBy, by_set}
 use Rattle.judge_core.specs.Tables.{Tables}
-use Rattle.line_teller.specs.ToldLines.{AreRead, AsksInTurn, AsksOne, CutsAfter, HasFront, TellsInTurn, refused_files, refused_memory, stops_by}
+use Rattle.judge_core.proofs.Plies.{starts}
+use Rattle.judge_core.proofs.WholeGames.{is_first_at_end, is_going_at_end}
+use Rattle.line_events.proofs.LineLaws.{are_lines}
+use Rattle.answer_parts.specs.Printing.{printed}
+use Rattle.line_teller.specs.ToldLines.{AreRead}
 use Rattle.line_teller.proofs.TellLaws.{are_read_more}
-use Rattle.move_msg.specs.TextLines.{ended, text_of}
-use Rattle.move_msg.proofs.LineLaws.{more_lines}
-use Rattle.move_notation.specs.declared.notation.Notation.{Notation}
-use Rattle.move_notation.specs.Notations.{Spells}
-use Rattle.system_io.specs.declared.output.WriteFault.{WriteFault}
+use Rattle.move_notation.specs.Notations.{AreMovesIn, Spells}
 use Rattle.system_io.specs.declared.reading.ReadFault.{ReadFault}
-use Rattle.system_io.specs.declared.reading.ReadFault.TheVariants as read
-use Rattle.system_io.specs.LineReaders.{LineFacts, ReadsLine}
-use Rattle.system_io.specs.Outputs.{OutputFacts}
+use Rattle.system_io.specs.LineReaders.{ReadsLine}
+use Rattle.timeline.proofs.EventLaws.{adds_none}
+use Rattle.timeline.specs.Events.{Event, LineRead}
+use Rattle.timeline.specs.Outsides.{AddsSome, Outside}
 use Rattle.game_teller.specs.declared.following.FollowState.{FollowState}
+use Rattle.game_teller.specs.declared.following.FollowedGame.{FollowedGame}
+use Rattle.game_teller.specs.declared.following.Step.{Step}
+use Rattle.game_teller.specs.declared.following.Step.TheVariants as step
 use Rattle.game_teller.specs.declared.lines.Stop.{Stop}
 use Rattle.game_teller.specs.declared.lines.Stop.TheVariants as stop
+use Rattle.game_teller.specs.Followings.{ArePlyLines, ByAll, ComesTo, CountsNone, Follows, GoesOn, HasFollowed, IsPlyLine, LeadsTo, NamesIllegal, NamesNoMove, NeedsBadFile, NeedsMemory, NotBegun, Open, OpensInTurn, Ply, ReadsNone, ReadsNext, Ruled, Stopped, StopsAfter, Turn, goes_out, lines_printed, moves_read, ply_events, rules_by, stop_by, turn_events}
+use Rattle.game_teller.specs.Inside.Steps.{AtEnd, GivesNone, HasBegun, HasTurned, IsNoNext, IsNoTurn, IsPrinted, IsRefused, IsStopped, NoRoom, PrintsPly, SpellsNext, TakesTurn, Turned, TurnsRead, Unread}
+use Rattle.game_teller.specs.Judges.{IsLater, JudgeFacts, JudgesOn, StandsBy, by_set}
 use Rattle.game_teller.specs.Plies.{ply_words, stop_words}
-use Rattle.game_teller.specs.Followings.{AtBegin, AtPly, AtStop, CutsGame, Follows, FollowsTo, Halts, HasFollowed, IsNotBegun, LeadsTo, NotBegun, Open, Ruled, Stopped, StopsAfter, TellsPlies, TellsPly, halts_by}
-use Rattle.game_teller.specs.Inside.Steps.{HasBegun, HasTurned, IsNoStart, IsNoTurn, PutsPly, SpellsNext, StepCuts, stop_by}
-use Rattle.game_teller.proofs.NotationLaws.{spelled_more, spelled_none}
+use Rattle.game_teller.proofs.NotationLaws.{goes_first, spelled_more, spelled_none}
 
 -- no ply before the one after a further move has a verdict
-none_before : (r : Rules) (moves : List Moves) (m : Moves) → IsGoing r moves → IsUnruled r (moves ++ m ∷ []) (length (moves ++ m ∷ []))
+pub none_before : (r : Rules) (moves : List Moves) (m : Moves) → IsGoing r moves → IsUnruled r (moves ++ m ∷ []) (length (moves ++ m ∷ []))
 none_before r moves m going j low =
     let within : j < length moves + 1 = subst (λ n. j < n) (length-append moves (m ∷ [])) low in
     ap (verdict_after r) (take-append-le j moves (m ∷ []) (omega (arith, within))) ∙ going.unruled j within
 
 -- the last of some lines, or one of those before
-got_more : (told : List (List ℕ)) (last : List ℕ) (ply : ℕ) (words : List ℕ) → slice_get (told ++ last ∷ []) ply ≡ Some words → (slice_get told ply ≡ Some words) ⊎ ((ply ≡ length told) × (words ≡ last))
+got_more : (lines : List (List ℕ)) (last : List ℕ) (ply : ℕ) (words : List ℕ) → slice_get (lines ++ last ∷ []) ply ≡ Some words → (slice_get lines ply ≡ Some words) ⊎ ((ply ≡ length lines) × (words ≡ last))
 got_more [] last zero words e = inr (refl, let f : Some last ≡ Some words = e in cc)
 got_more [] last (suc ply) words e = let f : None ≡ Some words = e in absurd cc
-got_more (t ∷ told) last zero words e = inl e
-got_more (t ∷ told) last (suc ply) words e = elim (got_more told last ply words e) [
+got_more (t ∷ lines) last zero words e = inl e
+got_more (t ∷ lines) last (suc ply) words e = elim (got_more lines last ply words e) [
   | inl h ↦ inl h
   | inr h ↦ inr (ap suc h.0, h.1)
 ]
 
--- a line that is told stands among the lines
-got_within : (told : List (List ℕ)) (ply : ℕ) (words : List ℕ) → slice_get told ply ≡ Some words → ply < length told
+-- a line that is there stands among the lines
+got_within : (lines : List (List ℕ)) (ply : ℕ) (words : List ℕ) → slice_get lines ply ≡ Some words → ply < length lines
 got_within [] ply words e = let f : None ≡ Some words = e in absurd cc
-got_within (t ∷ told) zero words e = omega arith
-got_within (t ∷ told) (suc ply) words e = let h = got_within told ply words e in omega (arith, h)
+got_within (t ∷ lines) zero words e = omega arith
+got_within (t ∷ lines) (suc ply) words e = let h = got_within lines ply words e in omega (arith, h)
+
+-- ---- judges
 
 -- a judge that stays, and one after another
 pub later_same : (facts : JudgeFacts) → IsLater facts facts
@@ -64,7 +67,7 @@ later_same facts = record {
   kept = λ kind key t has. has;
   is_by = λ tables h. h;
   back = λ tables h more. h;
-  there = λ h. h;
+  reads = λ old new p refused events h. h;
   takes_memory = λ p h. h;
   refuses = λ p refusal h. h;
 }
@@ -74,7 +77,7 @@ later_more a b c first next = record {
   kept = λ kind key t has. next.kept kind key t (first.kept kind key t has);
   is_by = λ tables h. first.is_by tables (next.is_by tables h);
   back = λ tables h more. next.back tables (first.back tables h (λ kind key t has. more kind key t (next.kept kind key t has))) more;
-  there = λ h. next.there (first.there h);
+  reads = λ old new p refused events h. first.reads old new p refused events (next.reads old new p refused events h);
   takes_memory = λ p h. first.takes_memory p (next.takes_memory p h);
   refuses = λ p refusal h. first.refuses p refusal (next.refuses p refusal h);
 }
@@ -83,276 +86,274 @@ pub set_later : (old new : Tables) → new ≡ old → IsLater (by_set old) (by_
 set_later old new same = subst (λ tables. IsLater (by_set old) (by_set tables)) (sym same) (later_same (by_set old))
 
 -- by a set of tables that stays
+pub set_reads : {T P F K S L : Type 0} (o : Outside T P F K S L) (a : T) (old new : Tables) → new ≡ old → AddsSome o a a (λ events. (new ≡ old) × (events ≡ []))
+set_reads o a old new same = ([], adds_none o a, (same, refl))
+
 pub set_begun : (old new : Tables) (start : Parts) (s : Reached) → new ≡ old → ((rules : Rules) → rules.start ≡ start → rules.tables ≡ old → IsAt rules [] s) → StandsBy (by_set new) start [] s
 set_begun old new start s same at = record {
+  there = refl;
   stands = λ delay. at (record { start = start; tables = new; delay = delay }) refl same;
   at = λ rules from by. at rules from (by ∙ same);
 }
 
 pub set_on : (old new : Tables) (s : Reached) (q : Parts) (t : Reached) → new ≡ old → ((rules : Rules) (moves : List Moves) (m : Moves) → rules.tables ≡ old → IsAt rules moves s → position_after s.position m ≡ Some q → IsAt rules (moves ++ m ∷ []) t) → JudgesOn (by_set old) (by_set new) s q t
 set_on old new s q t same on start moves m stood legal = record {
+  there = refl;
   stands = λ delay. subst (λ tables. IsAt (record { start = start; tables = tables; delay = delay }) (moves ++ m ∷ []) t) (sym same) (on (record { start = start; tables = old; delay = delay }) moves m refl (stood delay) legal);
   at = λ rules from by.
       let stood_by : IsAt (record { start = start; tables = rules.tables; delay = rules.delay }) moves s = subst (λ tables. IsAt (record { start = start; tables = tables; delay = rules.delay }) moves s) (sym (by ∙ same)) (stood rules.delay) in
       on rules moves m (by ∙ same) (subst (λ p. IsAt (record { start = p; tables = rules.tables; delay = rules.delay }) moves s) (sym from) stood_by) legal;
 }
 
-module _ (notation : Notation) (rules : Rules) where
-  plies_more : (moves : List Moves) (m : Moves) (told : List (List ℕ)) (last : List ℕ) → TellsPlies rules moves told → TellsPly rules (moves ++ m ∷ []) last → TellsPlies rules (moves ++ m ∷ []) (told ++ last ∷ [])
-  plies_more moves m told last h one = record {
-    count = length-append told (last ∷ []) ∙ ap (λ n. n + 1) h.count ∙ ap (λ n. n + 1) (sym (length-append moves (m ∷ [])));
-    each = λ ply words e. elim (got_more told last ply words e) [
-      | inl got ↦ (
-          let low : ply < length moves + 1 = subst (λ n. ply < n) h.count (got_within told ply words got) in
-          subst (λ (ms : List Moves). TellsPly rules ms words) (sym (take-append-le ply moves (m ∷ []) (omega (arith, low)))) (h.each ply words got))
-      | inr got ↦ (
-          let many : length (moves ++ m ∷ []) ≤ ply = let a = got.0 in let b = h.count in let c = length-append moves (m ∷ []) in omega (arith, a, b, c) in
-          subst (λ (ms : List Moves). TellsPly rules ms words) (sym (take_all ply (moves ++ m ∷ []) many)) (subst (TellsPly rules (moves ++ m ∷ [])) (sym got.1) one))
-    ];
-  }
+-- ---- plies
 
-  -- the plies to the last move are told, and none of them has a verdict
-  pub record FollowedSoFar (judge : JudgeFacts) (count : ℕ) (left now old new : Option (List ℕ)) (s : Reached) : Type 0 where
-    pub moves : List Moves
-    pub told : List (List ℕ)
-    pub stands : judge.stands rules.start moves s
-    pub has : HasFollowed notation rules left now moves told
-    pub at : IsAt rules moves s
-    pub going : IsGoing rules moves
-    pub written : Appends old new (text_of told)
-    pub count_is : length moves ≡ count
+plies_more : (rules : Rules) (moves : List Moves) (m : Moves) (lines : List (List ℕ)) (last : List ℕ) → ArePlyLines rules moves lines → IsPlyLine rules (moves ++ m ∷ []) last → ArePlyLines rules (moves ++ m ∷ []) (lines ++ last ∷ [])
+plies_more rules moves m lines last h one = record {
+  count = length-append lines (last ∷ []) ∙ ap (λ n. n + 1) h.count ∙ ap (λ n. n + 1) (sym (length-append moves (m ∷ [])));
+  each = λ ply words e. elim (got_more lines last ply words e) [
+    | inl got ↦ (
+        let low : ply < length moves + 1 = subst (λ n. ply < n) h.count (got_within lines ply words got) in
+        subst (λ (ms : List Moves). IsPlyLine rules ms words) (sym (take-append-le ply moves (m ∷ []) (omega (arith, low)))) (h.each ply words got))
+    | inr got ↦ (
+        let many : length (moves ++ m ∷ []) ≤ ply = let a = got.0 in let b = h.count in let c = length-append moves (m ∷ []) in omega (arith, a, b, c) in
+        subst (λ (ms : List Moves). IsPlyLine rules ms words) (sym (take_all ply (moves ++ m ∷ []) many)) (subst (IsPlyLine rules (moves ++ m ∷ [])) (sym got.1) one))
+  ];
+}
 
-  one_line : (before out : Option (List ℕ)) (words : List ℕ) → Appends before out (ended words) → Appends before out (text_of (words ∷ []))
-  one_line before out words wrote = subst (Appends before out) (sym (append-nil (ended words))) wrote
+first_line : (rules : Rules) (s : Reached) (v : Option Verdict) → IsAt rules [] s → v ≡ verdict_after rules [] → ArePlyLines rules [] (ply_words 0 v s.position ∷ [])
+first_line rules s v at is = record {
+  count = refl;
+  each = λ ply words e. elim (got_more [] (ply_words 0 v s.position) ply words e) [
+    | inl got ↦ (let f : None ≡ Some words = got in absurd cc)
+    | inr got ↦ subst (λ (ms : List Moves). IsPlyLine rules ms words) (sym (take_all ply [] (omega arith))) (s.position, at.position, got.1 ∙ ap (λ w. ply_words 0 w s.position) is)
+  ];
+}
 
-  -- the plies to the last move are told, and none before that has a verdict; this is its verdict
-  pub record ToldTo (judge : JudgeFacts) (count : ℕ) (left now old new : Option (List ℕ)) (s : Reached) (v : Option Verdict) : Type 0 where
-    pub moves : List Moves
-    pub told : List (List ℕ)
-    pub stands : judge.stands rules.start moves s
-    pub has : HasFollowed notation rules left now moves told
-    pub at : IsAt rules moves s
-    pub before : IsUnruled rules moves (length moves)
-    pub verdict : v ≡ verdict_after rules moves
-    pub written : Appends old new (text_of told)
-    pub count_is : length moves ≡ count
+-- the tables of a further ply
+opens_more : (judge : JudgeFacts) (old : Tables) (p : Parts) (ply : Ply) (moves : List Moves) (turns : List Turn) (mid : Tables) → OpensInTurn judge old p ply moves turns mid
+    → (at : Parts) → position_after_all p moves ≡ Some at → (m : Moves) (q : Parts) → position_after at m ≡ Some q → (last : Tables) (t : Turn) → judge.reads mid q last (Ok None) t.ply.reading → OpensInTurn judge old p ply (moves ++ m ∷ []) (turns ++ t ∷ []) last
+opens_more judge old p ply [] [] mid h at there m q legal last t reads =
+    let same : at ≡ p = same_Some at p (sym there ∙ starts p) in
+    (mid, q, h, subst (λ r. position_after r m ≡ Some q) same legal, reads)
+opens_more judge old p ply [] (u ∷ turns) mid h at there m q legal last t reads = absurd h
+opens_more judge old p ply (n ∷ moves) [] mid h at there m q legal last t reads = absurd h
+opens_more judge old p ply (n ∷ moves) (u ∷ turns) mid (next, r, first, played, rest) at there m q legal last t reads =
+    (next, r, first, played, opens_more judge next r u.ply moves turns mid rest at (sym (goes_first p r n moves played) ∙ there) m q legal last t reads)
 
-  first_ply : (s : Reached) (v : Option Verdict) → IsAt rules [] s → v ≡ verdict_after rules [] → TellsPlies rules [] (ply_words 0 v s.position ∷ [])
-  first_ply s v at is = record {
-    count = refl;
-    each = λ ply words e. elim (got_more [] (ply_words 0 v s.position) ply words e) [
-      | inl got ↦ (let f : None ≡ Some words = got in absurd cc)
-      | inr got ↦ subst (λ (ms : List Moves). TellsPly rules ms words) (sym (take_all ply [] (omega arith))) (s.position, at.position, got.1 ∙ ap (λ w. ply_words 0 w s.position) is)
-    ];
-  }
+-- ---- a game so far
 
-  -- the start is told
-  pub start_told : (judge : JudgeFacts) (s : Reached) (v : Option Verdict) (left before out : Option (List ℕ)) → judge.stands rules.start [] s → IsAt rules [] s → v ≡ verdict_after rules [] → Appends before out (ended (ply_words 0 v s.position)) → ToldTo judge 0 left left before out s v
-  unfolding AreRead
-  start_told judge s v left before out stands at is wrote = record {
-    moves = [];
-    told = ply_words 0 v s.position ∷ [];
-    stands = stands;
-    has = record { lines = []; read = refl; spelled = spelled_none notation rules.start; plies = first_ply s v at is };
-    at = at;
-    before = λ j low. absurd (omega (arith, low));
-    verdict = is;
-    written = one_line before out _ wrote;
-    count_is = refl;
-  }
+-- the plies to this one are printed, and none before it has a verdict; this is its verdict
+pub record IsAtPly (game : FollowedGame) (judge now : JudgeFacts) (left rest : Option (List ℕ)) (at : FollowState) (v : Option Verdict) (events : List Event) : Type 0 where
+  pub moves : List Moves
+  pub has : HasFollowed game judge left rest moves now.opened events
+  pub stands : now.stands game.start moves at.standing
+  pub is_at : ByAll judge now.opened (λ tables. IsAt (rules_by game tables) moves at.standing)
+  pub before : ByAll judge now.opened (λ tables. IsUnruled (rules_by game tables) moves (length moves))
+  pub verdict : ByAll judge now.opened (λ tables. v ≡ verdict_after (rules_by game tables) moves)
+  pub count : length moves ≡ at.ply
+  pub notation : at.notation ≡ game.notation
+  pub delay : at.delay ≡ game.delay
 
-  pub still_going : (judge : JudgeFacts) (count : ℕ) (left now old new : Option (List ℕ)) (s : Reached) (v : Option Verdict) → v ≡ None → ToldTo judge count left now old new s v → FollowedSoFar judge count left now old new s
-  still_going judge count left now old new s v none h = record {
-    moves = h.moves;
-    told = h.told;
-    stands = h.stands;
-    has = h.has;
-    at = h.at;
-    going = is_going_at_end rules h.moves s h.at h.before (sym h.verdict ∙ none);
-    written = h.written;
-    count_is = h.count_is;
-  }
+read_none : (left : Option (List ℕ)) → AreRead left [] left
+unfolding AreRead
+read_none left = refl
 
-  pub begun : (judge : JudgeFacts) (s : Reached) (left before out : Option (List ℕ)) → judge.is_by rules.tables → HasBegun rules judge s before out → FollowedSoFar judge 0 left left before out s
-  begun judge s left before out is_by (stood, none, wrote) =
-      still_going judge 0 left left before out s None refl (start_told judge s None left before out stood.stands (stood.at rules refl is_by) (sym none) wrote)
+-- the start is printed
+pub at_start : (game : FollowedGame) (judge now : JudgeFacts) (at : FollowState) (left : Option (List ℕ)) (reading printing : List Event) (is : Option (Option Verdict)) → IsLater judge now → HasBegun judge now game at reading → (p : PrintsPly at printing is)
+    → IsAtPly game judge now left left at p.verdict (reading ++ printing)
+at_start game judge now at left reading printing is later h p =
+    let by : ByAll judge now.opened (λ tables. IsAt (rules_by game tables) [] at.standing) = λ tables is_by has. h.stands.at (rules_by game tables) refl (later.back tables is_by has) in
+    let verdict : ByAll judge now.opened (λ tables. p.verdict ≡ verdict_after (rules_by game tables) []) = λ tables is_by has. p.stands (rules_by game tables) [] (sym h.delay) (by tables is_by has) in
+    let words = ply_words at.ply p.verdict at.standing.position in
+    let first : ply_words 0 p.verdict at.standing.position ≡ words = ap (λ n. ply_words n p.verdict at.standing.position) (sym h.ply) in
+    record {
+      moves = [];
+      has = record {
+        first = record { reading = reading; words = words };
+        turns = [];
+        read = are_lines left [] left (read_none left);
+        spelled = spelled_none game.notation game.start;
+        opens = h.reads;
+        there = later.is_by now.opened h.stands.there;
+        plies = λ tables is_by has. subst (λ (w : List ℕ). ArePlyLines (rules_by game tables) [] (w ∷ [])) first (first_line (rules_by game tables) at.standing p.verdict (by tables is_by has) (verdict tables is_by has));
+        made = ap (λ (e : List Event). reading ++ e) p.made ∙ sym (append-nil (reading ++ goes_out words));
+      };
+      stands = h.stands.stands;
+      is_at = by;
+      before = λ tables is_by has j low. absurd (omega (arith, low));
+      verdict = verdict;
+      count = sym h.ply;
+      notation = h.notation;
+      delay = h.delay;
+    }
 
-  pub told_more : (written : Notation) → notation ≡ written → (was judge : JudgeFacts) (delay : ℕ) → judge.is_by rules.tables → rules.delay ≡ delay → (count : ℕ) (left now next old mid new : Option (List ℕ)) (s t : Reached) (v : Option Verdict) → FollowedSoFar was count left now old mid s
-      → (line : List ℕ) × ReadsLine now next line × HasTurned written was judge s line t × PutsPly delay (count + 1) t mid new v → ToldTo judge (count + 1) left next old new t v
-  told_more written by_notation was judge delay is_by by_delay count left now next old mid new s t v h (line, read, (m, p, spelled, legal, on), (verdict, wrote)) =
-      let stood = on rules.start h.moves m h.stands legal in
-      let at = stood.at rules refl is_by in
-      let is = verdict rules (h.moves ++ m ∷ []) by_delay at in
-      let many : length (h.moves ++ m ∷ []) ≡ count + 1 = length-append h.moves (m ∷ []) ∙ ap (λ n. n + 1) h.count_is in
-      let words = ply_words (count + 1) v t.position in
-      let one : TellsPly rules (h.moves ++ m ∷ []) words = (t.position, at.position, ap (λ n. ply_words n v t.position) (sym many) ∙ ap (λ w. ply_words (length (h.moves ++ m ∷ [])) w t.position) is) in
+module _ (game : FollowedGame) (judge was : JudgeFacts) (left rest : Option (List ℕ)) (old : FollowState) (before : List Event) where
+  -- where no ply has a verdict
+  going : (h : IsAtPly game judge was left rest old None before) (tables : Tables) → judge.is_by tables → HasAll was.opened tables → IsGoing (rules_by game tables) h.moves
+  going h tables is_by has = is_going_at_end (rules_by game tables) h.moves old.standing (h.is_at tables is_by has) (h.before tables is_by has) (sym (h.verdict tables is_by has))
+
+  -- the position of the last ply
+  last_position : (h : IsAtPly game judge was left rest old None before) → position_after_all game.start h.moves ≡ Some old.standing.position
+  last_position h = (h.is_at was.opened h.has.there (λ kind key t has. has)).position
+
+  -- a further ply is printed
+  pub at_next : (now : JudgeFacts) (new : FollowState) (next : Option (List ℕ)) (line : List ℕ) (had_come : Bool) (reading printing : List Event) (is : Option (Option Verdict)) → IsLater judge was → IsLater was now → IsAtPly game judge was left rest old None before
+      → ReadsLine rest next line → HasTurned was now old line new reading → (p : PrintsPly new printing is)
+      → IsAtPly game judge now left next new p.verdict (before ++ LineRead (Ok (Some line)) had_come ∷ (reading ++ printing))
+  at_next now new next line had_come reading printing is first second h read t p =
+      let later = later_more judge was now first second in
+      let m = t.spelled.0 in
+      let legal = t.spelled.2 in
+      let all = h.moves ++ m ∷ [] in
+      let stood = t.on game.start h.moves m h.stands legal in
+      let wider : (tables : Tables) → HasAll now.opened tables → HasAll was.opened tables = λ tables has kind key x had. has kind key x (second.kept kind key x had) in
+      let by : ByAll judge now.opened (λ tables. IsAt (rules_by game tables) all new.standing) = λ tables is_by has. stood.at (rules_by game tables) refl (later.back tables is_by has) in
+      let verdict : ByAll judge now.opened (λ tables. p.verdict ≡ verdict_after (rules_by game tables) all) = λ tables is_by has. p.stands (rules_by game tables) all (sym (t.delay ∙ h.delay)) (by tables is_by has) in
+      let many : length all ≡ new.ply = length-append h.moves (m ∷ []) ∙ ap (λ n. n + 1) h.count ∙ sym t.ply in
+      let words = ply_words new.ply p.verdict new.standing.position in
+      let turn : Turn = record { line = line; had_come = had_come; ply = record { reading = reading; words = words } } in
+      let asked = map-append (λ (u : Turn). u.line) h.has.turns (turn ∷ []) in
+      let shown = map-append (λ (u : Turn). u.ply.words) h.has.turns (turn ∷ []) in
+      let one : (tables : Tables) → judge.is_by tables → HasAll now.opened tables → IsPlyLine (rules_by game tables) all words = λ tables is_by has. (
+        new.standing.position,
+        (by tables is_by has).position,
+        ap (λ n. ply_words n p.verdict new.standing.position) (sym many) ∙ ap (λ v. ply_words (length all) v new.standing.position) (verdict tables is_by has),
+      ) in
       record {
-        moves = h.moves ++ m ∷ [];
-        told = h.told ++ words ∷ [];
-        stands = stood.stands;
+        moves = all;
         has = record {
-          lines = h.has.lines ++ line ∷ [];
-          read = are_read_more left now next h.has.lines line h.has.read read;
-          spelled = spelled_more notation rules.start s.position p h.has.lines h.moves line m h.has.spelled h.at.position (subst (λ n. Spells n s.position line m) (sym by_notation) spelled) legal;
-          plies = plies_more h.moves m h.told words h.has.plies one;
+          first = h.has.first;
+          turns = h.has.turns ++ turn ∷ [];
+          read = are_lines left (moves_read (h.has.turns ++ turn ∷ [])) next (subst (λ (ls : List (List ℕ)). AreRead left ls next) (sym asked) (are_read_more left rest next (moves_read h.has.turns) line h.has.read.read read));
+          spelled = subst (λ (ls : List (List ℕ)). AreMovesIn game.notation game.start ls all) (sym asked) (spelled_more game.notation game.start old.standing.position t.position (moves_read h.has.turns) h.moves line m h.has.spelled (last_position h) (subst (λ n. Spells n old.standing.position line m) h.notation t.spelled.1) legal);
+          opens = opens_more judge judge.opened game.start h.has.first h.moves h.has.turns was.opened h.has.opens old.standing.position (last_position h) m t.position legal now.opened turn (first.reads was.opened now.opened t.position (Ok None) reading t.reads);
+          there = later.is_by now.opened stood.there;
+          plies = λ tables is_by has. subst (λ (ls : List (List ℕ)). ArePlyLines (rules_by game tables) all (h.has.first.words ∷ ls)) (sym shown) (plies_more (rules_by game tables) h.moves m (lines_printed h.has.first h.has.turns) words (h.has.plies tables is_by (wider tables has)) (one tables is_by has));
+          made =
+              ap (λ (e : List Event). e ++ LineRead (Ok (Some line)) had_come ∷ (reading ++ printing)) h.has.made
+              ∙ ap (λ (e : List Event). (ply_events h.has.first ++ flat_map turn_events h.has.turns) ++ LineRead (Ok (Some line)) had_come ∷ (reading ++ e)) p.made
+              ∙ flat_map_more turn_events (ply_events h.has.first) h.has.turns turn;
         };
-        at = at;
-        before = none_before rules h.moves m h.going;
-        verdict = is;
-        written = more_lines old mid new h.told words h.written wrote;
-        count_is = many;
+        stands = stood.stands;
+        is_at = by;
+        before = λ tables is_by has. none_before (rules_by game tables) h.moves m (going h tables is_by (wider tables has));
+        verdict = verdict;
+        count = many;
+        notation = t.notation ∙ h.notation;
+        delay = t.delay ∙ h.delay;
       }
 
-  module _ (judge : JudgeFacts) (halts : Halts) (count : ℕ) (left now old : Option (List ℕ)) (s : Reached) where
-    pub ruled : (new : Option (List ℕ)) (v : Option Verdict) (w : Verdict) → v ≡ Some w → ToldTo judge count left now old new s v → Follows notation rules halts left old new true
-    ruled new v w some h = Ruled now h.moves h.told h.has w (is_first_at_end rules h.moves s h.at h.before w (sym h.verdict ∙ some)) h.written refl
+-- ---- how far it came
 
-    pub all_read : (mid new : Option (List ℕ)) → FollowedSoFar judge count left now old mid s → IsAtEnd now → new ≡ mid → Follows notation rules halts left old new true
-    all_read mid new h end same = Open now h.moves h.told h.has h.going end (subst (λ o. Appends old o (text_of h.told)) (sym same) h.written) refl
+-- the status where the last ply has this verdict, if any
+abbrev pub goes : Option Verdict → Option ℕ
+goes None = None
+goes (Some v) = Some 0
 
-    -- why no more is told was written
-    stopped : (next mid new : Option (List ℕ)) (h : FollowedSoFar judge count left now old mid s) (why : Stop) → StopsAfter notation rules halts now next h.moves why → Appends mid new (ended (stop_words why)) → Follows notation rules halts left old new false
-    stopped next mid new h why stops wrote = Stopped now next h.moves h.told h.has h.going why stops (more_lines old mid new h.told (stop_words why) h.written wrote) refl
+pub upto : (game : FollowedGame) (judge now : JudgeFacts) (Stops : ReadFault → Type 0) (left rest : Option (List ℕ)) (at : FollowState) (v : Option Verdict) (events : List Event) → IsAtPly game judge now left rest at v events → Follows game judge Stops left events (goes v)
+upto game judge now Stops left rest at None events h = GoesOn rest h.moves now.opened h.has (going game judge now left rest at events h) refl
+upto game judge now Stops left rest at (Some w) events h =
+    Ruled rest h.moves now.opened h.has w (λ tables is_by has. is_first_at_end (rules_by game tables) h.moves at.standing (h.is_at tables is_by has) (h.before tables is_by has) w (sym (h.verdict tables is_by has))) refl
 
-    illegal_at : (mid : Option (List ℕ)) (h : FollowedSoFar judge count left now old mid s) (m : Moves) → position_after s.position m ≡ None → IsOutcome rules (h.moves ++ m ∷ []) (outcome.Illegal (length h.moves))
-    illegal_at mid h m none =
-        let many = length-append h.moves (m ∷ []) in
-        let before : take (length h.moves) (h.moves ++ m ∷ []) ≡ h.moves = take-append-le (length h.moves) h.moves (m ∷ []) (omega arith) ∙ take_all (length h.moves) h.moves (omega arith) in
-        let all : take (length h.moves + 1) (h.moves ++ m ∷ []) ≡ h.moves ++ m ∷ [] = take_all (length h.moves + 1) (h.moves ++ m ∷ []) (omega (arith, many)) in
-        let there : IsSome (position_after_all rules.start h.moves) = ap is_some h.at.position in
-        record {
-          within = omega (arith, many);
-          legal = subst (λ (ms : List Moves). IsSome (position_after_all rules.start ms)) (sym before) there;
-          illegal = ap (position_after_all rules.start) all ∙ goes_on rules.start h.moves m ∙ ap (option_and_then (λ p. position_after p m)) h.at.position ∙ none;
-          unruled = subst (IsUnruled rules (h.moves ++ m ∷ [])) many (none_before rules h.moves m h.going);
-        }
+-- the status of what came of a line
+abbrev pub status_by : Option Step → Option ℕ
+status_by (Some (step.Printed v)) = goes v
+status_by (Some step.Ended) = Some 0
+status_by (Some step.Stopped) = Some 1
+status_by None = None
 
-    next_position : (mid : Option (List ℕ)) (h : FollowedSoFar judge count left now old mid s) (m : Moves) (p : Parts) → position_after s.position m ≡ Some p → position_after_all rules.start (h.moves ++ m ∷ []) ≡ Some p
-    next_position mid h m p is = goes_on rules.start h.moves m ∙ ap (option_and_then (λ q. position_after q m)) h.at.position ∙ is
+same_printed : (w v : Option Verdict) → Some (step.Printed v) ≡ Some (step.Printed w) → w ≡ v
+same_printed w v e = cc
 
-    leads_to : (next mid : Option (List ℕ)) (h : FollowedSoFar judge count left now old mid s) (line : List ℕ) (q : Parts) → ReadsLine now next line → SpellsNext notation s.position line q → LeadsTo notation rules now next h.moves q
-    leads_to next mid h line q read (m, spelled, is) = (line, s.position, m, (read, h.at.position), spelled, next_position mid h m q is)
+module _ (game : FollowedGame) (judge was now : JudgeFacts) (Now Stops : ReadFault → Type 0) (back : (fault : ReadFault) → Now fault → Stops fault) (left rest : Option (List ℕ)) (old : FollowState) (before : List Event) (first : IsLater judge was) (h : IsAtPly game judge was left rest old None before) where
+  ends_here : ComesTo game judge h.moves was.opened outcome.Going
+  ends_here = going game judge was left rest old before h
 
-    stops_at : (was : JudgeFacts) (next mid : Option (List ℕ)) (h : FollowedSoFar judge count left now old mid s) (line : List ℕ) (why : Stop) → ((p : Parts) → was.takes_memory p → halts.takes_memory p) → ((p : Parts) (refusal : FileRefusal) → was.refuses p refusal → halts.refuses p refusal)
-        → ReadsLine now next line → IsNoTurn notation was s.position count line why → StopsAfter notation rules halts now next h.moves why
-    stops_at was next mid h line (stop.NotAMove place) takes refuses read (is, bad) = (is ∙ sym h.count_is, (line, s.position, (read, h.at.position), bad))
-    stops_at was next mid h line (stop.Illegal place) takes refuses read (is, (m, spelled, none)) =
-        let here : place ≡ length h.moves = is ∙ sym h.count_is in
-        (here, (line, s.position, m, (read, h.at.position), spelled, subst (λ n. IsOutcome rules (h.moves ++ m ∷ []) (outcome.Illegal n)) (sym here) (illegal_at mid h m none)))
-    stops_at was next mid h line (stop.BadFile refusal) takes refuses read (q, to, bad) = (q, leads_to next mid h line q read to, refuses q refusal bad)
-    stops_at was next mid h line stop.Unread takes refuses read bad = absurd bad
-    stops_at was next mid h line stop.OutOfMemory takes refuses read (q, to, memory) = inr (q, leads_to next mid h line q read to, takes q memory)
+  -- a line is read next
+  reads_next : (next : Option (List ℕ)) (line : List ℕ) → ReadsLine rest next line → ReadsNext game rest h.moves line old.standing.position
+  reads_next next line read = record { after = next; read = read; at = last_position game judge was left rest old before h }
 
-    stops_by_fault : (next mid : Option (List ℕ)) (h : FollowedSoFar judge count left now old mid s) (fault : ReadFault) → halts.reads fault → StopsAfter notation rules halts now next h.moves (stop_by fault)
-    stops_by_fault next mid h read.Unreadable is = inl is
-    stops_by_fault next mid h read.OutOfMemory is = inl is
+  in_game : (line : List ℕ) (m : Moves) → Spells old.notation old.standing.position line m → Spells game.notation old.standing.position line m
+  in_game line m spelled = subst (λ n. Spells n old.standing.position line m) h.notation spelled
 
-    pub stops : (written : Notation) → notation ≡ written → (was : JudgeFacts) (Now : ReadFault → Type 0) (next mid new : Option (List ℕ)) → ((fault : ReadFault) → Now fault → halts.reads fault) → ((p : Parts) → was.takes_memory p → halts.takes_memory p) → ((p : Parts) (refusal : FileRefusal) → was.refuses p refusal → halts.refuses p refusal) → FollowedSoFar judge count left now old mid s
-        → ((line : List ℕ) × (why : Stop) × ReadsLine now next line × IsNoTurn written was s.position count line why × Appends mid new (ended (stop_words why))) ⊎ ((fault : ReadFault) × Now fault × Appends mid new (ended (stop_words (stop_by fault))))
-        → Follows notation rules halts left old new false
-    stops written by_notation was Now next mid new back takes refuses h (inl (line, why, read, bad, wrote)) = stopped next mid new h why (stops_at was next mid h line why takes refuses read (subst (λ n. IsNoTurn n was s.position count line why) (sym by_notation) bad)) wrote
-    stops written by_notation was Now next mid new back takes refuses h (inr (fault, is, wrote)) = stopped next mid new h (stop_by fault) (stops_by_fault next mid h fault (back fault is)) wrote
+  leads_to : (next : Option (List ℕ)) (line : List ℕ) (q : Parts) → ReadsLine rest next line → SpellsNext old line q → LeadsTo game rest h.moves line q
+  leads_to next line q read (m, spelled, legal) = (old.standing.position, m, reads_next next line read, in_game line m spelled, legal)
 
-    pub too_many : (mid new : Option (List ℕ)) → FollowedSoFar judge count left now old mid s → 2 ^ 64 - 1 ≤ count → Appends mid new (ended (stop_words stop.Unread)) → Follows notation rules halts left old new false
-    too_many mid new h many wrote = stopped now mid new h stop.Unread (inr (subst (λ n. 2 ^ 64 - 1 ≤ n) (sym h.count_is) many)) wrote
+  no_next : (next : Option (List ℕ)) (line : List ℕ) (had_come : Bool) (why : Stop) → ReadsLine rest next line → IsNoNext old.notation old.standing.position old.ply line why → StopsAfter game judge Stops rest h.moves was.opened why (LineRead (Ok (Some line)) had_come ∷ [])
+  no_next next line had_come (stop.NotAMove place) read (is, bad) =
+      NamesNoMove line old.standing.position had_come (reads_next next line read) (λ m spelled. bad m (subst (λ n. Spells n old.standing.position line m) (sym h.notation) spelled)) (ap stop.NotAMove (is ∙ sym h.count)) refl
+  no_next next line had_come (stop.Illegal place) read (is, (m, spelled, none)) =
+      NamesIllegal line old.standing.position m had_come (reads_next next line read) (in_game line m spelled) none (ap stop.Illegal (is ∙ sym h.count)) refl
+  no_next next line had_come (stop.BadFile refusal) read bad = absurd bad
+  no_next next line had_come stop.Unread read bad = absurd bad
+  no_next next line had_come stop.OutOfMemory read bad = absurd bad
 
--- ---- a writer that fails
+  stops_at : (next : Option (List ℕ)) (line : List ℕ) (had_come : Bool) (why : Stop) (reading : List Event) → ReadsLine rest next line → IsNoTurn was now old line why reading → StopsAfter game judge Stops rest h.moves was.opened why (LineRead (Ok (Some line)) had_come ∷ reading)
+  stops_at next line had_come why reading read (GivesNone bad none) =
+      subst (λ (e : List Event). StopsAfter game judge Stops rest h.moves was.opened why (LineRead (Ok (Some line)) had_come ∷ e)) (sym none) (no_next next line had_come why read bad)
+  stops_at next line had_come why reading read (IsRefused q refusal to reads refused is) =
+      NeedsBadFile line q had_come reading now.opened refusal (leads_to next line q read to) (first.reads was.opened now.opened q (Ok (Some refusal)) reading reads) (first.refuses q refusal refused) is refl
+  stops_at next line had_come why reading read (NoRoom q e to reads takes is) =
+      NeedsMemory line q had_come reading now.opened e (leads_to next line q read to) (first.reads was.opened now.opened q (Err e) reading reads) (first.takes_memory q takes) is refl
 
-module _ (notation : Notation) (rules : Rules) where
-  after : (old mid new : Option (List ℕ)) (told : List (List ℕ)) (last : List ℕ) → Appends old mid (text_of told) → HasFront mid new (ended last) → CutsAfter told last old new
-  after old mid new told last wrote (n, front) = (n, Appends-trans old mid new (text_of told) (take n (ended last)) wrote front)
+  stopped : (why : Stop) (asking : List Event) → StopsAfter game judge Stops rest h.moves was.opened why asking → Follows game judge Stops left (before ++ (asking ++ printed (stop_words why ∷ []))) (Some 1)
+  stopped why asking stops = Stopped rest h.moves was.opened before asking h.has ends_here why stops refl refl
 
-  -- at the line of the start
-  pub start_cut : (judge : JudgeFacts) (halts : Halts) (s : Reached) (left old new : Option (List ℕ)) → judge.stands rules.start [] s → IsAt rules [] s → (v : Option Verdict) × (v ≡ verdict_after rules []) × HasFront old new (ended (ply_words 0 v s.position)) → CutsGame notation rules halts left old new
-  unfolding start_told
-  start_cut judge halts s left old new stands at (v, is, front) =
-      let told = start_told notation rules judge s v left None None stands at is tt in
-      AtPly left [] [] (ply_words 0 v s.position) told.has told.before front
+  pub too_many : 2 ^ 64 - 1 ≤ length h.moves → Follows game judge Stops left (before ++ printed (stop_words stop.Unread ∷ [])) (Some 1)
+  too_many many = stopped stop.Unread [] (CountsNone many refl refl)
 
-  unwritten : (judge : JudgeFacts) (count : ℕ) (left now old new : Option (List ℕ)) (s : Reached) → FollowedSoFar notation rules judge count left now old new s → FollowedSoFar notation rules judge count left now None None s
-  unwritten judge count left now old new s h = record { moves = h.moves; told = h.told; stands = h.stands; has = h.has; at = h.at; going = h.going; written = tt; count_is = h.count_is }
+  -- what came of a line that was read, and of the next line
+  read_upto : (new : FollowState) (next : Option (List ℕ)) (line : List ℕ) (had_come : Bool) (then : List Event) (is : Option Step) → IsLater was now → ReadsLine rest next line → TurnsRead was now old line new then is → Follows game judge Stops left (before ++ LineRead (Ok (Some line)) had_come ∷ then) (status_by is)
+  read_upto new next line had_come then is second read (IsPrinted reading printing v turned prints e s) =
+      let more = upto game judge now Stops left next new prints.verdict (before ++ LineRead (Ok (Some line)) had_come ∷ (reading ++ printing)) (at_next game judge was left rest old before now new next line had_come reading printing (Some v) first second h read turned prints) in
+      let same : prints.verdict ≡ v = same_Some prints.verdict v (sym prints.is_it) in
+      subst (λ (x : Option Step). Follows game judge Stops left (before ++ LineRead (Ok (Some line)) had_come ∷ then) (status_by x)) (sym s) (
+      subst (λ (l : List Event). Follows game judge Stops left (before ++ LineRead (Ok (Some line)) had_come ∷ l) (goes v)) (sym e) (
+      subst (λ (w : Option Verdict). Follows game judge Stops left (before ++ LineRead (Ok (Some line)) had_come ∷ (reading ++ printing)) (goes w)) same more
+      )
+      )
+  read_upto new next line had_come then is second read (IsStopped reading why bad e s) =
+      subst (λ (x : Option Step). Follows game judge Stops left (before ++ LineRead (Ok (Some line)) had_come ∷ then) (status_by x)) (sym s) (
+      subst (λ (l : List Event). Follows game judge Stops left (before ++ LineRead (Ok (Some line)) had_come ∷ l) (Some 1)) (sym e) (stopped why (LineRead (Ok (Some line)) had_come ∷ reading) (stops_at next line had_come why reading read bad))
+      )
 
-  -- at what came of a line
-  pub next_cut : (input : LineFacts) (halts : Halts) (was judge : JudgeFacts) (course : FollowState) → notation ≡ course.notation → judge.is_by rules.tables → rules.delay ≡ course.delay → ((fault : ReadFault) → stops_by input fault → halts.reads fault) → ((p : Parts) → was.takes_memory p → halts.takes_memory p) → ((p : Parts) (refusal : FileRefusal) → was.refuses p refusal → halts.refuses p refusal)
-      → (count : ℕ) (left next old mid new : Option (List ℕ)) (t : Reached) → FollowedSoFar notation rules was count left input.left old mid course.standing → StepCuts input next was judge course count t mid new → CutsGame notation rules halts left old new
-  unfolding told_more unwritten
-  next_cut input halts was judge course by_notation is_by by_delay back takes refuses count left next old mid new t h (inl (line, read, inl (turned, (v, verdict, front)))) =
-      let more = told_more notation rules course.notation by_notation was judge course.delay is_by by_delay count left input.left next None None None course.standing t v (unwritten was count left input.left old mid course.standing h) (line, read, turned, (verdict, tt)) in
-      AtPly next more.moves h.told (ply_words (count + 1) v t.position) more.has more.before (after old mid new h.told (ply_words (count + 1) v t.position) h.written front)
-  next_cut input halts was judge course by_notation is_by by_delay back takes refuses count left next old mid new t h (inl (line, read, inr (why, bad, front))) =
-      AtStop input.left next h.moves h.told h.has h.going why (stops_at notation rules was halts count left input.left old course.standing was next mid h line why takes refuses read (subst (λ n. IsNoTurn n was course.standing.position count line why) (sym by_notation) bad)) (after old mid new h.told (stop_words why) h.written front)
-  next_cut input halts was judge course by_notation is_by by_delay back takes refuses count left next old mid new t h (inr (fault, is, front)) =
-      AtStop input.left next h.moves h.told h.has h.going (stop_by fault) (stops_by_fault notation rules was halts count left input.left old course.standing next mid h fault (back fault is)) (after old mid new h.told (stop_words (stop_by fault)) h.written front)
+  pub turn_upto : (new : FollowState) (next : Option (List ℕ)) (last : List Event) (is : Option Step) → IsLater was now → TakesTurn was now old new Now rest next last is → Follows game judge Stops left (before ++ last) (status_by is)
+  turn_upto new next last is second (Turned line had_come then read turns e) =
+      subst (λ (l : List Event). Follows game judge Stops left (before ++ l) (status_by is)) (sym e) (read_upto new next line had_come then is second read turns)
+  turn_upto new next last is second (AtEnd had_come end e s) =
+      subst (λ (x : Option Step). Follows game judge Stops left (before ++ last) (status_by x)) (sym s) (Open rest h.moves was.opened before h.has ends_here end had_come (ap (λ (l : List Event). before ++ l) e) refl)
+  turn_upto new next last is second (Unread fault had_come stops e s) =
+      subst (λ (x : Option Step). Follows game judge Stops left (before ++ last) (status_by x)) (sym s) (
+      subst (λ (l : List Event). Follows game judge Stops left (before ++ l) (Some 1)) (sym e) (stopped (stop_by fault) (LineRead (Err fault) had_come ∷ []) (ReadsNone fault had_come (back fault stops) refl refl))
+      )
 
-  -- so many moves were read that no more are counted
-  pub many_cut : (judge : JudgeFacts) (halts : Halts) (count : ℕ) (left now old mid new : Option (List ℕ)) (s : Reached) → FollowedSoFar notation rules judge count left now old mid s → 2 ^ 64 - 1 ≤ count → HasFront mid new (ended (stop_words stop.Unread)) → CutsGame notation rules halts left old new
-  many_cut judge halts count left now old mid new s h many front =
-      AtStop now now h.moves h.told h.has h.going stop.Unread (inr (subst (λ n. 2 ^ 64 - 1 ≤ n) (sym h.count_is) many)) (after old mid new h.told (stop_words stop.Unread) h.written front)
+  -- a ply that was printed
+  pub next_ply : (new : FollowState) (next : Option (List ℕ)) (last : List Event) (v : Option Verdict) → IsLater was now → TakesTurn was now old new Now rest next last (Some (step.Printed v)) → IsAtPly game judge now left next new v (before ++ last)
+  next_ply new next last v second (Turned line had_come then read (IsPrinted reading printing w turned prints e s) e') =
+      let at = at_next game judge was left rest old before now new next line had_come reading printing (Some w) first second h read turned prints in
+      let same : prints.verdict ≡ v = same_Some prints.verdict w (sym prints.is_it) ∙ same_printed w v s in
+      subst (λ (l : List Event). IsAtPly game judge now left next new v (before ++ l)) (sym e') (
+      subst (λ (l : List Event). IsAtPly game judge now left next new v (before ++ LineRead (Ok (Some line)) had_come ∷ l)) (sym e) (
+      subst (λ (x : Option Verdict). IsAtPly game judge now left next new x (before ++ LineRead (Ok (Some line)) had_come ∷ (reading ++ printing))) same at
+      )
+      )
+  next_ply new next last v second (Turned line had_come then read (IsStopped reading why bad e s) e') = absurd cc
+  next_ply new next last v second (AtEnd had_come end e s) = absurd cc
+  next_ply new next last v second (Unread fault had_come stops e s) = absurd cc
 
--- a game that isn't begun
-no_start : (Reads : ReadFault → Type 0) (judge : JudgeFacts) (rules : Rules) (start : Parts) (why : Stop) → rules.start ≡ start → IsNoStart judge start why → IsNotBegun rules (halts_by Reads judge) why
-no_start Reads judge rules start (stop.NotAMove place) same none = absurd none
-no_start Reads judge rules start (stop.Illegal place) same none = absurd none
-no_start Reads judge rules start (stop.BadFile refusal) same bad = subst (λ p. judge.refuses p refusal) (sym same) bad
-no_start Reads judge rules start stop.Unread same none = absurd none
-no_start Reads judge rules start stop.OutOfMemory same memory = subst judge.takes_memory (sym same) memory
+-- ---- other reasons why lines stop
 
-pub not_begun : (notation : Notation) (Reads : ReadFault → Type 0) (judge : JudgeFacts) (rules : Rules) (left old new : Option (List ℕ)) (why : Stop) → IsNoStart judge rules.start why → Appends old new (ended (stop_words why)) → Follows notation rules (halts_by Reads judge) left old new false
-not_begun notation Reads judge rules left old new why none wrote = NotBegun why (no_start Reads judge rules rules.start why refl none) wrote refl
+after_so : (game : FollowedGame) (judge : JudgeFacts) (Now Stops : ReadFault → Type 0) → ((fault : ReadFault) → Now fault → Stops fault) → (now : Option (List ℕ)) (moves : List Moves) (opened : Tables) (why : Stop) (events : List Event) → StopsAfter game judge Now now moves opened why events → StopsAfter game judge Stops now moves opened why events
+after_so game judge Now Stops back now moves opened why events (NamesNoMove line p had_come next none is made) = NamesNoMove line p had_come next none is made
+after_so game judge Now Stops back now moves opened why events (NamesIllegal line p m had_come next spelled none is made) = NamesIllegal line p m had_come next spelled none is made
+after_so game judge Now Stops back now moves opened why events (NeedsBadFile line q had_come reading last refusal to reads refused is made) = NeedsBadFile line q had_come reading last refusal to reads refused is made
+after_so game judge Now Stops back now moves opened why events (NeedsMemory line q had_come reading last refused to reads takes is made) = NeedsMemory line q had_come reading last refused to reads takes is made
+after_so game judge Now Stops back now moves opened why events (ReadsNone fault had_come stops is made) = ReadsNone fault had_come (back fault stops) is made
+after_so game judge Now Stops back now moves opened why events (CountsNone many is made) = CountsNone many is made
 
-pub cut_at_begin : (notation : Notation) (Reads : ReadFault → Type 0) (judge : JudgeFacts) (rules : Rules) (left old new : Option (List ℕ)) (why : Stop) → IsNoStart judge rules.start why → HasFront old new (ended (stop_words why)) → CutsGame notation rules (halts_by Reads judge) left old new
-cut_at_begin notation Reads judge rules left old new why none front = AtBegin why (no_start Reads judge rules rules.start why refl none) front
-
--- ---- another reason for a failure
-
-module _ (notation : Notation) (rules : Rules) (Now Stops : Halts) (back : (fault : ReadFault) → Now.reads fault → Stops.reads fault) (takes : (p : Parts) → Now.takes_memory p → Stops.takes_memory p) (refuses : (p : Parts) (refusal : FileRefusal) → Now.refuses p refusal → Stops.refuses p refusal) where
-  stops_so : (now after : Option (List ℕ)) (moves : List Moves) (why : Stop) → StopsAfter notation rules Now now after moves why → StopsAfter notation rules Stops now after moves why
-  stops_so now after moves (stop.NotAMove place) h = h
-  stops_so now after moves (stop.Illegal place) h = h
-  stops_so now after moves (stop.BadFile refusal) (q, to, bad) = (q, to, refuses q refusal bad)
-  stops_so now after moves stop.Unread (inl h) = inl (back read.Unreadable h)
-  stops_so now after moves stop.Unread (inr h) = inr h
-  stops_so now after moves stop.OutOfMemory (inl h) = inl (back read.OutOfMemory h)
-  stops_so now after moves stop.OutOfMemory (inr (q, to, memory)) = inr (q, to, takes q memory)
-
-  begins_so : (why : Stop) → IsNotBegun rules Now why → IsNotBegun rules Stops why
-  begins_so (stop.NotAMove place) h = h
-  begins_so (stop.Illegal place) h = h
-  begins_so (stop.BadFile refusal) h = refuses rules.start refusal h
-  begins_so stop.Unread h = h
-  begins_so stop.OutOfMemory h = takes rules.start h
-
-  follows_so : (left old new : Option (List ℕ)) (done : Bool) → Follows notation rules Now left old new done → Follows notation rules Stops left old new done
-  follows_so left old new done (Ruled now moves told has v out wrote is) = Ruled now moves told has v out wrote is
-  follows_so left old new done (Open now moves told has out end wrote is) = Open now moves told has out end wrote is
-  follows_so left old new done (Stopped now after moves told has out why at wrote is) = Stopped now after moves told has out why (stops_so now after moves why at) wrote is
-  follows_so left old new done (NotBegun why none wrote is) = NotBegun why (begins_so why none) wrote is
-
-  cuts_so : (left old new : Option (List ℕ)) → CutsGame notation rules Now left old new → CutsGame notation rules Stops left old new
-  cuts_so left old new (AtPly now moves told last has before cut) = AtPly now moves told last has before cut
-  cuts_so left old new (AtStop now after moves told has out why at cut) = AtStop now after moves told has out why (stops_so now after moves why at) cut
-  cuts_so left old new (AtBegin why none front) = AtBegin why (begins_so why none) front
-
-  pub follows_to : (left old new : Option (List ℕ)) (r : Result Bool WriteFault) → FollowsTo notation rules Now left old new r → FollowsTo notation rules Stops left old new r
-  follows_to left old new (Ok done) h = follows_so left old new done h
-  follows_to left old new (Err fault) h = cuts_so left old new h
-
--- ---- in turn
-
-module _ {L W : Type 0} (lines : L → LineFacts) (outs : W → OutputFacts) (contents : W → Option (List ℕ)) (reader : L) (out : W) where
-  pub asked_more : (before now : L) (told at : W) → AsksInTurn lines outs contents reader out before told → (outs told).gone → (line words : List ℕ) → ReadsLine (lines before).left (lines now).left line → Appends (contents told) (contents at) (ended words) → AsksInTurn lines outs contents reader out now at
-  asked_more before now told at asked gone line words read wrote = AsksOne before now told told at asked (Keeps-refl (contents told)) (inr gone) line words read wrote
-
-  pub asked_all : (now : L) (at new : W) → AsksInTurn lines outs contents reader out now at → contents new ≡ contents at → TellsInTurn lines outs contents reader out new
-  asked_all now at new asked same = record { now = now; at = at; asked = asked; rest = inl (subst (λ o. Keeps (contents at) o) (sym same) (Keeps-refl (contents at))) }
-
-  fault_words : (fault : ReadFault) → (stop_words (stop_by fault) ≡ refused_files) ⊎ (stop_words (stop_by fault) ≡ refused_memory)
-  fault_words read.Unreadable = inl refl
-  fault_words read.OutOfMemory = inr refl
-
-  pub asked_cut : (notation : Notation) (Now : ReadFault → Type 0) (was : JudgeFacts) (p : Parts) (count : ℕ) (before now : L) (told new : W) → AsksInTurn lines outs contents reader out before told → (outs told).gone
-      → ((line : List ℕ) × (why : Stop) × ReadsLine (lines before).left (lines now).left line × IsNoTurn notation was p count line why × Appends (contents told) (contents new) (ended (stop_words why)))
-      ⊎ ((fault : ReadFault) × Now fault × Appends (contents told) (contents new) (ended (stop_words (stop_by fault))))
-      → TellsInTurn lines outs contents reader out new
-  asked_cut notation Now was p count before now told new asked gone (inl (line, why, read, bad, wrote)) = asked_all now new new (asked_more before now told new asked gone line (stop_words why) read wrote) refl
-  asked_cut notation Now was p count before now told new asked gone (inr (fault, is, wrote)) = record { now = before; at = told; asked = asked; rest = inr (stop_words (stop_by fault), fault_words fault, wrote) }
+pub stops_so : (game : FollowedGame) (judge : JudgeFacts) (Now Stops : ReadFault → Type 0) → ((fault : ReadFault) → Now fault → Stops fault) → (left : Option (List ℕ)) (events : List Event) (status : Option ℕ) → Follows game judge Now left events status → Follows game judge Stops left events status
+stops_so game judge Now Stops back left events status (Ruled now moves opened has v comes is) = Ruled now moves opened has v comes is
+stops_so game judge Now Stops back left events status (Open now moves opened before has comes end had_come made is) = Open now moves opened before has comes end had_come made is
+stops_so game judge Now Stops back left events status (Stopped now moves opened before asking has comes why stops made is) = Stopped now moves opened before asking has comes why (after_so game judge Now Stops back now moves opened why asking stops) made is
+stops_so game judge Now Stops back left events status (NotBegun why reading none made is) = NotBegun why reading none made is
+stops_so game judge Now Stops back left events status (GoesOn now moves opened has comes is) = GoesOn now moves opened has comes is

@@ -1,4 +1,5 @@
 pub mod NotationLaws
 pub mod FollowLaws
 pub mod AgreeLaws
+pub mod StepLaws
 pub mod LineLaws

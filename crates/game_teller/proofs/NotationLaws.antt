@@ -14,7 +14,7 @@ use Rattle.move_notation.specs.Notations.{AreMovesIn, LeadsTo, Spells}
 use Rattle.move_notation.proofs.TurnLaws.{leads_more}
 
 -- a move, and then the others
-goes_first : (p q : Parts) (m : Moves) (moves : List Moves) → position_after p m ≡ Some q → position_after_all p (m ∷ moves) ≡ position_after_all q moves
+pub goes_first : (p q : Parts) (m : Moves) (moves : List Moves) → position_after p m ≡ Some q → position_after_all p (m ∷ moves) ≡ position_after_all q moves
 unfolding position_after_all
 goes_first p q m moves is = rw is refl
 

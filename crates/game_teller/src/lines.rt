@@ -1,22 +1,23 @@
-//! The lines of a game that is told ply by ply.
+//! The lines of a game that is followed ply by ply.
 
-ghost use Rattle.std.specs.Prelude.{◌≡◌, ◌≤◌, ◌++◌, OnErr, OnOk, length};
+ghost use Rattle.std.specs.Prelude.{◌≡◌, ◌≤◌, ◌++◌, ◌∷◌, [], OnErr, length};
 ghost use Rattle.std.specs.Fmt.{decimal};
 ghost use Rattle.judge_core.specs.Words.{verdict_words};
-ghost use Rattle.move_msg.specs.TextLines.{ended};
+ghost use Rattle.game_teller.specs.Inside.Steps.{GoesOut};
 ghost use Rattle.game_teller.specs.Plies.{ply_words, stop_words};
 ghost use Rattle.game_teller.specs.declared.lines.Stop.TheVariants.{BadFile};
-ghost use Rattle.line_teller.specs.ToldLines.{HasFailed};
-ghost use Rattle.system_io.specs.Outputs.{WritesFront};
+ghost use Rattle.answer_parts.specs.Printing.{OutputFails, Performs, Prints};
+ghost use Rattle.timeline.specs.Outsides.{AddsSome};
 
 use board_core::{Position, Verdict};
 use fen_text::write;
 use judge_core::verdict_or_open;
 use line_teller::LineWords;
-use system_io::{Output, WriteFault};
+use system_io::WriteFault;
 use table_folder::FileRefusal;
+use timeline::{Stream, System};
 
-/// Why no more is told.
+/// Why no more plies are printed.
 #[derive(Clone, Copy)]
 pub enum Stop {
     /// The line at this place, counted from 0, is no move.
@@ -52,7 +53,7 @@ fn file_line(refusal: &FileRefusal) -> LineWords
     line
 }
 
-/// The line that says why no more is told.
+/// The line that says why no more plies are printed.
 fn stop_line(stop: Stop) -> LineWords
     ensures { result ≡ stop_words stop }
 {
@@ -65,12 +66,19 @@ fn stop_line(stop: Stop) -> LineWords
     }
 }
 
-/// Writes why no more is told. An error comes only of a type of writer that may refuse a write; a front of that is written then.
-pub(crate) fn put_stop<W: Output>(out: &mut W, stop: Stop) -> Result<(), WriteFault>
-    ensures front { WritesFront (W.contents out.old) (W.contents out.new) (ended (stop_words stop)) result }
-    ensures cause { OnErr result (HasFailed W.facts) }
+/// Writes why no more plies are printed, and returns the status 1.
+pub(crate) fn print_stop<S: System>(
+    system: &S,
+    timeline: &mut S::Timeline,
+    stop: Stop,
+) -> Result<u8, WriteFault>
+    ensures made { AddsSome (S.outside system.now) timeline.old timeline.new (Performs (Prints (stop_words stop ∷ []) 1) result) }
+    ensures cause { OnErr result (OutputFails (S.outside system.now)) }
 {
-    stop_line(stop).put(out)
+    match stop_line(stop).write(system, timeline, Stream::Output) {
+        Ok(()) => Ok(1),
+        Err(fault) => Err(fault),
+    }
 }
 
 /// The name of a verdict, or `open`.
@@ -94,19 +102,19 @@ fn ply_line(number: usize, verdict: Option<Verdict>, position: &Position) -> Lin
     line
 }
 
-/// Writes a ply, and flushes it. Where the writer fails, a front of its line is written.
-pub(crate) fn put_ply_now<W: Output>(
-    out: &mut W,
+/// Writes the line of a ply, and lets it go out. Where the output fails, a front of it is written, or all of it can't go out.
+pub(crate) fn print_ply<S: System>(
+    system: &S,
+    timeline: &mut S::Timeline,
     number: usize,
     verdict: Option<Verdict>,
     position: &Position,
 ) -> Result<(), WriteFault>
-    ensures front { WritesFront (W.contents out.old) (W.contents out.new) (ended (ply_words number verdict position.now)) result }
-    ensures gone { OnOk result (W.facts out.new).gone }
-    ensures cause { OnErr result (HasFailed W.facts) }
+    ensures made { AddsSome (S.outside system.now) timeline.old timeline.new (Performs (GoesOut (ply_words number verdict position.now)) result) }
+    ensures cause { OnErr result (OutputFails (S.outside system.now)) }
 {
-    match ply_line(number, verdict, position).put(out) {
-        Ok(()) => out.flush_all(),
+    match ply_line(number, verdict, position).write(system, timeline, Stream::Output) {
+        Ok(()) => system.flush(timeline, Stream::Output),
         Err(fault) => Err(fault),
     }
 }

@@ -1,4 +1,3 @@
-pub mod PrintLaws
 pub mod LineLaws
 pub mod FeedLaws
 pub mod WritingLaws

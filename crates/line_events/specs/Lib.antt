@@ -1,4 +1,3 @@
-pub mod Printing
 pub mod LineEvents
 pub mod Writing
 pub mod Inside

@@ -3,12 +3,12 @@
 ghost use Rattle.std.specs.Prelude.{◌≡◌, ◌∷◌, [], List, ℕ, IsErrOf, OnErr};
 ghost use Rattle.line_events.specs.Inside.Lines.{AnswersRead, GoesOut};
 ghost use Rattle.line_events.specs.LineEvents.{Answering, AnswersInput, AnswersLine, AnswersLines, AnswersNoMore, MayTellProgress, TakesTurn};
-ghost use Rattle.line_events.specs.Printing.{OutputFails, Performs, Prints};
+ghost use Rattle.answer_parts.specs.Printing.{OutputFails, Performs, Prints};
 ghost use Rattle.line_teller.specs.ToldLines.{cut_words, done_words, stops_by};
 ghost use Rattle.timeline.specs.Events.{has_line_feed};
 ghost use Rattle.timeline.specs.Outsides.{AddsSome};
 
-use crate::printing::{print_unread, status_if};
+use answer_parts::{print_unread, status_if};
 use line_teller::{LineWords, TellFault};
 use std::alloc::Global;
 use system_io::{ReadFault, WriteFault};
@@ -19,11 +19,17 @@ const PROGRESS_STEP: u64 = 10_000;
 
 /// Answers each line of an input over a system.
 pub trait LineAnswerer<S: System> {
+    /// What it may know, such as the tables that are open.
+    ghost Known: { Type 0 };
+
     /// This is the system from which it reads.
     ghost reads_from: { Self → S → Type 0 };
 
-    /// What is told of a line, and behind which events.
-    ghost answering: { Self → Answering };
+    /// What it knows, which may grow from line to line.
+    ghost known: { Self → Known };
+
+    /// How lines are answered by what is known.
+    ghost answering: { Self → Answering Known };
 
     /// Reads what the answer to a line asks for, writes the answer, with a line feed after it and at once, and returns whether it is
     /// complete. An answer given later could have been given before.
@@ -37,7 +43,7 @@ pub trait LineAnswerer<S: System> {
         line: &[u8],
     ) -> Result<bool, TellFault>
         requires { reads_from self.old system.now }
-        ensures made { AddsSome (S.outside system.now) timeline.old timeline.new (AnswersLine (answering self.old) line.now result) }
+        ensures made { AddsSome (S.outside system.now) timeline.old timeline.new (AnswersLine (answering self.old) (known self.old) (known self.new) line.now result) }
         ensures cause { IsErrOf result TellFault.Io → OutputFails (S.outside system.now) }
         ensures same { AnswersNoMore (answering self.old) (answering self.new) }
         ensures still { reads_from self.new system.now };
@@ -92,7 +98,7 @@ fn answer_read<S: System, A: LineAnswerer<S>>(
     line: &[u8],
 ) -> Result<Step, WriteFault>
     requires { A.reads_from answerer.old system.now }
-    ensures made { AddsSome (S.outside system.now) timeline.old timeline.new (Performs (AnswersRead (A.answering answerer.old) line.now) result) }
+    ensures made { AddsSome (S.outside system.now) timeline.old timeline.new (Performs (AnswersRead (A.answering answerer.old) (A.known answerer.old) (A.known answerer.new) line.now) result) }
     ensures cause { OnErr result (OutputFails (S.outside system.now)) }
     ensures same { AnswersNoMore (A.answering answerer.old) (A.answering answerer.new) }
     ensures still { A.reads_from answerer.new system.now }
@@ -113,7 +119,7 @@ fn take_turn<S: System, A: LineAnswerer<S>>(
     line: &mut Vec<u8>,
 ) -> Result<Step, WriteFault>
     requires { A.reads_from answerer.old system.now }
-    ensures made { AddsSome (S.outside system.now) timeline.old timeline.new (Performs (TakesTurn (A.answering answerer.old) (stops_by ((S.outside system.now).lines lines.old)) ((S.outside system.now).lines lines.old).left ((S.outside system.now).lines lines.new).left) result) }
+    ensures made { AddsSome (S.outside system.now) timeline.old timeline.new (Performs (TakesTurn (A.answering answerer.old) (A.known answerer.old) (A.known answerer.new) (stops_by ((S.outside system.now).lines lines.old)) ((S.outside system.now).lines lines.old).left ((S.outside system.now).lines lines.new).left) result) }
     ensures cause { OnErr result (OutputFails (S.outside system.now)) }
     ensures stops { (fault : ReadFault) → stops_by ((S.outside system.now).lines lines.new) fault → stops_by ((S.outside system.now).lines lines.old) fault }
     ensures same { AnswersNoMore (A.answering answerer.old) (A.answering answerer.new) }
@@ -170,7 +176,7 @@ fn answer_in_turn<S: System, A: LineAnswerer<S>>(
     progress: bool,
 ) -> Result<bool, WriteFault>
     requires { A.reads_from answerer.old system.now }
-    ensures made { AddsSome (S.outside system.now) timeline.old timeline.new (Performs (AnswersLines (A.answering answerer.old) progress (stops_by ((S.outside system.now).lines lines.old)) ((S.outside system.now).lines lines.old).left) result) }
+    ensures made { AddsSome (S.outside system.now) timeline.old timeline.new (Performs (AnswersLines (A.answering answerer.old) (A.known answerer.old) progress (stops_by ((S.outside system.now).lines lines.old)) ((S.outside system.now).lines lines.old).left) result) }
     ensures cause { OnErr result (OutputFails (S.outside system.now)) }
 {
     let mut line = Vec::new(alloc);
@@ -207,7 +213,7 @@ pub fn answer_lines<S: System, A: LineAnswerer<S>>(
     progress: bool,
 ) -> Result<u8, WriteFault>
     requires { A.reads_from answerer.old system.now }
-    ensures made { AddsSome (S.outside system.now) timeline.old timeline.new (Performs (AnswersInput (S.outside system.now).input (A.answering answerer.old) progress) result) }
+    ensures made { AddsSome (S.outside system.now) timeline.old timeline.new (Performs (AnswersInput (S.outside system.now).input (A.answering answerer.old) (A.known answerer.old) progress) result) }
     ensures cause { OnErr result (OutputFails (S.outside system.now)) }
 {
     let mut lines = match system.input_lines(timeline, alloc) {

@@ -9,6 +9,7 @@ pub mod GameLaws
 pub mod StepLaws
 pub mod LineLaws
 pub mod ReadLaws
+pub mod LineReadLaws
 pub mod UsualLaws
 pub mod SoundLaws
 pub mod EndLaws

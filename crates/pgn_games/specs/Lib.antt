@@ -6,6 +6,7 @@ pub mod Tokens
 pub mod Games
 pub mod Shown
 pub mod Reading
+pub mod LineReads
 pub mod Laws
 pub mod Scores
 pub mod ExportFormat

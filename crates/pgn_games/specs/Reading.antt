@@ -16,9 +16,5 @@ abbrev pub tokens_with : Cursor → List ℕ → List Token
 tokens_with cursor more = tokens_from 0 cursor.number (cursor.place == 0) (drop cursor.place cursor.line.items ++ more)
 
 -- the tokens that are left, where the bytes are known that are left of the lines
-abbrev pub tokens_left : {L : Type 0} → (L → Option (List ℕ)) → PgnReader L → Option (List Token)
-tokens_left left reader = option_map (λ bytes. tokens_with reader.cursor (read_text bytes)) (left reader.lines)
-
--- the lines that are read
-abbrev pub input_of : {L : Type 0} → PgnReader L → L
-input_of reader = reader.lines
+abbrev pub tokens_left : Option (List ℕ) → PgnReader → Option (List Token)
+tokens_left left reader = option_map (λ bytes. tokens_with reader.cursor (read_text bytes)) left

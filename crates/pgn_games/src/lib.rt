@@ -1,6 +1,6 @@
 //! The games of a PGN file (PGN standard of 1994), one at a time, in bounded memory.
 //!
-//! The lines of an input go in (`system_io::LineReader`); out comes for each game its line, its tags, its start, its moves and its
+//! The lines of an input go in, read from a system with a timeline (`timeline::System`); out comes for each game its line, its tags, its start, its moves and its
 //! result, or the first fault of it (`Reading`). `PgnReader` holds one line, at most 65,536 bytes, and one game, at most 4,096 moves
 //! and 255 bytes of each of six tags: so a file's size takes no memory.
 //!
@@ -16,12 +16,13 @@
 //! `usual`, `reader`; `game`, `fault`; `laws`.
 //!
 //! Definitions, in reading order: `Lines`, `Bytes`, `Tags`, `Lexemes` (`lexed_at`), `Tokens` (`tokens_of`), `Games` (`ReadsGame`,
-//! `SpellsGames`), `Shown`, `Reading` (`tokens_left`), `Laws`, `Scores` (`SpellsScore`), `ExportFormat` (`written_score`).
+//! `SpellsGames`), `Shown`, `Reading` (`tokens_left`), `LineReads` (`ReadsLines`, `FailsToRead`), `Laws`, `Scores` (`SpellsScore`), `ExportFormat` (`written_score`).
 //!
 //! - CLAIM: `PgnReader::new`; `PgnReader::next_game`, clause `game`: where the bytes of an input are known, each call reads the next game of
 //!   their tokens, and leaves those behind it.
 //! - CLAIM: `PgnReader::next_game`, clauses `cause`, `same`: reading fails as `Unreadable` only where the input fails.
-//! - CLAIM: `PgnReader::has_line`: it says whether a whole line has come already.
+//! - CLAIM: `PgnReader::next_game`, clause `made`: nothing happens outside but that the next lines are read, one after another, each once; at the end
+//!   of the input that there is none. Where a line can't be read, nothing is read behind it.
 //! - CLAIM: `laws::games_are_of_chess`: a game that is read begins at the position of its FEN tag or at the usual one, and its moves, at
 //!   most 4,096, are legal in turn.
 //! - CLAIM: `laws::moves_are_read_back`: the tokens of texts that are read as moves in turn, and of a result, are read as the game of these

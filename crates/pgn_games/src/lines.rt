@@ -2,13 +2,16 @@
 
 ghost use Rattle.std.specs.Prelude.{◌≡◌, ◌≤◌, [], ◌∷◌, IfOk, IsErrOf, MatchBool, vec_len};
 ghost use Rattle.pgn_games.specs.Lines.{is_escaped, text_of_line};
+ghost use Rattle.pgn_games.specs.LineReads.{ReadsFor};
 ghost use Rattle.pgn_games.specs.Reading.{IfKnown};
 ghost use Rattle.pgn_games.specs.Inside.Lines.{OneLine};
 ghost use Rattle.pgn_games.specs.Inside.Steps.{BeginsAs, StandsAtLine, TakesText};
+ghost use Rattle.timeline.specs.Outsides.{AddsSome};
 
 use crate::cursor::Cursor;
 use crate::phase::one_more;
-use system_io::{LineReader, ReadFault};
+use system_io::ReadFault;
+use timeline::System;
 
 /// The longest line that is read, 65,535 bytes without its line feed.
 const MOST_LINE_BYTES: usize = 65_535;
@@ -67,18 +70,21 @@ fn begin_line(cursor: &mut Cursor) -> Taken
 }
 
 /// Takes the next line, where the one before it is read to its end.
-pub(crate) fn take_line<L: LineReader>(
-    lines: &mut L,
+pub(crate) fn take_line<S: System>(
+    system: &S,
+    timeline: &mut S::Timeline,
+    lines: &mut S::Lines,
     cursor: &mut Cursor,
 ) -> Result<Taken, ReadFault>
     requires { vec_len cursor.old.line ≤ cursor.old.place }
-    ensures text { IfOk result (λ taken. IfKnown (L.facts lines.old).left (L.facts lines.new).left (TakesText cursor.old cursor.new taken)) }
+    ensures text { IfOk result (λ taken. IfKnown ((S.outside system.now).lines lines.old).left ((S.outside system.now).lines lines.new).left (TakesText cursor.old cursor.new taken)) }
     ensures place { IfOk result (StandsAtLine cursor.new) }
     ensures one { OneLine cursor.new.line.items }
-    ensures cause { IsErrOf result ReadFault.Unreadable → (L.facts lines.old).fails }
-    ensures same { (L.facts lines.new).fails → (L.facts lines.old).fails }
+    ensures cause { IsErrOf result ReadFault.Unreadable → ((S.outside system.now).lines lines.old).fails }
+    ensures same { ((S.outside system.now).lines lines.new).fails → ((S.outside system.now).lines lines.old).fails }
+    ensures made { AddsSome (S.outside system.now) timeline.old timeline.new (ReadsFor ((S.outside system.now).lines lines.old).left ((S.outside system.now).lines lines.new).left result) }
 {
-    match lines.next_line(&mut cursor.line) {
+    match system.next_line(timeline, lines, &mut cursor.line) {
         Ok(true) => Ok(begin_line(cursor)),
         Ok(false) => {
             cursor.line.clear();

@@ -2,18 +2,21 @@
 
 ghost use Rattle.std.specs.Prelude.{◌≡◌, ◌≤◌, ◌++◌, IfOk, IsErrOf, OnOk, List, ℕ, option_map, vec_len, false};
 ghost use Rattle.pgn_games.specs.Lines.{read_text};
+ghost use Rattle.pgn_games.specs.LineReads.{ReadsFor};
 ghost use Rattle.pgn_games.specs.Tokens.{Token};
 ghost use Rattle.pgn_games.specs.Reading.{IfKnown, tokens_with};
 ghost use Rattle.pgn_games.specs.Inside.Owned.{course_of};
 ghost use Rattle.pgn_games.specs.Inside.Lines.{OneLine};
 ghost use Rattle.pgn_games.specs.Inside.Steps.{Continues, IsOn, ReadsToEnd, TellsOn, comment_closed, closing_tokens, comment_left, rest_with};
+ghost use Rattle.timeline.specs.Outsides.{AddsSome};
 
 use crate::course::Course;
 use crate::cursor::{Cursor, Left, Next};
 use crate::lexeme::Lexeme;
 use crate::lines::{Taken, take_line};
 use std::alloc::AllocError;
-use system_io::{LineReader, ReadFault};
+use system_io::ReadFault;
+use timeline::System;
 
 /// How a comment ends.
 #[derive(Clone, Copy)]
@@ -38,17 +41,23 @@ fn closed_with(long: bool) -> Closing
 }
 
 /// Passes over the rest of a comment, from the end of a line on.
-fn close_comment<L: LineReader>(lines: &mut L, cursor: &mut Cursor) -> Result<Closing, ReadFault>
+fn close_comment<S: System>(
+    system: &S,
+    timeline: &mut S::Timeline,
+    lines: &mut S::Lines,
+    cursor: &mut Cursor,
+) -> Result<Closing, ReadFault>
     requires past { vec_len cursor.old.line ≤ cursor.old.place }
     requires one { OneLine cursor.old.line.items }
-    ensures closes { IfOk result (λ closing. (from : ℕ) → IfKnown (L.facts lines.old).left (L.facts lines.new).left (λ left behind. comment_left from false cursor.old.number (rest_with cursor.old (read_text left)) ≡ closing_tokens from closing ++ tokens_with cursor.new (read_text behind))) }
+    ensures closes { IfOk result (λ closing. (from : ℕ) → IfKnown ((S.outside system.now).lines lines.old).left ((S.outside system.now).lines lines.new).left (λ left behind. comment_left from false cursor.old.number (rest_with cursor.old (read_text left)) ≡ closing_tokens from closing ++ tokens_with cursor.new (read_text behind))) }
     ensures one { OneLine cursor.new.line.items }
-    ensures cause { IsErrOf result ReadFault.Unreadable → (L.facts lines.old).fails }
-    ensures same { (L.facts lines.new).fails → (L.facts lines.old).fails }
+    ensures cause { IsErrOf result ReadFault.Unreadable → ((S.outside system.now).lines lines.old).fails }
+    ensures same { ((S.outside system.now).lines lines.new).fails → ((S.outside system.now).lines lines.old).fails }
+    ensures made { AddsSome (S.outside system.now) timeline.old timeline.new (ReadsFor ((S.outside system.now).lines lines.old).left ((S.outside system.now).lines lines.new).left result) }
 {
     let mut long = false;
     for _ in 0..u64::MAX {
-        match take_line(lines, cursor)? {
+        match take_line(system, timeline, lines, cursor)? {
             Taken::Nothing => return Ok(Closing::Never),
             Taken::LongLine => long = true,
             Taken::Line => {
@@ -81,41 +90,47 @@ fn put_closing(course: &mut Course, from: u64, closing: Closing) -> Result<(), A
 }
 
 /// Tells the rest of a comment, from the end of a line on.
-fn pass_comment<L: LineReader>(
-    lines: &mut L,
+fn pass_comment<S: System>(
+    system: &S,
+    timeline: &mut S::Timeline,
+    lines: &mut S::Lines,
     cursor: &mut Cursor,
     course: &mut Course,
 ) -> Result<(), ReadFault>
     requires past { vec_len cursor.old.line ≤ cursor.old.place }
     requires one { OneLine cursor.old.line.items }
     requires on { IsOn course.old.phase }
-    ensures told { OnOk result (IfKnown (L.facts lines.old).left (L.facts lines.new).left (λ left behind. Continues (course_of course.old) (comment_left cursor.old.number false cursor.old.number (rest_with cursor.old (read_text left))) (course_of course.new) (tokens_with cursor.new (read_text behind)))) }
+    ensures told { OnOk result (IfKnown ((S.outside system.now).lines lines.old).left ((S.outside system.now).lines lines.new).left (λ left behind. Continues (course_of course.old) (comment_left cursor.old.number false cursor.old.number (rest_with cursor.old (read_text left))) (course_of course.new) (tokens_with cursor.new (read_text behind)))) }
     ensures on { OnOk result (IsOn course.new.phase) }
     ensures one { OneLine cursor.new.line.items }
-    ensures cause { IsErrOf result ReadFault.Unreadable → (L.facts lines.old).fails }
-    ensures same { (L.facts lines.new).fails → (L.facts lines.old).fails }
+    ensures cause { IsErrOf result ReadFault.Unreadable → ((S.outside system.now).lines lines.old).fails }
+    ensures same { ((S.outside system.now).lines lines.new).fails → ((S.outside system.now).lines lines.old).fails }
+    ensures made { AddsSome (S.outside system.now) timeline.old timeline.new (ReadsFor ((S.outside system.now).lines lines.old).left ((S.outside system.now).lines lines.new).left result) }
 {
     let from = cursor.number;
-    let closing = close_comment(lines, cursor)?;
+    let closing = close_comment(system, timeline, lines, cursor)?;
     put_closing(course, from, closing)?;
     Ok(())
 }
 
 /// Takes the next line behind one that is told.
-fn tell_next<L: LineReader>(
-    lines: &mut L,
+fn tell_next<S: System>(
+    system: &S,
+    timeline: &mut S::Timeline,
+    lines: &mut S::Lines,
     cursor: &mut Cursor,
     course: &mut Course,
 ) -> Result<Next, ReadFault>
     requires past { vec_len cursor.old.line ≤ cursor.old.place }
     requires on { IsOn course.old.phase }
-    ensures told { IfOk result (λ next. IfKnown (L.facts lines.old).left (L.facts lines.new).left (λ left behind. TellsOn next (course_of course.old) (tokens_with cursor.old (read_text left)) (course_of course.new) (tokens_with cursor.new (read_text behind)))) }
+    ensures told { IfOk result (λ next. IfKnown ((S.outside system.now).lines lines.old).left ((S.outside system.now).lines lines.new).left (λ left behind. TellsOn next (course_of course.old) (tokens_with cursor.old (read_text left)) (course_of course.new) (tokens_with cursor.new (read_text behind)))) }
     ensures on { IfOk result (λ next. IsOn course.new.phase) }
     ensures one { OneLine cursor.new.line.items }
-    ensures cause { IsErrOf result ReadFault.Unreadable → (L.facts lines.old).fails }
-    ensures same { (L.facts lines.new).fails → (L.facts lines.old).fails }
+    ensures cause { IsErrOf result ReadFault.Unreadable → ((S.outside system.now).lines lines.old).fails }
+    ensures same { ((S.outside system.now).lines lines.new).fails → ((S.outside system.now).lines lines.old).fails }
+    ensures made { AddsSome (S.outside system.now) timeline.old timeline.new (ReadsFor ((S.outside system.now).lines lines.old).left ((S.outside system.now).lines lines.new).left result) }
 {
-    match take_line(lines, cursor)? {
+    match take_line(system, timeline, lines, cursor)? {
         Taken::Nothing => Ok(Next::Stops),
         Taken::LongLine => {
             course.put(cursor.number, Lexeme::TooLong)?;
@@ -126,47 +141,53 @@ fn tell_next<L: LineReader>(
 }
 
 /// Tells the rest of a line, and takes the next one unless the game is over.
-fn tell_on<L: LineReader>(
-    lines: &mut L,
+fn tell_on<S: System>(
+    system: &S,
+    timeline: &mut S::Timeline,
+    lines: &mut S::Lines,
     cursor: &mut Cursor,
     course: &mut Course,
 ) -> Result<Next, ReadFault>
     requires one { OneLine cursor.old.line.items }
     requires on { IsOn course.old.phase }
-    ensures told { IfOk result (λ next. IfKnown (L.facts lines.old).left (L.facts lines.new).left (λ left behind. TellsOn next (course_of course.old) (tokens_with cursor.old (read_text left)) (course_of course.new) (tokens_with cursor.new (read_text behind)))) }
+    ensures told { IfOk result (λ next. IfKnown ((S.outside system.now).lines lines.old).left ((S.outside system.now).lines lines.new).left (λ left behind. TellsOn next (course_of course.old) (tokens_with cursor.old (read_text left)) (course_of course.new) (tokens_with cursor.new (read_text behind)))) }
     ensures on { IfOk result (λ next. next ≡ Next.GoesOn → IsOn course.new.phase) }
     ensures one { OneLine cursor.new.line.items }
-    ensures cause { IsErrOf result ReadFault.Unreadable → (L.facts lines.old).fails }
-    ensures same { (L.facts lines.new).fails → (L.facts lines.old).fails }
+    ensures cause { IsErrOf result ReadFault.Unreadable → ((S.outside system.now).lines lines.old).fails }
+    ensures same { ((S.outside system.now).lines lines.new).fails → ((S.outside system.now).lines lines.old).fails }
+    ensures made { AddsSome (S.outside system.now) timeline.old timeline.new (ReadsFor ((S.outside system.now).lines lines.old).left ((S.outside system.now).lines lines.new).left result) }
 {
     match cursor.tell_line(course)? {
         Left::GameOver => Ok(Next::Stops),
         Left::InComment => {
-            pass_comment(lines, cursor, course)?;
+            pass_comment(system, timeline, lines, cursor, course)?;
             Ok(Next::GoesOn)
         }
         Left::AtEnd => {
-            let next = tell_next(lines, cursor, course)?;
+            let next = tell_next(system, timeline, lines, cursor, course)?;
             Ok(next)
         }
     }
 }
 
 /// Tells the tokens of a game to its end.
-pub(crate) fn tell_game<L: LineReader>(
-    lines: &mut L,
+pub(crate) fn tell_game<S: System>(
+    system: &S,
+    timeline: &mut S::Timeline,
+    lines: &mut S::Lines,
     cursor: &mut Cursor,
     course: &mut Course,
 ) -> Result<(), ReadFault>
     requires one { OneLine cursor.old.line.items }
     requires on { IsOn course.old.phase }
-    ensures told { OnOk result (IfKnown (L.facts lines.old).left (L.facts lines.new).left (λ left behind. ReadsToEnd (course_of course.old) (tokens_with cursor.old (read_text left)) (course_of course.new) (tokens_with cursor.new (read_text behind)))) }
+    ensures told { OnOk result (IfKnown ((S.outside system.now).lines lines.old).left ((S.outside system.now).lines lines.new).left (λ left behind. ReadsToEnd (course_of course.old) (tokens_with cursor.old (read_text left)) (course_of course.new) (tokens_with cursor.new (read_text behind)))) }
     ensures one { OneLine cursor.new.line.items }
-    ensures cause { IsErrOf result ReadFault.Unreadable → (L.facts lines.old).fails }
-    ensures same { (L.facts lines.new).fails → (L.facts lines.old).fails }
+    ensures cause { IsErrOf result ReadFault.Unreadable → ((S.outside system.now).lines lines.old).fails }
+    ensures same { ((S.outside system.now).lines lines.new).fails → ((S.outside system.now).lines lines.old).fails }
+    ensures made { AddsSome (S.outside system.now) timeline.old timeline.new (ReadsFor ((S.outside system.now).lines lines.old).left ((S.outside system.now).lines lines.new).left result) }
 {
     for _ in 0..u64::MAX {
-        match tell_on(lines, cursor, course)? {
+        match tell_on(system, timeline, lines, cursor, course)? {
             Next::GoesOn => {}
             Next::Stops => return Ok(()),
         }

@@ -1,3 +1,3 @@
 pub mod LineLaws
 pub mod ObjectLaws
-pub mod TellingLaws
+pub mod ReportLaws

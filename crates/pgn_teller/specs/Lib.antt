@@ -1,5 +1,5 @@
 pub mod Ratings
 pub mod GameLines
 pub mod GameObjects
-pub mod Tellings
+pub mod Reports
 pub mod Inside

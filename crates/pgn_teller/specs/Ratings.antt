@@ -1,5 +1,6 @@
 -- What tables say of the games of a file, and what the results that stand there are beside it (this project's own).
-use Rattle.std.specs.Prelude.{◌≡◌, ℕ, Bool, true, false, List, Option, Some, None, Result, Ok, Err, codes, if◌then◌else◌}
+use Rattle.std.specs.Prelude.{◌≡◌, ℕ, Bool, true, false, List, [], Option, Some, None, Result, Ok, Err, codes, if◌then◌else◌}
+use Rattle.std.specs.declared.alloc.AllocError.{AllocError}
 use Rattle.board_core.specs.declared.verdict.Verdict.{Verdict}
 use Rattle.board_core.specs.declared.verdict.Verdict.TheVariants.{WhiteMates, BlackMates, Stalemate, TableDraw, TableWhite, TableBlack, Stopped}
 use Rattle.judge_core.specs.declared.game.GameOutcome.{GameOutcome}
@@ -13,6 +14,7 @@ use Rattle.pgn_teller.specs.declared.finding.Finding.{Finding}
 use Rattle.pgn_teller.specs.declared.finding.Finding.TheVariants.{Agrees, Differs, Uncompared}
 use Rattle.pgn_teller.specs.declared.rating.Ruled.{Ruled}
 use Rattle.table_folder.specs.declared.fault.FileRefusal.{FileRefusal}
+use Rattle.timeline.specs.Events.{Event}
 
 -- the verdict gives the game to White (PGN standard, section 8.2.6: 1-0)
 abbrev pub gives_white : Verdict → Bool
@@ -86,10 +88,25 @@ pub record IsFirstRuled (delay : ℕ) (tables : Tables) (game : GameTold) (ruled
 abbrev pub RulingTold : Type 0
 RulingTold = Result (Option Ruled) FileRefusal
 
+-- What a game is ruled as by what is known before it, such as the tables that are open, behind what is read for that; and what is known after it.
+-- Or, behind that, memory is refused.
+abbrev pub Ruling : Type 0 → Type 1
+Ruling K = K → K → GameTold → Result RulingTold AllocError → List Event → Type 0
+
+-- whatever a game is ruled as later it could have been ruled as before
+abbrev pub RulesNoMore : {K : Type 0} → Ruling K → Ruling K → Type 0
+RulesNoMore {K} Before After =
+    (k next : K) (game : GameTold) (ruling : Result RulingTold AllocError) (events : List Event) → After k next game ruling events → Before k next game ruling events
+
 -- by tables that are all there no file is refused
 abbrev pub IsRulingBy : ℕ → Tables → GameTold → RulingTold → Type 0
 IsRulingBy delay tables game (Ok ruled) = IsFirstRuled delay tables game ruled
 IsRulingBy delay tables game (Err refusal) = ⊥
+
+-- so it is by these tables, for which nothing is read
+abbrev pub RulesBy : ℕ → Tables → Ruling (Unit {0})
+RulesBy delay tables k next game (Ok ruling) events = IsRulingBy delay tables game ruling × (events ≡ [])
+RulesBy delay tables k next game (Err e) events = events ≡ []
 
 -- ---- in words
 

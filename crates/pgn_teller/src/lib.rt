@@ -5,29 +5,32 @@
 //! line has the sums.
 //!
 //! Inside: `rating` (what a game is ruled as: the trait, and its instance by a set of tables), `finding` (the result beside it), `game_line` (the line of a game), `game_object` (its
-//! object), `sums`, `telling` (the run).
+//! object), `sums`, `reporting` (the run).
 //!
-//! Definitions, in reading order: `Ratings` (`IsFirstRuled`, `RulingTold`, `finding_of`), `GameLines`, `GameObjects`, `Tellings` (`TellsPgn`). Its cases stand
-//! in `pgn.txt` of `rows`.
+//! Definitions, in reading order: `Ratings` (`IsFirstRuled`, `Ruling`, `finding_of`), `GameLines`, `GameObjects`, `Reports` (`IsPgnLine`, `ReadsNext`,
+//! `AreReported`, `StopsAt`, `ReportsGames`, `ReportsPgn`). Its cases stand in `pgn.txt` of `rows`.
 //!
-//! - CLAIM: `GameRuler::rule`, clauses `ruled`, `same`; `SetRuler`; `ruled_by`: the first verdict of a game, or none, or the refusal of a
-//!   file, as the ruler's relation has it; by a set of tables and a delay it is that of `judge_core`, and no file is refused.
-//! - CLAIM: `GameTeller::tell_games`, clauses `told`, `front`, `cause`, `same`, `ruler`: where the bytes of an input are known, a line is written for
-//!   each game of its tokens in turn, and counted, until the input ends, or until it can't be read or memory is refused, which is written last.
-//!   After an error of the writer whole lines stand there, and of the next a front.
-//! - CLAIM: `GameTeller::tell_sums`, clauses `told`, `front`, `cause`: the sums are one line; the result is false where a game was at fault, or
-//!   where memory for the line is refused, which is written in its place.
+//! - CLAIM: `GameRuler::rule`, clauses `made`, `same`, `still`; `SetRuler`; `ruled_by`: the first verdict of a game, or none, or the refusal of a
+//!   file, as the ruler's relation has it, behind what is read for it; by a set of tables and a delay it is that of `judge_core`, nothing is read,
+//!   and no file is refused.
+//! - CLAIM: `report`, clause `made`: all that happens outside is one list of events. Game by game: the lines of the next game are read, where the
+//!   bytes are known those of the next game of their tokens; what its ruling asks for is read; its line is written and goes out, with
+//!   `only_differing` only where it differs. Behind the last game, where there is no other, the sums are one line. Or no more can be read, or
+//!   memory is refused, which is written last, and no sums are. Where a write is refused, or what was written can't go out, it is a front of that
+//!   list, and nothing more is read.
+//! - CLAIM: `report`, clause `made`: the sums count the games of that list, each by its line; the result is whether all are reported and none is at
+//!   fault, or false where memory for the sums is refused, which is written in their place.
+//! - CLAIM: `report`, clause `cause`: an error comes only where a write might be refused, or what was written couldn't go out.
 #![tactic(auto)]
 
 mod finding;
 mod game_line;
 mod game_object;
 mod rating;
+mod reporting;
 mod sums;
-mod telling;
 
 pub use finding::Finding;
 pub use game_line::Form;
 pub use rating::{GameRuler, Ruled, SetRuler, ruled_by};
-pub use sums::Sums;
-pub use telling::{GameTeller, Telling};
+pub use reporting::{GameReporter, report};

@@ -1,12 +1,12 @@
-//! How many games of each kind were told.
+//! How many games of each kind were reported.
 
 ghost use Rattle.std.specs.Prelude.{◌≡◌, if◌then◌else◌};
 ghost use Rattle.pgn_games.specs.Lines.{one_more};
-ghost use Rattle.pgn_teller.specs.Tellings.{counted, no_sums};
+ghost use Rattle.pgn_teller.specs.Reports.{counted, no_sums};
 
 use crate::finding::Finding;
 
-/// What counts of a game that was told.
+/// What counts of a game that was reported.
 #[derive(Clone, Copy, PartialEq, Eq, Debug)]
 pub(crate) enum Mark {
     /// It is at fault.
@@ -17,7 +17,7 @@ pub(crate) enum Mark {
     Ruled(Finding),
 }
 
-/// How many games were told, each number up to 2^64 - 1.
+/// How many games were reported, each number up to 2^64 - 1.
 #[derive(Clone, Copy, PartialEq, Eq, Debug)]
 pub struct Sums {
     /// All games, those at fault among them.

@@ -1,4 +1,4 @@
-//! The commands that answer once, of records: `record`, `record --games`, `audit`, `audit --games`.
+//! The replies of `record` and `audit` of kept files.
 //!
 //! Each is a module with a function `answer`, which takes the task that `parse` of command_line made, and what was read for it.
 //!
@@ -7,16 +7,13 @@
 //! Definitions, in reading order: `Audits`, those of the commands, `AuditAgreements`. Its cases stand in `rows`;
 //! `tools/audit_kept` and `tools/audit_games` try the audits of the program as it is built.
 //!
-//! - CLAIM: `audit::answer`, clause `ok`; `audit_games::answer`, clause `told`: each kept file is judged as an arbiter of the game judges it
-//!   at its opening; of two records the answer has the ply at which they part.
+//! - CLAIM: `audit::answer`, clause `ok`: each kept file is judged as an arbiter of the game judges it at its opening; of two records the
+//!   answer has the ply at which they part.
 //! - CLAIM: `laws::games_are_audited_alike`: what `audit --games` tells of a game whose record a folder keeps is what `audit` tells of that
 //!   record, behind the game's stamp.
-//! - CLAIM: `record::answer`, clause `ok`; `game_record::answer`, clause `told`: the contents of a kept record are told, or of a folder the
-//!   record of a game, the store's where the folder has one.
+//! - CLAIM: `record::answer`, clause `ok`: the contents of a kept record are told.
 #![tactic(auto)]
 
 pub mod audit;
-pub mod audit_games;
-pub mod game_record;
 pub mod laws;
 pub mod record;

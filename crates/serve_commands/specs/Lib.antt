@@ -4,5 +4,4 @@ pub mod Listens
 pub mod Silences
 pub mod Sends
 pub mod Hostings
-pub mod Status
 pub mod Inside

@@ -1,11 +1,11 @@
-//! The commands that touch ports, locks and records of games and aren't over the timeline yet: `listen`, `host`, `send`, `status`.
+//! The commands that touch ports, locks and records of games and aren't over the timeline yet: `listen`, `host`, `send`.
 //!
 //! Each takes the task that `parse` of command_line made, and a `System`: disk, input and host. The host's history has all that is opened.
 //!
-//! Inside: `listening`, `hosting`, `sending`, `status` run the commands, over `binding`, `locking`; `silence` tells which arbiter didn't
+//! Inside: `listening`, `hosting`, `sending` run the commands, over `binding`, `locking`; `silence` tells which arbiter didn't
 //! answer; `watching` (notes of `send`) tells the host what happens; `system` is what all are lent.
 //!
-//! Definitions, in reading order: `Outsides`, `Locks`, `Listens`, `Silences`, `Sends`, `Hostings`, `Status`. Its cases stand in `rows`; `tools/host_games`, `tools/play_games` and `tools/attack` try the program as it is built.
+//! Definitions, in reading order: `Outsides`, `Locks`, `Listens`, `Silences`, `Sends`, `Hostings`. Its cases stand in `rows`; `tools/host_games`, `tools/play_games` and `tools/attack` try the program as it is built.
 //!
 //! - CLAIM: `listen`, clause `told`: `listen` refuses its start, its tables, its address and its kept file in this order, and nothing passes
 //!   at the port before an arbiter is opened; with `--ready` the line `ready ADDR` is written first. Each line has gone out before the next.
@@ -16,9 +16,6 @@
 //!   that the words or the file of the game tell; or what is refused of these is the only line.
 //! - CLAIM: `tell_silence`, clauses `told`, `quiet`: where an arbiter doesn't answer, a line of each arbiter tells that no answer came or how
 //!   many moves it has acknowledged (`TellsSilence`); else nothing is written.
-//! - CLAIM: `status::answer`, clause `told`: `status` tells the games of its folders as `game_status::tell_status` has it; the status is 0 only
-//!   where all are told, nothing is at fault and nothing differs. With `--prometheus` it writes metrics, and with `--json` an object, as
-//!   `write_status_report` has it; the status is 0 only where they are written.
 #![tactic(auto)]
 
 mod binding;
@@ -27,7 +24,6 @@ mod listening;
 mod locking;
 mod sending;
 mod silence;
-pub mod status;
 mod system;
 mod watching;
 

@@ -3,5 +3,8 @@ pub mod RootLines
 pub mod JsonLaws
 pub mod FolderLaws
 pub mod FolderReadLaws
+pub mod FolderLineLaws
+pub mod LineLaws
 pub mod FollowLaws
 pub mod GameInPlay
+pub mod RootLaws

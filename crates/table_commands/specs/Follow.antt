@@ -1,52 +1,38 @@
--- `follow [--tables DIR] [--manifest FILE] [--all-tables] [--delay N] [--san] FEN`: the game of the input, told ply by ply as its moves come (this project's own).
-use Rattle.std.specs.Prelude.{◌≡◌, not, ℕ, Bool, List, Option, Some, None, IfSome, Result, Ok, Err}
-use Rattle.board_core.specs.declared.parts.Parts.{Parts}
+-- `follow [--tables DIR] [--manifest FILE] [--all-tables] [--delay N] [--san] FEN`: the game of the input, ply by ply as its moves come (this project's own).
+use Rattle.std.specs.Prelude.{◌≡◌, ◌++◌, not, ℕ, List, [], ◌∷◌, Option, Some, None, Result, Ok, Err}
+use Rattle.std.specs.Borrow.{Bor}
+use Rattle.std.specs.declared.alloc.AllocError.{AllocError}
 use Rattle.board_core.specs.Position.{IsPosition}
+use Rattle.board_core.specs.declared.parts.Parts.{Parts}
+use Rattle.command_line.specs.Commands.Follow as words
+use Rattle.command_line.specs.LazyFolders.{read_when_asked}
+use Rattle.command_line.specs.declared.commands.follow.Follow.{Follow}
+use Rattle.fen_text.specs.Fen.{IsFirstFenFault, SpellsPosition}
 use Rattle.fen_text.specs.declared.fault.FenFault.{FenFault}
-use Rattle.fen_text.specs.Fen.{SpellsPosition, IsFirstFenFault}
-use Rattle.judge_core.specs.Tables.{Tables}
-use Rattle.game_teller.specs.Followings.{FollowsTo, halts_by, rules_by}
+use Rattle.game_teller.specs.Followings.{FollowsInput}
 use Rattle.game_teller.specs.Judges.{JudgeFacts, by_set}
+use Rattle.game_teller.specs.declared.following.FollowedGame.{FollowedGame}
 use Rattle.judge_core.specs.MoreTables.{HasAll}
 use Rattle.judge_core.specs.Standings.{IsAt}
-use Rattle.std.specs.Borrow.{Bor}
-use Rattle.system_io.specs.Disks.{DiskFacts}
-use Rattle.table_folder.specs.Folders.{AreOf, Folder}
-use Rattle.table_folder.specs.Settled.{AreSettled, IsPly, IsRefusedAt}
-use Rattle.table_commands.specs.FolderAnswers.{PutsInFolder}
-use Rattle.command_line.specs.LazyFolders.{read_when_asked}
+use Rattle.judge_core.specs.Tables.{Tables}
+use Rattle.line_events.specs.Writing.{DoesBy}
 use Rattle.line_teller.specs.ToldLines.{refused_memory}
-use Rattle.move_notation.specs.declared.notation.Notation.{Notation}
+use Rattle.move_msg.specs.ToldBy.{told_by}
+use Rattle.move_msg.specs.declared.told.Manifest.{Manifest}
 use Rattle.move_notation.specs.Notations.{notation_by}
+use Rattle.system_io.specs.Disks.{DiskFacts}
 use Rattle.system_io.specs.Inputs.{InputFacts}
-use Rattle.system_io.specs.declared.output.WriteFault.{WriteFault}
+use Rattle.table_folder.specs.Folders.{AreOf, Folder}
+use Rattle.table_folder.specs.Settled.{AreSettled, IsAlone, IsPly, IsRefusedAt}
 use Rattle.task_files.specs.Given.{Given}
-use Rattle.answer_parts.specs.LineAnswers.{source_stops}
-use Rattle.answer_parts.specs.Lines.{refused_fen}
+use Rattle.task_files.specs.InputReads.{ReadsGiven}
+use Rattle.timeline.specs.Events.{Event}
+use Rattle.timeline.specs.Outsides.{Outside}
+use Rattle.answer_parts.specs.Lines.{refusal_words, refused_fen}
 use Rattle.answer_parts.specs.Looks.{gathered}
-use Rattle.answer_parts.specs.Reply.{status_told}
-use Rattle.answer_parts.specs.Telling.{TellsOne}
-use Rattle.command_line.specs.declared.commands.follow.Follow.{Follow}
-
--- the game of the input is told so; or memory for reading the input was refused
-pub data PutsFollowed (source : InputFacts) (IsTold : Option (List ℕ) → Result Bool WriteFault → Type 0) (old new : Option (List ℕ)) (r : Result ℕ WriteFault) : Type 0 where
-  PutsPlies : (left : Option (List ℕ)) → IfSome left source.gives → (told : Result Bool WriteFault) → IsTold left told → r ≡ status_told told → PutsFollowed source IsTold old new r
-  PutsNone : source.takes_memory → TellsOne refused_memory old new r → PutsFollowed source IsTold old new r
-
--- from this start, by these tables, which a judge has
-abbrev pub IsFollowedBy : JudgeFacts → InputFacts → Notation → ℕ → Parts → Tables → Option (List ℕ) → Option (List ℕ) → Option (List ℕ) → Result Bool WriteFault → Type 0
-IsFollowedBy judge source notation delay start tables old new left told = FollowsTo notation (rules_by start tables delay) (halts_by (source_stops source) judge) left old new told
-
--- ---- by tables that were all read before
-
-abbrev pub PutsBySet : InputFacts → Follow → Parts → Tables → Option (List ℕ) → Option (List ℕ) → Result ℕ WriteFault → Type 0
-PutsBySet source t start tables old new r = PutsFollowed source (IsFollowedBy (by_set tables) source (notation_by t.san) t.delay start tables old new) old new r
-
--- the refusal of the tables; or else the game; or memory for the tables was refused
-pub data PutsByAll (source : InputFacts) (t : Follow) (given : Given) (start : Parts) (old new : Option (List ℕ)) (r : Result ℕ WriteFault) : Type 0 where
-  BadTables : (words : List ℕ) → gathered given ≡ Err words → TellsOne words old new r → PutsByAll source t given start old new r
-  ByTables : (tables : Tables) → gathered given ≡ Ok tables → PutsBySet source t start tables old new r → PutsByAll source t given start old new r
-  NoRoom : TellsOne refused_memory old new r → PutsByAll source t given start old new r
+use Rattle.answer_parts.specs.Printing.{Prints, printed}
+use Rattle.answer_parts.specs.declared.answers.refusals.Refusal.{Refusal}
+use Rattle.table_commands.specs.FolderReads.{OpensAt, OpensMissed, no_tables}
 
 -- ---- by a folder whose tables are read when a ply asks for them
 
@@ -56,25 +42,45 @@ by_folder disk folder tables = record {
   opened = tables;
   is_by = λ more. AreOf disk folder more × HasAll tables more;
   stands = λ start moves s. AreSettled folder tables (λ _. IsPly start moves) × ((delay : ℕ) → IsAt (record { start = start; tables = tables; delay = delay }) moves s);
+  reads = λ old p new. OpensMissed disk folder (IsAlone p) old new;
   takes_memory = λ p. Unit {0};
   refuses = IsRefusedAt disk folder;
 }
 
--- By these tables of the folder, and so by all that have more of it, the game is told. So each line stays true of the whole folder, whatever
--- was read when it was written.
-pub record IsFollowedIn (disk : DiskFacts) (folder : Folder) (source : InputFacts) (notation : Notation) (delay : ℕ) (start : Parts) (old new left : Option (List ℕ)) (told : Result Bool WriteFault) : Type 0 where
-  pub tables : Tables
-  pub opened : AreOf disk folder tables
-  pub followed : (more : Tables) → AreOf disk folder more → HasAll tables more → IsFollowedBy (by_folder disk folder tables) source notation delay start more old new left told
+-- the game is followed by the tables of an open folder, none of which is open at first; or memory was refused for a set of these
+pub data FollowsOpened (disk : DiskFacts) (input : InputFacts) (folder : Folder) (game : FollowedGame) (events : List Event) (status : Option ℕ) : Type 0 where
+  ByItsTables : FollowsInput game (by_folder disk folder no_tables) input events status → FollowsOpened disk input folder game events status
+  NoRoomForSet : Prints (refused_memory ∷ []) 1 events status → FollowsOpened disk input folder game events status
 
-abbrev pub PutsOfFolder : DiskFacts → InputFacts → Follow → Parts → Folder → Option (List ℕ) → Option (List ℕ) → Result ℕ WriteFault → Type 0
-PutsOfFolder disk source t start folder old new r = PutsFollowed source (IsFollowedIn disk folder source (notation_by t.san) t.delay start old new) old new r
+-- the folder at a path is opened, and then the game followed by its tables; or the manifest is refused, or the folder; or memory was
+pub data FollowsInFolder (disk : DiskFacts) (input : InputFacts) (path : List ℕ) (manifest : Manifest) (game : FollowedGame) (events : List Event) (status : Option ℕ) : Type 0 where
+  InFolder : (folder : Folder) (listing then : List Event) → OpensAt disk path manifest (Ok (Ok folder)) listing → FollowsOpened disk input folder game then status → events ≡ listing ++ then → FollowsInFolder disk input path manifest game events status
+  NotOpened : (refused : Refusal) (listing : List Event) → OpensAt disk path manifest (Ok (Err refused)) listing → events ≡ listing ++ printed (refusal_words refused ∷ []) → status ≡ Some 1 → FollowsInFolder disk input path manifest game events status
+  NoRoomToOpen : (e : AllocError) (listing : List Event) → OpensAt disk path manifest (Err e) listing → events ≡ listing ++ printed (refused_memory ∷ []) → status ≡ Some 1 → FollowsInFolder disk input path manifest game events status
 
-abbrev pub PutsBy : DiskFacts → InputFacts → Follow → Given → Parts → Option (Bor (List ℕ)) → Option (List ℕ) → Option (List ℕ) → Result ℕ WriteFault → Type 0
-PutsBy disk source t given start (Some path) old new r = PutsInFolder disk path.now given.told (PutsOfFolder disk source t start) old new r
-PutsBy disk source t given start None old new r = PutsByAll source t given start old new r
+-- ---- by tables that were all read before
 
--- the refusal of the text of the start; or else what is told from there
-pub data Puts (disk : DiskFacts) (source : InputFacts) (t : Follow) (given : Given) (old new : Option (List ℕ)) (r : Result ℕ WriteFault) : Type 0 where
-  BadStart : (fault : FenFault) → IsFirstFenFault t.fen.now fault → TellsOne (refused_fen fault) old new r → Puts disk source t given old new r
-  FromStart : (start : Parts) → SpellsPosition t.fen.now start → IsPosition start → PutsBy disk source t given start (read_when_asked (not t.all_tables) t.tables) old new r → Puts disk source t given old new r
+-- the game is followed by them, or they are refused, or memory was
+pub data FollowsByAll (input : InputFacts) (tables : Result Tables (List ℕ)) (game : FollowedGame) (events : List Event) (status : Option ℕ) : Type 0 where
+  ByTables : (all : Tables) → tables ≡ Ok all → FollowsInput game (by_set all) input events status → FollowsByAll input tables game events status
+  BadTables : (words : List ℕ) → tables ≡ Err words → Prints (words ∷ []) 1 events status → FollowsByAll input tables game events status
+  NoRoomForAll : Prints (refused_memory ∷ []) 1 events status → FollowsByAll input tables game events status
+
+-- ---- the command
+
+abbrev pub FollowsBy : DiskFacts → InputFacts → Given → Option (Bor (List ℕ)) → FollowedGame → List Event → Option ℕ → Type 0
+FollowsBy disk input given (Some path) game events status = (manifest : Manifest) × (told_by manifest ≡ given.told) × FollowsInFolder disk input path.now manifest game events status
+FollowsBy disk input given None game events status = FollowsByAll input (gathered given) game events status
+
+-- the game from this start
+abbrev pub game_from : Follow → Parts → FollowedGame
+game_from t start = record { notation = notation_by t.san; start = start; delay = t.delay }
+
+-- by what was read: the refusal of the text of the start; or else the game from there
+pub data FollowsGiven (disk : DiskFacts) (input : InputFacts) (t : Follow) (given : Given) (events : List Event) (status : Option ℕ) : Type 0 where
+  BadStart : (fault : FenFault) → IsFirstFenFault t.fen.now fault → Prints (refused_fen fault ∷ []) 1 events status → FollowsGiven disk input t given events status
+  FromStart : (start : Parts) → SpellsPosition t.fen.now start → IsPosition start → FollowsBy disk input given (read_when_asked (not t.all_tables) t.tables) (game_from t start) events status → FollowsGiven disk input t given events status
+
+-- what it names is read, and then that is done
+abbrev pub FollowsGame : {T P F K S L : Type 0} → Outside T P F K S L → Follow → List Event → Option ℕ → Type 0
+FollowsGame o t = DoesBy (ReadsGiven o (words.named t)) (FollowsGiven o.disk o.input t)

@@ -1,5 +1,5 @@
 -- `games --tables DIR [--manifest FILE] [--all-tables] [--memory MB] [--delay N] [--progress]`: what the games of the input come to, a line each (this project's own).
-use Rattle.std.specs.Prelude.{◌≡◌, ◌==◌, ◌+◌, not, ℕ, false, List, [], length, Option, Some, None, Result, drop, position, take}
+use Rattle.std.specs.Prelude.{◌≡◌, ◌==◌, ◌+◌, not, ℕ, false, List, [], length, Option, Some, None, drop, position, take}
 use Rattle.board_core.specs.declared.parts.Parts.{Parts}
 use Rattle.board_core.specs.declared.moves.Move.{Move}
 use Rattle.board_core.specs.Position.{IsPosition}
@@ -11,19 +11,21 @@ use Rattle.judge_core.specs.Words.{outcome_words}
 use Rattle.judge_core.specs.Tables.{Tables}
 use Rattle.move_msg.specs.GameTexts.{IsBadWordAt, TellsMoves, words_in}
 use Rattle.line_teller.specs.ToldLines.{LineTold}
-use Rattle.std.specs.Borrow.{Bor}
 use Rattle.system_io.specs.Disks.{DiskFacts}
 use Rattle.system_io.specs.Inputs.{InputFacts}
-use Rattle.system_io.specs.declared.output.WriteFault.{WriteFault}
 use Rattle.table_folder.specs.Folders.{Folder}
-use Rattle.table_folder.specs.Settled.{IsInPlayBy}
-use Rattle.table_commands.specs.FolderAnswers.{PutsByFolder, TellsByFolder, refused_table}
+use Rattle.line_events.specs.LineEvents.{Answering, AnswersInput}
+use Rattle.line_events.specs.Writing.{at_once}
+use Rattle.timeline.specs.Events.{Event}
+use Rattle.table_commands.specs.Courses.{GameAsked, in_play_of}
+use Rattle.table_commands.specs.FolderAnswers.{refused_table}
+use Rattle.table_commands.specs.FolderReads.{AnswersByFolder, Doing, LacksRoomFor, by_folder_lines, no_tables}
 use Rattle.command_line.specs.LazyFolders.{read_when_asked}
-use Rattle.table_commands.specs.TableAnswers.{PutsByTables}
-use Rattle.task_files.specs.Given.{Given}
 use Rattle.table_commands.specs.Game.{are_all_legal}
+use Rattle.table_commands.specs.LineTasks.{LineAsking}
 use Rattle.answer_parts.specs.Lines.{refused_fen, refused_move}
 use Rattle.answer_parts.specs.Reply.{IsText}
+use Rattle.command_line.specs.Commands.Games.{named}
 use Rattle.command_line.specs.declared.commands.games.FollowGames.{FollowGames}
 
 -- ---- a line: the FEN text of a start, and behind the first tab the moves from there
@@ -58,26 +60,32 @@ pub data TellsGameLine (delay : ℕ) (tables : Tables) (line : List ℕ) (told :
 
 -- ---- by a folder whose tables are read when the positions of a game ask for them
 
--- a start, and moves from there
-pub record Course : Type 0 where
-  pub start : Parts
-  pub moves : List Move
+-- the game that a line spells, for verdicts that hold for so many further plies
+abbrev pub SpellsGame : ℕ → List ℕ → GameAsked → Type 0
+SpellsGame delay line game = SpellsPosition (start_in line) game.start × IsPosition game.start × TellsMoves (moves_in line) game.moves × (game.delay ≡ delay)
 
--- the game that a line spells
-abbrev pub SpellsGame : List ℕ → Course → Type 0
-SpellsGame line game = SpellsPosition (start_in line) game.start × IsPosition game.start × TellsMoves (moves_in line) game.moves
+abbrev pub AnswersGame : ℕ → DiskFacts → Folder → Tables → Tables → List ℕ → LineTold → List Event → Type 0
+AnswersGame delay disk folder = AnswersByFolder disk folder (SpellsGame delay) in_play_of (TellsGameLine delay) refused_table
 
--- what is needed of it: its positions in play, which are those up to the first verdict
-abbrev pub is_in_play : ℕ → Course → Tables → Parts → Type 0
-is_in_play delay game = IsInPlayBy game.start game.moves delay
+abbrev pub LacksRoomForGame : ℕ → DiskFacts → Folder → Tables → List ℕ → List Event → Type 0
+LacksRoomForGame delay disk folder = LacksRoomFor disk folder (SpellsGame delay) in_play_of HasStartFen
 
-abbrev pub TellsGameByFolder : ℕ → DiskFacts → Folder → List ℕ → LineTold → Type 0
-TellsGameByFolder delay disk folder = TellsByFolder disk folder SpellsGame (is_in_play delay) (TellsGameLine delay) refused_table
+abbrev pub game_lines_in : ℕ → DiskFacts → Folder → Answering Tables
+game_lines_in delay disk folder = by_folder_lines disk folder (SpellsGame delay) in_play_of (TellsGameLine delay) refused_table HasStartFen
 
--- the games of the input by the tables of a folder, or by those that were given
-abbrev pub PutsFrom : DiskFacts → InputFacts → FollowGames → Given → Option (Bor (List ℕ)) → Option (List ℕ) → Option (List ℕ) → Result ℕ WriteFault → Type 0
-PutsFrom disk source t given (Some path) old new r = PutsByFolder disk path.now given.told (TellsGameByFolder t.delay disk) HasStartFen source old new r
-PutsFrom disk source t given None old new r = PutsByTables (TellsGameLine t.delay) HasStartFen source given old new r
+-- ---- the command
 
-abbrev pub Puts : DiskFacts → InputFacts → FollowGames → Given → Option (List ℕ) → Option (List ℕ) → Result ℕ WriteFault → Type 0
-Puts disk source t given old new r = PutsFrom disk source t given (read_when_asked (not t.all_tables) (Some t.tables)) old new r
+-- the lines of the input, where the tables of a folder are asked, of which none is open at first; or those that were given
+abbrev pub JudgesInFolder : DiskFacts → InputFacts → FollowGames → Folder → Doing
+JudgesInFolder disk input t folder = AnswersInput input (game_lines_in t.delay disk folder) no_tables t.progress
+
+abbrev pub JudgesByTables : InputFacts → FollowGames → Tables → Doing
+JudgesByTables input t tables = AnswersInput input (at_once (TellsGameLine t.delay tables) HasStartFen) tt t.progress
+
+abbrev pub games_asking : FollowGames → LineAsking
+games_asking t = record {
+  named = named t;
+  path = read_when_asked (not t.all_tables) (Some t.tables);
+  InFolder = λ disk input folder. JudgesInFolder disk input t folder;
+  ByTables = λ input tables. JudgesByTables input t tables;
+}

@@ -9,9 +9,10 @@ use Rattle.task_files.specs.Given.{Given}
 use Rattle.std.specs.Borrow.{Bor}
 use Rattle.system_io.specs.Disks.{DiskFacts}
 use Rattle.table_folder.specs.Settled.{IsAlone}
-use Rattle.table_commands.specs.FolderReads.{MakesForText, MakesInFolder, MakesOfGiven}
+use Rattle.table_commands.specs.FolderReads.{MakesForText, fen_refusal, MakesInFolder, MakesOfGiven}
 use Rattle.task_files.specs.InputReads.{Reading}
 use Rattle.command_line.specs.LazyFolders.{read_when_asked}
+use Rattle.answer_parts.specs.Lines.{refusal_words}
 use Rattle.answer_parts.specs.Looks.{gathered}
 use Rattle.answer_parts.specs.Reply.{Reply}
 use Rattle.command_line.specs.declared.commands.judge.Judge.{Judge}
@@ -28,9 +29,9 @@ JudgedBy p tables r = IsJudged tables p r
 
 -- by the tables of a folder that are read when the position asks for them, or by those that were given
 abbrev pub JudgesAt : DiskFacts → Given → Option (Bor (List ℕ)) → Parts → Reading Reply
-JudgesAt disk given (Some path) p = MakesInFolder disk path.now given.told (IsAlone p) (JudgedBy p)
+JudgesAt disk given (Some path) p = MakesInFolder disk path.now given.told refusal_words (IsAlone p) (JudgedBy p)
 JudgesAt disk given None p = MakesOfGiven (gathered given) IsJudged p
 
 -- its reply after what it names was read, by what happens outside
 abbrev pub Judges : DiskFacts → Judge → Given → Reading Reply
-Judges disk t given = MakesForText t.fen.now (JudgesAt disk given (read_when_asked t.lazy t.tables))
+Judges disk t given = MakesForText t.fen.now fen_refusal (JudgesAt disk given (read_when_asked t.lazy t.tables))

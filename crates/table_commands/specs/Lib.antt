@@ -1,6 +1,7 @@
 pub mod FolderAnswers
 pub mod FolderReads
-pub mod TableAnswers
+pub mod Courses
+pub mod LineTasks
 pub mod JsonAnswers
 pub mod Judge
 pub mod Probe

@@ -1,93 +1,110 @@
 -- `pgn --tables DIR [--manifest FILE] [--all-tables] [--memory MB] [--delay N] [--json] [--differ] [FILE]`: what tables say of the games of a PGN file (this project's own).
-use Rattle.std.specs.Prelude.{◌≡◌, ◌⊎◌, not, ℕ, Bool, true, false, List, Option, Some, None, IfSome, IsSome, Result, Ok, Err, option_map}
-use Rattle.judge_core.specs.Tables.{Tables}
-use Rattle.line_teller.specs.ToldLines.{refused_files, refused_memory}
-use Rattle.pgn_games.specs.Games.{GameTold}
-use Rattle.pgn_games.specs.Tokens.{tokens_of}
-use Rattle.pgn_teller.specs.Ratings.{IsFirstRuled, IsRulingBy, RulingTold}
-use Rattle.pgn_teller.specs.declared.sums.Sums.{Sums}
-use Rattle.pgn_teller.specs.declared.telling.Telling.TheVariants.{CutShort, Whole}
-use Rattle.pgn_teller.specs.Tellings.{CutsPgn, CutsSums, TellsPgn, TellsSums, Terms, no_sums}
-use Rattle.system_io.specs.declared.output.WriteFault.{WriteFault}
-use Rattle.system_io.specs.declared.reading.ReadFault.{ReadFault}
-use Rattle.system_io.specs.declared.reading.ReadFault.TheVariants as read
-use Rattle.system_io.specs.Disks.{AtFile, DiskFacts}
-use Rattle.system_io.specs.Inputs.{InputFacts}
-use Rattle.std.specs.Borrow.{Bor}
-use Rattle.table_folder.specs.Folders.{Folder}
-use Rattle.table_folder.specs.Settled.{IsInPlayBy}
-use Rattle.task_files.specs.Given.{Given}
-use Rattle.table_commands.specs.FolderAnswers.{Finds, PutsInFolder}
-use Rattle.command_line.specs.LazyFolders.{read_when_asked}
-use Rattle.answer_parts.specs.Looks.{gathered}
+use Rattle.std.specs.Prelude.{◌≡◌, ◌⊎◌, ◌++◌, not, ℕ, Bool, true, false, List, [], ◌∷◌, Option, Some, None, IfSome, IsSome, Result, Ok, Err, option_map}
+use Rattle.std.specs.declared.alloc.AllocError.{AllocError}
+use Rattle.answer_parts.specs.Printing.{printed}
 use Rattle.answer_parts.specs.Reply.{status_if}
-use Rattle.answer_parts.specs.Telling.{TellsOne}
+use Rattle.command_line.specs.Commands.Pgn.{named}
+use Rattle.command_line.specs.LazyFolders.{read_when_asked}
+use Rattle.command_line.specs.declared.commands.pgn.JudgePgn.{JudgePgn}
+use Rattle.judge_core.specs.Tables.{Tables}
+use Rattle.line_events.specs.Writing.{DoesBy}
+use Rattle.line_teller.specs.ToldLines.{cut_words}
+use Rattle.pgn_teller.specs.Ratings.{IsFirstRuled, Ruling, RulesBy}
+use Rattle.pgn_teller.specs.Reports.{ReportsPgn, Terms, begun}
 use Rattle.pgn_teller.specs.declared.game_line.Form.{Form}
 use Rattle.pgn_teller.specs.declared.game_line.Form.TheVariants.{Words, Json}
-use Rattle.command_line.specs.declared.commands.Form.TheVariants as form
-use Rattle.command_line.specs.declared.commands.pgn.JudgePgn.{JudgePgn}
+use Rattle.system_io.specs.Disks.{AtFile, DiskFacts}
+use Rattle.system_io.specs.Inputs.{InputFacts}
+use Rattle.system_io.specs.LineReaders.{LineFacts}
+use Rattle.system_io.specs.declared.reading.ReadFault.{ReadFault}
+use Rattle.system_io.specs.declared.reading.ReadFault.TheVariants.{OutOfMemory, Unreadable}
+use Rattle.table_folder.specs.Folders.{Folder}
+use Rattle.table_folder.specs.declared.fault.FileRefusal.{FileRefusal}
+use Rattle.table_folder.specs.Settled.{IsInPlayBy}
+use Rattle.task_files.specs.Given.{Given}
+use Rattle.task_files.specs.InputReads.{ReadsGiven}
+use Rattle.timeline.specs.Events.{Event, FromFile, FromInput, LineSource, LinesOpened}
+use Rattle.timeline.specs.Outsides.{Outside}
+use Rattle.table_commands.specs.FolderReads.{DoesByPlace, Doing, FindsKept, no_tables}
 
 abbrev pub form_by : Bool → Form
 form_by true = Json
 form_by false = Words
 
--- how its games are told
+-- how its games are reported
 abbrev pub terms_by : JudgePgn → Terms
 terms_by t = record { form = form_by t.json; only_differing = t.differ }
 
--- why a file isn't read
-abbrev pub unread_words : ReadFault → List ℕ
-unread_words read.Unreadable = refused_files
-unread_words read.OutOfMemory = refused_memory
+-- the file that is named
+abbrev pub file_of : JudgePgn → Option (List ℕ)
+file_of t = option_map (λ s. s.now) t.file
 
--- Of bytes, where they are known, the games were told and then the sums; or the games until no more could be read, which may be where reading
--- fails, or told; or the writer failed at a game, or at the sums.
-pub data PutsPgn (IsRuling : GameTold → RulingTold → Type 0) (terms : Terms) (s : Sums) (Fails : Type 0) (bytes old new : Option (List ℕ)) (r : Result ℕ WriteFault) : Type 0 where
-  PutsAll : (now : Sums) (mid : Option (List ℕ)) (well : Bool) → IfSome bytes (λ known. TellsPgn IsRuling terms s Fails (tokens_of known) now old mid Whole) → TellsSums terms.form now mid new well → r ≡ Ok (status_if well) → PutsPgn IsRuling terms s Fails bytes old new r
-  PutsSome : (now : Sums) → IfSome bytes (λ known. TellsPgn IsRuling terms s Fails (tokens_of known) now old new CutShort) → r ≡ Ok 1 → PutsPgn IsRuling terms s Fails bytes old new r
-  FailsAtGame : (fault : WriteFault) → IfSome bytes (λ known. CutsPgn IsRuling terms s Fails (tokens_of known) old new) → r ≡ Err fault → PutsPgn IsRuling terms s Fails bytes old new r
-  FailsAtSums : (now : Sums) (mid : Option (List ℕ)) (fault : WriteFault) → IfSome bytes (λ known. TellsPgn IsRuling terms s Fails (tokens_of known) now old mid Whole) → CutsSums terms.form now mid new → r ≡ Err fault → PutsPgn IsRuling terms s Fails bytes old new r
+-- ---- the lines of a file, or of the input
 
--- so it is of the bytes of a file, which are known of a disk whose contents are stated; or it can't be read; or memory for reading it was
--- refused, or no descriptor was left
-pub data PutsFile (IsRuling : GameTold → RulingTold → Type 0) (terms : Terms) (s : Sums) (disk : DiskFacts) (path : List ℕ) (old new : Option (List ℕ)) (r : Result ℕ WriteFault) : Type 0 where
-  OfFile : (bytes : Option (List ℕ)) → IfSome bytes (disk.holds path) → (disk.is_told ≡ true → IsSome bytes) → PutsPgn IsRuling terms s (disk.fails (AtFile path)) bytes old new r → PutsFile IsRuling terms s disk path old new r
-  OfNone : disk.fails (AtFile path) → TellsOne refused_files old new r → PutsFile IsRuling terms s disk path old new r
-  NoRoomForFile : TellsOne refused_memory old new r → PutsFile IsRuling terms s disk path old new r
+abbrev pub source_of : Option (List ℕ) → LineSource
+source_of None = FromInput
+source_of (Some path) = FromFile path
 
--- so it is of the bytes of the input, which are known of one whose bytes are stated and that doesn't fail; or memory for reading it was refused
-pub data PutsInput (IsRuling : GameTold → RulingTold → Type 0) (terms : Terms) (s : Sums) (source : InputFacts) (old new : Option (List ℕ)) (r : Result ℕ WriteFault) : Type 0 where
-  OfInput : (bytes : Option (List ℕ)) → IfSome bytes source.gives → (source.is_told ≡ true → source.fails ⊎ IsSome bytes) → PutsPgn IsRuling terms s source.fails bytes old new r → PutsInput IsRuling terms s source old new r
-  NoRoomForInput : source.takes_memory → TellsOne refused_memory old new r → PutsInput IsRuling terms s source old new r
+-- the lines have the bytes of the file, or of the input, where these are known; they are, where they are stated, unless the input fails
+abbrev pub HoldBytes : DiskFacts → InputFacts → Option (List ℕ) → Option (List ℕ) → Type 0
+HoldBytes disk input None bytes = IfSome bytes input.gives × (input.is_told ≡ true → input.fails ⊎ IsSome bytes)
+HoldBytes disk input (Some path) bytes = IfSome bytes (disk.holds path) × (disk.is_told ≡ true → IsSome bytes)
 
--- the games of the file that is named, or else of the input
-abbrev pub PutsFrom : DiskFacts → InputFacts → (GameTold → RulingTold → Type 0) → Terms → Option (List ℕ) → Option (List ℕ) → Option (List ℕ) → Result ℕ WriteFault → Type 0
-PutsFrom disk source IsRuling terms None old new r = PutsInput IsRuling terms no_sums source old new r
-PutsFrom disk source IsRuling terms (Some path) old new r = PutsFile IsRuling terms no_sums disk path old new r
+-- they can't be read to their end
+abbrev pub LinesFail : DiskFacts → InputFacts → Option (List ℕ) → Type 0
+LinesFail disk input None = input.fails
+LinesFail disk input (Some path) = disk.fails (AtFile path)
 
-abbrev pub PutsOf : DiskFacts → InputFacts → JudgePgn → (GameTold → RulingTold → Type 0) → Option (List ℕ) → Option (List ℕ) → Result ℕ WriteFault → Type 0
-PutsOf disk source t IsRuling old new r = PutsFrom disk source IsRuling (terms_by t) (option_map (λ s. s.now) t.file) old new r
+-- why they can't be opened: the file can't be read; or memory for it is refused, or no descriptor is left; or memory for the input is refused
+abbrev pub StayUnopened : DiskFacts → InputFacts → Option (List ℕ) → ReadFault → Type 0
+StayUnopened disk input None Unreadable = ⊥
+StayUnopened disk input None OutOfMemory = input.takes_memory
+StayUnopened disk input (Some path) Unreadable = disk.fails (AtFile path)
+StayUnopened disk input (Some path) OutOfMemory = Unit {0}
+
+-- these lines were opened
+abbrev pub AreLinesOf : DiskFacts → InputFacts → Option (List ℕ) → LineFacts → Type 0
+AreLinesOf disk input file lines = HoldBytes disk input file lines.left × (lines.fails → LinesFail disk input file)
+
+abbrev pub OpensLines : {T P F K S L : Type 0} → Outside T P F K S L → Option (List ℕ) → Result L ReadFault → List Event → Type 0
+OpensLines o file (Ok lines) events = AreLinesOf o.disk o.input file (o.lines lines) × (events ≡ LinesOpened (source_of file) true ∷ [])
+OpensLines o file (Err fault) events = StayUnopened o.disk o.input file fault × (events ≡ LinesOpened (source_of file) false ∷ [])
+
+-- ---- the games of a file, or of the input
+
+-- 0 where all games are reported and none is at fault, else 1
+abbrev pub status_of : Option Bool → Option ℕ
+status_of = option_map status_if
+
+-- the lines are opened, and their games are reported; or why the lines can't be opened is printed
+pub data ReportsFile {K : Type 0} (disk : DiskFacts) (input : InputFacts) (t : JudgePgn) (Rules : Ruling K) (k : K) (events : List Event) (status : Option ℕ) : Type 0 where
+  IsOpened : (bytes : Option (List ℕ)) (then : List Event) (well : Option Bool) → HoldBytes disk input (file_of t) bytes → ReportsPgn Rules (terms_by t) (LinesFail disk input (file_of t)) (begun bytes k) then well → events ≡ LinesOpened (source_of (file_of t)) true ∷ then → status ≡ status_of well → ReportsFile disk input t Rules k events status
+  IsUnopened : (fault : ReadFault) → StayUnopened disk input (file_of t) fault → events ≡ LinesOpened (source_of (file_of t)) false ∷ printed (cut_words fault ∷ []) → status ≡ Some 1 → ReportsFile disk input t Rules k events status
 
 -- ---- by tables that were all read before, or by a folder whose tables are read when the positions of a game ask for them
 
--- the first verdict of a game by tables of the folder, of which none is missing at its positions up to there; or the file of one that they
--- need is refused
-abbrev pub IsRulingIn : ℕ → DiskFacts → Folder → GameTold → RulingTold → Type 0
-IsRulingIn delay disk folder game ruling = Finds disk folder (IsInPlayBy game.start game.moves delay) (λ tables ruled. IsFirstRuled delay tables game ruled) ruling
+-- A game is ruled by tables of the folder, of which those are opened that are missed at its positions in play: then none is missing there, or the
+-- file of one of them is refused, or memory is.
+abbrev pub RulesIn : ℕ → DiskFacts → Folder → Ruling Tables
+RulesIn delay disk folder old new game ruling events = FindsKept disk folder (IsInPlayBy game.start game.moves delay) (λ tables ruled. IsFirstRuled delay tables game ruled) old new ruling events
 
--- the refusal of the tables; or the games by them; or memory for the tables was refused
-pub data PutsByAll (disk : DiskFacts) (source : InputFacts) (t : JudgePgn) (given : Given) (old new : Option (List ℕ)) (r : Result ℕ WriteFault) : Type 0 where
-  BadTables : (words : List ℕ) → gathered given ≡ Err words → TellsOne words old new r → PutsByAll disk source t given old new r
-  ByTables : (tables : Tables) → gathered given ≡ Ok tables → PutsOf disk source t (IsRulingBy t.delay tables) old new r → PutsByAll disk source t given old new r
-  NoRoom : TellsOne refused_memory old new r → PutsByAll disk source t given old new r
+-- what is found of a game, as another thing of it
+abbrev pub found_as : {X Y : Type 0} → (X → Y) → Result (Result X FileRefusal) AllocError → Result (Result Y FileRefusal) AllocError
+found_as f (Ok (Ok x)) = Ok (Ok (f x))
+found_as f (Ok (Err file)) = Ok (Err file)
+found_as f (Err e) = Err e
 
--- the games by a folder
-abbrev pub PutsOfFolder : DiskFacts → InputFacts → JudgePgn → Folder → Option (List ℕ) → Option (List ℕ) → Result ℕ WriteFault → Type 0
-PutsOfFolder disk source t folder old new r = PutsOf disk source t (IsRulingIn t.delay disk folder) old new r
+abbrev pub JudgesIn : DiskFacts → InputFacts → JudgePgn → Folder → Doing
+JudgesIn disk input t folder = ReportsFile disk input t (RulesIn t.delay disk folder) no_tables
 
-abbrev pub PutsBy : DiskFacts → InputFacts → JudgePgn → Given → Option (Bor (List ℕ)) → Option (List ℕ) → Option (List ℕ) → Result ℕ WriteFault → Type 0
-PutsBy disk source t given (Some path) old new r = PutsInFolder disk path.now given.told (PutsOfFolder disk source t) old new r
-PutsBy disk source t given None old new r = PutsByAll disk source t given old new r
+abbrev pub JudgesOf : DiskFacts → InputFacts → JudgePgn → Tables → Doing
+JudgesOf disk input t tables = ReportsFile disk input t (RulesBy t.delay tables) tt
 
-abbrev pub Puts : DiskFacts → InputFacts → JudgePgn → Given → Option (List ℕ) → Option (List ℕ) → Result ℕ WriteFault → Type 0
-Puts disk source t given old new r = PutsBy disk source t given (read_when_asked (not t.all_tables) (Some t.tables)) old new r
+-- ---- all of it
+
+abbrev pub JudgesBy : DiskFacts → InputFacts → JudgePgn → Given → Doing
+JudgesBy disk input t given = DoesByPlace disk given (read_when_asked (not t.all_tables) (Some t.tables)) (JudgesIn disk input t) (JudgesOf disk input t)
+
+-- what the task names is read, and then its games are judged by that; or why something can't be read is printed
+abbrev pub JudgesPgn : {T P F K S L : Type 0} → Outside T P F K S L → JudgePgn → Doing
+JudgesPgn o t = DoesBy (ReadsGiven o (named t)) (JudgesBy o.disk o.input t)

@@ -6,11 +6,11 @@ use Rattle.judge_core.specs.ProbeResult.{IsProbed, has_both}
 use Rattle.judge_core.specs.Tables.{Tables}
 use Rattle.move_msg.specs.TextLines.{text_of}
 use Rattle.task_files.specs.Given.{Given}
-use Rattle.answer_parts.specs.Lines.{told_words}
+use Rattle.answer_parts.specs.Lines.{refusal_words, told_words}
 use Rattle.std.specs.Borrow.{Bor}
 use Rattle.system_io.specs.Disks.{DiskFacts}
 use Rattle.table_folder.specs.Settled.{IsAlone}
-use Rattle.table_commands.specs.FolderReads.{MakesForText, MakesInFolder, MakesOfGiven}
+use Rattle.table_commands.specs.FolderReads.{MakesForText, fen_refusal, MakesInFolder, MakesOfGiven}
 use Rattle.task_files.specs.InputReads.{Reading}
 use Rattle.command_line.specs.LazyFolders.{read_when_asked}
 use Rattle.answer_parts.specs.Looks.{gathered}
@@ -33,9 +33,9 @@ ProbedBy p tables r = IsProbeReply tables p r
 
 -- by the tables of the folder that are read when the position asks for them, or by those that were given
 abbrev pub ProbesAt : DiskFacts → Given → Option (Bor (List ℕ)) → Parts → Reading Reply
-ProbesAt disk given (Some path) p = MakesInFolder disk path.now given.told (IsAlone p) (ProbedBy p)
+ProbesAt disk given (Some path) p = MakesInFolder disk path.now given.told refusal_words (IsAlone p) (ProbedBy p)
 ProbesAt disk given None p = MakesOfGiven (gathered given) IsProbeReply p
 
 -- its reply after what it names was read, by what happens outside
 abbrev pub Probes : DiskFacts → Probe → Given → Reading Reply
-Probes disk t given = MakesForText t.fen.now (ProbesAt disk given (read_when_asked t.lazy (Some t.tables)))
+Probes disk t given = MakesForText t.fen.now fen_refusal (ProbesAt disk given (read_when_asked t.lazy (Some t.tables)))

@@ -1,17 +1,17 @@
 -- `probes --tables DIR [--manifest FILE] [--all-tables] [--memory MB] [--json] [--determined] [--soon] [--progress]`: what tables tell of the positions of the input (this project's own).
 use Rattle.std.specs.Result.{is_ok}
-use Rattle.std.specs.Prelude.{◌≡◌, ℕ, Bool, true, false, List, Option, Some, None, Result}
-use Rattle.std.specs.Borrow.{Bor}
+use Rattle.std.specs.Prelude.{◌≡◌, ℕ, Bool, true, false, List, Some, Result}
 use Rattle.system_io.specs.Disks.{DiskFacts}
 use Rattle.system_io.specs.Inputs.{InputFacts}
-use Rattle.system_io.specs.declared.output.WriteFault.{WriteFault}
 use Rattle.table_folder.specs.Folders.{Folder}
-use Rattle.task_files.specs.Given.{Given}
 use Rattle.table_folder.specs.Settled.{IsAlone}
-use Rattle.table_commands.specs.FolderAnswers.{IsSpelledBy, PutsByFolder, TellsByFolder, refused_table}
+use Rattle.line_events.specs.LineEvents.{Answering, AnswersInput}
+use Rattle.line_events.specs.Writing.{at_once}
+use Rattle.timeline.specs.Events.{Event}
+use Rattle.table_commands.specs.FolderAnswers.{IsSpelledBy, refused_table}
+use Rattle.table_commands.specs.FolderReads.{AnswersByFolder, Doing, by_folder_lines, no_tables}
 use Rattle.command_line.specs.LazyFolders.{read_when_asked}
 use Rattle.answer_parts.specs.Reply.{IsText}
-use Rattle.table_commands.specs.TableAnswers.{PutsByTables}
 use Rattle.board_core.specs.declared.parts.Parts.{Parts}
 use Rattle.board_core.specs.Position.{IsPosition}
 use Rattle.fen_text.specs.declared.fault.FenFault.{FenFault}
@@ -24,14 +24,15 @@ use Rattle.judge_core.specs.ProbeResult.{has_both, numbered}
 use Rattle.judge_core.specs.Known.{IsKnownProbe}
 use Rattle.judge_core.specs.Words.{column_words, columns_words}
 use Rattle.judge_core.specs.Tables.{Tables}
-use Rattle.table_commands.specs.JsonAnswers.{TellsJson, TellsJsonByFolder}
+use Rattle.table_commands.specs.JsonAnswers.{TellsJson, json_lines_in}
+use Rattle.table_commands.specs.LineTasks.{LineAsking}
 use Rattle.answer_parts.specs.Lines.{refused_fen}
 use Rattle.judge_core.specs.Ask.{IsAnswered, ask_of}
 use Rattle.judge_core.specs.declared.ask.Ask.{Ask}
 use Rattle.judge_core.specs.declared.ask.Ask.TheVariants.{Strict}
 use Rattle.line_teller.specs.ToldLines.{LineTold}
 use Rattle.command_line.specs.declared.commands.probes.Probes.{Probes}
-use Rattle.command_line.specs.Commands.Probes.{is_lazy}
+use Rattle.command_line.specs.Commands.Probes.{is_lazy, named}
 
 -- a line: what `probe` and `judge` tell of its position, in columns, or the refusal of the text
 pub data TellsLine (ask : Ask) (tables : Tables) (text : List ℕ) (told : LineTold) : Type 0 where
@@ -53,18 +54,32 @@ abbrev pub TellsLineIn : Bool → Bool → Ask → Tables → List ℕ → LineT
 TellsLineIn true json ask = TellsKnown
 TellsLineIn false json ask = TellsAskedIn json ask
 
--- so it is told by the tables of a folder that are read when a position asks for them
-abbrev pub TellsLineByFolder : DiskFacts → Folder → List ℕ → LineTold → Type 0
-TellsLineByFolder disk folder = TellsByFolder disk folder IsSpelledBy IsAlone (TellsLine Strict) refused_table
+-- ---- by the tables of a folder that are read when a position asks for them
 
-abbrev pub TellsFolderLineIn : Bool → DiskFacts → Folder → List ℕ → LineTold → Type 0
-TellsFolderLineIn true = TellsJsonByFolder false
-TellsFolderLineIn false = TellsLineByFolder
+abbrev pub AnswersColumns : DiskFacts → Folder → Tables → Tables → List ℕ → LineTold → List Event → Type 0
+AnswersColumns disk folder = AnswersByFolder disk folder IsSpelledBy IsAlone (TellsLine Strict) refused_table
 
--- the positions of the input by the tables of a folder that are read when these ask for them, or by those that were given
-abbrev pub PutsFrom : DiskFacts → InputFacts → Probes → Given → Option (Bor (List ℕ)) → Option (List ℕ) → Option (List ℕ) → Result ℕ WriteFault → Type 0
-PutsFrom disk source t given (Some path) old new r = PutsByFolder disk path.now given.told (TellsFolderLineIn t.json disk) IsText source old new r
-PutsFrom disk source t given None old new r = PutsByTables (TellsLineIn t.soon t.json (ask_of t.determined)) IsText source given old new r
+abbrev pub column_lines_in : DiskFacts → Folder → Answering Tables
+column_lines_in disk folder = by_folder_lines disk folder IsSpelledBy IsAlone (TellsLine Strict) refused_table IsText
 
-abbrev pub Puts : DiskFacts → InputFacts → Probes → Given → Option (List ℕ) → Option (List ℕ) → Result ℕ WriteFault → Type 0
-Puts disk source t given old new r = PutsFrom disk source t given (read_when_asked (is_lazy t) (Some t.tables)) old new r
+-- in columns or as JSON
+abbrev pub lines_in : Bool → DiskFacts → Folder → Answering Tables
+lines_in true = json_lines_in false
+lines_in false = column_lines_in
+
+-- ---- the command
+
+-- the lines of the input, where the tables of a folder are asked, of which none is open at first; or those that were given
+abbrev pub ProbesInFolder : DiskFacts → InputFacts → Probes → Folder → Doing
+ProbesInFolder disk input t folder = AnswersInput input (lines_in t.json disk folder) no_tables t.progress
+
+abbrev pub ProbesByTables : InputFacts → Probes → Tables → Doing
+ProbesByTables input t tables = AnswersInput input (at_once (TellsLineIn t.soon t.json (ask_of t.determined) tables) IsText) tt t.progress
+
+abbrev pub probes_asking : Probes → LineAsking
+probes_asking t = record {
+  named = named t;
+  path = read_when_asked (is_lazy t) (Some t.tables);
+  InFolder = λ disk input folder. ProbesInFolder disk input t folder;
+  ByTables = λ input tables. ProbesByTables input t tables;
+}

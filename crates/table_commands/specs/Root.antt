@@ -1,35 +1,42 @@
 -- `root --tables DIR [--manifest FILE] [--all-tables] [--memory MB] [--json] [--determined] [FEN]`: what tables tell of the legal moves of a position, or of the positions of the input
 -- (this project's own).
-use Rattle.std.specs.Prelude.{◌≡◌, ◌⊎◌, ◌++◌, ◌&&◌, ◌==◌, ℕ, Bool, true, false, List, [], ◌∷◌, map, Option, Some, None, Result}
+use Rattle.std.specs.Prelude.{◌≡◌, ◌⊎◌, ◌++◌, ◌&&◌, ◌==◌, ℕ, Bool, true, false, List, [], ◌∷◌, map, Option, Some, None}
 use Rattle.std.specs.Borrow.{Bor}
 use Rattle.std.specs.List.{list_all}
-use Rattle.system_io.specs.Inputs.{InputFacts}
-use Rattle.system_io.specs.declared.output.WriteFault.{WriteFault}
 use Rattle.board_core.specs.declared.parts.Parts.{Parts}
-use Rattle.judge_core.specs.declared.probe_result.ProbeResult.{ProbeResult}
-use Rattle.judge_core.specs.declared.root_move.RootMove.{RootMove}
+use Rattle.command_line.specs.Commands.Root.{is_lazy, named}
+use Rattle.command_line.specs.LazyFolders.{read_when_asked}
+use Rattle.command_line.specs.declared.commands.root.Root.{Root}
+use Rattle.judge_core.specs.Ask.{IsAnswered, IsRanked, ask_of}
 use Rattle.judge_core.specs.ProbeResult.{has_both}
 use Rattle.judge_core.specs.Ruling.{is_out_of_scope, ruling}
 use Rattle.judge_core.specs.Tables.{Tables}
 use Rattle.judge_core.specs.Words.{columns_words}
-use Rattle.move_msg.specs.TextLines.{ended, text_of}
-use Rattle.system_io.specs.Disks.{DiskFacts}
-use Rattle.table_folder.specs.Folders.{Folder}
-use Rattle.table_folder.specs.Settled.{IsWithMoves}
-use Rattle.task_files.specs.Given.{Given}
-use Rattle.table_commands.specs.FolderAnswers.{ByFolder, IsSpelledBy, PutsByFolder, TellsByFolder, refused_table, refused_table_in}
-use Rattle.command_line.specs.LazyFolders.{read_when_asked}
-use Rattle.table_commands.specs.JsonAnswers.{IsForTextIn, IsJsonTold, TellsJson, TellsJsonByFolder}
-use Rattle.answer_parts.specs.Lines.{probed_of, root_words}
-use Rattle.answer_parts.specs.Looks.{gathered}
-use Rattle.answer_parts.specs.Reply.{AnswersOnce, ByTables, IsForText, IsText, Reply, status_if}
-use Rattle.table_commands.specs.TableAnswers.{PutsByTables}
-use Rattle.judge_core.specs.Ask.{IsAnswered, IsRanked, ask_of}
 use Rattle.judge_core.specs.declared.ask.Ask.{Ask}
 use Rattle.judge_core.specs.declared.ask.Ask.TheVariants.{Strict}
+use Rattle.judge_core.specs.declared.probe_result.ProbeResult.{ProbeResult}
+use Rattle.judge_core.specs.declared.root_move.RootMove.{RootMove}
+use Rattle.line_events.specs.LineEvents.{Answering, AnswersInput}
+use Rattle.line_events.specs.Writing.{at_once}
 use Rattle.line_teller.specs.ToldLines.{LineTold}
-use Rattle.command_line.specs.declared.commands.root.Root.{Root}
-use Rattle.command_line.specs.Commands.Root.{is_lazy}
+use Rattle.move_msg.specs.TextLines.{ended, text_of}
+use Rattle.system_io.specs.Disks.{DiskFacts}
+use Rattle.system_io.specs.Inputs.{InputFacts}
+use Rattle.table_folder.specs.Folders.{Folder}
+use Rattle.table_folder.specs.Settled.{IsWithMoves}
+use Rattle.table_folder.specs.declared.fault.FileRefusal.{FileRefusal}
+use Rattle.task_files.specs.Given.{Given}
+use Rattle.task_files.specs.InputReads.{Reading}
+use Rattle.timeline.specs.Events.{Event}
+use Rattle.answer_parts.specs.Lines.{probed_of, refusal_words, root_words}
+use Rattle.answer_parts.specs.Looks.{gathered}
+use Rattle.answer_parts.specs.Reply.{IsForText, IsText, Reply, status_if}
+use Rattle.answer_parts.specs.declared.answers.refusals.Refusal.{Refusal}
+use Rattle.answer_parts.specs.declared.answers.refusals.Refusal.TheVariants as refusal
+use Rattle.table_commands.specs.FolderAnswers.{IsSpelledBy, refused_table, refused_table_in}
+use Rattle.table_commands.specs.FolderReads.{AnswersByFolder, Doing, MakesForText, MakesInFolder, MakesOfGiven, by_folder_lines, no_tables}
+use Rattle.table_commands.specs.LineTasks.{LineAsking}
+use Rattle.table_commands.specs.JsonAnswers.{IsJsonTold, TellsJson, json_lines_in, refused_in}
 
 -- A line for each legal move, the best first, and then what `probes` tells of the position. It is complete where nothing is refused.
 abbrev pub root_reply : List RootMove → ProbeResult → List ℕ → Reply
@@ -62,27 +69,53 @@ TellsLineIn false ask = TellsLine ask
 
 -- ---- by a folder whose tables are read when positions ask for them: a position, and those after its moves
 
-abbrev pub TellsLineByFolder : DiskFacts → Folder → List ℕ → LineTold → Type 0
-TellsLineByFolder disk folder = TellsByFolder disk folder IsSpelledBy IsWithMoves (TellsLine Strict) (λ refusal. ended (refused_table refusal))
+-- what is told, with its last line feed
+abbrev pub reply_told : Reply → LineTold
+reply_told r = record { words = r.text; done = r.status == 0 }
 
-abbrev pub TellsFolderLineIn : Bool → DiskFacts → Folder → List ℕ → LineTold → Type 0
-TellsFolderLineIn true = TellsJsonByFolder true
-TellsFolderLineIn false = TellsLineByFolder
+abbrev pub table_refused : FileRefusal → List ℕ
+table_refused file = ended (refused_table file)
 
--- a position by the tables of a folder, or by those that were given
-abbrev pub IsToldBy : DiskFacts → Root → Given → Option (Bor (List ℕ)) → Parts → Reply → Type 0
-IsToldBy disk t given (Some path) = ByFolder disk path.now given.told IsWithMoves (refused_table_in t.json) (IsToldIn t.json Strict)
-IsToldBy disk t given None = ByTables (gathered given) (IsToldIn t.json (ask_of t.determined))
+abbrev pub AnswersRoot : DiskFacts → Folder → Tables → Tables → List ℕ → Reply → List Event → Type 0
+AnswersRoot disk folder old new text r = AnswersByFolder disk folder IsSpelledBy IsWithMoves (TellsLine Strict) table_refused old new text (reply_told r)
 
--- the positions of the input likewise
-abbrev pub PutsFrom : DiskFacts → InputFacts → Root → Given → Option (Bor (List ℕ)) → Option (List ℕ) → Option (List ℕ) → Result ℕ WriteFault → Type 0
-PutsFrom disk source t given (Some path) old new r = PutsByFolder disk path.now given.told (TellsFolderLineIn t.json disk) IsText source old new r
-PutsFrom disk source t given None old new r = PutsByTables (TellsLineIn t.json (ask_of t.determined)) IsText source given old new r
+abbrev pub root_lines_in : DiskFacts → Folder → Answering Tables
+root_lines_in disk folder = by_folder_lines disk folder IsSpelledBy IsWithMoves (TellsLine Strict) table_refused IsText
 
--- the position of the words, or those of the input
-abbrev pub PutsOf : DiskFacts → InputFacts → Root → Option (Bor (List ℕ)) → Given → Option (Bor (List ℕ)) → Option (List ℕ) → Option (List ℕ) → Result ℕ WriteFault → Type 0
-PutsOf disk source t (Some fen) given path old new r = AnswersOnce (IsForTextIn t.json fen.now (IsToldBy disk t given path)) (IsText fen.now) old new r
-PutsOf disk source t None given path old new r = PutsFrom disk source t given path old new r
+-- in lines or as JSON
+abbrev pub lines_in : Bool → DiskFacts → Folder → Answering Tables
+lines_in true = json_lines_in true
+lines_in false = root_lines_in
 
-abbrev pub Puts : DiskFacts → InputFacts → Root → Given → Option (List ℕ) → Option (List ℕ) → Result ℕ WriteFault → Type 0
-Puts disk source t given old new r = PutsOf disk source t t.fen given (read_when_asked (is_lazy t) (Some t.tables)) old new r
+-- ---- a position of the words
+
+-- a refusal, that of a table's file as JSON or as a line
+abbrev pub refused_words : Bool → Refusal → List ℕ
+refused_words json (refusal.File name fault) = refused_table_in json (record { name = name; fault = fault })
+refused_words json other = refusal_words other
+
+-- by the tables of a folder that are read when the position or one after its moves asks for them, or by those that were given
+abbrev pub RanksAt : DiskFacts → Root → Given → Parts → Option (Bor (List ℕ)) → Reading Reply
+RanksAt disk t given p (Some path) = MakesInFolder disk path.now given.told (refused_words t.json) (IsWithMoves p) (λ tables. IsToldIn t.json Strict tables p)
+RanksAt disk t given p None = MakesOfGiven (gathered given) (IsToldIn t.json (ask_of t.determined)) p
+
+-- its reply after what it names was read, by what happens outside
+abbrev pub RanksText : List ℕ → DiskFacts → Root → Given → Reading Reply
+RanksText text disk t given = MakesForText text (refused_in t.json) (λ p. RanksAt disk t given p (read_when_asked (is_lazy t) (Some t.tables)))
+
+-- ---- the positions of the input
+
+-- the lines of the input, where the tables of a folder are asked, of which none is open at first; or those that were given
+abbrev pub RanksInFolder : DiskFacts → InputFacts → Root → Folder → Doing
+RanksInFolder disk input t folder = AnswersInput input (lines_in t.json disk folder) no_tables false
+
+abbrev pub RanksByTables : InputFacts → Root → Tables → Doing
+RanksByTables input t tables = AnswersInput input (at_once (TellsLineIn t.json (ask_of t.determined) tables) IsText) tt false
+
+abbrev pub root_asking : Root → LineAsking
+root_asking t = record {
+  named = named t;
+  path = read_when_asked (is_lazy t) (Some t.tables);
+  InFolder = λ disk input folder. RanksInFolder disk input t folder;
+  ByTables = λ input tables. RanksByTables input t tables;
+}

@@ -1,212 +1,212 @@
 //! `follow`: the game of the moves of the input, ply by ply as they come.
 
-ghost use Rattle.std.specs.Prelude.{◌≡◌, IfErr, IfOk, OnErr, not};
-ghost use Rattle.game_teller.specs.Judges.{IsLater};
-ghost use Rattle.judge_core.specs.Tables.{Tables};
-ghost use Rattle.move_msg.specs.ToldBy.{told_by};
-ghost use Rattle.table_folder.specs.Folders.{AreOf};
-ghost use Rattle.table_commands.specs.Follow.{IsFollowedBy, Puts, PutsBy, PutsByAll, PutsFollowed, PutsOfFolder, by_folder};
-ghost use Rattle.table_commands.specs.FolderAnswers.{IsOpenAt, PutsInFolder};
+ghost use Rattle.std.specs.Prelude.{◌≡◌, OnErr, not};
+ghost use Rattle.answer_parts.specs.Looks.{gathered};
+ghost use Rattle.answer_parts.specs.Printing.{OutputFails, Performs};
 ghost use Rattle.command_line.specs.LazyFolders.{read_when_asked};
-ghost use Rattle.table_commands.specs.Inside.LookingUp.{LacksFolder};
-ghost use Rattle.line_teller.specs.ToldLines.{HasFailed};
+ghost use Rattle.table_commands.specs.Follow.{FollowsBy, FollowsByAll, FollowsGame, FollowsGiven, FollowsInFolder, FollowsOpened};
+ghost use Rattle.timeline.specs.Outsides.{AddsSome};
 
-use crate::folders::{FolderPlace, folder_at};
+use crate::folders::folder_at;
 use crate::judging::{begin, move_on};
-use answer_parts::{Refusal, gather, put_refusal, status_told};
-use board_core::{Delay, Position};
+use answer_parts::{Refusal, gather, print_refusal, print_unread};
+use board_core::Position;
 use bumpalo::Bump;
 use command_line::{CacheSize, Follow, read_when_asked};
 use fen_text::read;
-use game_teller::{PlyJudge, SetJudge, follow_game};
+use game_teller::{FollowedGame, PlyJudge, SetJudge, follow_game};
 use judge_core::{Set, Standing};
 use move_msg::Manifest;
 use move_notation::Notation;
 use std::alloc::{AllocError, Global};
 use std::marker::Model;
-use system_io::{Disk, Input, Output, WriteFault};
-use table_folder::{FileRefusal, TableFolder};
-use task_files::Inputs;
+use system_io::WriteFault;
+use table_folder::{FileRefusal, SystemFiles, TableFiles, TableFolder};
+use task_files::{Inputs, read_inputs};
+use timeline::System;
 
 /// Judges the plies of a game by the tables of a folder, of which those are read that a ply asks for.
 ///
-/// Contracts see the disk, the folder and the tables that are open, which are tables of the folder.
+/// Contracts see where the files are, the folder and the tables that are open, which are tables of the folder.
 #[derive(Drop)]
-struct FolderJudge<'r, D: Disk> {
-    folder: TableFolder<'r, D>,
+struct FolderJudge<'r, 's, S: System> {
+    folder: TableFolder<'r, SystemFiles<'s, S>>,
     set: Set<'r>,
 }
 
-impl<'r, D: Disk> Model for FolderJudge<'r, D> {
+impl<'r, 's, S: System> Model for FolderJudge<'r, 's, S> {
     ghost use Rattle.table_commands.specs.FolderAnswers.{TablesOn};
     ghost use Rattle.table_folder.specs.Folders.{AreOf};
+    ghost use Rattle.table_folder.specs.declared.files.SystemFiles.{SystemFiles};
 
-    ghost Value = { TablesOn D };
+    ghost Value = { TablesOn (SystemFiles S) };
 
     ghost view = { λ j. record { on = j.folder; tables = j.set.tables } };
 
-    ghost invariant = { λ j. AreOf (D.facts j.folder.disk) j.folder.folder j.set.tables };
+    ghost invariant = { λ j. AreOf (S.outside j.folder.disk.system.now).disk j.folder.folder j.set.tables };
 }
 
-impl<'r, D: Disk> FolderJudge<'r, D> {
-    /// Opens a folder; no table is read. The refusal is that of a malformed manifest, then of the folder.
-    fn at(
-        alloc: Global,
-        disk: &'r D,
-        path: &'r str,
-        manifest: &'r Manifest,
-        arena: &'r Bump,
-    ) -> Result<Result<FolderJudge<'r, D>, Refusal>, AllocError>
-        ensures disk { IfOk result (λ found. IfOk found (λ j. j.on.disk ≡ disk.now)) }
-        ensures folder { IfOk result (λ found. IfOk found (λ j. IsOpenAt (D.facts disk.now) path.now (told_by manifest.now) j.on.folder)) }
-        ensures opened { IfOk result (λ found. IfOk found (λ j. AreOf (D.facts j.on.disk) j.on.folder j.tables)) }
-        ensures refused { IfOk result (λ found. IfErr found (LacksFolder (D.facts disk.now) path.now (told_by manifest.now))) }
-    {
-        let folder = match folder_at(alloc, disk, &mut (), path, manifest, arena)? {
-            Ok(folder) => folder,
-            Err(refusal) => return Ok(Err(refusal)),
-        };
-        let set = folder.new_set(alloc, CacheSize::usual().blocks())?;
-        Ok(Ok(FolderJudge { folder, set }))
-    }
-}
-
-impl<'r, D: Disk> PlyJudge for FolderJudge<'r, D> {
+impl<'r, 's, S: System> PlyJudge<S> for FolderJudge<'r, 's, S> {
+    ghost use Rattle.std.specs.Prelude.{◌≡◌};
     ghost use Rattle.table_commands.specs.Follow.{by_folder};
 
-    ghost facts = { λ j. by_folder (D.facts j.on.disk) j.on.folder j.tables };
+    ghost reads_from = { λ j s. j.on.disk.system.now ≡ s };
+
+    ghost facts = { λ j. by_folder (S.outside j.on.disk.system.now).disk j.on.folder j.tables };
 
     fn begin(
         &mut self,
         alloc: Global,
+        _system: &S,
+        timeline: &mut S::Timeline,
         start: &Position,
     ) -> Result<Result<Standing, FileRefusal>, AllocError> {
-        begin(alloc, &self.folder, &mut self.set, start)
+        begin(alloc, timeline, &self.folder, &mut self.set, start)
     }
 
     fn move_on(
         &mut self,
         alloc: Global,
+        _system: &S,
+        timeline: &mut S::Timeline,
         standing: &Standing,
         position: Position,
     ) -> Result<Result<Standing, FileRefusal>, AllocError> {
-        move_on(alloc, &self.folder, &mut self.set, standing, position)
+        move_on(
+            alloc,
+            timeline,
+            &self.folder,
+            &mut self.set,
+            standing,
+            position,
+        )
     }
 }
 
-/// Tells the game of the input from a position by this judge, and returns the status.
-fn put_game<J: PlyJudge, I: Input, W: Output>(
+/// Follows a game by the tables of an open folder, each of which is read when a ply asks for it, and returns the status.
+fn follow_opened<'r, 's, S: System>(
     alloc: Global,
-    notation: Notation,
-    judge: &mut J,
-    start: &Position,
-    delay: Delay,
-    input: &I,
-    out: &mut W,
+    folder: TableFolder<'r, SystemFiles<'s, S>>,
+    game: &FollowedGame,
+    system: &S,
+    timeline: &mut S::Timeline,
 ) -> Result<u8, WriteFault>
-    ensures told { PutsFollowed (I.facts input.now) (λ left told. (tables : Tables) → (J.facts judge.new).is_by tables → IsFollowedBy (J.facts judge.old) (I.facts input.now) notation delay start.now tables (W.contents out.old) (W.contents out.new) left told) (W.contents out.old) (W.contents out.new) result }
-    ensures cause { OnErr result (HasFailed W.facts) }
-    ensures later { IsLater (J.facts judge.old) (J.facts judge.new) }
+    requires { folder.disk.system.now ≡ system.now }
+    ensures made { AddsSome (S.outside system.now) timeline.old timeline.new (Performs (FollowsOpened (S.outside system.now).disk (S.outside system.now).input folder.entry.folder game.now) result) }
+    ensures cause { OnErr result (OutputFails (S.outside system.now)) }
 {
-    let Ok(mut lines) = input.lines(alloc) else {
-        return put_refusal(out, Refusal::Memory);
-    };
-    status_told(follow_game(alloc, notation, judge, start, delay, &mut lines, out))
+    match folder.new_set(alloc, CacheSize::usual().blocks()) {
+        Ok(set) => {
+            let mut judge = FolderJudge { folder, set };
+            follow_game(alloc, game, &mut judge, system, timeline)
+        }
+        Err(_) => print_refusal(system, timeline, Refusal::Memory),
+    }
 }
 
-/// Tells the game of the input from a position by the tables of files, or the refusal of these.
-fn answer_from<I: Input, W: Output>(
+/// Follows a game by the folder at a path, or writes the refusal of its manifest or of the folder, and returns the status.
+fn follow_in<S: System>(
     alloc: Global,
-    task: &Follow<'_>,
-    sources: &Inputs,
-    start: &Position,
-    input: &I,
-    out: &mut W,
+    path: &str,
+    manifest: &Manifest,
+    game: &FollowedGame,
+    system: &S,
+    timeline: &mut S::Timeline,
 ) -> Result<u8, WriteFault>
-    ensures told { PutsByAll (I.facts input.now) task.now sources.now start.now (W.contents out.old) (W.contents out.new) result }
-    ensures cause { OnErr result (HasFailed W.facts) }
+    ensures made { AddsSome (S.outside system.now) timeline.old timeline.new (Performs (FollowsInFolder (S.outside system.now).disk (S.outside system.now).input path.now manifest.now game.now) result) }
+    ensures cause { OnErr result (OutputFails (S.outside system.now)) }
+{
+    let files = SystemFiles { system };
+    let arena = Bump::new(alloc);
+    match folder_at(alloc, &files, timeline, path, manifest, &arena) {
+        Ok(Ok(folder)) => follow_opened(alloc, folder, game, system, timeline),
+        Ok(Err(refusal)) => print_refusal(system, timeline, refusal),
+        Err(_) => print_refusal(system, timeline, Refusal::Memory),
+    }
+}
+
+/// Follows a game by the tables of files, or writes the refusal of these, and returns the status.
+fn follow_by_all<S: System>(
+    alloc: Global,
+    sources: &Inputs,
+    game: &FollowedGame,
+    system: &S,
+    timeline: &mut S::Timeline,
+) -> Result<u8, WriteFault>
+    ensures made { AddsSome (S.outside system.now) timeline.old timeline.new (Performs (FollowsByAll (S.outside system.now).input (gathered sources.now) game.now) result) }
+    ensures cause { OnErr result (OutputFails (S.outside system.now)) }
 {
     match gather(alloc, sources, CacheSize::usual()) {
         Ok(Ok(set)) => {
-            let notation = Notation::by_flag(task.san);
             let mut judge = SetJudge { set };
-            put_game(alloc, notation, &mut judge, start, task.delay, input, out)
+            follow_game(alloc, game, &mut judge, system, timeline)
         }
-        Ok(Err(refusal)) => put_refusal(out, refusal),
-        Err(_) => put_refusal(out, Refusal::Memory),
+        Ok(Err(refusal)) => print_refusal(system, timeline, refusal),
+        Err(_) => print_refusal(system, timeline, Refusal::Memory),
     }
 }
 
-/// Tells the game of the input from a position by the folder at a path, or the refusal of its manifest or of the folder.
-fn answer_in<D: Disk, I: Input, W: Output>(
-    alloc: Global,
-    task: &Follow<'_>,
-    place: &FolderPlace<'_, D>,
-    start: &Position,
-    input: &I,
-    out: &mut W,
-) -> Result<u8, WriteFault>
-    ensures told { PutsInFolder (D.facts place.now.disk.now) place.now.path.now (told_by place.now.manifest.now) (PutsOfFolder (D.facts place.now.disk.now) (I.facts input.now) task.now start.now) (W.contents out.old) (W.contents out.new) result }
-    ensures cause { OnErr result (HasFailed W.facts) }
-{
-    let arena = Bump::new(alloc);
-    match FolderJudge::at(alloc, place.disk, place.path, place.manifest, &arena) {
-        Ok(Ok(judge)) => {
-            let notation = Notation::by_flag(task.san);
-            let mut judge = judge;
-            put_game(alloc, notation, &mut judge, start, task.delay, input, out)
-        }
-        Ok(Err(refusal)) => put_refusal(out, refusal),
-        Err(_) => put_refusal(out, Refusal::Memory),
-    }
-}
-
-/// Tells the game of the input from a position, by the tables of a folder or by those that were read.
-fn answer_at<D: Disk, I: Input, W: Output>(
+/// Follows a game by the tables of a folder or by those that were read, and returns the status.
+fn follow_by<S: System>(
     alloc: Global,
     task: &Follow<'_>,
     sources: &Inputs,
-    disk: &D,
-    start: &Position,
-    input: &I,
-    out: &mut W,
+    game: &FollowedGame,
+    system: &S,
+    timeline: &mut S::Timeline,
 ) -> Result<u8, WriteFault>
-    ensures told { PutsBy (D.facts disk.now) (I.facts input.now) task.now sources.now start.now (read_when_asked (not task.now.all_tables) task.now.tables) (W.contents out.old) (W.contents out.new) result }
-    ensures cause { OnErr result (HasFailed W.facts) }
+    ensures made { AddsSome (S.outside system.now) timeline.old timeline.new (Performs (FollowsBy (S.outside system.now).disk (S.outside system.now).input sources.now (read_when_asked (not task.now.all_tables) task.now.tables) game.now) result) }
+    ensures cause { OnErr result (OutputFails (S.outside system.now)) }
 {
     match read_when_asked(!task.all_tables, task.tables) {
-        Some(path) => {
-            let manifest = sources.manifest();
-            let place = FolderPlace {
-                disk,
-                path,
-                manifest,
-            };
-            answer_in(alloc, task, &place, start, input, out)
-        }
-        None => answer_from(alloc, task, sources, start, input, out),
+        Some(path) => follow_in(alloc, path, sources.manifest(), game, system, timeline),
+        None => follow_by_all(alloc, sources, game, system, timeline),
     }
 }
 
-/// Tells the game of the input from the position of the text, a line for ply 0 and for the ply after each move, as
-/// `game_teller::follow_game` has it. Returns the status, 0 where the game came to a verdict or to the input's end, else
-/// 1. A text that is no position is refused first, then the folder.
-///
-/// A table is read when a ply asks for it. Where its file is at fault, that is told in the ply's place, and nothing more. With
-/// `--all-tables` all are read before, and the first file at fault is refused.
-pub fn answer<D: Disk, I: Input, W: Output>(
+/// Follows the game from the position of the text, or writes the refusal of the text, and returns the status.
+fn follow_given<S: System>(
     alloc: Global,
     task: &Follow<'_>,
     sources: &Inputs,
-    disk: &D,
-    input: &I,
-    out: &mut W,
+    system: &S,
+    timeline: &mut S::Timeline,
 ) -> Result<u8, WriteFault>
-    ensures told { Puts (D.facts disk.now) (I.facts input.now) task.now sources.now (W.contents out.old) (W.contents out.new) result }
-    ensures cause { OnErr result (HasFailed W.facts) }
+    ensures made { AddsSome (S.outside system.now) timeline.old timeline.new (Performs (FollowsGiven (S.outside system.now).disk (S.outside system.now).input task.now sources.now) result) }
+    ensures cause { OnErr result (OutputFails (S.outside system.now)) }
 {
     match read(task.fen.as_bytes()) {
-        Err(fault) => put_refusal(out, Refusal::Fen(fault)),
-        Ok(start) => answer_at(alloc, task, sources, disk, &start, input, out),
+        Err(fault) => print_refusal(system, timeline, Refusal::Fen(fault)),
+        Ok(start) => {
+            let game = FollowedGame {
+                notation: Notation::by_flag(task.san),
+                start,
+                delay: task.delay,
+            };
+            follow_by(alloc, task, sources, &game, system, timeline)
+        }
+    }
+}
+
+/// Follows the game of the input from the position of the text, a line for ply 0 and for the ply after each move, as
+/// `game_teller::follow_game` has it. Returns the status, 0 where the game came to a verdict or to the input's end, else
+/// 1. What the task names is read first: the manifest, and with `--all-tables` the files of the tables. A text that is no position is
+/// refused then, and then the folder.
+///
+/// A table is read when a ply asks for it. Where its file is at fault, that is printed in the ply's place, and nothing more. With
+/// `--all-tables` all are read before, and the first file at fault is refused. The error comes only where the output failed.
+pub fn answer<S: System>(
+    alloc: Global,
+    task: &Follow<'_>,
+    system: &S,
+    timeline: &mut S::Timeline,
+) -> Result<u8, WriteFault>
+    ensures made { AddsSome (S.outside system.now) timeline.old timeline.new (Performs (FollowsGame (S.outside system.now) task.now) result) }
+    ensures cause { OnErr result (OutputFails (S.outside system.now)) }
+{
+    let names = task.places();
+    match read_inputs(alloc, system, timeline, &names) {
+        Ok(sources) => follow_given(alloc, task, &sources, system, timeline),
+        Err(fault) => print_unread(system, timeline, fault),
     }
 }

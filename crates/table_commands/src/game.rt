@@ -1,27 +1,40 @@
 //! `game`: the game of the moves of the input, and its outcome.
 
-ghost use Rattle.std.specs.Prelude.{◌≡◌, IfOk, OnErr, not};
-ghost use Rattle.move_msg.specs.GameTexts.{words_in};
-ghost use Rattle.move_notation.specs.Notations.{AreMovesIn, notation_by};
-ghost use Rattle.move_msg.specs.ToldBy.{told_by};
-ghost use Rattle.table_commands.specs.FolderAnswers.{ByFolder, refused_table};
-ghost use Rattle.command_line.specs.LazyFolders.{read_when_asked};
+ghost use Rattle.std.specs.Prelude.{◌≡◌, IfOk, not};
 ghost use Rattle.answer_parts.specs.Asked.{reply_of};
+ghost use Rattle.answer_parts.specs.Lines.{refusal_words};
 ghost use Rattle.answer_parts.specs.Looks.{gathered};
-ghost use Rattle.answer_parts.specs.Reply.{IsText};
-ghost use Rattle.table_commands.specs.Game.{IsOutcomeReply, IsPlayedBy, IsPlayedReply, IsReply, are_all_legal, in_play, outcome_reply};
+ghost use Rattle.answer_parts.specs.Reply.{ByTables};
+ghost use Rattle.command_line.specs.LazyFolders.{read_when_asked};
+ghost use Rattle.move_msg.specs.ToldBy.{told_by};
+ghost use Rattle.table_commands.specs.Courses.{in_play_of};
+ghost use Rattle.table_commands.specs.FolderReads.{MakesInFolder, made_reply};
+ghost use Rattle.table_commands.specs.Game.{IsOutcomeOfGiven, IsOutcomeReply, JudgesCourse, PlaysFrom, PlaysGame, are_all_legal, outcome_reply};
+ghost use Rattle.table_commands.specs.Inside.Courses.{course_of};
+ghost use Rattle.table_folder.specs.Reads.{PassesSome};
 
-use crate::folders::{FolderPlace, OpenFolder};
+use crate::folders::{FolderPlace, opened_at};
+use crate::judging::{Course, judge_game};
 use answer_parts::{Answer, Line, Refusal, gather};
-use board_core::{Delay, Move, Position};
+use board_core::{Move, Position};
 use bumpalo::Bump;
 use command_line::{CacheSize, FollowGame, read_when_asked};
 use fen_text::read;
 use judge_core::{GameOutcome, Outcome};
 use move_notation::{Notation, read_moves_in};
 use std::alloc::{AllocError, Global};
-use system_io::Disk;
+use table_folder::TableFiles;
 use task_files::Inputs;
+
+/// Whether all moves of a game are legal, or those to its verdict.
+pub(crate) fn are_all_legal(outcome: GameOutcome) -> bool
+    ensures { result ≡ are_all_legal outcome }
+{
+    match outcome {
+        GameOutcome::Illegal { .. } => false,
+        _ => true,
+    }
+}
 
 /// The line of an outcome.
 fn told(outcome: GameOutcome, moves: &[Move]) -> Answer
@@ -36,69 +49,63 @@ fn told(outcome: GameOutcome, moves: &[Move]) -> Answer
 
 /// The outcome of a game by the tables of a folder, of which those are read that its positions ask for. Or the refusal: of a malformed
 /// manifest, then of the folder, then of the first file that is asked for and at fault.
-fn outcome_in<D: Disk>(
+fn outcome_in<F: TableFiles>(
     alloc: Global,
-    place: &FolderPlace<'_, D>,
-    delay: Delay,
-    start: &Position,
-    moves: &[Move],
+    log: &mut F::Log,
+    place: &FolderPlace<'_, F>,
+    game: &Course<'_>,
 ) -> Result<Answer, AllocError>
-    ensures { IfOk result (λ a. ByFolder (D.facts place.now.disk.now) place.now.path.now (told_by place.now.manifest.now) (in_play delay moves.now) refused_table (IsOutcomeReply delay moves.now) start.now (reply_of a)) }
+    ensures { PassesSome (F.events place.now.disk.now log.old) (F.events place.now.disk.now log.new) (MakesInFolder (F.facts place.now.disk.now) place.now.path.now (told_by place.now.manifest.now) refusal_words (in_play_of (course_of game.now)) (IsOutcomeReply (course_of game.now)) (made_reply result)) }
 {
     let arena = Bump::new(alloc);
-    let mut folder = match OpenFolder::at(alloc, place.disk, place.path, place.manifest, &arena)? {
-        Ok(folder) => folder,
-        Err(refusal) => return Ok(Answer::Refused(refusal)),
+    let (folder, mut set) = match opened_at(
+        alloc,
+        place.disk,
+        log,
+        place.path,
+        place.manifest,
+        &arena,
+    ) {
+        Ok(Ok(opened)) => opened,
+        Ok(Err(refusal)) => return Ok(Answer::Refused(refusal)),
+        Err(fault) => return Err(fault),
     };
-    match folder.outcome(start, moves, delay)? {
-        Ok(outcome) => Ok(told(outcome, moves)),
-        Err(refusal) => Ok(Answer::Refused(Refusal::File(refusal.name, refusal.fault))),
+    match judge_game(alloc, log, &folder, &mut set, game) {
+        Ok(Ok(outcome)) => Ok(told(outcome, game.moves)),
+        Ok(Err(refused)) => Ok(Answer::Refused(Refusal::File(refused.name, refused.fault))),
+        Err(fault) => Err(fault),
     }
 }
 
 /// The outcome of a game by the tables of files, or the refusal of these.
-fn answer_moves(
-    alloc: Global,
-    sources: &Inputs,
-    notation: Notation,
-    delay: Delay,
-    start: &Position,
-    moves: &[Move],
-) -> Result<Answer, AllocError>
-    requires { AreMovesIn notation start.now (words_in sources.now.input) moves.now }
-    ensures { IfOk result (λ a. IsPlayedReply notation sources.now.input (gathered sources.now) delay start.now (reply_of a)) }
+fn outcome_of(alloc: Global, sources: &Inputs, game: &Course<'_>) -> Result<Answer, AllocError>
+    ensures { IfOk result (λ a. ByTables (gathered sources.now) (IsOutcomeOfGiven (course_of game.now)) (course_of game.now).start (reply_of a)) }
 {
-    let mut set = match gather(alloc, sources, CacheSize::usual())? {
-        Ok(set) => set,
-        Err(refusal) => return Ok(Answer::Refused(refusal)),
-    };
-    let outcome = set.judge_game(alloc, start, moves, delay.plies())?;
-    Ok(told(outcome, moves))
-}
-
-/// Whether all moves of a game are legal, or those to its verdict.
-pub(crate) fn are_all_legal(outcome: GameOutcome) -> bool
-    ensures { result ≡ are_all_legal outcome }
-{
-    match outcome {
-        GameOutcome::Illegal { .. } => false,
-        _ => true,
+    match gather(alloc, sources, CacheSize::usual()) {
+        Ok(Ok(mut set)) => {
+            let delay = game.delay.plies();
+            match set.judge_game(alloc, game.start, game.moves, delay) {
+                Ok(outcome) => Ok(told(outcome, game.moves)),
+                Err(fault) => Err(fault),
+            }
+        }
+        Ok(Err(refusal)) => Ok(Answer::Refused(refusal)),
+        Err(_) => Err(AllocError),
     }
 }
 
-/// The outcome of the game with these moves, by the tables that were read or by those that its positions ask for.
-fn outcome_of_moves<D: Disk>(
+/// The outcome of a game by the tables of the folder at a path that its positions ask for, or by those that were read.
+fn outcome_at<'x, F: TableFiles>(
     alloc: Global,
-    task: &FollowGame<'_>,
-    sources: &Inputs,
-    disk: &D,
-    start: &Position,
-    moves: &[Move],
+    log: &mut F::Log,
+    path: Option<&'x str>,
+    sources: &'x Inputs,
+    disk: &'x F,
+    game: &Course<'_>,
 ) -> Result<Answer, AllocError>
-    requires { AreMovesIn (notation_by task.now.san) start.now (words_in sources.now.input) moves.now }
-    ensures { IfOk result (λ a. IsPlayedBy (D.facts disk.now) task.now sources.now (read_when_asked (not task.now.all_tables) task.now.tables) start.now (reply_of a)) }
+    ensures { PassesSome (F.events disk.now log.old) (F.events disk.now log.new) (JudgesCourse (F.facts disk.now) sources.now path.entry (course_of game.now) (made_reply result)) }
 {
-    match read_when_asked(!task.all_tables, task.tables) {
+    match path {
         Some(path) => {
             let manifest = sources.manifest();
             let place = FolderPlace {
@@ -106,30 +113,37 @@ fn outcome_of_moves<D: Disk>(
                 path,
                 manifest,
             };
-            outcome_in(alloc, &place, task.delay, start, moves)
+            outcome_in(alloc, log, &place, game)
         }
-        None => {
-            let notation = Notation::by_flag(task.san);
-            answer_moves(alloc, sources, notation, task.delay, start, moves)
-        }
+        None => outcome_of(alloc, sources, game),
     }
 }
 
 /// The outcome of the game of the input from a position. The first word that is no move is refused, in algebraic notation one that
 /// names no legal move in its turn; then the tables.
-fn answer_from<D: Disk>(
+fn answer_from<F: TableFiles>(
     alloc: Global,
+    log: &mut F::Log,
     task: &FollowGame<'_>,
     sources: &Inputs,
-    disk: &D,
+    disk: &F,
     start: &Position,
 ) -> Result<Answer, AllocError>
-    ensures { IfOk result (λ a. IsPlayedBy (D.facts disk.now) task.now sources.now (read_when_asked (not task.now.all_tables) task.now.tables) start.now (reply_of a)) }
+    ensures { PassesSome (F.events disk.now log.old) (F.events disk.now log.new) (PlaysFrom (F.facts disk.now) task.now sources.now start.now (made_reply result)) }
 {
     let notation = Notation::by_flag(task.san);
-    match read_moves_in(alloc, notation, start, sources.input())? {
-        Ok(moves) => outcome_of_moves(alloc, task, sources, disk, start, &moves),
-        Err(place) => Ok(Answer::Refused(Refusal::Move(place))),
+    match read_moves_in(alloc, notation, start, sources.input()) {
+        Ok(Ok(moves)) => {
+            let game = Course {
+                start,
+                moves: &moves,
+                delay: task.delay,
+            };
+            let path = read_when_asked(!task.all_tables, task.tables);
+            outcome_at(alloc, log, path, sources, disk, &game)
+        }
+        Ok(Err(place)) => Ok(Answer::Refused(Refusal::Move(place))),
+        Err(fault) => Err(fault),
     }
 }
 
@@ -137,17 +151,17 @@ fn answer_from<D: Disk>(
 ///
 /// A table is read when a position of the game asks for it, up to the first move that isn't legal, and the file of one that is at fault
 /// is refused. With `--all-tables` all are read before, and the first file at fault is refused.
-pub fn answer<D: Disk>(
+pub fn answer<F: TableFiles>(
     alloc: Global,
+    log: &mut F::Log,
     task: &FollowGame<'_>,
     sources: &Inputs,
-    disk: &D,
+    disk: &F,
 ) -> Result<Answer, AllocError>
-    ensures ok { IfOk result (λ a. IsReply (D.facts disk.now) task.now sources.now (reply_of a)) }
-    ensures memory { OnErr result (IsText task.now.fen.now) }
+    ensures { PassesSome (F.events disk.now log.old) (F.events disk.now log.new) (PlaysGame (F.facts disk.now) task.now sources.now (made_reply result)) }
 {
     match read(task.fen.as_bytes()) {
         Err(fault) => Ok(Answer::Refused(Refusal::Fen(fault))),
-        Ok(position) => answer_from(alloc, task, sources, disk, &position),
+        Ok(position) => answer_from(alloc, log, task, sources, disk, &position),
     }
 }

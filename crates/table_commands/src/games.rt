@@ -1,29 +1,29 @@
 //! `games`: the outcomes of the games of the input, a line each.
 
-ghost use Rattle.std.specs.Prelude.{◌≡◌, false, position, IfOk, OnErr};
+ghost use Rattle.std.specs.Prelude.{◌≡◌, position, IfOk, OnErr};
 ghost use Rattle.board_core.specs.Position.{IsPosition};
 ghost use Rattle.fen_text.specs.Fen.{SpellsPosition};
-ghost use Rattle.line_teller.specs.ToldLines.{HasFailed};
 ghost use Rattle.move_msg.specs.GameTexts.{TellsMoves};
-ghost use Rattle.table_commands.specs.Games.{HasStartFen, Puts, TellsGameByFolder, TellsGameLine, moves_in, start_in, tab_in};
+ghost use Rattle.table_commands.specs.Games.{AnswersGame, HasStartFen, LacksRoomForGame, TellsGameLine, moves_in, start_in, tab_in};
 ghost use Rattle.answer_parts.specs.Lines.{words_of};
-ghost use Rattle.table_commands.specs.FolderAnswers.{PutsByFolder};
-ghost use Rattle.table_commands.specs.TableAnswers.{PutsByTables};
-ghost use Rattle.move_msg.specs.ToldBy.{told_by};
+ghost use Rattle.timeline.specs.Outsides.{AddsSome};
 
-use crate::folders::{FolderPlace, OpenFolder, arena_for};
+use crate::folders::OpenFolder;
 use crate::game::are_all_legal;
-use answer_parts::{Line, Refusal, gather, put_line, put_refusal, put_told};
+use crate::judging::Course;
+use crate::line_tasks::LineTask;
+use answer_parts::{Answer, Line, Refusal};
 use board_core::{Delay, Move, Position};
-use command_line::{CacheSize, FollowGames, read_when_asked};
+use command_line::{FollowGames, Megabytes, read_when_asked};
 use fen_text::read;
 use judge_core::{Outcome, Set};
-use line_teller::{LineHandler, TellFault};
+use line_events::{LineAnswerer, answer_lines, write_answer};
+use line_teller::TellFault;
 use move_msg::read_moves;
 use std::alloc::{AllocError, Global};
-use std::io::Write;
-use system_io::{Disk, Input, Output, WriteFault};
-use task_files::Inputs;
+use system_io::WriteFault;
+use task_files::InputPaths;
+use timeline::System;
 
 /// The place of the first tab of a line.
 fn tab_in(line: &[u8]) -> Option<usize>
@@ -116,19 +116,26 @@ impl<'a> GameJudge<'a> {
     }
 }
 
-impl<'a> LineHandler for GameJudge<'a> {
+impl<'a, S: System> LineAnswerer<S> for GameJudge<'a> {
+    ghost use Rattle.line_events.specs.Writing.{at_once};
     ghost use Rattle.table_commands.specs.Games.{HasStartFen, TellsGameLine};
 
-    ghost tells = { λ j. TellsGameLine j.delay j.set.tables };
+    ghost Known = { Unit {0} };
 
-    ghost takes_memory = { HasStartFen };
+    ghost reads_from = { λ _ _. Unit {0} };
 
-    fn tell<W: Output>(&mut self, line: &[u8], out: &mut W) -> Result<bool, TellFault> {
+    ghost known = { λ _. tt };
+
+    ghost answering = { λ p. at_once (TellsGameLine p.delay p.set.tables) HasStartFen };
+
+    fn answer_line(
+        &mut self,
+        system: &S,
+        timeline: &mut S::Timeline,
+        line: &[u8],
+    ) -> Result<bool, TellFault> {
         match self.answer(line) {
-            Ok((told, is_told)) => match put_line(out, &told) {
-                Ok(()) => Ok(is_told),
-                Err(_) => Err(TellFault::Io),
-            },
+            Ok((told, done)) => write_answer(system, timeline, &Answer::One(told, done)),
             Err(_) => Err(TellFault::OutOfMemory),
         }
     }
@@ -136,19 +143,20 @@ impl<'a> LineHandler for GameJudge<'a> {
 
 /// Answers a line with the outcome of its game, by the tables of a folder, of which those are read that it asks for.
 #[derive(Drop)]
-struct FolderGameJudge<'r, D: Disk> {
+struct FolderGameJudge<'r, 's, S: System> {
     /// The allocator.
     alloc: Global,
     /// The folder.
-    folder: OpenFolder<'r, D>,
+    folder: OpenFolder<'r, 's, S>,
     /// For how many further plies a verdict by tables must hold.
     delay: Delay,
 }
 
-impl<'r, D: Disk> FolderGameJudge<'r, D> {
+impl<'r, 's, S: System> FolderGameJudge<'r, 's, S> {
     /// The answer to a line whose start and moves are read, and whether it is complete.
     fn judge(
         &mut self,
+        timeline: &mut S::Timeline,
         line: &[u8],
         start: &Position,
         moves: &[Move],
@@ -156,156 +164,143 @@ impl<'r, D: Disk> FolderGameJudge<'r, D> {
         requires spelled { SpellsPosition (start_in line.now) start.now }
         requires position { IsPosition start.now }
         requires moves { TellsMoves (moves_in line.now) moves.now }
-        ensures told { IfOk result (λ told. TellsGameByFolder self.old.delay (D.facts self.old.folder.disk) self.old.folder.folder line.now (record { words = words_of told.0; done = told.1 })) }
-        ensures folder { self.new.folder ≡ self.old.folder }
+        ensures told { IfOk result (λ told. AddsSome (S.outside self.old.folder.on.disk.system.now) timeline.old timeline.new (AnswersGame self.old.delay (S.outside self.old.folder.on.disk.system.now).disk self.old.folder.on.folder self.old.folder.tables self.new.folder.tables line.now (record { words = words_of told.0; done = told.1 }))) }
+        ensures room { OnErr result (AddsSome (S.outside self.old.folder.on.disk.system.now) timeline.old timeline.new (LacksRoomForGame self.old.delay (S.outside self.old.folder.on.disk.system.now).disk self.old.folder.on.folder self.old.folder.tables line.now)) }
+        ensures folder { self.new.folder.on ≡ self.old.folder.on }
         ensures delay { self.new.delay ≡ self.old.delay }
     {
-        match self.folder.outcome(start, moves, self.delay)? {
-            Ok(outcome) => {
+        let delay = self.delay;
+        let game = Course {
+            start,
+            moves,
+            delay,
+        };
+        match self.folder.outcome(timeline, &game) {
+            Ok(Ok(outcome)) => {
                 let plies = moves.len();
                 let line = Line::Outcome(Outcome { outcome, plies });
                 Ok((line, are_all_legal(outcome)))
             }
-            Err(refused) => Ok((
+            Ok(Err(refused)) => Ok((
                 Line::Refused(Refusal::File(refused.name, refused.fault)),
                 false,
             )),
+            Err(fault) => Err(fault),
         }
     }
 
     /// The answer to a line whose start is read, and whether it is complete.
-    fn answer_from(&mut self, line: &[u8], start: &Position) -> Result<(Line, bool), AllocError>
+    fn answer_from(
+        &mut self,
+        timeline: &mut S::Timeline,
+        line: &[u8],
+        start: &Position,
+    ) -> Result<(Line, bool), AllocError>
         requires spelled { SpellsPosition (start_in line.now) start.now }
         requires position { IsPosition start.now }
-        ensures told { IfOk result (λ told. TellsGameByFolder self.old.delay (D.facts self.old.folder.disk) self.old.folder.folder line.now (record { words = words_of told.0; done = told.1 })) }
-        ensures folder { self.new.folder ≡ self.old.folder }
+        ensures told { IfOk result (λ told. AddsSome (S.outside self.old.folder.on.disk.system.now) timeline.old timeline.new (AnswersGame self.old.delay (S.outside self.old.folder.on.disk.system.now).disk self.old.folder.on.folder self.old.folder.tables self.new.folder.tables line.now (record { words = words_of told.0; done = told.1 }))) }
+        ensures room { OnErr result (AddsSome (S.outside self.old.folder.on.disk.system.now) timeline.old timeline.new (LacksRoomForGame self.old.delay (S.outside self.old.folder.on.disk.system.now).disk self.old.folder.on.folder self.old.folder.tables line.now)) }
+        ensures folder { self.new.folder.on ≡ self.old.folder.on }
         ensures delay { self.new.delay ≡ self.old.delay }
     {
-        match read_moves(self.alloc, moves_in(line))? {
-            Ok(moves) => self.judge(line, start, &moves),
-            Err(place) => Ok((Line::Refused(Refusal::Move(place)), false)),
+        match read_moves(self.alloc, moves_in(line)) {
+            Ok(Ok(moves)) => self.judge(timeline, line, start, &moves),
+            Ok(Err(place)) => Ok((Line::Refused(Refusal::Move(place)), false)),
+            Err(fault) => Err(fault),
         }
     }
 
     /// The answer to a line, and whether it is complete.
-    fn answer(&mut self, line: &[u8]) -> Result<(Line, bool), AllocError>
-        ensures told { IfOk result (λ told. TellsGameByFolder self.old.delay (D.facts self.old.folder.disk) self.old.folder.folder line.now (record { words = words_of told.0; done = told.1 })) }
-        ensures folder { self.new.folder ≡ self.old.folder }
+    fn answer(
+        &mut self,
+        timeline: &mut S::Timeline,
+        line: &[u8],
+    ) -> Result<(Line, bool), AllocError>
+        ensures told { IfOk result (λ told. AddsSome (S.outside self.old.folder.on.disk.system.now) timeline.old timeline.new (AnswersGame self.old.delay (S.outside self.old.folder.on.disk.system.now).disk self.old.folder.on.folder self.old.folder.tables self.new.folder.tables line.now (record { words = words_of told.0; done = told.1 }))) }
+        ensures room { OnErr result (AddsSome (S.outside self.old.folder.on.disk.system.now) timeline.old timeline.new (LacksRoomForGame self.old.delay (S.outside self.old.folder.on.disk.system.now).disk self.old.folder.on.folder self.old.folder.tables line.now)) }
+        ensures folder { self.new.folder.on ≡ self.old.folder.on }
         ensures delay { self.new.delay ≡ self.old.delay }
-        ensures memory { OnErr result (HasStartFen line.now) }
     {
         match read(start_in(line)) {
-            Ok(start) => self.answer_from(line, &start),
+            Ok(start) => self.answer_from(timeline, line, &start),
             Err(fault) => Ok((Line::Refused(Refusal::Fen(fault)), false)),
         }
     }
 }
 
-impl<'r, D: Disk> LineHandler for FolderGameJudge<'r, D> {
-    ghost use Rattle.table_commands.specs.Games.{HasStartFen, TellsGameByFolder};
+impl<'r, 's, S: System> LineAnswerer<S> for FolderGameJudge<'r, 's, S> {
+    ghost use Rattle.std.specs.Prelude.{◌≡◌};
+    ghost use Rattle.judge_core.specs.Tables.{Tables};
+    ghost use Rattle.table_commands.specs.Games.{game_lines_in};
 
-    ghost tells = { λ j. TellsGameByFolder j.delay (D.facts j.folder.disk) j.folder.folder };
+    ghost Known = { Tables };
 
-    ghost takes_memory = { HasStartFen };
+    ghost reads_from = { λ p system. p.folder.on.disk.system.now ≡ system };
 
-    fn tell<W: Output>(&mut self, line: &[u8], out: &mut W) -> Result<bool, TellFault> {
-        match self.answer(line) {
-            Ok((told, is_told)) => match put_line(out, &told) {
-                Ok(()) => Ok(is_told),
-                Err(_) => Err(TellFault::Io),
-            },
+    ghost known = { λ p. p.folder.tables };
+
+    ghost answering = { λ p. game_lines_in p.delay (S.outside p.folder.on.disk.system.now).disk p.folder.on.folder };
+
+    fn answer_line(
+        &mut self,
+        system: &S,
+        timeline: &mut S::Timeline,
+        line: &[u8],
+    ) -> Result<bool, TellFault> {
+        match self.answer(timeline, line) {
+            Ok((told, done)) => write_answer(system, timeline, &Answer::One(told, done)),
             Err(_) => Err(TellFault::OutOfMemory),
         }
     }
 }
 
-/// Writes the outcomes by the tables of files, or the refusal of the first file at fault.
-fn answer_from<I: Input, W: Output, E: Write>(
-    alloc: Global,
-    task: &FollowGames<'_>,
-    sources: &Inputs,
-    input: &I,
-    out: &mut W,
-    errors: &mut E,
-) -> Result<u8, WriteFault>
-    ensures written { PutsByTables (TellsGameLine task.now.delay) HasStartFen (I.facts input.now) sources.now (W.contents out.old) (W.contents out.new) result }
-    ensures quiet { task.now.progress ≡ false → errors.new ≡ errors.old }
-    ensures cause { OnErr result (HasFailed W.facts) }
-{
-    match gather(alloc, sources, CacheSize::usual()) {
-        Ok(Ok(set)) => {
-            let delay = task.delay;
-            let mut judge = GameJudge { alloc, set, delay };
-            put_told(alloc, &mut judge, input, out, errors, task.progress)
-        }
-        Ok(Err(refusal)) => put_refusal(out, refusal),
-        Err(_) => put_refusal(out, Refusal::Memory),
-    }
-}
-
-/// Writes the outcomes by the folder at a path, or the refusal of its manifest or of the folder.
-fn answer_in<D: Disk, I: Input, W: Output, E: Write>(
-    alloc: Global,
-    task: &FollowGames<'_>,
-    place: &FolderPlace<'_, D>,
-    input: &I,
-    out: &mut W,
-    errors: &mut E,
-) -> Result<u8, WriteFault>
-    ensures written { PutsByFolder (D.facts place.now.disk.now) place.now.path.now (told_by place.now.manifest.now) (TellsGameByFolder task.now.delay (D.facts place.now.disk.now)) HasStartFen (I.facts input.now) (W.contents out.old) (W.contents out.new) result }
-    ensures quiet { task.now.progress ≡ false → errors.new ≡ errors.old }
-    ensures cause { OnErr result (HasFailed W.facts) }
-{
-    let arena = arena_for(alloc, task.memory);
-    match OpenFolder::at(alloc, place.disk, place.path, place.manifest, &arena) {
-        Ok(Ok(folder)) => {
-            let delay = task.delay;
-            let mut judge = FolderGameJudge {
-                alloc,
-                folder,
-                delay,
-            };
-            put_told(alloc, &mut judge, input, out, errors, task.progress)
-        }
-        Ok(Err(refusal)) => put_refusal(out, refusal),
-        Err(_) => put_refusal(out, Refusal::Memory),
-    }
-}
-
-/// Writes the outcome of the game of each line of the input as it comes, by the tables of a folder, or the refusal of these.
-/// Returns the status, 0 where all moves of all games are legal, else 1.
+/// Answers each line with the outcome of its game.
 ///
-/// A line is a FEN text, a tab and moves in coordinates, with spaces between them; without a tab it is a start alone. It is told as
-/// `game` tells it: `refused FEN ..` of its start, `refused move 2` of a word that is no move, `illegal 2`, `ruled 2 TableDraw` or
-/// `open 2`. Each line is answered before the next one has to arrive, and memory is that of the longest line. Where memory is
-/// refused, the line `refused memory` follows the whole lines before it; where the input fails, `refused files`. With
-/// `--progress` the number of lines done goes to `errors` after every 10,000; without it nothing is written there.
-///
-/// A table is read when a position of a game asks for it, and the file of one that is at fault is refused as the answer of each game that
-/// needs it. With `--all-tables` all are read before, and the first file at fault is refused.
-pub fn answer<D: Disk, I: Input, W: Output, E: Write>(
-    alloc: Global,
-    task: &FollowGames<'_>,
-    sources: &Inputs,
-    disk: &D,
-    input: &I,
-    out: &mut W,
-    errors: &mut E,
-) -> Result<u8, WriteFault>
-    ensures written { Puts (D.facts disk.now) (I.facts input.now) task.now sources.now (W.contents out.old) (W.contents out.new) result }
-    ensures quiet { task.now.progress ≡ false → errors.new ≡ errors.old }
-    ensures cause { OnErr result (HasFailed W.facts) }
-{
-    match read_when_asked(!task.all_tables, Some(task.tables)) {
-        Some(path) => {
-            let manifest = sources.manifest();
-            let place = FolderPlace {
-                disk,
-                path,
-                manifest,
-            };
-            answer_in(alloc, task, &place, input, out, errors)
-        }
-        None => answer_from(alloc, task, sources, input, out, errors),
+/// A line is a FEN text, a tab and moves in coordinates, with spaces between them; without a tab it is a start alone. It is answered as
+/// `game` answers it: `refused FEN ..` of its start, `refused move 2` of a word that is no move, `illegal 2`, `ruled 2 TableDraw` or
+/// `open 2`. An answer is complete where all moves are legal.
+impl<'a> LineTask for FollowGames<'a> {
+    ghost use Rattle.table_commands.specs.Games.{games_asking};
+
+    ghost asking = { games_asking };
+
+    fn names(&self) -> InputPaths<'_> {
+        self.places()
+    }
+
+    fn asked_folder(&self) -> Option<&str> {
+        read_when_asked(!self.all_tables, Some(self.tables))
+    }
+
+    fn memory(&self) -> Option<Megabytes> {
+        self.memory
+    }
+
+    fn answer_by_folder<S: System>(
+        &self,
+        alloc: Global,
+        folder: OpenFolder<'_, '_, S>,
+        system: &S,
+        timeline: &mut S::Timeline,
+    ) -> Result<u8, WriteFault> {
+        let delay = self.delay;
+        let mut judge = FolderGameJudge {
+            alloc,
+            folder,
+            delay,
+        };
+        answer_lines(alloc, &mut judge, system, timeline, self.progress)
+    }
+
+    fn answer_by_tables<S: System>(
+        &self,
+        alloc: Global,
+        set: Set<'_>,
+        system: &S,
+        timeline: &mut S::Timeline,
+    ) -> Result<u8, WriteFault> {
+        let delay = self.delay;
+        let mut judge = GameJudge { alloc, set, delay };
+        answer_lines(alloc, &mut judge, system, timeline, self.progress)
     }
 }

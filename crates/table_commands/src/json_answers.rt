@@ -4,31 +4,35 @@ ghost use Rattle.std.specs.Prelude.{◌≡◌, ◌++◌, IfOk, IsErrOf, OnErr, O
 ghost use Rattle.std.specs.Io.KnownBytes.{Appends};
 ghost use Rattle.table_commands.specs.Inside.JsonLines.{IsPositionLine};
 ghost use Rattle.answer_parts.specs.Asked.{reply_of};
+ghost use Rattle.answer_parts.specs.Printing.{OutputFails};
 ghost use Rattle.table_commands.specs.FolderAnswers.{refused_table_in};
-ghost use Rattle.table_commands.specs.JsonAnswers.{TellsJsonByFolder};
+ghost use Rattle.table_commands.specs.JsonAnswers.{AnswersJson, LacksRoomForJson};
 ghost use Rattle.answer_parts.specs.JsonAnswers.{json_reply};
 ghost use Rattle.answer_parts.specs.Reply.{IsText};
 ghost use Rattle.board_core.specs.Position.{IsPosition};
 ghost use Rattle.fen_text.specs.Fen.{SpellsPosition};
 ghost use Rattle.json_lines.specs.Told.{is_done};
+ghost use Rattle.line_events.specs.Writing.{WritesAnswer};
 ghost use Rattle.table_folder.specs.Faults.{file_fault_name};
 ghost use Rattle.json_lines.specs.Objects.{json_text, line_json};
 ghost use Rattle.json_lines.specs.declared.told.JsonLine.TheVariants as line;
-ghost use Rattle.line_teller.specs.ToldLines.{HasFailed, HasFront};
 ghost use Rattle.move_msg.specs.TextLines.{ended};
+ghost use Rattle.timeline.specs.Outsides.{AddsSome};
 
 use crate::folders::OpenFolder;
-use answer_parts::{Answer, put_json_fault};
+use answer_parts::Answer;
 use arrayvec::ArrayString;
 use board_core::Position;
 use fen_text::read;
 use json_lines::{Ask, JsonLine, put_json_line};
 use judge_core::Set;
-use line_teller::{LineHandler, TellFault};
+use line_events::{LineAnswerer, write_answer};
+use line_teller::TellFault;
 use std::alloc::{AllocError, Global};
 use std::io::Write;
-use system_io::{Disk, Output, WriteFault};
+use system_io::WriteFault;
 use table_folder::FileRefusal;
+use timeline::System;
 
 /// Writes an object and a line feed.
 fn put_json<W: Write>(out: &mut W, line: &JsonLine) -> Result<(), WriteFault>
@@ -62,31 +66,20 @@ pub(crate) fn answer_as_json(alloc: Global, line: &JsonLine) -> Result<Answer, A
     }
 }
 
-/// Writes an object and a line feed, for which memory is taken but where a text is no position.
-fn put_told<W: Output>(alloc: Global, out: &mut W, told: &JsonLine) -> Result<(), TellFault>
-    ensures written { OnOk result (Appends (W.contents out.old) (W.contents out.new) (ended (json_text (line_json told.now)))) }
-    ensures front { IsErrOf result TellFault.Io → HasFront (W.contents out.old) (W.contents out.new) (ended (json_text (line_json told.now))) }
-    ensures memory { IsErrOf result TellFault.OutOfMemory → IsPositionLine told.now × (W.contents out.new ≡ W.contents out.old) }
-    ensures cause { IsErrOf result TellFault.Io → HasFailed W.facts }
+/// The answer that is an object. Memory is taken for it, but where a text is no position.
+fn answer_of(alloc: Global, told: &JsonLine) -> Result<Answer, AllocError>
+    ensures is { IfOk result (λ a. reply_of a ≡ json_reply told.now) }
+    ensures memory { OnErr result (IsPositionLine told.now) }
 {
-    if let JsonLine::Fault(fault) = told {
-        return match put_json_fault(out, *fault) {
-            Ok(()) => Ok(()),
-            Err(_) => Err(TellFault::Io),
-        };
-    }
-    let Ok(text) = text_of(alloc, told) else {
-        return Err(TellFault::OutOfMemory);
-    };
-    match out.put(&text) {
-        Ok(()) => Ok(()),
-        Err(_) => Err(TellFault::Io),
+    match told {
+        JsonLine::Fault(fault) => Ok(Answer::JsonFault(*fault)),
+        _ => answer_as_json(alloc, told),
     }
 }
 
 /// Answers a line with an object of JSON for its position.
 #[derive(Drop)]
-pub(crate) struct JsonTeller<'a> {
+pub(crate) struct JsonAnswerer<'a> {
     /// The allocator.
     pub(crate) alloc: Global,
     /// The tables.
@@ -97,20 +90,37 @@ pub(crate) struct JsonTeller<'a> {
     pub(crate) with_moves: bool,
 }
 
-impl<'a> LineHandler for JsonTeller<'a> {
+impl<'a, S: System> LineAnswerer<S> for JsonAnswerer<'a> {
+    ghost use Rattle.line_events.specs.Writing.{at_once};
     ghost use Rattle.table_commands.specs.JsonAnswers.{TellsJson};
     ghost use Rattle.answer_parts.specs.Reply.{IsText};
 
-    ghost tells = { λ t. TellsJson t.ask t.with_moves t.set.tables };
+    ghost Known = { Unit {0} };
 
-    ghost takes_memory = { IsText };
+    ghost reads_from = { λ _ _. Unit {0} };
 
-    fn tell<W: Output>(&mut self, line: &[u8], out: &mut W) -> Result<bool, TellFault> {
-        match JsonLine::of_text(self.alloc, &mut self.set, line, self.ask, self.with_moves) {
-            Ok(told) => match put_told(self.alloc, out, &told) {
-                Ok(()) => Ok(told.is_done()),
-                Err(fault) => Err(fault),
-            },
+    ghost known = { λ _. tt };
+
+    ghost answering = { λ t. at_once (TellsJson t.ask t.with_moves t.set.tables) IsText };
+
+    fn answer_line(
+        &mut self,
+        system: &S,
+        timeline: &mut S::Timeline,
+        line: &[u8],
+    ) -> Result<bool, TellFault> {
+        let told = match JsonLine::of_text(
+            self.alloc,
+            &mut self.set,
+            line,
+            self.ask,
+            self.with_moves,
+        ) {
+            Ok(told) => told,
+            Err(_) => return Err(TellFault::OutOfMemory),
+        };
+        match answer_of(self.alloc, &told) {
+            Ok(answer) => write_answer(system, timeline, &answer),
             Err(_) => Err(TellFault::OutOfMemory),
         }
     }
@@ -138,59 +148,77 @@ pub(crate) fn refused_line(refusal: &FileRefusal) -> JsonLine
 
 /// Answers a line with an object of JSON for its position, by the tables of a folder, of which those are read that it asks for.
 #[derive(Drop)]
-pub(crate) struct FolderJsonTeller<'r, D: Disk> {
+pub(crate) struct FolderJsonAnswerer<'r, 's, S: System> {
     /// The allocator.
     pub(crate) alloc: Global,
     /// The folder.
-    pub(crate) folder: OpenFolder<'r, D>,
+    pub(crate) folder: OpenFolder<'r, 's, S>,
     /// Whether the object has the legal moves.
     pub(crate) with_moves: bool,
 }
 
-impl<'r, D: Disk> FolderJsonTeller<'r, D> {
+impl<'r, 's, S: System> FolderJsonAnswerer<'r, 's, S> {
     /// The object of a position, or that of the refusal of a file.
-    fn line_at(&mut self, text: &[u8], position: &Position) -> Result<JsonLine, AllocError>
+    fn line_at(
+        &mut self,
+        timeline: &mut S::Timeline,
+        text: &[u8],
+        position: &Position,
+    ) -> Result<JsonLine, AllocError>
         requires spelled { SpellsPosition text.now position.now }
         requires position { IsPosition position.now }
-        ensures told { IfOk result (λ l. TellsJsonByFolder self.old.with_moves (D.facts self.old.folder.disk) self.old.folder.folder text.now (record { words = json_text (line_json l); done = is_done l })) }
-        ensures folder { self.new.folder ≡ self.old.folder }
+        ensures told { IfOk result (λ l. AddsSome (S.outside self.old.folder.on.disk.system.now) timeline.old timeline.new (AnswersJson self.old.with_moves (S.outside self.old.folder.on.disk.system.now).disk self.old.folder.on.folder self.old.folder.tables self.new.folder.tables text.now l)) }
+        ensures room { OnErr result (AddsSome (S.outside self.old.folder.on.disk.system.now) timeline.old timeline.new (LacksRoomForJson self.old.with_moves (S.outside self.old.folder.on.disk.system.now).disk self.old.folder.on.folder self.old.folder.tables text.now)) }
+        ensures folder { self.new.folder.on ≡ self.old.folder.on }
         ensures moves { self.new.with_moves ≡ self.old.with_moves }
     {
-        match self.folder.json_line(position, self.with_moves)? {
-            Ok(line) => Ok(line),
-            Err(refusal) => Ok(refused_line(&refusal)),
+        match self.folder.json_line(timeline, position, self.with_moves) {
+            Ok(Ok(line)) => Ok(line),
+            Ok(Err(refusal)) => Ok(refused_line(&refusal)),
+            Err(fault) => Err(fault),
         }
     }
 
     /// The object of a line.
-    fn line_of(&mut self, text: &[u8]) -> Result<JsonLine, AllocError>
-        ensures told { IfOk result (λ l. TellsJsonByFolder self.old.with_moves (D.facts self.old.folder.disk) self.old.folder.folder text.now (record { words = json_text (line_json l); done = is_done l })) }
+    fn line_of(&mut self, timeline: &mut S::Timeline, text: &[u8]) -> Result<JsonLine, AllocError>
+        ensures told { IfOk result (λ l. AddsSome (S.outside self.old.folder.on.disk.system.now) timeline.old timeline.new (AnswersJson self.old.with_moves (S.outside self.old.folder.on.disk.system.now).disk self.old.folder.on.folder self.old.folder.tables self.new.folder.tables text.now l)) }
         ensures position { IfOk result (λ l. IsPositionLine l → IsText text.now) }
-        ensures memory { OnErr result (IsText text.now) }
-        ensures folder { self.new.folder ≡ self.old.folder }
+        ensures room { OnErr result (AddsSome (S.outside self.old.folder.on.disk.system.now) timeline.old timeline.new (LacksRoomForJson self.old.with_moves (S.outside self.old.folder.on.disk.system.now).disk self.old.folder.on.folder self.old.folder.tables text.now)) }
+        ensures folder { self.new.folder.on ≡ self.old.folder.on }
         ensures moves { self.new.with_moves ≡ self.old.with_moves }
     {
         match read(text) {
-            Ok(position) => self.line_at(text, &position),
+            Ok(position) => self.line_at(timeline, text, &position),
             Err(fault) => Ok(JsonLine::Fault(fault)),
         }
     }
 }
 
-impl<'r, D: Disk> LineHandler for FolderJsonTeller<'r, D> {
-    ghost use Rattle.table_commands.specs.JsonAnswers.{TellsJsonByFolder};
-    ghost use Rattle.answer_parts.specs.Reply.{IsText};
+impl<'r, 's, S: System> LineAnswerer<S> for FolderJsonAnswerer<'r, 's, S> {
+    ghost use Rattle.std.specs.Prelude.{◌≡◌};
+    ghost use Rattle.judge_core.specs.Tables.{Tables};
+    ghost use Rattle.table_commands.specs.JsonAnswers.{json_lines_in};
 
-    ghost tells = { λ t. TellsJsonByFolder t.with_moves (D.facts t.folder.disk) t.folder.folder };
+    ghost Known = { Tables };
 
-    ghost takes_memory = { IsText };
+    ghost reads_from = { λ t system. t.folder.on.disk.system.now ≡ system };
 
-    fn tell<W: Output>(&mut self, line: &[u8], out: &mut W) -> Result<bool, TellFault> {
-        match self.line_of(line) {
-            Ok(told) => match put_told(self.alloc, out, &told) {
-                Ok(()) => Ok(told.is_done()),
-                Err(fault) => Err(fault),
-            },
+    ghost known = { λ t. t.folder.tables };
+
+    ghost answering = { λ t. json_lines_in t.with_moves (S.outside t.folder.on.disk.system.now).disk t.folder.on.folder };
+
+    fn answer_line(
+        &mut self,
+        system: &S,
+        timeline: &mut S::Timeline,
+        line: &[u8],
+    ) -> Result<bool, TellFault> {
+        let told = match self.line_of(timeline, line) {
+            Ok(told) => told,
+            Err(_) => return Err(TellFault::OutOfMemory),
+        };
+        match answer_of(self.alloc, &told) {
+            Ok(answer) => write_answer(system, timeline, &answer),
             Err(_) => Err(TellFault::OutOfMemory),
         }
     }

@@ -7,6 +7,7 @@ ghost use Rattle.table_folder.specs.Settled.{IsAlone};
 ghost use Rattle.table_commands.specs.FolderReads.{MakesInFolder, made_reply};
 ghost use Rattle.command_line.specs.LazyFolders.{read_when_asked};
 ghost use Rattle.answer_parts.specs.Asked.{reply_of};
+ghost use Rattle.answer_parts.specs.Lines.{refusal_words};
 ghost use Rattle.answer_parts.specs.Looks.{gathered};
 ghost use Rattle.answer_parts.specs.Reply.{ByTables};
 ghost use Rattle.move_msg.specs.ToldBy.{told_by};
@@ -43,7 +44,7 @@ fn verdict_in<F: TableFiles>(
     place: &FolderPlace<'_, F>,
     position: &Position,
 ) -> Result<Answer, AllocError>
-    ensures { PassesSome (F.events place.now.disk.now log.old) (F.events place.now.disk.now log.new) (MakesInFolder (F.facts place.now.disk.now) place.now.path.now (told_by place.now.manifest.now) (IsAlone position.now) (JudgedBy position.now) (made_reply result)) }
+    ensures { PassesSome (F.events place.now.disk.now log.old) (F.events place.now.disk.now log.new) (MakesInFolder (F.facts place.now.disk.now) place.now.path.now (told_by place.now.manifest.now) refusal_words (IsAlone position.now) (JudgedBy position.now) (made_reply result)) }
 {
     match columns_in(alloc, log, place, position)? {
         Ok(columns) => Ok(Answer::One(Line::Ruling(columns.verdict), true)),

@@ -2,34 +2,37 @@
 
 ghost use Rattle.std.specs.Prelude.{[], IfErr, IfOk};
 ghost use Rattle.game_teller.specs.Judges.{IsLater, JudgesOn, StandsBy};
-ghost use Rattle.judge_core.specs.Games.{IsOutcome};
 ghost use Rattle.table_folder.specs.Folders.{AreOf};
-ghost use Rattle.table_folder.specs.Settled.{IsInPlayBy, IsRefusedAt};
+ghost use Rattle.table_folder.specs.Reads.{PassesSome, refusal_of};
+ghost use Rattle.table_folder.specs.Settled.{IsAlone, IsRefusedAt};
 ghost use Rattle.table_commands.specs.Follow.{by_folder};
-ghost use Rattle.table_commands.specs.FolderAnswers.{Finds};
+ghost use Rattle.table_commands.specs.FolderReads.{FindsBy, OpensMissed};
+ghost use Rattle.table_commands.specs.Inside.Courses.{course_of};
+ghost use Rattle.table_commands.specs.Courses.{IsOutcomeOf, in_play_of};
 
 use board_core::{Delay, Move, Position};
 use judge_core::{GameOutcome, Set, Standing};
 use std::alloc::{AllocError, Global};
-use system_io::Disk;
 use table_folder::laws::{positions_in_play_are_played, settled_games_stay};
-use table_folder::{FileRefusal, TableFolder};
+use table_folder::{FileRefusal, TableFiles, TableFolder};
 
 /// Where a game stands before its first move, by the tables of a folder that the start asks for.
-pub(crate) fn begin<'r, D: Disk>(
+pub(crate) fn begin<'r, F: TableFiles>(
     alloc: Global,
-    folder: &TableFolder<'r, D>,
+    log: &mut F::Log,
+    folder: &TableFolder<'r, F>,
     set: &mut Set<'r>,
     start: &Position,
 ) -> Result<Result<Standing, FileRefusal>, AllocError>
-    requires { AreOf (D.facts folder.now.disk) folder.now.folder set.old.tables }
-    ensures opened { AreOf (D.facts folder.now.disk) folder.now.folder set.new.tables }
-    ensures begun { IfOk result (λ found. IfOk found (StandsBy (by_folder (D.facts folder.now.disk) folder.now.folder set.new.tables) start.now [])) }
-    ensures refused { IfOk result (λ found. IfErr found (IsRefusedAt (D.facts folder.now.disk) folder.now.folder start.now)) }
-    ensures later { IsLater (by_folder (D.facts folder.now.disk) folder.now.folder set.old.tables) (by_folder (D.facts folder.now.disk) folder.now.folder set.new.tables) }
+    requires { AreOf (F.facts folder.now.disk) folder.now.folder set.old.tables }
+    ensures opened { AreOf (F.facts folder.now.disk) folder.now.folder set.new.tables }
+    ensures begun { IfOk result (λ found. IfOk found (StandsBy (by_folder (F.facts folder.now.disk) folder.now.folder set.new.tables) start.now [])) }
+    ensures refused { IfOk result (λ found. IfErr found (IsRefusedAt (F.facts folder.now.disk) folder.now.folder start.now)) }
+    ensures later { IsLater (by_folder (F.facts folder.now.disk) folder.now.folder set.old.tables) (by_folder (F.facts folder.now.disk) folder.now.folder set.new.tables) }
+    ensures made { PassesSome (F.events folder.now.disk log.old) (F.events folder.now.disk log.new) (OpensMissed (F.facts folder.now.disk) folder.now.folder (IsAlone start.now) set.old.tables set.new.tables (refusal_of result)) }
 {
     settled_games_stay(folder);
-    if let Err(refusal) = folder.settle_one(&mut (), alloc, set, start)? {
+    if let Err(refusal) = folder.settle_one(log, alloc, set, start)? {
         return Ok(Err(refusal));
     }
     match set.begin(alloc, start) {
@@ -39,21 +42,23 @@ pub(crate) fn begin<'r, D: Disk>(
 }
 
 /// Where a game stands one legal move later, which led to this position, by the tables of a folder that the position asks for.
-pub(crate) fn move_on<'r, D: Disk>(
+pub(crate) fn move_on<'r, F: TableFiles>(
     alloc: Global,
-    folder: &TableFolder<'r, D>,
+    log: &mut F::Log,
+    folder: &TableFolder<'r, F>,
     set: &mut Set<'r>,
     standing: &Standing,
     position: Position,
 ) -> Result<Result<Standing, FileRefusal>, AllocError>
-    requires { AreOf (D.facts folder.now.disk) folder.now.folder set.old.tables }
-    ensures opened { AreOf (D.facts folder.now.disk) folder.now.folder set.new.tables }
-    ensures on { IfOk result (λ found. IfOk found (JudgesOn (by_folder (D.facts folder.now.disk) folder.now.folder set.old.tables) (by_folder (D.facts folder.now.disk) folder.now.folder set.new.tables) standing.now position)) }
-    ensures refused { IfOk result (λ found. IfErr found (IsRefusedAt (D.facts folder.now.disk) folder.now.folder position)) }
-    ensures later { IsLater (by_folder (D.facts folder.now.disk) folder.now.folder set.old.tables) (by_folder (D.facts folder.now.disk) folder.now.folder set.new.tables) }
+    requires { AreOf (F.facts folder.now.disk) folder.now.folder set.old.tables }
+    ensures opened { AreOf (F.facts folder.now.disk) folder.now.folder set.new.tables }
+    ensures on { IfOk result (λ found. IfOk found (JudgesOn (by_folder (F.facts folder.now.disk) folder.now.folder set.old.tables) (by_folder (F.facts folder.now.disk) folder.now.folder set.new.tables) standing.now position)) }
+    ensures refused { IfOk result (λ found. IfErr found (IsRefusedAt (F.facts folder.now.disk) folder.now.folder position)) }
+    ensures later { IsLater (by_folder (F.facts folder.now.disk) folder.now.folder set.old.tables) (by_folder (F.facts folder.now.disk) folder.now.folder set.new.tables) }
+    ensures made { PassesSome (F.events folder.now.disk log.old) (F.events folder.now.disk log.new) (OpensMissed (F.facts folder.now.disk) folder.now.folder (IsAlone position) set.old.tables set.new.tables (refusal_of result)) }
 {
     settled_games_stay(folder);
-    if let Err(refusal) = folder.settle_one(&mut (), alloc, set, &position)? {
+    if let Err(refusal) = folder.settle_one(log, alloc, set, &position)? {
         return Ok(Err(refusal));
     }
     match set.move_on(alloc, standing, position) {
@@ -62,25 +67,37 @@ pub(crate) fn move_on<'r, D: Disk>(
     }
 }
 
-/// What the game of these moves from this start comes to, whose verdicts by tables must hold for so many further plies; or the refusal of
-/// the file of a table that a position needs before which no ply has a verdict. Each ply is judged before the move from it is played,
-/// so nothing is asked of the positions behind the first verdict.
-pub(crate) fn judge_game<'r, D: Disk>(
+/// A start, moves from there, and for how many further plies a verdict by tables must hold.
+#[derive(Drop)]
+pub(crate) struct Course<'g> {
+    /// The start.
+    pub(crate) start: &'g Position,
+    /// The moves.
+    pub(crate) moves: &'g [Move],
+    /// For how many further plies a verdict by tables must hold.
+    pub(crate) delay: Delay,
+}
+
+/// What a game comes to by the tables of a folder; or the refusal of the file of a table that a position needs before which no ply has a
+/// verdict. Each ply is judged before the move from it is played, so nothing is asked of the positions behind the first verdict.
+pub(crate) fn judge_game<'r, F: TableFiles>(
     alloc: Global,
-    folder: &TableFolder<'r, D>,
+    log: &mut F::Log,
+    folder: &TableFolder<'r, F>,
     set: &mut Set<'r>,
-    start: &Position,
-    moves: &[Move],
-    delay: Delay,
+    game: &Course<'_>,
 ) -> Result<Result<GameOutcome, FileRefusal>, AllocError>
-    requires { AreOf (D.facts folder.now.disk) folder.now.folder set.old.tables }
-    ensures opened { AreOf (D.facts folder.now.disk) folder.now.folder set.new.tables }
-    ensures found { IfOk result (Finds (D.facts folder.now.disk) folder.now.folder (IsInPlayBy start.now moves.now delay) (λ tables outcome. IsOutcome (record { start = start.now; tables = tables; delay = delay }) moves.now outcome)) }
+    requires { AreOf (F.facts folder.now.disk) folder.now.folder set.old.tables }
+    ensures opened { AreOf (F.facts folder.now.disk) folder.now.folder set.new.tables }
+    ensures made { PassesSome (F.events folder.now.disk log.old) (F.events folder.now.disk log.new) (FindsBy (F.facts folder.now.disk) folder.now.folder (in_play_of (course_of game.now)) (IsOutcomeOf (course_of game.now)) set.old.tables set.new.tables result) }
 {
     positions_in_play_are_played();
-    let mut standing = match begin(alloc, folder, set, start)? {
-        Ok(standing) => standing,
-        Err(refusal) => return Ok(Err(refusal)),
+    let moves = game.moves;
+    let delay = game.delay;
+    let mut standing = match begin(alloc, log, folder, set, game.start) {
+        Ok(Ok(standing)) => standing,
+        Ok(Err(refusal)) => return Ok(Err(refusal)),
+        Err(fault) => return Err(fault),
     };
     for ply in 0..moves.len() {
         if let Some(verdict) = standing.verdict(delay) {
@@ -89,9 +106,10 @@ pub(crate) fn judge_game<'r, D: Disk>(
         let Some(position) = standing.position().play(moves[ply]) else {
             return Ok(Ok(GameOutcome::Illegal { place: ply }));
         };
-        standing = match move_on(alloc, folder, set, &standing, position)? {
-            Ok(next) => next,
-            Err(refusal) => return Ok(Err(refusal)),
+        standing = match move_on(alloc, log, folder, set, &standing, position) {
+            Ok(Ok(next)) => next,
+            Ok(Err(refusal)) => return Ok(Err(refusal)),
+            Err(fault) => return Err(fault),
         };
     }
     match standing.verdict(delay) {

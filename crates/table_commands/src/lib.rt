@@ -1,41 +1,44 @@
 //! The commands that answer once, from tables: `judge`, `probe`, `probes`, `root`, `game`, `games`, `pgn`, `follow`.
 //!
-//! Each is a module with a function `answer`, which takes the task that `parse` of command_line made, and what was read for it. Tables are
-//! read before, or each when a position asks for it.
+//! `judge`, `probe`, `root::answer_text` and `game` take what was read for a task and make the answer, and read tables meanwhile. `follow`,
+//! `pgn` and the tasks that answer lines (`answer_lines_of` of a `LineTask`) do all that their command does outside but the end of the
+//! output, and return the status. All are over a system with a timeline; the contracts have each event, in order.
 //!
 //! Inside: a file for each command, with its definitions in the file of the same name in `specs/`; `json_answers`, answers as JSON;
-//! `folders` reads a table when a position asks for it, `judging` those that the plies of a game ask for.
+//! `folders` reads a table when a position asks for it, `judging` those that the plies of a game ask for; `line_tasks`, what is done
+//! around the answers to lines.
 //!
-//! Definitions, in reading order: `FolderAnswers`, `FolderReads`, `TableAnswers`, `JsonAnswers`, then those of the commands. Its cases stand in `rows`.
+//! Definitions, in reading order: `FolderReads`, `FolderAnswers`, `Courses`, `JsonAnswers`, `LineTasks`, then those of the commands. Its cases
+//! stand in `rows`.
 //!
 //! - CLAIM: `judge::answer`, `probe::answer`: they answer as `Judges` and `Probes` say, with all that is read for it in order: with `--lazy`
 //!   the folder is listed once, and then the file of each table that the position misses is read once, up to one that is refused; else
 //!   nothing more is read.
-//! - CLAIM: `probes::answer`, clause `written`; `root::answer`, clause `written`;
-//!   `game::answer`, clause `ok`; `games::answer`, clause `written`; `pgn::answer`, clause `told`: without `--all-tables`, `--determined` and `--soon`, answer by tables of the folder of which none is missing at the
-//!   positions that they need, or refuse the file of one that is needed (`ByFolder`, `PutsByFolder`, `IsRulingIn`).
-//! - CLAIM: `pgn::answer`, clause `told`: `pgn` refuses its tables first; then it tells the games of its file or of the input as
-//!   `GameTeller::tell_games` of pgn_teller has them, and last the sums.
-//! - CLAIM: `games::answer`, clause `written`: `games` answers each line of the input as `game` answers its words.
-//! - CLAIM: `probes::answer`, clause `written`; `root::answer`, clause `written`: `--json` writes one object a line, and `--determined` tells
-//!   the determined values of judge_core in place of the strict ones. `--soon` of `probes` tells the value alone, by the rule of
-//!   `Set::known_wdl`; beside `--json` or `--determined` it is a misuse.
-//! - CLAIM: `follow::answer`, clause `told`: `follow` refuses the text of its start and its tables in this order; then each ply of the game
-//!   is told as `game_teller::follow_game` has it, by what `game` tells of the same moves. What it tells by a folder stays true whatever
-//!   more tables of the folder are read (`IsFollowedIn`). That each line has gone out before the next move is awaited is in the contract of
-//!   that function alone.
+//! - CLAIM: `root::answer_text`; `game::answer`: the same of `root FEN` and `game` (`RanksText`, `PlaysGame`). Of a game the tables of a ply
+//!   are read when it is judged, and none behind the first ply with a verdict.
+//! - CLAIM: `answer_lines_of`, clause `made`: each line of the input is answered before the next is taken from it; the tables that the line
+//!   misses are read in between, and the file of one at fault is the answer of each line that needs it. With `--all-tables` all tables are
+//!   read first, and the first file at fault is refused.
+//! - CLAIM: `pgn::answer`, clause `made`: `pgn` refuses its tables first; then it tells the games of its file or of the input as
+//!   `report` of pgn_teller has them, and last the sums.
+//! - CLAIM: `follow::answer`, clause `made`: `follow` reads what it names, refuses the text of its start and its tables in this order; then the
+//!   game is followed as `follow_game` of game_teller has it, with each table that a ply asks for read between the move's line and the ply's.
+//! - CLAIM: `answer_lines_of`, clause `cause`; `pgn::answer`, clause `cause`; `follow::answer`, clause `cause`: an error comes only where the
+//!   output failed.
 #![tactic(auto)]
 
 mod folders;
 pub mod follow;
 pub mod game;
-pub mod games;
+mod games;
 mod json_answers;
 pub mod judge;
 mod judging;
+mod line_tasks;
 pub mod pgn;
 pub mod probe;
-pub mod probes;
+mod probes;
 pub mod root;
 
-pub use folders::arena_for;
+pub use folders::{OpenFolder, arena_for};
+pub use line_tasks::{LineTask, answer_lines_of};

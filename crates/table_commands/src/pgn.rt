@@ -1,25 +1,29 @@
 //! `pgn`: what tables say of the games of a PGN file, a line each.
 
-ghost use Rattle.std.specs.Prelude.{◌≡◌, OnErr};
+ghost use Rattle.std.specs.Prelude.{◌≡◌, IfOk, OnErr, option_map};
 ghost use Rattle.move_msg.specs.ToldBy.{told_by};
-ghost use Rattle.line_teller.specs.ToldLines.{HasFailed};
-ghost use Rattle.pgn_teller.specs.Tellings.{no_sums, terms_of};
-ghost use Rattle.table_commands.specs.Pgn.{Puts, PutsByAll, PutsFile, PutsPgn, PutsInput, PutsOf, PutsOfFolder, form_by, terms_by, unread_words};
-ghost use Rattle.table_commands.specs.FolderAnswers.{PutsInFolder};
-ghost use Rattle.answer_parts.specs.Lines.{refusal_words};
+ghost use Rattle.answer_parts.specs.Printing.{OutputFails, Performs};
+ghost use Rattle.pgn_teller.specs.Ratings.{ruled_by};
+ghost use Rattle.pgn_teller.specs.Reports.{terms_of};
+ghost use Rattle.answer_parts.specs.Looks.{gathered};
+ghost use Rattle.table_commands.specs.FolderReads.{DoesInFolder, DoesOfGiven};
+ghost use Rattle.table_commands.specs.Pgn.{JudgesBy, JudgesIn, JudgesOf, JudgesPgn, OpensLines, ReportsFile, form_by, found_as, terms_by};
+ghost use Rattle.command_line.specs.LazyFolders.{read_when_asked};
+ghost use Rattle.timeline.specs.Outsides.{AddsSome};
 
 use crate::folders::{FolderPlace, OpenFolder, arena_for};
-use answer_parts::{Refusal, gather, put_refusal, status_if};
+use crate::judging::Course;
+use answer_parts::{Refusal, gather, print_refusal, print_unread, status_if};
 use board_core::Delay;
 use command_line::{CacheSize, JudgePgn, read_when_asked};
-use pgn_games::{Game, PgnReader};
-use pgn_teller::{
-    Form as LineForm, GameRuler, GameTeller, Ruled, SetRuler, Sums, Telling, ruled_by,
-};
+use judge_core::GameOutcome;
+use pgn_games::Game;
+use pgn_teller::{Form as LineForm, GameReporter, GameRuler, Ruled, SetRuler, report, ruled_by};
 use std::alloc::{AllocError, Global};
-use system_io::{Disk, Input, LineDisk, LineReader, Output, ReadFault, WriteFault};
-use table_folder::FileRefusal;
-use task_files::Inputs;
+use system_io::{ReadFault, WriteFault};
+use table_folder::{FileRefusal, SystemFiles};
+use task_files::{Inputs, read_inputs};
+use timeline::System;
 
 /// How lines are written.
 fn form_by(json: bool) -> LineForm
@@ -32,178 +36,185 @@ fn form_by(json: bool) -> LineForm
     }
 }
 
-/// Tells the games of lines that are read as they come, and then the sums. Returns the status.
-fn tell_games<R: GameRuler, L: LineReader + Drop, W: Output>(
-    alloc: Global,
-    teller: &mut GameTeller<R>,
-    lines: L,
-    out: &mut W,
-) -> Result<u8, WriteFault>
-    ensures told { PutsPgn (R.rules teller.old.ruler) (terms_of teller.old) teller.old.sums (L.LineReader.facts lines).fails (L.LineReader.facts lines).left (W.contents out.old) (W.contents out.new) result }
-    ensures cause { OnErr result (HasFailed W.facts) }
+/// By what rules the games.
+fn reporter_by<R>(alloc: Global, task: &JudgePgn<'_>, ruler: R) -> GameReporter<R>
+    ensures terms { terms_of result ≡ terms_by task.now }
+    ensures ruler { result.ruler ≡ ruler }
 {
-    let mut reader = PgnReader::new(alloc, lines);
-    match teller.tell_games(&mut reader, out) {
-        Ok(Telling::Whole) => match teller.tell_sums(out) {
-            Ok(well) => Ok(status_if(well)),
-            Err(fault) => Err(fault),
-        },
-        Ok(Telling::CutShort) => Ok(1),
-        Err(fault) => Err(fault),
+    GameReporter {
+        alloc,
+        ruler,
+        form: form_by(task.json),
+        only_differing: task.differ,
+    }
+}
+
+/// What a game is ruled as by what it comes to.
+fn ruling_by(
+    found: Result<Result<GameOutcome, FileRefusal>, AllocError>,
+) -> Result<Result<Option<Ruled>, FileRefusal>, AllocError>
+    ensures { result ≡ found_as ruled_by found }
+{
+    match found {
+        Ok(Ok(outcome)) => Ok(Ok(ruled_by(outcome))),
+        Ok(Err(refusal)) => Ok(Err(refusal)),
+        Err(e) => Err(e),
     }
 }
 
 /// Rules games by the tables of a folder, of which those are read that a game asks for.
 #[derive(Drop)]
-struct FolderRuler<'r, D: Disk> {
+struct FolderRuler<'r, 's, S: System> {
     /// The folder.
-    folder: OpenFolder<'r, D>,
+    folder: OpenFolder<'r, 's, S>,
     /// For how many further plies a verdict by tables must hold.
     delay: Delay,
 }
 
-impl<'r, D: Disk> GameRuler for FolderRuler<'r, D> {
-    ghost use Rattle.table_commands.specs.Pgn.{IsRulingIn};
+impl<'r, 's, S: System> GameRuler<S> for FolderRuler<'r, 's, S> {
+    ghost use Rattle.std.specs.Prelude.{◌≡◌};
+    ghost use Rattle.judge_core.specs.Tables.{Tables};
+    ghost use Rattle.table_commands.specs.Pgn.{RulesIn};
 
-    ghost rules = { λ r. IsRulingIn r.delay (D.facts r.folder.disk) r.folder.folder };
+    ghost Known = { Tables };
+
+    ghost reads_from = { λ r system. r.folder.on.disk.system.now ≡ system };
+
+    ghost known = { λ r. r.folder.tables };
+
+    ghost rules = { λ r. RulesIn r.delay (S.outside r.folder.on.disk.system.now).disk r.folder.on.folder };
 
     fn rule(
         &mut self,
         _alloc: Global,
+        _system: &S,
+        timeline: &mut S::Timeline,
         game: &Game,
     ) -> Result<Result<Option<Ruled>, FileRefusal>, AllocError> {
-        match self.folder.outcome(&game.start, &game.moves, self.delay)? {
-            Ok(outcome) => Ok(Ok(ruled_by(outcome))),
-            Err(refusal) => Ok(Err(refusal)),
-        }
+        let course = Course {
+            start: &game.start,
+            moves: &game.moves,
+            delay: self.delay,
+        };
+        let found = self.folder.outcome(timeline, &course);
+        ruling_by(found)
     }
 }
 
-/// Why a file isn't read.
-fn unread(fault: ReadFault) -> Refusal
-    ensures { refusal_words result ≡ unread_words fault }
-{
-    match fault {
-        ReadFault::Unreadable => Refusal::Files,
-        ReadFault::OutOfMemory => Refusal::Memory,
-    }
-}
-
-/// By what rules the games, with none told yet.
-fn teller<R>(alloc: Global, task: &JudgePgn<'_>, ruler: R) -> GameTeller<R>
-    ensures terms { terms_of result ≡ terms_by task.now }
-    ensures ruler { result.ruler ≡ ruler }
-    ensures sums { result.sums ≡ no_sums }
-{
-    GameTeller {
-        alloc,
-        ruler,
-        form: form_by(task.json),
-        only_differing: task.differ,
-        sums: Sums::none(),
-    }
-}
-
-/// Tells the games of the file at a path.
-fn tell_file<R: GameRuler, D: LineDisk, W: Output>(
+/// The lines of the file that is named, or else of the input, none of them read yet.
+fn open_lines<S: System>(
     alloc: Global,
-    teller: &mut GameTeller<R>,
-    disk: &D,
-    path: &str,
-    out: &mut W,
-) -> Result<u8, WriteFault>
-    ensures told { PutsFile (R.rules teller.old.ruler) (terms_of teller.old) teller.old.sums (D.facts disk.now) path.now (W.contents out.old) (W.contents out.new) result }
-    ensures cause { OnErr result (HasFailed W.facts) }
+    file: Option<&str>,
+    system: &S,
+    timeline: &mut S::Timeline,
+) -> Result<S::Lines, ReadFault>
+    ensures { AddsSome (S.outside system.now) timeline.old timeline.new (OpensLines (S.outside system.now) (option_map (λ s. s.now) file.entry) result) }
 {
-    match disk.lines(alloc, path) {
-        Ok(lines) => tell_games(alloc, teller, lines, out),
-        Err(fault) => put_refusal(out, unread(fault)),
+    match file {
+        Some(path) => system.file_lines(timeline, alloc, path),
+        None => match system.input_lines(timeline, alloc) {
+            Ok(lines) => Ok(lines),
+            Err(_) => Err(ReadFault::OutOfMemory),
+        },
     }
 }
 
-/// Tells the games of the input.
-fn tell_input<R: GameRuler, I: Input, W: Output>(
-    alloc: Global,
-    teller: &mut GameTeller<R>,
-    input: &I,
-    out: &mut W,
-) -> Result<u8, WriteFault>
-    ensures told { PutsInput (R.rules teller.old.ruler) (terms_of teller.old) teller.old.sums (I.facts input.now) (W.contents out.old) (W.contents out.new) result }
-    ensures cause { OnErr result (HasFailed W.facts) }
-{
-    match input.lines(alloc) {
-        Ok(lines) => tell_games(alloc, teller, lines, out),
-        Err(_) => put_refusal(out, Refusal::Memory),
-    }
-}
-
-/// Tells the games of the file, or of the input, as they are ruled.
-fn tell<R: GameRuler + Drop, D: LineDisk, I: Input, W: Output>(
+/// Reports the games of the file that is named, or else of the input, as they are ruled. Returns the status.
+fn report_file<S: System, R: GameRuler<S> + Drop>(
     alloc: Global,
     task: &JudgePgn<'_>,
     ruler: R,
-    disk: &D,
-    input: &I,
-    out: &mut W,
+    system: &S,
+    timeline: &mut S::Timeline,
 ) -> Result<u8, WriteFault>
-    ensures told { PutsOf (D.facts disk.now) (I.facts input.now) task.now (R.rules ruler) (W.contents out.old) (W.contents out.new) result }
-    ensures cause { OnErr result (HasFailed W.facts) }
+    requires { R.reads_from ruler system.now }
+    ensures made { AddsSome (S.outside system.now) timeline.old timeline.new (Performs (ReportsFile (S.outside system.now).disk (S.outside system.now).input task.now (R.rules ruler) (R.known ruler)) result) }
+    ensures cause { OnErr result (OutputFails (S.outside system.now)) }
 {
-    let mut teller = teller(alloc, task, ruler);
-    match task.file {
-        Some(path) => tell_file(alloc, &mut teller, disk, path, out),
-        None => tell_input(alloc, &mut teller, input, out),
+    let mut lines = match open_lines(alloc, task.file, system, timeline) {
+        Ok(lines) => lines,
+        Err(fault) => return print_unread(system, timeline, fault),
+    };
+    let mut reporter = reporter_by(alloc, task, ruler);
+    match report(&mut reporter, system, timeline, &mut lines) {
+        Ok(well) => Ok(status_if(well)),
+        Err(fault) => Err(fault),
     }
 }
 
-/// Tells the games by the tables of files, or the refusal of the first file at fault.
-fn answer_from<D: LineDisk, I: Input, W: Output>(
+/// Reports the games by the tables of files, or writes the refusal of the first file at fault.
+fn judge_by_all<S: System>(
     alloc: Global,
     task: &JudgePgn<'_>,
-    sources: &Inputs,
-    disk: &D,
-    input: &I,
-    out: &mut W,
+    given: &Inputs,
+    system: &S,
+    timeline: &mut S::Timeline,
 ) -> Result<u8, WriteFault>
-    ensures told { PutsByAll (D.facts disk.now) (I.facts input.now) task.now sources.now (W.contents out.old) (W.contents out.new) result }
-    ensures cause { OnErr result (HasFailed W.facts) }
+    ensures made { AddsSome (S.outside system.now) timeline.old timeline.new (Performs (DoesOfGiven (gathered given.now) (JudgesOf (S.outside system.now).disk (S.outside system.now).input task.now)) result) }
+    ensures cause { OnErr result (OutputFails (S.outside system.now)) }
 {
-    match gather(alloc, sources, CacheSize::usual()) {
+    match gather(alloc, given, CacheSize::usual()) {
         Ok(Ok(set)) => {
             let delay = task.delay;
-            tell(alloc, task, SetRuler { set, delay }, disk, input, out)
+            report_file(alloc, task, SetRuler { set, delay }, system, timeline)
         }
-        Ok(Err(refusal)) => put_refusal(out, refusal),
-        Err(_) => put_refusal(out, Refusal::Memory),
+        Ok(Err(refusal)) => print_refusal(system, timeline, refusal),
+        Err(_) => print_refusal(system, timeline, Refusal::Memory),
     }
 }
 
-/// Tells the games by the folder at a path, or the refusal of its manifest or of the folder.
-fn answer_in<D: LineDisk, I: Input, W: Output>(
+/// Reports the games by the folder at a path, or writes the refusal of its manifest or of the folder.
+fn judge_in_folder<S: System>(
     alloc: Global,
     task: &JudgePgn<'_>,
-    place: &FolderPlace<'_, D>,
-    input: &I,
-    out: &mut W,
+    place: &FolderPlace<'_, SystemFiles<'_, S>>,
+    timeline: &mut S::Timeline,
 ) -> Result<u8, WriteFault>
-    ensures told { PutsInFolder (D.facts place.now.disk.now) place.now.path.now (told_by place.now.manifest.now) (PutsOfFolder (D.facts place.now.disk.now) (I.facts input.now) task.now) (W.contents out.old) (W.contents out.new) result }
-    ensures cause { OnErr result (HasFailed W.facts) }
+    ensures made { AddsSome (S.outside place.now.disk.now.system.now) timeline.old timeline.new (Performs (DoesInFolder (S.outside place.now.disk.now.system.now).disk place.now.path.now (told_by place.now.manifest.now) (JudgesIn (S.outside place.now.disk.now.system.now).disk (S.outside place.now.disk.now.system.now).input task.now)) result) }
+    ensures cause { OnErr result (OutputFails (S.outside place.now.disk.now.system.now)) }
 {
+    let system = place.disk.system;
     let arena = arena_for(alloc, task.memory);
-    match OpenFolder::at(alloc, place.disk, place.path, place.manifest, &arena) {
+    match OpenFolder::at(
+        alloc,
+        place.disk,
+        timeline,
+        place.path,
+        place.manifest,
+        &arena,
+    ) {
         Ok(Ok(folder)) => {
             let delay = task.delay;
-            tell(
-                alloc,
-                task,
-                FolderRuler { folder, delay },
-                place.disk,
-                input,
-                out,
-            )
+            report_file(alloc, task, FolderRuler { folder, delay }, system, timeline)
         }
-        Ok(Err(refusal)) => put_refusal(out, refusal),
-        Err(_) => put_refusal(out, Refusal::Memory),
+        Ok(Err(refusal)) => print_refusal(system, timeline, refusal),
+        Err(_) => print_refusal(system, timeline, Refusal::Memory),
+    }
+}
+
+/// Reports the games by what was read before: the tables, or their manifest alone.
+fn judge_by<S: System>(
+    alloc: Global,
+    task: &JudgePgn<'_>,
+    given: &Inputs,
+    system: &S,
+    timeline: &mut S::Timeline,
+) -> Result<u8, WriteFault>
+    ensures made { AddsSome (S.outside system.now) timeline.old timeline.new (Performs (JudgesBy (S.outside system.now).disk (S.outside system.now).input task.now given.now) result) }
+    ensures cause { OnErr result (OutputFails (S.outside system.now)) }
+{
+    match read_when_asked(!task.all_tables, Some(task.tables)) {
+        Some(path) => {
+            let files = SystemFiles { system };
+            let manifest = given.manifest();
+            let place = FolderPlace {
+                disk: &files,
+                path,
+                manifest,
+            };
+            judge_in_folder(alloc, task, &place, timeline)
+        }
+        None => judge_by_all(alloc, task, given, system, timeline),
     }
 }
 
@@ -211,34 +222,28 @@ fn answer_in<D: LineDisk, I: Input, W: Output>(
 /// status, 0 where no game was at fault, else 1.
 ///
 /// A game's line is its number, its plies, the ply of its first verdict or `-`, the verdict or `open`, the result that stands in the
-/// file, and `agree`, `differ` or `-`; with `--json` an object (RFC 8259). A game at fault is told by its line and its plies, and the
-/// next one goes on. With `--differ` only the lines of games are written that differ. Memory is that of one game. Where it is refused,
-/// `refused memory` is the last line, and where the file or the input can't be read on, `refused files`.
+/// file, and `agree`, `differ` or `-`; with `--json` an object (RFC 8259). A game at fault has its line and its plies, and the
+/// next one goes on. With `--differ` only the lines of games are written that differ. Each line has gone out before more is read. Memory is
+/// that of one game. Where it is refused, `refused memory` is the last line, and where the file or the input can't be read on, `refused files`.
 ///
-/// A table is read when a position of a game asks for it. A game that needs one whose file is at fault is told by its number, the
+/// A table is read when a position of a game asks for it. A game that needs one whose file is at fault is reported by its number, the
 /// file's name and the fault; it counts as a game at fault, and the next one goes on. With `--all-tables` all are read before, and the
 /// first file at fault is refused.
-pub fn answer<D: LineDisk, I: Input, W: Output>(
+///
+/// What the task names is read first, then the folder is listed, and then the file or the input is opened. The error comes only where the
+/// output failed; nothing is done behind that.
+pub fn answer<S: System>(
     alloc: Global,
     task: &JudgePgn<'_>,
-    sources: &Inputs,
-    disk: &D,
-    input: &I,
-    out: &mut W,
+    system: &S,
+    timeline: &mut S::Timeline,
 ) -> Result<u8, WriteFault>
-    ensures told { Puts (D.facts disk.now) (I.facts input.now) task.now sources.now (W.contents out.old) (W.contents out.new) result }
-    ensures cause { OnErr result (HasFailed W.facts) }
+    ensures made { AddsSome (S.outside system.now) timeline.old timeline.new (Performs (JudgesPgn (S.outside system.now) task.now) result) }
+    ensures cause { OnErr result (OutputFails (S.outside system.now)) }
 {
-    match read_when_asked(!task.all_tables, Some(task.tables)) {
-        Some(path) => {
-            let manifest = sources.manifest();
-            let place = FolderPlace {
-                disk,
-                path,
-                manifest,
-            };
-            answer_in(alloc, task, &place, input, out)
-        }
-        None => answer_from(alloc, task, sources, disk, input, out),
+    let names = task.places();
+    match read_inputs(alloc, system, timeline, &names) {
+        Ok(given) => judge_by(alloc, task, &given, system, timeline),
+        Err(fault) => print_unread(system, timeline, fault),
     }
 }

@@ -1,32 +1,32 @@
 //! `probes`: the values of the positions of the input in tables, a line each.
 
-ghost use Rattle.std.specs.Prelude.{◌≡◌, false, IfOk, OnErr};
+ghost use Rattle.std.specs.Prelude.{◌≡◌, IfOk, OnErr};
 ghost use Rattle.board_core.specs.Position.{IsPosition};
 ghost use Rattle.fen_text.specs.Fen.{SpellsPosition};
-ghost use Rattle.table_commands.specs.Probes.{Puts, TellsAskedIn, TellsFolderLineIn, TellsKnown, TellsLine, TellsLineByFolder, TellsLineIn};
-ghost use Rattle.table_commands.specs.FolderAnswers.{PutsByFolder};
-ghost use Rattle.move_msg.specs.ToldBy.{told_by};
-ghost use Rattle.answer_parts.specs.LineAnswers.{PutsLinesOrNone};
+ghost use Rattle.table_commands.specs.FolderReads.{LacksRoomFor};
+ghost use Rattle.table_commands.specs.FolderAnswers.{IsSpelledBy};
+ghost use Rattle.table_commands.specs.Probes.{AnswersColumns, TellsKnown, TellsLine};
 ghost use Rattle.answer_parts.specs.Lines.{words_of};
-ghost use Rattle.judge_core.specs.Ask.{ask_of};
 ghost use Rattle.judge_core.specs.ProbeResult.{numbered};
 ghost use Rattle.answer_parts.specs.Reply.{IsText};
-ghost use Rattle.table_commands.specs.TableAnswers.{PutsByTables};
-ghost use Rattle.line_teller.specs.ToldLines.{HasFailed};
+ghost use Rattle.table_folder.specs.Settled.{IsAlone};
+ghost use Rattle.timeline.specs.Outsides.{AddsSome};
 
-use crate::folders::{FolderPlace, OpenFolder, arena_for};
-use crate::json_answers::{FolderJsonTeller, JsonTeller};
-use answer_parts::{Line, Refusal, gather, put_line, put_refusal, put_told};
+use crate::folders::OpenFolder;
+use crate::json_answers::{FolderJsonAnswerer, JsonAnswerer};
+use crate::line_tasks::LineTask;
+use answer_parts::{Answer, Line, Refusal};
 use board_core::Position;
-use command_line::{CacheSize, Probes, read_when_asked};
+use command_line::{Megabytes, Probes, read_when_asked};
 use fen_text::read;
 use json_lines::Ask;
 use judge_core::{Column, ProbeFault, Set, Wdl};
-use line_teller::{LineHandler, TellFault};
+use line_events::{LineAnswerer, answer_lines, write_answer};
+use line_teller::TellFault;
 use std::alloc::{AllocError, Global};
-use std::io::Write;
-use system_io::{Disk, Input, Output, WriteFault};
-use task_files::Inputs;
+use system_io::WriteFault;
+use task_files::InputPaths;
+use timeline::System;
 
 /// The values of a position in the tables, in columns, and whether both are there.
 fn columns(
@@ -73,20 +73,27 @@ struct Prober<'a> {
     set: Set<'a>,
 }
 
-impl<'a> LineHandler for Prober<'a> {
+impl<'a, S: System> LineAnswerer<S> for Prober<'a> {
+    ghost use Rattle.line_events.specs.Writing.{at_once};
     ghost use Rattle.answer_parts.specs.Reply.{IsText};
     ghost use Rattle.table_commands.specs.Probes.{TellsLine};
 
-    ghost tells = { λ p. TellsLine p.ask p.set.tables };
+    ghost Known = { Unit {0} };
 
-    ghost takes_memory = { IsText };
+    ghost reads_from = { λ _ _. Unit {0} };
 
-    fn tell<W: Output>(&mut self, line: &[u8], out: &mut W) -> Result<bool, TellFault> {
+    ghost known = { λ _. tt };
+
+    ghost answering = { λ p. at_once (TellsLine p.ask p.set.tables) IsText };
+
+    fn answer_line(
+        &mut self,
+        system: &S,
+        timeline: &mut S::Timeline,
+        line: &[u8],
+    ) -> Result<bool, TellFault> {
         match probe_line(self.ask, self.alloc, &mut self.set, line) {
-            Ok((told, is_told)) => match put_line(out, &told) {
-                Ok(()) => Ok(is_told),
-                Err(_) => Err(TellFault::Io),
-            },
+            Ok((told, done)) => write_answer(system, timeline, &Answer::One(told, done)),
             Err(_) => Err(TellFault::OutOfMemory),
         }
     }
@@ -134,248 +141,168 @@ struct SoonProber<'a> {
     set: Set<'a>,
 }
 
-impl<'a> LineHandler for SoonProber<'a> {
+impl<'a, S: System> LineAnswerer<S> for SoonProber<'a> {
+    ghost use Rattle.line_events.specs.Writing.{at_once};
     ghost use Rattle.answer_parts.specs.Reply.{IsText};
     ghost use Rattle.table_commands.specs.Probes.{TellsKnown};
 
-    ghost tells = { λ p. TellsKnown p.set.tables };
+    ghost Known = { Unit {0} };
 
-    ghost takes_memory = { IsText };
+    ghost reads_from = { λ _ _. Unit {0} };
 
-    fn tell<W: Output>(&mut self, line: &[u8], out: &mut W) -> Result<bool, TellFault> {
-        let (told, is_told) = known_line(self.alloc, &mut self.set, line);
-        match put_line(out, &told) {
-            Ok(()) => Ok(is_told),
-            Err(_) => Err(TellFault::Io),
-        }
+    ghost known = { λ _. tt };
+
+    ghost answering = { λ p. at_once (TellsKnown p.set.tables) IsText };
+
+    fn answer_line(
+        &mut self,
+        system: &S,
+        timeline: &mut S::Timeline,
+        line: &[u8],
+    ) -> Result<bool, TellFault> {
+        let (told, done) = known_line(self.alloc, &mut self.set, line);
+        write_answer(system, timeline, &Answer::One(told, done))
     }
 }
 
 /// Answers a line with the values of its position in the tables of a folder, of which those are read that it asks for.
 #[derive(Drop)]
-struct FolderProber<'r, D: Disk> {
+struct FolderProber<'r, 's, S: System> {
     /// The folder.
-    folder: OpenFolder<'r, D>,
+    folder: OpenFolder<'r, 's, S>,
 }
 
-impl<'r, D: Disk> FolderProber<'r, D> {
+impl<'r, 's, S: System> FolderProber<'r, 's, S> {
     /// The values of a position in the tables, in columns, and whether both are there; or the refusal of a file.
-    fn columns(&mut self, text: &[u8], position: &Position) -> Result<(Line, bool), AllocError>
+    fn columns(
+        &mut self,
+        timeline: &mut S::Timeline,
+        text: &[u8],
+        position: &Position,
+    ) -> Result<(Line, bool), AllocError>
         requires spelled { SpellsPosition text.now position.now }
         requires position { IsPosition position.now }
-        ensures told { IfOk result (λ told. TellsLineByFolder (D.facts self.old.folder.disk) self.old.folder.folder text.now (record { words = words_of told.0; done = told.1 })) }
-        ensures folder { self.new.folder ≡ self.old.folder }
+        ensures told { IfOk result (λ told. AddsSome (S.outside self.old.folder.on.disk.system.now) timeline.old timeline.new (AnswersColumns (S.outside self.old.folder.on.disk.system.now).disk self.old.folder.on.folder self.old.folder.tables self.new.folder.tables text.now (record { words = words_of told.0; done = told.1 }))) }
+        ensures room { OnErr result (AddsSome (S.outside self.old.folder.on.disk.system.now) timeline.old timeline.new (LacksRoomFor (S.outside self.old.folder.on.disk.system.now).disk self.old.folder.on.folder IsSpelledBy IsAlone IsText self.old.folder.tables text.now)) }
+        ensures folder { self.new.folder.on ≡ self.old.folder.on }
     {
-        match self.folder.columns(position)? {
-            Ok(columns) => Ok((Line::Columns(columns), columns.probed.has_both())),
-            Err(refused) => Ok((
+        match self.folder.columns(timeline, position) {
+            Ok(Ok(columns)) => Ok((Line::Columns(columns), columns.probed.has_both())),
+            Ok(Err(refused)) => Ok((
                 Line::Refused(Refusal::File(refused.name, refused.fault)),
                 false,
             )),
+            Err(fault) => Err(fault),
         }
     }
 
     /// The answer to a line, and whether it is complete.
-    fn answer(&mut self, text: &[u8]) -> Result<(Line, bool), AllocError>
-        ensures told { IfOk result (λ told. TellsLineByFolder (D.facts self.old.folder.disk) self.old.folder.folder text.now (record { words = words_of told.0; done = told.1 })) }
-        ensures folder { self.new.folder ≡ self.old.folder }
-        ensures memory { OnErr result (IsText text.now) }
+    fn answer(
+        &mut self,
+        timeline: &mut S::Timeline,
+        text: &[u8],
+    ) -> Result<(Line, bool), AllocError>
+        ensures told { IfOk result (λ told. AddsSome (S.outside self.old.folder.on.disk.system.now) timeline.old timeline.new (AnswersColumns (S.outside self.old.folder.on.disk.system.now).disk self.old.folder.on.folder self.old.folder.tables self.new.folder.tables text.now (record { words = words_of told.0; done = told.1 }))) }
+        ensures room { OnErr result (AddsSome (S.outside self.old.folder.on.disk.system.now) timeline.old timeline.new (LacksRoomFor (S.outside self.old.folder.on.disk.system.now).disk self.old.folder.on.folder IsSpelledBy IsAlone IsText self.old.folder.tables text.now)) }
+        ensures folder { self.new.folder.on ≡ self.old.folder.on }
     {
         match read(text) {
-            Ok(position) => self.columns(text, &position),
+            Ok(position) => self.columns(timeline, text, &position),
             Err(fault) => Ok((Line::Refused(Refusal::Fen(fault)), false)),
         }
     }
 }
 
-impl<'r, D: Disk> LineHandler for FolderProber<'r, D> {
-    ghost use Rattle.answer_parts.specs.Reply.{IsText};
-    ghost use Rattle.table_commands.specs.Probes.{TellsLineByFolder};
+impl<'r, 's, S: System> LineAnswerer<S> for FolderProber<'r, 's, S> {
+    ghost use Rattle.std.specs.Prelude.{◌≡◌};
+    ghost use Rattle.judge_core.specs.Tables.{Tables};
+    ghost use Rattle.table_commands.specs.Probes.{column_lines_in};
 
-    ghost tells = { λ p. TellsLineByFolder (D.facts p.folder.disk) p.folder.folder };
+    ghost Known = { Tables };
 
-    ghost takes_memory = { IsText };
+    ghost reads_from = { λ p system. p.folder.on.disk.system.now ≡ system };
 
-    fn tell<W: Output>(&mut self, line: &[u8], out: &mut W) -> Result<bool, TellFault> {
-        match self.answer(line) {
-            Ok((told, is_told)) => match put_line(out, &told) {
-                Ok(()) => Ok(is_told),
-                Err(_) => Err(TellFault::Io),
-            },
+    ghost known = { λ p. p.folder.tables };
+
+    ghost answering = { λ p. column_lines_in (S.outside p.folder.on.disk.system.now).disk p.folder.on.folder };
+
+    fn answer_line(
+        &mut self,
+        system: &S,
+        timeline: &mut S::Timeline,
+        line: &[u8],
+    ) -> Result<bool, TellFault> {
+        match self.answer(timeline, line) {
+            Ok((told, done)) => write_answer(system, timeline, &Answer::One(told, done)),
             Err(_) => Err(TellFault::OutOfMemory),
         }
     }
 }
 
-/// Writes the value of each line's position as soon as it is known, as the lines come.
-fn answer_soon<I: Input, W: Output, E: Write>(
-    alloc: Global,
-    task: &Probes<'_>,
-    set: Set<'_>,
-    input: &I,
-    out: &mut W,
-    errors: &mut E,
-) -> Result<u8, WriteFault>
-    ensures written { PutsLinesOrNone (TellsKnown set.entry.tables) IsText (I.facts input.now) (W.contents out.old) (W.contents out.new) result }
-    ensures quiet { task.now.progress ≡ false → errors.new ≡ errors.old }
-    ensures cause { OnErr result (HasFailed W.facts) }
-{
-    let mut prober = SoonProber { alloc, set };
-    put_told(alloc, &mut prober, input, out, errors, task.progress)
-}
+/// Answers each line with the values of its position in tables. With `--json` an answer is one object (RFC 8259). With `--determined` values and
+/// distances are also those that are the same whatever the missing tables hold; the verdict stays. With `--soon` an answer is the value alone,
+/// as soon as it is known.
+impl<'a> LineTask for Probes<'a> {
+    ghost use Rattle.table_commands.specs.Probes.{probes_asking};
 
-/// Writes both values of each line's position and the verdict, or an object, as the lines come.
-fn answer_asked<I: Input, W: Output, E: Write>(
-    alloc: Global,
-    task: &Probes<'_>,
-    set: Set<'_>,
-    input: &I,
-    out: &mut W,
-    errors: &mut E,
-) -> Result<u8, WriteFault>
-    ensures written { PutsLinesOrNone (TellsAskedIn task.now.json (ask_of task.now.determined) set.entry.tables) IsText (I.facts input.now) (W.contents out.old) (W.contents out.new) result }
-    ensures quiet { task.now.progress ≡ false → errors.new ≡ errors.old }
-    ensures cause { OnErr result (HasFailed W.facts) }
-{
-    let ask = Ask::of(task.determined);
-    if task.json {
-        let with_moves = false;
-        let mut teller = JsonTeller {
-            alloc,
-            set,
-            ask,
-            with_moves,
-        };
-        put_told(alloc, &mut teller, input, out, errors, task.progress)
-    } else {
-        let mut prober = Prober { ask, alloc, set };
-        put_told(alloc, &mut prober, input, out, errors, task.progress)
+    ghost asking = { probes_asking };
+
+    fn names(&self) -> InputPaths<'_> {
+        self.places()
     }
-}
 
-/// Writes the answer to each line of the input as it comes, by tables.
-fn answer_lines<I: Input, W: Output, E: Write>(
-    alloc: Global,
-    task: &Probes<'_>,
-    set: Set<'_>,
-    input: &I,
-    out: &mut W,
-    errors: &mut E,
-) -> Result<u8, WriteFault>
-    ensures written { PutsLinesOrNone (TellsLineIn task.now.soon task.now.json (ask_of task.now.determined) set.entry.tables) IsText (I.facts input.now) (W.contents out.old) (W.contents out.new) result }
-    ensures quiet { task.now.progress ≡ false → errors.new ≡ errors.old }
-    ensures cause { OnErr result (HasFailed W.facts) }
-{
-    if task.soon {
-        answer_soon(alloc, task, set, input, out, errors)
-    } else {
-        answer_asked(alloc, task, set, input, out, errors)
+    fn asked_folder(&self) -> Option<&str> {
+        read_when_asked(self.is_lazy(), Some(self.tables))
     }
-}
 
-/// Writes the answer to each line of the input as it comes, by the tables of a folder, of which those are read that it asks for.
-fn answer_by_folder<D: Disk, I: Input, W: Output, E: Write>(
-    alloc: Global,
-    task: &Probes<'_>,
-    folder: OpenFolder<'_, D>,
-    input: &I,
-    out: &mut W,
-    errors: &mut E,
-) -> Result<u8, WriteFault>
-    ensures written { PutsLinesOrNone (TellsFolderLineIn task.now.json (D.facts folder.entry.disk) folder.entry.folder) IsText (I.facts input.now) (W.contents out.old) (W.contents out.new) result }
-    ensures quiet { task.now.progress ≡ false → errors.new ≡ errors.old }
-    ensures cause { OnErr result (HasFailed W.facts) }
-{
-    if task.json {
-        let with_moves = false;
-        let mut teller = FolderJsonTeller {
-            alloc,
-            folder,
-            with_moves,
-        };
-        put_told(alloc, &mut teller, input, out, errors, task.progress)
-    } else {
-        let mut prober = FolderProber { folder };
-        put_told(alloc, &mut prober, input, out, errors, task.progress)
+    fn memory(&self) -> Option<Megabytes> {
+        self.memory
     }
-}
 
-/// Writes these answers by the folder at a path, or the refusal of its manifest or of the folder.
-fn answer_in<D: Disk, I: Input, W: Output, E: Write>(
-    alloc: Global,
-    task: &Probes<'_>,
-    place: &FolderPlace<'_, D>,
-    input: &I,
-    out: &mut W,
-    errors: &mut E,
-) -> Result<u8, WriteFault>
-    ensures written { PutsByFolder (D.facts place.now.disk.now) place.now.path.now (told_by place.now.manifest.now) (TellsFolderLineIn task.now.json (D.facts place.now.disk.now)) IsText (I.facts input.now) (W.contents out.old) (W.contents out.new) result }
-    ensures quiet { task.now.progress ≡ false → errors.new ≡ errors.old }
-    ensures cause { OnErr result (HasFailed W.facts) }
-{
-    let arena = arena_for(alloc, task.memory);
-    match OpenFolder::at(alloc, place.disk, place.path, place.manifest, &arena) {
-        Ok(Ok(folder)) => answer_by_folder(alloc, task, folder, input, out, errors),
-        Ok(Err(refusal)) => put_refusal(out, refusal),
-        Err(_) => put_refusal(out, Refusal::Memory),
-    }
-}
-
-/// Writes these answers by the tables of files, or the refusal of the first one at fault.
-fn answer_from<I: Input, W: Output, E: Write>(
-    alloc: Global,
-    task: &Probes<'_>,
-    sources: &Inputs,
-    input: &I,
-    out: &mut W,
-    errors: &mut E,
-) -> Result<u8, WriteFault>
-    ensures written { PutsByTables (TellsLineIn task.now.soon task.now.json (ask_of task.now.determined)) IsText (I.facts input.now) sources.now (W.contents out.old) (W.contents out.new) result }
-    ensures quiet { task.now.progress ≡ false → errors.new ≡ errors.old }
-    ensures cause { OnErr result (HasFailed W.facts) }
-{
-    match gather(alloc, sources, CacheSize::usual()) {
-        Ok(Ok(set)) => answer_lines(alloc, task, set, input, out, errors),
-        Ok(Err(refusal)) => put_refusal(out, refusal),
-        Err(_) => put_refusal(out, Refusal::Memory),
-    }
-}
-
-/// Writes the answer to each line of the input as it comes, by the tables of a folder, or the refusal of these.
-/// Returns the status, 0 where all answers are complete, else 1. With `--json` an answer is one object (RFC 8259).
-/// With `--determined` values and distances are also those that are the same whatever the missing tables hold; the
-/// verdict stays. With `--soon` an answer is the value alone, as soon as it is known.
-///
-/// Each line is answered before the next one has to arrive, and memory is that of the longest line. Where memory is
-/// refused, the line `refused memory` follows the whole lines before it; where the input fails, `refused files`.
-/// With `--progress` the number of lines done goes to `errors` after every 10,000; without it nothing is written
-/// there.
-///
-/// A table is read when a position asks for it, and the file of one that is at fault is refused as the answer of each position
-/// that needs it. With `--all-tables`, `--determined` or `--soon` all are read before, and the first file at fault is refused.
-pub fn answer<D: Disk, I: Input, W: Output, E: Write>(
-    alloc: Global,
-    task: &Probes<'_>,
-    sources: &Inputs,
-    disk: &D,
-    input: &I,
-    out: &mut W,
-    errors: &mut E,
-) -> Result<u8, WriteFault>
-    ensures written { Puts (D.facts disk.now) (I.facts input.now) task.now sources.now (W.contents out.old) (W.contents out.new) result }
-    ensures quiet { task.now.progress ≡ false → errors.new ≡ errors.old }
-    ensures cause { OnErr result (HasFailed W.facts) }
-{
-    match read_when_asked(task.is_lazy(), Some(task.tables)) {
-        Some(path) => {
-            let manifest = sources.manifest();
-            let place = FolderPlace {
-                disk,
-                path,
-                manifest,
+    fn answer_by_folder<S: System>(
+        &self,
+        alloc: Global,
+        folder: OpenFolder<'_, '_, S>,
+        system: &S,
+        timeline: &mut S::Timeline,
+    ) -> Result<u8, WriteFault> {
+        if self.json {
+            let with_moves = false;
+            let mut answerer = FolderJsonAnswerer {
+                alloc,
+                folder,
+                with_moves,
             };
-            answer_in(alloc, task, &place, input, out, errors)
+            answer_lines(alloc, &mut answerer, system, timeline, self.progress)
+        } else {
+            let mut prober = FolderProber { folder };
+            answer_lines(alloc, &mut prober, system, timeline, self.progress)
         }
-        None => answer_from(alloc, task, sources, input, out, errors),
+    }
+
+    fn answer_by_tables<S: System>(
+        &self,
+        alloc: Global,
+        set: Set<'_>,
+        system: &S,
+        timeline: &mut S::Timeline,
+    ) -> Result<u8, WriteFault> {
+        let ask = Ask::of(self.determined);
+        if self.soon {
+            let mut prober = SoonProber { alloc, set };
+            answer_lines(alloc, &mut prober, system, timeline, self.progress)
+        } else if self.json {
+            let with_moves = false;
+            let mut answerer = JsonAnswerer {
+                alloc,
+                set,
+                ask,
+                with_moves,
+            };
+            answer_lines(alloc, &mut answerer, system, timeline, self.progress)
+        } else {
+            let mut prober = Prober { ask, alloc, set };
+            answer_lines(alloc, &mut prober, system, timeline, self.progress)
+        }
     }
 }

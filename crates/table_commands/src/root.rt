@@ -1,42 +1,45 @@
 //! `root`: the legal moves of a position, or of those of the input, by their values in tables.
 
-ghost use Rattle.std.specs.Prelude.{◌≡◌, ◌==◌, Some, IfOk, OnErr, true};
-ghost use Rattle.system_io.specs.Outputs.{WritesFront};
-ghost use Rattle.table_commands.specs.Root.{IsRootReply, IsToldBy, IsToldIn, Puts, PutsFrom, TellsFolderLineIn, TellsLineByFolder, TellsLineIn, root_reply};
-ghost use Rattle.command_line.specs.Commands.Root.{is_lazy};
-ghost use Rattle.table_commands.specs.FolderAnswers.{AnswersIn, ByFolder, PutsByFolder, refused_table, refused_table_in};
-ghost use Rattle.command_line.specs.LazyFolders.{read_when_asked};
-ghost use Rattle.table_folder.specs.Settled.{IsWithMoves};
-ghost use Rattle.judge_core.specs.declared.ask.Ask.TheVariants.{Strict};
-ghost use Rattle.move_msg.specs.ToldBy.{told_by};
+ghost use Rattle.std.specs.Prelude.{◌≡◌, ◌==◌, Some, IfOk, IsErrOf, OnErr, false, true};
 ghost use Rattle.answer_parts.specs.Asked.{reply_of};
-ghost use Rattle.table_commands.specs.JsonAnswers.{IsForTextIn, IsJsonTold, refused_in};
-ghost use Rattle.answer_parts.specs.LineAnswers.{PutsLinesOrNone};
 ghost use Rattle.answer_parts.specs.Looks.{gathered};
+ghost use Rattle.answer_parts.specs.Printing.{OutputFails};
 ghost use Rattle.answer_parts.specs.Reply.{ByTables, IsForText, IsText, refusal_reply};
-ghost use Rattle.table_commands.specs.TableAnswers.{PutsByTables};
+ghost use Rattle.board_core.specs.Position.{IsPosition};
+ghost use Rattle.fen_text.specs.Fen.{SpellsPosition};
+ghost use Rattle.command_line.specs.Commands.Root.{is_lazy};
+ghost use Rattle.command_line.specs.LazyFolders.{read_when_asked};
 ghost use Rattle.judge_core.specs.Ask.{ask_of};
 ghost use Rattle.judge_core.specs.Words.{columns_words};
+ghost use Rattle.judge_core.specs.declared.ask.Ask.TheVariants.{Strict};
+ghost use Rattle.line_events.specs.Writing.{WritesAnswer};
 ghost use Rattle.move_msg.specs.TextLines.{ended};
-ghost use Rattle.line_teller.specs.ToldLines.{HasFailed};
+ghost use Rattle.move_msg.specs.ToldBy.{told_by};
+ghost use Rattle.table_commands.specs.FolderAnswers.{IsSpelledBy, refused_table_in};
+ghost use Rattle.table_commands.specs.FolderReads.{LacksRoomFor, MakesInFolder, made_reply};
+ghost use Rattle.table_commands.specs.JsonAnswers.{IsJsonTold, refused_in};
+ghost use Rattle.table_commands.specs.Root.{AnswersRoot, IsRootReply, IsToldIn, RanksAt, RanksText, refused_words, root_reply};
+ghost use Rattle.table_folder.specs.Reads.{PassesSome};
+ghost use Rattle.table_folder.specs.Settled.{IsWithMoves};
+ghost use Rattle.timeline.specs.Outsides.{AddsSome};
 
-use crate::folders::{FolderPlace, OpenFolder, arena_for};
-use crate::json_answers::{FolderJsonTeller, JsonTeller, answer_as_json, refused_line};
-use answer_parts::{
-    Answer, Line, Refusal, RootLine, gather, put_answer, put_answered, put_refusal, put_told,
-};
+use crate::folders::{FolderPlace, OpenFolder, json_with_moves_by, moves_told_by, opened_at};
+use crate::json_answers::{FolderJsonAnswerer, JsonAnswerer, answer_as_json, refused_line};
+use crate::line_tasks::LineTask;
+use answer_parts::{Answer, Line, Refusal, RootLine, gather, print_reply};
 use board_core::Position;
 use bumpalo::Bump;
-use command_line::{CacheSize, Root, read_when_asked};
+use command_line::{CacheSize, Megabytes, Root, read_when_asked};
 use fen_text::{FenFault, read};
 use json_lines::{Ask, JsonLine};
 use judge_core::{Columns, RootMove, Set};
-use line_teller::{LineHandler, TellFault};
+use line_events::{LineAnswerer, answer_lines};
+use line_teller::TellFault;
 use std::alloc::{AllocError, Global};
-use std::io::Write;
-use system_io::{Disk, Input, Output, WriteFault};
-use table_folder::FileRefusal;
-use task_files::Inputs;
+use system_io::WriteFault;
+use table_folder::{FileRefusal, TableFiles};
+use task_files::{InputPaths, Inputs};
+use timeline::{Stream, System};
 
 /// A line for each move, and then the position's own.
 fn lines_of(alloc: Global, moves: &[RootMove], columns: Columns) -> Result<Answer, AllocError>
@@ -150,54 +153,108 @@ fn refused_table_in(alloc: Global, refusal: FileRefusal, json: bool) -> Result<A
     }
 }
 
-/// What the tables of an open folder tell of the legal moves of a position, and of the position, as JSON.
-fn json_by_folder<D: Disk>(
+/// What the tables of a folder tell of the legal moves of a position, and of the position, as JSON; those are read that the position and
+/// those after its moves ask for. Or the refusal: of a malformed manifest, then of the folder, then of the first file that is asked for and
+/// at fault.
+fn json_in<F: TableFiles>(
     alloc: Global,
-    folder: &mut OpenFolder<'_, D>,
+    log: &mut F::Log,
+    place: &FolderPlace<'_, F>,
     position: &Position,
 ) -> Result<Answer, AllocError>
-    ensures told { IfOk result (λ a. AnswersIn (D.facts folder.old.disk) folder.old.folder IsWithMoves (refused_table_in true) (IsJsonTold Strict) position.now (reply_of a)) }
+    ensures { PassesSome (F.events place.now.disk.now log.old) (F.events place.now.disk.now log.new) (MakesInFolder (F.facts place.now.disk.now) place.now.path.now (told_by place.now.manifest.now) (refused_words true) (IsWithMoves position.now) (λ tables. IsToldIn true Strict tables position.now) (made_reply result)) }
 {
-    match folder.json_line(position, true)? {
-        Ok(line) => answer_as_json(alloc, &line),
-        Err(refusal) => refused_table_in(alloc, refusal, true),
+    let arena = Bump::new(alloc);
+    let (folder, mut set) = match opened_at(
+        alloc,
+        place.disk,
+        log,
+        place.path,
+        place.manifest,
+        &arena,
+    ) {
+        Ok(Ok(opened)) => opened,
+        Ok(Err(refusal)) => return Ok(Answer::Refused(refusal)),
+        Err(fault) => return Err(fault),
+    };
+    match json_with_moves_by(alloc, log, &folder, &mut set, position) {
+        Ok(Ok(found)) => answer_as_json(alloc, &found),
+        Ok(Err(refused)) => refused_table_in(alloc, refused, true),
+        Err(fault) => Err(fault),
     }
 }
 
-/// What the tables of an open folder tell of the legal moves of a position, and of the position, in lines.
-fn lines_by_folder<D: Disk>(
-    folder: &mut OpenFolder<'_, D>,
+/// What tables of a folder tell of the legal moves of a position, in lines, or the refusal of the folder or of a file.
+fn lines_by<F: TableFiles>(
+    alloc: Global,
+    log: &mut F::Log,
+    place: &FolderPlace<'_, F>,
     position: &Position,
 ) -> Result<Answer, AllocError>
-    ensures told { IfOk result (λ a. AnswersIn (D.facts folder.old.disk) folder.old.folder IsWithMoves refused_table (IsRootReply Strict) position.now (reply_of a)) }
-    ensures folder { folder.new ≡ folder.old }
+    ensures { PassesSome (F.events place.now.disk.now log.old) (F.events place.now.disk.now log.new) (MakesInFolder (F.facts place.now.disk.now) place.now.path.now (told_by place.now.manifest.now) (refused_words false) (IsWithMoves position.now) (λ tables. IsToldIn false Strict tables position.now) (made_reply result)) }
 {
-    match folder.moves_told(position)? {
-        Ok(answer) => Ok(answer),
-        Err(refusal) => Ok(Answer::Refused(Refusal::File(refusal.name, refusal.fault))),
+    let arena = Bump::new(alloc);
+    let (folder, mut set) = match opened_at(
+        alloc,
+        place.disk,
+        log,
+        place.path,
+        place.manifest,
+        &arena,
+    ) {
+        Ok(Ok(opened)) => opened,
+        Ok(Err(refusal)) => return Ok(Answer::Refused(refusal)),
+        Err(fault) => return Err(fault),
+    };
+    match moves_told_by(alloc, log, &folder, &mut set, position) {
+        Ok(Ok(found)) => Ok(found),
+        Ok(Err(refused)) => refused_table_in(alloc, refused, false),
+        Err(fault) => Err(fault),
     }
 }
 
-/// What the tables of a folder tell of the legal moves of a position, and of the position, as JSON or in lines; those are read that the
-/// position and those after its moves ask for. Or the refusal: of a malformed manifest, then of the folder, then of the first file that is
-/// asked for and at fault.
-fn told_by_folder<D: Disk>(
+/// What tables of a folder tell of the legal moves of a position, as JSON or in lines, or the refusal.
+fn ranked_in<F: TableFiles>(
     alloc: Global,
-    place: &FolderPlace<'_, D>,
+    log: &mut F::Log,
+    place: &FolderPlace<'_, F>,
     position: &Position,
     json: bool,
 ) -> Result<Answer, AllocError>
-    ensures { IfOk result (λ a. ByFolder (D.facts place.now.disk.now) place.now.path.now (told_by place.now.manifest.now) IsWithMoves (refused_table_in json) (IsToldIn json Strict) position.now (reply_of a)) }
+    ensures { PassesSome (F.events place.now.disk.now log.old) (F.events place.now.disk.now log.new) (MakesInFolder (F.facts place.now.disk.now) place.now.path.now (told_by place.now.manifest.now) (refused_words json) (IsWithMoves position.now) (λ tables. IsToldIn json Strict tables position.now) (made_reply result)) }
 {
-    let arena = Bump::new(alloc);
-    let mut folder = match OpenFolder::at(alloc, place.disk, place.path, place.manifest, &arena)? {
-        Ok(folder) => folder,
-        Err(refusal) => return Ok(Answer::Refused(refusal)),
-    };
     if json {
-        json_by_folder(alloc, &mut folder, position)
+        json_in(alloc, log, place, position)
     } else {
-        lines_by_folder(&mut folder, position)
+        lines_by(alloc, log, place, position)
+    }
+}
+
+/// What is told of a position by the tables that it and those after its moves ask for, or by those that were read.
+fn answer_position<F: TableFiles>(
+    alloc: Global,
+    log: &mut F::Log,
+    task: &Root<'_>,
+    sources: &Inputs,
+    disk: &F,
+    position: &Position,
+) -> Result<Answer, AllocError>
+    ensures { PassesSome (F.events disk.now log.old) (F.events disk.now log.new) (RanksAt (F.facts disk.now) task.now sources.now position.now (read_when_asked (is_lazy task.now) (Some task.now.tables)) (made_reply result)) }
+{
+    match read_when_asked(task.is_lazy(), Some(task.tables)) {
+        Some(path) => {
+            let manifest = sources.manifest();
+            let place = FolderPlace {
+                disk,
+                path,
+                manifest,
+            };
+            ranked_in(alloc, log, &place, position, task.json)
+        }
+        None => {
+            let ask = Ask::of(task.determined);
+            told_of(ask, alloc, sources, position, task.json)
+        }
     }
 }
 
@@ -212,18 +269,41 @@ fn refused_in(fault: FenFault, json: bool) -> Answer
     }
 }
 
-/// Writes an answer and an empty line, and returns whether the answer is complete. Where the writer fails, a front of them is written.
-fn put_with_empty_line<W: Output>(out: &mut W, answer: &Answer) -> Result<bool, WriteFault>
-    ensures written { WritesFront (W.contents out.old) (W.contents out.new) (ended (reply_of answer.now).text) result }
-    ensures done { IfOk result (λ done. done ≡ ((reply_of answer.now).status == 0)) }
-    ensures cause { OnErr result (HasFailed W.facts) }
+/// What tables tell of the position of a text: a line for each legal move, the best first, and then the line of `probes`; with `--json` one
+/// object (RFC 8259). A text that is no position is refused first. A table is read when the position, or one after a legal move of it, asks
+/// for it. With `--all-tables` or `--determined` all are read before, and the first file at fault is refused.
+pub fn answer_text<F: TableFiles>(
+    alloc: Global,
+    log: &mut F::Log,
+    task: &Root<'_>,
+    sources: &Inputs,
+    disk: &F,
+    text: &str,
+) -> Result<Answer, AllocError>
+    ensures { PassesSome (F.events disk.now log.old) (F.events disk.now log.new) (RanksText text.now (F.facts disk.now) task.now sources.now (made_reply result)) }
 {
-    match put_answer(out, answer) {
-        Ok(status) => match out.put(b"\n") {
+    match read(text.as_bytes()) {
+        Err(fault) => Ok(refused_in(fault, task.json)),
+        Ok(position) => answer_position(alloc, log, task, sources, disk, &position),
+    }
+}
+
+/// Writes an answer and an empty line, and returns whether the answer is complete. The error comes only where the output failed; a front of
+/// them is written then.
+fn write_with_empty_line<S: System>(
+    system: &S,
+    timeline: &mut S::Timeline,
+    answer: &Answer,
+) -> Result<bool, TellFault>
+    ensures made { AddsSome (S.outside system.now) timeline.old timeline.new (WritesAnswer (ended (reply_of answer.now).text) ((reply_of answer.now).status == 0) result) }
+    ensures cause { IsErrOf result TellFault.Io → OutputFails (S.outside system.now) }
+{
+    match print_reply(system, timeline, answer) {
+        Ok(status) => match system.write(timeline, Stream::Output, b"\n") {
             Ok(()) => Ok(status == 0),
-            Err(fault) => Err(fault),
+            Err(_) => Err(TellFault::Io),
         },
-        Err(fault) => Err(fault),
+        Err(_) => Err(TellFault::Io),
     }
 }
 
@@ -238,20 +318,27 @@ struct Ranker<'a> {
     set: Set<'a>,
 }
 
-impl<'a> LineHandler for Ranker<'a> {
+impl<'a, S: System> LineAnswerer<S> for Ranker<'a> {
+    ghost use Rattle.line_events.specs.Writing.{at_once};
     ghost use Rattle.answer_parts.specs.Reply.{IsText};
     ghost use Rattle.table_commands.specs.Root.{TellsLine};
 
-    ghost tells = { λ p. TellsLine p.ask p.set.tables };
+    ghost Known = { Unit {0} };
 
-    ghost takes_memory = { IsText };
+    ghost reads_from = { λ _ _. Unit {0} };
 
-    fn tell<W: Output>(&mut self, line: &[u8], out: &mut W) -> Result<bool, TellFault> {
+    ghost known = { λ _. tt };
+
+    ghost answering = { λ p. at_once (TellsLine p.ask p.set.tables) IsText };
+
+    fn answer_line(
+        &mut self,
+        system: &S,
+        timeline: &mut S::Timeline,
+        line: &[u8],
+    ) -> Result<bool, TellFault> {
         match answer_line(self.ask, self.alloc, &mut self.set, line) {
-            Ok(answer) => match put_with_empty_line(out, &answer) {
-                Ok(done) => Ok(done),
-                Err(_) => Err(TellFault::Io),
-            },
+            Ok(answer) => write_with_empty_line(system, timeline, &answer),
             Err(_) => Err(TellFault::OutOfMemory),
         }
     }
@@ -260,241 +347,130 @@ impl<'a> LineHandler for Ranker<'a> {
 /// Answers a line with the legal moves of its position by their values in the tables of a folder, of which those are read that it asks
 /// for.
 #[derive(Drop)]
-struct FolderRanker<'r, D: Disk> {
+struct FolderRanker<'r, 's, S: System> {
     /// The folder.
-    folder: OpenFolder<'r, D>,
+    folder: OpenFolder<'r, 's, S>,
 }
 
-impl<'r, D: Disk> FolderRanker<'r, D> {
+impl<'r, 's, S: System> FolderRanker<'r, 's, S> {
+    /// The answer to a line that spells a position.
+    fn answer_at(
+        &mut self,
+        timeline: &mut S::Timeline,
+        text: &[u8],
+        position: &Position,
+    ) -> Result<Answer, AllocError>
+        requires spelled { SpellsPosition text.now position.now }
+        requires position { IsPosition position.now }
+        ensures told { IfOk result (λ a. AddsSome (S.outside self.old.folder.on.disk.system.now) timeline.old timeline.new (AnswersRoot (S.outside self.old.folder.on.disk.system.now).disk self.old.folder.on.folder self.old.folder.tables self.new.folder.tables text.now (reply_of a))) }
+        ensures room { OnErr result (AddsSome (S.outside self.old.folder.on.disk.system.now) timeline.old timeline.new (LacksRoomFor (S.outside self.old.folder.on.disk.system.now).disk self.old.folder.on.folder IsSpelledBy IsWithMoves IsText self.old.folder.tables text.now)) }
+        ensures folder { self.new.folder.on ≡ self.old.folder.on }
+    {
+        match self.folder.moves_told(timeline, position) {
+            Ok(Ok(answer)) => Ok(answer),
+            Ok(Err(refused)) => Ok(Answer::Refused(Refusal::File(refused.name, refused.fault))),
+            Err(fault) => Err(fault),
+        }
+    }
+
     /// The answer to a line.
-    fn answer(&mut self, text: &[u8]) -> Result<Answer, AllocError>
-        ensures told { IfOk result (λ a. TellsLineByFolder (D.facts self.old.folder.disk) self.old.folder.folder text.now (record { words = (reply_of a).text; done = (reply_of a).status == 0 })) }
-        ensures memory { OnErr result (IsText text.now) }
-        ensures folder { self.new.folder ≡ self.old.folder }
+    fn answer(&mut self, timeline: &mut S::Timeline, text: &[u8]) -> Result<Answer, AllocError>
+        ensures told { IfOk result (λ a. AddsSome (S.outside self.old.folder.on.disk.system.now) timeline.old timeline.new (AnswersRoot (S.outside self.old.folder.on.disk.system.now).disk self.old.folder.on.folder self.old.folder.tables self.new.folder.tables text.now (reply_of a))) }
+        ensures room { OnErr result (AddsSome (S.outside self.old.folder.on.disk.system.now) timeline.old timeline.new (LacksRoomFor (S.outside self.old.folder.on.disk.system.now).disk self.old.folder.on.folder IsSpelledBy IsWithMoves IsText self.old.folder.tables text.now)) }
+        ensures folder { self.new.folder.on ≡ self.old.folder.on }
     {
         match read(text) {
-            Ok(position) => lines_by_folder(&mut self.folder, &position),
+            Ok(position) => self.answer_at(timeline, text, &position),
             Err(fault) => Ok(Answer::Refused(Refusal::Fen(fault))),
         }
     }
 }
 
-impl<'r, D: Disk> LineHandler for FolderRanker<'r, D> {
-    ghost use Rattle.answer_parts.specs.Reply.{IsText};
-    ghost use Rattle.table_commands.specs.Root.{TellsLineByFolder};
+impl<'r, 's, S: System> LineAnswerer<S> for FolderRanker<'r, 's, S> {
+    ghost use Rattle.std.specs.Prelude.{◌≡◌};
+    ghost use Rattle.judge_core.specs.Tables.{Tables};
+    ghost use Rattle.table_commands.specs.Root.{root_lines_in};
 
-    ghost tells = { λ p. TellsLineByFolder (D.facts p.folder.disk) p.folder.folder };
+    ghost Known = { Tables };
 
-    ghost takes_memory = { IsText };
+    ghost reads_from = { λ p system. p.folder.on.disk.system.now ≡ system };
 
-    fn tell<W: Output>(&mut self, line: &[u8], out: &mut W) -> Result<bool, TellFault> {
-        match self.answer(line) {
-            Ok(answer) => match put_with_empty_line(out, &answer) {
-                Ok(done) => Ok(done),
-                Err(_) => Err(TellFault::Io),
-            },
+    ghost known = { λ p. p.folder.tables };
+
+    ghost answering = { λ p. root_lines_in (S.outside p.folder.on.disk.system.now).disk p.folder.on.folder };
+
+    fn answer_line(
+        &mut self,
+        system: &S,
+        timeline: &mut S::Timeline,
+        line: &[u8],
+    ) -> Result<bool, TellFault> {
+        match self.answer(timeline, line) {
+            Ok(answer) => write_with_empty_line(system, timeline, &answer),
             Err(_) => Err(TellFault::OutOfMemory),
         }
     }
 }
 
-/// Writes the answer to each line of the input as it comes, by tables.
-fn answer_lines<I: Input, W: Output, E: Write>(
-    alloc: Global,
-    task: &Root<'_>,
-    set: Set<'_>,
-    input: &I,
-    out: &mut W,
-    errors: &mut E,
-) -> Result<u8, WriteFault>
-    ensures written { PutsLinesOrNone (TellsLineIn task.now.json (ask_of task.now.determined) set.entry.tables) IsText (I.facts input.now) (W.contents out.old) (W.contents out.new) result }
-    ensures quiet { errors.new ≡ errors.old }
-    ensures cause { OnErr result (HasFailed W.facts) }
-{
-    let ask = Ask::of(task.determined);
-    if task.json {
-        let with_moves = true;
-        let mut teller = JsonTeller {
-            alloc,
-            set,
-            ask,
-            with_moves,
-        };
-        put_told(alloc, &mut teller, input, out, errors, false)
-    } else {
-        let mut ranker = Ranker { ask, alloc, set };
-        put_told(alloc, &mut ranker, input, out, errors, false)
-    }
-}
+/// Answers each line with what tables tell of its position, as `answer_text` has it; an empty line follows each answer, but not an object.
+impl<'a> LineTask for Root<'a> {
+    ghost use Rattle.table_commands.specs.Root.{root_asking};
 
-/// Writes the answer to each line of the input as it comes, by the tables of files, or the refusal of the tables.
-fn answer_input<I: Input, W: Output, E: Write>(
-    alloc: Global,
-    task: &Root<'_>,
-    sources: &Inputs,
-    input: &I,
-    out: &mut W,
-    errors: &mut E,
-) -> Result<u8, WriteFault>
-    ensures written { PutsByTables (TellsLineIn task.now.json (ask_of task.now.determined)) IsText (I.facts input.now) sources.now (W.contents out.old) (W.contents out.new) result }
-    ensures quiet { errors.new ≡ errors.old }
-    ensures cause { OnErr result (HasFailed W.facts) }
-{
-    match gather(alloc, sources, CacheSize::usual()) {
-        Ok(Ok(set)) => answer_lines(alloc, task, set, input, out, errors),
-        Ok(Err(refusal)) => put_refusal(out, refusal),
-        Err(_) => put_refusal(out, Refusal::Memory),
-    }
-}
+    ghost asking = { root_asking };
 
-/// Writes the answer to each line of the input as it comes, by the tables of an open folder.
-fn answer_lines_in<D: Disk, I: Input, W: Output, E: Write>(
-    alloc: Global,
-    task: &Root<'_>,
-    folder: OpenFolder<'_, D>,
-    input: &I,
-    out: &mut W,
-    errors: &mut E,
-) -> Result<u8, WriteFault>
-    ensures written { PutsLinesOrNone (TellsFolderLineIn task.now.json (D.facts folder.entry.disk) folder.entry.folder) IsText (I.facts input.now) (W.contents out.old) (W.contents out.new) result }
-    ensures quiet { errors.new ≡ errors.old }
-    ensures cause { OnErr result (HasFailed W.facts) }
-{
-    if task.json {
-        let with_moves = true;
-        let mut teller = FolderJsonTeller {
-            alloc,
-            folder,
-            with_moves,
-        };
-        put_told(alloc, &mut teller, input, out, errors, false)
-    } else {
-        let mut ranker = FolderRanker { folder };
-        put_told(alloc, &mut ranker, input, out, errors, false)
+    fn names(&self) -> InputPaths<'_> {
+        self.places()
     }
-}
 
-/// Writes the answer to each line of the input as it comes, by a folder whose tables are read when a line asks for them; or the refusal of
-/// its manifest or of the folder.
-fn answer_input_in<D: Disk, I: Input, W: Output, E: Write>(
-    alloc: Global,
-    task: &Root<'_>,
-    place: &FolderPlace<'_, D>,
-    input: &I,
-    out: &mut W,
-    errors: &mut E,
-) -> Result<u8, WriteFault>
-    ensures written { PutsByFolder (D.facts place.now.disk.now) place.now.path.now (told_by place.now.manifest.now) (TellsFolderLineIn task.now.json (D.facts place.now.disk.now)) IsText (I.facts input.now) (W.contents out.old) (W.contents out.new) result }
-    ensures quiet { errors.new ≡ errors.old }
-    ensures cause { OnErr result (HasFailed W.facts) }
-{
-    let arena = arena_for(alloc, task.memory);
-    match OpenFolder::at(alloc, place.disk, place.path, place.manifest, &arena) {
-        Ok(Ok(folder)) => answer_lines_in(alloc, task, folder, input, out, errors),
-        Ok(Err(refusal)) => put_refusal(out, refusal),
-        Err(_) => put_refusal(out, Refusal::Memory),
+    fn asked_folder(&self) -> Option<&str> {
+        read_when_asked(self.is_lazy(), Some(self.tables))
     }
-}
 
-/// The answer to the position of the text, by the tables that were read or by those that it asks for.
-fn answer_position<D: Disk>(
-    alloc: Global,
-    task: &Root<'_>,
-    sources: &Inputs,
-    disk: &D,
-    position: &Position,
-) -> Result<Answer, AllocError>
-    ensures { IfOk result (λ a. IsToldBy (D.facts disk.now) task.now sources.now (read_when_asked (is_lazy task.now) (Some task.now.tables)) position.now (reply_of a)) }
-{
-    match read_when_asked(task.is_lazy(), Some(task.tables)) {
-        Some(path) => {
-            let manifest = sources.manifest();
-            let place = FolderPlace {
-                disk,
-                path,
-                manifest,
+    fn memory(&self) -> Option<Megabytes> {
+        self.memory
+    }
+
+    fn answer_by_folder<S: System>(
+        &self,
+        alloc: Global,
+        folder: OpenFolder<'_, '_, S>,
+        system: &S,
+        timeline: &mut S::Timeline,
+    ) -> Result<u8, WriteFault> {
+        if self.json {
+            let with_moves = true;
+            let mut answerer = FolderJsonAnswerer {
+                alloc,
+                folder,
+                with_moves,
             };
-            told_by_folder(alloc, &place, position, task.json)
-        }
-        None => {
-            let ask = Ask::of(task.determined);
-            told_of(ask, alloc, sources, position, task.json)
+            answer_lines(alloc, &mut answerer, system, timeline, false)
+        } else {
+            let mut ranker = FolderRanker { folder };
+            answer_lines(alloc, &mut ranker, system, timeline, false)
         }
     }
-}
 
-/// The answer to the text of a position, as JSON or in lines. A text that is no position is refused first.
-fn answer_text<D: Disk>(
-    alloc: Global,
-    task: &Root<'_>,
-    sources: &Inputs,
-    disk: &D,
-    text: &str,
-) -> Result<Answer, AllocError>
-    ensures ok { IfOk result (λ a. IsForTextIn task.now.json text.now (IsToldBy (D.facts disk.now) task.now sources.now (read_when_asked (is_lazy task.now) (Some task.now.tables))) (reply_of a)) }
-    ensures memory { OnErr result (IsText text.now) }
-{
-    match read(text.as_bytes()) {
-        Err(fault) => Ok(refused_in(fault, task.json)),
-        Ok(position) => answer_position(alloc, task, sources, disk, &position),
-    }
-}
-
-/// Writes the answers to the lines of the input, by the tables that were read or by those that these ask for.
-fn answer_all<D: Disk, I: Input, W: Output, E: Write>(
-    alloc: Global,
-    task: &Root<'_>,
-    sources: &Inputs,
-    disk: &D,
-    input: &I,
-    out: &mut W,
-    errors: &mut E,
-) -> Result<u8, WriteFault>
-    ensures written { PutsFrom (D.facts disk.now) (I.facts input.now) task.now sources.now (read_when_asked (is_lazy task.now) (Some task.now.tables)) (W.contents out.old) (W.contents out.new) result }
-    ensures quiet { errors.new ≡ errors.old }
-    ensures cause { OnErr result (HasFailed W.facts) }
-{
-    match read_when_asked(task.is_lazy(), Some(task.tables)) {
-        Some(path) => {
-            let manifest = sources.manifest();
-            let place = FolderPlace {
-                disk,
-                path,
-                manifest,
+    fn answer_by_tables<S: System>(
+        &self,
+        alloc: Global,
+        set: Set<'_>,
+        system: &S,
+        timeline: &mut S::Timeline,
+    ) -> Result<u8, WriteFault> {
+        let ask = Ask::of(self.determined);
+        if self.json {
+            let with_moves = true;
+            let mut answerer = JsonAnswerer {
+                alloc,
+                set,
+                ask,
+                with_moves,
             };
-            answer_input_in(alloc, task, &place, input, out, errors)
+            answer_lines(alloc, &mut answerer, system, timeline, false)
+        } else {
+            let mut ranker = Ranker { ask, alloc, set };
+            answer_lines(alloc, &mut ranker, system, timeline, false)
         }
-        None => answer_input(alloc, task, sources, input, out, errors),
-    }
-}
-
-/// Writes what tables tell of the position of the text: a line for each legal move, the best first,
-/// and then the line of `probes`. Without a text it does so for each line of the input as it comes, with an empty
-/// line after each answer. With `--json` an answer is one object (RFC 8259), and no empty line follows. With
-/// `--determined` values and distances are also those that are the same whatever the missing tables hold. Returns the
-/// status, 0 where all answers are complete, else 1.
-///
-/// A text that is no position is refused before the tables are. Without a text a refusal of the folder comes before
-/// all lines. Refused memory and an input that fails are told as for `probes`. Nothing is written to `errors`.
-///
-/// A table is read when a position, or one after a legal move of it, asks for it, and the file of one that is at fault is refused as
-/// the answer of each position that needs it. With `--all-tables` or `--determined` all are read before, and the first file at fault
-/// is refused.
-pub fn answer<D: Disk, I: Input, W: Output, E: Write>(
-    alloc: Global,
-    task: &Root<'_>,
-    sources: &Inputs,
-    disk: &D,
-    input: &I,
-    out: &mut W,
-    errors: &mut E,
-) -> Result<u8, WriteFault>
-    ensures written { Puts (D.facts disk.now) (I.facts input.now) task.now sources.now (W.contents out.old) (W.contents out.new) result }
-    ensures quiet { errors.new ≡ errors.old }
-    ensures cause { OnErr result (HasFailed W.facts) }
-{
-    match task.fen {
-        Some(text) => put_answered(out, answer_text(alloc, task, sources, disk, text)),
-        None => answer_all(alloc, task, sources, disk, input, out, errors),
     }
 }

@@ -97,10 +97,10 @@ one_more_of keeps disk folder old new p kind key known misses in_turn has are ad
           ];
     })
   where
-    is_missed : (other : TableKind) (k : ℕ) → k < 145 → slot other k ≡ slot kind key → IsMissedFor disk folder (IsAlone p) other k
+    is_missed : (other : TableKind) (k : ℕ) → k < 145 → slot other k ≡ slot kind key → IsMissedFor disk folder (IsAlone p) old other k
     is_missed other k lt same =
         let both = slots_differ other kind k key lt known same in
-        rw (both.0, both.1) (record { position = p; needed = λ more are2 kept. refl; tables = old; opened = are; misses = misses; in_turn = in_turn })
+        rw (both.0, both.1) (record { position = p; needed = λ more are2 kept. refl; tables = old; kept = λ kind2 key2 t there. there; opened = are; misses = misses; in_turn = in_turn })
 
     is_new : (other : TableKind) (k : ℕ) (t : Contents) → k < 145 → slot other k ≡ slot kind key → slot kind key < length old → table_at (set old (slot kind key) (Some adds.table)) other k ≡ Some t → IsTableOf disk folder other k t
     is_new other k t lt same fits there =

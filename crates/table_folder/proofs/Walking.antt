@@ -26,7 +26,7 @@ pub one_more_done : MoreTablesAnswerTheSame → WhatIsMissingStaysMissing → (n
 one_more_done same missing new {disk = disk} {folder = folder} {old = old} {tables = tables} {position = position} {done = done} m has more only are settled = record {
   opened = are;
   kept = λ kind key t there. more kind key t (has.kept kind key t there);
-  only = adds_more old tables new has.only only;
+  only = adds_more old tables new has.kept has.only only;
   own = stays_settled same missing disk folder tables new position more are has.own;
   after = λ other p among plays. elim (Contains-push_cases done m other among) [
     | inl before ↦ stays_settled same missing disk folder tables new p more are (has.after other p before plays)
@@ -38,10 +38,10 @@ one_more_done same missing new {disk = disk} {folder = folder} {old = old} {tabl
 pub only_after : {disk : DiskFacts} {folder : Folder} {position : Parts} (moves : List Move) (i : ℕ) (m : Move) (next : Parts) (tables new : Tables) → moves ≡ legal_moves position → i < length moves → m ≡ get_or moves i m → position_after position m ≡ Some next → AddsOnlyMissed disk folder (IsAlone next) tables new → AddsOnlyMissed disk folder (IsWithMoves position) tables new
 only_after moves i m next tables new is within at plays only =
     let among = subst (Contains moves) (sym at) (Contains-get_or moves i m within) in
-    adds_wider tables new (λ _ p here. inr (m, subst (λ ms. Contains ms m) is among, plays ∙ ap (λ q. Some q) (sym here))) only
+    adds_wider tables new (λ _ p _ _ here. inr (m, subst (λ ms. Contains ms m) is among, plays ∙ ap (λ q. Some q) (sym here))) only
 
 pub only_there : {disk : DiskFacts} {folder : Folder} {position : Parts} (tables new : Tables) → AddsOnlyMissed disk folder (IsAlone position) tables new → AddsOnlyMissed disk folder (IsWithMoves position) tables new
-only_there tables new only = adds_wider tables new (λ _ p here. inl here) only
+only_there tables new only = adds_wider tables new (λ _ p _ _ here. inl here) only
 
 pub all_done : {disk : DiskFacts} {folder : Folder} {old tables : Tables} {position : Parts} (done : List Move) → done ≡ legal_moves position → HasDone disk folder old tables position done → AreSettled folder tables (IsWithMoves position)
 all_done {folder = folder} {tables = tables} done is has p (inl here) = subst (IsSettled folder tables) (sym here) has.own

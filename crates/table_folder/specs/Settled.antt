@@ -76,10 +76,11 @@ pub record IsRefusedAt (disk : DiskFacts) (folder : Folder) (p : Parts) (refusal
 abbrev pub IsNeededFrom : DiskFacts → Folder → Tables → (Tables → Parts → Type 0) → Parts → Type 0
 IsNeededFrom disk folder tables IsNeeded p = (more : Tables) → AreOf disk folder more → HasAll tables more → IsNeeded more p
 
--- a needed position misses this table, by tables of the folder
-pub record IsMissedFor (disk : DiskFacts) (folder : Folder) (IsNeeded : Tables → Parts → Type 0) (kind : TableKind) (key : ℕ) : Type 0 where
+-- a needed position misses this table, by tables of the folder that have at least those that were open first
+pub record IsMissedFor (disk : DiskFacts) (folder : Folder) (IsNeeded : Tables → Parts → Type 0) (first : Tables) (kind : TableKind) (key : ℕ) : Type 0 where
   pub position : Parts
   pub tables : Tables
+  pub kept : HasAll first tables
   pub opened : AreOf disk folder tables
   pub needed : IsNeededFrom disk folder tables IsNeeded position
   pub misses : Misses tables position kind key
@@ -88,7 +89,7 @@ pub record IsMissedFor (disk : DiskFacts) (folder : Folder) (IsNeeded : Tables �
 -- each table that the second set has and the first lacks is missed at a needed position
 abbrev pub AddsOnlyMissed : DiskFacts → Folder → (Tables → Parts → Type 0) → Tables → Tables → Type 0
 AddsOnlyMissed disk folder IsNeeded old new =
-    (kind : TableKind) (key : ℕ) → key < 145 → table_at old kind key ≡ None → IsSome (table_at new kind key) → IsMissedFor disk folder IsNeeded kind key
+    (kind : TableKind) (key : ℕ) → key < 145 → table_at old kind key ≡ None → IsSome (table_at new kind key) → IsMissedFor disk folder IsNeeded old kind key
 
 -- answers by tables of the folder, of which none is missing at the positions that are needed
 pub record AnswersBy (disk : DiskFacts) (folder : Folder) (IsNeeded : Tables → Parts → Type 0) (Answers : Tables → Type 0) : Type 0 where

@@ -3,7 +3,7 @@ use Rattle.std.specs.Prelude.{◌≡◌, ℕ, List, [], ◌∷◌, map, Option, 
 use Rattle.std.specs.Global.{Global}
 use Rattle.answer_commands.specs.declared.answers.Answer.{Answer}
 use Rattle.answer_commands.specs.declared.answers.Answer.TheVariants.{Lines, Refused}
-use Rattle.answer_commands.specs.Printing.{Prints}
+use Rattle.answer_parts.specs.Printing.{Prints}
 use Rattle.answer_parts.specs.Lines.{refusal_words, words_of}
 use Rattle.line_teller.specs.ToldLines.{refused_memory}
 use Rattle.timeline.specs.Events.{Event}

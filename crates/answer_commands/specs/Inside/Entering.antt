@@ -5,7 +5,7 @@ use Rattle.answer_parts.specs.Lines.{refusal_words}
 use Rattle.answer_parts.specs.declared.answers.refusals.EntryFault.{EntryFault}
 use Rattle.answer_parts.specs.declared.answers.refusals.Refusal.{Refusal}
 use Rattle.answer_commands.specs.Enter.{ComesOf, LacksRoom, Place, TellsOf}
-use Rattle.answer_commands.specs.Printing.{IsCutIn, printed}
+use Rattle.answer_parts.specs.Printing.{IsCutIn, printed}
 use Rattle.answer_commands.specs.StoreReads.{Known}
 use Rattle.answer_commands.specs.declared.entering.GamePlace.{GamePlace}
 use Rattle.answer_commands.specs.declared.entering.Step.{Step}

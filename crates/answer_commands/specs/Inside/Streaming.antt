@@ -1,6 +1,6 @@
 -- A stream that is shown; cited by private functions alone.
 use Rattle.std.specs.Prelude.{◌≡◌, ℕ, List, map, Option, Some, None}
-use Rattle.answer_commands.specs.Printing.{printed}
+use Rattle.answer_parts.specs.Printing.{printed}
 use Rattle.answer_commands.specs.Show.{shown_lines, shown_status}
 use Rattle.move_msg.specs.MessageWords.{message_words}
 use Rattle.move_msg.specs.Streams.{BeginsBy, End, SpellsStream}

@@ -1,16 +1,12 @@
 //! Texts that are no position, as one object of JSON a line.
 
-ghost use Rattle.std.specs.Prelude.{◌≡◌, OnErr};
+ghost use Rattle.std.specs.Prelude.{◌≡◌};
 ghost use Rattle.fen_text.specs.declared.fault.FenFault.TheVariants as fen;
-ghost use Rattle.json_lines.specs.Objects.{fault_json, json_text, line_json};
-ghost use Rattle.json_lines.specs.declared.told.JsonLine.TheVariants as line;
-ghost use Rattle.line_teller.specs.ToldLines.{HasFailed};
+ghost use Rattle.json_lines.specs.Objects.{fault_json, json_text};
 ghost use Rattle.move_msg.specs.TextLines.{ended};
-ghost use Rattle.system_io.specs.Outputs.{WritesFront};
 
 use board_core::PositionFault;
 use fen_text::FenFault;
-use system_io::{Output, WriteFault};
 
 /// The object that says why a text is no position whose fields are in order, with its line feed.
 #[tactic(auto, unfolding(json::specs::Print::escape_byte, json::specs::Print::print_from))]
@@ -42,12 +38,4 @@ pub fn fault_line(fault: FenFault) -> &'static str
         FenFault::BadNumber => "{\"error\":\"FEN BadNumber\"}\n",
         FenFault::BadPosition(fault) => position_fault_line(fault),
     }
-}
-
-/// Writes why a text is no position. This takes no memory.
-pub fn put_json_fault<W: Output>(out: &mut W, fault: FenFault) -> Result<(), WriteFault>
-    ensures told { WritesFront (W.contents out.old) (W.contents out.new) (ended (json_text (line_json (line.Fault fault)))) result }
-    ensures cause { OnErr result (HasFailed W.facts) }
-{
-    out.put(fault_line(fault).as_bytes())
 }

@@ -53,7 +53,7 @@ impl<'a> AuditGames<'a> {
     }
 
     /// What is read for it before it answers: not its folders of games, which it reads itself.
-    pub(crate) fn places(&self) -> InputPaths<'a>
+    pub fn places(&self) -> InputPaths<'a>
         ensures { named_by result ≡ named self.now }
     {
         InputPaths {

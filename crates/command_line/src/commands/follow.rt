@@ -61,7 +61,7 @@ impl<'a> Follow<'a> {
     }
 
     /// What is read for it before it answers: not the input, whose lines are read as they come.
-    pub(crate) fn places(&self) -> InputPaths<'a>
+    pub fn places(&self) -> InputPaths<'a>
         ensures { named_by result ≡ named self.now }
     {
         InputPaths {

@@ -1,30 +1,48 @@
--- One line of a game that is told ply by ply.
-use Rattle.std.specs.Prelude.{◌≡◌, ◌⊎◌, ◌++◌, ◌+◌, ℕ, Bool, List, [], ◌∷◌, Option, Some, None, Result, Ok, Err}
-use Rattle.std.specs.Io.KnownBytes.{Appends, IsAtEnd}
+-- What comes of one line of a game that is followed; cited by private functions alone.
+use Rattle.std.specs.Prelude.{◌≡◌, ◌++◌, ◌+◌, ℕ, Bool, List, [], ◌∷◌, Option, Some, None, Result, Ok, Err}
+use Rattle.std.specs.Io.KnownBytes.{IsAtEnd}
+use Rattle.std.specs.declared.alloc.AllocError.{AllocError}
 use Rattle.board_core.specs.declared.parts.Parts.{Parts}
 use Rattle.board_core.specs.declared.moves.Move.{Move as Moves}
 use Rattle.board_core.specs.ComputedMoves.{position_after}
 use Rattle.board_core.specs.declared.verdict.Verdict.{Verdict}
 use Rattle.judge_core.specs.Games.{Rules, verdict_after}
 use Rattle.judge_core.specs.Standings.{IsAt, Reached}
-use Rattle.line_teller.specs.ToldLines.{HasFront, stops_by}
-use Rattle.move_msg.specs.TextLines.{ended}
+use Rattle.answer_parts.specs.Printing.{printed}
 use Rattle.move_notation.specs.declared.notation.Notation.{Notation}
 use Rattle.move_notation.specs.Notations.{Spells}
-use Rattle.system_io.specs.declared.output.WriteFault.{WriteFault}
 use Rattle.system_io.specs.declared.reading.ReadFault.{ReadFault}
-use Rattle.system_io.specs.declared.reading.ReadFault.TheVariants as read
-use Rattle.system_io.specs.LineReaders.{LineFacts, ReadsLine}
+use Rattle.system_io.specs.LineReaders.{ReadsLine}
+use Rattle.table_folder.specs.declared.fault.FileRefusal.{FileRefusal}
+use Rattle.timeline.specs.Events.{Event, LineRead}
 use Rattle.game_teller.specs.declared.lines.Stop.{Stop}
 use Rattle.game_teller.specs.declared.lines.Stop.TheVariants as stop
+use Rattle.game_teller.specs.declared.following.FollowedGame.{FollowedGame}
 use Rattle.game_teller.specs.declared.following.FollowState.{FollowState}
 use Rattle.game_teller.specs.declared.following.Step.{Step}
 use Rattle.game_teller.specs.declared.following.Step.TheVariants as step
-use Rattle.game_teller.specs.Followings.{FollowsTo, halts_by}
+use Rattle.game_teller.specs.Followings.{IsNotBegun, goes_out, stop_by}
 use Rattle.game_teller.specs.Judges.{JudgeFacts, JudgesOn, StandsBy}
 use Rattle.game_teller.specs.Plies.{ply_words, stop_words}
 
--- why a line gives no position: it is no move, or no legal one
+-- a line of the output was written, and has gone out
+abbrev pub GoesOut : List ℕ → List Event → Option (Unit {0}) → Type 0
+GoesOut words events is = events ≡ goes_out words
+
+-- a verdict stands there by this delay
+abbrev pub HasVerdict : ℕ → Reached → Option Verdict → Type 0
+HasVerdict delay s verdict = (rules : Rules) (moves : List Moves) → rules.delay ≡ delay → IsAt rules moves s → verdict ≡ verdict_after rules moves
+
+-- where the game stands is printed, with its verdict
+pub record PrintsPly (at : FollowState) (events : List Event) (is : Option (Option Verdict)) : Type 0 where
+  pub verdict : Option Verdict
+  pub stands : HasVerdict at.delay at.standing verdict
+  pub made : events ≡ goes_out (ply_words at.ply verdict at.standing.position)
+  pub is_it : is ≡ Some verdict
+
+-- ---- a line that was read
+
+-- why it gives no position: it is no move, or no legal one
 abbrev pub IsNoNext : Notation → Parts → ℕ → List ℕ → Stop → Type 0
 IsNoNext notation p number line (stop.NotAMove place) = (place ≡ number) × ((m : Moves) → Spells notation p line m → ⊥)
 IsNoNext notation p number line (stop.Illegal place) = (place ≡ number) × ((m : Moves) × Spells notation p line m × (position_after p m ≡ None))
@@ -32,83 +50,53 @@ IsNoNext notation p number line (stop.BadFile refusal) = ⊥
 IsNoNext notation p number line stop.Unread = ⊥
 IsNoNext notation p number line stop.OutOfMemory = ⊥
 
--- a line spells a legal move, which leads to this position
-abbrev pub SpellsNext : Notation → Parts → List ℕ → Parts → Type 0
-SpellsNext notation p line q = (m : Moves) × Spells notation p line m × (position_after p m ≡ Some q)
+-- it spells a legal move, which leads to this position
+abbrev pub SpellsNext : FollowState → List ℕ → Parts → Type 0
+SpellsNext old line q = (m : Moves) × Spells old.notation old.standing.position line m × (position_after old.standing.position m ≡ Some q)
 
--- the same, or the file of a table that the position after its move needs is refused, or memory for its verdict
-abbrev pub IsNoTurn : Notation → JudgeFacts → Parts → ℕ → List ℕ → Stop → Type 0
-IsNoTurn notation was p number line (stop.NotAMove place) = IsNoNext notation p number line (stop.NotAMove place)
-IsNoTurn notation was p number line (stop.Illegal place) = IsNoNext notation p number line (stop.Illegal place)
-IsNoTurn notation was p number line (stop.BadFile refusal) = (q : Parts) × SpellsNext notation p line q × was.refuses q refusal
-IsNoTurn notation was p number line stop.Unread = ⊥
-IsNoTurn notation was p number line stop.OutOfMemory = (q : Parts) × SpellsNext notation p line q × was.takes_memory q
+-- it does, what the position asks for is read, and the game stands so then, one ply later
+pub record HasTurned (was now : JudgeFacts) (old : FollowState) (line : List ℕ) (new : FollowState) (reading : List Event) : Type 0 where
+  pub position : Parts
+  pub spelled : SpellsNext old line position
+  pub reads : was.reads was.opened position now.opened (Ok None) reading
+  pub on : JudgesOn was now old.standing position new.standing
+  pub ply : new.ply ≡ old.ply + 1
+  pub notation : new.notation ≡ old.notation
+  pub delay : new.delay ≡ old.delay
 
--- the line spells a legal move, and after it the game stands so
-abbrev pub HasTurned : Notation → JudgeFacts → JudgeFacts → Reached → List ℕ → Reached → Type 0
-HasTurned notation was now old line new =
-    (m : Moves) × (p : Parts) × Spells notation old.position line m × (position_after old.position m ≡ Some p) × JudgesOn was now old p new
+-- it gives no position; or the file of a table that the position needs is refused; or memory for its verdict is
+pub data IsNoTurn (was now : JudgeFacts) (old : FollowState) (line : List ℕ) (why : Stop) (reading : List Event) : Type 0 where
+  GivesNone : IsNoNext old.notation old.standing.position old.ply line why → reading ≡ [] → IsNoTurn was now old line why reading
+  IsRefused : (q : Parts) (refusal : FileRefusal) → SpellsNext old line q → was.reads was.opened q now.opened (Ok (Some refusal)) reading → was.refuses q refusal → why ≡ stop.BadFile refusal → IsNoTurn was now old line why reading
+  NoRoom : (q : Parts) (refused : AllocError) → SpellsNext old line q → was.reads was.opened q now.opened (Err refused) reading → was.takes_memory q → why ≡ stop.OutOfMemory → IsNoTurn was now old line why reading
 
-abbrev pub TurnsByLine : {T : Type 0} → Notation → JudgeFacts → JudgeFacts → ℕ → Reached → List ℕ → Reached → Result T Stop → Type 0
-TurnsByLine notation was now number old line new (Ok x) = HasTurned notation was now old line new
-TurnsByLine notation was now number old line new (Err why) = IsNoTurn notation was old.position number line why
+abbrev pub TurnsByLine : {T : Type 0} → JudgeFacts → JudgeFacts → FollowState → List ℕ → FollowState → Result T Stop → List Event → Type 0
+TurnsByLine was now old line new (Ok x) reading = HasTurned was now old line new reading
+TurnsByLine was now old line new (Err why) reading = IsNoTurn was now old line why reading
 
--- a game can't be begun from this start
-abbrev pub IsNoStart : JudgeFacts → Parts → Stop → Type 0
-IsNoStart was start (stop.NotAMove place) = ⊥
-IsNoStart was start (stop.Illegal place) = ⊥
-IsNoStart was start (stop.BadFile refusal) = was.refuses start refusal
-IsNoStart was start stop.Unread = ⊥
-IsNoStart was start stop.OutOfMemory = was.takes_memory start
+-- the ply after its move is printed, or why there is none
+pub data TurnsRead (was now : JudgeFacts) (old : FollowState) (line : List ℕ) (new : FollowState) (events : List Event) (is : Option Step) : Type 0 where
+  IsPrinted : (reading printing : List Event) (verdict : Option Verdict) → HasTurned was now old line new reading → PrintsPly new printing (Some verdict) → events ≡ reading ++ printing → is ≡ Some (step.Printed verdict) → TurnsRead was now old line new events is
+  IsStopped : (reading : List Event) (why : Stop) → IsNoTurn was now old line why reading → events ≡ reading ++ printed (stop_words why ∷ []) → is ≡ Some step.Stopped → TurnsRead was now old line new events is
 
--- a verdict stands there by this delay
-abbrev pub HasVerdict : ℕ → Reached → Option Verdict → Type 0
-HasVerdict delay s verdict = (rules : Rules) (moves : List Moves) → rules.delay ≡ delay → IsAt rules moves s → verdict ≡ verdict_after rules moves
+-- ---- the next line
 
--- where the game stands is told as the ply with this number
-abbrev pub PutsPly : ℕ → ℕ → Reached → Option (List ℕ) → Option (List ℕ) → Option Verdict → Type 0
-PutsPly delay number s old new verdict = HasVerdict delay s verdict × Appends old new (ended (ply_words number verdict s.position))
+-- it is read, and that is done for it; or there is none; or why it can't be read is printed
+pub data TakesTurn (was now : JudgeFacts) (old new : FollowState) (Stops : ReadFault → Type 0) (left rest : Option (List ℕ)) (events : List Event) (is : Option Step) : Type 0 where
+  Turned : (line : List ℕ) (had_come : Bool) (then : List Event) → ReadsLine left rest line → TurnsRead was now old line new then is → events ≡ LineRead (Ok (Some line)) had_come ∷ then → TakesTurn was now old new Stops left rest events is
+  AtEnd : (had_come : Bool) → IsAtEnd left → events ≡ LineRead (Ok None) had_come ∷ [] → is ≡ Some step.Ended → TakesTurn was now old new Stops left rest events is
+  Unread : (fault : ReadFault) (had_come : Bool) → Stops fault → events ≡ LineRead (Err fault) had_come ∷ printed (stop_words (stop_by fault) ∷ []) → is ≡ Some step.Stopped → TakesTurn was now old new Stops left rest events is
 
--- of that a front was written
-abbrev pub CutsPly : ℕ → ℕ → Reached → Option (List ℕ) → Option (List ℕ) → Type 0
-CutsPly delay number s old new = (v : Option Verdict) × HasVerdict delay s v × HasFront old new (ended (ply_words number v s.position))
+-- ---- the start
 
--- what came of a line that was read
-abbrev pub LineSteps : Notation → JudgeFacts → JudgeFacts → ℕ → ℕ → Reached → List ℕ → Reached → Option (List ℕ) → Option (List ℕ) → Step → Type 0
-LineSteps notation was now delay number old line new out out' (step.Told verdict) = HasTurned notation was now old line new × PutsPly delay (number + 1) new out out' verdict
-LineSteps notation was now delay number old line new out out' step.Ended = ⊥
-LineSteps notation was now delay number old line new out out' step.Stopped = (why : Stop) × IsNoTurn notation was old.position number line why × Appends out out' (ended (stop_words why))
+-- the start is judged, for which this is read, and the game stands so
+pub record HasBegun (was now : JudgeFacts) (game : FollowedGame) (at : FollowState) (reading : List Event) : Type 0 where
+  pub reads : was.reads was.opened game.start now.opened (Ok None) reading
+  pub stands : StandsBy now game.start [] at.standing
+  pub ply : at.ply ≡ 0
+  pub notation : at.notation ≡ game.notation
+  pub delay : at.delay ≡ game.delay
 
--- what an input tells of why no line is read
-abbrev pub stop_by : ReadFault → Stop
-stop_by read.Unreadable = stop.Unread
-stop_by read.OutOfMemory = stop.OutOfMemory
-
--- what came of the next line of an input, by the delay of the game that is followed, and what judges it
-abbrev pub StepsByLine : LineFacts → Option (List ℕ) → JudgeFacts → JudgeFacts → FollowState → ℕ → Reached → Option (List ℕ) → Option (List ℕ) → Step → Type 0
-StepsByLine input left was now old number new out out' (step.Told verdict) = (line : List ℕ) × ReadsLine input.left left line × HasTurned old.notation was now old.standing line new × PutsPly old.delay (number + 1) new out out' verdict
-StepsByLine input left was now old number new out out' step.Ended = IsAtEnd input.left × (out' ≡ out)
-StepsByLine input left was now old number new out out' step.Stopped =
-    ((line : List ℕ) × (why : Stop) × ReadsLine input.left left line × IsNoTurn old.notation was old.standing.position number line why × Appends out out' (ended (stop_words why)))
-    ⊎ ((fault : ReadFault) × stops_by input fault × Appends out out' (ended (stop_words (stop_by fault))))
-
--- of what came of a line that was read a front was written
-abbrev pub LineCuts : Notation → JudgeFacts → JudgeFacts → ℕ → ℕ → Reached → List ℕ → Reached → Option (List ℕ) → Option (List ℕ) → Type 0
-LineCuts notation was now delay number old line new out out' =
-    (HasTurned notation was now old line new × CutsPly delay (number + 1) new out out') ⊎ ((why : Stop) × IsNoTurn notation was old.position number line why × HasFront out out' (ended (stop_words why)))
-
--- of what came of the next line
-abbrev pub StepCuts : LineFacts → Option (List ℕ) → JudgeFacts → JudgeFacts → FollowState → ℕ → Reached → Option (List ℕ) → Option (List ℕ) → Type 0
-StepCuts input left was now old number new out out' =
-    ((line : List ℕ) × ReadsLine input.left left line × LineCuts old.notation was now old.delay number old.standing line new out out')
-    ⊎ ((fault : ReadFault) × stops_by input fault × HasFront out out' (ended (stop_words (stop_by fault))))
-
--- the start is told, which has no verdict
-abbrev pub HasBegun : Rules → JudgeFacts → Reached → Option (List ℕ) → Option (List ℕ) → Type 0
-HasBegun rules was s before out = StandsBy was rules.start [] s × (verdict_after rules [] ≡ None) × Appends before out (ended (ply_words 0 None s.position))
-
--- by whatever rules a game has begun to be told so, from then on it is followed, whatever was written before
-abbrev pub FollowsFrom : JudgeFacts → JudgeFacts → FollowState → LineFacts → Option (List ℕ) → Option (List ℕ) → Result Bool WriteFault → Type 0
-FollowsFrom was now course input out out' r =
-    (rules : Rules) (before : Option (List ℕ)) → now.is_by rules.tables → rules.delay ≡ course.delay → HasBegun rules was course.standing before out
-    → FollowsTo course.notation rules (halts_by (stops_by input) was) input.left before out' r
+abbrev pub Begins : JudgeFacts → JudgeFacts → FollowedGame → Result FollowState Stop → List Event → Type 0
+Begins was now game (Ok at) reading = HasBegun was now game at reading
+Begins was now game (Err why) reading = IsNotBegun game was why reading

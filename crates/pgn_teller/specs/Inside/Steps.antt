@@ -1,41 +1,54 @@
--- One game of an input that is told.
-use Rattle.std.specs.Prelude.{◌≡◌, ◌⊎◌, ℕ, List, Option, Some, None}
-use Rattle.std.specs.Io.KnownBytes.{Appends}
-use Rattle.line_teller.specs.ToldLines.{HasFront, refused_memory}
+-- One game of an input that is reported.
+use Rattle.std.specs.Prelude.{◌≡◌, ◌++◌, ℕ, Bool, List, [], ◌∷◌, Option, Some, None, Result, Ok, Err, if◌then◌else◌}
+use Rattle.std.specs.declared.alloc.AllocError.{AllocError}
+use Rattle.answer_parts.specs.Printing.{printed}
+use Rattle.line_teller.specs.ToldLines.{refused_memory}
 use Rattle.move_msg.specs.TextLines.{ended}
-use Rattle.pgn_games.specs.Games.{GameTold, ReadingTold, ReadsGame}
-use Rattle.pgn_games.specs.Lines.{one_more}
-use Rattle.pgn_games.specs.Tokens.{Token}
-use Rattle.pgn_teller.specs.declared.sums.Sums.{Sums}
-use Rattle.pgn_teller.specs.declared.telling.GameText.{GameText}
-use Rattle.pgn_teller.specs.declared.telling.Step.{Step}
-use Rattle.pgn_teller.specs.declared.telling.Step.TheVariants as step
-use Rattle.pgn_teller.specs.Ratings.{RulingTold}
-use Rattle.pgn_teller.specs.Tellings.{StopsBy, IsPgnLine, IsNextText, Line, Terms, counted, written_line}
+use Rattle.pgn_games.specs.declared.reader.PgnReader.{PgnReader}
+use Rattle.pgn_games.specs.Games.{ReadingTold}
+use Rattle.pgn_games.specs.Reading.{tokens_left}
+use Rattle.timeline.specs.Events.{Event, Wrote}
+use Rattle.timeline.specs.declared.stream.Stream.TheVariants.{Output}
+use Rattle.pgn_teller.specs.declared.reporting.GameText.{GameText}
+use Rattle.pgn_teller.specs.declared.reporting.Step.{Step}
+use Rattle.pgn_teller.specs.declared.reporting.Step.TheVariants as step
+use Rattle.pgn_teller.specs.Ratings.{Ruling}
+use Rattle.pgn_teller.specs.Reports.{IsPgnLine, Line, ReadsNext, ReadsTables, ReportsGame, Stage, StopsAt, Terms, Turn, gone_out, is_written, line_out, turn_events}
 
--- the line of a game, with its line feed
-abbrev pub IsTextOf : (GameTold → RulingTold → Type 0) → Terms → ℕ → ReadingTold → GameText → Type 0
-IsTextOf IsRuling t number reading g =
-    (words : List ℕ) × IsPgnLine IsRuling t number reading (record { words = words; mark = g.mark }) × (g.text.items ≡ ended words)
+-- the text of a line, with its line feed, and what counts of it
+abbrev pub IsTextOf : Line → GameText → Type 0
+IsTextOf l g = (g.text.items ≡ ended l.words) × (g.mark ≡ l.mark)
 
--- what came of a game that was read
-abbrev pub TellsReading : (GameTold → RulingTold → Type 0) → Terms → Sums → ReadingTold → Sums → Option (List ℕ) → Option (List ℕ) → Step → Type 0
-TellsReading IsRuling t s reading new before after step.Told = (l : Line) × IsPgnLine IsRuling t (one_more s.games) reading l × (new ≡ counted s l.mark) × Appends before after (written_line t.only_differing l)
-TellsReading IsRuling t s reading new before after step.Ended = ⊥
-TellsReading IsRuling t s reading new before after step.Cut = (new ≡ s) × Appends before after (ended refused_memory)
+-- the line of a game is made, behind what is read for it; or memory is refused
+abbrev pub MakesText : {K : Type 0} → Ruling K → K → K → Terms → ℕ → ReadingTold → Result GameText AllocError → List Event → Type 0
+MakesText Rules k next t number reading (Ok g) tables = (l : Line) × IsPgnLine Rules k next t number reading tables l × IsTextOf l g
+MakesText Rules k next t number reading (Err e) tables = ReadsTables Rules k reading tables
 
--- of what came of it a front was written
-abbrev pub CutsReading : (GameTold → RulingTold → Type 0) → Terms → Sums → ReadingTold → Option (List ℕ) → Option (List ℕ) → Type 0
-CutsReading IsRuling t s reading before after =
-    ((l : Line) × IsPgnLine IsRuling t (one_more s.games) reading l × HasFront before after (written_line t.only_differing l)) ⊎ HasFront before after (ended refused_memory)
+-- a text is written, and goes out
+abbrev pub GoesOut : List ℕ → List Event → Option (Unit {0}) → Type 0
+GoesOut text events is = events ≡ gone_out text
 
--- what came of the next game
-abbrev pub TellsNext : (GameTold → RulingTold → Type 0) → Terms → Sums → Type 0 → List Token → Sums → Option (List Token) → Option (List ℕ) → Option (List ℕ) → Step → Type 0
-TellsNext IsRuling t s Fails tokens new left before after step.Told =
-    (reading : ReadingTold) × (behind : List Token) × (left ≡ Some behind) × ReadsGame tokens (Some reading) behind × ((l : Line) × IsPgnLine IsRuling t (one_more s.games) reading l × (new ≡ counted s l.mark) × Appends before after (written_line t.only_differing l))
-TellsNext IsRuling t s Fails tokens new left before after step.Ended = (rest : List Token) × ReadsGame tokens None rest × (new ≡ s) × (after ≡ before)
-TellsNext IsRuling t s Fails tokens new left before after step.Cut = (new ≡ s) × ((words : List ℕ) × StopsBy Fails words × Appends before after (ended words))
+-- a last text is written, and this is what it comes to
+abbrev pub WritesLast : List ℕ → Bool → List Event → Option Bool → Type 0
+WritesLast text well events is = (events ≡ Wrote Output text ∷ []) × (is ≡ Some well)
 
--- of that a front was written
-abbrev pub CutsNext : (GameTold → RulingTold → Type 0) → Terms → Sums → Type 0 → List Token → Option (List ℕ) → Option (List ℕ) → Type 0
-CutsNext IsRuling t s Fails tokens before after = (text : List ℕ) × IsNextText IsRuling t s Fails tokens text × HasFront before after text
+abbrev pub text_out : Bool → GameText → List Event
+text_out only_differing g = if is_written only_differing g.mark then gone_out g.text.items else []
+
+abbrev pub WritesText : Bool → GameText → List Event → Option Step → Type 0
+WritesText only_differing g events is = (events ≡ text_out only_differing g) × (is ≡ Some (step.Reported g.mark))
+
+-- a game that was read is reported; or memory is refused for its line, which is printed
+pub data ReportsReading {K : Type 0} (Rules : Ruling K) (k next : K) (t : Terms) (number : ℕ) (reading : ReadingTold) (events : List Event) (is : Option Step) : Type 0 where
+  LineOf : (tables : List Event) (l : Line) → IsPgnLine Rules k next t number reading tables l → events ≡ tables ++ line_out t.only_differing l → is ≡ Some (step.Reported l.mark) → ReportsReading Rules k next t number reading events is
+  NoLine : (tables : List Event) → ReadsTables Rules k reading tables → events ≡ tables ++ printed (refused_memory ∷ []) → is ≡ Some step.Cut → ReportsReading Rules k next t number reading events is
+
+-- how far a reader of an input has come, of whose lines these bytes are left
+abbrev pub stage_of : {K : Type 0} → Option (List ℕ) → PgnReader → K → Stage K
+stage_of bytes reader k = record { bytes = bytes; tokens = tokens_left bytes reader; known = k }
+
+-- what comes of the next game: it is reported; or there is none; or why no more is reported is printed
+pub data ReportsNext {K : Type 0} (Rules : Ruling K) (t : Terms) (Fails : Type 0) (number : ℕ) (at now : Stage K) (events : List Event) (is : Option Step) : Type 0 where
+  IsReported : (g : Turn) → ReportsGame Rules t number at now g → events ≡ turn_events t g → is ≡ Some (step.Reported g.line.mark) → ReportsNext Rules t Fails number at now events is
+  IsEnded : ReadsNext at now None events → is ≡ Some step.Ended → ReportsNext Rules t Fails number at now events is
+  IsCut : (words : List ℕ) (last : List Event) → StopsAt Rules Fails at words last → events ≡ last ++ printed (words ∷ []) → is ≡ Some step.Cut → ReportsNext Rules t Fails number at now events is

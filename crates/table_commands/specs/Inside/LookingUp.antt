@@ -11,7 +11,7 @@ use Rattle.table_folder.specs.declared.fault.FileRefusal.{FileRefusal}
 use Rattle.table_folder.specs.Folders.{Folder, FolderOn}
 use Rattle.table_folder.specs.Settled.{AnswersBy, IsAlone, IsRefusedFor}
 use Rattle.task_files.specs.Outside.{FolderFails}
-use Rattle.table_commands.specs.FolderAnswers.{IsOpenAt, IsSound}
+use Rattle.table_commands.specs.FolderAnswers.{IsOpenAt, IsSound, TablesOn}
 use Rattle.answer_parts.specs.declared.answers.refusals.Refusal.{Refusal}
 use Rattle.answer_parts.specs.declared.answers.refusals.Refusal.TheVariants as refusal
 
@@ -29,3 +29,14 @@ abbrev pub folder_opened : {D E : Type 0} → Result (Result (FolderOn D) Refusa
 folder_opened (Ok (Ok f)) = Ok (Ok f.folder)
 folder_opened (Ok (Err refused)) = Ok (Err refused)
 folder_opened (Err e) = Err e
+
+-- the folder that was opened to be asked
+abbrev pub opened_to_ask : {D S E : Type 0} → Result (Result (FolderOn D × S) Refusal) E → Result (Result Folder Refusal) E
+opened_to_ask (Ok (Ok o)) = Ok (Ok o.0.folder)
+opened_to_ask (Ok (Err refused)) = Ok (Err refused)
+opened_to_ask (Err e) = Err e
+
+abbrev pub kept_to_ask : {D E : Type 0} → Result (Result (TablesOn D) Refusal) E → Result (Result Folder Refusal) E
+kept_to_ask (Ok (Ok o)) = Ok (Ok o.on.folder)
+kept_to_ask (Ok (Err refused)) = Ok (Err refused)
+kept_to_ask (Err e) = Err e

@@ -32,7 +32,7 @@ returns-in-Ok-Err g c =
     let lacks = subst (GivesKeys (g.D.Disk.facts c.args.system.now.disk.now) c.in-Some.path.now) c.in-Ok-Err.field-0-is c.in-Ok-Err.ensures in
     record {
       answered = NoKeys c.in-Some.path.now named (refusal_words c.in-Ok-Err.refusal) lacks c.put_refusal.ensures.told;
-      quiet = λ unasked. inl refl;
+      quiet = inl refl;
       made = makes_nothing _ _;
       cause = c.put_refusal.ensures.cause;
     }
@@ -42,7 +42,7 @@ returns-in-Err g c =
     let named : key_in c.args.task.now ≡ Some c.in-Some.path.now = sym c.key.ensures ∙ ap (option_map (λ s. s.now)) c.in-Some.is in
     record {
       answered = NoRoomForKeys c.in-Some.path.now named c.put_refusal-in-Err.ensures.told;
-      quiet = λ unasked. inl refl;
+      quiet = inl refl;
       made = makes_nothing _ _;
       cause = c.put_refusal-in-Err.ensures.cause;
     }

@@ -11,7 +11,7 @@ returns-in-Ok g c =
 pub returns-in-Err-Unreadable : goal.returns-in-Err-Unreadable
 returns-in-Err-Unreadable g c =
     let cause = rw c.places-places.ensures at (c.in-Err-Unreadable.ensures.cause (ap Err c.in-Err-Unreadable.field-0-is)) in
-    record { answered = Unread cause c.put_refusal.ensures.told; quiet = λ unasked. inl refl; made = makes_nothing _ _; cause = c.put_refusal.ensures.cause }
+    record { answered = Unread cause c.put_refusal.ensures.told; quiet = inl refl; made = makes_nothing _ _; cause = c.put_refusal.ensures.cause }
 
 pub returns-in-Err-OutOfMemory-clause-made : goal.returns-in-Err-OutOfMemory-clause-made
 returns-in-Err-OutOfMemory-clause-made g c = makes_nothing _ _

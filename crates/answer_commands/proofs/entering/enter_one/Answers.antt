@@ -1,8 +1,8 @@
 use Rattle.std.proofs.Common.{◌∷◌, []}
 use Rattle.answer_parts.specs.Lines.{refused_fen}
 use Rattle.answer_commands.specs.Enter.{BadStart, ByManifest, EntersOne, FromStart, PutsGame, entered, placed}
-use Rattle.answer_commands.specs.Printing.{Prints}
-use Rattle.answer_commands.proofs.PrintLaws.{does_so}
+use Rattle.answer_parts.specs.Printing.{Prints}
+use Rattle.answer_parts.proofs.PrintLaws.{does_so}
 use Rattle.answer_commands.proofs.entering.enter_one.Goals as goal
 
 pub returns-in-Ok-clause-made : goal.returns-in-Ok-clause-made

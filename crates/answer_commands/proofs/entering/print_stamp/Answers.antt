@@ -1,8 +1,8 @@
 use Rattle.std.proofs.Common.{◌∷◌, [], refl}
 use Rattle.hex.specs.Hex.{encode_lower}
 use Rattle.move_msg.specs.TextLines.{ended}
-use Rattle.answer_commands.specs.Printing.{Prints}
-use Rattle.answer_commands.proofs.PrintLaws.{cuts_one, fails_at, writes_one}
+use Rattle.answer_parts.specs.Printing.{Prints}
+use Rattle.answer_parts.proofs.PrintLaws.{cuts_one, fails_at, writes_one}
 use Rattle.answer_commands.proofs.entering.print_stamp.Goals as goal
 
 pub returns-in-Ok-clause-made : goal.returns-in-Ok-clause-made

@@ -1,6 +1,6 @@
 use Rattle.std.proofs.Common.{[], refl}
 use Rattle.move_msg.specs.TextLines.{ended}
-use Rattle.answer_commands.proofs.PrintLaws.{fails_at}
+use Rattle.answer_parts.proofs.PrintLaws.{fails_at}
 use Rattle.answer_commands.proofs.EnterLaws.{word_cut}
 use Rattle.answer_commands.proofs.entering.tell_step.Goals as goal
 

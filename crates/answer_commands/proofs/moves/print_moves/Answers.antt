@@ -1,7 +1,7 @@
 use Rattle.answer_commands.specs.Inside.Answering.{PrintsAnswered}
 use Rattle.answer_commands.specs.Moves.{PrintsMoves}
 use Rattle.answer_commands.proofs.MoveLaws.{prints_moves}
-use Rattle.answer_commands.proofs.PrintLaws.{does_so}
+use Rattle.answer_parts.proofs.PrintLaws.{does_so}
 use Rattle.answer_commands.proofs.moves.print_moves.Goals as goal
 
 pub returns-clause-made : goal.returns-clause-made

@@ -1,4 +1,4 @@
-use Rattle.answer_commands.proofs.PrintLaws.{not_out, was_refused}
+use Rattle.answer_commands.proofs.EndLaws.{not_out, was_refused}
 use Rattle.answer_commands.proofs.printing.end.Goals as goal
 
 pub returns-in-Err-answered : goal.returns-in-Err-answered

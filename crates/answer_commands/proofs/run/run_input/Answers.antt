@@ -6,7 +6,8 @@ use Rattle.timeline.specs.Events.{InputRead}
 use Rattle.answer_commands.specs.Inside.Answering.{PrintsAnswered}
 use Rattle.answer_commands.specs.Inside.Running.{RunsRead}
 use Rattle.answer_commands.specs.Run.{NoSchedule}
-use Rattle.answer_commands.proofs.PrintLaws.{then_does, then_prints, unread_by}
+use Rattle.answer_commands.proofs.EndLaws.{unread_by}
+use Rattle.answer_parts.proofs.PrintLaws.{then_does, then_prints}
 use Rattle.answer_commands.proofs.RunLaws.{prints_run}
 use Rattle.answer_commands.proofs.run.run_input.Goals as goal
 

@@ -4,7 +4,8 @@ use Rattle.line_teller.specs.ToldLines.{cut_words}
 use Rattle.timeline.specs.Events.{InputRead}
 use Rattle.answer_commands.specs.Inside.Streaming.{ShowsStream}
 use Rattle.answer_commands.specs.Show.{NotShown, ShowsMessages}
-use Rattle.answer_commands.proofs.PrintLaws.{then_does, then_prints, unread_by}
+use Rattle.answer_commands.proofs.EndLaws.{unread_by}
+use Rattle.answer_parts.proofs.PrintLaws.{then_does, then_prints}
 use Rattle.answer_commands.proofs.ShowLaws.{shows_input}
 use Rattle.answer_commands.proofs.show.show_input.Goals as goal
 

@@ -1,5 +1,5 @@
 use Rattle.std.proofs.Common.{refl}
-use Rattle.answer_commands.proofs.PrintLaws.{fails_at}
+use Rattle.answer_parts.proofs.PrintLaws.{fails_at}
 use Rattle.answer_commands.proofs.ShowLaws.{nothing_shown, shown_cut, shown_fault, shown_front, shown_whole, shows_more}
 use Rattle.answer_commands.proofs.show.show_messages.Goals as goal
 

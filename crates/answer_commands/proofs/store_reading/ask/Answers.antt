@@ -1,30 +1,9 @@
-use Rattle.std.proofs.Common.{ap}
-use Rattle.std.specs.Prelude.{Err, map, string_bytes}
-use Rattle.system_io.specs.Records.{records_of}
-use Rattle.answer_commands.proofs.StoreLaws.{asked, listed, no_folder, no_room, no_store, unlisted}
+use Rattle.std.proofs.Common.{refl}
+use Rattle.answer_commands.proofs.StoreLaws.{asked}
 use Rattle.answer_commands.proofs.store_reading.ask.Goals as goal
 
-pub returns-in_default-names : goal.returns-in_default-names
-returns-in_default-names g c =
-    let o = g.S.System.outside c.args.system.now in
-    no_folder o _ _ c.args.folder.now _ (unlisted o _ _ c.args.folder.now _ (λ is. c.in_default-names.ensures.cause (ap Err is)) c.in_default-names.ensures.made)
-
-pub returns-in-Ok-read_store : goal.returns-in-Ok-read_store
-returns-in-Ok-read_store g c =
-    let o = g.S.System.outside c.args.system.now in
-    let names = map string_bytes c.in-Ok-names.names.items in
-    asked o _ _ _ c.args.folder.now names (records_of c.in-Ok-read_store.entries.items) (listed o _ _ c.args.folder.now names c.in-Ok-names.ensures.listed c.in-Ok-names.ensures.made) (rw c.in-Ok.ensures.paths at (rw c.deref.ensures.value at c.in-Ok-read_store.ensures))
-
-pub returns-in-Err-Unreadable : goal.returns-in-Err-Unreadable
-returns-in-Err-Unreadable g c =
-    let o = g.S.System.outside c.args.system.now in
-    let names = map string_bytes c.in-Ok-names.names.items in
-    let read = rw c.in-Err-Unreadable.field-0-is at c.in-Err-Unreadable.ensures in
-    no_store o _ _ _ _ c.args.folder.now names (listed o _ _ c.args.folder.now names c.in-Ok-names.ensures.listed c.in-Ok-names.ensures.made) (rw c.in-Ok.ensures.paths at (rw c.deref.ensures.value at read)) (rw c.in-Ok.ensures.unread at (rw c.as_str.ensures.value at c.note.ensures.made))
+pub returns-in-Ok : goal.returns-in-Ok
+returns-in-Ok g c = asked (g.S.System.outside c.args.system.now) _ _ c.args.folder.now _ _ refl c.in-Ok.ensures
 
 pub returns : goal.returns
-returns g c =
-    let o = g.S.System.outside c.args.system.now in
-    let names = map string_bytes c.in-Ok-names.names.items in
-    let read = rw c.in-Err-OutOfMemory.field-0-is at c.in-Err-OutOfMemory.ensures in
-    no_room o _ _ _ c.args.folder.now names (listed o _ _ c.args.folder.now names c.in-Ok-names.ensures.listed c.in-Ok-names.ensures.made) (rw c.in-Ok.ensures.paths at (rw c.deref.ensures.value at read))
+returns g c = asked (g.S.System.outside c.args.system.now) _ _ c.args.folder.now _ _ refl c.in-Err.ensures

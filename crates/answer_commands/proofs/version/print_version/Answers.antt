@@ -1,5 +1,5 @@
 use Rattle.std.proofs.Common.{refl}
-use Rattle.answer_commands.proofs.PrintLaws.{cuts_one, fails_at, writes_one}
+use Rattle.answer_parts.proofs.PrintLaws.{cuts_one, fails_at, writes_one}
 use Rattle.answer_commands.specs.Version.{PrintsVersion, version_text}
 use Rattle.answer_commands.proofs.version.print_version.Goals as goal
 

@@ -7,7 +7,7 @@ use Rattle.line_events.proofs.lines.answer_in_turn.Given as goal
 
 abbrev pub invariant-loop-before : goal.invariant-loop-before
 invariant-loop-before g l = record {
-  told : AddsSome (g.S.System.outside l.system) l.fn.timeline l.timeline (HasTold (g.A.LineAnswerer.answering l.fn.answerer) l.progress ((g.S.System.outside l.system).lines l.fn.lines).left ((g.S.System.outside l.system).lines l.lines).left l.before l.done);
+  told : AddsSome (g.S.System.outside l.system) l.fn.timeline l.timeline (HasTold (g.A.LineAnswerer.answering l.fn.answerer) l.progress (g.A.LineAnswerer.known l.fn.answerer) (g.A.LineAnswerer.known l.answerer) ((g.S.System.outside l.system).lines l.fn.lines).left ((g.S.System.outside l.system).lines l.lines).left l.before l.done);
   stops : (fault : ReadFault) → stops_by ((g.S.System.outside l.system).lines l.lines) fault → stops_by ((g.S.System.outside l.system).lines l.fn.lines) fault;
   same : AnswersNoMore (g.A.LineAnswerer.answering l.fn.answerer) (g.A.LineAnswerer.answering l.answerer);
   from : g.A.LineAnswerer.reads_from l.answerer l.system;

@@ -1,5 +1,5 @@
 use Rattle.std.proofs.Common.{◌∷◌, []}
-use Rattle.line_events.proofs.PrintLaws.{prints_front, prints_whole}
+use Rattle.answer_parts.proofs.PrintLaws.{prints_front, prints_whole}
 use Rattle.line_events.specs.declared.lines.Step.TheVariants as step
 use Rattle.line_teller.specs.ToldLines.{cut_words}
 use Rattle.line_events.proofs.lines.write_cut.Goals as goal

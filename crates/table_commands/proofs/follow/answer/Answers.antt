@@ -1,12 +1,21 @@
 use Rattle.std.proofs.Common.{subst}
-use Rattle.fen_text.specs.Fen.{IsFirstFenFault, SpellsPosition}
-use Rattle.table_commands.specs.Follow.{BadStart, FromStart}
+use Rattle.std.specs.Prelude.{Ok, Err}
+use Rattle.command_line.specs.Commands.Follow as words
+use Rattle.line_events.proofs.WritingLaws.{done_by_it, unread_first}
+use Rattle.task_files.specs.InputReads.{ReadsGiven}
+use Rattle.task_files.specs.Sources.{Named}
+use Rattle.timeline.specs.Outsides.{AddsSome}
+use Rattle.table_commands.specs.Follow.{FollowsGiven}
 use Rattle.table_commands.proofs.follow.answer.Goals as goal
 
-pub returns-in-Err-clause-told : goal.returns-in-Err-clause-told
-returns-in-Err-clause-told g c =
-    let fault = subst (λ text. IsFirstFenFault text c.in-Err.fault) c.as_bytes.ensures.value c.in-Err.ensures.err in
-    BadStart c.in-Err.fault fault c.put_refusal.ensures.told
+pub returns-in-Ok-clause-made : goal.returns-in-Ok-clause-made
+returns-in-Ok-clause-made g c =
+    let o = g.S.System.outside c.args.system.now in
+    let read = subst (λ (n : Named). AddsSome o c.args.timeline.now c.read_inputs.new.timeline (ReadsGiven o n (Ok c.in-Ok.sources))) c.places-names.ensures c.in-Ok.ensures in
+    done_by_it o (ReadsGiven o (words.named c.args.task.now)) (FollowsGiven o.disk o.input c.args.task.now) _ _ _ c.in-Ok.sources c.follow_given.result read c.follow_given.ensures.made
 
-pub returns-in-Ok-clause-told : goal.returns-in-Ok-clause-told
-returns-in-Ok-clause-told g c = FromStart c.in-Ok.start (subst (λ text. SpellsPosition text c.in-Ok.start) c.as_bytes.ensures.value c.in-Ok.ensures.ok) c.in-Ok.ensures.position c.answer_at.ensures.told
+pub returns-in-Err-clause-made : goal.returns-in-Err-clause-made
+returns-in-Err-clause-made g c =
+    let o = g.S.System.outside c.args.system.now in
+    let read = subst (λ (n : Named). AddsSome o c.args.timeline.now c.read_inputs.new.timeline (ReadsGiven o n (Err c.in-Err.fault))) c.places-names.ensures c.in-Err.ensures in
+    unread_first o (ReadsGiven o (words.named c.args.task.now)) (FollowsGiven o.disk o.input c.args.task.now) _ _ _ c.in-Err.fault c.print_unread.result read c.print_unread.ensures.made

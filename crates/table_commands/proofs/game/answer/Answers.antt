@@ -1,14 +1,12 @@
-use Rattle.answer_parts.specs.Asked.{reply_of}
-use Rattle.answer_parts.proofs.TextLaws.{for_memory, for_none, for_position}
+use Rattle.std.proofs.Common.{refl}
+use Rattle.table_commands.specs.FolderReads.{fen_refusal}
+use Rattle.table_commands.specs.Game.{PlaysFrom}
+use Rattle.table_commands.proofs.FolderReadLaws.{makes_for_none, makes_for_text}
 use Rattle.table_commands.proofs.game.answer.Goals as goal
 
-pub returns-in-Err-clause-ok : goal.returns-in-Err-clause-ok
-returns-in-Err-clause-ok g c = for_none _ _ _ c.in-Err.fault c.as_bytes.ensures.value c.in-Err.ensures.err
+pub returns-in-Err : goal.returns-in-Err
+returns-in-Err g c = makes_for_none _ _ fen_refusal (PlaysFrom _ c.args.task.now c.args.sources.now) c.in-Err.fault _ _ c.as_bytes.ensures.value c.in-Err.ensures.err refl
 
-pub returns-in-Ok-clause-ok : goal.returns-in-Ok-clause-ok
-returns-in-Ok-clause-ok g c =
-    for_position reply_of c.answer_from.result _ _ c.in-Ok.position c.as_bytes.ensures.value c.in-Ok.ensures.ok c.in-Ok.ensures.position _ c.answer_from.ensures
-
-pub returns-in-Ok-clause-memory : goal.returns-in-Ok-clause-memory
-returns-in-Ok-clause-memory g c =
-    for_memory reply_of c.answer_from.result _ _ c.in-Ok.position c.as_bytes.ensures.value c.in-Ok.ensures.ok c.in-Ok.ensures.position
+pub returns-in-Ok : goal.returns-in-Ok
+returns-in-Ok g c =
+    makes_for_text _ _ fen_refusal (PlaysFrom (g.F.TableFiles.facts c.args.disk.now) c.args.task.now c.args.sources.now) c.in-Ok.position _ _ _ c.as_bytes.ensures.value c.in-Ok.ensures.ok c.in-Ok.ensures.position c.answer_from.ensures

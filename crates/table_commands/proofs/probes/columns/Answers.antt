@@ -4,5 +4,4 @@ use Rattle.table_commands.proofs.probes.columns.Goals as goal
 
 pub returns-clause-told : goal.returns-clause-told
 returns-clause-told c =
-    OfPosition c.args.position.now c.requires.spelled c.requires.position c.in_ok-columns.columns.probed c.in_ok-columns.ensures.told
-    (rw (c.in_ok-columns.ensures.verdict, c.has_both.ensures) refl)
+    OfPosition c.args.position.now c.requires.spelled c.requires.position c.in_ok-columns.columns.probed c.in_ok-columns.ensures.told (rw (c.has_both.ensures, c.in_ok-columns.ensures.verdict) refl)

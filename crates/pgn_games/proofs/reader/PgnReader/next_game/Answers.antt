@@ -14,4 +14,4 @@ returns-clause-game g c =
     let cursor = c.tell_game.new.cursor in
     let first = course_of c.new-course.result in
     let last = course_of c.tell_game.new.course in
-    known_of (λ o. tokens_with old.cursor (read_text o)) (λ n. tokens_with cursor (read_text n)) (g.L.LineReader.facts old.lines).left (g.L.LineReader.facts c.tell_game.new.lines).left (λ o n. ReadsToEnd first (tokens_with old.cursor (read_text o)) last (tokens_with cursor (read_text n))) (λ tokens behind. ReadsGame tokens (option_map reading_of c.reading.result) behind) (λ o n h. reading_told old.usual first last _ _ _ old.is_usual old.is_position c.new-course.ensures c.reading.ensures h) c.in_ok-tell_game.ensures.told
+    known_of (λ o. tokens_with old.cursor (read_text o)) (λ n. tokens_with cursor (read_text n)) ((g.S.System.outside c.args.system.now).lines c.args.lines.now).left ((g.S.System.outside c.args.system.now).lines c.tell_game.new.lines).left (λ o n. ReadsToEnd first (tokens_with old.cursor (read_text o)) last (tokens_with cursor (read_text n))) (λ tokens behind. ReadsGame tokens (option_map reading_of c.reading.result) behind) (λ o n h. reading_told old.usual first last _ _ _ old.is_usual old.is_position c.new-course.ensures c.reading.ensures h) c.in_ok-tell_game.ensures.told

@@ -2,9 +2,21 @@ use Rattle.std.proofs.Common.{true}
 use Rattle.json_lines.specs.Told.{IsLineOf}
 use Rattle.judge_core.specs.declared.ask.Ask.TheVariants.{Strict}
 use Rattle.table_folder.specs.Settled.{IsWithMoves}
-use Rattle.table_commands.proofs.FolderLaws.{found_apart}
+use Rattle.table_folder.specs.declared.files.SystemFiles.{SystemFiles}
+use Rattle.table_commands.proofs.FolderReadLaws.{found_apart, found_kept, found_nowhere}
 use Rattle.table_commands.proofs.folders.OpenFolder.json_with_moves.Goals as goal
 
-pub returns-clause-found : goal.returns-clause-found
-returns-clause-found g c =
-    found_apart g.D.Disk.facts c.kept_json_with_moves-2.result (IsWithMoves c.args.position.now) (λ tables l. IsLineOf Strict true tables c.args.position.now l) c.in_ok-apart.ensures c.kept_json_with_moves.ensures.folder c.kept_json_with_moves-2.ensures.found
+pub returns-in-Ok-clause-made : goal.returns-in-Ok-clause-made
+returns-in-Ok-clause-made g c = rw (← c.self.view_is) (found_kept _ _ (IsWithMoves c.args.position.now) (λ tables l. IsLineOf Strict true tables c.args.position.now l) _ c.json_with_moves_by.new.set.tables c.in-Ok.found _ _ c.in-Ok.ensures.made)
+
+pub returns-in-Err-apart-clause-made : goal.returns-in-Err-apart-clause-made
+returns-in-Err-apart-clause-made g c =
+    rw (← c.self.view_is) (found_nowhere _ _ (IsWithMoves c.args.position.now) (λ tables l. IsLineOf Strict true tables c.args.position.now l) _ c.json_with_moves_by.new.set.tables c.in-Err.field-0 c.in-Err-apart.fault _ _ c.in-Err.ensures.made)
+
+pub returns-in-Err-new_set-clause-made : goal.returns-in-Err-new_set-clause-made
+returns-in-Err-new_set-clause-made g c =
+    rw (← c.self.view_is) (found_nowhere _ _ (IsWithMoves c.args.position.now) (λ tables l. IsLineOf Strict true tables c.args.position.now l) _ c.json_with_moves_by.new.set.tables c.in-Err.field-0 c.in-Err-new_set.fault _ _ c.in-Err.ensures.made)
+
+pub returns-clause-made : goal.returns-clause-made
+returns-clause-made g c =
+    rw (← c.self.view_is) (found_apart (λ (d : SystemFiles _). (g.S.System.outside d.system.now).disk) (λ (d : SystemFiles _) t. (g.S.System.outside d.system.now).events t) (IsWithMoves c.args.position.now) (λ tables l. IsLineOf Strict true tables c.args.position.now l) _ _ c.json_with_moves_by.new.set.tables c.in-Err.field-0 _ _ c.in-Err.ensures.made c.in-Ok-apart.folder _ c.json_with_moves_by-2.new.set.tables _ c.json_with_moves_by-2.result c.in-Ok-apart.ensures c.in-Ok-new_set.ensures.empty c.json_with_moves_by-2.ensures.made)

@@ -1,8 +1,20 @@
-use Rattle.judge_core.specs.Games.{IsOutcome}
-use Rattle.table_folder.specs.Settled.{IsInPlayBy}
-use Rattle.table_commands.proofs.FolderLaws.{found_apart}
+use Rattle.table_commands.specs.Courses.{IsOutcomeOf, in_play_of}
+use Rattle.table_commands.specs.Inside.Courses.{course_of}
+use Rattle.table_folder.specs.declared.files.SystemFiles.{SystemFiles}
+use Rattle.table_commands.proofs.FolderReadLaws.{found_apart, found_kept, found_nowhere}
 use Rattle.table_commands.proofs.folders.OpenFolder.outcome.Goals as goal
 
-pub returns-clause-found : goal.returns-clause-found
-returns-clause-found g c =
-    found_apart g.D.Disk.facts c.kept_outcome-2.result (IsInPlayBy c.args.start.now c.args.moves.now c.args.delay) (λ tables outcome. IsOutcome (record { start = c.args.start.now; tables = tables; delay = c.args.delay }) c.args.moves.now outcome) c.in_ok-apart.ensures c.kept_outcome.ensures.folder c.kept_outcome-2.ensures.found
+pub returns-in-Ok-clause-made : goal.returns-in-Ok-clause-made
+returns-in-Ok-clause-made g c = rw (← c.self.view_is) (found_kept _ _ (in_play_of (course_of c.args.game.now)) (IsOutcomeOf (course_of c.args.game.now)) _ c.judge_game.new.set.tables c.in-Ok.found _ _ c.in-Ok.ensures.made)
+
+pub returns-in-Err-apart-clause-made : goal.returns-in-Err-apart-clause-made
+returns-in-Err-apart-clause-made g c =
+    rw (← c.self.view_is) (found_nowhere _ _ (in_play_of (course_of c.args.game.now)) (IsOutcomeOf (course_of c.args.game.now)) _ c.judge_game.new.set.tables c.in-Err.field-0 c.in-Err-apart.fault _ _ c.in-Err.ensures.made)
+
+pub returns-in-Err-new_set-clause-made : goal.returns-in-Err-new_set-clause-made
+returns-in-Err-new_set-clause-made g c =
+    rw (← c.self.view_is) (found_nowhere _ _ (in_play_of (course_of c.args.game.now)) (IsOutcomeOf (course_of c.args.game.now)) _ c.judge_game.new.set.tables c.in-Err.field-0 c.in-Err-new_set.fault _ _ c.in-Err.ensures.made)
+
+pub returns-clause-made : goal.returns-clause-made
+returns-clause-made g c =
+    rw (← c.self.view_is) (found_apart (λ (d : SystemFiles _). (g.S.System.outside d.system.now).disk) (λ (d : SystemFiles _) t. (g.S.System.outside d.system.now).events t) (in_play_of (course_of c.args.game.now)) (IsOutcomeOf (course_of c.args.game.now)) _ _ c.judge_game.new.set.tables c.in-Err.field-0 _ _ c.in-Err.ensures.made c.in-Ok-apart.folder _ c.judge_game-2.new.set.tables _ c.judge_game-2.result c.in-Ok-apart.ensures c.in-Ok-new_set.ensures.empty c.judge_game-2.ensures.made)

@@ -1,18 +1,20 @@
 use Rattle.std.proofs.Common.{subst}
-use Rattle.judge_core.specs.Games.{IsOutcome}
-use Rattle.table_folder.specs.Settled.{AreSettled, IsInPlayBy}
+use Rattle.pgn_games.specs.Shown.{game_of}
+use Rattle.table_folder.specs.declared.files.SystemFiles.{SystemFiles}
+use Rattle.timeline.specs.Outsides.{AddsSome}
+use Rattle.table_commands.specs.Pgn.{RulesIn}
+use Rattle.table_commands.proofs.PgnLaws.{game_ruled, reads_on, rules_stay}
 use Rattle.table_commands.proofs.pgn.FolderRulerGameRuler.rule.Goals as goal
 
-pub returns-in-Ok-clause-ruled : goal.returns-in-Ok-clause-ruled
-returns-in-Ok-clause-ruled g c =
-    let by = rw c.in-Ok.is at c.in_ok-outcome.ensures.found in
-    record {
-      tables = by.tables;
-      opened = by.opened;
-      settled = subst (λ ms. AreSettled c.args.self.now.folder.folder by.tables (IsInPlayBy c.args.game.now.start ms c.args.self.now.delay)) c.deref.ensures.value by.settled;
-      answers = record {
-        outcome = c.in-Ok.outcome;
-        is = subst (λ ms. IsOutcome (record { start = c.args.game.now.start; tables = by.tables; delay = c.args.self.now.delay }) ms c.in-Ok.outcome) c.deref.ensures.value by.answers;
-        by = c.ruled_by.ensures;
-      };
-    }
+pub returns-clause-made : goal.returns-clause-made
+returns-clause-made g c =
+    let o = g.S.System.outside c.args.self.now.folder.on.disk.system.now in
+    let on = c.args.self.now.folder.on in
+    let ruled = game_ruled o _ _ o.disk on.folder c.args.self.now.delay (game_of c.args.game.now) _ c.args.self.now.folder.tables c.outcome-found.new.self.tables c.outcome-found.result c.ruling_by.result c.deref.ensures.value c.ruling_by.ensures c.outcome-found.ensures.made in
+    subst (λ s. AddsSome (g.S.System.outside s) c.args.timeline.now c.outcome-found.new.timeline (RulesIn c.args.self.now.delay o.disk on.folder c.args.self.now.folder.tables c.outcome-found.new.self.tables (game_of c.args.game.now) c.ruling_by.result)) c.requires ruled
+
+pub returns-clause-same : goal.returns-clause-same
+returns-clause-same g c = rules_stay (λ (d : SystemFiles _). (g.S.System.outside d.system.now).disk) c.args.self.now.delay c.args.self.now.folder.on c.outcome-found.new.self.on c.outcome-found.ensures.on
+
+pub returns-clause-still : goal.returns-clause-still
+returns-clause-still g c = reads_on (λ (d : SystemFiles _). d.system.now) c.args.self.now.folder.on c.outcome-found.new.self.on _ c.outcome-found.ensures.on c.requires

@@ -28,7 +28,7 @@ loop-columns-preserved g c =
       look.opened,
       (λ kind key t there. look.kept kind key t (c.loop-columns.invariant.1 kind key t there)),
       c.in_ok-columns.ensures.cache ∙ c.loop-columns.invariant.2,
-      adds_more _ _ _ c.loop-columns.invariant.3 look.only,
+      adds_more _ _ _ c.loop-columns.invariant.1 c.loop-columns.invariant.3 look.only,
       opens_both _ _ _ _ _ _ _ _ _ c.loop-columns.invariant.4 (rw c.in-Opened.is at c.in_ok-columns.ensures.made),
     )
 

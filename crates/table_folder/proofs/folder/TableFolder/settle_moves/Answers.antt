@@ -37,12 +37,12 @@ loop-m-preserved g c =
 pub returns-in_err-refusal-2-clause-only : goal.returns-in_err-refusal-2-clause-only
 returns-in_err-refusal-2-clause-only g c =
     let plays = sym c.play.ensures.computed ∙ c.in-Some.is in
-    adds_more _ _ _ c.loop-m.invariant.0.only (only_after _ _ _ _ _ _ (c.deref-m-items.ensures.value ∙ c.in_ok-legal.ensures.computed) c.loop-m-test.true c.m-item.is plays c.settle_one-in-loop-m.ensures.only)
+    adds_more _ _ _ c.loop-m.invariant.0.kept c.loop-m.invariant.0.only (only_after _ _ _ _ _ _ (c.deref-m-items.ensures.value ∙ c.in_ok-legal.ensures.computed) c.loop-m-test.true c.m-item.is plays c.settle_one-in-loop-m.ensures.only)
 
 pub returns-in-Err-2-clause-only : goal.returns-in-Err-2-clause-only
 returns-in-Err-2-clause-only g c =
     let plays = sym c.play.ensures.computed ∙ c.in-Some.is in
-    adds_more _ _ _ c.loop-m.invariant.0.only (only_after _ _ _ _ _ _ (c.deref-m-items.ensures.value ∙ c.in_ok-legal.ensures.computed) c.loop-m-test.true c.m-item.is plays c.settle_one-in-loop-m.ensures.only)
+    adds_more _ _ _ c.loop-m.invariant.0.kept c.loop-m.invariant.0.only (only_after _ _ _ _ _ _ (c.deref-m-items.ensures.value ∙ c.in_ok-legal.ensures.computed) c.loop-m-test.true c.m-item.is plays c.settle_one-in-loop-m.ensures.only)
 
 pub returns-clause-settled : goal.returns-clause-settled
 returns-clause-settled g c = all_done _ (take_all c.loop-m.m-index _ c.loop-m-test.false ∙ c.deref-m-items.ensures.value ∙ c.in_ok-legal.ensures.computed) c.loop-m.invariant.0

@@ -1,0 +1,9 @@
+use Rattle.std.proofs.Common.{◌≡◌, take}
+use Rattle.timeline.specs.Outsides.{AddsSome}
+use Rattle.game_reports.specs.Inside.Opening.{known_folders}
+use Rattle.game_reports.specs.Inside.Reporting.{AreCounted}
+use Rattle.game_reports.proofs.ReportLaws.{FoundSoFar}
+use Rattle.game_reports.proofs.report.count_games.Given as goal
+
+abbrev pub invariant-loop-stamp : goal.invariant-loop-stamp
+invariant-loop-stamp g l = AddsSome (g.S.System.outside l.system) l.fn.timeline l.timeline (FoundSoFar (g.S.System.outside l.system).disk (known_folders l.folders) AreCounted (take l.stamp-index l.folders.stamps.items) l.totals)

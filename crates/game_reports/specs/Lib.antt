@@ -1,0 +1,9 @@
+pub mod StoreReads
+pub mod Writing
+pub mod Folders
+pub mod GameRecords
+pub mod GameLooks
+pub mod GameLines
+pub mod Statuses
+pub mod Audits
+pub mod Inside

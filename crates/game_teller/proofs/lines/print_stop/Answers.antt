@@ -1,0 +1,19 @@
+use Rattle.std.proofs.Common.{◌∷◌, [], refl}
+use Rattle.answer_parts.specs.Printing.{Prints}
+use Rattle.answer_parts.proofs.PrintLaws.{cuts_one, fails_at, writes_one}
+use Rattle.move_msg.specs.TextLines.{ended}
+use Rattle.game_teller.specs.Plies.{stop_words}
+use Rattle.game_teller.proofs.lines.print_stop.Goals as goal
+
+pub returns-in-Ok-clause-made : goal.returns-in-Ok-clause-made
+returns-in-Ok-clause-made g c =
+    let made = rw c.stop_line.ensures at c.in-Ok.ensures.made in
+    writes_one (g.S.System.outside c.args.system.now) _ _ (ended (stop_words c.args.stop)) (Prints (stop_words c.args.stop ∷ []) 1) 1 (refl, refl) made
+
+pub returns-in-Err-clause-made : goal.returns-in-Err-clause-made
+returns-in-Err-clause-made g c =
+    let made = rw c.stop_line.ensures at c.in-Err.ensures.made in
+    cuts_one (g.S.System.outside c.args.system.now) _ _ (ended (stop_words c.args.stop)) c.in-Err.fault (Prints (stop_words c.args.stop ∷ []) 1) 1 (refl, refl) made
+
+pub returns-in-Err-clause-cause : goal.returns-in-Err-clause-cause
+returns-in-Err-clause-cause g c = fails_at (g.S.System.outside c.args.system.now) _ c.in-Err.ensures.cause
