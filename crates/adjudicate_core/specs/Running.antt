@@ -19,7 +19,7 @@ use Rattle.source_core.specs.Lines.{ended_status}
 use Rattle.serve_commands.specs.Hostings.{HostsGames, written}
 use Rattle.task_files.specs.Sources.{CannotRead, IsGiven, TakesMemory}
 use Rattle.serve_core.specs.Serve as serves
-use Rattle.answer_parts.specs.Keys.{HasKeys, LacksKeys}
+use Rattle.serve_commands.specs.Keys.{HasKeys, LacksKeys}
 use Rattle.sealed_port.specs.KeyedHosts.{keyed_host}
 use Rattle.sealed_port.specs.Sealing.{SealedView, sealed_facts}
 use Rattle.sealed_port.specs.declared.seal_port.Keys.{Keys}

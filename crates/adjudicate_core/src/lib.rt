@@ -28,7 +28,7 @@
 //! - CLAIM: `run_program`: beside the timeline standard error gets bytes for a misuse, as `tell_misuse` of command_line has it, and
 //!   where `send` ends as `refused lost`, as `tell_silence` of serve_commands has it; and for nothing else.
 //! - CLAIM: `run_program`: with `--key` the ports of `listen`, `host` and `send` are sealed by the keys of the file, and all else
-//!   is as without it. What is refused of the file is told before all else, as `keys_at` of answer_parts has it.
+//!   is as without it. What is refused of the file is told before all else, as `keys_at` of serve_commands has it.
 #![tactic(auto)]
 
 mod beside;

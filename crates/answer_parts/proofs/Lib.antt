@@ -3,4 +3,3 @@ pub mod ReplyLaws
 pub mod TableLaws
 pub mod TextLaws
 pub mod LookLaws
-pub mod StoreLaws

@@ -8,6 +8,3 @@ pub mod Looks
 pub mod Refusals
 pub mod Manifests
 pub mod Manifesting
-pub mod Keys
-pub mod Keying
-pub mod Stores

@@ -1,9 +1,8 @@
 -- A text that is written, or a front of it where the writer fails; and a refusal of all else.
 use Rattle.std.specs.Prelude.{◌≡◌, ℕ, List, Option, Result, Ok, Err}
 use Rattle.std.specs.Io.KnownBytes.{Appends}
-use Rattle.line_teller.specs.ToldLines.{HasFront}
+use Rattle.line_teller.specs.ToldLines.{HasFront, IsCut}
 use Rattle.move_msg.specs.TextLines.{ended, text_of}
-use Rattle.source_core.specs.Lines.{IsCut}
 use Rattle.system_io.specs.declared.output.WriteFault.{WriteFault}
 
 -- the text was written whole, and this is the status; or, where the writer failed, a front of it was written, and nothing else

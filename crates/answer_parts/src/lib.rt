@@ -1,16 +1,15 @@
 //! What the answers of several commands share: lines and refusals, and what is made of files and folders before an answer.
 //!
 //! An `Answer` is a value, and `print_replied` writes it, with the status: 0 where all is done, 1 where something is refused. `gather` makes
-//! a set of tables of the files that were read, `manifest_for` and `manifest_of_sources` the manifest by which a game is stamped,
-//! `keys_at` the keys of a file, `disk_over` the disk on which the records of a folder are those of its store.
+//! a set of tables of the files that were read, `manifest_for` and `manifest_of_sources` the manifest by which a game is stamped.
 //!
 //! Inside: `answers` with `lines`, `refusals`, each line laid out by `LineWords` of `line_teller` (its parts in `line_parts`), which doesn't
 //! fail, and written at once; `json_faults`, texts that are no position, as JSON;
-//! `tables`, `manifests`, `keys`, `stores`; `printing`, lines and refusals that are written over a system with a timeline.
+//! `tables`, `manifests`; `printing`, lines and refusals that are written over a system with a timeline.
 //!
 //! Definitions, in reading order: `Lines`, `Reply`, `Telling`, `JsonAnswers`, `Asked` (what an `Answer` is) for answers;
 //! `Printing` (`Performs`, `IsCutIn`: what a command does, or a front of it where the output fails);
-//! `Looks`, `Refusals`, `Manifests`, `Manifesting`, `Keys`, `Keying`, `Stores` for files. Its cases stand in `rows`.
+//! `Looks`, `Refusals`, `Manifests`, `Manifesting` for files. Its cases stand in `rows`.
 //!
 //! - CLAIM: `put_line`, `put_refusal`, clause `cause`: an error comes only of a type of writer that may refuse a write, or from which what
 //!   was written can't go out (`HasFailed`).
@@ -18,25 +17,17 @@
 //!   the output of a system, each at once, and nothing else happens; an error comes only where a write may be refused, and leaves a front of them.
 //! - CLAIM: `gather`, clause `tables`: without a manifest the set has the tables of all files, with one those that its lines name, in its
 //!   order; or the first file at fault is refused.
-//! - CLAIM: `keys_at`: what is refused of a file of keys is the first of: it can't be read as a regular file of at most 130 bytes
-//!   (`Disk::read_with_mode` of system_io); its group or others have some right; its first malformed line.
-//! - CLAIM: `disk_over`, clauses `ok`, `err`: where a folder has a store its records are those of the store; a store that can't be read, or a
-//!   folder that can't be listed, is refused.
 #![tactic(auto)]
 
 mod answers;
-mod keys;
 mod manifests;
 mod printing;
-mod stores;
 mod tables;
 
 pub use answers::json_faults::fault_line;
 pub use answers::lines::{KeptCount, Line, RootLine, put_line, put_refusal};
 pub use answers::refusals::{EntryFault, Refusal};
 pub use answers::{Answer, status_if, status_told};
-pub use keys::keys_at;
 pub use manifests::{manifest_for, manifest_of_sources};
 pub use printing::{print_lines, print_refusal, print_replied, print_reply, print_unread};
-pub use stores::disk_over;
 pub use tables::gather;

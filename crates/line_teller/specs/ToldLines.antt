@@ -56,6 +56,14 @@ CutsTold IsTold old new = (told : LineTold) × IsTold told × HasFront old new (
 abbrev pub CutsAfter : List (List ℕ) → List ℕ → Option (List ℕ) → Option (List ℕ) → Type 0
 CutsAfter lines last old new = (n : ℕ) × Appends old new (text_of lines ++ take n (ended last))
 
+-- all lines but the last one were written whole, and a front of that one
+pub record IsCut (lines : List (List ℕ)) (old new : Option (List ℕ)) : Type 0 where
+  pub earlier : List (List ℕ)
+  pub last : List ℕ
+  pub front : ℕ
+  pub all : lines ≡ earlier ++ last ∷ []
+  pub written : Appends old new (text_of earlier ++ take front (ended last))
+
 -- how many lines are done on the way
 abbrev pub done_words : ℕ → List ℕ
 done_words lines = decimal lines ++ codes " done"

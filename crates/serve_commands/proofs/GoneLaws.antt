@@ -7,7 +7,7 @@ use Rattle.arbiter_server.specs.GoingOut.{GoOut, LastIsCut, LinesEnd, Writers}
 use Rattle.line_teller.specs.ToldLines.{HasFailed, HasFront}
 use Rattle.line_teller.proofs.FailLaws.{refused, stuck}
 use Rattle.move_msg.specs.TextLines.{ended, text_of}
-use Rattle.source_core.specs.Lines.{IsCut}
+use Rattle.line_teller.specs.ToldLines.{IsCut}
 use Rattle.system_io.specs.declared.output.WriteFault.{WriteFault}
 use Rattle.answer_parts.specs.Telling.{WritesTo}
 

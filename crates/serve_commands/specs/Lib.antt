@@ -1,4 +1,6 @@
 pub mod Outsides
+pub mod Keys
+pub mod Keying
 pub mod Locks
 pub mod Listens
 pub mod Silences

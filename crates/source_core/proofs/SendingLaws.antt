@@ -38,7 +38,8 @@ use Rattle.system_io.specs.LineReaders.{LineFacts, ReadsLine}
 use Rattle.system_io.specs.Ports.{Passing, Came, Quiet, Missed, Handed, PortFacts, Passed, to_each}
 use Rattle.source_core.specs.Reports.{Knows, StandsSo}
 use Rattle.source_core.specs.Turns.{ComesTo, EachWaitsSoLong, HasSpelling, HasWaited, IsReceived, IsTurn, WaitsSoLong, move_message, one_try, tries_of}
-use Rattle.source_core.specs.Lines.{IsCut, acked_words, end_words, ended_by}
+use Rattle.source_core.specs.Lines.{acked_words, end_words, ended_by}
+use Rattle.line_teller.specs.ToldLines.{IsCut}
 use Rattle.source_core.specs.declared.lines.Ended.{Ended}
 use Rattle.source_core.specs.Boards.{AreBelieved, IsBelieved}
 use Rattle.source_core.proofs.BoardLaws.{believed_first, is_belied}

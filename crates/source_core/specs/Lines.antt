@@ -1,8 +1,6 @@
 -- The lines of a run (this project's own).
-use Rattle.std.specs.Prelude.{◌≡◌, ℕ, List, [], ◌∷◌, ◌++◌, Option, take, codes}
+use Rattle.std.specs.Prelude.{ℕ, List, ◌++◌, codes}
 use Rattle.std.specs.Fmt.{decimal}
-use Rattle.std.specs.Io.KnownBytes.{Appends}
-use Rattle.move_msg.specs.TextLines.{ended, text_of}
 use Rattle.board_core.specs.Verdicts.{verdict_name}
 use Rattle.source_core.specs.declared.report.Ruling.{Ruling}
 use Rattle.source_core.specs.declared.known.Clash.{Clash}
@@ -81,13 +79,3 @@ ended_by at_end.OutOfMemory known = run.With 1
 abbrev pub ended_status : Ended → ℕ
 ended_status (run.With status) = status
 ended_status (run.Lost known) = 1
-
--- ---- a writer that fails
-
--- all lines but the last one were written whole, and a front of that one
-pub record IsCut (lines : List (List ℕ)) (old new : Option (List ℕ)) : Type 0 where
-  pub earlier : List (List ℕ)
-  pub last : List ℕ
-  pub front : ℕ
-  pub all : lines ≡ earlier ++ last ∷ []
-  pub written : Appends old new (text_of earlier ++ take front (ended last))

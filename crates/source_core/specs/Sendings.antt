@@ -25,7 +25,8 @@ use Rattle.source_core.specs.declared.origin.Origin.{Origin}
 use Rattle.source_core.specs.Origins.{EndsStarted, IsOwn}
 use Rattle.source_core.specs.Boards.{IsBelied, IsBelievedRuling}
 use Rattle.source_core.specs.Turns.{AllButLastWaited, EachWaitsSoLong, HasSpelling, HasWaited, IsReceived, WaitsSoLong, move_message, tries_of}
-use Rattle.source_core.specs.Lines.{IsCut, acked_words, end_words, ended_by}
+use Rattle.source_core.specs.Lines.{acked_words, end_words, ended_by}
+use Rattle.line_teller.specs.ToldLines.{IsCut}
 use Rattle.source_core.specs.declared.known.Known.{Known}
 use Rattle.source_core.specs.declared.turn.SendConfig.{SendConfig}
 use Rattle.source_core.specs.declared.lines.Ended.{Ended}

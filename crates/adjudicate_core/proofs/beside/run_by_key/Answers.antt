@@ -1,6 +1,6 @@
 use Rattle.std.proofs.Common.{◌≡◌, ◌∙◌, Some, None, ap, inl, refl, subst, sym}
 use Rattle.std.specs.Prelude.{option_map}
-use Rattle.answer_parts.specs.Keying.{GivesKeys}
+use Rattle.serve_commands.specs.Keying.{GivesKeys}
 use Rattle.answer_parts.specs.Lines.{refusal_words}
 use Rattle.adjudicate_core.specs.Running.{Bare, BySeal, NoKeys, NoRoomForKeys}
 use Rattle.command_line.specs.Tasks.{key_in}

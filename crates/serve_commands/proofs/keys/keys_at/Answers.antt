@@ -1,7 +1,7 @@
 use Rattle.std.proofs.Common.{ap, refl}
-use Rattle.answer_parts.specs.Keys.{BadLine, Shared}
+use Rattle.serve_commands.specs.Keys.{BadLine, Shared}
 use Rattle.answer_parts.specs.Lines.{refused_key}
-use Rattle.answer_parts.proofs.keys.keys_at.Goals as goal
+use Rattle.serve_commands.proofs.keys.keys_at.Goals as goal
 
 pub returns-then-file-ne0 : goal.returns-then-file-ne0
 returns-then-file-ne0 g c =

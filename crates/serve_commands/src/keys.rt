@@ -1,9 +1,9 @@
 //! The keys by which datagrams are sealed.
 
 ghost use Rattle.std.specs.Prelude.{IfOk};
-ghost use Rattle.answer_parts.specs.Keying.{GivesKeys};
+ghost use Rattle.serve_commands.specs.Keying.{GivesKeys};
 
-use crate::answers::refusals::Refusal;
+use answer_parts::Refusal;
 use sealed_port::{Keys, MOST_KEY_BYTES};
 use std::alloc::{AllocError, Global};
 use system_io::{Disk, ReadFault};

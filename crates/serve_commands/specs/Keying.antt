@@ -3,7 +3,7 @@ use Rattle.std.specs.Prelude.{ℕ, List, Result, Ok, Err}
 use Rattle.sealed_port.specs.declared.seal_port.Keys.{Keys}
 use Rattle.system_io.specs.Disks.{DiskFacts}
 use Rattle.answer_parts.specs.declared.answers.refusals.Refusal.{Refusal}
-use Rattle.answer_parts.specs.Keys.{HasKeys, LacksKeys}
+use Rattle.serve_commands.specs.Keys.{HasKeys, LacksKeys}
 use Rattle.answer_parts.specs.Lines.{refusal_words}
 
 abbrev pub GivesKeys : DiskFacts → List ℕ → Result Keys Refusal → Type 0
