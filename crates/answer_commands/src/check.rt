@@ -111,7 +111,7 @@ fn check_folder<S: System>(
     );
     match looked {
         Ok(seen) => print_replied(system, timeline, check_manifest(alloc, &seen, manifest)),
-        Err(fault) => print_unread(system, timeline, fault),
+        Err(fault) => print_unread(system, timeline, fault, 1),
     }
 }
 
@@ -128,6 +128,6 @@ pub(crate) fn print_check<S: System>(
 {
     match manifest_at(alloc, system, timeline, Some(task.manifest)) {
         Ok(manifest) => check_folder(alloc, task, &manifest, system, timeline),
-        Err(fault) => print_unread(system, timeline, fault),
+        Err(fault) => print_unread(system, timeline, fault, 1),
     }
 }

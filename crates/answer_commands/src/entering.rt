@@ -396,7 +396,7 @@ fn enter_listed<S: System>(
 {
     match list_at(alloc, system, timeline, path) {
         Ok(list) => enter_list(alloc, task, &list, system, timeline),
-        Err(fault) => print_unread(system, timeline, fault),
+        Err(fault) => print_unread(system, timeline, fault, 1),
     }
 }
 

@@ -73,7 +73,7 @@ pub(crate) fn reply_to<R: ReplyTask, S: System>(
     let names = task.names();
     match read_inputs(alloc, system, timeline, &names) {
         Ok(given) => print_replied(system, timeline, task.reply(alloc, &given)),
-        Err(fault) => print_unread(system, timeline, fault),
+        Err(fault) => print_unread(system, timeline, fault, 1),
     }
 }
 
@@ -195,6 +195,6 @@ pub(crate) fn make_reply<M: MakingTask, S: System>(
             let answered = task.make(alloc, timeline, &given, &files);
             print_replied(system, timeline, answered)
         }
-        Err(fault) => print_unread(system, timeline, fault),
+        Err(fault) => print_unread(system, timeline, fault, 1),
     }
 }

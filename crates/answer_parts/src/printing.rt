@@ -49,18 +49,29 @@ pub fn print_refusal<S: System>(
     }
 }
 
-/// Writes why something wasn't read, and returns the status 1.
-pub fn print_unread<S: System>(
+/// The refusal of what wasn't read.
+fn refusal_of(fault: ReadFault) -> Refusal
+    ensures { refusal_words result ≡ cut_words fault }
+{
+    match fault {
+        ReadFault::Unreadable => Refusal::Files,
+        ReadFault::OutOfMemory => Refusal::Memory,
+    }
+}
+
+/// Writes why something wasn't read, and returns what comes of that: of a command the status 1.
+pub fn print_unread<S: System, X: Copy>(
     system: &S,
     timeline: &mut S::Timeline,
     fault: ReadFault,
-) -> Result<u8, WriteFault>
-    ensures made { AddsSome (S.outside system.now) timeline.old timeline.new (Performs (Prints (cut_words fault ∷ []) 1) result) }
+    outcome: X,
+) -> Result<X, WriteFault>
+    ensures made { AddsSome (S.outside system.now) timeline.old timeline.new (Performs (Prints (cut_words fault ∷ []) outcome) result) }
     ensures cause { OnErr result (OutputFails (S.outside system.now)) }
 {
-    match fault {
-        ReadFault::Unreadable => print_refusal(system, timeline, Refusal::Files),
-        ReadFault::OutOfMemory => print_refusal(system, timeline, Refusal::Memory),
+    match print_refusal(system, timeline, refusal_of(fault)) {
+        Ok(_) => Ok(outcome),
+        Err(fault) => Err(fault),
     }
 }
 
