@@ -1,6 +1,6 @@
 //! The answers to the lines of the input as they come, over a system with a timeline.
 
-ghost use Rattle.std.specs.Prelude.{◌≡◌, List, ℕ, IsErrOf, OnErr};
+ghost use Rattle.std.specs.Prelude.{◌≡◌, IsErrOf, OnErr};
 ghost use Rattle.line_events.specs.Inside.Lines.{AnswersRead, GoesOut};
 ghost use Rattle.line_events.specs.LineEvents.{Answering, AnswersInput, AnswersLine, AnswersLines, AnswersNoMore, MayTellProgress, TakesTurn};
 ghost use Rattle.answer_parts.specs.Printing.{OutputFails, Performs};
