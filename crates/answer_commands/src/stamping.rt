@@ -1,10 +1,8 @@
 //! The manifest by which games are stamped that are entered.
 
-ghost use Rattle.std.specs.Prelude.{◌≡◌, ℕ, List, None, Some, option_map};
-ghost use Rattle.answer_parts.specs.Lines.{refusal_words};
+ghost use Rattle.std.specs.Prelude.{ℕ, List, None, Some, option_map};
 ghost use Rattle.answer_commands.specs.Inside.Entering.{stamping_taken};
 ghost use Rattle.answer_commands.specs.Stamping.{ReadsStamping};
-ghost use Rattle.line_teller.specs.ToldLines.{cut_words};
 ghost use Rattle.timeline.specs.Outsides.{AddsSome};
 
 use answer_parts::Refusal;
@@ -13,16 +11,6 @@ use std::alloc::Global;
 use system_io::ReadFault;
 use task_files::look_at_tables;
 use timeline::System;
-
-/// Why something wasn't read.
-fn unread(fault: ReadFault) -> Refusal
-    ensures { refusal_words result ≡ cut_words fault }
-{
-    match fault {
-        ReadFault::Unreadable => Refusal::Files,
-        ReadFault::OutOfMemory => Refusal::Memory,
-    }
-}
 
 /// The manifest at a path.
 fn file_manifest<S: System>(
@@ -35,7 +23,7 @@ fn file_manifest<S: System>(
 {
     let text = match system.read(timeline, alloc, path) {
         Ok(text) => text,
-        Err(fault) => return Err(unread(fault)),
+        Err(fault) => return Err(Refusal::unread(fault)),
     };
     match manifest_read(alloc, &text) {
         Ok(_) => Ok(text),
@@ -63,7 +51,7 @@ fn folder_manifest<S: System>(
     );
     let lines = match looked {
         Ok(lines) => lines,
-        Err(fault) => return Err(unread(fault)),
+        Err(fault) => return Err(Refusal::unread(fault)),
     };
     match manifest_write(alloc, &lines) {
         Ok(text) => Ok(text),

@@ -49,16 +49,6 @@ pub fn print_refusal<S: System>(
     }
 }
 
-/// The refusal of what wasn't read.
-fn refusal_of(fault: ReadFault) -> Refusal
-    ensures { refusal_words result ≡ cut_words fault }
-{
-    match fault {
-        ReadFault::Unreadable => Refusal::Files,
-        ReadFault::OutOfMemory => Refusal::Memory,
-    }
-}
-
 /// Writes why something wasn't read, and returns what comes of that: of a command the status 1.
 pub fn print_unread<S: System, X: Copy>(
     system: &S,
@@ -69,7 +59,7 @@ pub fn print_unread<S: System, X: Copy>(
     ensures made { AddsSome (S.outside system.now) timeline.old timeline.new (Performs (Prints (cut_words fault ∷ []) outcome) result) }
     ensures cause { OnErr result (OutputFails (S.outside system.now)) }
 {
-    match print_refusal(system, timeline, refusal_of(fault)) {
+    match print_refusal(system, timeline, Refusal::unread(fault)) {
         Ok(_) => Ok(outcome),
         Err(fault) => Err(fault),
     }
