@@ -10,7 +10,7 @@ use Rattle.answer_commands.specs.Listing.{list_reply}
 use Rattle.answer_commands.specs.Moves.{PrintsMoves}
 use Rattle.answer_commands.specs.Endings.{Ends}
 use Rattle.answer_commands.specs.Records.{audit_asking, record_asking}
-use Rattle.answer_commands.specs.Replies.{RepliesTo, replying_by}
+use Rattle.answer_commands.specs.Replies.{RepliesBy, RepliesTo}
 use Rattle.answer_commands.specs.TableReplies.{DoesByTables}
 use Rattle.answer_commands.specs.Run.{RunsSchedule}
 use Rattle.answer_commands.specs.Show.{ShowsMessages}
@@ -57,8 +57,8 @@ Does o answer.Version events status = PrintsVersion events status
 Does o answer.Show events status = ShowsMessages o.input events status
 Does o (answer.Moves t) events status = PrintsMoves t events status
 Does o (answer.Run t) events status = RunsSchedule o t events status
-Does o (answer.Record t) events status = RepliesTo (replying_by o (record_asking t)) events status
-Does o (answer.Audit t) events status = RepliesTo (replying_by o (audit_asking t)) events status
+Does o (answer.Record t) events status = RepliesBy o (record_asking t) events status
+Does o (answer.Audit t) events status = RepliesBy o (audit_asking t) events status
 Does o (answer.List t) events status = RepliesTo (list_reply o.disk t) events status
 Does o (answer.Check t) events status = RepliesTo (check_reply o.disk t) events status
 Does o (answer.Table t) events status = DoesByTables o t events status

@@ -1,8 +1,7 @@
 //! The manifest by which games are stamped that are entered.
 
-ghost use Rattle.std.specs.Prelude.{ℕ, List, None, Some, option_map};
-ghost use Rattle.answer_commands.specs.Inside.Entering.{stamping_taken};
-ghost use Rattle.answer_commands.specs.Stamping.{ReadsStamping};
+ghost use Rattle.std.specs.Prelude.{None};
+ghost use Rattle.answer_commands.specs.Inside.Entering.{FileStamping, StampingBy, StampingOf};
 ghost use Rattle.timeline.specs.Outsides.{AddsSome};
 
 use answer_parts::Refusal;
@@ -19,7 +18,7 @@ fn file_manifest<S: System>(
     timeline: &mut S::Timeline,
     path: &str,
 ) -> Result<Vec<u8>, Refusal>
-    ensures { AddsSome (S.outside system.now) timeline.old timeline.new (λ events. (tables : List ℕ) → ReadsStamping (S.outside system.now).disk (Some path.now) tables (stamping_taken result) events) }
+    ensures { AddsSome (S.outside system.now) timeline.old timeline.new (FileStamping (S.outside system.now) path.now result) }
 {
     let text = match system.read(timeline, alloc, path) {
         Ok(text) => text,
@@ -39,7 +38,7 @@ fn folder_manifest<S: System>(
     timeline: &mut S::Timeline,
     folder: &str,
 ) -> Result<Vec<u8>, Refusal>
-    ensures { AddsSome (S.outside system.now) timeline.old timeline.new (ReadsStamping (S.outside system.now).disk None folder.now (stamping_taken result)) }
+    ensures { AddsSome (S.outside system.now) timeline.old timeline.new (StampingOf (S.outside system.now) None folder.now result) }
 {
     let looked: Result<Vec<Line>, ReadFault> = look_at_tables(
         alloc,
@@ -67,7 +66,7 @@ pub(crate) fn stamping_manifest<S: System>(
     named: Option<&str>,
     tables: &str,
 ) -> Result<Vec<u8>, Refusal>
-    ensures { AddsSome (S.outside system.now) timeline.old timeline.new (ReadsStamping (S.outside system.now).disk (option_map (λ s. s.now) named.entry) tables.now (stamping_taken result)) }
+    ensures { AddsSome (S.outside system.now) timeline.old timeline.new (StampingBy (S.outside system.now) named.entry tables.now result) }
 {
     match named {
         Some(path) => file_manifest(alloc, system, timeline, path),
