@@ -1,6 +1,6 @@
 -- Answers that are written all at once.
-use Rattle.std.proofs.Common.{◌≡◌, ℕ, List, Option, refl, subst, sym, inl, inr}
-use Rattle.std.specs.Prelude.{Result, Ok, Err, IfOk, IfErr, OnErr}
+use Rattle.std.proofs.Common.{ℕ, List, Option}
+use Rattle.std.specs.Prelude.{Result}
 use Rattle.task_files.specs.Given.{Given}
 use Rattle.serve_commands.specs.Listens.{AtFile, BadStart, BadTables, BindsAndServes, Bound, Hosted, InUse, Kept, KeepsAndServes, Listens, Locked, NoAddress, NoLock, NoRoom, NoRoomForFile, NoRoomForLine, NoRoomToBind, NoRoomToKeep, NoRoomToLock, Opened, OpensToServe, Ready, Served, ServesAt, ServesLocked, StartsAt, Unasked, Unbound, Unopened, Unreadable as Unkept, Unready, serving_seen_as, serving_seen_by, serving_to, setup_for, writing_to}
 use Rattle.answer_parts.specs.Lines.{ready_words}
@@ -11,32 +11,8 @@ use Rattle.arbiter_server.specs.Serving.{lines_of, scene}
 use Rattle.arbiter_server.specs.declared.file_keeper.FileKeeper.{FileKeeper}
 use Rattle.system_io.specs.Hosts.{Made}
 use Rattle.system_io.specs.Ports.{PortFacts}
-use Rattle.adjudicate_core.specs.Running.{status_ended}
 use Rattle.serve_commands.proofs.GoneLaws.{line_cut, line_written, lines_to}
-use Rattle.serve_commands.specs.Silences.{TellsIfLost, TellsSilence}
-use Rattle.command_line.specs.declared.commands.Task.TheVariants as task
-use Rattle.source_core.specs.declared.lines.Ended.{Ended}
-use Rattle.source_core.specs.declared.lines.Ended.TheVariants as run
-use Rattle.source_core.specs.Lines.{ended_status}
-use Rattle.system_io.specs.Outputs.{OutputFacts}
-use Rattle.command_line.specs.declared.commands.send.Send.{Send}
 use Rattle.system_io.specs.declared.output.WriteFault.{WriteFault}
-
--- by a source: its status is that of how it ends
-pub sent : (e : Result Ended WriteFault) (r : Result ℕ WriteFault) → IfOk e (λ x. r ≡ Ok (ended_status x)) → IfErr e (λ fault. r ≡ Err fault) → r ≡ status_ended e
-sent (Ok x) r is other = is
-sent (Err fault) r is other = other
-
--- an error of the writer is one of the source's run
-pub sent_failed : (P : Type 0) (e : Result Ended WriteFault) (r : Result ℕ WriteFault) → IfOk e (λ x. r ≡ Ok (ended_status x)) → IfErr e (λ fault. r ≡ Err fault) → OnErr e P → OnErr r P
-sent_failed P (Ok x) r is other failed = subst (λ y. OnErr y P) (sym is) tt
-sent_failed P (Err fault) r is other failed = subst (λ y. OnErr y P) (sym other) failed
-
--- who was silent is told, or nothing
-pub told_or_quiet : {E : Type 0} (facts : E → OutputFacts) (contents : E → Option (List ℕ)) (old new : E) (t : Send) (e : Result Ended WriteFault) (r : Result ℕ WriteFault) → IfOk e (TellsSilence facts contents old new) → OnErr e (new ≡ old) → IfOk e (λ x. r ≡ Ok (ended_status x)) → TellsIfLost facts contents old new (task.Send t) r
-told_or_quiet facts contents old new t (Ok (run.With status)) r told quiet is = inl told
-told_or_quiet facts contents old new t (Ok (run.Lost known)) r told quiet is = inr (record { send = t; is = refl; known = known; status = is; out = told })
-told_or_quiet facts contents old new t (Err fault) r told quiet is = inl quiet
 
 -- by an arbiter: what holds with its writer holds of what is written
 module _ {P F W : Type 0} (host : Hosted P F) (w : Writers W) (r : Result ℕ WriteFault) (l : Listen) where

@@ -8,27 +8,21 @@ use Rattle.system_io.specs.Ports.{PortFacts}
 use Rattle.system_io.specs.declared.output.WriteFault.{WriteFault}
 use Rattle.system_io.proofs.HistoryLaws.{Passes-nil, Passes-trans}
 use Rattle.arbiter_core.specs.Setups.{SetupView}
-use Rattle.board_core.specs.declared.parts.Parts.{Parts}
-use Rattle.move_msg.specs.declared.stamp.Stamp.{Stamp}
 use Rattle.arbiter_server.specs.GameFolders.{kept_path}
 use Rattle.arbiter_server.specs.Games.{CommonView}
-use Rattle.source_core.specs.declared.lines.Ended.{Ended}
 use Rattle.task_files.specs.Given.{Given}
 use Rattle.game_status.specs.StoreReadings.{store_path}
 use Rattle.serve_commands.specs.Hostings as hosting
-use Rattle.serve_commands.specs.Outsides.{Outside}
 use Rattle.command_line.specs.Addresses.{addresses_of}
 use Rattle.serve_commands.specs.Listens as listening
 use Rattle.serve_commands.specs.Locks.{kept_lock}
-use Rattle.adjudicate_core.specs.Makes.{IsFrontOfMade, IsMadeBy, IsRecordIn, MakesFor, before_games, of_listen, of_send, AreWithGames, of_store}
-use Rattle.serve_commands.specs.Sends as sending
+use Rattle.adjudicate_core.specs.Makes.{IsFrontOfMade, IsMadeBy, IsRecordIn, MakesFor, before_games, of_listen, AreWithGames, of_store}
 use Rattle.command_line.specs.declared.commands.Task.{Task}
 use Rattle.command_line.specs.declared.commands.Task.TheVariants as task
 use Rattle.command_line.specs.declared.commands.host.HostGames.{HostGames}
 use Rattle.command_line.specs.declared.words.numbers.StoreForm.{StoreForm}
 use Rattle.command_line.specs.declared.words.numbers.StoreForm.TheVariants as form
 use Rattle.command_line.specs.declared.commands.listen.Listen.{Listen}
-use Rattle.command_line.specs.declared.commands.send.Send.{Send}
 
 nothing_by : (t : Task) → IsMadeBy t []
 nothing_by (task.Judge t) = refl
@@ -48,7 +42,7 @@ nothing_by (task.GameRecord t) = refl
 nothing_by (task.Audit t) = refl
 nothing_by (task.AuditGames t) = refl
 nothing_by (task.Version t) = refl
-nothing_by (task.Send t) = (of_send t, refl)
+nothing_by (task.Send t) = refl
 nothing_by (task.Enter t) = refl
 nothing_by (task.Host h) = inl (before_games h, refl)
 nothing_by (task.Root t) = refl
@@ -103,17 +97,6 @@ listen_makes host seen l given had has old new r (listening.BadStart made fault 
 listen_makes host seen l given had has old new r (listening.BadTables made text words refused told) = within_none _ had has made
 listen_makes host seen l given had has old new r (listening.NoRoom made text told) = within_none _ had has made
 listen_makes host seen l given had has old new r (listening.Opened start spells legal set tables cache manifest is h) = bound_makes host l (listening.setup_for l start set manifest) has r seen had old new h
-
--- ---- `send`
-
-bound_sends : {P F : Type 0} (out : Outside P F) (t : Send) (stamp : Stamp) (start : Parts) (old new : Option (List ℕ)) (r : Result Ended WriteFault) → sending.BindsAndSends out t stamp start old new r → Within (of_send t) out.had out.has
-bound_sends out t stamp start old new r (sending.Unbound made why told) = within_none _ out.had out.has made
-bound_sends out t stamp start old new r (sending.NoRoomToBind made why told) = within_none _ out.had out.has made
-bound_sends out t stamp start old new r (sending.Bound made port port' bound each terms on h) = within_last [] _ out.had out.has made
-
-pub send_makes : {P F : Type 0} (out : Outside P F) (t : Send) (old new : Option (List ℕ)) (r : Result Ended WriteFault) → sending.SendsGame out t old new r → MakesFor (task.Send t) out.had out.has
-send_makes out t old new r (sending.NoGame made words lacks told) = within_none _ out.had out.has made
-send_makes out t old new r (sending.Stamped start stamp is h) = bound_sends out t stamp start old new r h
 
 -- ---- `host`
 

@@ -11,8 +11,6 @@ use Rattle.command_line.specs.declared.commands.Task.{Task}
 use Rattle.command_line.specs.declared.words.usage.Misuse.{Misuse}
 use Rattle.line_teller.specs.ToldLines.{HasFailed, refused_memory}
 use Rattle.serve_commands.specs.Outsides.{OutsideWithStores, machine_of}
-use Rattle.serve_commands.specs.Silences.{TellsIfLost, TellsSilence}
-use Rattle.source_core.specs.declared.lines.Ended.{Ended}
 use Rattle.system_io.specs.Disks.{DiskFacts}
 use Rattle.system_io.specs.Histories.{Passes}
 use Rattle.system_io.specs.Hosts.{HostFacts, Made}
@@ -29,10 +27,6 @@ pub record OthersView (P F S : Type 0) : Type 1 where
   pub around : OutsideWithStores P F S
   -- the errors say that the words are misused so
   pub misuse : Misuse → Type 0
-  -- the errors say who was silent, where a source's run ended so
-  pub silence : Ended → Type 0
-  -- the errors are as before, or they say who was silent
-  pub lost : Task → Result ℕ WriteFault → Type 0
   -- the errors are as before
   pub is_quiet : Type 0
   -- the output, before and after
@@ -49,8 +43,6 @@ abbrev pub others_seen : {D I H G M P F S W E : Type 0} → (D → DiskFacts) �
 others_seen disk source host stores made port file store written output said errors before after = record {
   around = machine_of disk source host stores made port file store before.system before.history after.history;
   misuse = TellsMisuse errors said before.errors after.errors;
-  silence = TellsSilence errors said before.errors after.errors;
-  lost = TellsIfLost errors said before.errors after.errors;
   is_quiet = after.errors ≡ before.errors;
   old = written before.out;
   new = written after.out;
@@ -72,15 +64,11 @@ pub record EndsBeside {P F S : Type 0} (o : OthersView P F S) (Answers : Option 
 abbrev pub MakesNone : {P F S : Type 0} → OthersView P F S → Type 0
 MakesNone o = Passes o.around.outside.had o.around.outside.has []
 
--- its answer to a task; the errors say at most who was silent
-pub record AnswersQuietly {P F S : Type 0} (o : OthersView P F S) (t : Task) (old new : Option (List ℕ)) (r : Result ℕ WriteFault) : Type 0 where
-  pub answers : AnswersByKey o.around o.silence t old new r
-  pub quiet : o.lost t r
-
--- to a task its answer is written, and at the host what it makes is made
+-- to a task its answer is written, and at the host what it makes is made; the errors are as before
 pub record AnswersBeside {P F S : Type 0} (o : OthersView P F S) (t : Task) (status : ℕ) : Type 0 where
-  pub ends : EndsBeside o (AnswersQuietly o t) status
+  pub ends : EndsBeside o (AnswersByKey o.around t) status
   pub makes : MakesFor t o.around.outside.had o.around.outside.has
+  pub quiet : o.is_quiet
 
 -- where memory was refused before there was a task, that is written, and nothing else
 pub record RefusesBeside {P F S : Type 0} (o : OthersView P F S) (status : ℕ) : Type 0 where

@@ -14,7 +14,6 @@ use Rattle.command_line.specs.declared.commands.host.HostGames.{HostGames}
 use Rattle.command_line.specs.declared.words.numbers.StoreForm.{StoreForm}
 use Rattle.command_line.specs.declared.words.numbers.StoreForm.TheVariants as form
 use Rattle.command_line.specs.declared.commands.listen.Listen.{Listen}
-use Rattle.command_line.specs.declared.commands.send.Send.{Send}
 
 -- the first of these, in their order, and nothing else
 abbrev pub IsFrontOfMade : List Made → List Made → Type 0
@@ -23,10 +22,6 @@ IsFrontOfMade all more = (rest : List Made) × (more ++ rest ≡ all)
 -- `listen`: its port, the lock of its file, and that file
 abbrev pub of_listen : Listen → List Made
 of_listen l = PortAt l.bind.now (addresses_of l.to.now) ∷ LockAt (kept_lock l.kept.now) ∷ FileAt l.kept.now ∷ []
-
--- `send`: its port
-abbrev pub of_send : Send → List Made
-of_send t = PortAt t.bind.now (addresses_of t.to.now) ∷ []
 
 -- `host`: the lock of its folder, the store if its words say so, and its port; and then, without a store, files of records in that folder
 abbrev pub of_store : StoreForm → HostGames → List Made
@@ -65,7 +60,7 @@ IsMadeBy (task.GameRecord t) more = more ≡ []
 IsMadeBy (task.Audit t) more = more ≡ []
 IsMadeBy (task.AuditGames t) more = more ≡ []
 IsMadeBy (task.Version t) more = more ≡ []
-IsMadeBy (task.Send t) more = IsFrontOfMade (of_send t) more
+IsMadeBy (task.Send t) more = more ≡ []
 IsMadeBy (task.Enter t) more = more ≡ []
 IsMadeBy (task.Host h) more = IsOfHost h more
 IsMadeBy (task.Root t) more = more ≡ []

@@ -13,9 +13,6 @@ use Rattle.task_files.specs.Given.{Given}
 use Rattle.line_teller.specs.ToldLines.{refused_files, refused_memory}
 use Rattle.serve_commands.specs.Listens.{Listens, hosted, serving_seen_as}
 use Rattle.serve_commands.specs.Outsides.{OutsideWithStores, outside, hosting_places}
-use Rattle.serve_commands.specs.Sends.{SendsGame}
-use Rattle.source_core.specs.declared.lines.Ended.{Ended}
-use Rattle.source_core.specs.Lines.{ended_status}
 use Rattle.serve_commands.specs.Hostings.{HostsGames, written}
 use Rattle.task_files.specs.Sources.{CannotRead, IsGiven, TakesMemory}
 use Rattle.serve_core.specs.Serve as serves
@@ -30,25 +27,19 @@ use Rattle.command_line.specs.Tasks.{IsTask, IsMisuse, NamesNoCommand, key_in, n
 abbrev pub texts : List (Bor (List ℕ)) → List (List ℕ)
 texts words = map (λ w. w.now) words
 
--- the status of a source's run, unless the writer failed
-abbrev pub status_ended : Result Ended WriteFault → Result ℕ WriteFault
-status_ended (Ok ended) = Ok (ended_status ended)
-status_ended (Err fault) = Err fault
-
--- what is answered beside the timeline to a task from what was read for it, where so is said how a source's run ends; the tasks over the timeline aren't answered here
-abbrev pub AnswersFrom : {P F S : Type 0} → OutsideWithStores P F S → (Ended → Type 0) → Task → Given → Option (List ℕ) → Option (List ℕ) → Result ℕ WriteFault → Type 0
-AnswersFrom m Told (task.Listen t) given old new r = Listens m.outside.host (serving_seen_as m.outside.host.file r) t given m.outside.had m.outside.has old new r
-AnswersFrom m Told (task.Send t) given old new r = (e : Result Ended WriteFault) × (r ≡ status_ended e) × IfOk e Told × SendsGame m.outside t old new e
-AnswersFrom m Told (task.Host t) given old new r = HostsGames (hosting_places m) (written (hosting_places m) t.games.now) t given m.outside.had m.outside.has old new r
-AnswersFrom m Told (task.Serve t) given old new r = serves.Serves m.outside.disk t old new r
-AnswersFrom m Told _ given old new r = ⊥
+-- what is answered beside the timeline to a task from what was read for it; the tasks over the timeline aren't answered here
+abbrev pub AnswersFrom : {P F S : Type 0} → OutsideWithStores P F S → Task → Given → Option (List ℕ) → Option (List ℕ) → Result ℕ WriteFault → Type 0
+AnswersFrom m (task.Listen t) given old new r = Listens m.outside.host (serving_seen_as m.outside.host.file r) t given m.outside.had m.outside.has old new r
+AnswersFrom m (task.Host t) given old new r = HostsGames (hosting_places m) (written (hosting_places m) t.games.now) t given m.outside.had m.outside.has old new r
+AnswersFrom m (task.Serve t) given old new r = serves.Serves m.outside.disk t old new r
+AnswersFrom m _ given old new r = ⊥
 
 -- to a task the program answers from what it reads; or something that it reads for it can't be read; or memory was refused while
 -- it read
-pub data AnswersTask {P F S : Type 0} (m : OutsideWithStores P F S) (Told : Ended → Type 0) (t : Task) (old new : Option (List ℕ)) (r : Result ℕ WriteFault) : Type 0 where
-  FromGiven : (given : Given) → IsGiven m.outside.disk m.outside.source (named_in t) given → AnswersFrom m Told t given old new r → AnswersTask m Told t old new r
-  Unread : CannotRead m.outside.disk m.outside.source (named_in t) → TellsOne refused_files old new r → AnswersTask m Told t old new r
-  NoMemory : TakesMemory m.outside.source (named_in t) → TellsOne refused_memory old new r → AnswersTask m Told t old new r
+pub data AnswersTask {P F S : Type 0} (m : OutsideWithStores P F S) (t : Task) (old new : Option (List ℕ)) (r : Result ℕ WriteFault) : Type 0 where
+  FromGiven : (given : Given) → IsGiven m.outside.disk m.outside.source (named_in t) given → AnswersFrom m t given old new r → AnswersTask m t old new r
+  Unread : CannotRead m.outside.disk m.outside.source (named_in t) → TellsOne refused_files old new r → AnswersTask m t old new r
+  NoMemory : TakesMemory m.outside.source (named_in t) → TellsOne refused_memory old new r → AnswersTask m t old new r
 
 -- the same with a host whose ports seal by these keys
 abbrev pub sealed_by : {P F S : Type 0} → Keys → OutsideWithStores P F S → OutsideWithStores (SealedView P) F S
@@ -60,11 +51,11 @@ sealed_by keys m = record {
 
 -- To a task that names no file of keys the program answers with the host as it is. To one that does it answers with that host's ports
 -- sealed by the keys of the file; or it has none, which is told before all else; or memory for them was refused.
-pub data AnswersByKey {P F S : Type 0} (m : OutsideWithStores P F S) (Told : Ended → Type 0) (t : Task) (old new : Option (List ℕ)) (r : Result ℕ WriteFault) : Type 0 where
-  Bare : key_in t ≡ None → AnswersTask m Told t old new r → AnswersByKey m Told t old new r
-  BySeal : (path : List ℕ) → key_in t ≡ Some path → (keys : Keys) → HasKeys m.outside.disk path keys → AnswersTask (sealed_by keys m) Told t old new r → AnswersByKey m Told t old new r
-  NoKeys : (path : List ℕ) → key_in t ≡ Some path → (words : List ℕ) → LacksKeys m.outside.disk path words → TellsOne words old new r → AnswersByKey m Told t old new r
-  NoRoomForKeys : (path : List ℕ) → key_in t ≡ Some path → TellsOne refused_memory old new r → AnswersByKey m Told t old new r
+pub data AnswersByKey {P F S : Type 0} (m : OutsideWithStores P F S) (t : Task) (old new : Option (List ℕ)) (r : Result ℕ WriteFault) : Type 0 where
+  Bare : key_in t ≡ None → AnswersTask m t old new r → AnswersByKey m t old new r
+  BySeal : (path : List ℕ) → key_in t ≡ Some path → (keys : Keys) → HasKeys m.outside.disk path keys → AnswersTask (sealed_by keys m) t old new r → AnswersByKey m t old new r
+  NoKeys : (path : List ℕ) → key_in t ≡ Some path → (words : List ℕ) → LacksKeys m.outside.disk path words → TellsOne words old new r → AnswersByKey m t old new r
+  NoRoomForKeys : (path : List ℕ) → key_in t ≡ Some path → TellsOne refused_memory old new r → AnswersByKey m t old new r
 
 -- the words that a program is called with, or why there are none
 abbrev pub called_by : Result (Vec (String Global) Global) WordsFault → Result (List (List ℕ)) WordsFault

@@ -7,7 +7,6 @@ ghost use Rattle.line_teller.specs.ToldLines.{HasFailed};
 ghost use Rattle.adjudicate_core.specs.Beside.{AnswersBeside, MisusedBeside, RefusesBeside};
 ghost use Rattle.adjudicate_core.specs.Makes.{MakesFor};
 ghost use Rattle.adjudicate_core.specs.Running.{AnswersByKey, AnswersFrom, AnswersTask};
-ghost use Rattle.serve_commands.specs.Silences.{TellsIfLost, TellsSilence};
 ghost use Rattle.system_io.specs.Outputs.{HasEnded};
 
 use crate::machine::Machine;
@@ -16,7 +15,7 @@ use crate::others::{Others, SeenOthers};
 use answer_parts::{Refusal, put_refusal};
 use command_line::{Misuse, Task, tell_misuse};
 use sealed_port::Keyed;
-use serve_commands::{System as Parts, host_games, keys_at, listen, send, tell_silence};
+use serve_commands::{System as Parts, host_games, keys_at, listen};
 use serve_core::{Pages, serve};
 use std::alloc::Global;
 use system_io::{Host, Input, LineDisk, Output, ReadFault, WriteFault};
@@ -33,18 +32,16 @@ struct Context<'s, 'a, D, I, H, G> {
 /// Answers a task from what was read for it, and returns the status, 0 done or 1 refused.
 ///
 /// Where memory is refused, the line `refused memory` comes in place of all else, with status 1. The error comes only where the writer
-/// failed. For `send` who was silent goes to `err`, where an arbiter doesn't answer. No other task writes there.
-fn answer_given<'s, D: LineDisk, I: Input, H: Host, G: Pages, W: Output, E: Output>(
+/// failed.
+fn answer_given<'s, D: LineDisk, I: Input, H: Host, G: Pages, W: Output>(
     alloc: Global,
     task: &Task,
     given: Context<'_, 's, D, I, H, G>,
     history: &mut H::History,
     out: &mut W,
-    err: &mut E,
 ) -> Result<u8, WriteFault>
     requires over { answered_once task.now ≡ None }
-    ensures quiet { TellsIfLost E.facts E.contents err.old err.new task.now result }
-    ensures answered { AnswersFrom (⟦<Parts<'s, D, I, H, G> as Machine>⟧.from given.entry.system.now history.old history.new) (TellsSilence E.facts E.contents err.old err.new) task.now given.entry.sources.now (W.contents out.old) (W.contents out.new) result }
+    ensures answered { AnswersFrom (⟦<Parts<'s, D, I, H, G> as Machine>⟧.from given.entry.system.now history.old history.new) task.now given.entry.sources.now (W.contents out.old) (W.contents out.new) result }
     ensures made { MakesFor task.now (H.made history.old) (H.made history.new) }
     ensures cause { OnErr result (HasFailed W.facts) }
 {
@@ -70,25 +67,23 @@ fn answer_given<'s, D: LineDisk, I: Input, H: Host, G: Pages, W: Output, E: Outp
         | Task::Follow(_)
         | Task::Status(_)
         | Task::GameRecord(_)
-        | Task::AuditGames(_) => unreachable!(),
-        Task::Send(task) => tell_silence(err, send(alloc, task, system, history, out)),
+        | Task::AuditGames(_)
+        | Task::Send(_) => unreachable!(),
         Task::Host(task) => host_games(alloc, task, sources, system, history, out),
         Task::Serve(task) => serve(alloc, system.pages, system.disk, system.host, task, out),
     }
 }
 
 /// Answers a task from what it reads. A host is told where the folder of its tables has none.
-fn run_task<'s, D: LineDisk, I: Input, H: Host, G: Pages, W: Output, E: Output>(
+fn run_task<'s, D: LineDisk, I: Input, H: Host, G: Pages, W: Output>(
     alloc: Global,
     task: &Task,
     system: &Parts<'s, D, I, H, G>,
     history: &mut H::History,
     out: &mut W,
-    err: &mut E,
 ) -> Result<u8, WriteFault>
     requires over { answered_once task.now ≡ None }
-    ensures quiet { TellsIfLost E.facts E.contents err.old err.new task.now result }
-    ensures answered { AnswersTask (⟦<Parts<'s, D, I, H, G> as Machine>⟧.from system.now history.old history.new) (TellsSilence E.facts E.contents err.old err.new) task.now (W.contents out.old) (W.contents out.new) result }
+    ensures answered { AnswersTask (⟦<Parts<'s, D, I, H, G> as Machine>⟧.from system.now history.old history.new) task.now (W.contents out.old) (W.contents out.new) result }
     ensures made { MakesFor task.now (H.made history.old) (H.made history.new) }
     ensures cause { OnErr result (HasFailed W.facts) }
 {
@@ -110,7 +105,7 @@ fn run_task<'s, D: LineDisk, I: Input, H: Host, G: Pages, W: Output, E: Output>(
                 sources: &sources,
                 system,
             };
-            answer_given(alloc, task, given, history, out, err)
+            answer_given(alloc, task, given, history, out)
         }
         Err(ReadFault::Unreadable) => put_refusal(out, Refusal::Files),
         Err(ReadFault::OutOfMemory) => put_refusal(out, Refusal::Memory),
@@ -131,22 +126,20 @@ fn note_refused<H: Host>(alloc: Global, host: &H, path: &str, refusal: &Refusal)
 
 /// Answers a task from what it reads. Where it names a file of keys, the ports of the host are sealed by these. The refusal of that
 /// file comes before all others.
-fn run_by_key<'s, D: LineDisk, I: Input, H: Host, G: Pages, W: Output, E: Output>(
+fn run_by_key<'s, D: LineDisk, I: Input, H: Host, G: Pages, W: Output>(
     alloc: Global,
     task: &Task,
     system: &Parts<'s, D, I, H, G>,
     history: &mut H::History,
     out: &mut W,
-    err: &mut E,
 ) -> Result<u8, WriteFault>
     requires over { answered_once task.now ≡ None }
-    ensures quiet { TellsIfLost E.facts E.contents err.old err.new task.now result }
-    ensures answered { AnswersByKey (⟦<Parts<'s, D, I, H, G> as Machine>⟧.from system.now history.old history.new) (TellsSilence E.facts E.contents err.old err.new) task.now (W.contents out.old) (W.contents out.new) result }
+    ensures answered { AnswersByKey (⟦<Parts<'s, D, I, H, G> as Machine>⟧.from system.now history.old history.new) task.now (W.contents out.old) (W.contents out.new) result }
     ensures made { MakesFor task.now (H.made history.old) (H.made history.new) }
     ensures cause { OnErr result (HasFailed W.facts) }
 {
     match task.key() {
-        None => run_task(alloc, task, system, history, out, err),
+        None => run_task(alloc, task, system, history, out),
         Some(path) => match keys_at(alloc, system.disk, path) {
             Ok(Ok(keys)) => {
                 let keyed = Keyed::over(system.host, keys);
@@ -156,7 +149,7 @@ fn run_by_key<'s, D: LineDisk, I: Input, H: Host, G: Pages, W: Output, E: Output
                     host: &keyed,
                     pages: system.pages,
                 };
-                run_task(alloc, task, &sealed, history, out, err)
+                run_task(alloc, task, &sealed, history, out)
             }
             Ok(Err(refusal)) => {
                 note_refused(alloc, system.host, path, &refusal);
@@ -203,7 +196,6 @@ where
         &others.system,
         &mut others.history,
         &mut others.out,
-        &mut others.errors,
     );
     end_noted(others.system.host, &mut others.out, answered)
 }

@@ -1,4 +1,4 @@
-use Rattle.std.proofs.Common.{◌≡◌, ◌∙◌, Some, None, ap, inl, refl, subst, sym}
+use Rattle.std.proofs.Common.{◌≡◌, ◌∙◌, Some, None, ap, subst, sym}
 use Rattle.std.specs.Prelude.{option_map}
 use Rattle.serve_commands.specs.Keying.{GivesKeys}
 use Rattle.answer_parts.specs.Lines.{refusal_words}
@@ -11,7 +11,7 @@ use Rattle.adjudicate_core.proofs.beside.run_by_key.Goals as goal
 pub returns-in-None : goal.returns-in-None
 returns-in-None g c =
     let none : key_in c.args.task.now ≡ None = sym c.key.ensures ∙ ap (option_map (λ s. s.now)) c.in-None.is in
-    record { answered = Bare none c.run_task.ensures.answered; quiet = c.run_task.ensures.quiet; made = c.run_task.ensures.made; cause = c.run_task.ensures.cause }
+    record { answered = Bare none c.run_task.ensures.answered; made = c.run_task.ensures.made; cause = c.run_task.ensures.cause }
 
 pub returns-in-Ok-Ok : goal.returns-in-Ok-Ok
 returns-in-Ok-Ok g c =
@@ -20,8 +20,7 @@ returns-in-Ok-Ok g c =
     let has = subst (GivesKeys (g.D.Disk.facts c.args.system.now.disk.now) c.in-Some.path.now) c.in-Ok-Ok.field-0-is c.in-Ok-Ok.ensures in
     let over = over_keyed (g.D.Disk.facts c.args.system.now.disk.now) (g.I.Input.facts c.args.system.now.input.now) g.H.Host.facts g.H.Host.stores g.H.Port.Port.facts g.H.File.KeptFile.facts g.H.Store.RecordStore.facts c.args.system.now.host.now keys c.over-keyed.result _ _ in
     record {
-      answered = BySeal c.in-Some.path.now named keys has (over _ _ _ _ _ c.over-keyed.ensures c.run_task-in-Ok-Ok.ensures.answered);
-      quiet = c.run_task-in-Ok-Ok.ensures.quiet;
+      answered = BySeal c.in-Some.path.now named keys has (over _ _ _ _ c.over-keyed.ensures c.run_task-in-Ok-Ok.ensures.answered);
       made = c.run_task-in-Ok-Ok.ensures.made;
       cause = c.run_task-in-Ok-Ok.ensures.cause;
     }
@@ -32,7 +31,6 @@ returns-in-Ok-Err g c =
     let lacks = subst (GivesKeys (g.D.Disk.facts c.args.system.now.disk.now) c.in-Some.path.now) c.in-Ok-Err.field-0-is c.in-Ok-Err.ensures in
     record {
       answered = NoKeys c.in-Some.path.now named (refusal_words c.in-Ok-Err.refusal) lacks c.put_refusal.ensures.told;
-      quiet = inl refl;
       made = makes_nothing _ _;
       cause = c.put_refusal.ensures.cause;
     }
@@ -42,7 +40,6 @@ returns-in-Err g c =
     let named : key_in c.args.task.now ≡ Some c.in-Some.path.now = sym c.key.ensures ∙ ap (option_map (λ s. s.now)) c.in-Some.is in
     record {
       answered = NoRoomForKeys c.in-Some.path.now named c.put_refusal-in-Err.ensures.told;
-      quiet = inl refl;
       made = makes_nothing _ _;
       cause = c.put_refusal-in-Err.ensures.cause;
     }
