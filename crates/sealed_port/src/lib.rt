@@ -25,11 +25,13 @@
 
 mod key_file;
 mod keyed_host;
+mod keyed_system;
 pub mod laws;
 mod mac;
 mod seal_port;
 
 pub use key_file::{KeyFault, MOST_KEY_BYTES};
 pub use keyed_host::Keyed;
+pub use keyed_system::{KeyedPort, KeyedSystem};
 pub use mac::MacKey;
 pub use seal_port::{Keys, MOST_BYTES, Sealed};
