@@ -55,6 +55,7 @@ impl<'a, S: System> KeyedSystem<'a, S> {
     }
 }
 
+#[tactic(auto, using(crate::proofs::KeyedLaws::adds_one))]
 impl<'a, S: System> System for KeyedSystem<'a, S> {
     ghost use Rattle.std.specs.Prelude.{◌≡◌, ◌<◌, ◌≤◌, Err, length, OnErr};
     ghost use Rattle.system_io.specs.Failures.{Risen};
@@ -241,9 +242,9 @@ impl<'a, S: System> System for KeyedSystem<'a, S> {
         port: &mut Self::Port,
         bytes: &[u8],
     ) -> Result<(), PortFault>
-        ensures same { HeardNothing ((outside self.now).port port.old) ((outside self.now).port port.new) }
-        ensures cause { OnErr result (Risen ((outside self.now).port port.old).faults ((outside self.now).port port.new).faults) }
-        ensures made { Adds (outside self.now) timeline.old timeline.new (sent_by ((outside self.now).port port.old) bytes.now) }
+        ensures same { HeardNothing ((outside_with S.outside self.now).port port.old) ((outside_with S.outside self.now).port port.new) }
+        ensures cause { OnErr result (Risen ((outside_with S.outside self.now).port port.old).faults ((outside_with S.outside self.now).port port.new).faults) }
+        ensures made { Adds (outside_with S.outside self.now) timeline.old timeline.new (sent_by ((outside_with S.outside self.now).port port.old) bytes.now) }
         ensures short { length bytes.now ≤ 48 → SendsTagged self.now.keys (S.outside self.now.system) timeline.old timeline.new port.old port.new bytes.now }
         ensures long { 48 < length bytes.now → (result ≡ Err Failed) × LeavesItOut (S.outside self.now.system) timeline.old timeline.new port.old port.new }
     {
@@ -252,8 +253,8 @@ impl<'a, S: System> System for KeyedSystem<'a, S> {
             port.left_out = port.left_out.saturating_add(1);
             return Err(PortFault::Failed);
         }
-        self.system
-            .send(timeline, &mut port.port, &self.keys.seal(bytes))
+        let datagram = self.keys.seal(bytes);
+        self.system.send(timeline, &mut port.port, &datagram)
     }
 
     fn lock(
