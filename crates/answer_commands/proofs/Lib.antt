@@ -12,3 +12,4 @@ pub mod EarlierLaws
 pub mod StampLaws
 pub mod EntryLaws
 pub mod EnterLaws
+pub mod SealLaws

@@ -1,5 +1,5 @@
 -- What happens outside for a task that is answered once (this project's own).
-use Rattle.std.specs.Prelude.{◌≡◌, ℕ, List, Option, Some, None, Result, Ok, Err}
+use Rattle.std.specs.Prelude.{◌≡◌, ℕ, List, Option, Some, None, Result, Ok, Err, option_map}
 use Rattle.command_line.specs.declared.commands.Task.{Task}
 use Rattle.command_line.specs.declared.commands.Task.TheVariants as task
 use Rattle.timeline.specs.Events.{Event}
@@ -17,6 +17,7 @@ use Rattle.answer_commands.specs.Show.{ShowsMessages}
 use Rattle.game_reports.specs.Audits.{AuditsGames}
 use Rattle.game_reports.specs.GameRecords.{PrintsGameRecord}
 use Rattle.game_reports.specs.Statuses.{ReportsStatus}
+use Rattle.serve_commands.specs.MoveSendings.{SendsMoves}
 use Rattle.answer_commands.specs.Version.{PrintsVersion}
 use Rattle.answer_commands.specs.declared.answering.AnswerTask.{AnswerTask}
 use Rattle.answer_commands.specs.declared.answering.AnswerTask.TheVariants as answer
@@ -44,12 +45,18 @@ answered_once (task.Follow t) = Some (answer.Table (table.Follow t))
 answered_once (task.Status t) = Some (answer.Status t)
 answered_once (task.GameRecord t) = Some (answer.GameRecord t)
 answered_once (task.AuditGames t) = Some (answer.AuditGames t)
+answered_once (task.Send t) = Some (answer.Send t)
 answered_once _ = None
 
 -- a task is one of these, or it isn't
 abbrev pub IsOnce : Task → Result AnswerTask Task → Type 0
 IsOnce t (Ok once) = answered_once t ≡ Some once
 IsOnce t (Err other) = (answered_once t ≡ None) × (other ≡ t)
+
+-- the path of the file of keys that it names, if it does
+abbrev pub key_of : AnswerTask → Option (List ℕ)
+key_of (answer.Send t) = option_map (λ s. s.now) t.key
+key_of _ = None
 
 -- what the command does, up to the output's end: these events, with this status
 abbrev pub Does : {T P F K S L : Type 0} → Outside T P F K S L → AnswerTask → List Event → Option ℕ → Type 0
@@ -66,7 +73,8 @@ Does o (answer.Enter t) events status = EntersGames o t events status
 Does o (answer.Status t) events status = ReportsStatus o t events status
 Does o (answer.GameRecord t) events status = PrintsGameRecord o t events status
 Does o (answer.AuditGames t) events status = AuditsGames o t events status
+Does o (answer.Send t) events status = SendsMoves o t events status
 
--- THE CONTRACT OF THE COMMANDS: the task, all that is known outside, what happened before and after, and the status
+-- so it is answered over what is known outside: what it does, and then the output's end
 abbrev pub Answers : {T P F K S L : Type 0} → AnswerTask → Outside T P F K S L → T → T → ℕ → Type 0
 Answers t o before after status = AddsSome o before after (Ends o after (Does o t) status)

@@ -16,4 +16,5 @@ pub mod Keeping
 pub mod Entries
 pub mod Enter
 pub mod Answers
+pub mod Sealed
 pub mod Inside

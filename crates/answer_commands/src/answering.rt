@@ -1,7 +1,7 @@
 //! Tasks that are answered once.
 
-ghost use Rattle.std.specs.Prelude.{OnErr};
-ghost use Rattle.answer_commands.specs.Answers.{Answers, Does, IsOnce};
+ghost use Rattle.std.specs.Prelude.{◌≡◌, option_map, OnErr};
+ghost use Rattle.answer_commands.specs.Answers.{Answers, Does, IsOnce, key_of};
 ghost use Rattle.answer_parts.specs.Printing.{OutputFails, Performs};
 ghost use Rattle.timeline.specs.Outsides.{AddsSome};
 
@@ -16,10 +16,11 @@ use crate::run::run_schedule;
 use crate::show::show_input;
 use crate::version::print_version;
 use command_line::{
-    Audit, AuditGames, Check, Enter, GameRecord, List, Moves, RunSchedule, ShowRecord, ShowStatus,
-    Task,
+    Audit, AuditGames, Check, Enter, GameRecord, List, Moves, RunSchedule, Send, ShowRecord,
+    ShowStatus, Task,
 };
 use game_reports::{print_audit, print_game_record, report_status};
+use serve_commands::send_moves;
 use std::alloc::Global;
 use system_io::WriteFault;
 use timeline::System;
@@ -53,6 +54,8 @@ pub enum AnswerTask<'a> {
     GameRecord(GameRecord<'a>),
     /// Whether the records of a folder's games, or of two, are sound and agree.
     AuditGames(AuditGames<'a>),
+    /// The moves of the input, which are sent.
+    Send(Send<'a>),
 }
 
 impl<'a> AnswerTask<'a> {
@@ -81,7 +84,18 @@ impl<'a> AnswerTask<'a> {
             Task::Status(status) => Ok(AnswerTask::Status(status)),
             Task::GameRecord(record) => Ok(AnswerTask::GameRecord(record)),
             Task::AuditGames(audit) => Ok(AnswerTask::AuditGames(audit)),
+            Task::Send(send) => Ok(AnswerTask::Send(send)),
             other => Err(other),
+        }
+    }
+
+    /// The file of keys by which its ports are sealed, if it names one.
+    pub(crate) fn key(&self) -> Option<&'a str>
+        ensures { option_map (λ s. s.now) result ≡ key_of self.now }
+    {
+        match self {
+            AnswerTask::Send(task) => task.key,
+            _ => None,
         }
     }
 }
@@ -110,26 +124,13 @@ fn answer_task<S: System>(
         AnswerTask::Status(task) => report_status(alloc, task, system, timeline),
         AnswerTask::GameRecord(task) => print_game_record(alloc, task, system, timeline),
         AnswerTask::AuditGames(task) => print_audit(alloc, task, system, timeline),
+        AnswerTask::Send(task) => send_moves(alloc, task, system, timeline),
     }
 }
 
-/// Answers a task, and returns the status: 0 done, 1 refused, also where the output can't be written, which is noted.
-///
-/// What the task names is read first, each thing once:
-///
-/// - for `run` the files of its folder, in rising order of names, and then the input, to its end; for `show` the input;
-/// - for `record` a kept file; for `audit` the manifest, the files of its folder and the kept files;
-/// - for `list` the files of its folder, and for `check` the manifest before them: one by one, of which one is held at a time;
-/// - for the commands by tables the manifest and the files of their folder, or the manifest alone, where the folder's names and then the files
-///   of the tables that are missed are read meanwhile; for `game` also the input. `pgn` and `follow` read no more of it than a game or a
-///   line at a time, `probes`, `games` and `root` of many positions a line;
-/// - for `enter` the list, where there is one, and then the manifest or, as for `list`, the files of the folder of tables. Each game is kept,
-///   and its line printed, before the next one;
-/// - for `status`, `audit` of folders and `record` of a game the folders of games, the records of their stores, and then file by file.
-///
-/// What can't be read is `refused files`; where memory is refused the line is `refused memory`. Progress goes to standard error where it is
-/// wanted. At last all that was written goes out. Nothing else happens outside.
-pub fn answer<S: System>(
+/// Answers a task over this system, lets all go out that was written, and returns the status: 1 also where the output can't be written, which
+/// is noted.
+pub(crate) fn answer_bare<S: System>(
     alloc: Global,
     task: &AnswerTask,
     system: &S,

@@ -46,10 +46,12 @@ mod moves;
 mod printing;
 mod replying;
 mod run;
+mod sealing;
 mod show;
 mod stamping;
 mod store_reading;
 mod version;
 
-pub use answering::{AnswerTask, answer};
+pub use answering::AnswerTask;
 pub use by_tables::TableTask;
+pub use sealing::answer;

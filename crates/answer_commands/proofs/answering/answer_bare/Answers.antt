@@ -1,6 +1,6 @@
 use Rattle.std.proofs.Common.{◌++◌, refl}
 use Rattle.timeline.proofs.EventLaws.{adds_more}
-use Rattle.answer_commands.proofs.answering.answer.Goals as goal
+use Rattle.answer_commands.proofs.answering.answer_bare.Goals as goal
 
 pub returns : goal.returns
 returns g c =
