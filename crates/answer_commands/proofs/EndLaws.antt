@@ -1,15 +1,16 @@
 -- What the output's end leaves, and why something isn't read.
-use Rattle.std.proofs.Common.{◌≡◌, ◌∷◌, [], ℕ, inl, inr, refl}
-use Rattle.std.specs.Prelude.{Result, Ok, Err, IsErrOf}
+use Rattle.std.proofs.Common.{◌≡◌, ◌∷◌, ◌++◌, [], ℕ, List, Option, inl, inr, refl}
+use Rattle.std.specs.Prelude.{Result, Ok, Err, IsErrOf, OnErr}
+use Rattle.answer_parts.specs.Printing.{OutputFails, Performs}
 use Rattle.system_io.specs.Inputs.{InputFacts}
 use Rattle.system_io.specs.declared.output.WriteFault.{WriteFault}
 use Rattle.system_io.specs.declared.reading.ReadFault.{ReadFault}
 use Rattle.system_io.specs.declared.reading.ReadFault.TheVariants.{OutOfMemory, Unreadable}
 use Rattle.timeline.proofs.EventLaws.{adds_more}
-use Rattle.timeline.specs.Events.{Flushed, Noted, Refused}
+use Rattle.timeline.specs.Events.{Event, Flushed, Noted, Refused}
 use Rattle.timeline.specs.Outsides.{Adds, AddsSome, Outside}
 use Rattle.timeline.specs.declared.stream.Stream.TheVariants.{Output}
-use Rattle.answer_commands.specs.Endings.{Closes, NotOut, NotesLost, WasRefused, output_lost}
+use Rattle.answer_commands.specs.Endings.{Closes, Ends, NotOut, NotesLost, WasRefused, output_lost}
 use Rattle.answer_commands.specs.Inputs.{IsUnread}
 
 -- ---- the end
@@ -35,6 +36,11 @@ was_refused o a b c answered fault status is one gone p q = (
   adds_more o a b c (Flushed Output ∷ []) (Noted output_lost ∷ []) p q,
   WasRefused fault (Flushed Output) b is (inl (refl, gone)) q refl one,
 )
+
+-- what was done, and then the end
+pub ends_so : {T P F K S L : Type 0} (o : Outside T P F K S L) (a b c : T) (Does : List Event → Option ℕ → Type 0) (answered : Result ℕ WriteFault) (status : ℕ) → AddsSome o a b (Performs Does answered) → OnErr answered (OutputFails o) → AddsSome o b c (Closes o c answered status) → AddsSome o a c (Ends o c Does status)
+ends_so o a b c Does answered status done cause closing =
+    (done.0 ++ closing.0, adds_more o a b c done.0 closing.0 done.1 closing.1, record { answered = answered; done = done.0; closing = closing.0; all = refl; performs = done.2; cause = cause; closes = closing.2 })
 
 -- ---- what isn't read
 
