@@ -3,7 +3,8 @@ use Rattle.std.specs.Prelude.{◌≡◌, ℕ, List, Vec, Result, Ok, Err, None, 
 use Rattle.std.specs.Borrow.{Bor}
 use Rattle.std.specs.Global.{Global}
 use Rattle.adjudicate_core.specs.Beside.{AnswersBeside, MisusedBeside, OthersView, RefusesBeside}
-use Rattle.answer_commands.specs.Answers.{Answers, answered_once}
+use Rattle.answer_commands.specs.Answers.{answered_once}
+use Rattle.answer_commands.specs.Sealed.{AnswersByKey}
 use Rattle.answer_commands.specs.declared.answering.AnswerTask.{AnswerTask}
 use Rattle.command_line.specs.Tasks.{IsMisuse, IsTask, NamesNoCommand}
 use Rattle.command_line.specs.declared.commands.Task.{Task}
@@ -20,7 +21,7 @@ IsOnceOrBeside others t (Err status) = (answered_once t ≡ None) × AnswersBesi
 
 -- a task is answered over the timeline, and beside it nothing changes; or beside it, and nothing happens on it
 pub data AnswersEither {T P F K S L P' F' S' : Type 0} (o : Outside T P F K S L) (before after : T) (others : OthersView P' F' S') (t : Task) (status : ℕ) : Type 0 where
-  OverTimeline : (once : AnswerTask) → answered_once t ≡ Some once → Answers once o before after status → others.rests → AnswersEither o before after others t status
+  OverTimeline : (once : AnswerTask) → answered_once t ≡ Some once → AnswersByKey once o before after status → others.rests → AnswersEither o before after others t status
   Beside : answered_once t ≡ None → AnswersBeside others t status → after ≡ before → AnswersEither o before after others t status
 
 -- what the program makes of the words after its own name: the answer to the task that they name; or they are misused; or memory was refused

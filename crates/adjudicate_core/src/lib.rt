@@ -1,7 +1,7 @@
 //! The adjudicator's program: words in, lines and a status out.
 //!
 //! `run_program` takes all words that a program was called with, lets `parse` of command_line make a task of them, and answers it: over the
-//! timeline by `answer_commands`, or, as `listen`, `send`, `host` and `serve` haven't gone over yet, by the function of their command in
+//! timeline by `answer_commands`, or, as `listen`, `host` and `serve` haven't gone over yet, by the function of their command in
 //! `serve_commands` or `serve_core`, over what `Inputs::read` of `task_files` reads for it. The man page of a command has its lines; the
 //! statuses are 0 done, 1 refused, 2 misuse.
 //!
@@ -22,13 +22,12 @@
 //!   cause: a type of writer that may refuse one, or from which what was written can't go out (`HasFailed`). A body that knows no more of
 //!   its writer has that only from a call of it that failed.
 //! - CLAIM: `run_program`: at the host nothing is opened but what `IsMadeBy` has of the task, whatever it comes to: `listen` opens its port,
-//!   the lock and the kept file, `send` its port, `host` the lock, its port and files of records. Which of these it
-//!   has opened where it ends so, and that a record's file is opened once for each Move or Fetch at most, is in `Listens`, `SendsGame`,
-//!   `HostsGames`.
-//! - CLAIM: `run_program`: beside the timeline standard error gets bytes for a misuse, as `tell_misuse` of command_line has it, and
-//!   where `send` ends as `refused lost`, as `tell_silence` of serve_commands has it; and for nothing else.
+//!   the lock and the kept file, `host` the lock, its port and files of records. Which of these it has opened where it ends so, and that a
+//!   record's file is opened once for each Move or Fetch at most, is in `Listens`, `HostsGames`.
+//! - CLAIM: `run_program`: beside the timeline standard error gets bytes for a misuse, as `tell_misuse` of command_line has it, and for
+//!   nothing else.
 //! - CLAIM: `run_program`: with `--key` the ports of `listen`, `host` and `send` are sealed by the keys of the file, and all else
-//!   is as without it. What is refused of the file is told before all else, as `keys_at` of serve_commands has it.
+//!   is as without it. What is refused of the file is told before all else, as `keys_at` and `read_keys` of serve_commands have it.
 #![tactic(auto)]
 
 mod beside;

@@ -144,8 +144,8 @@ pub fn refuse_memory<W: Write>(out: &mut W) -> Result<u8, WriteFault>
 /// that the keys of `listen`, `host` and `send` are read, where a file of keys is named: what is refused of it comes before all else.
 /// `probes`, `follow` and `send` read the input line by line, and answer each line as it comes.
 ///
-/// At the host `listen` opens a port, the lock of its file and that file, `send` a port, `host` the lock of its folder, a port and files of
-/// records in that folder, and `enter` files of games in its folder. No other task opens anything there, and these nothing else: that is
+/// Beside the timeline `listen` opens a port, the lock of its file and that file, and `host` the lock of its folder, a port and files of
+/// records in that folder. No other task opens anything there, and these nothing else: that is
 /// so of any result, also of an error.
 ///
 /// For a misuse one line on standard error says what is wrong; then come a near word, where there is one, and the line that names help. A
