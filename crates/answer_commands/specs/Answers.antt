@@ -17,7 +17,7 @@ use Rattle.answer_commands.specs.Show.{ShowsMessages}
 use Rattle.game_reports.specs.Audits.{AuditsGames}
 use Rattle.game_reports.specs.GameRecords.{PrintsGameRecord}
 use Rattle.game_reports.specs.Statuses.{ReportsStatus}
-use Rattle.serve_commands.specs.MoveSendings.{SendsMoves}
+use Rattle.answer_commands.specs.Sending.{SendsInput}
 use Rattle.answer_commands.specs.Version.{PrintsVersion}
 use Rattle.answer_commands.specs.declared.answering.AnswerTask.{AnswerTask}
 use Rattle.answer_commands.specs.declared.answering.AnswerTask.TheVariants as answer
@@ -73,7 +73,7 @@ Does o (answer.Enter t) events status = EntersGames o t events status
 Does o (answer.Status t) events status = ReportsStatus o t events status
 Does o (answer.GameRecord t) events status = PrintsGameRecord o t events status
 Does o (answer.AuditGames t) events status = AuditsGames o t events status
-Does o (answer.Send t) events status = SendsMoves o t events status
+Does o (answer.Send t) events status = SendsInput o t events status
 
 -- so it is answered over what is known outside: what it does, and then the output's end
 abbrev pub Answers : {T P F K S L : Type 0} → AnswerTask → Outside T P F K S L → T → T → ℕ → Type 0

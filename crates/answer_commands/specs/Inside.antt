@@ -6,3 +6,4 @@ pub mod Running
 pub mod Looking
 pub mod StoreReading
 pub mod Entering
+pub mod Sending

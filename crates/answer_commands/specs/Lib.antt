@@ -15,6 +15,8 @@ pub mod Earlier
 pub mod Keeping
 pub mod Entries
 pub mod Enter
+pub mod SentGames
+pub mod Sending
 pub mod Answers
 pub mod Sealed
 pub mod Inside

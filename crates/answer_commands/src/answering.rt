@@ -13,6 +13,7 @@ use crate::moves::print_moves;
 use crate::printing::end;
 use crate::replying::reply_to;
 use crate::run::run_schedule;
+use crate::sending::send;
 use crate::show::show_input;
 use crate::version::print_version;
 use command_line::{
@@ -20,7 +21,6 @@ use command_line::{
     ShowStatus, Task,
 };
 use game_reports::{print_audit, print_game_record, report_status};
-use serve_commands::send_moves;
 use std::alloc::Global;
 use system_io::WriteFault;
 use timeline::System;
@@ -124,7 +124,7 @@ fn answer_task<S: System>(
         AnswerTask::Status(task) => report_status(alloc, task, system, timeline),
         AnswerTask::GameRecord(task) => print_game_record(alloc, task, system, timeline),
         AnswerTask::AuditGames(task) => print_audit(alloc, task, system, timeline),
-        AnswerTask::Send(task) => send_moves(alloc, task, system, timeline),
+        AnswerTask::Send(task) => send(alloc, task, system, timeline),
     }
 }
 

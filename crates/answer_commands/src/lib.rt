@@ -47,6 +47,8 @@ mod printing;
 mod replying;
 mod run;
 mod sealing;
+mod sending;
+mod sent_game;
 mod show;
 mod stamping;
 mod store_reading;

@@ -29,7 +29,7 @@ fn fault_line(alloc: Global, path: &str, number: usize) -> Result<String, AllocE
 }
 
 /// Notes a line, unless memory for it was refused.
-fn note_line<S: System>(
+pub(crate) fn note_line<S: System>(
     system: &S,
     timeline: &mut S::Timeline,
     line: Result<String, AllocError>,

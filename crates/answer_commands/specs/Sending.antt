@@ -1,0 +1,113 @@
+-- `send`: the moves of the input are sent (this project's own).
+use Rattle.std.specs.Prelude.{◌≡◌, ◌*◌, ◌<◌, ◌++◌, ℕ, true, false, List, [], ◌∷◌, Option, Some, None, Result, Ok, Err, IfSome, codes, length, take}
+use Rattle.std.specs.Duration.{as_nanos}
+use Rattle.answer_commands.specs.SentGames.{ReadsSent}
+use Rattle.answer_commands.specs.declared.sent_game.GameSent.{GameSent}
+use Rattle.answer_parts.specs.Printing.{printed}
+use Rattle.arbiter_server.specs.ServedLines.{refused_port}
+use Rattle.command_line.specs.Addresses.{addresses_of}
+use Rattle.command_line.specs.declared.commands.send.Send.{Send}
+use Rattle.line_teller.specs.ToldLines.{refused_memory}
+use Rattle.move_msg.specs.TextLines.{ended}
+use Rattle.move_msg.specs.declared.stamp.Stamp.{Stamp}
+use Rattle.move_notation.specs.Notations.{notation_by}
+use Rattle.serve_commands.specs.Silences.{silence_words}
+use Rattle.source_core.specs.Lines.{ended_status}
+use Rattle.source_core.specs.Origins.{origin_by}
+use Rattle.source_core.specs.Runs.{SendsOn, source_terms}
+use Rattle.source_core.specs.Sendings.{causes}
+use Rattle.source_core.specs.declared.known.Known.{Known}
+use Rattle.source_core.specs.declared.lines.Ended.{Ended}
+use Rattle.source_core.specs.declared.lines.Ended.TheVariants as run
+use Rattle.source_core.specs.declared.turn.SendConfig.{SendConfig}
+use Rattle.system_io.specs.declared.host.BindFault.{BindFault}
+use Rattle.system_io.specs.declared.host.BindFault.TheVariants as bind
+use Rattle.timeline.specs.Events.{Event, Flushed, FromInput, LinesOpened, Noted, PortBound, Refused, Wrote}
+use Rattle.timeline.specs.Outsides.{AreNamed, FailsOrIsKnown, Outside}
+use Rattle.timeline.specs.declared.stream.Stream.TheVariants.{Errors}
+
+-- ---- who was silent
+
+abbrev pub silence_a : Known → List ℕ
+silence_a known = ended (codes "arbiter 1 " ++ silence_words known.a)
+
+abbrev pub silence_b : Known → List ℕ
+silence_b known = ended (codes "arbiter 2 " ++ silence_words known.b)
+
+-- a line for each arbiter is written to the errors, and they go out; or a front of this, where a write was refused or they can't go out
+pub data WritesSilence (known : Known) (events : List Event) : Type 0 where
+  BothOut : events ≡ Wrote Errors (silence_a known) ∷ Wrote Errors (silence_b known) ∷ Flushed Errors ∷ [] → WritesSilence known events
+  BothStuck : events ≡ Wrote Errors (silence_a known) ∷ Wrote Errors (silence_b known) ∷ Refused Errors ∷ [] → WritesSilence known events
+  SecondCut : (count : ℕ) → events ≡ Wrote Errors (silence_a known) ∷ Wrote Errors (take count (silence_b known)) ∷ Refused Errors ∷ [] → WritesSilence known events
+  FirstCut : (count : ℕ) → events ≡ Wrote Errors (take count (silence_a known)) ∷ Refused Errors ∷ [] → WritesSilence known events
+
+-- so it is where a run ends because an arbiter doesn't answer; otherwise nothing is written
+abbrev pub TellsSilent : Ended → List Event → Type 0
+TellsSilent (run.With status) events = events ≡ []
+TellsSilent (run.Lost known) events = WritesSilence known events
+
+-- ---- at a port
+
+-- the terms on which the moves of a game with this stamp are sent: the words tell whether the game has to be new, how the moves are
+-- written, how often, and how many milliseconds the first try of a move waits
+pub record AreTerms (t : Send) (stamp : Stamp) (terms : SendConfig) : Type 0 where
+  pub is : terms.stamp ≡ stamp
+  pub origin : terms.origin ≡ origin_by t.is_new
+  pub notation : terms.notation ≡ notation_by t.san
+  pub tries : terms.tries ≡ t.tries
+  pub wait : as_nanos terms.wait ≡ t.wait * 1_000_000
+
+-- lines that are those of the input
+pub record AreOfInput {T P F K S L : Type 0} (o : Outside T P F K S L) (lines : L) : Type 0 where
+  pub given : IfSome (o.lines lines).left o.input.gives
+  pub known : o.input.is_told ≡ true → FailsOrIsKnown (o.lines lines)
+  pub fails : (o.lines lines).fails → o.input.fails
+  pub memory : (o.lines lines).takes_memory → o.input.takes_memory
+
+-- a run of a source at a port, over lines
+abbrev pub RunsAt : {T P F K S L : Type 0} → Outside T P F K S L → SendConfig → GameSent → P → L → List Event → Option Ended → Type 0
+RunsAt o terms game port lines = SendsOn (causes (o.lines lines).fails (o.lines lines).takes_memory) (source_terms terms (o.port port)) game.start (o.lines lines).left
+
+-- The lines of the input are opened, and their moves are sent; then it is said who was silent. Or memory for the lines was refused.
+pub data SendsAt {T P F K S L : Type 0} (o : Outside T P F K S L) (t : Send) (game : GameSent) (port : P) (events : List Event) (status : Option ℕ) : Type 0 where
+  Ran : (lines : L) → AreOfInput o lines → (terms : SendConfig) → AreTerms t game.stamp terms → (done : Ended) (running silence : List Event) → RunsAt o terms game port lines running (Some done) → TellsSilent done silence → events ≡ LinesOpened FromInput true ∷ running ++ silence → status ≡ Some (ended_status done) → SendsAt o t game port events status
+  RunsOn : (lines : L) → AreOfInput o lines → (terms : SendConfig) → AreTerms t game.stamp terms → (running : List Event) → RunsAt o terms game port lines running None → events ≡ LinesOpened FromInput true ∷ running → status ≡ None → SendsAt o t game port events status
+  NoRoomForLines : o.input.takes_memory → events ≡ LinesOpened FromInput false ∷ printed (refused_memory ∷ []) → status ≡ Some 1 → SendsAt o t game port events status
+
+-- ---- its port
+
+-- it is bound to the address of the words, and sends to each of theirs
+pub record IsPortOf {T P F K S L : Type 0} (o : Outside T P F K S L) (t : Send) (port : P) : Type 0 where
+  pub at : (o.port port).address ≡ t.bind.now
+  pub to : AreNamed (o.port port).own (addresses_of t.to.now) (o.port port).to
+
+-- a port is bound; or why it can't be; or memory for several addresses was refused
+pub data BindsPort {T P F K S L : Type 0} (o : Outside T P F K S L) (t : Send) (result : Result P BindFault) (events : List Event) : Type 0 where
+  IsBound : (port : P) → IsPortOf o t port → result ≡ Ok port → events ≡ PortBound t.bind.now (addresses_of t.to.now) (Ok tt) ∷ [] → BindsPort o t result events
+  NotBound : (why : BindFault) → o.refuses_port t.bind.now why → result ≡ Err why → events ≡ PortBound t.bind.now (addresses_of t.to.now) (Err why) ∷ [] → BindsPort o t result events
+  NoRoomForAddresses : 1 < length (addresses_of t.to.now) → result ≡ Err bind.OutOfMemory → events ≡ [] → BindsPort o t result events
+
+abbrev pub unbound_line : List ℕ → List ℕ
+unbound_line address = address ++ codes " can't be bound"
+
+-- that it can't be bound is noted, unless memory for the line was refused
+pub data NotesUnbound (address : List ℕ) (events : List Event) : Type 0 where
+  AddressNoted : events ≡ Noted (unbound_line address) ∷ [] → NotesUnbound address events
+  AddressNotNoted : events ≡ [] → NotesUnbound address events
+
+-- the address is noted, and the port is refused; or memory was
+pub data RefusesPort (address : List ℕ) (why : BindFault) (events : List Event) (status : Option ℕ) : Type 0 where
+  IsUnbound : why ≡ bind.Unbound → (noting : List Event) → NotesUnbound address noting → events ≡ noting ++ printed (refused_port ∷ []) → status ≡ Some 1 → RefusesPort address why events status
+  NoRoomToBind : why ≡ bind.OutOfMemory → events ≡ printed (refused_memory ∷ []) → status ≡ Some 1 → RefusesPort address why events status
+
+-- the port is bound, and the moves are sent there; or it isn't
+pub data SendsFrom {T P F K S L : Type 0} (o : Outside T P F K S L) (t : Send) (game : GameSent) (events : List Event) (status : Option ℕ) : Type 0 where
+  OverPort : (port : P) (binding rest : List Event) → BindsPort o t (Ok port) binding → SendsAt o t game port rest status → events ≡ binding ++ rest → SendsFrom o t game events status
+  NoPort : (why : BindFault) (binding rest : List Event) → BindsPort o t (Err why) binding → RefusesPort t.bind.now why rest status → events ≡ binding ++ rest → SendsFrom o t game events status
+
+-- ---- all of it
+
+-- the game is read, and its moves are sent; or there is none, which is written
+pub data SendsInput {T P F K S L : Type 0} (o : Outside T P F K S L) (t : Send) (events : List Event) (status : Option ℕ) : Type 0 where
+  OfGame : (game : GameSent) (reading rest : List Event) → ReadsSent o.disk t t.game (Ok game) reading → SendsFrom o t game rest status → events ≡ reading ++ rest → SendsInput o t events status
+  NoGame : (words : List ℕ) (reading : List Event) → ReadsSent o.disk t t.game (Err words) reading → events ≡ reading ++ printed (words ∷ []) → status ≡ Some 1 → SendsInput o t events status
