@@ -13,3 +13,5 @@ pub mod StampLaws
 pub mod EntryLaws
 pub mod EnterLaws
 pub mod SealLaws
+pub mod SentLaws
+pub mod SendLaws

@@ -1,0 +1,101 @@
+-- What `send` does, one thing after another.
+use Rattle.std.proofs.Common.{◌≡◌, ◌∙◌, ◌∷◌, ◌++◌, [], ℕ, List, Option, Some, None, ap, append_assoc, refl}
+use Rattle.std.specs.Prelude.{Result, Ok, Err, IfOk, String, string_bytes, true}
+use Rattle.std.specs.Global.{Global}
+use Rattle.answer_commands.specs.Inside.Sending.{IsCut, IsOut, IsStuck, WritesSecond}
+use Rattle.answer_commands.specs.Sealed.{noted_if}
+use Rattle.answer_commands.specs.SentGames.{ReadsSent}
+use Rattle.answer_commands.specs.Sending.{AddressNoted, AddressNotNoted, AreOfInput, AreTerms, BindsPort, BothOut, BothStuck, FirstCut, IsUnbound, NoGame, NoPort, NoRoomToBind, NotesUnbound, OfGame, OverPort, Ran, RefusesPort, RunsAt, RunsOn, SecondCut, SendsAt, SendsFrom, SendsInput, TellsSilent, WritesSilence, silence_a, silence_b, unbound_line}
+use Rattle.answer_commands.specs.declared.sent_game.GameSent.{GameSent}
+use Rattle.answer_parts.proofs.PrintLaws.{cut_behind, then_does, then_prints}
+use Rattle.answer_parts.specs.Printing.{AtFlush, AtWrite, IsCutIn, Performs, Prints}
+use Rattle.arbiter_server.specs.ServedLines.{refused_port}
+use Rattle.command_line.specs.declared.commands.send.Send.{Send}
+use Rattle.source_core.specs.Lines.{ended_status}
+use Rattle.source_core.specs.declared.known.Known.{Known}
+use Rattle.source_core.specs.declared.lines.Ended.{Ended}
+use Rattle.source_core.specs.declared.lines.Ended.TheVariants as run
+use Rattle.source_core.specs.declared.turn.SendConfig.{SendConfig}
+use Rattle.system_io.specs.declared.host.BindFault.{BindFault}
+use Rattle.system_io.specs.declared.host.BindFault.TheVariants as bind
+use Rattle.system_io.specs.declared.output.WriteFault.{WriteFault}
+use Rattle.timeline.proofs.EventLaws.{adds_more}
+use Rattle.timeline.specs.Events.{Event, Flushed, FromInput, LinesOpened, Noted, Refused, Wrote}
+use Rattle.timeline.specs.Outsides.{Adds, AddsSome, Outside}
+use Rattle.timeline.specs.declared.stream.Stream.TheVariants.{Errors, Output}
+
+-- ---- who was silent
+
+-- the first line was written, and then the second
+pub both_written : {T P F K S L : Type 0} (o : Outside T P F K S L) (a b c : T) (known : Known) → Adds o a b (Wrote Errors (silence_a known) ∷ []) → AddsSome o b c (WritesSecond known) → AddsSome o a c (WritesSilence known)
+both_written o a b c known p q = (Wrote Errors (silence_a known) ∷ [] ++ q.0, adds_more o a b c (Wrote Errors (silence_a known) ∷ []) q.0 p q.1, by_second q.0 q.2)
+  where
+    behind : List Event → List Event
+    behind events = Wrote Errors (silence_a known) ∷ events
+
+    by_second : (events : List Event) → WritesSecond known events → WritesSilence known (Wrote Errors (silence_a known) ∷ [] ++ events)
+    by_second events (IsOut is) = BothOut (ap behind is)
+    by_second events (IsStuck is) = BothStuck (ap behind is)
+    by_second events (IsCut count is) = SecondCut count (ap behind is)
+
+-- ---- at a port
+
+-- of more events it is a front too
+cut_on : (all more events : List Event) → IsCutIn all events → IsCutIn (all ++ more) events
+cut_on all more events (AtWrite before bytes after wanted count written) = AtWrite before bytes (after ++ more) (ap (λ (l : List Event). l ++ more) wanted ∙ append_assoc before (Wrote Output bytes ∷ after) more) count written
+cut_on all more events (AtFlush before after wanted left) = AtFlush before (after ++ more) (ap (λ (l : List Event). l ++ more) wanted ∙ append_assoc before (Flushed Output ∷ after) more) left
+
+-- what would be said then
+silence_of : (done : Ended) → (events : List Event) × TellsSilent done events
+silence_of (run.With status) = ([], refl)
+silence_of (run.Lost known) = (Wrote Errors (silence_a known) ∷ Wrote Errors (silence_b known) ∷ Flushed Errors ∷ [], BothOut refl)
+
+-- the run ended, and then it was said who was silent
+pub ran_at : {T P F K S L : Type 0} (o : Outside T P F K S L) (a b c d : T) (t : Send) (game : GameSent) (port : P) (lines : L) (terms : SendConfig) (done : Ended) → AreOfInput o lines → AreTerms t game.stamp terms
+    → Adds o a b (LinesOpened FromInput true ∷ []) → AddsSome o b c (Performs (RunsAt o terms game port lines) (Ok done)) → AddsSome o c d (TellsSilent done) → AddsSome o a d (Performs (SendsAt o t game port) (Ok (ended_status done)))
+ran_at o a b c d t game port lines terms done input on p q r = (
+  LinesOpened FromInput true ∷ q.0 ++ r.0,
+  adds_more o a b d (LinesOpened FromInput true ∷ []) (q.0 ++ r.0) p (adds_more o b c d q.0 r.0 q.1 r.1),
+  Ran lines input terms on done q.0 r.0 q.2 r.2 refl refl,
+)
+
+-- the output failed on the way
+pub cut_at : {T P F K S L : Type 0} (o : Outside T P F K S L) (a b c : T) (t : Send) (game : GameSent) (port : P) (lines : L) (terms : SendConfig) (fault : WriteFault) → AreOfInput o lines → AreTerms t game.stamp terms
+    → Adds o a b (LinesOpened FromInput true ∷ []) → AddsSome o b c (Performs (RunsAt o terms game port lines) (Err fault)) → AddsSome o a c (Performs (SendsAt o t game port) (Err fault))
+cut_at o a b c t game port lines terms fault input on p q = (
+  LinesOpened FromInput true ∷ [] ++ q.0,
+  adds_more o a b c (LinesOpened FromInput true ∷ []) q.0 p q.1,
+  by_end q.2.0 q.2.1 q.2.2 (cut_behind (LinesOpened FromInput true ∷ []) q.2.0 q.0 q.2.3),
+)
+  where
+    by_end : (all : List Event) (is : Option Ended) → RunsAt o terms game port lines all is → IsCutIn (LinesOpened FromInput true ∷ [] ++ all) (LinesOpened FromInput true ∷ [] ++ q.0)
+        → (whole : List Event) × (status : Option ℕ) × SendsAt o t game port whole status × IsCutIn whole (LinesOpened FromInput true ∷ [] ++ q.0)
+    by_end all None run cut = (LinesOpened FromInput true ∷ all, None, RunsOn lines input terms on all run refl refl, cut)
+    by_end all (Some done) run cut =
+        let s = silence_of done in
+        (LinesOpened FromInput true ∷ all ++ s.0, Some (ended_status done), Ran lines input terms on done all s.0 run s.1 refl refl, cut_on (LinesOpened FromInput true ∷ all) s.0 _ cut)
+
+-- ---- its port
+
+-- it can't be bound, which is noted if the line could be made
+pub port_refused : {T P F K S L E : Type 0} (o : Outside T P F K S L) (a b c : T) (address : List ℕ) (line : Result (String Global) E) (r : Result ℕ WriteFault) → IfOk line (λ l. string_bytes l ≡ unbound_line address)
+    → Adds o a b (noted_if line) → AddsSome o b c (Performs (Prints (refused_port ∷ []) 1) r) → AddsSome o a c (Performs (RefusesPort address bind.Unbound) r)
+port_refused o a b c address line r is p q = then_prints o a b c (noted_if line) (RefusesPort address bind.Unbound) (refused_port ∷ []) 1 r (IsUnbound refl (noted_if line) (noted line is) refl refl) p q
+  where
+    noted : {E : Type 0} (line : Result (String Global) E) → IfOk line (λ l. string_bytes l ≡ unbound_line address) → NotesUnbound address (noted_if line)
+    noted (Ok l) is = AddressNoted (ap (λ (w : List ℕ). Noted w ∷ []) is)
+    noted (Err e) is = AddressNotNoted refl
+
+-- ---- all of it
+
+pub sends_over : {T P F K S L : Type 0} (o : Outside T P F K S L) (a b c : T) (t : Send) (game : GameSent) (port : P) (r : Result ℕ WriteFault) → AddsSome o a b (BindsPort o t (Ok port)) → AddsSome o b c (Performs (SendsAt o t game port) r) → AddsSome o a c (Performs (SendsFrom o t game) r)
+sends_over o a b c t game port r p q = then_does o a b c p.0 (SendsAt o t game port) (SendsFrom o t game) r (λ (events : List Event) (status : Option ℕ) (h : SendsAt o t game port events status). OverPort port p.0 events p.2 h refl) p.1 q
+
+pub sends_nowhere : {T P F K S L : Type 0} (o : Outside T P F K S L) (a b c : T) (t : Send) (game : GameSent) (why : BindFault) (r : Result ℕ WriteFault) → AddsSome o a b (BindsPort o t (Err why)) → AddsSome o b c (Performs (RefusesPort t.bind.now why) r) → AddsSome o a c (Performs (SendsFrom o t game) r)
+sends_nowhere o a b c t game why r p q = then_does o a b c p.0 (RefusesPort t.bind.now why) (SendsFrom o t game) r (λ (events : List Event) (status : Option ℕ) (h : RefusesPort t.bind.now why events status). NoPort why p.0 events p.2 h refl) p.1 q
+
+pub sends_game : {T P F K S L : Type 0} (o : Outside T P F K S L) (a b c : T) (t : Send) (game : GameSent) (r : Result ℕ WriteFault) → AddsSome o a b (ReadsSent o.disk t t.game (Ok game)) → AddsSome o b c (Performs (SendsFrom o t game) r) → AddsSome o a c (Performs (SendsInput o t) r)
+sends_game o a b c t game r p q = then_does o a b c p.0 (SendsFrom o t game) (SendsInput o t) r (λ (events : List Event) (status : Option ℕ) (h : SendsFrom o t game events status). OfGame game p.0 events p.2 h refl) p.1 q
+
+pub sends_none : {T P F K S L : Type 0} (o : Outside T P F K S L) (a b c : T) (t : Send) (words : List ℕ) (r : Result ℕ WriteFault) → AddsSome o a b (ReadsSent o.disk t t.game (Err words)) → AddsSome o b c (Performs (Prints (words ∷ []) 1) r) → AddsSome o a c (Performs (SendsInput o t) r)
+sends_none o a b c t words r p q = then_prints o a b c p.0 (SendsInput o t) (words ∷ []) 1 r (NoGame words p.0 p.2 refl refl) p.1 q
