@@ -4,5 +4,6 @@ pub mod Boards
 pub mod Turns
 pub mod Lines
 pub mod Sendings
+pub mod Heard
 pub mod Laws
 pub mod Inside

@@ -42,6 +42,7 @@ mod origin;
 mod report;
 mod sending;
 mod turn;
+mod watching;
 
 pub use board::Board;
 pub use known::{Clash, Known, Reported, Standing};
