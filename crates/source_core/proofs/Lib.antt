@@ -5,3 +5,6 @@ pub mod OriginLaws
 pub mod TurnLaws
 pub mod SendingLaws
 pub mod LineLaws
+pub mod HeardLaws
+pub mod TryLaws
+pub mod WatchLaws

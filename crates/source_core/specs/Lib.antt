@@ -5,5 +5,7 @@ pub mod Turns
 pub mod Lines
 pub mod Sendings
 pub mod Heard
+pub mod Tries
+pub mod Runs
 pub mod Laws
 pub mod Inside

@@ -35,6 +35,8 @@
 #![tactic(auto)]
 
 mod board;
+mod course;
+mod exchange;
 mod known;
 pub mod laws;
 mod lines;
@@ -45,6 +47,7 @@ mod turn;
 mod watching;
 
 pub use board::Board;
+pub use course::{GameToSend, send_moves};
 pub use known::{Clash, Known, Reported, Standing};
 pub use lines::{End, Ended, Line};
 pub use origin::{Origin, Started};
