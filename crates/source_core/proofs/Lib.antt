@@ -8,3 +8,5 @@ pub mod LineLaws
 pub mod HeardLaws
 pub mod TryLaws
 pub mod WatchLaws
+pub mod RunLaws
+pub mod CourseLaws

@@ -1,8 +1,8 @@
 -- What is heard in one try, and tries one after the other.
-use Rattle.std.proofs.Common.{◌≡◌, ◌∙◌, ◌⊎◌, ◌+◌, ◌≤◌, ◌++◌, ◌∷◌, [], ℕ, List, Option, Some, None, ap, append-nil, append_assoc, arith, inl, inr, length, length-append, length-map, map, refl, subst, sym, true, false}
+use Rattle.std.proofs.Common.{◌≡◌, ◌∙◌, ◌⊎◌, ◌+◌, ◌≤◌, ◌++◌, ◌∷◌, [], ℕ, List, Option, Some, None, ap, append-nil, append_assoc, arith, inl, inr, length, length-append, map, refl, subst, sym, true, false}
 use Rattle.std.proofs.lemmas.List.{map-append}
-use Rattle.std.proofs.lemmas.List.Folds.{concat-append}
-use Rattle.std.specs.List.{AllByRecursion, concat}
+use Rattle.std.proofs.lemmas.List.Concat.{flat_map-append}
+use Rattle.std.specs.List.{AllByRecursion}
 use Rattle.std.specs.declared.net.socket_addr.SocketAddr.{SocketAddr}
 use Rattle.board_core.specs.declared.moves.Move.{Move as Moves}
 use Rattle.board_core.specs.declared.parts.Parts.{Parts}
@@ -15,7 +15,7 @@ use Rattle.source_core.specs.Heard.{Happened, IsHearing, Moment, heard, sender_a
 use Rattle.source_core.specs.Inside.Exchanges.{EndsTry, HearsOne, TriesOnce}
 use Rattle.source_core.specs.Inside.Steps.{EndsIf, IsLast, IsWaitBy, TryLearns, TryWaits, Waits, is_ruled, loss_by}
 use Rattle.source_core.specs.Reports.{Knows}
-use Rattle.source_core.specs.Tries.{EachWaits, SendsMove, heard_each, tries_events, try_events}
+use Rattle.source_core.specs.Tries.{EachWaits, SendsMove, heard_all, heard_each, tries_events, try_events}
 use Rattle.source_core.specs.Turns.{AllButLastWaited, ComesTo, HasSpelling, HasWaited, WaitsSoLong, most_answers}
 use Rattle.source_core.specs.declared.known.Known.{Known}
 use Rattle.source_core.specs.declared.turn.Next.{Next}
@@ -114,8 +114,8 @@ pub record HasTriedSo (terms : SendConfig) (number : ℕ) (bytes : List ℕ) (ol
   pub waited : AllByRecursion HasWaited (heard_each tries) ⊎ (is_ruled known' ≡ true)
   pub happened : Happened old new (tries_events old.sender old.to bytes tries)
   pub again : AllButLastWaited (heard_each tries)
-  pub long : (before : List Passing) → Knows terms.stamp before known → EachWaits terms number before (heard_each tries)
-  pub learned : (before : List Passing) → Knows terms.stamp before known → Knows terms.stamp (before ++ concat (heard_each tries)) known'
+  pub long : (before : List Passing) → Knows terms.stamp before known → EachWaits terms number before tries
+  pub learned : (before : List Passing) → Knows terms.stamp before known → Knows terms.stamp (before ++ heard_all tries) known'
 
 pub tries_none : (terms : SendConfig) (number : ℕ) (bytes : List ℕ) (at : Moment) (known : Known) → HasTriedSo terms number bytes at at known known 0
 tries_none terms number bytes at known = record {
@@ -143,8 +143,8 @@ all_tries sender to bytes (first ∷ tries) came =
 each_more : (tries : List (List Event)) (came : List Event) → heard_each (tries ++ came ∷ []) ≡ heard_each tries ++ heard came ∷ []
 each_more tries came = map-append heard tries (came ∷ [])
 
-all_heard : (tries : List (List Event)) (came : List Event) → concat (heard_each (tries ++ came ∷ [])) ≡ concat (heard_each tries) ++ heard came
-all_heard tries came = ap concat (each_more tries came) ∙ concat-append (heard_each tries) (heard came ∷ []) ∙ ap (λ l. concat (heard_each tries) ++ l) (append-nil (heard came))
+all_heard : (tries : List (List Event)) (came : List Event) → heard_all (tries ++ came ∷ []) ≡ heard_all tries ++ heard came
+all_heard tries came = flat_map-append heard tries (came ∷ []) ∙ ap (λ l. heard_all tries ++ l) (append-nil (heard came))
 
 module _ (terms : SendConfig) (number : ℕ) (bytes : List ℕ) (a b c : Moment) (old mid new : Known) (k : ℕ) (end : Option Turn) (h : HasTriedSo terms number bytes a b old mid k) (t : TriesOnce terms k number bytes b c mid new end) where
   more_happened : Happened a c (tries_events a.sender a.to bytes (h.tries ++ t.came ∷ []))
@@ -152,19 +152,19 @@ module _ (terms : SendConfig) (number : ℕ) (bytes : List ℕ) (a b c : Moment)
       let sent : Happened b c (try_events (sender_after a.sender (tries_events a.sender a.to bytes h.tries)) a.to bytes t.came) = subst (λ s. Happened b c (try_events s a.to bytes t.came)) h.happened.sender (subst (λ to. Happened b c (try_events b.sender to bytes t.came)) h.happened.to t.happened) in
       subst (Happened a c) (sym (all_tries a.sender a.to bytes h.tries t.came)) (happened_more a b c (tries_events a.sender a.to bytes h.tries) (try_events (sender_after a.sender (tries_events a.sender a.to bytes h.tries)) a.to bytes t.came) h.happened sent)
 
-  more_learned : (before : List Passing) → Knows terms.stamp before old → TryLearns terms.stamp (before ++ concat (heard_each (h.tries ++ t.came ∷ []))) new end
+  more_learned : (before : List Passing) → Knows terms.stamp before old → TryLearns terms.stamp (before ++ heard_all (h.tries ++ t.came ∷ [])) new end
   more_learned before known =
-      subst (λ l. TryLearns terms.stamp l new end) (append_assoc before (concat (heard_each h.tries)) (heard t.came) ∙ ap (λ l. before ++ l) (sym (all_heard h.tries t.came))) (t.learns (before ++ concat (heard_each h.tries)) (h.learned before known))
+      subst (λ l. TryLearns terms.stamp l new end) (append_assoc before (heard_all h.tries) (heard t.came) ∙ ap (λ l. before ++ l) (sym (all_heard h.tries t.came))) (t.learns (before ++ heard_all h.tries) (h.learned before known))
 
   -- the one more waits so long too
-  more_long : (before : List Passing) → Knows terms.stamp before old → EachWaits terms number before (heard_each (h.tries ++ t.came ∷ []))
-  more_long before known earlier later came is = elim (cut_at (heard_each h.tries) (heard t.came) earlier later came (sym (each_more h.tries t.came) ∙ is)) [
+  more_long : (before : List Passing) → Knows terms.stamp before old → EachWaits terms number before (h.tries ++ t.came ∷ [])
+  more_long before known earlier later came is = elim (cut_at h.tries t.came earlier later came is) [
     | inl (same, last) ↦
-        let so_far : List Passing = before ++ concat (heard_each h.tries) in
+        let so_far : List Passing = before ++ heard_all h.tries in
         let now : WaitsSoLong terms k number so_far (heard t.came) = t.waited so_far (h.learned before known) in
-        let counted : WaitsSoLong terms (length (heard_each h.tries)) number so_far (heard t.came) = subst (λ n. WaitsSoLong terms n number so_far (heard t.came)) (sym (length-map heard h.tries ∙ h.count)) now in
-        subst (λ l. WaitsSoLong terms (length earlier) number (before ++ concat earlier) l) (sym last)
-        (subst (λ ts. WaitsSoLong terms (length ts) number (before ++ concat ts) (heard t.came)) (sym same) counted)
+        let counted : WaitsSoLong terms (length h.tries) number so_far (heard t.came) = subst (λ n. WaitsSoLong terms n number so_far (heard t.came)) (sym h.count) now in
+        subst (λ l. WaitsSoLong terms (length earlier) number (before ++ heard_all earlier) (heard l)) (sym last)
+        (subst (λ ts. WaitsSoLong terms (length ts) number (before ++ heard_all ts) (heard t.came)) (sym same) counted)
     | inr (others, before_it) ↦ h.long before known earlier others came before_it
   ]
 

@@ -84,7 +84,7 @@ pub record AreTriesOf (g : SourceTerms) (at : RunState) (tries : List (List Even
   pub few : length tries ≤ g.terms.tries
   pub hearing : AllByRecursion (AllByRecursion IsHearing) tries
   pub again : AllButLastWaited (heard_each tries)
-  pub waited : EachWaits g.terms (length at.moves) (heard at.events) (heard_each tries)
+  pub waited : EachWaits g.terms (length at.moves) (heard at.events) tries
 
 -- The next line spells a legal move, which is sent as the move with its number until both have acknowledged it; then a line says how many
 -- moves are acknowledged, and goes out.

@@ -1,6 +1,6 @@
 -- One move that is sent until the arbiters have acknowledged it, by what happens outside (this project's own).
 use Rattle.std.specs.Prelude.{◌≡◌, ◌≤◌, ◌++◌, ℕ, List, [], ◌∷◌, Option, length, map}
-use Rattle.std.specs.List.{AllByRecursion, concat}
+use Rattle.std.specs.List.{AllByRecursion, flat_map}
 use Rattle.std.specs.declared.net.socket_addr.SocketAddr.{SocketAddr}
 use Rattle.board_core.specs.declared.moves.Move.{Move as Moves}
 use Rattle.board_core.specs.declared.parts.Parts.{Parts}
@@ -29,11 +29,15 @@ tries_events sender to bytes (came ∷ tries) = try_events sender to bytes came 
 abbrev pub heard_each : List (List Event) → List (List Passing)
 heard_each tries = map heard tries
 
+-- and in all of them
+abbrev pub heard_all : List (List Event) → List Passing
+heard_all tries = flat_map heard tries
+
 -- In each of the tries of a move, before which so much was heard: whenever nothing came in time, a datagram was awaited as long as the terms
 -- say for that try.
-abbrev pub EachWaits : SendConfig → ℕ → List Passing → List (List Passing) → Type 0
+abbrev pub EachWaits : SendConfig → ℕ → List Passing → List (List Event) → Type 0
 EachWaits terms number before tries =
-    (earlier later : List (List Passing)) (came : List Passing) → tries ≡ earlier ++ came ∷ later → WaitsSoLong terms (length earlier) number (before ++ concat earlier) came
+    (earlier later : List (List Event)) (came : List Event) → tries ≡ earlier ++ came ∷ later → WaitsSoLong terms (length earlier) number (before ++ heard_all earlier) (heard came)
 
 -- A turn: the one move is sent in some tries, at most so many, each of which waited so long. An arbiter counts as silent only when all are
 -- used up.
@@ -42,7 +46,7 @@ pub record SendsMove (terms : SendConfig) (number : ℕ) (m : Moves) (plies : �
   pub few : length tries ≤ terms.tries
   pub hearing : AllByRecursion (AllByRecursion IsHearing) tries
   pub again : AllButLastWaited (heard_each tries)
-  pub waited : (before : List Passing) → Knows terms.stamp before known → EachWaits terms number before (heard_each tries)
+  pub waited : (before : List Passing) → Knows terms.stamp before known → EachWaits terms number before tries
   pub lost : end ≡ at_turn.Lost → (length tries ≡ terms.tries) × AllByRecursion HasWaited (heard_each tries)
   pub happened : Happened old new (tries_events old.sender old.to (message_text (move_message terms.stamp number m)) tries)
-  pub ends : (before : List Passing) → Knows terms.stamp before known → TurnEndsSo terms.origin terms.stamp number plies position (before ++ concat (heard_each tries)) known' end
+  pub ends : (before : List Passing) → Knows terms.stamp before known → TurnEndsSo terms.origin terms.stamp number plies position (before ++ heard_all tries) known' end
