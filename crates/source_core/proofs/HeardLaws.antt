@@ -1,15 +1,13 @@
 -- What is heard of what happens, one thing after another.
-use Rattle.std.proofs.Common.{◌≡◌, ◌∙◌, ◌++◌, ◌∷◌, [], ℕ, List, Option, Some, None, ap, append-nil, append_assoc, refl, subst, sym}
+use Rattle.std.proofs.Common.{◌≡◌, ◌∙◌, ◌++◌, ◌∷◌, [], ℕ, List, Option, Some, None, ap, refl, sym}
 use Rattle.std.proofs.lemmas.List.Concat.{flat_map-append}
 use Rattle.std.specs.List.{AllByRecursion}
 use Rattle.std.specs.declared.net.socket_addr.SocketAddr.{SocketAddr}
 use Rattle.system_io.proofs.HistoryLaws.{Passes-nil, Passes-trans}
-use Rattle.system_io.specs.Ports.{Passing}
 use Rattle.system_io.specs.Recipients.{address_named}
 use Rattle.system_io.specs.declared.recipient.Recipient.{Recipient}
-use Rattle.timeline.specs.Events.{Event, Came, Missed, Noted, Quiet, sent_to, sent_to_each}
-use Rattle.timeline.specs.Outsides.{AddsSome, HeardNothing, Outside, SendsToSame, sent_by}
-use Rattle.source_core.specs.Heard.{Happened, IsHearing, IsNote, Moment, OnlyNotes, heard, heard_in, moment, sender_after, sender_by}
+use Rattle.timeline.specs.Events.{Event, Came, Missed, Noted, Passes, Quiet, sent_to, sent_to_each}
+use Rattle.source_core.specs.Heard.{Happened, IsHearing, IsNote, Moment, OnlyNotes, heard, heard_in, sender_after, sender_by}
 
 pub all_join : {A : Type 0} (P : A → Type 0) (xs ys : List A) → AllByRecursion P xs → AllByRecursion P ys → AllByRecursion P (xs ++ ys)
 all_join P [] ys h k = k
@@ -89,3 +87,8 @@ happened_more a b c xs ys p q = record {
   to = q.to ∙ p.to;
   sender = q.sender ∙ ap (λ s. sender_after s ys) p.sender ∙ sym (after-append a.sender xs ys);
 }
+
+-- a datagram was sent to each recipient
+pub sent_happened : (e0 e1 : Option (List Event)) (to to' : List Recipient) (sender sender' : Option SocketAddr) (bytes : List ℕ) → Passes e0 e1 (sent_to_each sender to bytes) → to' ≡ to → sender' ≡ sender
+    → Happened (record { events = e0; to = to; sender = sender }) (record { events = e1; to = to'; sender = sender' }) (sent_to_each sender to bytes)
+sent_happened e0 e1 to to' sender sender' bytes passes same_to same = record { passes = passes; to = same_to; sender = same ∙ sym (sent_same sender to bytes) }

@@ -8,5 +8,6 @@ pub mod LineLaws
 pub mod HeardLaws
 pub mod TryLaws
 pub mod WatchLaws
+pub mod OutLaws
 pub mod RunLaws
 pub mod CourseLaws

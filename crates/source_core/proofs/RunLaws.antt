@@ -10,12 +10,12 @@ use Rattle.board_core.specs.declared.parts.Parts.{Parts}
 use Rattle.move_msg.specs.declared.stamp.Stamp.{Stamp}
 use Rattle.move_msg.specs.Messages.{message_text}
 use Rattle.move_notation.specs.declared.notation.Notation.{Notation}
-use Rattle.system_io.specs.LineReaders.{ReadsLine}
+use Rattle.system_io.specs.LineReaders.{ReadsIfAny, ReadsLine}
 use Rattle.system_io.specs.Ports.{Passing}
 use Rattle.system_io.specs.declared.reading.ReadFault.{ReadFault}
 use Rattle.system_io.specs.declared.reading.ReadFault.TheVariants as fault
 use Rattle.system_io.specs.declared.recipient.Recipient.{Recipient}
-use Rattle.timeline.specs.Events.{Event, Flushed, LineRead, Wrote, sent_to_each}
+use Rattle.timeline.specs.Events.{Event, LineRead, Passes, has_line_feed, line_event, sent_to_each}
 use Rattle.source_core.specs.Heard.{Happened, IsHearing, Moment, heard, sender_after}
 use Rattle.source_core.specs.Inside.Courses.{ClosesWith, CourseAt, StandsWhere, StepsFrom, TakesLine, TakesStep}
 use Rattle.source_core.specs.Inside.Exchanges.{EndsTry}
@@ -273,3 +273,34 @@ closed_clashed terms n number c c' mid known clash e spelling sent same h = clos
 pub closed_missed : (terms : SendConfig) (n number : ℕ) (c c' : CourseAt) (mid : Moment) (known : Known) → n ≡ number - 1 → IfSome c.last (HasSpelling terms.stamp n) → Happened c.at mid (sent_again c.at.sender c.at.to terms.stamp n c.last) → known ≡ c.known
     → EndsTry terms 0 number mid c'.at known c'.known next.PortLost → ClosesWith terms number c c' at_end.PortLost
 closed_missed terms n number c c' mid known e spelling sent same h = closed_so terms number c c' mid known next.PortLost h same (has_again terms.stamp n (number - 1) c.last c.at mid e spelling sent) at_end.PortLost (λ count is. cc) (λ all k. k)
+
+-- ---- what was read
+
+pub step_line : (cause : ReadFault → Type 0) (terms : SendConfig) (number : ℕ) (is : Bool) (line line' ahead : List ℕ) (left left' : Option (List ℕ)) (position : Parts) (last : Option Moves) (known : Known) (e0 e1 : Option (List Event)) (to : List Recipient) (sender : Option SocketAddr) (c' : CourseAt) (o : Option End)
+    → is ≡ true → line' ≡ line → ReadsIfAny left left' line is → Passes e0 e1 (line_event (Ok is) line ahead ∷ []) → TakesLine terms number line' (record { position = position; last = last; known = known; at = record { events = e1; to = to; sender = sender } }) c' o
+    → StepsFrom cause terms number left left' (record { events = e0; to = to; sender = sender }) (record { position = position; last = last; known = known; at = record { events = e0; to = to; sender = sender } }) c' o
+step_line cause terms number is line line' ahead left left' position last known e0 e1 to sender c' o yes same read made h =
+    let c : CourseAt = record { position = position; last = last; known = known; at = record { events = e0; to = to; sender = sender } } in
+    let d : CourseAt = record { position = position; last = last; known = known; at = record { events = e1; to = to; sender = sender } } in
+    let its : TakesLine terms number line d c' o = subst (λ l. TakesLine terms number l d c' o) same h in
+    let came : Passes e0 e1 (LineRead (Ok (Some line)) (has_line_feed ahead) ∷ []) = subst (λ b. Passes e0 e1 (line_event (Ok b) line ahead ∷ [])) yes made in
+    line_taken cause terms number line (has_line_feed ahead) left left' c d c' o refl refl refl (subst (ReadsIfAny left left' line) yes read) (record { passes = came; to = refl; sender = refl }) its
+
+pub step_end : (cause : ReadFault → Type 0) (terms : SendConfig) (number n : ℕ) (is : Bool) (line ahead : List ℕ) (left left' : Option (List ℕ)) (position : Parts) (last : Option Moves) (known : Known) (e0 e1 : Option (List Event)) (to : List Recipient) (sender : Option SocketAddr) (c' : CourseAt) (end : End)
+    → is ≡ false → n ≡ number → ReadsIfAny left left' line is → Passes e0 e1 (line_event (Ok is) line ahead ∷ []) → ClosesWith terms n (record { position = position; last = last; known = known; at = record { events = e1; to = to; sender = sender } }) c' end
+    → StepsFrom cause terms number left left' (record { events = e0; to = to; sender = sender }) (record { position = position; last = last; known = known; at = record { events = e0; to = to; sender = sender } }) c' (Some end)
+step_end cause terms number n is line ahead left left' position last known e0 e1 to sender c' end no same read made h =
+    let c : CourseAt = record { position = position; last = last; known = known; at = record { events = e0; to = to; sender = sender } } in
+    let d : CourseAt = record { position = position; last = last; known = known; at = record { events = e1; to = to; sender = sender } } in
+    let its : ClosesWith terms number d c' end = subst (λ k. ClosesWith terms k d c' end) same h in
+    let came : Passes e0 e1 (LineRead (Ok None) (has_line_feed ahead) ∷ []) = subst (λ b. Passes e0 e1 (line_event (Ok b) line ahead ∷ [])) no made in
+    let done = subst (ReadsIfAny left left' line) no read in
+    input_ended cause terms number (has_line_feed ahead) left left' c d c' end refl refl refl done.0 (record { passes = came; to = refl; sender = refl }) its
+
+pub step_unread : (cause : ReadFault → Type 0) (terms : SendConfig) (number : ℕ) (why : ReadFault) (line ahead : List ℕ) (left left' : Option (List ℕ)) (position : Parts) (last : Option Moves) (known : Known) (e0 e1 : Option (List Event)) (to : List Recipient) (sender : Option SocketAddr)
+    → cause why → Passes e0 e1 (line_event (Err why) line ahead ∷ [])
+    → StepsFrom cause terms number left left' (record { events = e0; to = to; sender = sender }) (record { position = position; last = last; known = known; at = record { events = e0; to = to; sender = sender } }) (record { position = position; last = last; known = known; at = record { events = e1; to = to; sender = sender } }) (Some (unread_end why))
+step_unread cause terms number why line ahead left left' position last known e0 e1 to sender h made =
+    let c : CourseAt = record { position = position; last = last; known = known; at = record { events = e0; to = to; sender = sender } } in
+    let d : CourseAt = record { position = position; last = last; known = known; at = record { events = e1; to = to; sender = sender } } in
+    not_read cause terms number why (has_line_feed ahead) left left' c d h (record { passes = made; to = refl; sender = refl })

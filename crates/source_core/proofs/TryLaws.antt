@@ -10,20 +10,23 @@ use Rattle.move_msg.specs.declared.stamp.Stamp.{Stamp}
 use Rattle.system_io.specs.Ports.{Passing}
 use Rattle.system_io.specs.Ports as passing
 use Rattle.system_io.specs.declared.recipient.Recipient.{Recipient}
-use Rattle.timeline.specs.Events.{Event, sent_to_each}
-use Rattle.source_core.specs.Heard.{Happened, IsHearing, Moment, heard, sender_after}
+use Rattle.std.proofs.lemmas.List.Elements.{Contains-push}
+use Rattle.system_io.proofs.HistoryLaws.{Passes-trans}
+use Rattle.timeline.specs.Events.{Came, Event, Missed, Passes, Quiet, sent_to_each}
+use Rattle.source_core.specs.Heard.{Happened, IsHearing, Moment, OnlyNotes, heard, sender_after}
 use Rattle.source_core.specs.Inside.Exchanges.{EndsTry, HearsOne, TriesOnce}
 use Rattle.source_core.specs.Inside.Steps.{EndsIf, IsLast, IsWaitBy, TryLearns, TryWaits, Waits, is_ruled, loss_by}
 use Rattle.source_core.specs.Reports.{Knows}
 use Rattle.source_core.specs.Tries.{EachWaits, SendsMove, heard_all, heard_each, tries_events, try_events}
-use Rattle.source_core.specs.Turns.{AllButLastWaited, ComesTo, HasSpelling, HasWaited, WaitsSoLong, most_answers}
+use Rattle.source_core.specs.Turns.{AllButLastWaited, ComesTo, HasSpelling, HasWaited, Learns, WaitsSoLong, most_answers}
 use Rattle.source_core.specs.declared.known.Known.{Known}
 use Rattle.source_core.specs.declared.turn.Next.{Next}
 use Rattle.source_core.specs.declared.turn.Next.TheVariants as next
 use Rattle.source_core.specs.declared.turn.SendConfig.{SendConfig}
 use Rattle.source_core.specs.declared.turn.Turn.{Turn}
 use Rattle.source_core.specs.declared.turn.Turn.TheVariants as at_turn
-use Rattle.source_core.proofs.HeardLaws.{after-append, all_join, happened_more, happened_none, heard-append}
+use Rattle.source_core.proofs.HeardLaws.{after-append, all_join, happened_more, happened_none, heard-append, notes_hear, notes_same, notes_unheard}
+use Rattle.source_core.proofs.ReportLaws.{knows_still}
 use Rattle.source_core.proofs.TurnLaws.{IsQuietless, all_but_last, all_more, all_waited, cut_at, nothing_cut, quietless_more, quietless_none, spelled_move, still_waited, waits_last, waits_never}
 
 -- ---- what is heard in one try
@@ -39,6 +42,45 @@ pub record HasHeard (stamp : Stamp) (old new : Moment) (known known' : Known) (k
 
 pub heard_none : (stamp : Stamp) (at : Moment) (known : Known) → HasHeard stamp at at known known 0
 heard_none stamp at known = record { came = []; hearing = tt; count = refl; quietless = quietless_none; happened = happened_none at; learned = λ before h. subst (λ l. Knows stamp l known) (sym (append-nil before)) h }
+
+-- a datagram came, and maybe notes of it
+pub hears_came : (stamp : Stamp) (nanos : ℕ) (e0 e1 e2 : Option (List Event)) (to to' : List Recipient) (sender from : Option SocketAddr) (bytes : List ℕ) (known known' : Known) (end : Next) → Passes e0 e1 (Came from bytes ∷ []) → to' ≡ to → (notes : List Event) × Passes e1 e2 notes × OnlyNotes notes
+    → IsLast nanos (passing.Came bytes) end → Learns stamp known known' (passing.Came bytes ∷ []) end → HearsOne stamp nanos (record { events = e0; to = to; sender = sender }) (record { events = e2; to = to'; sender = from }) known known' end
+hears_came stamp nanos e0 e1 e2 to to' sender from bytes known known' end came same (notes, noted, only) last learns = record {
+  came = Came from bytes ∷ notes;
+  one = passing.Came bytes;
+  hearing = (tt, notes_hear notes only);
+  only = ap (λ l. passing.Came bytes ∷ l) (notes_unheard notes only);
+  happened = record { passes = Passes-trans e0 e1 e2 (Came from bytes ∷ []) notes came noted; to = same; sender = sym (notes_same from notes only) };
+  last = last;
+  learns = learns;
+}
+
+-- none came in time
+pub hears_quiet : (stamp : Stamp) (nanos : ℕ) (e0 e1 e2 : Option (List Event)) (to to' : List Recipient) (sender sender' : Option SocketAddr) (known : Known) → Passes e0 e1 (Quiet nanos ∷ []) → to' ≡ to → sender' ≡ sender → (notes : List Event) × Passes e1 e2 notes × OnlyNotes notes
+    → HearsOne stamp nanos (record { events = e0; to = to; sender = sender }) (record { events = e2; to = to'; sender = sender' }) known known next.Waited
+hears_quiet stamp nanos e0 e1 e2 to to' sender sender' known came same same_sender (notes, noted, only) = record {
+  came = Quiet nanos ∷ notes;
+  one = passing.Quiet nanos;
+  hearing = (tt, notes_hear notes only);
+  only = ap (λ l. passing.Quiet nanos ∷ l) (notes_unheard notes only);
+  happened = record { passes = Passes-trans e0 e1 e2 (Quiet nanos ∷ []) notes came noted; to = same; sender = same_sender ∙ sym (notes_same sender notes only) };
+  last = refl;
+  learns = λ before h. knows_still stamp before (passing.Quiet nanos) known (λ bytes s is spells. cc) h;
+}
+
+-- none can be received
+pub hears_missed : (stamp : Stamp) (nanos : ℕ) (e0 e1 : Option (List Event)) (to to' : List Recipient) (sender sender' : Option SocketAddr) (known : Known) → Passes e0 e1 (Missed ∷ []) → to' ≡ to → sender' ≡ sender
+    → HearsOne stamp nanos (record { events = e0; to = to; sender = sender }) (record { events = e1; to = to'; sender = sender' }) known known next.PortLost
+hears_missed stamp nanos e0 e1 to to' sender sender' known came same same_sender = record {
+  came = Missed ∷ [];
+  one = passing.Missed;
+  hearing = (tt, tt);
+  only = refl;
+  happened = record { passes = came; to = same; sender = same_sender };
+  last = refl;
+  learns = λ before h. Contains-push before passing.Missed;
+}
 
 -- all that was heard so far, and one thing more
 one_more : (xs ys : List Event) (p : Passing) → heard ys ≡ p ∷ [] → heard (xs ++ ys) ≡ heard xs ++ p ∷ []

@@ -120,20 +120,22 @@ fn close<S: System>(
 ) -> End
     ensures { ClosesWith terms.now number (course_at (S.outside system.now) timeline.old course.old) (course_at (S.outside system.now) timeline.new course.new) result }
 {
-    let exchange = &mut course.exchange;
     send_last(
         system,
         timeline,
         terms.stamp,
         number.saturating_sub(1),
         course.last,
-        exchange,
+        &mut course.exchange,
     );
     let at = Try { index: 0, number };
-    match receive_all(system, timeline, terms, at, exchange) {
-        Next::GoesOn | Next::Waited => {
-            end_at(terms.origin, &exchange.known, number, &course.position)
-        }
+    match receive_all(system, timeline, terms, at, &mut course.exchange) {
+        Next::GoesOn | Next::Waited => end_at(
+            terms.origin,
+            &course.exchange.known,
+            number,
+            &course.position,
+        ),
         Next::Clashed(clash) => End::Clashed(clash),
         Next::PortLost => End::PortLost,
     }
