@@ -1,5 +1,5 @@
 -- A run, one turn after the other, by what happens outside.
-use Rattle.std.proofs.Common.{◌≡◌, ◌∙◌, ◌⊎◌, ◌+◌, ◌-◌, ◌≤◌, ◌++◌, ◌∷◌, [], ℕ, Bool, true, false, List, Option, Some, None, ap, append-nil, append_assoc, arith, inl, inr, length, length-append, refl, subst, sym}
+use Rattle.std.proofs.Common.{◌≡◌, ◌∙◌, ◌⊎◌, ◌+◌, ◌-◌, ◌≤◌, ◌<◌, ◌++◌, ◌∷◌, [], ℕ, List, Option, Some, None, ap, append-nil, append_assoc, arith, inl, inr, length, length-append, refl, subst, sym}
 use Rattle.std.specs.Prelude.{IfOk, IfSome, Result, Ok, Err, slice_get}
 use Rattle.std.specs.List.{AllByRecursion, Contains}
 use Rattle.std.specs.declared.net.socket_addr.SocketAddr.{SocketAddr}
@@ -149,7 +149,7 @@ only_still stamp moves sent events more none h k = subst (λ l. OnlySends stamp 
 
 -- the last one once more
 only_again : (stamp : Stamp) (sender : Option SocketAddr) (to : List Recipient) (moves : List Moves) (last : Option Moves) → last_of moves ≡ last → IfSome last (HasSpelling stamp (length moves - 1)) → OnlySends stamp moves (sent_again sender to stamp (length moves - 1) last)
-only_again stamp sender to moves None is say = only_none stamp moves [] tt
+only_again stamp sender to moves None is say its bytes in' = only_none stamp moves [] tt its bytes in'
 only_again stamp sender to moves (Some m) is say its bytes in' =
     let text : List ℕ = message_text (move_message stamp (length moves - 1) m) in
     (length moves - 1, m, is, subst (λ b. SpellsMessage b (move_message stamp (length moves - 1) m)) (sym (sends_these text (sent_to_each sender to text) its bytes (sends_each sender to text) in')) say)
@@ -233,13 +233,13 @@ module _ (F0 F M0 M : Type 0) (terms : SendConfig) (start : Parts) (input0 input
   -- a step by which a move was acknowledged
   acked_step : StepsFrom (causes F M) terms k input input' c.at c c' None
       → (t : MoveTurn) × IsMoveTurn (terms_at terms first) at_now t × (t.after.input ≡ input') × (t.after.position ≡ c'.position) × (Some t.move ≡ c'.last) × Happened c.at c'.at (read_and_sent (terms_at terms first) at_now t) × Knows terms.stamp (heard t.after.events) c'.known
-  unfolding TakesStep stepped_so
+  unfolding TakesStep
   acked_step steps = stepped_so None steps
 
   -- a step by which the run ended
   last_step : (end : End) → StepsFrom (causes F M) terms k input input' c.at c c' (Some end)
       → (sent : List Moves) × (more : List Event) × EndsRun (causes F0 M0) (terms_at terms first) at_now sent more end × Happened c.at c'.at more × (end ≡ at_end.Lost → Knows terms.stamp (heard (h.events ++ more)) c'.known)
-  unfolding TakesStep stepped_so
+  unfolding TakesStep
   last_step end steps = stepped_so (Some end) steps
 
   counted_words : acked_words (length h.moves + 1) ≡ acked_words (k + 1)
@@ -257,7 +257,7 @@ run_more F0 F G M0 M N terms start input0 input input' first c position last kno
     let at : RunState = record { input = input; position = c.position; moves = h.moves; events = h.events } in
     let (t, turn, is_input, is_position, is_last, happened, knows) = acked_step F0 F M0 M terms start input0 input input' first c c1 k h steps in
     let counted = h.count in
-    let fits = turn.room in
+    let fits : length h.moves < most_moves = turn.room in
     let longer : length t.after.moves ≡ k + 1 = ap length turn.moves ∙ length-append h.moves (t.move ∷ []) ∙ ap (λ n. n + 1) (sym h.count) in
     let line : List Event = gone_out (acked_words (length h.moves + 1)) in
     let written : Passes e1 e2 line = subst (Passes e1 e2) (wrote ∙ ap gone_out (sym (counted_words F0 F M0 M terms start input0 input input' first c c1 k h))) passes in

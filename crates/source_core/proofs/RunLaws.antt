@@ -65,6 +65,19 @@ heard_turn g at m tries read words unheard =
     ∙ append-nil (heard (at.events ++ sent))
     ∙ heard_sent g at m tries read unheard
 
+-- of the last move once more, and of what came then
+again_unheard : (sender : Option SocketAddr) (to : List Recipient) (stamp : Stamp) (number : ℕ) (last : Option Moves) → heard (sent_again sender to stamp number last) ≡ []
+again_unheard sender to stamp number None = refl
+again_unheard sender to stamp number (Some m) = sent_unheard sender to (message_text (move_message stamp number m))
+
+pub heard_again : (g : SourceTerms) (at : RunState) (rest : List Event) (had_come : Bool) (came : List Event) → rest ≡ sent_again (sender_after g.sender at.events) g.to g.terms.stamp (length at.moves - 1) (last_of at.moves) ++ came
+    → heard (at.events ++ (LineRead (Ok None) had_come ∷ rest)) ≡ heard at.events ++ heard came
+heard_again g at rest had_come came is =
+    let again : List Event = sent_again (sender_after g.sender at.events) g.to g.terms.stamp (length at.moves - 1) (last_of at.moves) in
+    heard-append at.events (LineRead (Ok None) had_come ∷ rest)
+    ∙ ap (λ l. heard at.events ++ heard l) is
+    ∙ ap (λ l. heard at.events ++ l) (heard-append again came ∙ ap (λ l. l ++ heard came) (again_unheard (sender_after g.sender at.events) g.to g.terms.stamp (length at.moves - 1) (last_of at.moves)))
+
 -- ---- a line that was read
 
 module _ (g : SourceTerms) (at : RunState) (line : List ℕ) (had_come : Bool) (input : Option (List ℕ)) (after : Parts) (m : Moves) (old now new : Moment) (known known' : Known) (turn : Turn) (tries : List (List Event))
@@ -72,9 +85,6 @@ module _ (g : SourceTerms) (at : RunState) (line : List ℕ) (had_come : Bool) (
     (knows : Knows g.terms.stamp (heard at.events) known) (to : old.to ≡ g.to) (sender : old.sender ≡ sender_after g.sender at.events) (first : Happened old now (LineRead (Ok (Some line)) had_come ∷ [])) where
   are_tries : AreTriesOf g at tries
   are_tries = record { few = sends.few; hearing = sends.hearing; again = sends.again; waited = sends.waited (heard at.events) knows }
-
-  sent_now : List Event
-  sent_now = LineRead (Ok (Some line)) had_come ∷ sends_in g at m tries
 
   all_sent : Happened old new (LineRead (Ok (Some line)) had_come ∷ sends_in g at m tries)
   all_sent =
@@ -117,7 +127,7 @@ turn_last : (g : SourceTerms) (at : RunState) (line : List ℕ) (had_come : Bool
     → (cause : ReadFault → Type 0) (end : End) → ((all : List Passing) → TurnEndsSo g.terms.origin g.terms.stamp (length at.moves) (length at.moves + 1) after all known' turn → IsSentLast g.terms.origin g.terms.stamp (length at.moves) after all end)
     → (end ≡ at_end.Lost → turn ≡ at_turn.Lost) → (end ≡ at_end.Lost → (all : List Passing) → TurnEndsSo g.terms.origin g.terms.stamp (length at.moves) (length at.moves + 1) after all known' turn → Knows g.terms.stamp all known')
     → TakesStep cause g at input old (record { position = after; last = Some m; known = known'; at = new }) (Some end)
-unfolding TakesStep
+unfolding TakesStep last_sent
 turn_last g at line had_come input after m old now new known known' turn tries read played sends knows to sender first cause end so lost known_so =
     let done = ends_so g at line had_come input after m old now new known known' turn tries read played sends knows to sender first in
     let sent : List Event = LineRead (Ok (Some line)) had_come ∷ sends_in g at m tries in (
@@ -203,8 +213,8 @@ unfolding TakesStep
 not_read cause terms number why had_come left left' c c' h first g at same from w = ([], LineRead (Err why) had_come ∷ [], NoLine why had_come h refl refl refl, first, λ is. absurd (never why is))
   where
     never : (f : ReadFault) → unread_end f ≡ at_end.Lost → ⊥
-    never fault.Unreadable e = cc
-    never fault.OutOfMemory e = cc
+    never fault.Unreadable e = let x : at_end.Unread ≡ at_end.Lost = e in cc
+    never fault.OutOfMemory e = let x : at_end.OutOfMemory ≡ at_end.Lost = e in cc
 
 -- ---- after the input's end
 
