@@ -1,5 +1,5 @@
 -- A run, one turn after the other, by what happens outside.
-use Rattle.std.proofs.Common.{◌≡◌, ◌∙◌, ◌⊎◌, ◌+◌, ◌-◌, ◌≤◌, ◌<◌, ◌++◌, ◌∷◌, [], ℕ, List, Option, Some, None, ap, append-nil, append_assoc, arith, inl, inr, length, length-append, refl, subst, sym}
+use Rattle.std.proofs.Common.{◌≡◌, ◌∙◌, ◌⊎◌, ◌+◌, ◌-◌, ◌≤◌, ◌<◌, ◌++◌, ◌∷◌, [], ℕ, Bool, List, Option, Some, None, ap, append-nil, append_assoc, arith, inl, inr, length, length-append, refl, subst, sym}
 use Rattle.std.specs.Prelude.{IfOk, IfSome, Result, Ok, Err, slice_get}
 use Rattle.std.specs.List.{AllByRecursion, Contains}
 use Rattle.std.specs.declared.net.socket_addr.SocketAddr.{SocketAddr}
@@ -295,7 +295,7 @@ run_lost F0 F M0 M terms start input0 input input' first c c' e2 k fault h steps
     let source : OnlySends terms.stamp (h.moves ++ t.move ∷ []) (h.events ++ (sent ++ out)) = only_out {X = Ended} terms.stamp (h.moves ++ t.move ∷ []) h.events sent (acked_words (length h.moves + 1)) (Err fault) out its (only_sent g at t.move t.tries (Ok (Some t.line)) t.had_come h.source turn.spelling turn.tries.hearing) in (
       h.events ++ (sent ++ out),
       Passes-trans first.events c.at.events e2 h.events (sent ++ out) h.happened.passes (Passes-trans c.at.events c'.at.events e2 sent out happened.passes passes),
-      (t.after.moves, ToLostLine h.turns at h.in_turn t turn out its tt refl refl, subst (λ l. OnlySends terms.stamp l (h.events ++ (sent ++ out))) (sym turn.moves) source),
+      (t.after.moves, ToLostLine h.turns at h.in_turn t turn out its refl refl refl, subst (λ l. OnlySends terms.stamp l (h.events ++ (sent ++ out))) (sym turn.moves) source),
     )
 
 -- the run ended, and its line was written, or not

@@ -289,22 +289,22 @@ closed_missed terms n number c c' mid known e spelling sent same h = closed_so t
 pub step_line : (cause : ReadFault → Type 0) (terms : SendConfig) (number : ℕ) (is : Bool) (line line' ahead : List ℕ) (left left' : Option (List ℕ)) (position : Parts) (last : Option Moves) (known : Known) (e0 e1 : Option (List Event)) (to : List Recipient) (sender : Option SocketAddr) (c' : CourseAt) (o : Option End)
     → is ≡ true → line' ≡ line → ReadsIfAny left left' line is → Passes e0 e1 (line_event (Ok is) line ahead ∷ []) → TakesLine terms number line' (record { position = position; last = last; known = known; at = record { events = e1; to = to; sender = sender } }) c' o
     → StepsFrom cause terms number left left' (record { events = e0; to = to; sender = sender }) (record { position = position; last = last; known = known; at = record { events = e0; to = to; sender = sender } }) c' o
-step_line cause terms number is line line' ahead left left' position last known e0 e1 to sender c' o yes same read made h =
+step_line cause terms number is line line' ahead left left' position last known e0 e1 to sender c' o came_so same read made h =
     let c : CourseAt = record { position = position; last = last; known = known; at = record { events = e0; to = to; sender = sender } } in
     let d : CourseAt = record { position = position; last = last; known = known; at = record { events = e1; to = to; sender = sender } } in
     let its : TakesLine terms number line d c' o = subst (λ l. TakesLine terms number l d c' o) same h in
-    let came : Passes e0 e1 (LineRead (Ok (Some line)) (has_line_feed ahead) ∷ []) = subst (λ b. Passes e0 e1 (line_event (Ok b) line ahead ∷ [])) yes made in
-    line_taken cause terms number line (has_line_feed ahead) left left' c d c' o refl refl refl (subst (ReadsIfAny left left' line) yes read) (record { passes = came; to = refl; sender = refl }) its
+    let came : Passes e0 e1 (LineRead (Ok (Some line)) (has_line_feed ahead) ∷ []) = subst (λ b. Passes e0 e1 (line_event (Ok b) line ahead ∷ [])) came_so made in
+    line_taken cause terms number line (has_line_feed ahead) left left' c d c' o refl refl refl (subst (ReadsIfAny left left' line) came_so read) (record { passes = came; to = refl; sender = refl }) its
 
 pub step_end : (cause : ReadFault → Type 0) (terms : SendConfig) (number n : ℕ) (is : Bool) (line ahead : List ℕ) (left left' : Option (List ℕ)) (position : Parts) (last : Option Moves) (known : Known) (e0 e1 : Option (List Event)) (to : List Recipient) (sender : Option SocketAddr) (c' : CourseAt) (end : End)
     → is ≡ false → n ≡ number → ReadsIfAny left left' line is → Passes e0 e1 (line_event (Ok is) line ahead ∷ []) → ClosesWith terms n (record { position = position; last = last; known = known; at = record { events = e1; to = to; sender = sender } }) c' end
     → StepsFrom cause terms number left left' (record { events = e0; to = to; sender = sender }) (record { position = position; last = last; known = known; at = record { events = e0; to = to; sender = sender } }) c' (Some end)
-step_end cause terms number n is line ahead left left' position last known e0 e1 to sender c' end no same read made h =
+step_end cause terms number n is line ahead left left' position last known e0 e1 to sender c' end none same read made h =
     let c : CourseAt = record { position = position; last = last; known = known; at = record { events = e0; to = to; sender = sender } } in
     let d : CourseAt = record { position = position; last = last; known = known; at = record { events = e1; to = to; sender = sender } } in
     let its : ClosesWith terms number d c' end = subst (λ k. ClosesWith terms k d c' end) same h in
-    let came : Passes e0 e1 (LineRead (Ok None) (has_line_feed ahead) ∷ []) = subst (λ b. Passes e0 e1 (line_event (Ok b) line ahead ∷ [])) no made in
-    let done = subst (ReadsIfAny left left' line) no read in
+    let came : Passes e0 e1 (LineRead (Ok None) (has_line_feed ahead) ∷ []) = subst (λ b. Passes e0 e1 (line_event (Ok b) line ahead ∷ [])) none made in
+    let done = subst (ReadsIfAny left left' line) none read in
     input_ended cause terms number (has_line_feed ahead) left left' c d c' end refl refl refl done.0 (record { passes = came; to = refl; sender = refl }) its
 
 pub step_unread : (cause : ReadFault → Type 0) (terms : SendConfig) (number : ℕ) (why : ReadFault) (line ahead : List ℕ) (left left' : Option (List ℕ)) (position : Parts) (last : Option Moves) (known : Known) (e0 e1 : Option (List Event)) (to : List Recipient) (sender : Option SocketAddr)
