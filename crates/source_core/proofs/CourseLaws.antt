@@ -15,7 +15,7 @@ use Rattle.system_io.specs.LineReaders.{LineFacts}
 use Rattle.system_io.specs.declared.output.WriteFault.{WriteFault}
 use Rattle.system_io.specs.declared.reading.ReadFault.{ReadFault}
 use Rattle.system_io.specs.declared.recipient.Recipient.{Recipient}
-use Rattle.timeline.proofs.EventLaws.{adds_both}
+use Rattle.timeline.proofs.EventLaws.{adds_both, adds_so}
 use Rattle.timeline.specs.Events.{Came, Event, Flushed, LineRead, Missed, Noted, Passes, Quiet, Refused, Sent, Wrote, sent_to, sent_to_each}
 use Rattle.timeline.specs.Outsides.{AddsSome, Outside}
 use Rattle.timeline.specs.declared.stream.Stream.TheVariants.{Output}
@@ -172,12 +172,12 @@ only_ended cause g at sent more end (LastSent last is all) k =
     (subst (λ l. OnlySends g.terms.stamp (at.moves ++ last.move ∷ []) (at.events ++ l)) (sym last.happened) (only_sent g at last.move last.tries (Ok (Some last.line)) last.had_come k last.spelling last.are.hearing))
 
 -- and then a line
-only_out : {X : Type 0} (stamp : Stamp) (moves : List Moves) (events more : List Event) (words : List ℕ) (r : Result X WriteFault) (out : List Event) → LineGoesOut words r out → OnlySends stamp moves (events ++ more) → OnlySends stamp moves (events ++ (more ++ out))
+pub only_out : {X : Type 0} (stamp : Stamp) (moves : List Moves) (events more : List Event) (words : List ℕ) (r : Result X WriteFault) (out : List Event) → LineGoesOut words r out → OnlySends stamp moves (events ++ more) → OnlySends stamp moves (events ++ (more ++ out))
 only_out stamp moves events more words r out is h = subst (OnlySends stamp moves) (append_assoc events more out) (only_join stamp moves (events ++ more) out h (only_none stamp moves out (out_none words r out is)))
 
 -- ---- all turns
 
-turns_more : (g : SourceTerms) (a b : RunState) (ts : List MoveTurn) (t : MoveTurn) → AreMoveTurns g a ts b → IsMoveTurn g b t → AreMoveTurns g a (ts ++ t ∷ []) t.after
+pub turns_more : (g : SourceTerms) (a b : RunState) (ts : List MoveTurn) (t : MoveTurn) → AreMoveTurns g a ts b → IsMoveTurn g b t → AreMoveTurns g a (ts ++ t ∷ []) t.after
 unfolding AreMoveTurns
 turns_more g a b [] t h k = (subst (λ at. IsMoveTurn g at t) h k, refl)
 turns_more g a b (s ∷ ts) t h k = (h.0, turns_more g s.after b ts t h.1 k)
@@ -316,13 +316,27 @@ run_over F0 F M0 M terms start input0 input input' first c c' e2 k end r h steps
     )
 
 -- and then maybe notes
-pub with_notes : {T P F K S L : Type 0} (o : Outside T P F K S L) (a b c : T) (cause : ReadFault → Type 0) (g : SourceTerms) (start : Parts) (input : Option (List ℕ)) (r : Result Ended WriteFault) → AddsSome o a b (RunsAndSends cause g start input r) → AddsSome o b c OnlyNotes → AddsSome o a c (SendsGame cause g start input r)
-with_notes o a b c cause g start input r p q = adds_both o a b c (RunsAndSends cause g start input r) OnlyNotes (SendsGame cause g start input r) (λ run notes ran noted. record {
+pub with_notes : {T P F K S L : Type 0} (o : Outside T P F K S L) (a b c : T) (cause : ReadFault → Type 0) (g : SourceTerms) (start : Parts) (input : Option (List ℕ)) (ended : Ended) → AddsSome o a b (RunsAndSends cause g start input (Ok ended)) → AddsSome o b c OnlyNotes → AddsSome o a c (SendsGame cause g start input (Ok ended))
+with_notes o a b c cause g start input ended p q = adds_both o a b c (RunsAndSends cause g start input (Ok ended)) OnlyNotes (SendsGame cause g start input (Ok ended)) (λ run notes ran noted. record {
   moves = ran.0;
   run = run;
   notes = notes;
   runs = ran.1;
   noted = noted;
+  cut = tt;
   all = refl;
   source = only_join g.terms.stamp ran.0 run notes ran.2 (only_none g.terms.stamp ran.0 notes (all_notes notes noted));
 }) p q
+
+-- none where the output failed
+pub with_no_notes : {T P F K S L : Type 0} (o : Outside T P F K S L) (a b : T) (cause : ReadFault → Type 0) (g : SourceTerms) (start : Parts) (input : Option (List ℕ)) (fault : WriteFault) → AddsSome o a b (RunsAndSends cause g start input (Err fault)) → AddsSome o a b (SendsGame cause g start input (Err fault))
+with_no_notes o a b cause g start input fault p = adds_so o a b (RunsAndSends cause g start input (Err fault)) (SendsGame cause g start input (Err fault)) (λ run ran. record {
+  moves = ran.0;
+  run = run;
+  notes = [];
+  runs = ran.1;
+  noted = tt;
+  cut = refl;
+  all = sym (append-nil run);
+  source = ran.2;
+}) p

@@ -11,3 +11,4 @@ pub mod WatchLaws
 pub mod OutLaws
 pub mod RunLaws
 pub mod CourseLaws
+pub mod CutLaws

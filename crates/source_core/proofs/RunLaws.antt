@@ -188,7 +188,7 @@ line_refused terms number line c end h left left' had_come old read first g at s
 -- ---- the next line
 
 -- the same for other causes
-still_ends : (U V : ReadFault → Type 0) (g : SourceTerms) (at : RunState) (sent : List Moves) (more : List Event) (end : End) → ((why : ReadFault) → U why → V why) → EndsRun U g at sent more end → EndsRun V g at sent more end
+pub still_ends : (U V : ReadFault → Type 0) (g : SourceTerms) (at : RunState) (sent : List Moves) (more : List Event) (end : End) → ((why : ReadFault) → U why → V why) → EndsRun U g at sent more end → EndsRun V g at sent more end
 still_ends U V g at sent more end f (NoLine why had_come h is none e) = NoLine why had_come (f why h) is none e
 still_ends U V g at sent more end f (NotSent line had_come input read h none e) = NotSent line had_come input read h none e
 still_ends U V g at sent more end f (InputEnds had_come rest done closes none e) = InputEnds had_come rest done closes none e

@@ -1,5 +1,5 @@
 -- A run of a source: the moves of its input, one after the other, by what happens outside (this project's own).
-use Rattle.std.specs.Prelude.{◌≡◌, ◌≤◌, ◌<◌, ◌+◌, ◌-◌, ◌++◌, ◌⊎◌, ℕ, Bool, List, [], ◌∷◌, length, slice_get, take, Option, Some, None, IfSome, IfOk, IsErr, Result, Ok, Err}
+use Rattle.std.specs.Prelude.{◌≡◌, ◌≤◌, ◌<◌, ◌+◌, ◌-◌, ◌++◌, ◌⊎◌, ℕ, Bool, List, [], ◌∷◌, length, slice_get, take, Option, Some, None, IfSome, IfOk, IsErr, OnErr, Result, Ok, Err}
 use Rattle.std.specs.List.{AllByRecursion, Contains}
 use Rattle.std.specs.Io.KnownBytes.{IsAtEnd}
 use Rattle.std.specs.declared.net.socket_addr.SocketAddr.{SocketAddr}
@@ -186,12 +186,27 @@ pub data RunsTo (cause : ReadFault → Type 0) (g : SourceTerms) (start : Parts)
   -- the line of a move that was acknowledged was not written
   ToLostLine : (turns : List MoveTurn) (at : RunState) → AreMoveTurns g (run_from input start) turns at → (t : MoveTurn) → IsMoveTurn g at t → (out : List Event) → LineGoesOut (acked_words (length at.moves + 1)) r out → IsErr r → moves ≡ t.after.moves → events ≡ at.events ++ (read_and_sent g at t ++ out) → RunsTo cause g start input moves r events
 
--- a run, and then maybe notes for whoever runs it; one number never has two moves, which is what an arbiter's guarantee asks of a source
+-- A run, and then maybe notes for whoever runs it, but where the output failed. One number never has two moves, which is what an arbiter's
+-- guarantee asks of a source.
 pub record SendsGame (cause : ReadFault → Type 0) (g : SourceTerms) (start : Parts) (input : Option (List ℕ)) (r : Result Ended WriteFault) (events : List Event) : Type 0 where
   pub moves : List Moves
   pub run : List Event
   pub notes : List Event
   pub runs : RunsTo cause g start input moves r run
   pub noted : OnlyNotes notes
+  pub cut : OnErr r (notes ≡ [])
   pub all : events ≡ run ++ notes
   pub source : OnlySends g.terms.stamp moves events
+
+-- a run that goes on: the moves of some turns were sent, each with its line, and nothing else happened
+pub record SendsFirst (g : SourceTerms) (start : Parts) (input : Option (List ℕ)) (events : List Event) : Type 0 where
+  pub turns : List MoveTurn
+  pub at : RunState
+  pub are : AreMoveTurns g (run_from input start) turns at
+  pub all : events ≡ at.events
+  pub source : OnlySends g.terms.stamp at.moves events
+
+-- These events are all, and it comes to this; or they happen first, and the run goes on. Where the output fails, a front of such events happens.
+abbrev pub SendsOn : (ReadFault → Type 0) → SourceTerms → Parts → Option (List ℕ) → List Event → Option Ended → Type 0
+SendsOn cause g start input events (Some ended) = SendsGame cause g start input (Ok ended) events
+SendsOn cause g start input events None = SendsFirst g start input events

@@ -245,7 +245,7 @@ fn begun_at<'w, P: Drop>(alloc: Global, game: &GameToSend<'w>, port: P) -> Cours
 /// show at that ply. The error comes only where the output failed.
 ///
 /// Meanwhile it is noted which arbiters don't answer, answers from addresses to which nothing is sent, and, where the game need not be new,
-/// that an arbiter has more moves than were sent; and arbiters that went back behind what they had acknowledged, also at the end.
+/// that an arbiter has more moves than were sent; and arbiters that went back behind what they had acknowledged, once more at the end.
 pub fn send_moves<S: System>(
     alloc: Global,
     system: &S,
@@ -265,7 +265,11 @@ pub fn send_moves<S: System>(
         line: Vec::new(alloc),
     };
     let mut course = begun_at(alloc, game, port);
-    let ended = run(system, timeline, &game.terms, &mut reading, &mut course);
-    course.exchange.watch.note_end(system, timeline);
-    ended
+    match run(system, timeline, &game.terms, &mut reading, &mut course) {
+        Ok(ended) => {
+            course.exchange.watch.note_end(system, timeline);
+            Ok(ended)
+        }
+        Err(fault) => Err(fault),
+    }
 }

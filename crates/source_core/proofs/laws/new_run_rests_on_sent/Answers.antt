@@ -19,6 +19,7 @@ use Rattle.source_core.proofs.HeardLaws.{heard-append}
 use Rattle.source_core.proofs.RunLaws.{heard_again}
 use Rattle.source_core.proofs.TryLaws.{move_lost}
 use Rattle.source_core.proofs.CourseLaws.{with_notes}
+use Rattle.source_core.proofs.CutLaws.{still_game}
 use Rattle.source_core.proofs.OutLaws.{stuck_at}
 use Rattle.source_core.proofs.WatchLaws.{notes_none}
 use Rattle.source_core.proofs.laws.new_run_rests_on_sent.Goals as goal
