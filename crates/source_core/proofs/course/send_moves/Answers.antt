@@ -10,8 +10,8 @@ returns-in-Ok-clause-made g c =
     let ran = rw c.begun_at-course.ensures.port at rw c.begun_at-course.ensures.position at c.in-Ok.ensures.made in
     with_notes o _ _ _ _ _ _ _ c.in-Ok.ended ran c.note_end.ensures
 
-pub returns-in-Err-clause-made : goal.returns-in-Err-clause-made
-returns-in-Err-clause-made g c =
+pub returns-clause-made : goal.returns-clause-made
+returns-clause-made g c =
     let o = g.S.System.outside c.args.system.now in
     let ran = rw c.begun_at-course.ensures.port at rw c.begun_at-course.ensures.position at c.in-Err.ensures.made in
     with_no_notes o _ _ _ _ _ _ c.in-Err.fault ran

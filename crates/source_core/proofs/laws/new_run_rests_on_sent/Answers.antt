@@ -17,11 +17,6 @@ use Rattle.source_core.specs.Origins.{IsOwn, RestsOnSent}
 use Rattle.source_core.specs.Runs.{AreMoveTurns, EndsRun, InputEnds, IsMoveTurn, LastSent, MoveTurn, NoLine, NotSent, RunState, SourceTerms, sent_again, unread_end}
 use Rattle.source_core.proofs.HeardLaws.{heard-append}
 use Rattle.source_core.proofs.RunLaws.{heard_again}
-use Rattle.source_core.proofs.TryLaws.{move_lost}
-use Rattle.source_core.proofs.CourseLaws.{with_notes}
-use Rattle.source_core.proofs.CutLaws.{still_game}
-use Rattle.source_core.proofs.OutLaws.{stuck_at}
-use Rattle.source_core.proofs.WatchLaws.{notes_none}
 use Rattle.source_core.proofs.laws.new_run_rests_on_sent.Goals as goal
 
 own_new : (origin : Origin) (stamp : Stamp) (sent : ℕ) (all : List Passing) → origin ≡ New → IsOwn origin stamp sent all → RestsOnSent stamp sent all
