@@ -17,11 +17,6 @@ pub record Reply : Type 0 where
 abbrev pub status_if : Bool → ℕ
 status_if done = if done then 0 else 1
 
--- so it is of what a call tells of that, unless the writer failed
-abbrev pub status_told : Result Bool WriteFault → Result ℕ WriteFault
-status_told (Ok done) = Ok (status_if done)
-status_told (Err fault) = Err fault
-
 -- a refusal is one line, with status 1
 abbrev pub refusal_reply : List ℕ → Reply
 refusal_reply words = record { text = ended words; status = 1 }

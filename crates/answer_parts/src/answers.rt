@@ -1,7 +1,7 @@
 //! Answers as values, and their text.
 
 ghost use Rattle.std.specs.Prelude.{◌≡◌};
-ghost use Rattle.answer_parts.specs.Reply.{status_if, status_told};
+ghost use Rattle.answer_parts.specs.Reply.{status_if};
 
 pub(crate) mod json_faults;
 pub(crate) mod line_parts;
@@ -11,7 +11,6 @@ pub(crate) mod refusals;
 use crate::answers::lines::Line;
 use crate::answers::refusals::Refusal;
 use fen_text::FenFault;
-use system_io::WriteFault;
 
 /// An answer before it is written.
 #[derive(Drop)]
@@ -33,14 +32,4 @@ pub fn status_if(done: bool) -> u8
     ensures { result ≡ status_if done }
 {
     if done { 0 } else { 1 }
-}
-
-/// The status of what a call told, unless the writer failed.
-pub fn status_told(told: Result<bool, WriteFault>) -> Result<u8, WriteFault>
-    ensures { result ≡ status_told told }
-{
-    match told {
-        Ok(done) => Ok(status_if(done)),
-        Err(fault) => Err(fault),
-    }
 }

@@ -11,7 +11,7 @@
 //! `Printing` (`Performs`, `IsCutIn`: what a command does, or a front of it where the output fails);
 //! `Looks`, `Refusals`, `Manifests`, `Manifesting` for files. Its cases stand in `rows`.
 //!
-//! - CLAIM: `put_line`, `put_refusal`, clause `cause`: an error comes only of a type of writer that may refuse a write, or from which what
+//! - CLAIM: `put_refusal`, clause `cause`: an error comes only of a type of writer that may refuse a write, or from which what
 //!   was written can't go out (`HasFailed`).
 //! - CLAIM: `print_lines`, `print_refusal`, `print_unread`, `print_reply`, `print_replied`: lines, or the text of a reply in pieces, are written to
 //!   the output of a system, each at once, and nothing else happens; an error comes only where a write may be refused, and leaves a front of them.
@@ -25,9 +25,9 @@ mod printing;
 mod tables;
 
 pub use answers::json_faults::fault_line;
-pub use answers::lines::{KeptCount, Line, RootLine, put_line, put_refusal};
+pub use answers::lines::{KeptCount, Line, RootLine, put_refusal};
 pub use answers::refusals::{EntryFault, Refusal};
-pub use answers::{Answer, status_if, status_told};
+pub use answers::{Answer, status_if};
 pub use manifests::{manifest_for, manifest_of_sources};
 pub use printing::{print_lines, print_refusal, print_replied, print_reply, print_unread};
 pub use tables::gather;

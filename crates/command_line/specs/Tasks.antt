@@ -229,33 +229,6 @@ tables_in (task.Follow t) = option_map (λ s. s.now) t.tables
 tables_in (task.Status t) = None
 tables_in (task.Serve t) = Some t.tables.now
 
--- how far it is, is told on the way
-abbrev pub tells_progress : Task → Bool
-tells_progress (task.Judge t) = false
-tells_progress (task.Probe t) = false
-tells_progress (task.Moves t) = false
-tells_progress (task.List t) = t.progress
-tells_progress (task.Check t) = t.progress
-tells_progress (task.Show t) = false
-tells_progress (task.Run t) = false
-tells_progress (task.Listen t) = false
-tells_progress (task.Probes t) = t.progress
-tells_progress (task.Game t) = false
-tells_progress (task.Games t) = t.progress
-tells_progress (task.Pgn t) = false
-tells_progress (task.Record t) = false
-tells_progress (task.GameRecord t) = false
-tells_progress (task.Audit t) = false
-tells_progress (task.AuditGames t) = false
-tells_progress (task.Version t) = false
-tells_progress (task.Send t) = false
-tells_progress (task.Enter t) = false
-tells_progress (task.Host t) = false
-tells_progress (task.Root t) = false
-tells_progress (task.Follow t) = false
-tells_progress (task.Status t) = false
-tells_progress (task.Serve t) = false
-
 -- ---- words
 
 -- the command as the parser reads it

@@ -1,6 +1,5 @@
 -- Games that are one, and games that are audited.
-use Rattle.std.proofs.Common.{◌≡◌, ◌≤◌, ◌∙◌, ℕ, Bool, true, false, List, Option, Some, None, sym, ap, subst, IfSome, IsTrue, ◌↔◌}
-use Rattle.board_core.specs.Delays.{most_delay}
+use Rattle.std.proofs.Common.{◌≡◌, ◌∙◌, ℕ, Bool, true, false, List, Option, Some, sym, ap, subst, IsTrue, ◌↔◌}
 use Rattle.board_core.specs.declared.parts.Parts.{Parts}
 use Rattle.fen_text.specs.Fen.{SpellsPosition}
 use Rattle.fen_text.specs.Laws.{HasOnePosition}
@@ -16,15 +15,8 @@ use Rattle.move_msg.specs.Records.{SpellsRecord}
 use Rattle.record_audit.specs.declared.auditing.Finding.{Finding}
 use Rattle.record_audit.specs.declared.auditing.Finding.TheVariants as found
 use Rattle.record_audit.specs.Findings.{IsFound, IsOfRecord, is_whole, rules_with}
-use Rattle.system_io.specs.Disks.{DiskFacts}
-use Rattle.game_status.specs.declared.side.Side.{Side}
-use Rattle.game_status.specs.declared.status_lines.Look.{Look}
-use Rattle.game_status.specs.declared.status_lines.Look.TheVariants as look
 use Rattle.game_status.specs.Entries.{game_told}
-use Rattle.game_status.specs.GameAudits.{AreFewDelays, IsWholeRecord}
-use Rattle.game_status.specs.Listings.{Listing}
-use Rattle.game_status.specs.Sides.{IsRecorded}
-use Rattle.game_status.specs.Statuses.{HasBeside, InBoth, InNone, InOne, IsLook, IsLookAtBoth, IsLookBeside, IsSide, LacksBeside}
+use Rattle.game_status.specs.GameAudits.{IsWholeRecord}
 
 -- ---- one game
 
@@ -57,34 +49,6 @@ own_so manifest stamp name start delay own r named is same = (
 
 pub none_so : (manifest stamp name : List ℕ) (start : Parts) (delay : ℕ) → (IsGameName name → ⊥) → IsTrue false ↔ IsGameOf manifest stamp name start delay
 none_so manifest stamp name start delay none = ((λ t. let f : false ≡ true = t in absurd (cc)), (λ g. absurd (none g.is_name)))
-
--- ---- records whose delay is in its range
-
-few_kept : (stamp : List ℕ) (delay : ℕ) (bytes : Option (List ℕ)) (kept : Option Records) → IsRecorded stamp delay bytes kept → IfSome kept (λ r. r.delay ≤ most_delay)
-few_kept stamp delay bytes None h = tt
-few_kept stamp delay None (Some r) h = absurd h
-few_kept stamp delay (Some bytes) (Some r) h = h.0.in_range.0
-
-few_in : (disk : DiskFacts) (f : Listing) (stamp : List ℕ) (side : Side) → IsSide disk f stamp side → IfSome side.kept (λ r. r.delay ≤ most_delay)
-few_in disk f stamp side h = few_kept stamp (game_told side.game).delay h.bytes side.kept h.recorded
-
-few_both : (disk : DiskFacts) (f : Listing) (stamp : List ℕ) (one other : Side) (l : Look) → IfSome one.kept (λ r. r.delay ≤ most_delay) → IfSome other.kept (λ r. r.delay ≤ most_delay) → IsLookAtBoth one other l → AreFewDelays l
-few_both disk f stamp one other (look.One side) a b h = absurd h
-few_both disk f stamp one other (look.Both side beside compared) a b h = (
-  subst (λ (s : Side). IfSome s.kept (λ r. r.delay ≤ most_delay)) (sym h.0) a,
-  subst (λ (s : Side). IfSome s.kept (λ r. r.delay ≤ most_delay)) (sym h.1) b,
-)
-few_both disk f stamp one other (look.AtFault fault) a b h = absurd h
-few_both disk f stamp one other (look.OtherAtFault fault) a b h = tt
-
-few_beside : (disk : DiskFacts) (one : Side) (f : Listing) (stamp : List ℕ) (l : Look) → IfSome one.kept (λ r. r.delay ≤ most_delay) → IsLookBeside disk one f stamp l → AreFewDelays l
-few_beside disk one f stamp l a (HasBeside other side both) = few_both disk f stamp one other l a (few_in disk f stamp other side) both
-few_beside disk one f stamp l a (LacksBeside fault lacks is) = subst AreFewDelays (sym is) tt
-
-pub few_delays : (disk : DiskFacts) (one : Listing) (other : Option Listing) (stamp : List ℕ) (l : Look) → IsLook disk one other stamp l → AreFewDelays l
-few_delays disk one other stamp l (InOne side none has is) = subst AreFewDelays (sym is) (few_in disk one stamp side has)
-few_delays disk one other stamp l (InBoth side second named has beside) = few_beside disk side second stamp l (few_in disk one stamp side has) beside
-few_delays disk one other stamp l (InNone fault lacks is) = subst AreFewDelays (sym is) tt
 
 -- ---- what is found of a record
 

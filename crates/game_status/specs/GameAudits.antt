@@ -1,5 +1,5 @@
 -- Games of a folder, or of two, that are audited by one set of tables (this project's own).
-use Rattle.std.specs.Prelude.{◌≡◌, ◌≤◌, ◌++◌, ℕ, Bool, false, List, [], Option, Some, None, IfSome, Result, length, codes}
+use Rattle.std.specs.Prelude.{◌≡◌, ◌≤◌, ◌++◌, ℕ, false, List, [], Option, Some, None, IfSome, length, codes}
 use Rattle.hex.specs.Hex.{encode_lower}
 use Rattle.board_core.specs.Delays.{most_delay}
 use Rattle.board_core.specs.declared.parts.Parts.{Parts}
@@ -10,8 +10,6 @@ use Rattle.arbiter_server.specs.Games.{IsGameOf}
 use Rattle.record_audit.specs.declared.auditing.Finding.{Finding}
 use Rattle.record_audit.specs.declared.auditing.Finding.TheVariants as found
 use Rattle.record_audit.specs.Findings.{IsFound, finding_words, is_whole, rules_with}
-use Rattle.system_io.specs.declared.output.WriteFault.{WriteFault}
-use Rattle.system_io.specs.Disks.{DiskFacts}
 use Rattle.game_status.specs.declared.audit_lines.AuditLook.{AuditLook}
 use Rattle.game_status.specs.declared.audit_lines.AuditLook.TheVariants.{Sound, Wrong}
 use Rattle.game_status.specs.declared.audit_lines.Unsound.{Unsound}
@@ -25,10 +23,8 @@ use Rattle.game_status.specs.declared.status_lines.Look.TheVariants as look
 use Rattle.game_status.specs.declared.telling.Mark.{Mark}
 use Rattle.game_status.specs.declared.telling.Mark.TheVariants as mark
 use Rattle.game_status.specs.Comparisons.{compared_words, mark_of}
-use Rattle.game_status.specs.Listings.{Listing}
-use Rattle.game_status.specs.Statuses.{IsLook, fault_line, other_fault_line}
+use Rattle.game_status.specs.Statuses.{fault_line, other_fault_line}
 use Rattle.game_status.specs.declared.telling.GameTold.{GameTold}
-use Rattle.game_status.specs.Tellings.{FoldersTo, TellsFolders}
 
 -- ---- one record
 
@@ -81,10 +77,6 @@ abbrev pub IsAuditOf : List ℕ → Tables → List ℕ → Look → AuditLook �
 IsAuditOf manifest tables stamp l (Sound same) = (same ≡ l) × IsSoundLook manifest tables stamp l
 IsAuditOf manifest tables stamp l (Wrong why) = IsUnsoundLook manifest tables stamp l why
 
--- of the game with this stamp
-abbrev pub IsAuditLook : DiskFacts → Listing → Option Listing → List ℕ → Tables → List ℕ → AuditLook → Type 0
-IsAuditLook disk one other manifest tables stamp audit = (l : Look) × IsLook disk one other stamp l × IsAuditOf manifest tables stamp l audit
-
 -- ---- the lines
 
 -- what `audit` finds of a whole record; or that nothing is kept
@@ -132,18 +124,6 @@ mark_of_look (look.OtherAtFault fault) = mark.AtFault
 abbrev pub audit_told : List ℕ → AuditLook → GameTold
 audit_told stamp (Sound l) = record { words = sound_line stamp l; mark = mark_of_look l }
 audit_told stamp (Wrong why) = record { words = unsound_line stamp why; mark = mark.AtFault }
-
--- ---- all of them
-
-abbrev pub IsAudit : List ℕ → Tables → DiskFacts → Listing → Option Listing → List ℕ → GameTold → Type 0
-IsAudit manifest tables disk one other stamp told = (audit : AuditLook) × IsAuditLook disk one other manifest tables stamp audit × (told ≡ audit_told stamp audit)
-
-abbrev pub TellsAudit : List ℕ → Tables → DiskFacts → List ℕ → Option (List ℕ) → Option (List ℕ) → Option (List ℕ) → Bool → Type 0
-TellsAudit manifest tables disk folder other = TellsFolders disk folder other (IsAudit manifest tables disk)
-
--- the same, or the writer failed on the way
-abbrev pub TellsAuditTo : List ℕ → Tables → DiskFacts → List ℕ → Option (List ℕ) → Option (List ℕ) → Option (List ℕ) → Result Bool WriteFault → Type 0
-TellsAuditTo manifest tables disk folder other = FoldersTo disk folder other (IsAudit manifest tables disk)
 
 -- ---- what the files have, where a record is judged
 

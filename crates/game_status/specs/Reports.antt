@@ -1,10 +1,8 @@
 -- What is found of the games of a folder, or of two, as it is reported to a program (this project's own).
-use Rattle.std.specs.Prelude.{◌≡◌, ℕ, Bool, true, false, List, Option, Some, is_some, take, Result, Ok, Err}
-use Rattle.std.specs.Io.KnownBytes.{Appends}
+use Rattle.std.specs.Prelude.{◌≡◌, ℕ, Bool, true, false, List, Option, Some, is_some, take}
 use Rattle.json.specs.Json.{document}
-use Rattle.line_teller.specs.ToldLines.{HasFront, refused_files, refused_memory}
+use Rattle.line_teller.specs.ToldLines.{refused_files, refused_memory}
 use Rattle.move_msg.specs.TextLines.{ended}
-use Rattle.system_io.specs.declared.output.WriteFault.{WriteFault}
 use Rattle.system_io.specs.Disks.{DiskFacts}
 use Rattle.game_status.specs.declared.report.ReportForm.{ReportForm}
 use Rattle.game_status.specs.declared.report.ReportForm.TheVariants.{Metrics, Json}
@@ -51,11 +49,3 @@ pub data IsStatusReport (form : Form) (disk : DiskFacts) (folder : List ℕ) (ot
   Listed : (one : Listing) (two : Option Listing) (stamps : List (List ℕ)) → AreListed disk folder other one two stamps → IsReport form (IsLook disk one two) stamps (is_some other) text done → IsStatusReport form disk folder other text done
   Unlisted : CannotList disk folder other → text ≡ ended refused_files → done ≡ false → IsStatusReport form disk folder other text done
   NoRoomToList : text ≡ ended refused_memory → done ≡ false → IsStatusReport form disk folder other text done
-
--- such a text was written; or the writer failed on the way, and a front of one was
-abbrev pub Reports : (List ℕ → Bool → Type 0) → Option (List ℕ) → Option (List ℕ) → Result Bool WriteFault → Type 0
-Reports IsText old new (Ok done) = (text : List ℕ) × IsText text done × Appends old new text
-Reports IsText old new (Err fault) = (text : List ℕ) × (done : Bool) × IsText text done × HasFront old new text
-
-abbrev pub ReportsStatus : Form → DiskFacts → List ℕ → Option (List ℕ) → Option (List ℕ) → Option (List ℕ) → Result Bool WriteFault → Type 0
-ReportsStatus form disk folder other = Reports (IsStatusReport form disk folder other)

@@ -1,10 +1,9 @@
 -- How far the games of a folder, or of two, have come (this project's own).
-use Rattle.std.specs.Prelude.{◌≡◌, ◌≢◌, ◌++◌, ℕ, Bool, List, Option, Some, None, Result, length, codes}
+use Rattle.std.specs.Prelude.{◌≡◌, ◌≢◌, ◌++◌, ℕ, List, Option, Some, None, length, codes}
 use Rattle.std.specs.Fmt.{decimal}
 use Rattle.hex.specs.Hex.{encode_lower}
 use Rattle.move_msg.specs.declared.record_bytes.Record.{Record as Records}
 use Rattle.arbiter_server.specs.ServedLines.{verdict_or_none}
-use Rattle.system_io.specs.declared.output.WriteFault.{WriteFault}
 use Rattle.system_io.specs.Disks.{DiskFacts}
 use Rattle.game_status.specs.declared.comparing.Compared.{Compared}
 use Rattle.game_status.specs.declared.entry.EntryFault.{EntryFault}
@@ -19,7 +18,6 @@ use Rattle.game_status.specs.Entries.{game_told, listed_fault_words}
 use Rattle.game_status.specs.Listings.{Listing}
 use Rattle.game_status.specs.Sides.{HasGameAndRecord, LacksSide}
 use Rattle.game_status.specs.declared.telling.GameTold.{GameTold}
-use Rattle.game_status.specs.Tellings.{FoldersTo, TellsFolders}
 
 -- ---- the lines
 
@@ -80,16 +78,3 @@ pub data IsLook (disk : DiskFacts) (one : Listing) (other : Option Listing) (sta
   InOne : (side : Side) → other ≡ None → IsSide disk one stamp side → l ≡ look.One side → IsLook disk one other stamp l
   InBoth : (side : Side) (second : Listing) → other ≡ Some second → IsSide disk one stamp side → IsLookBeside disk side second stamp l → IsLook disk one other stamp l
   InNone : (fault : EntryFault) → LacksSide disk one stamp fault → l ≡ look.AtFault fault → IsLook disk one other stamp l
-
--- what is told of it
-abbrev pub IsStatus : DiskFacts → Listing → Option Listing → List ℕ → GameTold → Type 0
-IsStatus disk one other stamp told = (l : Look) × IsLook disk one other stamp l × (told ≡ game_told_by stamp l)
-
--- ---- all of them
-
-abbrev pub TellsStatus : DiskFacts → List ℕ → Option (List ℕ) → Option (List ℕ) → Option (List ℕ) → Bool → Type 0
-TellsStatus disk folder other = TellsFolders disk folder other (IsStatus disk)
-
--- the same, or the writer failed on the way
-abbrev pub TellsStatusTo : DiskFacts → List ℕ → Option (List ℕ) → Option (List ℕ) → Option (List ℕ) → Result Bool WriteFault → Type 0
-TellsStatusTo disk folder other = FoldersTo disk folder other (IsStatus disk)

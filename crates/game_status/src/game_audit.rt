@@ -1,25 +1,19 @@
 //! Games of folders that are audited by one set of tables.
 
-ghost use Rattle.std.specs.Prelude.{◌≡◌, OnErr, ◌≤◌, ◌↔◌, option_map, IfOk, IfSome, IfNone, IsTrue};
+ghost use Rattle.std.specs.Prelude.{◌≡◌, ◌≤◌, ◌↔◌, IfOk, IfSome, IfNone, IsTrue};
 ghost use Rattle.board_core.specs.Delays.{most_delay};
 ghost use Rattle.arbiter_server.specs.Games.{IsGameOf};
-ghost use Rattle.line_teller.specs.ToldLines.{HasFailed};
-ghost use Rattle.game_status.specs.GameAudits.{AreFewDelays, IsAuditLook, IsAuditOf, IsSoundSide, IsSoundLook, IsUnsoundLook, IsUnsoundPair, IsUnsoundSide, IsUntrue, IsWholeRecord, TellsAuditTo};
-ghost use Rattle.game_status.specs.Listings.{listing_of, other_listing};
+ghost use Rattle.game_status.specs.GameAudits.{AreFewDelays, IsAuditOf, IsSoundSide, IsSoundLook, IsUnsoundLook, IsUnsoundPair, IsUnsoundSide, IsUntrue, IsWholeRecord};
 
-use crate::audit_lines::{AuditLook, Unsound, audit_told};
-use crate::listing::list_folders;
+use crate::audit_lines::{AuditLook, Unsound};
 use crate::side::Side;
-use crate::status::StatusTeller;
 use crate::status_lines::Look;
-use crate::telling::{GameTeller, GameTold, put_cut, tell_games};
 use arbiter_server::Game;
 use board_core::Position;
 use judge_core::Set;
 use move_msg::{Record, Stamp};
 use record_audit::{Finding, judge_moves};
 use std::alloc::{AllocError, Global};
-use system_io::{Disk, Output, WriteFault};
 
 /// By what games are audited.
 #[derive(Drop)]
@@ -154,72 +148,4 @@ pub fn audit_of(
         None => Ok(AuditLook::Sound(look)),
         Some(unsound) => Ok(AuditLook::Wrong(unsound)),
     }
-}
-
-/// What audits games.
-#[derive(Drop)]
-struct AuditTeller<'a, 't, D> {
-    /// What is told of their files.
-    files: StatusTeller<'a, D>,
-    /// By what their records are judged.
-    tables: AuditTables<'t>,
-}
-
-/// What is told of the game with a stamp. The error comes only where memory is refused.
-fn audit_game<D: Disk>(
-    files: &StatusTeller<'_, D>,
-    tables: &mut AuditTables<'_>,
-    stamp: Stamp,
-) -> Result<AuditLook, AllocError>
-    ensures told { IfOk result (IsAuditLook (D.facts files.now.disk.now) (listing_of files.now.one.now) (other_listing files.now.other) tables.old.manifest.now tables.old.set.tables stamp) }
-    ensures same { tables.new ≡ tables.old }
-{
-    let look = files.look(stamp)?;
-    audit_of(files.alloc, tables, stamp, look)
-}
-
-impl<'a, 't, D: Disk> GameTeller for AuditTeller<'a, 't, D> {
-    ghost use Rattle.game_status.specs.Listings.{listing_of, other_listing};
-    ghost use Rattle.game_status.specs.GameAudits.{IsAudit};
-
-    ghost tells = { λ t. IsAudit t.tables.manifest.now t.tables.set.tables (D.facts t.files.disk.now) (listing_of t.files.one.now) (other_listing t.files.other) };
-
-    fn tell(&mut self, stamp: Stamp) -> Result<GameTold, AllocError> {
-        let look = audit_game(&self.files, &mut self.tables, stamp)?;
-        Ok(audit_told(stamp, &look))
-    }
-}
-
-/// Audits the games of a folder by one set of tables, a line each, in rising order of their stamps, and then tells their sums; with a
-/// second folder the games of both, and whether their records agree. Returns whether nothing is at fault and nothing differs.
-///
-/// Games and faults of their files are those of `tell_status`. Then a game's file has to be that of its stamp, and each record is
-/// judged as `record_audit::audit` judges it. A game of which nothing is kept is no fault. Memory is that of the stamps, and of one
-/// game. `refused files` comes alone where a folder can't be listed, and `refused memory` where memory was refused, after the whole
-/// lines before it. The error comes only where the writer failed.
-pub fn tell_audit<D: Disk, W: Output>(
-    alloc: Global,
-    disk: &D,
-    tables: AuditTables<'_>,
-    folder: &str,
-    other: Option<&str>,
-    out: &mut W,
-) -> Result<bool, WriteFault>
-    ensures told { TellsAuditTo tables.entry.manifest.now tables.entry.set.tables (D.facts disk.now) folder.now (option_map (λ s. s.now) other.entry) (W.contents out.old) (W.contents out.new) result }
-    ensures cause { OnErr result (HasFailed W.facts) }
-{
-    let folders = match list_folders(alloc, disk, folder, other) {
-        Ok(folders) => folders,
-        Err(fault) => return put_cut(out, fault),
-    };
-    let mut teller = AuditTeller {
-        files: StatusTeller {
-            alloc,
-            disk,
-            one: &folders.one,
-            other: folders.other.as_ref(),
-        },
-        tables,
-    };
-    tell_games(&mut teller, &folders.stamps, other.is_some(), out)
 }

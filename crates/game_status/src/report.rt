@@ -1,19 +1,17 @@
 //! What is found of the games of folders, as it is reported to a program.
 
-ghost use Rattle.std.specs.Prelude.{true, IfOk, IsErrOf, OnErr, option_map};
-ghost use Rattle.line_teller.specs.ToldLines.{HasFailed};
+ghost use Rattle.std.specs.Prelude.{true, IfOk, IsErrOf, option_map};
 ghost use Rattle.game_status.specs.Listings.{CannotList};
-ghost use Rattle.game_status.specs.Reports.{IsReport, IsStatusReport, Reports, ReportsStatus, form_of};
+ghost use Rattle.game_status.specs.Reports.{IsReport, IsStatusReport, form_of};
 ghost use Rattle.game_status.specs.Inside.Totalling.{looks_of};
 
 use crate::listing::list_folders;
 use crate::metrics::metrics_of;
 use crate::objects::object_of;
 use crate::status::StatusTeller;
-use crate::telling::put_cut;
 use move_msg::Stamp;
 use std::alloc::{AllocError, Global};
-use system_io::{Disk, Output, ReadFault, WriteFault};
+use system_io::{Disk, ReadFault};
 
 /// How a report is written.
 #[derive(Clone, Copy)]
@@ -39,61 +37,13 @@ fn text_of<D: Disk>(
     }
 }
 
-/// Writes the text on the games with these stamps.
-fn write_report<D: Disk, W: Output>(
-    teller: &StatusTeller<'_, D>,
-    stamps: &[Stamp],
-    compares: bool,
-    form: ReportForm,
-    out: &mut W,
-) -> Result<bool, WriteFault>
-    ensures written { Reports (IsReport (form_of form) (looks_of D.facts teller.now) stamps.now compares) (W.contents out.old) (W.contents out.new) result }
-    ensures cause { OnErr result (HasFailed W.facts) }
-{
-    let Ok(text) = text_of(teller, stamps, compares, form) else {
-        return put_cut(out, ReadFault::OutOfMemory);
-    };
-    match out.put(&text) {
-        Ok(()) => Ok(true),
-        Err(fault) => Err(fault),
-    }
-}
-
-/// Writes what is found of the games of a folder, or of two, in this form. Returns whether it is written, whatever it says.
+/// The text on what is found of the games of a folder, or of two, in this form.
 ///
 /// As metrics: how many games there are of each kind, and how many moves are kept; with a second folder also how many differ, and of
 /// how many one is behind. As JSON: these sums, and for each game, in rising order of the stamps, its name, its start, how many moves
 /// its record has, the verdict and what is at fault; with a second folder also what that has, and what comes of comparing both.
 ///
-/// Nothing is written before all games are looked at. Memory is that of the stamps, of one game, and of the text. `refused files` comes
-/// alone where a folder can't be listed, and `refused memory` alone where memory was refused. The error comes only where the writer
-/// failed; a front of such a text is written then.
-pub fn write_status_report<D: Disk, W: Output>(
-    alloc: Global,
-    disk: &D,
-    folder: &str,
-    other: Option<&str>,
-    form: ReportForm,
-    out: &mut W,
-) -> Result<bool, WriteFault>
-    ensures written { ReportsStatus (form_of form) (D.facts disk.now) folder.now (option_map (λ s. s.now) other.entry) (W.contents out.old) (W.contents out.new) result }
-    ensures cause { OnErr result (HasFailed W.facts) }
-{
-    let folders = match list_folders(alloc, disk, folder, other) {
-        Ok(folders) => folders,
-        Err(fault) => return put_cut(out, fault),
-    };
-    let teller = StatusTeller {
-        alloc,
-        disk,
-        one: &folders.one,
-        other: folders.other.as_ref(),
-    };
-    write_report(&teller, &folders.stamps, other.is_some(), form, out)
-}
-
-/// The text on the games of a folder, or of two, in this form, as `write_status_report` writes it. `Unreadable` where a folder can't be
-/// listed.
+/// Memory is that of the stamps, of one game, and of the text. `Unreadable` where a folder can't be listed.
 pub fn status_report<D: Disk>(
     alloc: Global,
     disk: &D,

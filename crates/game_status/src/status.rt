@@ -1,24 +1,22 @@
 //! How far the games of folders have come.
 
-ghost use Rattle.std.specs.Prelude.{◌≡◌, OnErr, ◌↔◌, option_map, IfOk, IsTrue};
-ghost use Rattle.line_teller.specs.ToldLines.{HasFailed};
+ghost use Rattle.std.specs.Prelude.{◌≡◌, ◌↔◌, IfOk, IsTrue};
 ghost use Rattle.game_status.specs.Entries.{game_told};
 ghost use Rattle.game_status.specs.Listings.{listing_of, other_listing};
-ghost use Rattle.game_status.specs.Statuses.{IsLook, IsLookAtBoth, IsLookBeside, TellsStatusTo};
+ghost use Rattle.game_status.specs.Statuses.{IsLook, IsLookAtBoth, IsLookBeside};
 
 use crate::comparing::compare_kept;
 use crate::entry::EntryFault;
-use crate::listing::{Folder, list_folders};
+use crate::listing::Folder;
 use crate::side::{Side, read_side};
-use crate::status_lines::{Look, told_by};
-use crate::telling::{GameTeller, GameTold, put_cut, tell_games};
+use crate::status_lines::Look;
 use arbiter_server::Game;
 use board_core::Position;
 use fen_text::laws::one_position;
 use fen_text::write;
 use move_msg::Stamp;
 use std::alloc::{AllocError, Global};
-use system_io::{Disk, Output, WriteFault};
+use system_io::Disk;
 
 /// Whether two texts are one.
 fn is_same_text(one: &[u8], other: &[u8]) -> bool
@@ -50,7 +48,7 @@ fn is_same_game(one: &Game, other: &Game) -> bool
     is_same_start(&one.start, &other.start)
 }
 
-/// What tells how far games have come.
+/// What finds how far games have come.
 #[derive(Clone, Copy)]
 pub(crate) struct StatusTeller<'a, D> {
     /// The allocator.
@@ -97,45 +95,4 @@ impl<'a, D: Disk> StatusTeller<'a, D> {
             Err(fault) => Ok(Look::AtFault(fault)),
         }
     }
-}
-
-impl<'a, D: Disk> GameTeller for StatusTeller<'a, D> {
-    ghost use Rattle.game_status.specs.Listings.{listing_of, other_listing};
-    ghost use Rattle.game_status.specs.Statuses.{IsStatus};
-
-    ghost tells = { λ t. IsStatus (D.facts t.disk.now) (listing_of t.one.now) (other_listing t.other) };
-
-    fn tell(&mut self, stamp: Stamp) -> Result<GameTold, AllocError> {
-        let look = self.look(stamp)?;
-        Ok(told_by(stamp, &look))
-    }
-}
-
-/// Tells how far the games of a folder have come, a line each, in rising order of their stamps, and then their sums; with a second
-/// folder those of both, and whether they agree. Returns whether nothing is at fault and nothing differs.
-///
-/// A game is one whose file a folder lists as `STAMP.game`, and its record is listed as `STAMP.kept`. No move is judged. Memory is
-/// that of the stamps, and of one game. `refused files` comes alone where a folder can't be listed, and `refused memory` where memory
-/// was refused, after the whole lines before it. The error comes only where the writer failed.
-pub fn tell_status<D: Disk, W: Output>(
-    alloc: Global,
-    disk: &D,
-    folder: &str,
-    other: Option<&str>,
-    out: &mut W,
-) -> Result<bool, WriteFault>
-    ensures told { TellsStatusTo (D.facts disk.now) folder.now (option_map (λ s. s.now) other.entry) (W.contents out.old) (W.contents out.new) result }
-    ensures cause { OnErr result (HasFailed W.facts) }
-{
-    let folders = match list_folders(alloc, disk, folder, other) {
-        Ok(folders) => folders,
-        Err(fault) => return put_cut(out, fault),
-    };
-    let mut teller = StatusTeller {
-        alloc,
-        disk,
-        one: &folders.one,
-        other: folders.other.as_ref(),
-    };
-    tell_games(&mut teller, &folders.stamps, other.is_some(), out)
 }

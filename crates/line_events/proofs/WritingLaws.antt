@@ -2,7 +2,7 @@
 use Rattle.std.proofs.Common.{◌≡◌, ◌==◌, ◌∙◌, ◌++◌, ◌∷◌, [], ℕ, Bool, List, Option, Some, ap, refl, subst, sym}
 use Rattle.std.specs.List.{flat_map}
 use Rattle.std.specs.Prelude.{Result, Ok, Err}
-use Rattle.line_teller.specs.ToldLines.{LineTold, TellsNoMore, cut_words}
+use Rattle.line_teller.specs.ToldLines.{LineTold, cut_words}
 use Rattle.line_teller.specs.declared.told_lines.TellFault.{TellFault}
 use Rattle.line_teller.specs.declared.told_lines.TellFault.TheVariants as tell
 use Rattle.move_msg.specs.TextLines.{ended}
@@ -13,17 +13,10 @@ use Rattle.timeline.proofs.EventLaws.{adds_more, adds_none}
 use Rattle.timeline.specs.Events.{Event}
 use Rattle.timeline.specs.Outsides.{Adds, AddsSome, Outside}
 use Rattle.answer_parts.proofs.PrintLaws.{cut_behind, then_does, then_prints}
-use Rattle.line_events.specs.LineEvents.{Answering, AnswersLine, AnswersNoMore, Told, written}
+use Rattle.line_events.specs.LineEvents.{Answering, AnswersLine, Told, written}
 use Rattle.answer_parts.specs.Reply.{Reply}
 use Rattle.answer_parts.specs.Printing.{IsCutIn, Performs, Prints, PrintsReply}
 use Rattle.line_events.specs.Writing.{DoesBy, IsDone, IsUnread, WritesAnswer, at_once}
-
--- what is told later could have been told before
-pub same_at_once : (Before After : List ℕ → LineTold → Type 0) (Takes : List ℕ → Type 0) → TellsNoMore Before After → AnswersNoMore (at_once Before Takes) (at_once After Takes)
-same_at_once Before After Takes same = record {
-  tells = λ k next line told reading h. ((h.0.0, same line (record { words = h.0.0; done = told.done }) h.0.1, h.0.2), h.1);
-  memory = λ k line reading h. h;
-}
 
 some_is : (a b : ℕ) → Some a ≡ Some b → a ≡ b
 some_is a b e = cc

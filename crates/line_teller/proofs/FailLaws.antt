@@ -13,10 +13,6 @@ module _ {W : Type 0} (facts : W → OutputFacts) where
   pub stuck : (at : W) → (facts at).stuck → HasFailed facts
   stuck at is_stuck = record { at = at; so = inr is_stuck }
 
-  pub on_refused : {T F : Type 0} (at : W) (r : Result T F) → OnErr r (facts at).refuses → OnErr r (HasFailed facts)
-  on_refused at (Ok x) refuses = tt
-  on_refused at (Err fault) refuses = refused at refuses
-
   pub on_stuck : {T F : Type 0} (at : W) (r : Result T F) → OnErr r (facts at).stuck → OnErr r (HasFailed facts)
   on_stuck at (Ok x) is_stuck = tt
   on_stuck at (Err fault) is_stuck = stuck at is_stuck

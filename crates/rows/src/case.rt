@@ -19,8 +19,8 @@ pub(crate) enum Call<'t> {
     System,
     /// The words are only read, as the task of this name.
     Task(&'t str),
-    /// A teller gets the lines of the input. It answers the number of bytes of each.
-    LineHandler,
+    /// An answerer gets the lines of the input. It answers the number of bytes of each.
+    Lines,
     /// The call of a library that has this name.
     Library(&'t str),
 }
@@ -255,7 +255,7 @@ impl<'t> Case<'t> {
     /// Sets what a line of one word says.
     fn mark(&mut self, word: &str, text: &str) -> Result<(), Fault> {
         match word {
-            "tell" => self.call = Call::LineHandler,
+            "tell" => self.call = Call::Lines,
             "system" => self.call = Call::System,
             "bound" => self.is_bound = true,
             "mute" => self.is_mute = true,

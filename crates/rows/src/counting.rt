@@ -1,13 +1,12 @@
-//! A teller that counts bytes.
+//! An answerer that counts bytes.
 
-ghost use Rattle.std.specs.Prelude.{◌≡◌, OnErr};
+ghost use Rattle.std.specs.Prelude.{◌≡◌};
 ghost use Rattle.std.specs.Fmt.{decimal};
-ghost use Rattle.line_teller.specs.ToldLines.{HasFailed};
-ghost use Rattle.move_msg.specs.TextLines.{ended};
-ghost use Rattle.system_io.specs.Outputs.{WritesFront};
 
-use line_teller::{LineHandler, LineWords, TellFault};
-use system_io::{Output, WriteFault};
+use line_events::LineAnswerer;
+use line_teller::{LineWords, TellFault};
+use system_io::WriteFault;
+use timeline::{Stream, System};
 
 /// Answers the number of bytes of a line; an answer of one byte isn't complete. For an empty line memory is refused.
 #[derive(Drop)]
@@ -22,24 +21,30 @@ fn count_line(count: usize) -> LineWords
     line
 }
 
-/// Writes a count as a line. Where the writer fails, a front of it is written.
-fn put_count<W: Output>(out: &mut W, count: usize) -> Result<(), WriteFault>
-    ensures front { WritesFront (W.contents out.old) (W.contents out.new) (ended (decimal count)) result }
-    ensures cause { OnErr result (HasFailed W.facts) }
-{
-    count_line(count).put(out)
-}
+impl<S: System> LineAnswerer<S> for Counting {
+    ghost use Rattle.std.specs.Prelude.{◌≡◌, List, ℕ, length};
+    ghost use Rattle.std.specs.Fmt.{decimal};
+    ghost use Rattle.line_events.specs.Writing.{at_once};
+    ghost use Rattle.line_teller.specs.ToldLines.{LineTold};
 
-impl LineHandler for Counting {
-    ghost tells = { λ _ _ _. Unit {0} };
+    ghost Known = { Unit {0} };
 
-    ghost takes_memory = { λ _. Unit {0} };
+    ghost reads_from = { λ _ _. Unit {0} };
 
-    fn tell<W: Output>(&mut self, line: &[u8], out: &mut W) -> Result<bool, TellFault> {
+    ghost known = { λ _. tt };
+
+    ghost answering = { λ _. at_once (λ (line : List ℕ) (told : LineTold). told.words ≡ decimal (length line)) (λ _. Unit {0}) };
+
+    fn answer_line(
+        &mut self,
+        system: &S,
+        timeline: &mut S::Timeline,
+        line: &[u8],
+    ) -> Result<bool, TellFault> {
         if line.is_empty() {
             return Err(TellFault::OutOfMemory);
         }
-        match put_count(out, line.len()) {
+        match count_line(line.len()).write(system, timeline, Stream::Output) {
             Ok(()) => Ok(line.len() > 1),
             Err(WriteFault::Io) => Err(TellFault::Io),
         }

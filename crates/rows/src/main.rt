@@ -8,7 +8,7 @@
 //! one file without any proof.
 //!
 //! Inside: `case`, `pieces`, `shelf` (a case, the bytes of its lines, the files and folders), `running`, `report`, `memory_host`,
-//! `memory_store`, `slow_input` and `paper` (host, input and output in memory), `closed` (no address for requests), `counting` (a teller), `system` (what the system's
+//! `memory_store`, `slow_input` and `paper` (host, input and output in memory), `closed` (no address for requests), `counting` (an answerer), `system` (what the system's
 //! folders and files are read as). `data/wrong.txt` has cases with a wrong expectation, and is run by hand alone: each must be
 //! reported.
 //!

@@ -12,7 +12,7 @@ use crate::shelf::parted;
 use crate::system::tell_system;
 use adjudicate_core::{Others, run_program};
 use command_line::{Task, Usage, WordsFault, parse};
-use line_teller::tell_lines;
+use line_events::answer_lines;
 use row_calls::{Fault, Given, tell_call};
 use serve_commands::System;
 use std::alloc::{AllocError, Global};
@@ -128,32 +128,29 @@ fn ended_over<'a>(
     Ok(ending)
 }
 
-/// How the teller ends, with the status 0 where all is told, else 1, and a note where a write is refused.
-fn told(
+/// How a case of lines ends, with a note where a write is refused.
+fn counted_over(
     alloc: Global,
     case: &Case<'_>,
-    output: &mut Paper,
-    errors: &mut Paper,
-) -> Result<(u8, usize), AllocError> {
-    let mut lines = case.input().lines(alloc)?;
+    disk: &MemoryDisk<'_>,
+    refusals: Refusals,
+) -> Result<Ending, AllocError> {
+    let mut timeline = MemoryTimeline::new(alloc, refusals.output);
     let progress = !case.words.is_empty();
-    match tell_lines(alloc, &mut Counting, &mut lines, output, errors, progress) {
-        Ok(all) => Ok((if all { 0 } else { 1 }, 0)),
-        Err(_) => Ok((1, 1)),
-    }
-}
-
-/// How a case of the teller ends.
-fn told_over(alloc: Global, case: &Case<'_>, refusals: Refusals) -> Result<Ending, AllocError> {
-    let mut output = Paper::new(alloc, refusals.output);
-    let mut errors = Paper::new(alloc, refusals.errors);
-    let (status, notes) = told(alloc, case, &mut output, &mut errors)?;
-    Ok(Ending {
+    let system = outside(case, disk);
+    let answered = answer_lines(alloc, &mut Counting, &system, &mut timeline, progress);
+    let (status, notes) = match answered {
+        Ok(status) => (status, 0),
+        Err(_) => (1, 1),
+    };
+    let mut ending = Ending {
         status,
         notes,
-        output: output.into_bytes(),
-        errors: errors.into_bytes(),
-    })
+        output: Vec::new(alloc),
+        errors: Vec::new(alloc),
+    };
+    ending.add(&timeline)?;
+    Ok(ending)
 }
 
 /// How a case ends.
@@ -164,7 +161,7 @@ fn ended(
     refusals: Refusals,
 ) -> Result<Ending, AllocError> {
     match case.call {
-        Call::LineHandler => told_over(alloc, case, refusals),
+        Call::Lines => counted_over(alloc, case, disk, refusals),
         _ => ended_over(alloc, case, disk, refusals),
     }
 }
@@ -292,6 +289,6 @@ pub(crate) fn check_case(
         Call::Task(task) => check_task(alloc, report, &case.words, task),
         Call::System => check_system(rt, report, case),
         Call::Library(name) => check_call(alloc, report, case, disk, name),
-        Call::Shelf | Call::LineHandler => check_runs(alloc, report, case, disk),
+        Call::Shelf | Call::Lines => check_runs(alloc, report, case, disk),
     }
 }

@@ -358,7 +358,7 @@ impl Line {
 }
 
 /// Writes a line at once. An error comes only of a type of writer that may refuse a write; a front of the line is written then.
-pub fn put_line<W: Output>(out: &mut W, line: &Line) -> Result<(), WriteFault>
+fn put_line<W: Output>(out: &mut W, line: &Line) -> Result<(), WriteFault>
     ensures front { WritesFront (W.contents out.old) (W.contents out.new) (ended (words_of line.now)) result }
     ensures cause { OnErr result (HasFailed W.facts) }
 {
