@@ -1,5 +1,5 @@
 -- What `send` does, one thing after another.
-use Rattle.std.proofs.Common.{◌≡◌, ◌∙◌, ◌∷◌, ◌++◌, [], ℕ, List, Option, Some, None, ap, append_assoc, refl}
+use Rattle.std.proofs.Common.{◌≡◌, ◌∙◌, ◌∷◌, ◌++◌, [], ℕ, List, Option, Some, None, ap, append_assoc, inl, inr, refl, sym}
 use Rattle.std.specs.Prelude.{Result, Ok, Err, IfOk, String, string_bytes, true}
 use Rattle.std.specs.Global.{Global}
 use Rattle.answer_commands.specs.Inside.Sending.{IsCut, IsOut, IsStuck, WritesSecond}
@@ -11,7 +11,11 @@ use Rattle.answer_parts.proofs.PrintLaws.{cut_behind, then_does, then_prints}
 use Rattle.answer_parts.specs.Printing.{AtFlush, AtWrite, IsCutIn, Performs, Prints}
 use Rattle.arbiter_server.specs.ServedLines.{refused_port}
 use Rattle.command_line.specs.declared.commands.send.Send.{Send}
+use Rattle.board_core.specs.declared.parts.Parts.{Parts}
+use Rattle.move_msg.specs.TextLines.{ended}
+use Rattle.source_core.proofs.CutLaws.{IsLostBehind, game_lost}
 use Rattle.source_core.specs.Lines.{ended_status}
+use Rattle.source_core.specs.Runs.{LineGoesOut, SendsGame, SendsOn, SourceTerms, gone_out}
 use Rattle.source_core.specs.declared.known.Known.{Known}
 use Rattle.source_core.specs.declared.lines.Ended.{Ended}
 use Rattle.source_core.specs.declared.lines.Ended.TheVariants as run
@@ -19,6 +23,7 @@ use Rattle.source_core.specs.declared.turn.SendConfig.{SendConfig}
 use Rattle.system_io.specs.declared.host.BindFault.{BindFault}
 use Rattle.system_io.specs.declared.host.BindFault.TheVariants as bind
 use Rattle.system_io.specs.declared.output.WriteFault.{WriteFault}
+use Rattle.system_io.specs.declared.reading.ReadFault.{ReadFault}
 use Rattle.timeline.proofs.EventLaws.{adds_more}
 use Rattle.timeline.specs.Events.{Event, Flushed, FromInput, LinesOpened, Noted, Refused, Wrote}
 use Rattle.timeline.specs.Outsides.{Adds, AddsSome, Outside}
@@ -49,6 +54,19 @@ cut_on all more events (AtFlush before after wanted left) = AtFlush before (afte
 silence_of : (done : Ended) → (events : List Event) × TellsSilent done events
 silence_of (run.With status) = ([], refl)
 silence_of (run.Lost known) = (Wrote Errors (silence_a known) ∷ Wrote Errors (silence_b known) ∷ Flushed Errors ∷ [], BothOut refl)
+
+-- a run of a source, as it is done or cut
+pub run_performs : {T P F K S L : Type 0} (o : Outside T P F K S L) (a b : T) (cause : ReadFault → Type 0) (g : SourceTerms) (start : Parts) (input : Option (List ℕ)) (r : Result Ended WriteFault) → AddsSome o a b (SendsGame cause g start input r) → AddsSome o a b (Performs (SendsOn cause g start input) r)
+run_performs o a b cause g start input (Ok done) q = q
+run_performs o a b cause g start input (Err fault) q = (q.0, q.1, by_line (game_lost cause g start input fault q.0 q.2))
+  where
+    cut_at_line : (before : List Event) (words : List ℕ) (out : List Event) → LineGoesOut {X = Ended} words (Err fault) out → q.0 ≡ before ++ out → IsCutIn (before ++ gone_out words) q.0
+    cut_at_line before words out (inl h) is = AtWrite before (ended words) (Flushed Output ∷ []) refl h.0 (is ∙ ap (λ (l : List Event). before ++ l) h.1)
+    cut_at_line before words out (inr h) is =
+        AtFlush (before ++ Wrote Output (ended words) ∷ []) [] (sym (append_assoc before (Wrote Output (ended words) ∷ []) (Flushed Output ∷ []))) (is ∙ ap (λ (l : List Event). before ++ l) h ∙ sym (append_assoc before (Wrote Output (ended words) ∷ []) (Refused Output ∷ [])))
+
+    by_line : IsLostBehind (SendsOn cause g start input) fault q.0 → Performs (SendsOn cause g start input) (Err fault) q.0
+    by_line l = (l.before ++ gone_out l.words, l.is, l.does, cut_at_line l.before l.words l.out l.lost l.all)
 
 -- the run ended, and then it was said who was silent
 pub ran_at : {T P F K S L : Type 0} (o : Outside T P F K S L) (a b c d : T) (t : Send) (game : GameSent) (port : P) (lines : L) (terms : SendConfig) (done : Ended) → AreOfInput o lines → AreTerms t game.stamp terms

@@ -1,6 +1,7 @@
 -- What holds of the moves that are sent.
 use Rattle.std.specs.Prelude.{◌≡◌, ◌<◌, ℕ, List, Some, slice_get}
 use Rattle.std.specs.List.{Contains}
+use Rattle.std.specs.declared.net.socket_addr.SocketAddr.{SocketAddr}
 use Rattle.move_msg.specs.declared.message.Message.{Message}
 use Rattle.move_msg.specs.Messages.{SpellsMessage}
 use Rattle.relay_world.specs.Worlds.{Judged, first_world}
@@ -12,14 +13,16 @@ use Rattle.move_msg.specs.declared.arbiter_id.ArbiterId.TheVariants.{A, B}
 use Rattle.source_core.specs.declared.report.Ruling.{Ruling}
 use Rattle.source_core.specs.declared.known.Clash.{Clash}
 use Rattle.source_core.specs.Reports.{HasCome, IsAcked, IsClash, IsRuled}
-use Rattle.source_core.specs.Sendings.{OnlyHands}
-use Rattle.system_io.specs.Ports.{Passing, Handed}
+use Rattle.source_core.specs.Runs.{OnlySends}
+use Rattle.system_io.specs.Ports.{Passing}
+use Rattle.timeline.specs.Events.{Sent}
+use Rattle.timeline.specs.Events as timeline
 
--- Of a game whose moves a source sends, each datagram that it passes on spells a message of the log with which the worlds of two
--- arbiters begin: what the headline asks of a source.
+-- Of a game whose moves a source sends, each datagram that it sends spells a message of the log with which the worlds of two arbiters begin:
+-- what the headline asks of a source.
 abbrev pub SendsTheLog : Type 0
 SendsTheLog =
-    (game : Judged) (all : List Passing) (to : ℕ) (bytes : List ℕ) → OnlyHands game.stamp game.moves all → Contains all (Handed to bytes)
+    (game : Judged) (all : List timeline.Event) (to : SocketAddr) (bytes : List ℕ) → OnlySends game.stamp game.moves all → Contains all (Sent to bytes)
     → (m : Message) × Contains (first_world game).log m × SpellsMessage bytes m
 
 -- what came of the game was sent in a world of it
