@@ -1,16 +1,18 @@
 -- What `send` does, one thing after another.
-use Rattle.std.proofs.Common.{◌≡◌, ◌∙◌, ◌∷◌, ◌++◌, [], ℕ, List, Option, Some, None, ap, append_assoc, inl, inr, refl, sym}
-use Rattle.std.specs.Prelude.{Result, Ok, Err, IfOk, String, string_bytes, true}
+use Rattle.std.proofs.Common.{◌≡◌, ◌∙◌, ◌∷◌, ◌++◌, [], ℕ, List, Option, Some, None, ap, append_assoc, inl, inr, refl, subst, sym}
+use Rattle.std.specs.Prelude.{Result, Ok, Err, IfErr, IfOk, String, string_bytes, true, false, ◌<◌, length}
 use Rattle.std.specs.Global.{Global}
 use Rattle.answer_commands.specs.Inside.Sending.{IsCut, IsOut, IsStuck, WritesSecond}
 use Rattle.answer_commands.specs.Sealed.{noted_if}
 use Rattle.answer_commands.specs.SentGames.{ReadsSent}
-use Rattle.answer_commands.specs.Sending.{AddressNoted, AddressNotNoted, AreOfInput, AreTerms, BindsPort, BothOut, BothStuck, FirstCut, IsUnbound, NoGame, NoPort, NoRoomToBind, NotesUnbound, OfGame, OverPort, Ran, RefusesPort, RunsAt, RunsOn, SecondCut, SendsAt, SendsFrom, SendsInput, TellsSilent, WritesSilence, silence_a, silence_b, unbound_line}
+use Rattle.answer_commands.specs.Sending.{AddressNoted, AddressNotNoted, AreOfInput, AreTerms, BindsPort, BothOut, BothStuck, FirstCut, IsBound, IsPortOf, IsUnbound, NoGame, NoPort, NoRoomForAddresses, NoRoomForLines, NoRoomToBind, NotBound, NotesUnbound, OfGame, OverPort, Ran, RefusesPort, RunsAt, RunsOn, SecondCut, SendsAt, SendsFrom, SendsInput, TellsSilent, WritesSilence, silence_a, silence_b, unbound_line}
 use Rattle.answer_commands.specs.declared.sent_game.GameSent.{GameSent}
-use Rattle.answer_parts.proofs.PrintLaws.{cut_behind, then_does, then_prints}
+use Rattle.answer_parts.proofs.PrintLaws.{cut_behind, does_so, then_does, then_prints}
 use Rattle.answer_parts.specs.Printing.{AtFlush, AtWrite, IsCutIn, Performs, Prints}
 use Rattle.arbiter_server.specs.ServedLines.{refused_port}
+use Rattle.command_line.specs.Addresses.{addresses_of}
 use Rattle.command_line.specs.declared.commands.send.Send.{Send}
+use Rattle.line_teller.specs.ToldLines.{refused_memory}
 use Rattle.board_core.specs.declared.parts.Parts.{Parts}
 use Rattle.move_msg.specs.TextLines.{ended}
 use Rattle.source_core.proofs.CutLaws.{IsLostBehind, game_lost}
@@ -24,12 +26,28 @@ use Rattle.system_io.specs.declared.host.BindFault.{BindFault}
 use Rattle.system_io.specs.declared.host.BindFault.TheVariants as bind
 use Rattle.system_io.specs.declared.output.WriteFault.{WriteFault}
 use Rattle.system_io.specs.declared.reading.ReadFault.{ReadFault}
-use Rattle.timeline.proofs.EventLaws.{adds_more}
-use Rattle.timeline.specs.Events.{Event, Flushed, FromInput, LinesOpened, Noted, Refused, Wrote}
+use Rattle.timeline.proofs.EventLaws.{adds_more, adds_none}
+use Rattle.timeline.specs.Events.{Event, Flushed, FromInput, IsWritten, LinesOpened, Noted, PortBound, Refused, Wrote, done_by}
 use Rattle.timeline.specs.Outsides.{Adds, AddsSome, Outside}
 use Rattle.timeline.specs.declared.stream.Stream.TheVariants.{Errors, Output}
 
 -- ---- who was silent
+
+pub second_out : {T P F K S L : Type 0} (o : Outside T P F K S L) (a b c : T) (known : Known) → Adds o a b (Wrote Errors (silence_b known) ∷ []) → Adds o b c (Flushed Errors ∷ []) → AddsSome o a c (WritesSecond known)
+second_out o a b c known p q = (Wrote Errors (silence_b known) ∷ Flushed Errors ∷ [], adds_more o a b c (Wrote Errors (silence_b known) ∷ []) (Flushed Errors ∷ []) p q, IsOut refl)
+
+pub second_stuck : {T P F K S L : Type 0} (o : Outside T P F K S L) (a b c : T) (known : Known) → Adds o a b (Wrote Errors (silence_b known) ∷ []) → Adds o b c (Refused Errors ∷ []) → AddsSome o a c (WritesSecond known)
+second_stuck o a b c known p q = (Wrote Errors (silence_b known) ∷ Refused Errors ∷ [], adds_more o a b c (Wrote Errors (silence_b known) ∷ []) (Refused Errors ∷ []) p q, IsStuck refl)
+
+-- a line that a write took whole, or a front of it
+pub line_whole : {T P F K S L : Type 0} (o : Outside T P F K S L) (a b : T) (bytes : List ℕ) → AddsSome o a b (IsWritten {A = Unit {0}} {E = WriteFault} Errors bytes (Ok tt)) → Adds o a b (Wrote Errors bytes ∷ [])
+line_whole o a b bytes p = subst (Adds o a b) p.2 p.1
+
+pub second_cut : {T P F K S L : Type 0} (o : Outside T P F K S L) (a b : T) (known : Known) (fault : WriteFault) → AddsSome o a b (IsWritten {A = Unit {0}} Errors (silence_b known) (Err fault)) → AddsSome o a b (WritesSecond known)
+second_cut o a b known fault p = (p.0, p.1, IsCut p.2.0 p.2.1)
+
+pub first_cut : {T P F K S L : Type 0} (o : Outside T P F K S L) (a b : T) (known : Known) (fault : WriteFault) → AddsSome o a b (IsWritten {A = Unit {0}} Errors (silence_a known) (Err fault)) → AddsSome o a b (WritesSilence known)
+first_cut o a b known fault p = (p.0, p.1, FirstCut p.2.0 p.2.1)
 
 -- the first line was written, and then the second
 pub both_written : {T P F K S L : Type 0} (o : Outside T P F K S L) (a b c : T) (known : Known) → Adds o a b (Wrote Errors (silence_a known) ∷ []) → AddsSome o b c (WritesSecond known) → AddsSome o a c (WritesSilence known)
@@ -93,7 +111,22 @@ cut_at o a b c t game port lines terms fault input on p q = (
         let s = silence_of done in
         (LinesOpened FromInput true ∷ all ++ s.0, Some (ended_status done), Ran lines input terms on done all s.0 run s.1 refl refl, cut_on (LinesOpened FromInput true ∷ all) s.0 _ cut)
 
+-- memory for its lines was refused
+pub no_lines : {T P F K S L : Type 0} (o : Outside T P F K S L) (a b c : T) (t : Send) (game : GameSent) (port : P) (r : Result ℕ WriteFault) → o.input.takes_memory → Adds o a b (LinesOpened FromInput false ∷ []) → AddsSome o b c (Performs (Prints (refused_memory ∷ []) 1) r) → AddsSome o a c (Performs (SendsAt o t game port) r)
+no_lines o a b c t game port r memory p q = then_prints o a b c (LinesOpened FromInput false ∷ []) (SendsAt o t game port) (refused_memory ∷ []) 1 r (NoRoomForLines memory refl refl) p q
+
 -- ---- its port
+
+-- it is asked for
+pub bound_by : {T P F K S L : Type 0} (o : Outside T P F K S L) (a b : T) (t : Send) (r : Result P BindFault) → IfOk r (λ port. IsPortOf o t port) → IfErr r (o.refuses_port t.bind.now) → Adds o a b (PortBound t.bind.now (addresses_of t.to.now) (done_by r) ∷ []) → AddsSome o a b (BindsPort o t r)
+bound_by o a b t (Ok port) is why p = (PortBound t.bind.now (addresses_of t.to.now) (Ok tt) ∷ [], p, IsBound port is refl refl)
+bound_by o a b t (Err fault) is why p = (PortBound t.bind.now (addresses_of t.to.now) (Err fault) ∷ [], p, NotBound fault why refl refl)
+
+pub no_addresses : {T P F K S L : Type 0} (o : Outside T P F K S L) (a : T) (t : Send) → 1 < length (addresses_of t.to.now) → AddsSome o a a (BindsPort o t (Err bind.OutOfMemory))
+no_addresses o a t many = ([], adds_none o a, NoRoomForAddresses many refl refl)
+
+pub no_room_to_bind : {T P F K S L : Type 0} (o : Outside T P F K S L) (a b : T) (address : List ℕ) (r : Result ℕ WriteFault) → AddsSome o a b (Performs (Prints (refused_memory ∷ []) 1) r) → AddsSome o a b (Performs (RefusesPort address bind.OutOfMemory) r)
+no_room_to_bind o a b address r p = does_so o a b (Prints (refused_memory ∷ []) 1) (RefusesPort address bind.OutOfMemory) r (λ (events : List Event) (status : Option ℕ) (h : Prints (refused_memory ∷ []) 1 events status). NoRoomToBind refl h.0 h.1) p
 
 -- it can't be bound, which is noted if the line could be made
 pub port_refused : {T P F K S L E : Type 0} (o : Outside T P F K S L) (a b c : T) (address : List ℕ) (line : Result (String Global) E) (r : Result ℕ WriteFault) → IfOk line (λ l. string_bytes l ≡ unbound_line address)
