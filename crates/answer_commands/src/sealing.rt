@@ -47,13 +47,13 @@ fn note_keys<S: System>(
     system: &S,
     timeline: &mut S::Timeline,
     path: &str,
-    refusal: Refusal,
+    refusal: &Refusal,
 )
-    ensures { AddsSome (S.outside system.now) timeline.old timeline.new (NotesKeys path.now refusal) }
+    ensures { AddsSome (S.outside system.now) timeline.old timeline.new (NotesKeys path.now refusal.now) }
 {
     match refusal {
         Refusal::SharedKey => note_line(system, timeline, shared_line(alloc, path)),
-        Refusal::Key(number) => note_line(system, timeline, fault_line(alloc, path, number)),
+        Refusal::Key(number) => note_line(system, timeline, fault_line(alloc, path, *number)),
         _ => {}
     }
 }
@@ -64,13 +64,13 @@ fn refuse_keys<S: System>(
     system: &S,
     timeline: &mut S::Timeline,
     path: &str,
-    refusal: Refusal,
+    refusal: &Refusal,
 ) -> Result<u8, WriteFault>
-    ensures made { AddsSome (S.outside system.now) timeline.old timeline.new (Performs (RefusesKeys path.now refusal) result) }
+    ensures made { AddsSome (S.outside system.now) timeline.old timeline.new (Performs (RefusesKeys path.now refusal.now) result) }
     ensures cause { OnErr result (OutputFails (S.outside system.now)) }
 {
     note_keys(alloc, system, timeline, path, refusal);
-    print_refusal(system, timeline, refusal)
+    print_refusal(system, timeline, *refusal)
 }
 
 /// Answers a task over ports that are sealed by the keys of the file at a path, or writes why it has none, and returns the status.
@@ -89,7 +89,7 @@ fn answer_sealed<S: System>(
             answer_bare(alloc, task, &sealed, timeline)
         }
         Err(refusal) => {
-            let answered = refuse_keys(alloc, system, timeline, path, refusal);
+            let answered = refuse_keys(alloc, system, timeline, path, &refusal);
             end(system, timeline, answered)
         }
     }
