@@ -1,5 +1,5 @@
 //! The commands over one timeline: `version`, `show`, `moves`, `run`, `record`, `audit`, `list`, `check`, `judge`, `probe`, `probes`, `root`,
-//! `game`, `games`, `pgn`, `follow`, `status` and `enter`.
+//! `game`, `games`, `pgn`, `follow`, `status`, `enter` and `send`.
 //!
 //! `answer` does all that such a command does outside: it reads what the task names, writes the answer, sees to it that all goes out, and
 //! returns the status, 0 done or 1 refused. The contract has every event, in order, and says that there is no other one. Where the output
@@ -10,11 +10,13 @@
 //! (`replying`); the commands that answer lines, `pgn` and `follow` are done by `table_commands`, and `status` and what is asked of all games
 //! by `game_reports`. `answers` has an answer before it is written, `printing` lines, refusals and the output's end, `answering` all of them, `by_tables` those by tables.
 //! Of `enter` there are `entries` (the lines of a list), `stamping` (the manifest), `keeping` (a game's file) and `earlier` (the note on a
-//! game that was there before), and `entering` (the command).
+//! game that was there before), and `entering` (the command); of `send` `sent_game` (the game) and `sending` (its port, the run of
+//! `send_moves` of source_core, and who was silent). `sealing` reads the file of keys, where there is one, and answers over sealed ports.
 //!
 //! Definitions, in reading order: `Printing` (`Prints`, `IsCutIn`, `Performs`, `Closes`, `Ends`), `Inputs`, `Version`, `Show`, `Moves`, `Run`,
 //! `Replies` (`RepliesTo`), `Records`, `TableReplies`, `Listing`, `Check`; of `enter` `Stamping`, `Keeping` (`KeepsText`),
-//! `Earlier` (`NotesEarlier`), `Entries`, `Enter` (`KeepsGame`, `EntersGames`); `Answers` (`Does`, `Answers`).
+//! `Earlier` (`NotesEarlier`), `Entries`, `Enter` (`KeepsGame`, `EntersGames`); of `send` `SentGames`, `Sending` (`SendsInput`); `Answers`
+//! (`Does`, `Answers`), `Sealed` (`AnswersByKey`).
 //!
 //! - CLAIM: `answer`: what a command names is read once, before anything is written to the output; but `enter`, `status` and what is asked of all
 //!   games read file by file. Nothing is written to the errors but progress, where it is wanted, and nothing else happens outside. An error
@@ -29,6 +31,11 @@
 //!   a game was there before is noted, with the number of moves of its record, where the record can be read. No game of a line is opened
 //!   after a line that can't be written or for whose game memory was refused.
 //! - CLAIM: `answer`: `list` and `check` read their files one by one, in rising order of names. (That one is held at a time is code.)
+//! - CLAIM: `answer`: `send` refuses its game before its address: the text of the start, then the manifest or the folder of the tables; or the
+//!   game's file. Then its port is bound, and the moves of the input are sent as `send_moves` of source_core has it: a line goes out before
+//!   the next line of the input is read. Where an arbiter doesn't answer, two lines on standard error say so, and the status is 1.
+//! - CLAIM: `answer`: where a file of keys is named, it is read before all else, and what happens then is so as it is seen through ports that are
+//!   sealed by them (`keyed_outside` of sealed_port); or why it has none is noted, written, and nothing else is done.
 //! - CLAIM: `answer`: what is answered by tables reads what it names once, in order. Where tables are read when they are asked for, their
 //!   folder is listed once after that, and then the file of each table that a position misses is read once; of no other.
 #![tactic(auto)]
