@@ -130,6 +130,16 @@ impl<'t> Case<'t> {
         }
     }
 
+    /// Whether a port can be bound, for a command that is over a timeline.
+    pub(crate) fn binds(&self) -> bool {
+        self.is_bound
+    }
+
+    /// The datagrams that wait at that port.
+    pub(crate) fn datagrams(&self) -> &[Vec<u8>] {
+        &self.datagrams
+    }
+
     /// What stands where something is to be kept, for a command that is over a timeline.
     pub(crate) fn elsewhere(&self) -> KeptStart<'_> {
         KeptStart {

@@ -19,7 +19,7 @@ use std::alloc::{AllocError, Global};
 use system_fakes::MemoryDisk;
 use system_io::Input;
 use timeline::Stream;
-use timeline_fakes::{MemorySystem, MemoryTimeline, Recorded};
+use timeline_fakes::{MemorySystem, MemoryTimeline, Recorded, Turns};
 
 /// What came of a run.
 #[derive(Drop)]
@@ -66,8 +66,9 @@ fn outside<'a>(case: &'a Case<'_>, disk: &MemoryDisk<'a>) -> MemorySystem<'a> {
         input: case.memory_input(),
         kept: &[],
         elsewhere: case.elsewhere(),
+        binds: case.binds(),
         own: None,
-        turns: &[],
+        turns: Turns::Waiting(case.datagrams()),
     }
 }
 

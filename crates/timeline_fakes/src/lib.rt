@@ -25,7 +25,7 @@ mod memory_timeline;
 mod recorded;
 
 pub use memory_file::{KeptStart, MemoryFile};
-pub use memory_port::{MemoryPort, Turn};
+pub use memory_port::{MemoryPort, Turn, Turns};
 pub use memory_store::MemoryStore;
 pub use memory_system::{MemoryLock, MemorySystem};
 pub use memory_timeline::{MemoryTimeline, Outlet};

@@ -13,12 +13,21 @@ use system_io::{Recipient, SENDER};
 /// What comes of a call that receives.
 #[derive(Clone, Copy)]
 pub enum Turn<'a> {
-    /// A datagram from an address.
-    Comes(SocketAddr, &'a [u8]),
+    /// A datagram from an address, where that is known.
+    Comes(Option<SocketAddr>, &'a [u8]),
     /// Nothing in time. Without a time limit the call fails.
     Quiet,
     /// The call fails.
     Fails,
+}
+
+/// What comes of the calls that receive, in order.
+#[derive(Clone, Copy)]
+pub enum Turns<'a> {
+    /// Turn by turn.
+    Each(&'a [Turn<'a>]),
+    /// These datagrams, from nobody who is known.
+    Waiting(&'a [Vec<u8>]),
 }
 
 /// A port that was bound to an address, and what comes of its calls that receive. A call past the last turn fails. Failed calls are counted.
@@ -28,7 +37,7 @@ pub struct MemoryPort<'a> {
     pub(crate) own: Option<SocketAddr>,
     pub(crate) to: Vec<Recipient>,
     pub(crate) sender: Option<SocketAddr>,
-    pub(crate) turns: &'a [Turn<'a>],
+    pub(crate) turns: Turns<'a>,
     pub(crate) failures: u64,
 }
 
@@ -72,7 +81,7 @@ impl<'a> MemoryPort<'a> {
         address: &str,
         own: Option<SocketAddr>,
         to: &[&str],
-        turns: &'a [Turn<'a>],
+        turns: Turns<'a>,
     ) -> Result<MemoryPort<'a>, AllocError>
         ensures at { IfOk result (λ port. port.address.items ≡ address.now) }
         ensures own { IfOk result (λ port. port.own ≡ own) }
@@ -97,11 +106,15 @@ impl<'a> MemoryPort<'a> {
         ensures failures { self.new.failures ≡ self.old.failures }
     {
         match self.turns {
-            [] => Turn::Fails,
-            [turn, others @ ..] => {
-                self.turns = others;
+            Turns::Each([turn, others @ ..]) => {
+                self.turns = Turns::Each(others);
                 *turn
             }
+            Turns::Waiting([first, others @ ..]) => {
+                self.turns = Turns::Waiting(others);
+                Turn::Comes(None, first.as_slice())
+            }
+            Turns::Each([]) | Turns::Waiting([]) => Turn::Fails,
         }
     }
 

@@ -10,7 +10,7 @@ ghost use Rattle.timeline.specs.Outsides.{AreNamed, HeardNothing, SendsToSame};
 ghost use Rattle.timeline_fakes.specs.Memories.{events_in, has_in, lock_path, port_state, store_facts, store_path};
 
 use crate::memory_file::{KeptStart, MemoryFile};
-use crate::memory_port::{MemoryPort, Turn, address_of, fill};
+use crate::memory_port::{MemoryPort, Turn, Turns, address_of, fill};
 use crate::memory_store::MemoryStore;
 use crate::memory_timeline::{MemoryTimeline, Outlet};
 use crate::recorded::{
@@ -40,10 +40,12 @@ pub struct MemorySystem<'a> {
     pub kept: &'a [AtPath<'a, KeptStart<'a>>],
     /// What stands at any other path.
     pub elsewhere: KeptStart<'a>,
+    /// Whether a port can be bound.
+    pub binds: bool,
     /// The own address of a port.
     pub own: Option<SocketAddr>,
     /// What comes of its calls that receive, in order.
-    pub turns: &'a [Turn<'a>],
+    pub turns: Turns<'a>,
 }
 
 /// A lock of a file.
@@ -141,7 +143,7 @@ fn receive_in_turn<'a>(
     }
     match port.next() {
         Turn::Comes(from, datagram) => {
-            port.sender = Some(from);
+            port.sender = from;
             Ok(Some(fill(buffer, datagram)))
         }
         Turn::Quiet => Ok(None),
@@ -247,7 +249,7 @@ impl<'a> MemorySystem<'a> {
         ensures bound { IfOk result (λ port. (port_state port).address ≡ address.now) }
         ensures each { IfOk result (λ port. AreNamed (port_state port).own (map (λ s. s.now) to.now) (port_state port).to) }
     {
-        if timeline.is_failing() {
+        if timeline.is_failing() || !self.binds {
             return Err(BindFault::Unbound);
         }
         match MemoryPort::new(alloc, address, self.own, to, self.turns) {
