@@ -228,7 +228,10 @@ fn memory<'a>(turns: &'a [SystemTurn<'a>]) -> MemorySystem<'a> {
 /// What a port of a system with these keys passes on of a datagram, both where it waits and where it waits for a time.
 fn check_passed_on(rt: &impl Abort, alloc: Global, datagram: &[u8], keys: &Keys, wanted: &[u8]) {
     let from = SocketAddr::new(IpAddr::V4(Ipv4Addr::new(127, 0, 0, 1)), 7702);
-    let turns = [SystemTurn::Comes(from, datagram), SystemTurn::Comes(from, datagram)];
+    let turns = [
+        SystemTurn::Comes(from, datagram),
+        SystemTurn::Comes(from, datagram),
+    ];
     let below = memory(&turns);
     let system = KeyedSystem::over(&below, keys);
     let mut timeline = MemoryTimeline::new(alloc, None);
