@@ -1,24 +1,20 @@
 -- What happens at a system with keys, by what happens below.
-use Rattle.std.proofs.Common.{◌≡◌, ◌≤◌, ◌<◌, ◌+◌, ◌++◌, ◌∷◌, [], ℕ, Bool, true, false, List, Option, Some, None, Result, Ok, Err, cond, length, map, take, refl, sym, ap, subst, ◌∙◌, arith}
-use Rattle.std.specs.Prelude.{Vec, OnErr}
+use Rattle.std.proofs.Common.{◌≡◌, ◌++◌, ◌∷◌, [], ℕ, Bool, true, false, List, Option, Some, None, Result, Ok, Err, cond, map, refl, sym, ap, subst, ◌∙◌}
 use Rattle.std.specs.Str.{bytes_eq}
 use Rattle.std.specs.declared.net.socket_addr.SocketAddr.{SocketAddr}
-use Rattle.std.specs.declared.time.Duration.{Duration}
 use Rattle.std.proofs.lemmas.List.{map-append}
 use Rattle.std.proofs.lemmas.Slice.Eq.{bytes_eq-Decides}
-use Rattle.system_io.specs.Failures.{Risen}
 use Rattle.system_io.specs.Histories.{Passes}
 use Rattle.system_io.specs.Recipients.{address_named}
 use Rattle.system_io.specs.declared.recipient.Recipient.{Recipient}
-use Rattle.system_io.specs.declared.record_store.Entry.{Entry}
-use Rattle.timeline.specs.Events.{Came, Event, Flushed, IsWritten, Noted, Refused, Sent, by_result, came_in_time, came_or_missed, commit_event, sent_to, sent_to_each}
-use Rattle.timeline.specs.Outsides.{Adds, AddsSome, HeardNothing, Outside, PortState, SendsToSame, sent_by}
+use Rattle.timeline.specs.Events.{Came, Event, Flushed, IsWritten, Noted, Refused, Sent, by_result, sent_to, sent_to_each}
+use Rattle.timeline.specs.Outsides.{Adds, AddsSome, Outside, PortState, sent_by}
 use Rattle.timeline.specs.declared.stream.Stream.{Stream}
-use Rattle.sealed_port.specs.KeyedSystems.{KeyedSystemView, has_left_out, is_left_out, keyed_events, keyed_outside, keyed_state, left_out_line, outside_with, seen}
+use Rattle.sealed_port.specs.KeyedSystems.{KeyedSystemView, has_left_out, is_left_out, keyed_events, keyed_outside, left_out_line, outside_with, seen}
 use Rattle.sealed_port.specs.Sealing.{is_sealed_by, opened, sealed}
 use Rattle.sealed_port.specs.declared.keyed_system.KeyedPort.{KeyedPort}
 use Rattle.sealed_port.specs.declared.seal_port.Keys.{Keys}
-use Rattle.sealed_port.proofs.Opening.{counted_le, counted_risen, opens_sealed}
+use Rattle.sealed_port.proofs.Opening.{opens_sealed}
 
 -- ---- one after another
 
@@ -58,6 +54,10 @@ adds_seen keys o a b more h = passes_seen keys (o.events a) (o.events b) more h
 pub adds_as : {T P F K S L : Type 0} (keys : Keys) (o : Outside T P F K S L) (a b : T) (below above : List Event) → map (seen keys) below ≡ above → Adds o a b below → Adds (keyed_outside keys o) a b above
 adds_as keys o a b below above e h = subst (Adds (keyed_outside keys o) a b) e (adds_seen keys o a b below h)
 
+-- a system with these keys
+abbrev over : {V : Type 0} → V → Keys → KeyedSystemView V
+over system keys = record { system = system; keys = keys }
+
 -- an event that is seen as it is
 pub adds_one : {V T P F K S L : Type 0} (outside : V → Outside T P F K S L) (k : KeyedSystemView V) (a b : T) (e : Event) → seen k.keys e ≡ e → Adds (outside k.system) a b (e ∷ []) → Adds (outside_with outside k) a b (e ∷ [])
 adds_one outside k a b e same h = adds_as k.keys (outside k.system) a b (e ∷ []) (e ∷ []) (ap (λ (x : Event). x ∷ []) same) h
@@ -76,8 +76,10 @@ passes_left_out keys (Some a) (Some b) more h =
     (subst (λ (is : Bool). Passes (keyed_events keys (Some a)) (unless keys is (a ++ Noted left_out_line ∷ [])) more) (sym (left_out_either a (Noted left_out_line ∷ []) ∙ noted_left_out (has_left_out a))) (passes_none (keyed_events keys (Some a)) more))
 
 -- from then on all that is added is so
-pub adds_left_out : {V T P F K S L : Type 0} (outside : V → Outside T P F K S L) (k : KeyedSystemView V) (a b : T) (more : List Event) → Adds (outside k.system) a b (Noted left_out_line ∷ []) → Adds (outside_with outside k) a b more
-adds_left_out outside k a b more h = passes_left_out k.keys ((outside k.system).events a) ((outside k.system).events b) more h
+pub adds_left_out : {V T P F K S L : Type 0} (outside : V → Outside T P F K S L) (system : V) (keys : Keys) (k : KeyedSystemView V) (a b : T) (more : List Event) → over system keys ≡ k
+    → Adds (outside system) a b (Noted left_out_line ∷ []) → Adds (outside_with outside k) a b more
+adds_left_out {V} outside system keys k a b more is h =
+    subst (λ (v : KeyedSystemView V). Adds (outside_with outside v) a b more) is (passes_left_out keys ((outside system).events a) ((outside system).events b) more h)
 
 -- ---- events that are seen as they are
 
@@ -85,17 +87,21 @@ flush_seen : {A E : Type 0} (keys : Keys) (r : Result A E) (to : Stream) → see
 flush_seen keys (Ok a) to = refl
 flush_seen keys (Err e) to = refl
 
-pub adds_flushed : {A E V T P F K S L : Type 0} (outside : V → Outside T P F K S L) (k : KeyedSystemView V) (a b : T) (to : Stream) (r : Result A E)
-    → Adds (outside k.system) a b (by_result r (λ _. Flushed to) (Refused to) ∷ []) → Adds (outside_with outside k) a b (by_result r (λ _. Flushed to) (Refused to) ∷ [])
-adds_flushed outside k a b to r h = adds_one outside k a b (by_result r (λ _. Flushed to) (Refused to)) (flush_seen k.keys r to) h
+pub adds_flushed : {A E V T P F K S L : Type 0} (outside : V → Outside T P F K S L) (system : V) (keys : Keys) (k : KeyedSystemView V) (a b : T) (to : Stream) (r : Result A E) → over system keys ≡ k
+    → Adds (outside system) a b (by_result r (λ _. Flushed to) (Refused to) ∷ []) → Adds (outside_with outside k) a b (by_result r (λ _. Flushed to) (Refused to) ∷ [])
+adds_flushed {A} {E} {V} outside system keys k a b to r is h =
+    subst (λ (v : KeyedSystemView V). Adds (outside_with outside v) a b (by_result r (λ _. Flushed to) (Refused to) ∷ [])) is
+    (adds_one outside (over system keys) a b (by_result r (λ _. Flushed to) (Refused to)) (flush_seen keys r to) h)
 
 written_seen : {A E : Type 0} (keys : Keys) (to : Stream) (bytes : List ℕ) (r : Result A E) (more : List Event) → IsWritten to bytes r more → IsWritten to bytes r (map (seen keys) more)
 written_seen keys to bytes (Ok a) more h = ap (map (seen keys)) h
 written_seen keys to bytes (Err e) more h = (h.0, ap (map (seen keys)) h.1)
 
-pub adds_written : {A E V T P F K S L : Type 0} (outside : V → Outside T P F K S L) (k : KeyedSystemView V) (a b : T) (to : Stream) (bytes : List ℕ) (r : Result A E)
-    → AddsSome (outside k.system) a b (IsWritten to bytes r) → AddsSome (outside_with outside k) a b (IsWritten to bytes r)
-adds_written outside k a b to bytes r h = (map (seen k.keys) h.0, adds_seen k.keys (outside k.system) a b h.0 h.1, written_seen k.keys to bytes r h.0 h.2)
+pub adds_written : {A E V T P F K S L : Type 0} (outside : V → Outside T P F K S L) (system : V) (keys : Keys) (k : KeyedSystemView V) (a b : T) (to : Stream) (bytes : List ℕ) (r : Result A E) → over system keys ≡ k
+    → AddsSome (outside system) a b (IsWritten to bytes r) → AddsSome (outside_with outside k) a b (IsWritten to bytes r)
+adds_written {A} {E} {V} outside system keys k a b to bytes r is h =
+    subst (λ (v : KeyedSystemView V). AddsSome (outside_with outside v) a b (IsWritten to bytes r)) is
+    (map (seen keys) h.0, adds_seen keys (outside system) a b h.0 h.1, written_seen keys to bytes r h.0 h.2)
 
 -- ---- datagrams
 
@@ -112,13 +118,22 @@ seen_each keys sender (who ∷ others) bytes =
     one (Some address) = ap (λ (b : List ℕ). Sent address b ∷ []) (opens_sealed keys.first bytes)
 
 -- a datagram with its tag is seen without it
-pub adds_sent : {V T P F K S L : Type 0} (outside : V → Outside T P F K S L) (k : KeyedSystemView V) (a b : T) (port : KeyedPort P) (bytes datagram : List ℕ) → datagram ≡ sealed k.keys.first bytes
-    → Adds (outside k.system) a b (sent_by ((outside k.system).port port.port) datagram) → Adds (outside_with outside k) a b (sent_by ((outside_with outside k).port port) bytes)
-adds_sent outside k a b port bytes datagram is h =
-    let state : PortState = (outside k.system).port port.port in
-    adds_as k.keys (outside k.system) a b (sent_by state datagram) (sent_by state bytes) (ap (λ (d : List ℕ). map (seen k.keys) (sent_by state d)) is ∙ seen_each k.keys state.sender state.to bytes) h
+sent_seen : {T P F K S L : Type 0} (keys : Keys) (o : Outside T P F K S L) (a b : T) (state : PortState) (bytes datagram : List ℕ) → datagram ≡ sealed keys.first bytes
+    → Adds o a b (sent_by state datagram) → Adds (keyed_outside keys o) a b (sent_by state bytes)
+sent_seen keys o a b state bytes datagram is h =
+    adds_as keys o a b (sent_by state datagram) (sent_by state bytes) (ap (λ (d : List ℕ). map (seen keys) (sent_by state d)) is ∙ seen_each keys state.sender state.to bytes) h
+
+pub adds_sent : {V T P F K S L : Type 0} (outside : V → Outside T P F K S L) (system : V) (keys : Keys) (k : KeyedSystemView V) (a b : T) (port : KeyedPort P) (bytes datagram : List ℕ) → over system keys ≡ k → datagram ≡ sealed keys.first bytes
+    → Adds (outside system) a b (sent_by ((outside system).port port.port) datagram) → Adds (outside_with outside k) a b (sent_by ((outside_with outside k).port port) bytes)
+adds_sent {V} outside system keys k a b port bytes datagram is tagged h =
+    subst (λ (v : KeyedSystemView V). Adds (outside_with outside v) a b (sent_by ((outside_with outside v).port port) bytes)) is
+    (sent_seen keys (outside system) a b ((outside system).port port.port) bytes datagram tagged h)
 
 -- one that came is seen as what is passed on of it
-pub adds_came : {V T P F K S L : Type 0} (outside : V → Outside T P F K S L) (k : KeyedSystemView V) (a b : T) (from : Option SocketAddr) (bytes passed : List ℕ) → passed ≡ opened (is_sealed_by k.keys bytes) bytes
-    → Adds (outside k.system) a b (Came from bytes ∷ []) → Adds (outside_with outside k) a b (Came from passed ∷ [])
-adds_came outside k a b from bytes passed is h = adds_as k.keys (outside k.system) a b (Came from bytes ∷ []) (Came from passed ∷ []) (ap (λ (d : List ℕ). Came from d ∷ []) (sym is)) h
+pub adds_came : {V T P F K S L : Type 0} (outside : V → Outside T P F K S L) (system : V) (keys : Keys) (k : KeyedSystemView V) (a b : T) (port : KeyedPort P) (bytes passed : List ℕ) → over system keys ≡ k
+    → passed ≡ opened (is_sealed_by keys bytes) bytes → Adds (outside system) a b (Came ((outside system).port port.port).sender bytes ∷ [])
+    → Adds (outside_with outside k) a b (Came ((outside_with outside k).port port).sender passed ∷ [])
+adds_came {V} outside system keys k a b port bytes passed is opens h =
+    let from : Option SocketAddr = ((outside system).port port.port).sender in
+    subst (λ (v : KeyedSystemView V). Adds (outside_with outside v) a b (Came ((outside_with outside v).port port).sender passed ∷ [])) is
+    (adds_as keys (outside system) a b (Came from bytes ∷ []) (Came from passed ∷ []) (ap (λ (d : List ℕ). Came from d ∷ []) (sym opens)) h)

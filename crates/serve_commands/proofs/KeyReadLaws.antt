@@ -1,7 +1,6 @@
 -- Keys that are read, or not.
-use Rattle.std.proofs.Common.{◌≡◌, ◌∷◌, [], ℕ, List, ap, refl, subst, sym}
+use Rattle.std.proofs.Common.{◌≡◌, ◌∷◌, [], ℕ, List, refl, subst, sym}
 use Rattle.std.specs.Prelude.{Result, Ok, Err}
-use Rattle.answer_parts.specs.Lines.{refusal_words}
 use Rattle.answer_parts.specs.declared.answers.refusals.Refusal.{Refusal}
 use Rattle.sealed_port.specs.declared.seal_port.Keys.{Keys}
 use Rattle.serve_commands.specs.KeyReads.{GivesKeysOf, KeysAre, KeysRead, KeysUnread, LineAtFault, OthersMay, ReadsKeys, unread_keys}
