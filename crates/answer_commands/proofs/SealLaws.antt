@@ -1,5 +1,5 @@
 -- What is noted and written where there are no keys.
-use Rattle.std.proofs.Common.{◌≡◌, ◌∷◌, ◌++◌, [], List, Some, ap, refl, subst}
+use Rattle.std.proofs.Common.{◌≡◌, ◌∷◌, ◌++◌, [], ℕ, List, Some, refl, subst}
 use Rattle.std.specs.Prelude.{Result, Ok, Err, IfOk, String, string_bytes}
 use Rattle.std.specs.Global.{Global}
 use Rattle.answer_commands.specs.Sealed.{IsNoted, NotNoted, NotesKeys, RefusesKeys, key_note, noted_if}

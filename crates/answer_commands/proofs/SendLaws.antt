@@ -27,17 +27,15 @@ use Rattle.system_io.specs.declared.host.BindFault.TheVariants as bind
 use Rattle.system_io.specs.declared.output.WriteFault.{WriteFault}
 use Rattle.system_io.specs.declared.reading.ReadFault.{ReadFault}
 use Rattle.timeline.proofs.EventLaws.{adds_more, adds_none}
-use Rattle.timeline.specs.Events.{Event, Flushed, FromInput, IsWritten, LinesOpened, Noted, PortBound, Refused, Wrote, done_by}
-use Rattle.timeline.specs.Outsides.{Adds, AddsSome, Outside}
+use Rattle.timeline.specs.Events.{Event, Flushed, FromInput, IsWritten, LinesOpened, Noted, PortBound, Refused, Wrote, by_result, done_by}
+use Rattle.timeline.specs.Outsides.{Adds, AddsSome, AreNamed, Outside}
 use Rattle.timeline.specs.declared.stream.Stream.TheVariants.{Errors, Output}
 
 -- ---- who was silent
 
-pub second_out : {T P F K S L : Type 0} (o : Outside T P F K S L) (a b c : T) (known : Known) → Adds o a b (Wrote Errors (silence_b known) ∷ []) → Adds o b c (Flushed Errors ∷ []) → AddsSome o a c (WritesSecond known)
-second_out o a b c known p q = (Wrote Errors (silence_b known) ∷ Flushed Errors ∷ [], adds_more o a b c (Wrote Errors (silence_b known) ∷ []) (Flushed Errors ∷ []) p q, IsOut refl)
-
-pub second_stuck : {T P F K S L : Type 0} (o : Outside T P F K S L) (a b c : T) (known : Known) → Adds o a b (Wrote Errors (silence_b known) ∷ []) → Adds o b c (Refused Errors ∷ []) → AddsSome o a c (WritesSecond known)
-second_stuck o a b c known p q = (Wrote Errors (silence_b known) ∷ Refused Errors ∷ [], adds_more o a b c (Wrote Errors (silence_b known) ∷ []) (Refused Errors ∷ []) p q, IsStuck refl)
+pub second_out : {T P F K S L : Type 0} (o : Outside T P F K S L) (a b c : T) (known : Known) (r : Result (Unit {0}) WriteFault) → Adds o a b (Wrote Errors (silence_b known) ∷ []) → Adds o b c (by_result r (λ _. Flushed Errors) (Refused Errors) ∷ []) → AddsSome o a c (WritesSecond known)
+second_out o a b c known (Ok done) p q = (Wrote Errors (silence_b known) ∷ Flushed Errors ∷ [], adds_more o a b c (Wrote Errors (silence_b known) ∷ []) (Flushed Errors ∷ []) p q, IsOut refl)
+second_out o a b c known (Err fault) p q = (Wrote Errors (silence_b known) ∷ Refused Errors ∷ [], adds_more o a b c (Wrote Errors (silence_b known) ∷ []) (Refused Errors ∷ []) p q, IsStuck refl)
 
 -- a line that a write took whole, or a front of it
 pub line_whole : {T P F K S L : Type 0} (o : Outside T P F K S L) (a b : T) (bytes : List ℕ) → AddsSome o a b (IsWritten {A = Unit {0}} {E = WriteFault} Errors bytes (Ok tt)) → Adds o a b (Wrote Errors bytes ∷ [])
@@ -87,12 +85,12 @@ run_performs o a b cause g start input (Err fault) q = (q.0, q.1, by_line (game_
     by_line l = (l.before ++ gone_out l.words, l.is, l.does, cut_at_line l.before l.words l.out l.lost l.all)
 
 -- the run ended, and then it was said who was silent
-pub ran_at : {T P F K S L : Type 0} (o : Outside T P F K S L) (a b c d : T) (t : Send) (game : GameSent) (port : P) (lines : L) (terms : SendConfig) (done : Ended) → AreOfInput o lines → AreTerms t game.stamp terms
-    → Adds o a b (LinesOpened FromInput true ∷ []) → AddsSome o b c (Performs (RunsAt o terms game port lines) (Ok done)) → AddsSome o c d (TellsSilent done) → AddsSome o a d (Performs (SendsAt o t game port) (Ok (ended_status done)))
-ran_at o a b c d t game port lines terms done input on p q r = (
+pub ran_at : {T P F K S L : Type 0} (o : Outside T P F K S L) (a b c d : T) (t : Send) (game : GameSent) (port : P) (lines : L) (terms : SendConfig) (done : Ended) (status : ℕ) → AreOfInput o lines → AreTerms t game.stamp terms
+    → Adds o a b (LinesOpened FromInput true ∷ []) → AddsSome o b c (λ events. RunsAt o terms game port lines events (Some done)) → AddsSome o c d (TellsSilent done) → status ≡ ended_status done → AddsSome o a d (Performs (SendsAt o t game port) (Ok status))
+ran_at o a b c d t game port lines terms done status input on p q r is = (
   LinesOpened FromInput true ∷ q.0 ++ r.0,
   adds_more o a b d (LinesOpened FromInput true ∷ []) (q.0 ++ r.0) p (adds_more o b c d q.0 r.0 q.1 r.1),
-  Ran lines input terms on done q.0 r.0 q.2 r.2 refl refl,
+  Ran lines input terms on done q.0 r.0 q.2 r.2 refl (ap Some is),
 )
 
 -- the output failed on the way
@@ -118,9 +116,16 @@ no_lines o a b c t game port r memory p q = then_prints o a b c (LinesOpened Fro
 -- ---- its port
 
 -- it is asked for
-pub bound_by : {T P F K S L : Type 0} (o : Outside T P F K S L) (a b : T) (t : Send) (r : Result P BindFault) → IfOk r (λ port. IsPortOf o t port) → IfErr r (o.refuses_port t.bind.now) → Adds o a b (PortBound t.bind.now (addresses_of t.to.now) (done_by r) ∷ []) → AddsSome o a b (BindsPort o t r)
-bound_by o a b t (Ok port) is why p = (PortBound t.bind.now (addresses_of t.to.now) (Ok tt) ∷ [], p, IsBound port is refl refl)
-bound_by o a b t (Err fault) is why p = (PortBound t.bind.now (addresses_of t.to.now) (Err fault) ∷ [], p, NotBound fault why refl refl)
+pub bound_by : {T P F K S L : Type 0} (o : Outside T P F K S L) (a b : T) (t : Send) (all : List (List ℕ)) (r : Result P BindFault) → addresses_of t.to.now ≡ all
+    → IfOk r (λ port. (o.port port).address ≡ t.bind.now) → IfOk r (λ port. AreNamed (o.port port).own all (o.port port).to) → IfErr r (o.refuses_port t.bind.now)
+    → Adds o a b (PortBound t.bind.now all (done_by r) ∷ []) → AddsSome o a b (BindsPort o t r)
+bound_by o a b t all (Ok port) is at each why p =
+    let named : AreNamed (o.port port).own (addresses_of t.to.now) (o.port port).to = subst (λ words. AreNamed (o.port port).own words (o.port port).to) (sym is) each in
+    let made : Adds o a b (PortBound t.bind.now (addresses_of t.to.now) (Ok tt) ∷ []) = subst (λ words. Adds o a b (PortBound t.bind.now words (Ok tt) ∷ [])) (sym is) p in
+    (PortBound t.bind.now (addresses_of t.to.now) (Ok tt) ∷ [], made, IsBound port (record { at = at; to = named }) refl refl)
+bound_by o a b t all (Err fault) is at each why p =
+    let made : Adds o a b (PortBound t.bind.now (addresses_of t.to.now) (Err fault) ∷ []) = subst (λ words. Adds o a b (PortBound t.bind.now words (Err fault) ∷ [])) (sym is) p in
+    (PortBound t.bind.now (addresses_of t.to.now) (Err fault) ∷ [], made, NotBound fault why refl refl)
 
 pub no_addresses : {T P F K S L : Type 0} (o : Outside T P F K S L) (a : T) (t : Send) → 1 < length (addresses_of t.to.now) → AddsSome o a a (BindsPort o t (Err bind.OutOfMemory))
 no_addresses o a t many = ([], adds_none o a, NoRoomForAddresses many refl refl)

@@ -24,4 +24,5 @@ game_with stamp start = record { stamp = stamp; start = start }
 -- a game whose manifest was read
 pub stamped : (disk : DiskFacts) (t : Send) (g : ToldGame) (start : Parts) (manifest : List ℕ) (stamp : Stamp) (events : List Event) → SpellsPosition g.start.now start → IsPosition start
     → ReadsStamping disk (option_map (λ s. s.now) t.manifest) g.tables.now (Ok manifest) events → stamp ≡ stamp_of g.name (fen_of start) manifest t.delay → ReadsToldGame disk t g (Ok (record { stamp = stamp; start = start })) events
+unfolding game_with
 stamped disk t g start manifest stamp events spells legal reads is = IsStamped start manifest spells legal reads (ap (λ (s : Stamp). Ok (game_with s start)) is)

@@ -7,7 +7,7 @@ use Rattle.answer_commands.proofs.sealing.answer_sealed.Goals as goal
 
 pub returns-in-Ok : goal.returns-in-Ok
 returns-in-Ok g c =
-    let answered = subst (λ v. Answers c.args.task.now (outside_with g.S.System.outside v) _ _ c.answer_bare.result) c.over-sealed.ensures c.answer_bare.ensures in
+    let answered = subst (λ v. Answers c.args.task.now (outside_with g.S.System.outside v) c.read_keys.new.timeline c.answer_bare.new.timeline c.answer_bare.result) c.over-sealed.ensures c.answer_bare.ensures in
     BySeal c.in-Ok.keys _ c.in-Ok.ensures answered
 
 pub returns-in-Err : goal.returns-in-Err
