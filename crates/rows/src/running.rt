@@ -161,7 +161,7 @@ fn ended(
     refusals: Refusals,
 ) -> Result<Ending, AllocError> {
     match case.call {
-        Call::Lines => counted_over(alloc, case, refusals),
+        Call::Lines => counted_over(alloc, case, disk, refusals),
         _ => ended_over(alloc, case, disk, refusals),
     }
 }

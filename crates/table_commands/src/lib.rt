@@ -38,6 +38,7 @@ mod line_tasks;
 pub mod pgn;
 pub mod probe;
 mod probes;
+mod questions;
 pub mod root;
 
 pub use folders::{OpenFolder, arena_for};
