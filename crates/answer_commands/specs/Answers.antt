@@ -10,21 +10,17 @@ use Rattle.answer_commands.specs.Listing.{list_reply}
 use Rattle.answer_commands.specs.Moves.{PrintsMoves}
 use Rattle.answer_commands.specs.Endings.{Ends}
 use Rattle.answer_commands.specs.Records.{audit_asking, record_asking}
-use Rattle.answer_commands.specs.Replies.{RepliesTo, making_by, replying_by}
+use Rattle.answer_commands.specs.Replies.{RepliesBy, RepliesTo}
+use Rattle.answer_commands.specs.TableReplies.{DoesByTables}
 use Rattle.answer_commands.specs.Run.{RunsSchedule}
 use Rattle.answer_commands.specs.Show.{ShowsMessages}
-use Rattle.answer_commands.specs.TableReplies.{RanksMoves, game_making, judge_making, probe_making}
 use Rattle.game_reports.specs.Audits.{AuditsGames}
 use Rattle.game_reports.specs.GameRecords.{PrintsGameRecord}
 use Rattle.game_reports.specs.Statuses.{ReportsStatus}
-use Rattle.table_commands.specs.Follow.{FollowsGame}
-use Rattle.table_commands.specs.Games.{games_asking}
-use Rattle.table_commands.specs.LineTasks.{AnswersLinesOf}
-use Rattle.table_commands.specs.Pgn.{JudgesPgn}
-use Rattle.table_commands.specs.Probes.{probes_asking}
 use Rattle.answer_commands.specs.Version.{PrintsVersion}
 use Rattle.answer_commands.specs.declared.answering.AnswerTask.{AnswerTask}
 use Rattle.answer_commands.specs.declared.answering.AnswerTask.TheVariants as answer
+use Rattle.answer_commands.specs.declared.by_tables.TableTask.TheVariants as table
 
 -- the tasks that are answered once
 abbrev pub answered_once : Task → Option AnswerTask
@@ -36,15 +32,15 @@ answered_once (task.Record t) = Some (answer.Record t)
 answered_once (task.Audit t) = Some (answer.Audit t)
 answered_once (task.List t) = Some (answer.List t)
 answered_once (task.Check t) = Some (answer.Check t)
-answered_once (task.Judge t) = Some (answer.Judge t)
-answered_once (task.Probe t) = Some (answer.Probe t)
+answered_once (task.Judge t) = Some (answer.Table (table.Judge t))
+answered_once (task.Probe t) = Some (answer.Table (table.Probe t))
 answered_once (task.Enter t) = Some (answer.Enter t)
-answered_once (task.Probes t) = Some (answer.Probes t)
-answered_once (task.Root t) = Some (answer.Root t)
-answered_once (task.Game t) = Some (answer.Game t)
-answered_once (task.Games t) = Some (answer.Games t)
-answered_once (task.Pgn t) = Some (answer.Pgn t)
-answered_once (task.Follow t) = Some (answer.Follow t)
+answered_once (task.Probes t) = Some (answer.Table (table.Probes t))
+answered_once (task.Root t) = Some (answer.Table (table.Root t))
+answered_once (task.Game t) = Some (answer.Table (table.Game t))
+answered_once (task.Games t) = Some (answer.Table (table.Games t))
+answered_once (task.Pgn t) = Some (answer.Table (table.Pgn t))
+answered_once (task.Follow t) = Some (answer.Table (table.Follow t))
 answered_once (task.Status t) = Some (answer.Status t)
 answered_once (task.GameRecord t) = Some (answer.GameRecord t)
 answered_once (task.AuditGames t) = Some (answer.AuditGames t)
@@ -61,19 +57,12 @@ Does o answer.Version events status = PrintsVersion events status
 Does o answer.Show events status = ShowsMessages o.input events status
 Does o (answer.Moves t) events status = PrintsMoves t events status
 Does o (answer.Run t) events status = RunsSchedule o t events status
-Does o (answer.Record t) events status = RepliesTo (replying_by o (record_asking t)) events status
-Does o (answer.Audit t) events status = RepliesTo (replying_by o (audit_asking t)) events status
+Does o (answer.Record t) events status = RepliesBy o (record_asking t) events status
+Does o (answer.Audit t) events status = RepliesBy o (audit_asking t) events status
 Does o (answer.List t) events status = RepliesTo (list_reply o.disk t) events status
 Does o (answer.Check t) events status = RepliesTo (check_reply o.disk t) events status
-Does o (answer.Judge t) events status = RepliesTo (making_by o (judge_making t)) events status
-Does o (answer.Probe t) events status = RepliesTo (making_by o (probe_making t)) events status
+Does o (answer.Table t) events status = DoesByTables o t events status
 Does o (answer.Enter t) events status = EntersGames o t events status
-Does o (answer.Probes t) events status = AnswersLinesOf o (probes_asking t) events status
-Does o (answer.Root t) events status = RanksMoves o t events status
-Does o (answer.Game t) events status = RepliesTo (making_by o (game_making t)) events status
-Does o (answer.Games t) events status = AnswersLinesOf o (games_asking t) events status
-Does o (answer.Pgn t) events status = JudgesPgn o t events status
-Does o (answer.Follow t) events status = FollowsGame o t events status
 Does o (answer.Status t) events status = ReportsStatus o t events status
 Does o (answer.GameRecord t) events status = PrintsGameRecord o t events status
 Does o (answer.AuditGames t) events status = AuditsGames o t events status

@@ -1,11 +1,11 @@
 -- `check --manifest FILE [--progress] DIR`: whether the tables in a folder are those of a manifest (this project's own).
-use Rattle.std.specs.Prelude.{◌≡◌, List, [], map, Option, Some, None, Ok, Err}
+use Rattle.std.specs.Prelude.{◌≡◌, ℕ, List, [], map, Option, Some, None, Ok, Err}
 use Rattle.move_msg.specs.Files.{File}
 use Rattle.move_msg.specs.TextLines.{text_of}
 use Rattle.move_msg.specs.ToldManifests.{ToldManifest}
 use Rattle.answer_parts.specs.Lines.{refused_manifest}
 use Rattle.answer_parts.specs.Looks.{Look, are_tables, look_for, look_line}
-use Rattle.answer_commands.specs.Replies.{Replying}
+use Rattle.answer_commands.specs.Replies.{RepliesTo, Replying}
 use Rattle.move_msg.specs.ToldBy.{told_by}
 use Rattle.move_msg.specs.declared.told.Manifest.{Manifest}
 use Rattle.system_io.specs.Disks.{DiskFacts}
@@ -13,6 +13,8 @@ use Rattle.task_files.specs.InputReads.{Gives, ReadsManifest, Then}
 use Rattle.task_files.specs.TableLooks.{LooksInFolder}
 use Rattle.answer_parts.specs.Reply.{Reply, refusal_reply, status_if}
 use Rattle.command_line.specs.declared.commands.check.Check.{Check}
+use Rattle.timeline.specs.Events.{Event}
+use Rattle.timeline.specs.Outsides.{Outside}
 
 -- a line for each line of the manifest, in its order, and whether all files are there and as they should be
 abbrev pub checked : List Look → Reply
@@ -35,6 +37,9 @@ folder_reply disk t manifest = record {
   IsReply = λ c r. r ≡ checked_by c.files c.told;
   TakesMemory = λ c. Unit {0};
 }
+
+abbrev pub ChecksFolder : {T P F K S L : Type 0} → Outside T P F K S L → Check → Manifest → List Event → Option ℕ → Type 0
+ChecksFolder o t manifest = RepliesTo (folder_reply o.disk t manifest)
 
 -- the manifest is read, and then its files
 abbrev pub check_reply : DiskFacts → Check → Replying Checked

@@ -84,10 +84,14 @@ pub data ByManifest (disk : DiskFacts) (t : Enter) (Next : List ℕ → Doing) (
   Stamped : (manifest : List ℕ) (reading rest : List Event) → ReadsStamping disk (option_map (λ s. s.now) t.manifest) t.tables.now (Ok manifest) reading → Next manifest rest status → events ≡ reading ++ rest → ByManifest disk t Next events status
   Unstamped : (words : List ℕ) (reading : List Event) → ReadsStamping disk (option_map (λ s. s.now) t.manifest) t.tables.now (Err words) reading → events ≡ reading ++ printed (words ∷ []) → status ≡ Some 1 → ByManifest disk t Next events status
 
+-- from this start it is entered by the manifest
+abbrev pub EntersBy : {T P F K S L : Type 0} → Outside T P F K S L → Enter → OneGame → Parts → Doing
+EntersBy o t g start = ByManifest o.disk t (λ manifest. PutsGame o (placed t manifest) (entered g start))
+
 -- the text of the start is no position, and nothing is read; or else the game is entered by the manifest
 pub data EntersOne {T P F K S L : Type 0} (o : Outside T P F K S L) (t : Enter) (g : OneGame) (events : List Event) (status : Option ℕ) : Type 0 where
   BadStart : (fault : FenFault) → IsFirstFenFault g.start.now fault → Prints (refused_fen fault ∷ []) 1 events status → EntersOne o t g events status
-  FromStart : (start : Parts) → SpellsPosition g.start.now start → IsPosition start → ByManifest o.disk t (λ manifest. PutsGame o (placed t manifest) (entered g start)) events status → EntersOne o t g events status
+  FromStart : (start : Parts) → SpellsPosition g.start.now start → IsPosition start → EntersBy o t g start events status → EntersOne o t g events status
 
 -- ---- the games of a list
 

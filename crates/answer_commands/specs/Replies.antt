@@ -32,6 +32,9 @@ pub record Asking : Type 1 where
 abbrev pub replying_by : {T P F K S L : Type 0} → Outside T P F K S L → Asking → Replying Given
 replying_by o t = record { Reads = ReadsGiven o t.named; IsReply = t.IsReply; TakesMemory = t.TakesMemory }
 
+abbrev pub RepliesBy : {T P F K S L : Type 0} → Outside T P F K S L → Asking → List Event → Option ℕ → Type 0
+RepliesBy o t = RepliesTo (replying_by o t)
+
 -- a task whose reply is made while more is read: what is read first, and its reply by that, with what is read for the reply
 pub record Making : Type 1 where
   pub named : Named
@@ -39,3 +42,6 @@ pub record Making : Type 1 where
 
 abbrev pub making_by : {T P F K S L : Type 0} → Outside T P F K S L → Making → Replying Reply
 making_by o t = record { Reads = Then (ReadsGiven o t.named) (t.Makes o.disk); IsReply = λ reply r. r ≡ reply; TakesMemory = λ _. ⊥ }
+
+abbrev pub MakesReply : {T P F K S L : Type 0} → Outside T P F K S L → Making → List Event → Option ℕ → Type 0
+MakesReply o t = RepliesTo (making_by o t)

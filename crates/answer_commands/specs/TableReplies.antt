@@ -1,7 +1,9 @@
 -- What is answered by tables, which may be read when positions ask for them (this project's own).
 use Rattle.std.specs.Borrow.{Bor}
 use Rattle.std.specs.Prelude.{ℕ, List, Option, Some, None}
-use Rattle.answer_commands.specs.Replies.{Making, RepliesTo, making_by}
+use Rattle.answer_commands.specs.Replies.{MakesReply, Making}
+use Rattle.answer_commands.specs.declared.by_tables.TableTask.{TableTask}
+use Rattle.answer_commands.specs.declared.by_tables.TableTask.TheVariants as table
 use Rattle.command_line.specs.Commands.Game as games
 use Rattle.command_line.specs.Commands.Judge as judges
 use Rattle.command_line.specs.Commands.Probe as probes
@@ -10,11 +12,15 @@ use Rattle.command_line.specs.declared.commands.game.FollowGame.{FollowGame}
 use Rattle.command_line.specs.declared.commands.judge.Judge.{Judge}
 use Rattle.command_line.specs.declared.commands.probe.Probe.{Probe}
 use Rattle.command_line.specs.declared.commands.root.Root.{Root}
+use Rattle.table_commands.specs.Follow.{FollowsGame}
 use Rattle.table_commands.specs.FolderReads.{Doing}
 use Rattle.table_commands.specs.Game.{PlaysGame}
+use Rattle.table_commands.specs.Games.{games_asking}
 use Rattle.table_commands.specs.Judge.{Judges}
 use Rattle.table_commands.specs.LineTasks.{AnswersLinesOf}
+use Rattle.table_commands.specs.Pgn.{JudgesPgn}
 use Rattle.table_commands.specs.Probe.{Probes}
+use Rattle.table_commands.specs.Probes.{probes_asking}
 use Rattle.table_commands.specs.Root.{RanksText, root_asking}
 use Rattle.timeline.specs.Outsides.{Outside}
 
@@ -36,8 +42,19 @@ root_making t text = record { named = roots.named t; Makes = λ disk. RanksText 
 
 -- so it is of the position of the words, or of each line of the input
 abbrev pub RanksOf : {T P F K S L : Type 0} → Outside T P F K S L → Root → Option (Bor (List ℕ)) → Doing
-RanksOf o t (Some text) = RepliesTo (making_by o (root_making t text.now))
+RanksOf o t (Some text) = MakesReply o (root_making t text.now)
 RanksOf o t None = AnswersLinesOf o (root_asking t)
 
 abbrev pub RanksMoves : {T P F K S L : Type 0} → Outside T P F K S L → Root → Doing
 RanksMoves o t = RanksOf o t t.fen
+
+-- what a command by tables does, up to the output's end
+abbrev pub DoesByTables : {T P F K S L : Type 0} → Outside T P F K S L → TableTask → Doing
+DoesByTables o (table.Judge t) = MakesReply o (judge_making t)
+DoesByTables o (table.Probe t) = MakesReply o (probe_making t)
+DoesByTables o (table.Probes t) = AnswersLinesOf o (probes_asking t)
+DoesByTables o (table.Root t) = RanksMoves o t
+DoesByTables o (table.Game t) = MakesReply o (game_making t)
+DoesByTables o (table.Games t) = AnswersLinesOf o (games_asking t)
+DoesByTables o (table.Pgn t) = JudgesPgn o t
+DoesByTables o (table.Follow t) = FollowsGame o t

@@ -3,26 +3,25 @@
 ghost use Rattle.std.specs.Prelude.{OnErr};
 ghost use Rattle.answer_commands.specs.Answers.{Answers, Does, IsOnce};
 ghost use Rattle.answer_parts.specs.Printing.{OutputFails, Performs};
-ghost use Rattle.answer_commands.specs.TableReplies.{RanksMoves};
 ghost use Rattle.timeline.specs.Outsides.{AddsSome};
 
+use crate::by_tables::{TableTask, answer_by_tables};
 use crate::check::print_check;
 use crate::entering::enter_games;
 use crate::list::print_manifest;
 use crate::moves::print_moves;
 use crate::printing::end;
-use crate::replying::{RootText, make_reply, reply_to};
+use crate::replying::reply_to;
 use crate::run::run_schedule;
 use crate::show::show_input;
 use crate::version::print_version;
 use command_line::{
-    Audit, AuditGames, Check, Enter, Follow, FollowGame, FollowGames, GameRecord, Judge, JudgePgn,
-    List, Moves, Probe, Probes, Root, RunSchedule, ShowRecord, ShowStatus, Task,
+    Audit, AuditGames, Check, Enter, GameRecord, List, Moves, RunSchedule, ShowRecord, ShowStatus,
+    Task,
 };
 use game_reports::{print_audit, print_game_record, report_status};
 use std::alloc::Global;
 use system_io::WriteFault;
-use table_commands::{answer_lines_of, follow, pgn};
 use timeline::System;
 
 /// A task that is answered once.
@@ -44,24 +43,10 @@ pub enum AnswerTask<'a> {
     List(List<'a>),
     /// Whether the tables in a folder are those of a manifest.
     Check(Check<'a>),
-    /// The verdict on a position.
-    Judge(Judge<'a>),
-    /// What tables tell of a position.
-    Probe(Probe<'a>),
+    /// What is answered by tables.
+    Table(TableTask<'a>),
     /// Games that are entered in a folder.
     Enter(Enter<'a>),
-    /// What tables tell of the positions of the input.
-    Probes(Probes<'a>),
-    /// What tables tell of the legal moves of a position, or of those of the input.
-    Root(Root<'a>),
-    /// What the game of the input comes to.
-    Game(FollowGame<'a>),
-    /// What the games of the input come to.
-    Games(FollowGames<'a>),
-    /// What tables say of the games of a PGN file.
-    Pgn(JudgePgn<'a>),
-    /// The game of the input, ply by ply.
-    Follow(Follow<'a>),
     /// How far the games of a folder have come, or those of two.
     Status(ShowStatus<'a>),
     /// The record of a game in a folder.
@@ -84,36 +69,20 @@ impl<'a> AnswerTask<'a> {
             Task::Audit(audit) => Ok(AnswerTask::Audit(audit)),
             Task::List(list) => Ok(AnswerTask::List(list)),
             Task::Check(check) => Ok(AnswerTask::Check(check)),
-            Task::Judge(judge) => Ok(AnswerTask::Judge(judge)),
-            Task::Probe(probe) => Ok(AnswerTask::Probe(probe)),
+            Task::Judge(judge) => Ok(AnswerTask::Table(TableTask::Judge(judge))),
+            Task::Probe(probe) => Ok(AnswerTask::Table(TableTask::Probe(probe))),
             Task::Enter(enter) => Ok(AnswerTask::Enter(enter)),
-            Task::Probes(probes) => Ok(AnswerTask::Probes(probes)),
-            Task::Root(root) => Ok(AnswerTask::Root(root)),
-            Task::Game(game) => Ok(AnswerTask::Game(game)),
-            Task::Games(games) => Ok(AnswerTask::Games(games)),
-            Task::Pgn(pgn) => Ok(AnswerTask::Pgn(pgn)),
-            Task::Follow(follow) => Ok(AnswerTask::Follow(follow)),
+            Task::Probes(probes) => Ok(AnswerTask::Table(TableTask::Probes(probes))),
+            Task::Root(root) => Ok(AnswerTask::Table(TableTask::Root(root))),
+            Task::Game(game) => Ok(AnswerTask::Table(TableTask::Game(game))),
+            Task::Games(games) => Ok(AnswerTask::Table(TableTask::Games(games))),
+            Task::Pgn(pgn) => Ok(AnswerTask::Table(TableTask::Pgn(pgn))),
+            Task::Follow(follow) => Ok(AnswerTask::Table(TableTask::Follow(follow))),
             Task::Status(status) => Ok(AnswerTask::Status(status)),
             Task::GameRecord(record) => Ok(AnswerTask::GameRecord(record)),
             Task::AuditGames(audit) => Ok(AnswerTask::AuditGames(audit)),
             other => Err(other),
         }
-    }
-}
-
-/// Answers the position of a task's words with its legal moves, or each line of the input.
-fn rank_moves<S: System>(
-    alloc: Global,
-    task: &Root<'_>,
-    system: &S,
-    timeline: &mut S::Timeline,
-) -> Result<u8, WriteFault>
-    ensures made { AddsSome (S.outside system.now) timeline.old timeline.new (Performs (RanksMoves (S.outside system.now) task.now) result) }
-    ensures cause { OnErr result (OutputFails (S.outside system.now)) }
-{
-    match task.fen {
-        Some(text) => make_reply(alloc, &RootText { task, text }, system, timeline),
-        None => answer_lines_of(alloc, task, system, timeline),
     }
 }
 
@@ -136,15 +105,8 @@ fn answer_task<S: System>(
         AnswerTask::Audit(task) => reply_to(alloc, task, system, timeline),
         AnswerTask::List(task) => print_manifest(alloc, task, system, timeline),
         AnswerTask::Check(task) => print_check(alloc, task, system, timeline),
-        AnswerTask::Judge(task) => make_reply(alloc, task, system, timeline),
-        AnswerTask::Probe(task) => make_reply(alloc, task, system, timeline),
+        AnswerTask::Table(task) => answer_by_tables(alloc, task, system, timeline),
         AnswerTask::Enter(task) => enter_games(alloc, task, system, timeline),
-        AnswerTask::Probes(task) => answer_lines_of(alloc, task, system, timeline),
-        AnswerTask::Root(task) => rank_moves(alloc, task, system, timeline),
-        AnswerTask::Game(task) => make_reply(alloc, task, system, timeline),
-        AnswerTask::Games(task) => answer_lines_of(alloc, task, system, timeline),
-        AnswerTask::Pgn(task) => pgn::answer(alloc, task, system, timeline),
-        AnswerTask::Follow(task) => follow::answer(alloc, task, system, timeline),
         AnswerTask::Status(task) => report_status(alloc, task, system, timeline),
         AnswerTask::GameRecord(task) => print_game_record(alloc, task, system, timeline),
         AnswerTask::AuditGames(task) => print_audit(alloc, task, system, timeline),

@@ -1,7 +1,7 @@
 //! `check`: whether the tables in a folder are those of a manifest.
 
 ghost use Rattle.std.specs.Prelude.{◌≡◌, List, map, IfOk, OnErr};
-ghost use Rattle.answer_commands.specs.Check.{check_reply, checked_by, folder_reply};
+ghost use Rattle.answer_commands.specs.Check.{ChecksFolder, check_reply, checked_by};
 ghost use Rattle.answer_commands.specs.Inside.Looking.{IsSeenOf, fault_seen, reply_seen, sight_of};
 ghost use Rattle.answer_parts.specs.Printing.{OutputFails, Performs};
 ghost use Rattle.answer_commands.specs.Replies.{RepliesTo};
@@ -98,7 +98,7 @@ fn check_folder<S: System>(
     system: &S,
     timeline: &mut S::Timeline,
 ) -> Result<u8, WriteFault>
-    ensures made { AddsSome (S.outside system.now) timeline.old timeline.new (Performs (RepliesTo (folder_reply (S.outside system.now).disk task.now manifest.now)) result) }
+    ensures made { AddsSome (S.outside system.now) timeline.old timeline.new (Performs (ChecksFolder (S.outside system.now) task.now manifest.now) result) }
     ensures cause { OnErr result (OutputFails (S.outside system.now)) }
 {
     let looked: Result<Vec<FileCheck>, ReadFault> = look_at_tables(
@@ -111,7 +111,7 @@ fn check_folder<S: System>(
     );
     match looked {
         Ok(seen) => print_replied(system, timeline, check_manifest(alloc, &seen, manifest)),
-        Err(fault) => print_unread(system, timeline, fault),
+        Err(fault) => print_unread(system, timeline, fault, 1),
     }
 }
 
@@ -128,6 +128,6 @@ pub(crate) fn print_check<S: System>(
 {
     match manifest_at(alloc, system, timeline, Some(task.manifest)) {
         Ok(manifest) => check_folder(alloc, task, &manifest, system, timeline),
-        Err(fault) => print_unread(system, timeline, fault),
+        Err(fault) => print_unread(system, timeline, fault, 1),
     }
 }

@@ -1,10 +1,10 @@
 //! The note on a game that was in a folder before it is entered there.
 
 ghost use Rattle.std.specs.Prelude.{◌≡◌, ◌↔◌, IsTrue, take, drop};
-ghost use Rattle.answer_commands.specs.Earlier.{CountsMoves, FindsCount, NotesKnown, Recounts, SeeksCount, earlier_words};
+ghost use Rattle.answer_commands.specs.Earlier.{CountsMoves, NotesKnown, Recounts, SeeksCount, earlier_words};
+ghost use Rattle.answer_commands.specs.Inside.Entering.{FindsMoves};
 ghost use Rattle.answer_commands.specs.Inside.StoreReading.{known_of};
 ghost use Rattle.hex.specs.Hex.{encode_lower};
-ghost use Rattle.system_io.specs.Records.{records_of};
 ghost use Rattle.timeline.specs.Outsides.{AddsSome};
 
 use crate::store_reading::Records;
@@ -62,7 +62,7 @@ fn find_moves<S: System>(
     path: &str,
     stamp: Stamp,
 ) -> Option<u32>
-    ensures { AddsSome (S.outside system.now) timeline.old timeline.new (FindsCount (S.outside system.now).disk path.now stamp (records_of entries.now stamp) result) }
+    ensures { AddsSome (S.outside system.now) timeline.old timeline.new (FindsMoves (S.outside system.now) path.now stamp entries.now result) }
 {
     match found_in(entries, stamp) {
         Some(bytes) => moves_in(bytes, stamp),

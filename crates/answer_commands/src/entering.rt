@@ -3,13 +3,10 @@
 ghost use Rattle.std.specs.Prelude.{◌≡◌, ◌↔◌, ◌∷◌, [], ℕ, codes, string_bytes, IfOk, IsTrue, OnErr};
 ghost use Rattle.answer_parts.specs.Lines.{refusal_words};
 ghost use Rattle.arbiter_server.specs.GameFolders.{game_path, kept_path};
-ghost use Rattle.answer_commands.specs.Earlier.{NotesEarlier};
-ghost use Rattle.answer_commands.specs.Enter.{ByManifest, EntersAll, EntersFrom, EntersGames, EntersList, EntersOne, KeepsGame, PutsGame, ReadsList, entered, keep_fault_words, placed, told_entry};
-ghost use Rattle.answer_commands.specs.Inside.Entering.{ComesOfLine, EntersNext, place_of};
-ghost use Rattle.answer_commands.specs.Inside.StoreReading.{known_of};
+ghost use Rattle.answer_commands.specs.Enter.{EntersBy, EntersFrom, EntersGames, EntersList, EntersOne, ReadsList, keep_fault_words, told_entry};
+ghost use Rattle.answer_commands.specs.Inside.Entering.{AllAt, KeepsAt, LineAt, NextAt, NotesAt, PutsAt};
 ghost use Rattle.answer_parts.specs.Printing.{ArePrinted, OutputFails, Performs, Prints};
 ghost use Rattle.hex.specs.Hex.{encode_lower};
-ghost use Rattle.move_msg.specs.TextLines.{lines_in};
 ghost use Rattle.timeline.specs.Events.{bytes_read};
 ghost use Rattle.timeline.specs.Outsides.{AddsSome};
 
@@ -71,7 +68,7 @@ fn note_earlier<S: System>(
     system: &S,
     timeline: &mut S::Timeline,
 )
-    ensures { AddsSome (S.outside system.now) timeline.old timeline.new (NotesEarlier (S.outside system.now) place.now.games.now path.now stamp (known_of records.old) (known_of records.new)) }
+    ensures { AddsSome (S.outside system.now) timeline.old timeline.new (NotesAt (S.outside system.now) place.now path.now stamp records.old records.new) }
 {
     ask_once(place.alloc, system, timeline, place.games, records);
     note_known(place.alloc, system, timeline, records, path, stamp);
@@ -87,7 +84,7 @@ fn keep_game<S: System>(
     system: &S,
     timeline: &mut S::Timeline,
 ) -> Result<(), KeepFault>
-    ensures { AddsSome (S.outside system.now) timeline.old timeline.new (KeepsGame (S.outside system.now) (place_of place.now) stamp text.now (known_of records.old) (known_of records.new) result) }
+    ensures { AddsSome (S.outside system.now) timeline.old timeline.new (KeepsAt (S.outside system.now) place.now stamp text.now records.old records.new result) }
 {
     let Ok(paths) = paths_of(place.alloc, place.games, stamp) else {
         return Err(KeepFault::OutOfMemory);
@@ -152,7 +149,7 @@ fn put_game<S: System>(
     system: &S,
     timeline: &mut S::Timeline,
 ) -> Result<u8, WriteFault>
-    ensures made { AddsSome (S.outside system.now) timeline.old timeline.new (Performs (PutsGame (S.outside system.now) (place_of place.now) (entered game.now start.now)) result) }
+    ensures made { AddsSome (S.outside system.now) timeline.old timeline.new (Performs (PutsAt (S.outside system.now) place.now game.now start.now) result) }
     ensures cause { OnErr result (OutputFails (S.outside system.now)) }
 {
     let mut records = Records::Unasked;
@@ -180,7 +177,7 @@ fn enter_from<S: System>(
     system: &S,
     timeline: &mut S::Timeline,
 ) -> Result<u8, WriteFault>
-    ensures made { AddsSome (S.outside system.now) timeline.old timeline.new (Performs (ByManifest (S.outside system.now).disk task.now (λ manifest. PutsGame (S.outside system.now) (placed task.now manifest) (entered game.now start.now))) result) }
+    ensures made { AddsSome (S.outside system.now) timeline.old timeline.new (Performs (EntersBy (S.outside system.now) task.now game.now start.now) result) }
     ensures cause { OnErr result (OutputFails (S.outside system.now)) }
 {
     match stamping_manifest(alloc, system, timeline, task.manifest, task.tables) {
@@ -232,7 +229,7 @@ fn enter_line<S: System>(
     system: &S,
     timeline: &mut S::Timeline,
 ) -> Result<Result<Stamp, EntryFault>, AllocError>
-    ensures { AddsSome (S.outside system.now) timeline.old timeline.new (ComesOfLine (S.outside system.now) (place_of place.now) line.now (known_of records.old) (known_of records.new) result) }
+    ensures { AddsSome (S.outside system.now) timeline.old timeline.new (LineAt (S.outside system.now) place.now line.now records.old records.new result) }
 {
     let game = match read_entry(line) {
         Ok(game) => game,
@@ -294,7 +291,7 @@ fn enter_next<S: System>(
     system: &S,
     timeline: &mut S::Timeline,
 ) -> Result<Step, WriteFault>
-    ensures made { AddsSome (S.outside system.now) timeline.old timeline.new (EntersNext (S.outside system.now) (place_of place.now) number line.now (known_of records.old) (known_of records.new) result) }
+    ensures made { AddsSome (S.outside system.now) timeline.old timeline.new (NextAt (S.outside system.now) place.now number line.now records.old records.new result) }
     ensures cause { OnErr result (OutputFails (S.outside system.now)) }
 {
     match enter_line(place, records, line, system, timeline) {
@@ -316,7 +313,7 @@ fn enter_lines<S: System>(
     system: &S,
     timeline: &mut S::Timeline,
 ) -> Result<u8, WriteFault>
-    ensures made { AddsSome (S.outside system.now) timeline.old timeline.new (Performs (EntersAll (S.outside system.now) (place_of place.now) (lines_in list.now)) result) }
+    ensures made { AddsSome (S.outside system.now) timeline.old timeline.new (Performs (AllAt (S.outside system.now) place.now list.now) result) }
     ensures cause { OnErr result (OutputFails (S.outside system.now)) }
 {
     let mut records = Records::Unasked;
@@ -396,7 +393,7 @@ fn enter_listed<S: System>(
 {
     match list_at(alloc, system, timeline, path) {
         Ok(list) => enter_list(alloc, task, &list, system, timeline),
-        Err(fault) => print_unread(system, timeline, fault),
+        Err(fault) => print_unread(system, timeline, fault, 1),
     }
 }
 

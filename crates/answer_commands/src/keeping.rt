@@ -1,7 +1,8 @@
 //! The text of a game in its file.
 
 ghost use Rattle.std.specs.Prelude.{◌≡◌, ◌↔◌, Some, true, IsSome, IsTrue};
-ghost use Rattle.answer_commands.specs.Keeping.{KeepsOver, KeepsText};
+ghost use Rattle.answer_commands.specs.Inside.Entering.{KeepsFound};
+ghost use Rattle.answer_commands.specs.Keeping.{KeepsText};
 ghost use Rattle.system_io.specs.KeptFiles.{bytes_of};
 ghost use Rattle.timeline.specs.Outsides.{AddsSome};
 
@@ -59,7 +60,7 @@ fn keep_over<S: System>(
     text: &[u8],
 ) -> Result<GameText, KeepFault>
     requires { ((S.outside system.now).file file.old).finds (bytes_of found.now) (bytes_of found.now) }
-    ensures { AddsSome (S.outside system.now) timeline.old timeline.new (KeepsOver (S.outside system.now) is_new file.old file.new (bytes_of found.now) text.now result) }
+    ensures { AddsSome (S.outside system.now) timeline.old timeline.new (KeepsFound (S.outside system.now) is_new file.old file.new found.now text.now result) }
 {
     if is_barred(is_new, found) {
         return Err(KeepFault::Exists);

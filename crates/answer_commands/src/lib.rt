@@ -8,7 +8,7 @@
 //! Inside: a file for each command that is made here. The others are done elsewhere: `record` and `audit` reply by what `record_commands`
 //! makes of what was read; `judge`, `probe`, `root FEN` and `game` by what `table_commands` makes of it, which may read tables meanwhile
 //! (`replying`); the commands that answer lines, `pgn` and `follow` are done by `table_commands`, and `status` and what is asked of all games
-//! by `game_reports`. `answers` has an answer before it is written, `printing` lines, refusals and the output's end, `answering` all of them.
+//! by `game_reports`. `answers` has an answer before it is written, `printing` lines, refusals and the output's end, `answering` all of them, `by_tables` those by tables.
 //! Of `enter` there are `entries` (the lines of a list), `stamping` (the manifest), `keeping` (a game's file) and `earlier` (the note on a
 //! game that was there before), and `entering` (the command).
 //!
@@ -35,6 +35,7 @@
 
 mod answering;
 mod answers;
+mod by_tables;
 mod check;
 mod earlier;
 mod entering;
@@ -51,3 +52,4 @@ mod store_reading;
 mod version;
 
 pub use answering::{AnswerTask, answer};
+pub use by_tables::TableTask;

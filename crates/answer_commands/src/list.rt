@@ -48,6 +48,6 @@ pub(crate) fn print_manifest<S: System>(
     );
     match listed {
         Ok(lines) => print_replied(system, timeline, manifest_of(alloc, &lines)),
-        Err(fault) => print_unread(system, timeline, fault),
+        Err(fault) => print_unread(system, timeline, fault, 1),
     }
 }

@@ -3,7 +3,7 @@
 ghost use Rattle.std.specs.Prelude.{◌≡◌, IfOk, OnErr};
 ghost use Rattle.answer_parts.specs.Printing.{OutputFails, Performs};
 ghost use Rattle.answer_commands.specs.Records.{audit_asking, record_asking};
-ghost use Rattle.answer_commands.specs.Replies.{Asking, Making, RepliesTo, making_by, replying_by};
+ghost use Rattle.answer_commands.specs.Replies.{Asking, MakesReply, Making, RepliesBy};
 ghost use Rattle.answer_commands.specs.TableReplies.{game_making, judge_making, probe_making, root_making};
 ghost use Rattle.answer_parts.specs.Asked.{reply_of};
 ghost use Rattle.table_commands.specs.FolderReads.{made_reply};
@@ -67,13 +67,13 @@ pub(crate) fn reply_to<R: ReplyTask, S: System>(
     system: &S,
     timeline: &mut S::Timeline,
 ) -> Result<u8, WriteFault>
-    ensures made { AddsSome (S.outside system.now) timeline.old timeline.new (Performs (RepliesTo (replying_by (S.outside system.now) (R.asking task.now))) result) }
+    ensures made { AddsSome (S.outside system.now) timeline.old timeline.new (Performs (RepliesBy (S.outside system.now) (R.asking task.now)) result) }
     ensures cause { OnErr result (OutputFails (S.outside system.now)) }
 {
     let names = task.names();
     match read_inputs(alloc, system, timeline, &names) {
         Ok(given) => print_replied(system, timeline, task.reply(alloc, &given)),
-        Err(fault) => print_unread(system, timeline, fault),
+        Err(fault) => print_unread(system, timeline, fault, 1),
     }
 }
 
@@ -185,7 +185,7 @@ pub(crate) fn make_reply<M: MakingTask, S: System>(
     system: &S,
     timeline: &mut S::Timeline,
 ) -> Result<u8, WriteFault>
-    ensures made { AddsSome (S.outside system.now) timeline.old timeline.new (Performs (RepliesTo (making_by (S.outside system.now) (M.making task.now))) result) }
+    ensures made { AddsSome (S.outside system.now) timeline.old timeline.new (Performs (MakesReply (S.outside system.now) (M.making task.now)) result) }
     ensures cause { OnErr result (OutputFails (S.outside system.now)) }
 {
     let names = task.names();
@@ -195,6 +195,6 @@ pub(crate) fn make_reply<M: MakingTask, S: System>(
             let answered = task.make(alloc, timeline, &given, &files);
             print_replied(system, timeline, answered)
         }
-        Err(fault) => print_unread(system, timeline, fault),
+        Err(fault) => print_unread(system, timeline, fault, 1),
     }
 }

@@ -229,7 +229,7 @@ fn run_input<S: System>(
 {
     match system.read_input(timeline, alloc) {
         Ok(text) => print_answered(system, timeline, answer_text(alloc, task, files, &text)),
-        Err(fault) => print_unread(system, timeline, fault),
+        Err(fault) => print_unread(system, timeline, fault, 1),
     }
 }
 
@@ -245,6 +245,6 @@ pub(crate) fn run_schedule<S: System>(
 {
     match read_files(alloc, task, system, timeline) {
         Ok(files) => run_input(alloc, task, &files, system, timeline),
-        Err(fault) => print_unread(system, timeline, fault),
+        Err(fault) => print_unread(system, timeline, fault, 1),
     }
 }

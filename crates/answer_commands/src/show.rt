@@ -84,6 +84,6 @@ pub(crate) fn show_input<S: System>(
 {
     match system.read_input(timeline, alloc) {
         Ok(stream) => show_messages(system, timeline, &stream),
-        Err(fault) => print_unread(system, timeline, fault),
+        Err(fault) => print_unread(system, timeline, fault, 1),
     }
 }

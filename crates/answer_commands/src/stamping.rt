@@ -1,10 +1,7 @@
 //! The manifest by which games are stamped that are entered.
 
-ghost use Rattle.std.specs.Prelude.{◌≡◌, ℕ, List, None, Some, option_map};
-ghost use Rattle.answer_parts.specs.Lines.{refusal_words};
-ghost use Rattle.answer_commands.specs.Inside.Entering.{stamping_taken};
-ghost use Rattle.answer_commands.specs.Stamping.{ReadsStamping};
-ghost use Rattle.line_teller.specs.ToldLines.{cut_words};
+ghost use Rattle.std.specs.Prelude.{None};
+ghost use Rattle.answer_commands.specs.Inside.Entering.{FileStamping, StampingBy, StampingOf};
 ghost use Rattle.timeline.specs.Outsides.{AddsSome};
 
 use answer_parts::Refusal;
@@ -14,16 +11,6 @@ use system_io::ReadFault;
 use task_files::look_at_tables;
 use timeline::System;
 
-/// Why something wasn't read.
-fn unread(fault: ReadFault) -> Refusal
-    ensures { refusal_words result ≡ cut_words fault }
-{
-    match fault {
-        ReadFault::Unreadable => Refusal::Files,
-        ReadFault::OutOfMemory => Refusal::Memory,
-    }
-}
-
 /// The manifest at a path.
 fn file_manifest<S: System>(
     alloc: Global,
@@ -31,11 +18,11 @@ fn file_manifest<S: System>(
     timeline: &mut S::Timeline,
     path: &str,
 ) -> Result<Vec<u8>, Refusal>
-    ensures { AddsSome (S.outside system.now) timeline.old timeline.new (λ events. (tables : List ℕ) → ReadsStamping (S.outside system.now).disk (Some path.now) tables (stamping_taken result) events) }
+    ensures { AddsSome (S.outside system.now) timeline.old timeline.new (FileStamping (S.outside system.now) path.now result) }
 {
     let text = match system.read(timeline, alloc, path) {
         Ok(text) => text,
-        Err(fault) => return Err(unread(fault)),
+        Err(fault) => return Err(Refusal::unread(fault)),
     };
     match manifest_read(alloc, &text) {
         Ok(_) => Ok(text),
@@ -51,7 +38,7 @@ fn folder_manifest<S: System>(
     timeline: &mut S::Timeline,
     folder: &str,
 ) -> Result<Vec<u8>, Refusal>
-    ensures { AddsSome (S.outside system.now) timeline.old timeline.new (ReadsStamping (S.outside system.now).disk None folder.now (stamping_taken result)) }
+    ensures { AddsSome (S.outside system.now) timeline.old timeline.new (StampingOf (S.outside system.now) None folder.now result) }
 {
     let looked: Result<Vec<Line>, ReadFault> = look_at_tables(
         alloc,
@@ -63,7 +50,7 @@ fn folder_manifest<S: System>(
     );
     let lines = match looked {
         Ok(lines) => lines,
-        Err(fault) => return Err(unread(fault)),
+        Err(fault) => return Err(Refusal::unread(fault)),
     };
     match manifest_write(alloc, &lines) {
         Ok(text) => Ok(text),
@@ -79,7 +66,7 @@ pub(crate) fn stamping_manifest<S: System>(
     named: Option<&str>,
     tables: &str,
 ) -> Result<Vec<u8>, Refusal>
-    ensures { AddsSome (S.outside system.now) timeline.old timeline.new (ReadsStamping (S.outside system.now).disk (option_map (λ s. s.now) named.entry) tables.now (stamping_taken result)) }
+    ensures { AddsSome (S.outside system.now) timeline.old timeline.new (StampingBy (S.outside system.now) named.entry tables.now result) }
 {
     match named {
         Some(path) => file_manifest(alloc, system, timeline, path),

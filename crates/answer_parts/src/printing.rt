@@ -49,18 +49,19 @@ pub fn print_refusal<S: System>(
     }
 }
 
-/// Writes why something wasn't read, and returns the status 1.
-pub fn print_unread<S: System>(
+/// Writes why something wasn't read, and returns what comes of that: of a command the status 1.
+pub fn print_unread<S: System, X: Copy>(
     system: &S,
     timeline: &mut S::Timeline,
     fault: ReadFault,
-) -> Result<u8, WriteFault>
-    ensures made { AddsSome (S.outside system.now) timeline.old timeline.new (Performs (Prints (cut_words fault ∷ []) 1) result) }
+    outcome: X,
+) -> Result<X, WriteFault>
+    ensures made { AddsSome (S.outside system.now) timeline.old timeline.new (Performs (Prints (cut_words fault ∷ []) outcome) result) }
     ensures cause { OnErr result (OutputFails (S.outside system.now)) }
 {
-    match fault {
-        ReadFault::Unreadable => print_refusal(system, timeline, Refusal::Files),
-        ReadFault::OutOfMemory => print_refusal(system, timeline, Refusal::Memory),
+    match print_refusal(system, timeline, Refusal::unread(fault)) {
+        Ok(_) => Ok(outcome),
+        Err(fault) => Err(fault),
     }
 }
 

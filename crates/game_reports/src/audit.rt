@@ -101,6 +101,6 @@ pub fn print_audit<S: System>(
     let names = task.places();
     match read_inputs(alloc, system, timeline, &names) {
         Ok(sources) => audit_by(alloc, task, &sources, system, timeline),
-        Err(fault) => print_unread(system, timeline, fault),
+        Err(fault) => print_unread(system, timeline, fault, 1),
     }
 }

@@ -56,7 +56,7 @@ fn print_filed<S: System>(
     };
     match system.read(timeline, alloc, path.as_str()) {
         Ok(bytes) => print_text(system, timeline, &bytes),
-        Err(fault) => print_unread(system, timeline, fault),
+        Err(fault) => print_unread(system, timeline, fault, 1),
     }
 }
 

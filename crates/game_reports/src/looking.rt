@@ -2,13 +2,12 @@
 
 ghost use Rattle.std.specs.Prelude.{◌≡◌, option_map, IfOk};
 ghost use Rattle.arbiter_server.specs.GameFolders.{game_path, kept_path, most_game_bytes};
-ghost use Rattle.game_reports.specs.GameLooks.{LooksBeside, ReadsEntry, ReadsLook, ReadsRecord, ReadsSide, Seeks, lack_of};
-ghost use Rattle.game_reports.specs.Inside.Looking.{found_lacking, found_or_none, record_taken};
-ghost use Rattle.game_reports.specs.Inside.Opening.{known_folder, known_folders};
+ghost use Rattle.game_reports.specs.GameLooks.{ReadsEntry, ReadsSide, lack_of};
+ghost use Rattle.game_reports.specs.Inside.Looking.{LookBeside, LookIn, RecordIn, SeeksFile, found_lacking, found_or_none};
+ghost use Rattle.game_reports.specs.Inside.Opening.{known_folder};
 ghost use Rattle.game_status.specs.Entries.{most_kept};
 ghost use Rattle.game_status.specs.GameAudits.{AreFewDelays};
 ghost use Rattle.game_status.specs.StatusObjects.{AreNamed};
-ghost use Rattle.timeline.specs.Events.{bytes_read};
 ghost use Rattle.timeline.specs.Outsides.{AddsSome};
 
 use crate::folders::{GameFolder, GameFolders};
@@ -46,7 +45,7 @@ fn seek_game<S: System>(
     folder: &str,
     stamp: Stamp,
 ) -> Result<Vec<u8>, ReadFault>
-    ensures { AddsSome (S.outside system.now) timeline.old timeline.new (Seeks (S.outside system.now).disk (game_path folder.now stamp) most_game_bytes (bytes_read result)) }
+    ensures { AddsSome (S.outside system.now) timeline.old timeline.new (SeeksFile (S.outside system.now) (game_path folder.now stamp) most_game_bytes result) }
 {
     let Ok(path) = game_path(alloc, folder, stamp) else {
         return Err(ReadFault::OutOfMemory);
@@ -62,7 +61,7 @@ fn seek_record<S: System>(
     folder: &str,
     stamp: Stamp,
 ) -> Result<Vec<u8>, ReadFault>
-    ensures { AddsSome (S.outside system.now) timeline.old timeline.new (Seeks (S.outside system.now).disk (kept_path folder.now stamp) most_kept (bytes_read result)) }
+    ensures { AddsSome (S.outside system.now) timeline.old timeline.new (SeeksFile (S.outside system.now) (kept_path folder.now stamp) most_kept result) }
 {
     let Ok(path) = kept_path(alloc, folder, stamp) else {
         return Err(ReadFault::OutOfMemory);
@@ -79,7 +78,7 @@ fn read_listed<S: System>(
     stamp: Stamp,
 ) -> Result<Option<Vec<u8>>, ReadFault>
     requires { (known_folder folder.now).records stamp ≡ None }
-    ensures { AddsSome (S.outside system.now) timeline.old timeline.new (ReadsRecord (S.outside system.now).disk (known_folder folder.now) stamp (record_taken result)) }
+    ensures { AddsSome (S.outside system.now) timeline.old timeline.new (RecordIn (S.outside system.now) folder.now stamp result) }
 {
     if !folder.kept.contains(&stamp) {
         return Ok(None);
@@ -98,7 +97,7 @@ fn read_record<S: System>(
     folder: &GameFolder<'_>,
     stamp: Stamp,
 ) -> Result<Option<Vec<u8>>, ReadFault>
-    ensures { AddsSome (S.outside system.now) timeline.old timeline.new (ReadsRecord (S.outside system.now).disk (known_folder folder.now) stamp (record_taken result)) }
+    ensures { AddsSome (S.outside system.now) timeline.old timeline.new (RecordIn (S.outside system.now) folder.now stamp result) }
 {
     let Some(record) = folder.records.get(&stamp) else {
         return read_listed(alloc, system, timeline, folder, stamp);
@@ -163,7 +162,7 @@ fn look_beside<S: System>(
     folder: &GameFolder<'_>,
     stamp: Stamp,
 ) -> Result<Look, AllocError>
-    ensures { AddsSome (S.outside system.now) timeline.old timeline.new (LooksBeside (S.outside system.now).disk one (known_folder folder.now) stamp (found_or_none result)) }
+    ensures { AddsSome (S.outside system.now) timeline.old timeline.new (LookBeside (S.outside system.now) one folder.now stamp result) }
 {
     match read_side(alloc, system, timeline, folder, stamp) {
         Ok(other) => Ok(look_at_both(one, other)),
@@ -190,7 +189,7 @@ fn read_look<S: System>(
     folders: &GameFolders<'_>,
     stamp: Stamp,
 ) -> Result<Look, AllocError>
-    ensures { AddsSome (S.outside system.now) timeline.old timeline.new (ReadsLook (S.outside system.now).disk (known_folders folders.now) stamp (found_or_none result)) }
+    ensures { AddsSome (S.outside system.now) timeline.old timeline.new (LookIn (S.outside system.now) folders.now stamp result) }
 {
     let one = match read_side(alloc, system, timeline, &folders.one, stamp) {
         Ok(one) => one,
@@ -211,7 +210,7 @@ pub(crate) fn look_at_game<S: System>(
     folders: &GameFolders<'_>,
     stamp: Stamp,
 ) -> Result<Look, AllocError>
-    ensures made { AddsSome (S.outside system.now) timeline.old timeline.new (ReadsLook (S.outside system.now).disk (known_folders folders.now) stamp (found_or_none result)) }
+    ensures made { AddsSome (S.outside system.now) timeline.old timeline.new (LookIn (S.outside system.now) folders.now stamp result) }
     ensures named { IfOk result AreNamed }
     ensures few { IfOk result AreFewDelays }
 {

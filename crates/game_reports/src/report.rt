@@ -1,10 +1,9 @@
 //! What is found of the games of folders, as it is reported to a program.
 
-ghost use Rattle.std.specs.Prelude.{is_some, OnErr};
+ghost use Rattle.std.specs.Prelude.{OnErr};
 ghost use Rattle.answer_parts.specs.Printing.{OutputFails, Performs};
 ghost use Rattle.game_reports.specs.Inside.Opening.{known_folders};
-ghost use Rattle.game_reports.specs.Inside.Reporting.{AddsGames, AddsList, AddsStatus, AreCounted, Finds, IsText};
-ghost use Rattle.game_reports.specs.Statuses.{WritesReport};
+ghost use Rattle.game_reports.specs.Inside.Reporting.{AddsGames, AddsList, AddsObject, AreCounted, Finds, FindsIn, IsText, ReportIn};
 ghost use Rattle.game_status.specs.Reports.{form_of, json_form, metrics_form};
 ghost use Rattle.timeline.specs.Outsides.{AddsSome};
 
@@ -44,7 +43,7 @@ fn metrics_of<S: System>(
     system: &S,
     timeline: &mut S::Timeline,
 ) -> Result<Vec<u8>, AllocError>
-    ensures { AddsSome (S.outside system.now) timeline.old timeline.new (Finds (S.outside system.now).disk (known_folders folders.now) (IsText metrics_form (is_some folders.now.other)) result) }
+    ensures { AddsSome (S.outside system.now) timeline.old timeline.new (FindsIn (S.outside system.now) folders.now (IsText metrics_form) result) }
 {
     match count_games(alloc, folders, system, timeline) {
         Ok(totals) => metrics_text(alloc, &totals, folders.other.is_some()),
@@ -60,7 +59,7 @@ fn add_games<S: System>(
     system: &S,
     timeline: &mut S::Timeline,
 ) -> Result<Totals, AllocError>
-    ensures { AddsSome (S.outside system.now) timeline.old timeline.new (Finds (S.outside system.now).disk (known_folders folders.now) (AddsGames (is_some folders.now.other) text.old text.new) result) }
+    ensures { AddsSome (S.outside system.now) timeline.old timeline.new (FindsIn (S.outside system.now) folders.now (λ c. AddsGames c text.old text.new) result) }
 {
     let mut totals = Totals::none();
     for stamp in &folders.stamps {
@@ -84,7 +83,7 @@ fn add_list<S: System>(
     system: &S,
     timeline: &mut S::Timeline,
 ) -> Result<Totals, AllocError>
-    ensures { AddsSome (S.outside system.now) timeline.old timeline.new (Finds (S.outside system.now).disk (known_folders folders.now) (AddsList (is_some folders.now.other) text.old text.new) result) }
+    ensures { AddsSome (S.outside system.now) timeline.old timeline.new (FindsIn (S.outside system.now) folders.now (λ c. AddsList c text.old text.new) result) }
 {
     match text.key("games") {
         Ok(()) => {}
@@ -112,7 +111,7 @@ fn add_status<S: System>(
     system: &S,
     timeline: &mut S::Timeline,
 ) -> Result<(), AllocError>
-    ensures { AddsSome (S.outside system.now) timeline.old timeline.new (Finds (S.outside system.now).disk (known_folders folders.now) (λ found _. AddsStatus (is_some folders.now.other) text.old text.new found) result) }
+    ensures { AddsSome (S.outside system.now) timeline.old timeline.new (FindsIn (S.outside system.now) folders.now (AddsObject text.old text.new) result) }
 {
     match text.begin_object() {
         Ok(()) => {}
@@ -136,7 +135,7 @@ fn object_of<S: System>(
     system: &S,
     timeline: &mut S::Timeline,
 ) -> Result<Vec<u8>, AllocError>
-    ensures { AddsSome (S.outside system.now) timeline.old timeline.new (Finds (S.outside system.now).disk (known_folders folders.now) (IsText json_form (is_some folders.now.other)) result) }
+    ensures { AddsSome (S.outside system.now) timeline.old timeline.new (FindsIn (S.outside system.now) folders.now (IsText json_form) result) }
 {
     let mut text = Writer::new(Vec::new(alloc));
     match add_status(alloc, folders, &mut text, system, timeline) {
@@ -153,7 +152,7 @@ fn text_of<S: System>(
     system: &S,
     timeline: &mut S::Timeline,
 ) -> Result<Vec<u8>, AllocError>
-    ensures { AddsSome (S.outside system.now) timeline.old timeline.new (Finds (S.outside system.now).disk (known_folders folders.now) (IsText (form_of form) (is_some folders.now.other)) result) }
+    ensures { AddsSome (S.outside system.now) timeline.old timeline.new (FindsIn (S.outside system.now) folders.now (IsText (form_of form)) result) }
 {
     match form {
         ReportForm::Metrics => metrics_of(alloc, folders, system, timeline),
@@ -170,7 +169,7 @@ pub(crate) fn print_report<S: System>(
     system: &S,
     timeline: &mut S::Timeline,
 ) -> Result<u8, WriteFault>
-    ensures made { AddsSome (S.outside system.now) timeline.old timeline.new (Performs (WritesReport (S.outside system.now).disk (form_of form) (known_folders folders.now)) result) }
+    ensures made { AddsSome (S.outside system.now) timeline.old timeline.new (Performs (ReportIn (S.outside system.now) form folders.now) result) }
     ensures cause { OnErr result (OutputFails (S.outside system.now)) }
 {
     match text_of(alloc, folders, form, system, timeline) {

@@ -2,8 +2,8 @@
 
 ghost use Rattle.std.specs.Prelude.{OnErr};
 ghost use Rattle.answer_parts.specs.Printing.{OutputFails, Performs};
-ghost use Rattle.game_reports.specs.Inside.Opening.{known_folders};
-ghost use Rattle.game_reports.specs.Statuses.{ReportsGames, ReportsStatus};
+ghost use Rattle.game_reports.specs.Inside.Reporting.{ReportsIn};
+ghost use Rattle.game_reports.specs.Statuses.{ReportsStatus};
 ghost use Rattle.timeline.specs.Outsides.{AddsSome};
 
 use crate::folders::{GameFolders, open_games};
@@ -39,7 +39,7 @@ fn report_games<S: System>(
     system: &S,
     timeline: &mut S::Timeline,
 ) -> Result<u8, WriteFault>
-    ensures made { AddsSome (S.outside system.now) timeline.old timeline.new (Performs (ReportsGames (S.outside system.now).disk report (known_folders folders.now)) result) }
+    ensures made { AddsSome (S.outside system.now) timeline.old timeline.new (Performs (ReportsIn (S.outside system.now) report folders.now) result) }
     ensures cause { OnErr result (OutputFails (S.outside system.now)) }
 {
     match report {

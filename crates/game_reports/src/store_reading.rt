@@ -4,10 +4,8 @@
 //! one moment all the same. Here the order of the reads is in the clauses.
 
 ghost use Rattle.std.specs.Prelude.{◌≡◌, [], map, option_map, string_bytes, IfOk};
-ghost use Rattle.answer_parts.specs.Lines.{refusal_words};
 ghost use Rattle.game_reports.specs.Inside.StoreReading.{bytes_taken, folder_of, once_taken, opened_or_not, records_taken, store_bytes};
 ghost use Rattle.game_reports.specs.StoreReads.{HoldsRecords, Opens, ReadsBoth, ReadsLog, ReadsOnce, ReadsRecords, ReadsStore, ReadsStoreBytes, at_one_moment, unread_words};
-ghost use Rattle.line_teller.specs.ToldLines.{cut_words};
 ghost use Rattle.system_io.specs.Records.{records_of};
 ghost use Rattle.timeline.specs.Events.{bytes_found, bytes_read};
 ghost use Rattle.timeline.specs.Outsides.{AddsSome};
@@ -220,16 +218,6 @@ fn read_store<S: System>(
     read_records(alloc, system, timeline, store)
 }
 
-/// The refusal of a folder that can't be listed, or for whose names memory is refused.
-fn refusal_of(fault: ReadFault) -> Refusal
-    ensures { refusal_words result ≡ cut_words fault }
-{
-    match fault {
-        ReadFault::Unreadable => Refusal::Files,
-        ReadFault::OutOfMemory => Refusal::Memory,
-    }
-}
-
 /// Lists a folder once, and reads its store.
 ///
 /// `Files` where it can't be listed. `Store` where it has half of a store, or one that can't be read, which is noted: the files are gone
@@ -247,7 +235,7 @@ pub fn open_folder<'a, S: System>(
     };
     let names = match system.names(timeline, alloc, path) {
         Ok(names) => names,
-        Err(fault) => return Err(refusal_of(fault)),
+        Err(fault) => return Err(Refusal::unread(fault)),
     };
     match read_store(alloc, system, timeline, &store, &names) {
         Ok(entries) => Ok(OpenFolder {

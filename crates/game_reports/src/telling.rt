@@ -3,9 +3,7 @@
 ghost use Rattle.std.specs.Prelude.{◌≡◌, ◌∷◌, [], ℕ, List, IfOk, OnErr};
 ghost use Rattle.answer_parts.specs.Printing.{OutputFails, Performs, Prints};
 ghost use Rattle.answer_parts.specs.Reply.{status_if};
-ghost use Rattle.game_reports.specs.GameLines.{TellsGames, TellsNext, TellsOf};
-ghost use Rattle.game_reports.specs.Inside.Looking.{found_or_none};
-ghost use Rattle.game_reports.specs.Inside.Opening.{known_folders};
+ghost use Rattle.game_reports.specs.Inside.Looking.{GamesIn, LineIn, NextIn};
 ghost use Rattle.game_status.specs.GameAudits.{AreFewDelays};
 ghost use Rattle.game_status.specs.Tellings.{are_well, sums_words};
 ghost use Rattle.game_status.specs.declared.status_lines.Look.{Look};
@@ -43,7 +41,7 @@ fn read_told<T: LookTeller, S: System>(
     system: &S,
     timeline: &mut S::Timeline,
 ) -> Result<GameTold, AllocError>
-    ensures made { AddsSome (S.outside system.now) timeline.old timeline.new (TellsOf (S.outside system.now).disk (known_folders folders.now) (T.tells teller.old) stamp (found_or_none result)) }
+    ensures made { AddsSome (S.outside system.now) timeline.old timeline.new (LineIn (S.outside system.now) folders.now (T.tells teller.old) stamp result) }
     ensures same { teller.new ≡ teller.old }
 {
     match look_at_game(alloc, system, timeline, folders, stamp) {
@@ -78,7 +76,7 @@ fn print_game<T: LookTeller, S: System>(
     system: &S,
     timeline: &mut S::Timeline,
 ) -> Result<Option<Mark>, WriteFault>
-    ensures made { AddsSome (S.outside system.now) timeline.old timeline.new (Performs (TellsNext (TellsOf (S.outside system.now).disk (known_folders folders.now) (T.tells teller.old)) stamp) result) }
+    ensures made { AddsSome (S.outside system.now) timeline.old timeline.new (Performs (NextIn (S.outside system.now) folders.now (T.tells teller.old) stamp) result) }
     ensures cause { OnErr result (OutputFails (S.outside system.now)) }
     ensures same { teller.new ≡ teller.old }
 {
@@ -116,7 +114,7 @@ pub(crate) fn print_games<T: LookTeller, S: System>(
     system: &S,
     timeline: &mut S::Timeline,
 ) -> Result<u8, WriteFault>
-    ensures made { AddsSome (S.outside system.now) timeline.old timeline.new (Performs (TellsGames (S.outside system.now).disk (T.tells teller.old) (known_folders folders.now)) result) }
+    ensures made { AddsSome (S.outside system.now) timeline.old timeline.new (Performs (GamesIn (S.outside system.now) folders.now (T.tells teller.old)) result) }
     ensures cause { OnErr result (OutputFails (S.outside system.now)) }
 {
     let mut sums = Sums::none();

@@ -1,10 +1,10 @@
 //! The answers to the lines of the input as they come, over a system with a timeline.
 
-ghost use Rattle.std.specs.Prelude.{◌≡◌, ◌∷◌, [], List, ℕ, IsErrOf, OnErr};
+ghost use Rattle.std.specs.Prelude.{◌≡◌, IsErrOf, OnErr};
 ghost use Rattle.line_events.specs.Inside.Lines.{AnswersRead, GoesOut};
 ghost use Rattle.line_events.specs.LineEvents.{Answering, AnswersInput, AnswersLine, AnswersLines, AnswersNoMore, MayTellProgress, TakesTurn};
-ghost use Rattle.answer_parts.specs.Printing.{OutputFails, Performs, Prints};
-ghost use Rattle.line_teller.specs.ToldLines.{cut_words, done_words, stops_by};
+ghost use Rattle.answer_parts.specs.Printing.{OutputFails, Performs};
+ghost use Rattle.line_teller.specs.ToldLines.{done_words, stops_by};
 ghost use Rattle.timeline.specs.Events.{has_line_feed};
 ghost use Rattle.timeline.specs.Outsides.{AddsSome};
 
@@ -75,21 +75,6 @@ fn flush_before_line<S: System>(
     system.flush(timeline, Stream::Output)
 }
 
-/// Writes why no more lines are answered.
-fn write_cut<S: System>(
-    system: &S,
-    timeline: &mut S::Timeline,
-    fault: ReadFault,
-) -> Result<Step, WriteFault>
-    ensures made { AddsSome (S.outside system.now) timeline.old timeline.new (Performs (Prints (cut_words fault ∷ []) Step.Cut) result) }
-    ensures cause { OnErr result (OutputFails (S.outside system.now)) }
-{
-    match print_unread(system, timeline, fault) {
-        Ok(_) => Ok(Step::Cut),
-        Err(fault) => Err(fault),
-    }
-}
-
 /// Answers a line that was read.
 fn answer_read<S: System, A: LineAnswerer<S>>(
     answerer: &mut A,
@@ -105,7 +90,12 @@ fn answer_read<S: System, A: LineAnswerer<S>>(
 {
     match answerer.answer_line(system, timeline, line) {
         Ok(is_told) => Ok(Step::Told(is_told)),
-        Err(TellFault::OutOfMemory) => write_cut(system, timeline, ReadFault::OutOfMemory),
+        Err(TellFault::OutOfMemory) => print_unread(
+            system,
+            timeline,
+            ReadFault::OutOfMemory,
+            Step::Cut,
+        ),
         Err(TellFault::Io) => Err(WriteFault::Io),
     }
 }
@@ -137,7 +127,7 @@ fn take_turn<S: System, A: LineAnswerer<S>>(
                 Ok(Step::Ended)
             }
         }
-        Err(fault) => write_cut(system, timeline, fault),
+        Err(fault) => print_unread(system, timeline, fault, Step::Cut),
     }
 }
 
@@ -190,7 +180,7 @@ fn answer_in_turn<S: System, A: LineAnswerer<S>>(
         }
         tell_progress(system, timeline, progress, before + 1);
     }
-    match write_cut(system, timeline, ReadFault::Unreadable) {
+    match print_unread(system, timeline, ReadFault::Unreadable, Step::Cut) {
         Ok(_) => Ok(false),
         Err(fault) => Err(fault),
     }
@@ -218,7 +208,7 @@ pub fn answer_lines<S: System, A: LineAnswerer<S>>(
 {
     let mut lines = match system.input_lines(timeline, alloc) {
         Ok(lines) => lines,
-        Err(_) => return print_unread(system, timeline, ReadFault::OutOfMemory),
+        Err(_) => return print_unread(system, timeline, ReadFault::OutOfMemory, 1),
     };
     match answer_in_turn(alloc, answerer, system, timeline, &mut lines, progress) {
         Ok(done) => Ok(status_if(done)),

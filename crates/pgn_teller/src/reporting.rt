@@ -1,8 +1,7 @@
 //! The games of an input that are reported as they are read.
 
-ghost use Rattle.std.specs.Prelude.{◌≡◌, ◌∷◌, [], false, IfOk, OnErr};
-ghost use Rattle.answer_parts.specs.Printing.{OutputFails, Performs, Prints};
-ghost use Rattle.line_teller.specs.ToldLines.{cut_words, refused_memory};
+ghost use Rattle.std.specs.Prelude.{◌≡◌, IfOk, OnErr};
+ghost use Rattle.answer_parts.specs.Printing.{OutputFails, Performs};
 ghost use Rattle.move_msg.specs.TextLines.{ended};
 ghost use Rattle.pgn_games.specs.Games.{GameRead};
 ghost use Rattle.pgn_games.specs.Shown.{game_of, reading_of};
@@ -164,21 +163,6 @@ fn write_out<S: System>(
     }
 }
 
-/// Writes why no more is reported.
-fn write_cut<S: System>(
-    system: &S,
-    timeline: &mut S::Timeline,
-    fault: ReadFault,
-) -> Result<Step, WriteFault>
-    ensures made { AddsSome (S.outside system.now) timeline.old timeline.new (Performs (Prints (cut_words fault ∷ []) Step.Cut) result) }
-    ensures cause { OnErr result (OutputFails (S.outside system.now)) }
-{
-    match print_unread(system, timeline, fault) {
-        Ok(_) => Ok(Step::Cut),
-        Err(fault) => Err(fault),
-    }
-}
-
 /// Writes a last text, and returns what it comes to.
 fn write_last<S: System>(
     system: &S,
@@ -191,17 +175,6 @@ fn write_last<S: System>(
 {
     match system.write(timeline, Stream::Output, text) {
         Ok(()) => Ok(well),
-        Err(fault) => Err(fault),
-    }
-}
-
-/// Writes that there is no memory for the sums.
-fn write_no_sums<S: System>(system: &S, timeline: &mut S::Timeline) -> Result<bool, WriteFault>
-    ensures made { AddsSome (S.outside system.now) timeline.old timeline.new (Performs (Prints (refused_memory ∷ []) false) result) }
-    ensures cause { OnErr result (OutputFails (S.outside system.now)) }
-{
-    match print_unread(system, timeline, ReadFault::OutOfMemory) {
-        Ok(_) => Ok(false),
         Err(fault) => Err(fault),
     }
 }
@@ -335,7 +308,7 @@ impl<R> GameReporter<R> {
     {
         match self.text_of_sums(sums) {
             Ok(text) => write_last(system, timeline, &text, sums.faults == 0),
-            Err(_) => write_no_sums(system, timeline),
+            Err(_) => print_unread(system, timeline, ReadFault::OutOfMemory, false),
         }
     }
 }
@@ -397,7 +370,7 @@ fn report_reading<S: System, R: GameRuler<S>>(
 {
     match text_of_reading(reporter, system, timeline, number, reading) {
         Ok(line) => reporter.write_line(system, timeline, &line),
-        Err(_) => write_cut(system, timeline, ReadFault::OutOfMemory),
+        Err(_) => print_unread(system, timeline, ReadFault::OutOfMemory, Step::Cut),
     }
 }
 
@@ -421,7 +394,7 @@ fn report_next<S: System, R: GameRuler<S>>(
     match reader.next_game(system, timeline, lines) {
         Ok(Some(reading)) => report_reading(reporter, system, timeline, number, &reading),
         Ok(None) => Ok(Step::Ended),
-        Err(fault) => write_cut(system, timeline, fault),
+        Err(fault) => print_unread(system, timeline, fault, Step::Cut),
     }
 }
 
@@ -449,7 +422,7 @@ fn report_games<S: System, R: GameRuler<S>>(
             Err(fault) => return Err(fault),
         }
     }
-    match write_cut(system, timeline, ReadFault::OutOfMemory) {
+    match print_unread(system, timeline, ReadFault::OutOfMemory, Step::Cut) {
         Ok(_) => Ok(None),
         Err(fault) => Err(fault),
     }

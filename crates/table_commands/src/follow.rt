@@ -207,6 +207,6 @@ pub fn answer<S: System>(
     let names = task.places();
     match read_inputs(alloc, system, timeline, &names) {
         Ok(sources) => follow_given(alloc, task, &sources, system, timeline),
-        Err(fault) => print_unread(system, timeline, fault),
+        Err(fault) => print_unread(system, timeline, fault, 1),
     }
 }

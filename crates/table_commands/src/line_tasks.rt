@@ -138,6 +138,6 @@ pub fn answer_lines_of<L: LineTask, S: System>(
     let names = task.names();
     match read_inputs(alloc, system, timeline, &names) {
         Ok(sources) => answer_given(alloc, task, &sources, system, timeline),
-        Err(fault) => print_unread(system, timeline, fault),
+        Err(fault) => print_unread(system, timeline, fault, 1),
     }
 }

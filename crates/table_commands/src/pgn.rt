@@ -132,7 +132,7 @@ fn report_file<S: System, R: GameRuler<S> + Drop>(
 {
     let mut lines = match open_lines(alloc, task.file, system, timeline) {
         Ok(lines) => lines,
-        Err(fault) => return print_unread(system, timeline, fault),
+        Err(fault) => return print_unread(system, timeline, fault, 1),
     };
     let mut reporter = reporter_by(alloc, task, ruler);
     match report(&mut reporter, system, timeline, &mut lines) {
@@ -243,6 +243,6 @@ pub fn answer<S: System>(
     let names = task.places();
     match read_inputs(alloc, system, timeline, &names) {
         Ok(given) => judge_by(alloc, task, &given, system, timeline),
-        Err(fault) => print_unread(system, timeline, fault),
+        Err(fault) => print_unread(system, timeline, fault, 1),
     }
 }

@@ -2,6 +2,8 @@
 
 ghost use Rattle.std.specs.Prelude.{◌≡◌, ◌≤◌, ◌++◌, length};
 ghost use Rattle.answer_parts.specs.Lines.{entry_fault_words, fault_text, message_fault, refusal_words, refused_entry, refused_fen, refused_file, refused_message};
+ghost use Rattle.answer_parts.specs.Refusals.{unread_refusal};
+ghost use Rattle.line_teller.specs.ToldLines.{cut_words};
 ghost use Rattle.table_folder.specs.Faults.{file_fault_name};
 ghost use Rattle.record_audit.specs.Findings.{refused_record};
 
@@ -11,6 +13,7 @@ use fen_text::FenFault;
 use game_status::add_refused_record;
 use line_teller::LineWords;
 use move_msg::{MessageFault, RecordFault};
+use system_io::ReadFault;
 use table_folder::FileFault;
 
 /// Why the game of a line isn't entered.
@@ -157,6 +160,17 @@ fn record_line(fault: RecordFault) -> LineWords
 }
 
 impl Refusal {
+    /// What a file or an input that wasn't read means.
+    pub fn unread(fault: ReadFault) -> Refusal
+        ensures is { result ≡ unread_refusal fault }
+        ensures words { refusal_words result ≡ cut_words fault }
+    {
+        match fault {
+            ReadFault::Unreadable => Refusal::Files,
+            ReadFault::OutOfMemory => Refusal::Memory,
+        }
+    }
+
     /// Its line.
     pub fn words(&self) -> LineWords
         ensures { result ≡ refusal_words self.now }

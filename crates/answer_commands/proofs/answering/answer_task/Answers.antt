@@ -21,30 +21,6 @@ returns-in-List-clause-made g c = rw c.in-List.is c.print_manifest.ensures.made
 pub returns-in-Check-clause-made : goal.returns-in-Check-clause-made
 returns-in-Check-clause-made g c = rw c.in-Check.is c.print_check.ensures.made
 
-pub returns-in-Judge-clause-made : goal.returns-in-Judge-clause-made
-returns-in-Judge-clause-made g c = rw c.in-Judge.is c.make_reply.ensures.made
-
-pub returns-in-Probe-clause-made : goal.returns-in-Probe-clause-made
-returns-in-Probe-clause-made g c = rw c.in-Probe.is c.make_reply-in-Probe.ensures.made
-
-pub returns-in-Probes-clause-made : goal.returns-in-Probes-clause-made
-returns-in-Probes-clause-made g c = rw c.in-Probes.is c.answer_lines_of.ensures.made
-
-pub returns-in-Root-clause-made : goal.returns-in-Root-clause-made
-returns-in-Root-clause-made g c = rw c.in-Root.is c.rank_moves.ensures.made
-
-pub returns-in-Game-clause-made : goal.returns-in-Game-clause-made
-returns-in-Game-clause-made g c = rw c.in-Game.is c.make_reply-in-Game.ensures.made
-
-pub returns-in-Games-clause-made : goal.returns-in-Games-clause-made
-returns-in-Games-clause-made g c = rw c.in-Games.is c.answer_lines_of-in-Games.ensures.made
-
-pub returns-in-Pgn-clause-made : goal.returns-in-Pgn-clause-made
-returns-in-Pgn-clause-made g c = rw c.in-Pgn.is c.answer.ensures.made
-
-pub returns-in-Follow-clause-made : goal.returns-in-Follow-clause-made
-returns-in-Follow-clause-made g c = rw c.in-Follow.is c.answer-in-Follow.ensures.made
-
 pub returns-in-Status-clause-made : goal.returns-in-Status-clause-made
 returns-in-Status-clause-made g c = rw c.in-Status.is c.report_status.ensures.made
 
@@ -53,3 +29,6 @@ returns-in-GameRecord-clause-made g c = rw c.in-GameRecord.is c.print_game_recor
 
 pub returns-in-AuditGames-clause-made : goal.returns-in-AuditGames-clause-made
 returns-in-AuditGames-clause-made g c = rw c.in-AuditGames.is c.print_audit.ensures.made
+
+pub returns-in-Table-clause-made : goal.returns-in-Table-clause-made
+returns-in-Table-clause-made g c = rw c.in-Table.is c.answer_by_tables.ensures.made

@@ -8,7 +8,7 @@ pub returns-in-Err : goal.returns-in-Err
 returns-in-Err g c =
     let o = g.S.System.outside c.args.system.now in
     let path = c.args.path.now in
-    file_isnt o _ _ path _ c.in-Err.fault c.unread.ensures (file_unread o _ _ path _ _ c.in-Err.fault (λ is. c.in-Err.ensures.cause (ap Err is)) c.in-Err.ensures.made)
+    file_isnt o _ _ path _ c.in-Err.fault c.unread.ensures.words (file_unread o _ _ path _ _ c.in-Err.fault (λ is. c.in-Err.ensures.cause (ap Err is)) c.in-Err.ensures.made)
 
 pub returns-in-Ok-manifest_read : goal.returns-in-Ok-manifest_read
 returns-in-Ok-manifest_read g c =

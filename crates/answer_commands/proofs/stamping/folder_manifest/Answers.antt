@@ -5,7 +5,7 @@ use Rattle.answer_commands.proofs.StampLaws.{folder_is, folder_isnt, no_room_for
 use Rattle.answer_commands.proofs.stamping.folder_manifest.Goals as goal
 
 pub returns-in-Err : goal.returns-in-Err
-returns-in-Err g c = folder_isnt (g.S.System.outside c.args.system.now) _ _ c.args.folder.now _ c.in-Err.fault c.unread.ensures c.in-Err.ensures
+returns-in-Err g c = folder_isnt (g.S.System.outside c.args.system.now) _ _ c.args.folder.now _ c.in-Err.fault c.unread.ensures.words c.in-Err.ensures
 
 pub manifest_write-requires : goal.manifest_write-requires
 manifest_write-requires g c =

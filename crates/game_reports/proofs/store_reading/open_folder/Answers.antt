@@ -8,7 +8,7 @@ use Rattle.game_reports.proofs.store_reading.open_folder.Goals as goal
 pub returns-in-Err : goal.returns-in-Err
 returns-in-Err g c =
     let o = g.S.System.outside c.args.system.now in
-    no_folder o _ _ c.args.path.now (refusal_words c.refusal_of.result) c.in-Err.fault c.refusal_of.ensures (unlisted o _ _ c.args.path.now c.in-Err.fault (λ is. c.in-Err.ensures.cause (ap Err is)) c.in-Err.ensures.made)
+    no_folder o _ _ c.args.path.now (refusal_words c.unread.result) c.in-Err.fault c.unread.ensures.words (unlisted o _ _ c.args.path.now c.in-Err.fault (λ is. c.in-Err.ensures.cause (ap Err is)) c.in-Err.ensures.made)
 
 pub returns-in-Ok-read_store : goal.returns-in-Ok-read_store
 returns-in-Ok-read_store g c =

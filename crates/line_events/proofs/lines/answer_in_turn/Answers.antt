@@ -69,4 +69,4 @@ returns-clause-made g c =
     let later = g.A.LineAnswerer.answering c.loop-before.answerer in
     let begun = o.lines c.args.lines.now in
     let lines = o.lines c.loop-before.lines in
-    most_failed o first later c.args.progress (g.A.LineAnswerer.known c.args.answerer.now) (g.A.LineAnswerer.known c.loop-before.answerer) (stops_by lines) (stops_by begun) begun.left lines.left c.loop-before.invariant.same c.loop-before.before c.loop-before.done _ _ _ c.in-Err-write_cut.fault c.in-Err-write_cut.fault (search rules) c.loop-before.invariant.told c.in-Err-write_cut.ensures.made
+    most_failed o first later c.args.progress (g.A.LineAnswerer.known c.args.answerer.now) (g.A.LineAnswerer.known c.loop-before.answerer) (stops_by lines) (stops_by begun) begun.left lines.left c.loop-before.invariant.same c.loop-before.before c.loop-before.done _ _ _ c.in-Err-print_unread.fault c.in-Err-print_unread.fault (search rules) c.loop-before.invariant.told c.in-Err-print_unread.ensures.made

@@ -8,7 +8,7 @@ returns-in-Ok-clause-made g c = read_told (g.S.System.outside c.args.system.now)
 pub returns-in-Err-OutOfMemory-clause-made : goal.returns-in-Err-OutOfMemory-clause-made
 returns-in-Err-OutOfMemory-clause-made g c =
     let made = rw c.in-Err-OutOfMemory.field-0-is at c.in-Err-OutOfMemory.ensures.made in
-    read_refused (g.S.System.outside c.args.system.now) (g.A.LineAnswerer.answering c.args.answerer.now) _ _ c.args.line.now _ _ _ c.write_cut.result made c.write_cut.ensures.made
+    read_refused (g.S.System.outside c.args.system.now) (g.A.LineAnswerer.answering c.args.answerer.now) _ _ c.args.line.now _ _ _ c.print_unread.result made c.print_unread.ensures.made
 
 pub returns-in-Err-Io-clause-made : goal.returns-in-Err-Io-clause-made
 returns-in-Err-Io-clause-made g c =

@@ -34,7 +34,7 @@ returns-in-Err-next_line-clause-made g c =
     let lines = o.lines c.args.lines.now in
     let fault = c.in-Err-next_line.fault in
     let stops = unread_so lines c.next_line.result fault c.in-Err-next_line.is c.next_line.ensures.cause c.next_line.ensures.memory in
-    turn_unread o (g.A.LineAnswerer.answering c.args.answerer.now) _ _ (stops_by lines) lines.left _ _ _ _ _ fault lines.ahead c.write_cut.result stops c.in-Ok.ensures.made c.in-Err-next_line.ensures.made c.write_cut.ensures.made
+    turn_unread o (g.A.LineAnswerer.answering c.args.answerer.now) _ _ (stops_by lines) lines.left _ _ _ _ _ fault lines.ahead c.print_unread.result stops c.in-Ok.ensures.made c.in-Err-next_line.ensures.made c.print_unread.ensures.made
 
 pub returns-in-Err-next_line-clause-same : goal.returns-in-Err-next_line-clause-same
 returns-in-Err-next_line-clause-same g c = same_answers (g.A.LineAnswerer.answering c.args.answerer.now)

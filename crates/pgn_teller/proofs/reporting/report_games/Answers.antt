@@ -95,4 +95,4 @@ pub returns-clause-made : goal.returns-clause-made
 returns-clause-made g c =
     let o = g.S.System.outside c.args.system.now in
     let first = begun (o.lines c.args.lines.now).left (g.R.GameRuler.known c.args.reporter.now.ruler) in
-    most_lost o (g.R.GameRuler.rules c.args.reporter.now.ruler) (terms_of c.args.reporter.now) (o.lines c.args.lines.now).fails first _ _ _ c.loop.sums _ c.in-Err-write_cut.fault c.in-Err-write_cut.fault c.loop.invariant.made c.in-Err-write_cut.ensures.made
+    most_lost o (g.R.GameRuler.rules c.args.reporter.now.ruler) (terms_of c.args.reporter.now) (o.lines c.args.lines.now).fails first _ _ _ c.loop.sums _ c.in-Err-print_unread.fault c.in-Err-print_unread.fault c.loop.invariant.made c.in-Err-print_unread.ensures.made

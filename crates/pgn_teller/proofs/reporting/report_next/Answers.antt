@@ -25,7 +25,7 @@ returns-in-Err-clause-made g c =
     let o = g.S.System.outside c.args.system.now in
     let k = g.R.GameRuler.known c.args.reporter.now.ruler in
     let lines = o.lines c.args.lines.now in
-    next_unread o (g.R.GameRuler.rules c.args.reporter.now.ruler) (terms_of c.args.reporter.now) lines.fails c.args.number (stage_of lines.left c.args.reader.now k) (stage_of (o.lines c.next_game.new.lines).left c.next_game.new.self k) _ _ _ c.in-Err.fault c.write_cut.result (λ e. c.in-Err.ensures.cause (ap Err e)) c.in-Err.ensures.made c.write_cut.ensures.made
+    next_unread o (g.R.GameRuler.rules c.args.reporter.now.ruler) (terms_of c.args.reporter.now) lines.fails c.args.number (stage_of lines.left c.args.reader.now k) (stage_of (o.lines c.next_game.new.lines).left c.next_game.new.self k) _ _ _ c.in-Err.fault c.print_unread.result (λ e. c.in-Err.ensures.cause (ap Err e)) c.in-Err.ensures.made c.print_unread.ensures.made
 
 pub returns-in-Ok-None-clause-rules : goal.returns-in-Ok-None-clause-rules
 returns-in-Ok-None-clause-rules g c = rules_same (g.R.GameRuler.rules c.args.reporter.now.ruler)

@@ -10,4 +10,4 @@ returns-in-Ok-clause-made g c =
 
 pub returns-in-Err-clause-made : goal.returns-in-Err-clause-made
 returns-in-Err-clause-made g c =
-    reading_refused (g.S.System.outside c.args.system.now) (g.R.GameRuler.rules c.args.reporter.now.ruler) _ _ _ _ _ (terms_of c.args.reporter.now) c.args.number (reading_of c.args.reading.now) c.write_cut.result c.in-Err.ensures.made c.write_cut.ensures.made
+    reading_refused (g.S.System.outside c.args.system.now) (g.R.GameRuler.rules c.args.reporter.now.ruler) _ _ _ _ _ (terms_of c.args.reporter.now) c.args.number (reading_of c.args.reading.now) c.print_unread.result c.in-Err.ensures.made c.print_unread.ensures.made

@@ -7,4 +7,4 @@ returns-in-Ok-clause-made g c =
     sums_written (g.S.System.outside c.args.system.now) _ _ c.args.self.now.form c.args.sums.now c.in-Ok.text.items c.write_last.result c.in-Ok.ensures made
 
 pub returns-in-Err-clause-made : goal.returns-in-Err-clause-made
-returns-in-Err-clause-made g c = no_sums_written (g.S.System.outside c.args.system.now) _ _ c.args.self.now.form c.args.sums.now c.write_no_sums.result c.write_no_sums.ensures.made
+returns-in-Err-clause-made g c = no_sums_written (g.S.System.outside c.args.system.now) _ _ c.args.self.now.form c.args.sums.now c.print_unread.result c.print_unread.ensures.made

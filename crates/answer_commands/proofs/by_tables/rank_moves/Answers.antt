@@ -1,4 +1,4 @@
-use Rattle.answer_commands.proofs.answering.rank_moves.Goals as goal
+use Rattle.answer_commands.proofs.by_tables.rank_moves.Goals as goal
 
 pub returns-in-Some-clause-made : goal.returns-in-Some-clause-made
 returns-in-Some-clause-made g c = rw c.in-Some.is c.make_reply.ensures.made
