@@ -41,10 +41,10 @@ abbrev pub ColumnsLacked : {T P F K S L D A : Type 0} → Outside T P F K S L �
 ColumnsLacked o old begin end text made = IsLacked o (λ disk folder. LacksRoomFor disk folder IsSpelledBy IsAlone IsText) old begin end text made
 
 -- of `games`
-abbrev pub OutcomeMade : {T P F K S L J : Type 0} → Outside T P F K S L → FolderGameJudge J → FolderGameJudge J → T → T → List ℕ → Result (Line × Bool) AllocError → Type 0
+abbrev pub OutcomeMade : {T P F K S L J A B C D E G : Type 0} → Outside T P F K S L → FolderGameJudge J A B C D E G → FolderGameJudge J A B C D E G → T → T → List ℕ → Result (Line × Bool) AllocError → Type 0
 OutcomeMade o old new begin end text made = IsMade o (λ disk folder known next line told. AnswersGame old.delay disk folder known next line (record { words = words_of told.0; done = told.1 })) old.folder new.folder begin end text made
 
-abbrev pub OutcomeLacked : {T P F K S L J A : Type 0} → Outside T P F K S L → FolderGameJudge J → T → T → List ℕ → Result A AllocError → Type 0
+abbrev pub OutcomeLacked : {T P F K S L J A B C D E G X : Type 0} → Outside T P F K S L → FolderGameJudge J A B C D E G → T → T → List ℕ → Result X AllocError → Type 0
 OutcomeLacked o old begin end text made = IsLacked o (LacksRoomForGame old.delay) old.folder begin end text made
 
 -- of `root`
@@ -55,10 +55,10 @@ abbrev pub MovesLacked : {T P F K S L D A : Type 0} → Outside T P F K S L → 
 MovesLacked o old begin end text made = IsLacked o (λ disk folder. LacksRoomFor disk folder IsSpelledBy IsWithMoves IsText) old begin end text made
 
 -- an object
-abbrev pub ObjectMade : {T P F K S L J : Type 0} → Outside T P F K S L → FolderJsonAnswerer J → FolderJsonAnswerer J → T → T → List ℕ → Result JsonLine AllocError → Type 0
+abbrev pub ObjectMade : {T P F K S L J A B C D E G : Type 0} → Outside T P F K S L → FolderJsonAnswerer J A B C D E G → FolderJsonAnswerer J A B C D E G → T → T → List ℕ → Result JsonLine AllocError → Type 0
 ObjectMade o old new begin end text made = IsMade o (AnswersJson old.with_moves) old.folder new.folder begin end text made
 
-abbrev pub ObjectLacked : {T P F K S L J A : Type 0} → Outside T P F K S L → FolderJsonAnswerer J → T → T → List ℕ → Result A AllocError → Type 0
+abbrev pub ObjectLacked : {T P F K S L J A B C D E G X : Type 0} → Outside T P F K S L → FolderJsonAnswerer J A B C D E G → T → T → List ℕ → Result X AllocError → Type 0
 ObjectLacked o old begin end text made = IsLacked o (LacksRoomForJson old.with_moves) old.folder begin end text made
 
 -- a reply is written, and an empty line
