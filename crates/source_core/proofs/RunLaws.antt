@@ -1,32 +1,28 @@
 -- One step of a run, by what happens outside.
-use Rattle.std.proofs.Common.{◌≡◌, ◌∙◌, ◌⊎◌, ◌+◌, ◌-◌, ◌≤◌, ◌++◌, ◌∷◌, [], ℕ, Bool, true, false, List, Option, Some, None, ap, append-nil, append_assoc, arith, inl, inr, length, length-append, refl, subst, sym}
-use Rattle.std.specs.Prelude.{IfSome, Result, Ok, Err}
-use Rattle.std.specs.List.{AllByRecursion}
+use Rattle.std.proofs.Common.{◌≡◌, ◌∙◌, ◌⊎◌, ◌+◌, ◌-◌, ◌++◌, ◌∷◌, [], ℕ, Bool, true, false, List, Option, Some, None, ap, append-nil, append_assoc, inl, inr, length, refl, subst, sym}
+use Rattle.std.specs.Prelude.{IfSome, Ok, Err}
 use Rattle.std.specs.Io.KnownBytes.{IsAtEnd}
 use Rattle.std.specs.declared.net.socket_addr.SocketAddr.{SocketAddr}
-use Rattle.std.proofs.lemmas.Option.{same_Some}
 use Rattle.board_core.specs.declared.moves.Move.{Move as Moves}
 use Rattle.board_core.specs.declared.parts.Parts.{Parts}
 use Rattle.move_msg.specs.declared.stamp.Stamp.{Stamp}
 use Rattle.move_msg.specs.Messages.{message_text}
-use Rattle.move_notation.specs.declared.notation.Notation.{Notation}
 use Rattle.system_io.specs.LineReaders.{ReadsIfAny, ReadsLine}
 use Rattle.system_io.specs.Ports.{Passing}
 use Rattle.system_io.specs.declared.reading.ReadFault.{ReadFault}
 use Rattle.system_io.specs.declared.reading.ReadFault.TheVariants as fault
 use Rattle.system_io.specs.declared.recipient.Recipient.{Recipient}
 use Rattle.timeline.specs.Events.{Event, LineRead, Passes, has_line_feed, line_event, sent_to_each}
-use Rattle.source_core.specs.Heard.{Happened, IsHearing, Moment, heard, sender_after}
+use Rattle.source_core.specs.Heard.{Happened, Moment, heard, sender_after}
 use Rattle.source_core.specs.Inside.Courses.{ClosesWith, CourseAt, StandsWhere, StepsFrom, TakesLine, TakesStep}
 use Rattle.source_core.specs.Inside.Exchanges.{EndsTry}
-use Rattle.source_core.specs.Inside.Steps.{IsPlayedLine, StandsAtInputEnd, end_by, is_ruled, no_cause}
+use Rattle.source_core.specs.Inside.Steps.{IsPlayedLine, StandsAtInputEnd, end_by, no_cause}
 use Rattle.source_core.specs.Lines.{acked_words}
-use Rattle.source_core.specs.Origins.{IsOwn}
-use Rattle.source_core.specs.Reports.{IsAcked, Knows}
-use Rattle.source_core.specs.Runs.{AreTriesOf, ClosesRun, EndsRun, InputEnds, IsLastSent, IsMoveTurn, LastSent, MoveTurn, NoLine, NotSent, RunState, SourceTerms, datagram_of, gone_out, read_and_sent, sends_in, sent_again, unread_end}
+use Rattle.source_core.specs.Reports.{Knows}
+use Rattle.source_core.specs.Runs.{AreTriesOf, EndsRun, InputEnds, IsLastSent, LastSent, NoLine, NotSent, RunState, SourceTerms, datagram_of, gone_out, sends_in, sent_again, unread_end}
 use Rattle.source_core.specs.Sendings.{ClosesSo, IsRefusedLine, IsSentLast, last_of}
-use Rattle.source_core.specs.Tries.{SendsMove, heard_all, heard_each, tries_events, try_events}
-use Rattle.source_core.specs.Turns.{ComesTo, HasSpelling, HasWaited, TurnEndsSo, WaitsSoLong, move_message}
+use Rattle.source_core.specs.Tries.{SendsMove, heard_all, tries_events, try_events}
+use Rattle.source_core.specs.Turns.{ComesTo, HasSpelling, HasWaited, TurnEndsSo, move_message}
 use Rattle.source_core.specs.declared.known.Clash.{Clash}
 use Rattle.source_core.specs.declared.known.Known.{Known}
 use Rattle.source_core.specs.declared.lines.End.{End}
@@ -36,7 +32,7 @@ use Rattle.source_core.specs.declared.turn.Next.TheVariants as next
 use Rattle.source_core.specs.declared.turn.SendConfig.{SendConfig}
 use Rattle.source_core.specs.declared.turn.Turn.{Turn}
 use Rattle.source_core.specs.declared.turn.Turn.TheVariants as at_turn
-use Rattle.source_core.proofs.HeardLaws.{happened_more, heard-append, sent_same, sent_unheard}
+use Rattle.source_core.proofs.HeardLaws.{happened_more, heard-append, sent_unheard}
 use Rattle.source_core.proofs.SendingLaws.{has_waited, not_closed, not_refused}
 
 -- ---- what is heard of a move
