@@ -159,12 +159,12 @@ pub line_sent : (terms : SendConfig) (number : ℕ) (line : List ℕ) (c c' : Co
 line_sent terms number line c c' after m turn o position last played (tries, sends) is left left' had_come old read first g at same from w =
     let its_read : ReadsLine at.input left' line = subst (λ i. ReadsLine i left' line) (sym from) read in
     let its_played : IsPlayedLine g.terms.notation at.position (length at.moves) line m after =
-        subst (λ (t : SendConfig). IsPlayedLine t.notation at.position (length at.moves) line m after) (sym same)
-        (subst (λ p. IsPlayedLine terms.notation p (length at.moves) line m after) (sym w.position)
-        (subst (λ n. IsPlayedLine terms.notation c.position n line m after) w.count played)) in
+    subst (λ (t : SendConfig). IsPlayedLine t.notation at.position (length at.moves) line m after) (sym same)
+    (subst (λ p. IsPlayedLine terms.notation p (length at.moves) line m after) (sym w.position)
+    (subst (λ n. IsPlayedLine terms.notation c.position n line m after) w.count played)) in
     let its_sends : SendsMove g.terms (length at.moves) m (length at.moves + 1) after c.at c'.at c.known c'.known turn tries =
-        subst (λ (t : SendConfig). SendsMove t (length at.moves) m (length at.moves + 1) after c.at c'.at c.known c'.known turn tries) (sym same)
-        (subst (λ n. SendsMove terms n m (n + 1) after c.at c'.at c.known c'.known turn tries) w.count sends) in
+    subst (λ (t : SendConfig). SendsMove t (length at.moves) m (length at.moves + 1) after c.at c'.at c.known c'.known turn tries) (sym same)
+    (subst (λ n. SendsMove terms n m (n + 1) after c.at c'.at c.known c'.known turn tries) w.count sends) in
     let steps : TakesStep no_cause g at left' old (record { position = after; last = Some m; known = c'.known; at = c'.at }) (end_by turn) = turned_so g at line had_come left' after m old c.at c'.at c.known c'.known turn tries its_read its_played its_sends w.knows w.to w.sender first no_cause in
     subst (TakesStep no_cause g at left' old c') (sym is)
     (subst (λ p. TakesStep no_cause g at left' old (record { position = p; last = c'.last; known = c'.known; at = c'.at }) (end_by turn)) (sym position)
@@ -176,9 +176,9 @@ unfolding TakesStep
 line_refused terms number line c end h left left' had_come old read first g at same from w =
     let its_read : ReadsLine at.input left' line = subst (λ i. ReadsLine i left' line) (sym from) read in
     let refused : IsRefusedLine g.terms.notation at.position (length at.moves) line end =
-        subst (λ (t : SendConfig). IsRefusedLine t.notation at.position (length at.moves) line end) (sym same)
-        (subst (λ p. IsRefusedLine terms.notation p (length at.moves) line end) (sym w.position)
-        (subst (λ n. IsRefusedLine terms.notation c.position n line end) w.count h)) in
+    subst (λ (t : SendConfig). IsRefusedLine t.notation at.position (length at.moves) line end) (sym same)
+    (subst (λ p. IsRefusedLine terms.notation p (length at.moves) line end) (sym w.position)
+    (subst (λ n. IsRefusedLine terms.notation c.position n line end) w.count h)) in
     ([], LineRead (Ok (Some line)) had_come ∷ [], NotSent line had_come left' its_read refused refl refl, first, λ is. absurd (not_refused terms.notation c.position number line end h is))
 
 -- ---- the next line
@@ -223,8 +223,8 @@ input_ended cause terms number had_come left left' c d c' end position last know
     let again : List Event = sent_again (sender_after g.sender at.events) g.to g.terms.stamp (length at.moves - 1) (last_of at.moves) in
     let by_last : Happened d.at c'.at (sent_again d.at.sender d.at.to g.terms.stamp (length at.moves - 1) (last_of at.moves) ++ closes.came) = subst (λ l. Happened d.at c'.at (sent_again d.at.sender d.at.to g.terms.stamp (length at.moves - 1) l ++ closes.came)) s.last closes.happened in
     let its : Happened d.at c'.at (again ++ closes.came) =
-        subst (λ (x : Option SocketAddr). Happened d.at c'.at (sent_again x g.to g.terms.stamp (length at.moves - 1) (last_of at.moves) ++ closes.came)) (first.sender ∙ s.sender)
-        (subst (λ (r : List Recipient). Happened d.at c'.at (sent_again d.at.sender r g.terms.stamp (length at.moves - 1) (last_of at.moves) ++ closes.came)) (first.to ∙ s.to) by_last) in
+    subst (λ (x : Option SocketAddr). Happened d.at c'.at (sent_again x g.to g.terms.stamp (length at.moves - 1) (last_of at.moves) ++ closes.came)) (first.sender ∙ s.sender)
+    (subst (λ (r : List Recipient). Happened d.at c'.at (sent_again d.at.sender r g.terms.stamp (length at.moves - 1) (last_of at.moves) ++ closes.came)) (first.to ∙ s.to) by_last) in
     let stands : ClosesSo g.terms.origin g.terms.stamp (length at.moves) at.position (heard at.events ++ heard closes.came) end = subst (λ p. ClosesSo g.terms.origin g.terms.stamp (length at.moves) p (heard at.events ++ heard closes.came) end) (sym s.position) (closes.stands (heard at.events) s.knows) in (
       [],
       LineRead (Ok None) had_come ∷ (again ++ closes.came),

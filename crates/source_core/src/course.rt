@@ -79,13 +79,7 @@ fn send_line<S: System>(
                 m: *m,
                 board,
             };
-            end_of(send_move(
-                system,
-                timeline,
-                terms,
-                sent,
-                &mut course.exchange,
-            ))
+            end_of(send_move(system, timeline, terms, sent, &mut course.exchange))
         }
     }
 }
