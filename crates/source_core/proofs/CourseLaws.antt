@@ -19,7 +19,7 @@ use Rattle.timeline.specs.Events.{Came, Event, LineRead, Missed, Noted, Passes, 
 use Rattle.timeline.specs.Outsides.{AddsSome, Outside}
 use Rattle.timeline.specs.declared.stream.Stream.TheVariants.{Output}
 use Rattle.source_core.specs.Heard.{Happened, IsHearing, IsNote, Moment, OnlyNotes, heard, sender_after}
-use Rattle.source_core.specs.Inside.Courses.{CourseAt, IsBegun, RunsAndSends, StandsWhere, StepsFrom, TakesStep}
+use Rattle.source_core.specs.Inside.Courses.{CourseAt, RunsAndSends, StandsWhere, StepsFrom, TakesStep, nothing_known}
 use Rattle.source_core.specs.Lines.{acked_words, end_words, ended_by}
 use Rattle.source_core.specs.Reports.{Knows}
 use Rattle.source_core.specs.Runs.{AreMoveTurns, ClosesRun, EndsRun, InputEnds, IsMoveTurn, LastSent, LineGoesOut, MoveTurn, NoLine, NotSent, OnlySends, RunState, SendsGame, SourceTerms, ToItsEnd, ToLostLine, datagram_of, gone_out, read_and_sent, run_from, sends_in, sent_again}
@@ -200,7 +200,7 @@ pub record HasRun (F0 F M0 M : Type 0) (terms : SendConfig) (start : Parts) (inp
   pub fails : F → F0
   pub memory : M → M0
 
-pub run_none : (F M : Type 0) (terms : SendConfig) (input : Option (List ℕ)) (c : CourseAt) → IsBegun c → HasRun F F M M terms c.position input input c.at c 0
+pub run_none : (F M : Type 0) (terms : SendConfig) (input : Option (List ℕ)) (c : CourseAt) → (c.last ≡ None) × (c.known ≡ nothing_known) → HasRun F F M M terms c.position input input c.at c 0
 unfolding AreMoveTurns
 run_none F M terms input c begun = record {
   turns = [];
