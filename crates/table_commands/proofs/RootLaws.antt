@@ -1,85 +1,45 @@
--- Replies by a folder that is opened for them, and answers that an empty line follows.
-use Rattle.std.proofs.Common.{◌≡◌, ◌∙◌, ◌++◌, ◌∷◌, ◌==◌, ◌⊎◌, [], ℕ, Bool, List, Option, Some, Result, Ok, Err, ap, append_assoc, inl, map, refl, subst, sym, take}
+-- Words of refusals, and answers that an empty line follows.
+use Rattle.std.proofs.Common.{◌≡◌, ◌∙◌, ◌++◌, ◌∷◌, ◌==◌, [], ℕ, Bool, List, Some, Ok, Err, ap, append_assoc, map, refl, subst, sym, take}
 use Rattle.std.proofs.lemmas.Grind.{flat_map-append}
 use Rattle.std.proofs.lemmas.List.{map-append}
 use Rattle.std.specs.List.{flat_map}
-use Rattle.std.specs.declared.alloc.AllocError.{AllocError}
 use Rattle.answer_parts.proofs.PrintLaws.{Front, Whole, cut_behind}
 use Rattle.answer_parts.specs.Lines.{refusal_words}
 use Rattle.answer_parts.specs.Printing.{AtFlush, AtWrite, IsCutIn, Performs, PrintsReply, WritesText}
-use Rattle.answer_parts.specs.Reply.{Reply, refusal_reply}
+use Rattle.answer_parts.specs.Reply.{Reply}
 use Rattle.answer_parts.specs.declared.answers.refusals.Refusal.{Refusal}
 use Rattle.answer_parts.specs.declared.answers.refusals.Refusal.TheVariants as refusal
-use Rattle.board_core.specs.declared.parts.Parts.{Parts}
-use Rattle.judge_core.specs.Tables.{Tables}
 use Rattle.line_events.specs.Writing.{WritesAnswer}
 use Rattle.line_teller.specs.declared.told_lines.TellFault.TheVariants as tell
 use Rattle.move_msg.specs.TextLines.{ended}
-use Rattle.move_msg.specs.ToldBy.{told_by}
 use Rattle.move_msg.specs.declared.told.Manifest.{Manifest}
-use Rattle.system_io.specs.Disks.{DiskFacts}
 use Rattle.system_io.specs.declared.output.WriteFault.{WriteFault}
-use Rattle.system_io.specs.declared.reading.ReadFault.{ReadFault}
-use Rattle.system_io.specs.declared.reading.ReadFault.TheVariants as read
-use Rattle.table_folder.specs.Folders.{Folder, FolderOn}
-use Rattle.table_folder.specs.Reads.{PassesSome}
-use Rattle.table_folder.specs.declared.fault.FileRefusal.{FileRefusal}
 use Rattle.timeline.proofs.EventLaws.{adds_more}
 use Rattle.timeline.specs.Events.{Event, Wrote}
 use Rattle.timeline.specs.Outsides.{Adds, AddsSome, Outside}
 use Rattle.timeline.specs.declared.stream.Stream.TheVariants.{Output}
-use Rattle.table_commands.specs.FolderReads.{BadLineIs, FindsBy, FolderIs, IsAsOpened, MakesInFolder, NoFolderIs, NoRoomBehind, NoRoomForFolder, OpensToAsk, no_tables}
 use Rattle.table_commands.specs.Root.{refused_words}
-use Rattle.table_commands.proofs.FolderReadLaws.{found_in_set, makes_in, makes_of_found, makes_refusal, no_folder, not_opened}
 
--- ---- replies by a folder that is opened for them
+-- ---- a refusal that is none of a table's file is in the same words as a line and as JSON
 
-module _ {D L X : Type 0} (facts : D → DiskFacts) (events : D → L → Option (List Event)) (words : Refusal → List ℕ) (IsNeeded : Tables → Parts → Type 0) (Is : Tables → X → Type 0) (So : Tables → Reply → Type 0) (f : X → Reply) (so : (tables : Tables) (x : X) → Is tables x → So tables (f x)) (d : D) (path : List ℕ) (manifest : Manifest) (x y : L) where
-  -- none is opened
-  pub refuses_folder : (refused : Refusal) → words refused ≡ refusal_words refused → PassesSome (events d x) (events d y) (OpensToAsk (facts d) path manifest (Ok (Err refused)))
-      → PassesSome (events d x) (events d y) (MakesInFolder (facts d) path (told_by manifest) words IsNeeded So (Ok (refusal_reply (refusal_words refused))))
-  refuses_folder refused same p =
-      makes_refusal (facts d) path manifest words IsNeeded Is So f so refused (Ok (refusal_reply (refusal_words refused))) _ _ (inl (ap (λ (w : List ℕ). Ok (refusal_reply w)) (sym same))) (not_opened (facts d) path manifest IsNeeded Is refused _ _ p)
-
-  pub lacks_folder : (e : AllocError) → PassesSome (events d x) (events d y) (OpensToAsk (facts d) path manifest (Err e)) → PassesSome (events d x) (events d y) (MakesInFolder (facts d) path (told_by manifest) words IsNeeded So (Err read.OutOfMemory))
-  lacks_folder e p = makes_of_found (facts d) path manifest words IsNeeded Is So f so (Err e) (Err read.OutOfMemory) _ _ refl (no_folder (facts d) path manifest IsNeeded Is e e _ _ p)
-
-  -- by its tables
-  module _ (on : FolderOn D) (empty tables : Tables) (z : L) (there : on.disk ≡ d) (none : empty ≡ no_tables) (opens : PassesSome (events d x) (events d y) (OpensToAsk (facts d) path manifest (Ok (Ok on.folder)))) where
-    pub makes_by : (v : X) (result : Result Reply ReadFault) → (result ≡ Ok (f v)) ⊎ (result ≡ Err read.OutOfMemory) → PassesSome (events on.disk y) (events on.disk z) (FindsBy (facts on.disk) on.folder IsNeeded Is empty tables (Ok (Ok v)))
-        → PassesSome (events d x) (events d z) (MakesInFolder (facts d) path (told_by manifest) words IsNeeded So result)
-    makes_by v result is q = makes_in (facts d) path manifest words IsNeeded Is So f so v result _ _ is (found_in_set facts events IsNeeded Is d on empty tables path manifest (Ok (Ok v)) x y z there none opens q)
-
-    pub refuses_file : (file : FileRefusal) (result : Result Reply ReadFault) → (result ≡ Ok (refusal_reply (words (refusal.File file.name file.fault)))) ⊎ (result ≡ Err read.OutOfMemory)
-        → PassesSome (events on.disk y) (events on.disk z) (FindsBy (facts on.disk) on.folder IsNeeded Is empty tables (Ok (Err file)))
-        → PassesSome (events d x) (events d z) (MakesInFolder (facts d) path (told_by manifest) words IsNeeded So result)
-    refuses_file file result is q =
-        makes_refusal (facts d) path manifest words IsNeeded Is So f so (refusal.File file.name file.fault) result _ _ is (found_in_set facts events IsNeeded Is d on empty tables path manifest (Ok (Err file)) x y z there none opens q)
-
-    pub lacks_room : (e : AllocError) → PassesSome (events on.disk y) (events on.disk z) (FindsBy (facts on.disk) on.folder IsNeeded Is empty tables (Err e))
-        → PassesSome (events d x) (events d z) (MakesInFolder (facts d) path (told_by manifest) words IsNeeded So (Err read.OutOfMemory))
-    lacks_room e q = makes_of_found (facts d) path manifest words IsNeeded Is So f so (Err e) (Err read.OutOfMemory) _ _ refl (found_in_set facts events IsNeeded Is d on empty tables path manifest (Err e) x y z there none opens q)
-
--- ---- the refusal of a folder is in the same words as a line and as JSON
-
-same_refusal : (a b : Refusal) → ◌≡◌ {A = Result (Result Folder Refusal) AllocError} (Ok (Err a)) (Ok (Err b)) → a ≡ b
-same_refusal a b e = cc
-
-no_refusal : {X : Type 0} (a : Refusal) (folder : Folder) → ◌≡◌ {A = Result (Result Folder Refusal) AllocError} (Ok (Err a)) (Ok (Ok folder)) → X
-no_refusal a folder e = absurd cc
-
-no_room_refusal : {X : Type 0} (a : Refusal) (f : AllocError) → ◌≡◌ {A = Result (Result Folder Refusal) AllocError} (Ok (Err a)) (Err f) → X
-no_room_refusal a f e = absurd cc
-
-in_words : (json : Bool) (a b : Refusal) → a ≡ b → refused_words json b ≡ refusal_words b → refused_words json a ≡ refusal_words a
-in_words json a b same is = subst (λ (r : Refusal). refused_words json r ≡ refusal_words r) (sym same) is
-
-pub folder_words : (json : Bool) (disk : DiskFacts) (path : List ℕ) (manifest : Manifest) (refused : Refusal) (events : List Event) → OpensToAsk disk path manifest (Ok (Err refused)) events → refused_words json refused ≡ refusal_words refused
-folder_words json disk path manifest refused events (IsAsOpened (BadLineIs line told e none)) = in_words json refused (refusal.Manifest line) (same_refusal refused (refusal.Manifest line) e) refl
-folder_words json disk path manifest refused events (IsAsOpened (FolderIs sound folder opens e)) = no_refusal refused folder e
-folder_words json disk path manifest refused events (IsAsOpened (NoFolderIs sound opens e)) = in_words json refused refusal.Files (same_refusal refused refusal.Files e) refl
-folder_words json disk path manifest refused events (IsAsOpened (NoRoomForFolder sound opens f e)) = no_room_refusal refused f e
-folder_words json disk path manifest refused events (NoRoomBehind folder opens f e) = no_room_refusal refused f e
+pub other_words : (json : Bool) (refused : Refusal) → ((name : _) (fault : _) → refused ≡ refusal.File name fault → ⊥) → refused_words json refused ≡ refusal_words refused
+other_words json (refusal.Fen fault) not = refl
+other_words json (refusal.Manifest line) not = refl
+other_words json (refusal.File name file) not = absurd (not name file refl)
+other_words json (refusal.Message number fault) not = refl
+other_words json (refusal.Line line) not = refl
+other_words json (refusal.Entry line fault) not = refl
+other_words json (refusal.Move place) not = refl
+other_words json (refusal.Record fault) not = refl
+other_words json refusal.Port not = refl
+other_words json refusal.Keeper not = refl
+other_words json refusal.Exists not = refl
+other_words json refusal.InUse not = refl
+other_words json refusal.Store not = refl
+other_words json refusal.Files not = refl
+other_words json refusal.SharedKey not = refl
+other_words json (refusal.Key line) not = refl
+other_words json refusal.Memory not = refl
 
 -- ---- an answer, and an empty line
 

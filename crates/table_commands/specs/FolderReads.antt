@@ -16,22 +16,25 @@ use Rattle.move_msg.specs.declared.told.Manifest.{Manifest}
 use Rattle.system_io.specs.Disks.{DiskFacts}
 use Rattle.system_io.specs.declared.reading.ReadFault.{ReadFault}
 use Rattle.system_io.specs.declared.reading.ReadFault.TheVariants as read
-use Rattle.table_folder.specs.Folders.{AreOf, Folder}
-use Rattle.table_folder.specs.Reads.{OpensFolder, OpensTables}
+use Rattle.table_folder.specs.Folders.{AreOf, Folder, FolderOn}
+use Rattle.table_folder.specs.Reads.{OpensFolder, OpensTables, PassesSome}
 use Rattle.table_folder.specs.Settled.{AddsOnlyMissed, AreSettled, IsRefusedFor}
 use Rattle.table_folder.specs.declared.fault.FileRefusal.{FileRefusal}
 use Rattle.task_files.specs.Given.{Given}
 use Rattle.task_files.specs.InputReads.{Reading}
 use Rattle.timeline.specs.Events.{Event}
+use Rattle.timeline.specs.Outsides.{AddsSome, Outside}
 use Rattle.answer_parts.specs.Asked.{reply_of}
 use Rattle.answer_parts.specs.Lines.{refusal_words, refused_fen}
 use Rattle.answer_parts.specs.Looks.{gathered}
-use Rattle.answer_parts.specs.Printing.{Prints, printed}
+use Rattle.answer_parts.specs.Printing.{Performs, Prints, printed}
 use Rattle.answer_parts.specs.Reply.{ByTables, Reply, refusal_reply}
 use Rattle.answer_parts.specs.declared.answers.Answer.{Answer}
 use Rattle.answer_parts.specs.declared.answers.refusals.Refusal.{Refusal}
 use Rattle.answer_parts.specs.declared.answers.refusals.Refusal.TheVariants as refusal
-use Rattle.table_commands.specs.FolderAnswers.{IsSound}
+use Rattle.table_commands.specs.FolderAnswers.{IsSound, TablesOn}
+use Rattle.system_io.specs.Inputs.{InputFacts}
+use Rattle.system_io.specs.declared.output.WriteFault.{WriteFault}
 
 -- ---- a folder
 
@@ -62,6 +65,14 @@ pub data FindsBy {X : Type 0} (disk : DiskFacts) (folder : Folder) (IsNeeded : T
 pub data FindsKept {X : Type 0} (disk : DiskFacts) (folder : Folder) (IsNeeded : Tables → Parts → Type 0) (Is : Tables → X → Type 0) (old new : Tables) (found : Result (Result X FileRefusal) AllocError) (events : List Event) : Type 0 where
   Kept : (r : Result X FileRefusal) → FindsBy disk folder IsNeeded Is old new (Ok r) events → found ≡ Ok r → FindsKept disk folder IsNeeded Is old new found events
   Apart : (e : AllocError) (alone : Tables) (first second : List Event) → FindsBy disk folder IsNeeded Is old new (Err e) first → FindsBy disk folder IsNeeded Is no_tables alone found second → events ≡ first ++ second → FindsKept disk folder IsNeeded Is old new found events
+
+-- So it is found by a folder whose files are somewhere, from one moment of a log to a later one.
+abbrev pub FindsFrom : {D L X : Type 0} → (D → DiskFacts) → (D → L → Option (List Event)) → FolderOn D → L → L → (Tables → Parts → Type 0) → (Tables → X → Type 0) → Tables → Tables → Result (Result X FileRefusal) AllocError → Type 0
+FindsFrom facts events on begin end IsNeeded Is old new found = PassesSome (events on.disk begin) (events on.disk end) (FindsBy (facts on.disk) on.folder IsNeeded Is old new found)
+
+-- So it is found by an open folder over an outside, from one moment to a later one.
+abbrev pub FindsOpen : {T P F K S L D X : Type 0} → Outside T P F K S L → TablesOn D → TablesOn D → T → T → (Tables → Parts → Type 0) → (Tables → X → Type 0) → Result (Result X FileRefusal) AllocError → Type 0
+FindsOpen o old new begin end IsNeeded Is found = AddsSome o begin end (FindsKept o.disk old.on.folder IsNeeded Is old.tables new.tables found)
 
 -- what is found, with the refusal of a file as one of all
 abbrev pub found_by : {X : Type 0} → Result (Result X FileRefusal) AllocError → Result (Result X Refusal) AllocError
@@ -98,6 +109,10 @@ abbrev pub MakesInFolder : DiskFacts → List ℕ → Option ToldManifest → (R
 MakesInFolder disk path told words IsNeeded Is result events =
     (manifest : Manifest) × (told_by manifest ≡ told) × ((found : Result (Result Reply Refusal) AllocError) × FindsIn disk path manifest IsNeeded Is found events × IsReplyOf words found result)
 
+-- a reply is made where files are somewhere, from one moment of a log to a later one
+abbrev pub MakesFrom : {D L E : Type 0} → (D → DiskFacts) → (D → L → Option (List Event)) → D → L → L → (DiskFacts → Reading Reply) → Result Answer E → Type 0
+MakesFrom facts events d begin end Makes made = PassesSome (events d begin) (events d end) (Makes (facts d) (made_reply made))
+
 -- a reply by tables that were given, for which nothing more is read
 abbrev pub MakesOfGiven : Result Tables (List ℕ) → (Tables → Parts → Reply → Type 0) → Parts → Reading Reply
 MakesOfGiven tables IsAnswer p result events = (events ≡ []) × ((result ≡ Err read.OutOfMemory) ⊎ ((reply : Reply) × (result ≡ Ok reply) × ByTables tables IsAnswer p reply))
@@ -116,6 +131,10 @@ fen_refusal fault = refusal_reply (refused_fen fault)
 -- what a command does: all its events with its status, or the first of them with none
 abbrev pub Doing : Type 1
 Doing = List Event → Option ℕ → Type 0
+
+-- it is done over an outside, from one moment to a later one; where the output failed, a front of it
+abbrev pub DoesOver : {T P F K S L : Type 0} → Outside T P F K S L → T → T → (DiskFacts → InputFacts → Doing) → Result ℕ WriteFault → Type 0
+DoesOver o begin end Does result = AddsSome o begin end (Performs (Does o.disk o.input) result)
 
 -- the folder at a path is opened, and then this is done by it; or its refusal is written, or that memory was refused
 pub data DoesWith (disk : DiskFacts) (path : List ℕ) (manifest : Manifest) (Does : Folder → Doing) (events : List Event) (status : Option ℕ) : Type 0 where

@@ -72,6 +72,10 @@ abbrev pub FollowsBy : DiskFacts → InputFacts → Given → Option (Bor (List 
 FollowsBy disk input given (Some path) game events status = (manifest : Manifest) × (told_by manifest ≡ given.told) × FollowsInFolder disk input path.now manifest game events status
 FollowsBy disk input given None game events status = FollowsByAll input (gathered given) game events status
 
+-- as the command asks for it
+abbrev pub FollowsTask : Follow → Given → FollowedGame → DiskFacts → InputFacts → List Event → Option ℕ → Type 0
+FollowsTask t given game disk input = FollowsBy disk input given (read_when_asked (not t.all_tables) t.tables) game
+
 -- the game from this start
 abbrev pub game_from : Follow → Parts → FollowedGame
 game_from t start = record { notation = notation_by t.san; start = start; delay = t.delay }
@@ -79,7 +83,7 @@ game_from t start = record { notation = notation_by t.san; start = start; delay 
 -- by what was read: the refusal of the text of the start; or else the game from there
 pub data FollowsGiven (disk : DiskFacts) (input : InputFacts) (t : Follow) (given : Given) (events : List Event) (status : Option ℕ) : Type 0 where
   BadStart : (fault : FenFault) → IsFirstFenFault t.fen.now fault → Prints (refused_fen fault ∷ []) 1 events status → FollowsGiven disk input t given events status
-  FromStart : (start : Parts) → SpellsPosition t.fen.now start → IsPosition start → FollowsBy disk input given (read_when_asked (not t.all_tables) t.tables) (game_from t start) events status → FollowsGiven disk input t given events status
+  FromStart : (start : Parts) → SpellsPosition t.fen.now start → IsPosition start → FollowsTask t given (game_from t start) disk input events status → FollowsGiven disk input t given events status
 
 -- what it names is read, and then that is done
 abbrev pub FollowsGame : {T P F K S L : Type 0} → Outside T P F K S L → Follow → List Event → Option ℕ → Type 0

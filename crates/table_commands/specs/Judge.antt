@@ -32,6 +32,9 @@ abbrev pub JudgesAt : DiskFacts → Given → Option (Bor (List ℕ)) → Parts 
 JudgesAt disk given (Some path) p = MakesInFolder disk path.now given.told refusal_words (IsAlone p) (JudgedBy p)
 JudgesAt disk given None p = MakesOfGiven (gathered given) IsJudged p
 
+abbrev pub JudgesGiven : DiskFacts → Judge → Given → Parts → Reading Reply
+JudgesGiven disk t given = JudgesAt disk given (read_when_asked t.lazy t.tables)
+
 -- its reply after what it names was read, by what happens outside
 abbrev pub Judges : DiskFacts → Judge → Given → Reading Reply
-Judges disk t given = MakesForText t.fen.now fen_refusal (JudgesAt disk given (read_when_asked t.lazy t.tables))
+Judges disk t given = MakesForText t.fen.now fen_refusal (JudgesGiven disk t given)

@@ -10,7 +10,9 @@ use Rattle.task_files.specs.Given.{Given}
 use Rattle.task_files.specs.InputReads.{ReadsGiven}
 use Rattle.task_files.specs.Sources.{Named}
 use Rattle.timeline.specs.Outsides.{Outside}
-use Rattle.table_commands.specs.FolderReads.{Doing, DoesByPlace}
+use Rattle.table_commands.specs.FolderReads.{Doing, DoesByPlace, DoesInFolder, DoesOfGiven}
+use Rattle.answer_parts.specs.Looks.{gathered}
+use Rattle.move_msg.specs.ToldManifests.{ToldManifest}
 
 -- such a task
 pub record LineAsking : Type 1 where
@@ -24,6 +26,13 @@ pub record LineAsking : Type 1 where
 
 abbrev pub DoesGiven : DiskFacts → InputFacts → LineAsking → Given → Doing
 DoesGiven disk input t given = DoesByPlace disk given t.path (t.InFolder disk input) (t.ByTables input)
+
+-- by the folder at a path, and by tables that were given
+abbrev pub AnswersInFolder : LineAsking → List ℕ → Option ToldManifest → DiskFacts → InputFacts → Doing
+AnswersInFolder t path told disk input = DoesInFolder disk path told (t.InFolder disk input)
+
+abbrev pub AnswersOfGiven : LineAsking → Given → InputFacts → Doing
+AnswersOfGiven t given input = DoesOfGiven (gathered given) (t.ByTables input)
 
 -- what it names is read, and then that is done
 abbrev pub AnswersLinesOf : {T P F K S L : Type 0} → Outside T P F K S L → LineAsking → Doing

@@ -36,6 +36,9 @@ abbrev pub ProbesAt : DiskFacts → Given → Option (Bor (List ℕ)) → Parts 
 ProbesAt disk given (Some path) p = MakesInFolder disk path.now given.told refusal_words (IsAlone p) (ProbedBy p)
 ProbesAt disk given None p = MakesOfGiven (gathered given) IsProbeReply p
 
+abbrev pub ProbesGiven : DiskFacts → Probe → Given → Parts → Reading Reply
+ProbesGiven disk t given = ProbesAt disk given (read_when_asked t.lazy (Some t.tables))
+
 -- its reply after what it names was read, by what happens outside
 abbrev pub Probes : DiskFacts → Probe → Given → Reading Reply
-Probes disk t given = MakesForText t.fen.now fen_refusal (ProbesAt disk given (read_when_asked t.lazy (Some t.tables)))
+Probes disk t given = MakesForText t.fen.now fen_refusal (ProbesGiven disk t given)

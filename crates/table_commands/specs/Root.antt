@@ -99,9 +99,12 @@ abbrev pub RanksAt : DiskFacts → Root → Given → Parts → Option (Bor (Lis
 RanksAt disk t given p (Some path) = MakesInFolder disk path.now given.told (refused_words t.json) (IsWithMoves p) (λ tables. IsToldIn t.json Strict tables p)
 RanksAt disk t given p None = MakesOfGiven (gathered given) (IsToldIn t.json (ask_of t.determined)) p
 
+abbrev pub RanksGiven : DiskFacts → Root → Given → Parts → Reading Reply
+RanksGiven disk t given p = RanksAt disk t given p (read_when_asked (is_lazy t) (Some t.tables))
+
 -- its reply after what it names was read, by what happens outside
 abbrev pub RanksText : List ℕ → DiskFacts → Root → Given → Reading Reply
-RanksText text disk t given = MakesForText text (refused_in t.json) (λ p. RanksAt disk t given p (read_when_asked (is_lazy t) (Some t.tables)))
+RanksText text disk t given = MakesForText text (refused_in t.json) (RanksGiven disk t given)
 
 -- ---- the positions of the input
 

@@ -1,30 +1,21 @@
 //! The tables of a folder that are read when a position asks for them.
 
-ghost use Rattle.std.specs.Prelude.{◌≡◌, IfOk, IfErr, false, true};
+ghost use Rattle.std.specs.Prelude.{◌≡◌, IfOk, IfErr, false};
 ghost use Rattle.table_folder.specs.Folders.{AreOf};
-ghost use Rattle.table_folder.specs.Settled.{IsAlone, IsWithMoves};
-ghost use Rattle.timeline.specs.Outsides.{AddsSome};
 ghost use Rattle.move_msg.specs.ToldBy.{told_by};
-ghost use Rattle.json_lines.specs.Told.{IsLineOf};
-ghost use Rattle.judge_core.specs.declared.ask.Ask.TheVariants.{Strict};
-ghost use Rattle.table_commands.specs.Courses.{IsOutcomeOf, in_play_of};
-ghost use Rattle.table_commands.specs.Root.{IsRootReply};
 ghost use Rattle.table_commands.specs.FolderAnswers.{IsOpenAt};
-ghost use Rattle.table_commands.specs.FolderReads.{FindsBy, FindsIn, FindsKept, OpensAt, OpensToAsk, no_tables};
+ghost use Rattle.table_commands.specs.FolderReads.{FindsOpen, OpensAt, OpensToAsk, no_tables};
 ghost use Rattle.table_folder.specs.Reads.{PassesSome};
-ghost use Rattle.table_commands.specs.JsonAnswers.{needed_by};
-ghost use Rattle.answer_parts.specs.Asked.{reply_of};
-ghost use Rattle.table_commands.specs.Inside.Courses.{course_of};
-ghost use Rattle.table_commands.specs.Inside.LookingUp.{AreColumns, LacksFolder, folder_opened, kept_to_ask, opened_to_ask};
+ghost use Rattle.table_commands.specs.Inside.Asking.{FindsAt, FindsLine};
+ghost use Rattle.table_commands.specs.Inside.LookingUp.{LacksFolder, folder_opened, opened_to_ask, OpensKept};
 
-use crate::judging::{Course, judge_game};
-use crate::root::told_by;
-use answer_parts::{Answer, Refusal};
+use crate::questions::{ColumnsOf, FolderQuestion, JsonOf};
+use answer_parts::Refusal;
 use board_core::Position;
 use bumpalo::Bump;
 use command_line::{CacheSize, Megabytes};
 use json_lines::{JsonLine, PositionTold};
-use judge_core::{Ask, Columns, GameOutcome, Set};
+use judge_core::Set;
 use move_msg::Manifest;
 use std::alloc::{AllocError, Global};
 use std::marker::Model;
@@ -73,65 +64,6 @@ pub(crate) fn folder_at<'r, F: TableFiles>(
         Ok(folder) => Ok(Ok(folder)),
         Err(ReadFault::Unreadable) => Ok(Err(Refusal::Files)),
         Err(ReadFault::OutOfMemory) => Err(AllocError),
-    }
-}
-
-/// Both probes of a position, and the verdict on it, by the tables of a folder that it asks for.
-fn columns_by<'r, F: TableFiles>(
-    alloc: Global,
-    log: &mut F::Log,
-    folder: &TableFolder<'r, F>,
-    set: &mut Set<'r>,
-    position: &Position,
-) -> Result<Result<Columns, FileRefusal>, AllocError>
-    requires { AreOf (F.facts folder.now.disk) folder.now.folder set.old.tables }
-    ensures opened { AreOf (F.facts folder.now.disk) folder.now.folder set.new.tables }
-    ensures made { PassesSome (F.events folder.now.disk log.old) (F.events folder.now.disk log.new) (FindsBy (F.facts folder.now.disk) folder.now.folder (IsAlone position.now) (AreColumns position.now) set.old.tables set.new.tables result) }
-{
-    folder.settle(log, alloc, set, position)
-}
-
-/// What is told of the legal moves of a position, and of the position, by the tables of a folder that it and those after its moves ask for.
-pub(crate) fn moves_told_by<'r, F: TableFiles>(
-    alloc: Global,
-    log: &mut F::Log,
-    folder: &TableFolder<'r, F>,
-    set: &mut Set<'r>,
-    position: &Position,
-) -> Result<Result<Answer, FileRefusal>, AllocError>
-    requires { AreOf (F.facts folder.now.disk) folder.now.folder set.old.tables }
-    ensures opened { AreOf (F.facts folder.now.disk) folder.now.folder set.new.tables }
-    ensures made { PassesSome (F.events folder.now.disk log.old) (F.events folder.now.disk log.new) (FindsBy (F.facts folder.now.disk) folder.now.folder (IsWithMoves position.now) (λ tables a. IsRootReply Strict tables position.now (reply_of a)) set.old.tables set.new.tables result) }
-{
-    match folder.settle_moves(log, alloc, set, position) {
-        Ok(Ok(())) => match told_by(Ask::Strict, alloc, set, position) {
-            Ok(answer) => Ok(Ok(answer)),
-            Err(fault) => Err(fault),
-        },
-        Ok(Err(refusal)) => Ok(Err(refusal)),
-        Err(fault) => Err(fault),
-    }
-}
-
-/// The same, to be written as JSON.
-pub(crate) fn json_with_moves_by<'r, F: TableFiles>(
-    alloc: Global,
-    log: &mut F::Log,
-    folder: &TableFolder<'r, F>,
-    set: &mut Set<'r>,
-    position: &Position,
-) -> Result<Result<JsonLine, FileRefusal>, AllocError>
-    requires { AreOf (F.facts folder.now.disk) folder.now.folder set.old.tables }
-    ensures opened { AreOf (F.facts folder.now.disk) folder.now.folder set.new.tables }
-    ensures made { PassesSome (F.events folder.now.disk log.old) (F.events folder.now.disk log.new) (FindsBy (F.facts folder.now.disk) folder.now.folder (IsWithMoves position.now) (λ tables l. IsLineOf Strict true tables position.now l) set.old.tables set.new.tables result) }
-{
-    match folder.settle_moves(log, alloc, set, position) {
-        Ok(Ok(())) => match JsonLine::of_position(alloc, set, position, Ask::Strict, true) {
-            Ok(line) => Ok(Ok(line)),
-            Err(fault) => Err(fault),
-        },
-        Ok(Err(refusal)) => Ok(Err(refusal)),
-        Err(fault) => Err(fault),
     }
 }
 
@@ -196,7 +128,7 @@ impl<'r, 's, S: System> OpenFolder<'r, 's, S> {
     ) -> Result<Result<OpenFolder<'r, 's, S>, Refusal>, AllocError>
         ensures files { IfOk result (λ found. IfOk found (λ o. o.on.disk ≡ files.now)) }
         ensures empty { IfOk result (λ found. IfOk found (λ o. o.tables ≡ no_tables)) }
-        ensures made { AddsSome (S.outside files.now.system.now) timeline.old timeline.new (OpensToAsk (S.outside files.now.system.now).disk path.now manifest.now (kept_to_ask result)) }
+        ensures made { OpensKept (S.outside files.now.system.now) timeline.old timeline.new path.now manifest.now result }
     {
         match opened_at(alloc, files, timeline, path, manifest, arena) {
             Ok(Ok((folder, set))) => Ok(Ok(OpenFolder { alloc, folder, set })),
@@ -205,16 +137,16 @@ impl<'r, 's, S: System> OpenFolder<'r, 's, S> {
         }
     }
 
-    /// Both probes of a position, and the verdict on it.
-    pub(crate) fn columns(
+    /// What is found by the tables that stay open, or by tables that are read for it alone; or the refusal of the file of one of them.
+    pub(crate) fn ask<Q: FolderQuestion>(
         &mut self,
         timeline: &mut S::Timeline,
-        position: &Position,
-    ) -> Result<Result<Columns, FileRefusal>, AllocError>
-        ensures made { AddsSome (S.outside self.old.on.disk.system.now) timeline.old timeline.new (FindsKept (S.outside self.old.on.disk.system.now).disk self.old.on.folder (IsAlone position.now) (AreColumns position.now) self.old.tables self.new.tables result) }
+        asked: &Q,
+    ) -> Result<Result<Q::Found, FileRefusal>, AllocError>
+        ensures made { FindsOpen (S.outside self.old.on.disk.system.now) self.old self.new timeline.old timeline.new (Q.needed asked.now) (Q.finds asked.now) result }
         ensures on { self.new.on ≡ self.old.on }
     {
-        match columns_by(self.alloc, timeline, &self.folder, &mut self.set, position) {
+        match asked.ask(self.alloc, timeline, &self.folder, &mut self.set) {
             Ok(found) => return Ok(found),
             Err(_) => {}
         }
@@ -227,57 +159,7 @@ impl<'r, 's, S: System> OpenFolder<'r, 's, S> {
             Ok(set) => set,
             Err(fault) => return Err(fault),
         };
-        columns_by(self.alloc, timeline, &folder, &mut set, position)
-    }
-
-    /// What is told of the legal moves of a position, and of the position.
-    pub(crate) fn moves_told(
-        &mut self,
-        timeline: &mut S::Timeline,
-        position: &Position,
-    ) -> Result<Result<Answer, FileRefusal>, AllocError>
-        ensures made { AddsSome (S.outside self.old.on.disk.system.now) timeline.old timeline.new (FindsKept (S.outside self.old.on.disk.system.now).disk self.old.on.folder (IsWithMoves position.now) (λ tables a. IsRootReply Strict tables position.now (reply_of a)) self.old.tables self.new.tables result) }
-        ensures on { self.new.on ≡ self.old.on }
-    {
-        match moves_told_by(self.alloc, timeline, &self.folder, &mut self.set, position) {
-            Ok(found) => return Ok(found),
-            Err(_) => {}
-        }
-        let arena = Bump::new(self.alloc);
-        let folder = match self.folder.apart(&arena) {
-            Ok(folder) => folder,
-            Err(fault) => return Err(fault),
-        };
-        let mut set = match folder.new_set(self.alloc, CacheSize::usual().blocks()) {
-            Ok(set) => set,
-            Err(fault) => return Err(fault),
-        };
-        moves_told_by(self.alloc, timeline, &folder, &mut set, position)
-    }
-
-    /// What is told of a position and of its legal moves, to be written as JSON.
-    fn json_with_moves(
-        &mut self,
-        timeline: &mut S::Timeline,
-        position: &Position,
-    ) -> Result<Result<JsonLine, FileRefusal>, AllocError>
-        ensures made { AddsSome (S.outside self.old.on.disk.system.now) timeline.old timeline.new (FindsKept (S.outside self.old.on.disk.system.now).disk self.old.on.folder (IsWithMoves position.now) (λ tables l. IsLineOf Strict true tables position.now l) self.old.tables self.new.tables result) }
-        ensures on { self.new.on ≡ self.old.on }
-    {
-        match json_with_moves_by(self.alloc, timeline, &self.folder, &mut self.set, position) {
-            Ok(found) => return Ok(found),
-            Err(_) => {}
-        }
-        let arena = Bump::new(self.alloc);
-        let folder = match self.folder.apart(&arena) {
-            Ok(folder) => folder,
-            Err(fault) => return Err(fault),
-        };
-        let mut set = match folder.new_set(self.alloc, CacheSize::usual().blocks()) {
-            Ok(set) => set,
-            Err(fault) => return Err(fault),
-        };
-        json_with_moves_by(self.alloc, timeline, &folder, &mut set, position)
+        asked.ask(self.alloc, timeline, &folder, &mut set)
     }
 
     /// What is told of a position, to be written as JSON.
@@ -286,10 +168,10 @@ impl<'r, 's, S: System> OpenFolder<'r, 's, S> {
         timeline: &mut S::Timeline,
         position: &Position,
     ) -> Result<Result<JsonLine, FileRefusal>, AllocError>
-        ensures made { AddsSome (S.outside self.old.on.disk.system.now) timeline.old timeline.new (FindsKept (S.outside self.old.on.disk.system.now).disk self.old.on.folder (IsAlone position.now) (λ tables l. IsLineOf Strict false tables position.now l) self.old.tables self.new.tables result) }
+        ensures made { FindsLine (S.outside self.old.on.disk.system.now) self.old self.new timeline.old timeline.new false position.now result }
         ensures on { self.new.on ≡ self.old.on }
     {
-        match self.columns(timeline, position) {
+        match self.ask(timeline, &ColumnsOf { position }) {
             Ok(Ok(columns)) => Ok(Ok(JsonLine::Position(PositionTold {
                 position: *position,
                 columns,
@@ -306,51 +188,26 @@ impl<'r, 's, S: System> OpenFolder<'r, 's, S> {
         position: &Position,
         with_moves: bool,
     ) -> Result<Result<JsonLine, FileRefusal>, AllocError>
-        ensures made { AddsSome (S.outside self.old.on.disk.system.now) timeline.old timeline.new (FindsKept (S.outside self.old.on.disk.system.now).disk self.old.on.folder (needed_by with_moves position.now) (λ tables l. IsLineOf Strict with_moves tables position.now l) self.old.tables self.new.tables result) }
+        ensures made { FindsLine (S.outside self.old.on.disk.system.now) self.old self.new timeline.old timeline.new with_moves position.now result }
         ensures on { self.new.on ≡ self.old.on }
     {
         if with_moves {
-            self.json_with_moves(timeline, position)
+            self.ask(timeline, &JsonOf { position })
         } else {
             self.json_alone(timeline, position)
         }
     }
-
-    /// What a game comes to.
-    pub(crate) fn outcome(
-        &mut self,
-        timeline: &mut S::Timeline,
-        game: &Course<'_>,
-    ) -> Result<Result<GameOutcome, FileRefusal>, AllocError>
-        ensures made { AddsSome (S.outside self.old.on.disk.system.now) timeline.old timeline.new (FindsKept (S.outside self.old.on.disk.system.now).disk self.old.on.folder (in_play_of (course_of game.now)) (IsOutcomeOf (course_of game.now)) self.old.tables self.new.tables result) }
-        ensures on { self.new.on ≡ self.old.on }
-    {
-        match judge_game(self.alloc, timeline, &self.folder, &mut self.set, game) {
-            Ok(found) => return Ok(found),
-            Err(_) => {}
-        }
-        let arena = Bump::new(self.alloc);
-        let folder = match self.folder.apart(&arena) {
-            Ok(folder) => folder,
-            Err(fault) => return Err(fault),
-        };
-        let mut set = match folder.new_set(self.alloc, CacheSize::usual().blocks()) {
-            Ok(set) => set,
-            Err(fault) => return Err(fault),
-        };
-        judge_game(self.alloc, timeline, &folder, &mut set, game)
-    }
 }
 
-/// Both probes of a position and the verdict on it by the tables of a folder, of which those are read that the position asks for, or
-/// the refusal: of a malformed manifest, then of the folder, then of the first file that is asked for and at fault.
-pub(crate) fn columns_in<F: TableFiles>(
+/// What is found by the folder at a place, of whose tables those are read that the question needs. Or the refusal: of a malformed manifest,
+/// then of the folder, then of the first file that is needed and at fault.
+pub(crate) fn ask_at<F: TableFiles, Q: FolderQuestion>(
     alloc: Global,
     log: &mut F::Log,
     place: &FolderPlace<'_, F>,
-    position: &Position,
-) -> Result<Result<Columns, Refusal>, AllocError>
-    ensures { PassesSome (F.events place.now.disk.now log.old) (F.events place.now.disk.now log.new) (FindsIn (F.facts place.now.disk.now) place.now.path.now place.now.manifest.now (IsAlone position.now) (AreColumns position.now) result) }
+    asked: &Q,
+) -> Result<Result<Q::Found, Refusal>, AllocError>
+    ensures { FindsAt F.facts F.events place.now log.old log.new (Q.needed asked.now) (Q.finds asked.now) result }
 {
     let arena = Bump::new(alloc);
     let (folder, mut set) = match opened_at(
@@ -365,8 +222,8 @@ pub(crate) fn columns_in<F: TableFiles>(
         Ok(Err(refusal)) => return Ok(Err(refusal)),
         Err(fault) => return Err(fault),
     };
-    match columns_by(alloc, log, &folder, &mut set, position) {
-        Ok(Ok(columns)) => Ok(Ok(columns)),
+    match asked.ask(alloc, log, &folder, &mut set) {
+        Ok(Ok(found)) => Ok(Ok(found)),
         Ok(Err(refused)) => Ok(Err(Refusal::File(refused.name, refused.fault))),
         Err(fault) => Err(fault),
     }

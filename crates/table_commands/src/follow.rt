@@ -1,11 +1,11 @@
 //! `follow`: the game of the moves of the input, ply by ply as they come.
 
-ghost use Rattle.std.specs.Prelude.{◌≡◌, OnErr, not};
+ghost use Rattle.std.specs.Prelude.{◌≡◌, OnErr};
 ghost use Rattle.answer_parts.specs.Looks.{gathered};
 ghost use Rattle.answer_parts.specs.Printing.{OutputFails, Performs};
-ghost use Rattle.command_line.specs.LazyFolders.{read_when_asked};
-ghost use Rattle.table_commands.specs.Follow.{FollowsBy, FollowsByAll, FollowsGame, FollowsGiven, FollowsInFolder, FollowsOpened};
+ghost use Rattle.table_commands.specs.Follow.{FollowsByAll, FollowsGame, FollowsGiven, FollowsInFolder, FollowsOpened, FollowsTask};
 ghost use Rattle.timeline.specs.Outsides.{AddsSome};
+ghost use Rattle.table_commands.specs.FolderReads.{DoesOver};
 
 use crate::folders::folder_at;
 use crate::judging::{begin, move_on};
@@ -92,7 +92,7 @@ fn follow_opened<'r, 's, S: System>(
     timeline: &mut S::Timeline,
 ) -> Result<u8, WriteFault>
     requires { folder.disk.system.now ≡ system.now }
-    ensures made { AddsSome (S.outside system.now) timeline.old timeline.new (Performs (FollowsOpened (S.outside system.now).disk (S.outside system.now).input folder.entry.folder game.now) result) }
+    ensures made { DoesOver (S.outside system.now) timeline.old timeline.new (λ disk input. FollowsOpened disk input folder.entry.folder game.now) result }
     ensures cause { OnErr result (OutputFails (S.outside system.now)) }
 {
     match folder.new_set(alloc, CacheSize::usual().blocks()) {
@@ -113,7 +113,7 @@ fn follow_in<S: System>(
     system: &S,
     timeline: &mut S::Timeline,
 ) -> Result<u8, WriteFault>
-    ensures made { AddsSome (S.outside system.now) timeline.old timeline.new (Performs (FollowsInFolder (S.outside system.now).disk (S.outside system.now).input path.now manifest.now game.now) result) }
+    ensures made { DoesOver (S.outside system.now) timeline.old timeline.new (λ disk input. FollowsInFolder disk input path.now manifest.now game.now) result }
     ensures cause { OnErr result (OutputFails (S.outside system.now)) }
 {
     let files = SystemFiles { system };
@@ -133,7 +133,7 @@ fn follow_by_all<S: System>(
     system: &S,
     timeline: &mut S::Timeline,
 ) -> Result<u8, WriteFault>
-    ensures made { AddsSome (S.outside system.now) timeline.old timeline.new (Performs (FollowsByAll (S.outside system.now).input (gathered sources.now) game.now) result) }
+    ensures made { DoesOver (S.outside system.now) timeline.old timeline.new (λ _ input. FollowsByAll input (gathered sources.now) game.now) result }
     ensures cause { OnErr result (OutputFails (S.outside system.now)) }
 {
     match gather(alloc, sources, CacheSize::usual()) {
@@ -155,7 +155,7 @@ fn follow_by<S: System>(
     system: &S,
     timeline: &mut S::Timeline,
 ) -> Result<u8, WriteFault>
-    ensures made { AddsSome (S.outside system.now) timeline.old timeline.new (Performs (FollowsBy (S.outside system.now).disk (S.outside system.now).input sources.now (read_when_asked (not task.now.all_tables) task.now.tables) game.now) result) }
+    ensures made { DoesOver (S.outside system.now) timeline.old timeline.new (FollowsTask task.now sources.now game.now) result }
     ensures cause { OnErr result (OutputFails (S.outside system.now)) }
 {
     match read_when_asked(!task.all_tables, task.tables) {
@@ -172,7 +172,7 @@ fn follow_given<S: System>(
     system: &S,
     timeline: &mut S::Timeline,
 ) -> Result<u8, WriteFault>
-    ensures made { AddsSome (S.outside system.now) timeline.old timeline.new (Performs (FollowsGiven (S.outside system.now).disk (S.outside system.now).input task.now sources.now) result) }
+    ensures made { DoesOver (S.outside system.now) timeline.old timeline.new (λ disk input. FollowsGiven disk input task.now sources.now) result }
     ensures cause { OnErr result (OutputFails (S.outside system.now)) }
 {
     match read(task.fen.as_bytes()) {

@@ -1,23 +1,21 @@
 //! `game`: the game of the moves of the input, and its outcome.
 
-ghost use Rattle.std.specs.Prelude.{◌≡◌, IfOk, not};
+ghost use Rattle.std.specs.Prelude.{◌≡◌, IfOk};
 ghost use Rattle.answer_parts.specs.Asked.{reply_of};
 ghost use Rattle.answer_parts.specs.Lines.{refusal_words};
 ghost use Rattle.answer_parts.specs.Looks.{gathered};
 ghost use Rattle.answer_parts.specs.Reply.{ByTables};
-ghost use Rattle.command_line.specs.LazyFolders.{read_when_asked};
-ghost use Rattle.move_msg.specs.ToldBy.{told_by};
 ghost use Rattle.table_commands.specs.Courses.{in_play_of};
-ghost use Rattle.table_commands.specs.FolderReads.{MakesInFolder, made_reply};
+ghost use Rattle.table_commands.specs.FolderReads.{made_reply, MakesFrom};
 ghost use Rattle.table_commands.specs.Game.{IsOutcomeOfGiven, IsOutcomeReply, JudgesCourse, PlaysFrom, PlaysGame, are_all_legal, outcome_reply};
 ghost use Rattle.table_commands.specs.Inside.Courses.{course_of};
 ghost use Rattle.table_folder.specs.Reads.{PassesSome};
+ghost use Rattle.table_commands.specs.Inside.Asking.{MakesAt};
 
-use crate::folders::{FolderPlace, opened_at};
-use crate::judging::{Course, judge_game};
+use crate::folders::{FolderPlace, ask_at};
+use crate::judging::Course;
 use answer_parts::{Answer, Line, Refusal, gather};
 use board_core::{Move, Position};
-use bumpalo::Bump;
 use command_line::{CacheSize, FollowGame, read_when_asked};
 use fen_text::read;
 use judge_core::{GameOutcome, Outcome};
@@ -55,25 +53,11 @@ fn outcome_in<F: TableFiles>(
     place: &FolderPlace<'_, F>,
     game: &Course<'_>,
 ) -> Result<Answer, AllocError>
-    ensures { PassesSome (F.events place.now.disk.now log.old) (F.events place.now.disk.now log.new) (MakesInFolder (F.facts place.now.disk.now) place.now.path.now (told_by place.now.manifest.now) refusal_words (in_play_of (course_of game.now)) (IsOutcomeReply (course_of game.now)) (made_reply result)) }
+    ensures { MakesAt F.facts F.events place.now log.old log.new refusal_words (in_play_of (course_of game.now)) (IsOutcomeReply (course_of game.now)) result }
 {
-    let arena = Bump::new(alloc);
-    let (folder, mut set) = match opened_at(
-        alloc,
-        place.disk,
-        log,
-        place.path,
-        place.manifest,
-        &arena,
-    ) {
-        Ok(Ok(opened)) => opened,
-        Ok(Err(refusal)) => return Ok(Answer::Refused(refusal)),
-        Err(fault) => return Err(fault),
-    };
-    match judge_game(alloc, log, &folder, &mut set, game) {
-        Ok(Ok(outcome)) => Ok(told(outcome, game.moves)),
-        Ok(Err(refused)) => Ok(Answer::Refused(Refusal::File(refused.name, refused.fault))),
-        Err(fault) => Err(fault),
+    match ask_at(alloc, log, place, game)? {
+        Ok(outcome) => Ok(told(outcome, game.moves)),
+        Err(refusal) => Ok(Answer::Refused(refusal)),
     }
 }
 
@@ -103,7 +87,7 @@ fn outcome_at<'x, F: TableFiles>(
     disk: &'x F,
     game: &Course<'_>,
 ) -> Result<Answer, AllocError>
-    ensures { PassesSome (F.events disk.now log.old) (F.events disk.now log.new) (JudgesCourse (F.facts disk.now) sources.now path.entry (course_of game.now) (made_reply result)) }
+    ensures { MakesFrom F.facts F.events disk.now log.old log.new (λ disk. JudgesCourse disk sources.now path.entry (course_of game.now)) result }
 {
     match path {
         Some(path) => {

@@ -4,9 +4,9 @@ ghost use Rattle.std.specs.Prelude.{◌≡◌, position, IfOk, OnErr};
 ghost use Rattle.board_core.specs.Position.{IsPosition};
 ghost use Rattle.fen_text.specs.Fen.{SpellsPosition};
 ghost use Rattle.move_msg.specs.GameTexts.{TellsMoves};
-ghost use Rattle.table_commands.specs.Games.{AnswersGame, HasStartFen, LacksRoomForGame, TellsGameLine, moves_in, start_in, tab_in};
+ghost use Rattle.table_commands.specs.Games.{HasStartFen, TellsGameLine, moves_in, start_in, tab_in};
 ghost use Rattle.answer_parts.specs.Lines.{words_of};
-ghost use Rattle.timeline.specs.Outsides.{AddsSome};
+ghost use Rattle.table_commands.specs.Inside.Answering.{OutcomeMade, OutcomeLacked};
 
 use crate::folders::OpenFolder;
 use crate::game::are_all_legal;
@@ -164,8 +164,8 @@ impl<'r, 's, S: System> FolderGameJudge<'r, 's, S> {
         requires spelled { SpellsPosition (start_in line.now) start.now }
         requires position { IsPosition start.now }
         requires moves { TellsMoves (moves_in line.now) moves.now }
-        ensures told { IfOk result (λ told. AddsSome (S.outside self.old.folder.on.disk.system.now) timeline.old timeline.new (AnswersGame self.old.delay (S.outside self.old.folder.on.disk.system.now).disk self.old.folder.on.folder self.old.folder.tables self.new.folder.tables line.now (record { words = words_of told.0; done = told.1 }))) }
-        ensures room { OnErr result (AddsSome (S.outside self.old.folder.on.disk.system.now) timeline.old timeline.new (LacksRoomForGame self.old.delay (S.outside self.old.folder.on.disk.system.now).disk self.old.folder.on.folder self.old.folder.tables line.now)) }
+        ensures told { OutcomeMade (S.outside self.old.folder.on.disk.system.now) self.old self.new timeline.old timeline.new line.now result }
+        ensures room { OutcomeLacked (S.outside self.old.folder.on.disk.system.now) self.old timeline.old timeline.new line.now result }
         ensures folder { self.new.folder.on ≡ self.old.folder.on }
         ensures delay { self.new.delay ≡ self.old.delay }
     {
@@ -175,7 +175,7 @@ impl<'r, 's, S: System> FolderGameJudge<'r, 's, S> {
             moves,
             delay,
         };
-        match self.folder.outcome(timeline, &game) {
+        match self.folder.ask(timeline, &game) {
             Ok(Ok(outcome)) => {
                 let plies = moves.len();
                 let line = Line::Outcome(Outcome { outcome, plies });
@@ -198,8 +198,8 @@ impl<'r, 's, S: System> FolderGameJudge<'r, 's, S> {
     ) -> Result<(Line, bool), AllocError>
         requires spelled { SpellsPosition (start_in line.now) start.now }
         requires position { IsPosition start.now }
-        ensures told { IfOk result (λ told. AddsSome (S.outside self.old.folder.on.disk.system.now) timeline.old timeline.new (AnswersGame self.old.delay (S.outside self.old.folder.on.disk.system.now).disk self.old.folder.on.folder self.old.folder.tables self.new.folder.tables line.now (record { words = words_of told.0; done = told.1 }))) }
-        ensures room { OnErr result (AddsSome (S.outside self.old.folder.on.disk.system.now) timeline.old timeline.new (LacksRoomForGame self.old.delay (S.outside self.old.folder.on.disk.system.now).disk self.old.folder.on.folder self.old.folder.tables line.now)) }
+        ensures told { OutcomeMade (S.outside self.old.folder.on.disk.system.now) self.old self.new timeline.old timeline.new line.now result }
+        ensures room { OutcomeLacked (S.outside self.old.folder.on.disk.system.now) self.old timeline.old timeline.new line.now result }
         ensures folder { self.new.folder.on ≡ self.old.folder.on }
         ensures delay { self.new.delay ≡ self.old.delay }
     {
@@ -216,8 +216,8 @@ impl<'r, 's, S: System> FolderGameJudge<'r, 's, S> {
         timeline: &mut S::Timeline,
         line: &[u8],
     ) -> Result<(Line, bool), AllocError>
-        ensures told { IfOk result (λ told. AddsSome (S.outside self.old.folder.on.disk.system.now) timeline.old timeline.new (AnswersGame self.old.delay (S.outside self.old.folder.on.disk.system.now).disk self.old.folder.on.folder self.old.folder.tables self.new.folder.tables line.now (record { words = words_of told.0; done = told.1 }))) }
-        ensures room { OnErr result (AddsSome (S.outside self.old.folder.on.disk.system.now) timeline.old timeline.new (LacksRoomForGame self.old.delay (S.outside self.old.folder.on.disk.system.now).disk self.old.folder.on.folder self.old.folder.tables line.now)) }
+        ensures told { OutcomeMade (S.outside self.old.folder.on.disk.system.now) self.old self.new timeline.old timeline.new line.now result }
+        ensures room { OutcomeLacked (S.outside self.old.folder.on.disk.system.now) self.old timeline.old timeline.new line.now result }
         ensures folder { self.new.folder.on ≡ self.old.folder.on }
         ensures delay { self.new.delay ≡ self.old.delay }
     {

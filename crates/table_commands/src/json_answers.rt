@@ -1,23 +1,20 @@
 //! Answers as JSON: one object a line.
 
-ghost use Rattle.std.specs.Prelude.{◌≡◌, ◌++◌, IfOk, IsErrOf, OnErr, OnOk, codes, false, true};
+ghost use Rattle.std.specs.Prelude.{◌≡◌, ◌++◌, IfOk, OnErr, OnOk, codes, false, true};
 ghost use Rattle.std.specs.Io.KnownBytes.{Appends};
 ghost use Rattle.table_commands.specs.Inside.JsonLines.{IsPositionLine};
 ghost use Rattle.answer_parts.specs.Asked.{reply_of};
-ghost use Rattle.answer_parts.specs.Printing.{OutputFails};
 ghost use Rattle.table_commands.specs.FolderAnswers.{refused_table_in};
-ghost use Rattle.table_commands.specs.JsonAnswers.{AnswersJson, LacksRoomForJson};
 ghost use Rattle.answer_parts.specs.JsonAnswers.{json_reply};
 ghost use Rattle.answer_parts.specs.Reply.{IsText};
 ghost use Rattle.board_core.specs.Position.{IsPosition};
 ghost use Rattle.fen_text.specs.Fen.{SpellsPosition};
 ghost use Rattle.json_lines.specs.Told.{is_done};
-ghost use Rattle.line_events.specs.Writing.{WritesAnswer};
 ghost use Rattle.table_folder.specs.Faults.{file_fault_name};
 ghost use Rattle.json_lines.specs.Objects.{json_text, line_json};
 ghost use Rattle.json_lines.specs.declared.told.JsonLine.TheVariants as line;
 ghost use Rattle.move_msg.specs.TextLines.{ended};
-ghost use Rattle.timeline.specs.Outsides.{AddsSome};
+ghost use Rattle.table_commands.specs.Inside.Answering.{ObjectMade, ObjectLacked};
 
 use crate::folders::OpenFolder;
 use answer_parts::Answer;
@@ -167,8 +164,8 @@ impl<'r, 's, S: System> FolderJsonAnswerer<'r, 's, S> {
     ) -> Result<JsonLine, AllocError>
         requires spelled { SpellsPosition text.now position.now }
         requires position { IsPosition position.now }
-        ensures told { IfOk result (λ l. AddsSome (S.outside self.old.folder.on.disk.system.now) timeline.old timeline.new (AnswersJson self.old.with_moves (S.outside self.old.folder.on.disk.system.now).disk self.old.folder.on.folder self.old.folder.tables self.new.folder.tables text.now l)) }
-        ensures room { OnErr result (AddsSome (S.outside self.old.folder.on.disk.system.now) timeline.old timeline.new (LacksRoomForJson self.old.with_moves (S.outside self.old.folder.on.disk.system.now).disk self.old.folder.on.folder self.old.folder.tables text.now)) }
+        ensures told { ObjectMade (S.outside self.old.folder.on.disk.system.now) self.old self.new timeline.old timeline.new text.now result }
+        ensures room { ObjectLacked (S.outside self.old.folder.on.disk.system.now) self.old timeline.old timeline.new text.now result }
         ensures folder { self.new.folder.on ≡ self.old.folder.on }
         ensures moves { self.new.with_moves ≡ self.old.with_moves }
     {
@@ -181,9 +178,9 @@ impl<'r, 's, S: System> FolderJsonAnswerer<'r, 's, S> {
 
     /// The object of a line.
     fn line_of(&mut self, timeline: &mut S::Timeline, text: &[u8]) -> Result<JsonLine, AllocError>
-        ensures told { IfOk result (λ l. AddsSome (S.outside self.old.folder.on.disk.system.now) timeline.old timeline.new (AnswersJson self.old.with_moves (S.outside self.old.folder.on.disk.system.now).disk self.old.folder.on.folder self.old.folder.tables self.new.folder.tables text.now l)) }
+        ensures told { ObjectMade (S.outside self.old.folder.on.disk.system.now) self.old self.new timeline.old timeline.new text.now result }
         ensures position { IfOk result (λ l. IsPositionLine l → IsText text.now) }
-        ensures room { OnErr result (AddsSome (S.outside self.old.folder.on.disk.system.now) timeline.old timeline.new (LacksRoomForJson self.old.with_moves (S.outside self.old.folder.on.disk.system.now).disk self.old.folder.on.folder self.old.folder.tables text.now)) }
+        ensures room { ObjectLacked (S.outside self.old.folder.on.disk.system.now) self.old timeline.old timeline.new text.now result }
         ensures folder { self.new.folder.on ≡ self.old.folder.on }
         ensures moves { self.new.with_moves ≡ self.old.with_moves }
     {

@@ -1,18 +1,18 @@
 //! `judge`: the verdict on a position.
 
 ghost use Rattle.std.specs.Prelude.{IfOk};
-ghost use Rattle.table_commands.specs.Judge.{IsJudged, JudgedBy, Judges, JudgesAt};
+ghost use Rattle.table_commands.specs.Judge.{IsJudged, JudgedBy, Judges, JudgesGiven};
 ghost use Rattle.table_folder.specs.Reads.{PassesSome};
 ghost use Rattle.table_folder.specs.Settled.{IsAlone};
-ghost use Rattle.table_commands.specs.FolderReads.{MakesInFolder, made_reply};
-ghost use Rattle.command_line.specs.LazyFolders.{read_when_asked};
+ghost use Rattle.table_commands.specs.FolderReads.{made_reply, MakesFrom};
 ghost use Rattle.answer_parts.specs.Asked.{reply_of};
 ghost use Rattle.answer_parts.specs.Lines.{refusal_words};
 ghost use Rattle.answer_parts.specs.Looks.{gathered};
 ghost use Rattle.answer_parts.specs.Reply.{ByTables};
-ghost use Rattle.move_msg.specs.ToldBy.{told_by};
+ghost use Rattle.table_commands.specs.Inside.Asking.{MakesAt};
 
-use crate::folders::{FolderPlace, columns_in};
+use crate::folders::{FolderPlace, ask_at};
+use crate::questions::ColumnsOf;
 use answer_parts::{Answer, Line, Refusal, gather};
 use board_core::Position;
 use command_line::{CacheSize, Judge, read_when_asked};
@@ -44,9 +44,9 @@ fn verdict_in<F: TableFiles>(
     place: &FolderPlace<'_, F>,
     position: &Position,
 ) -> Result<Answer, AllocError>
-    ensures { PassesSome (F.events place.now.disk.now log.old) (F.events place.now.disk.now log.new) (MakesInFolder (F.facts place.now.disk.now) place.now.path.now (told_by place.now.manifest.now) refusal_words (IsAlone position.now) (JudgedBy position.now) (made_reply result)) }
+    ensures { MakesAt F.facts F.events place.now log.old log.new refusal_words (IsAlone position.now) (JudgedBy position.now) result }
 {
-    match columns_in(alloc, log, place, position)? {
+    match ask_at(alloc, log, place, &ColumnsOf { position })? {
         Ok(columns) => Ok(Answer::One(Line::Ruling(columns.verdict), true)),
         Err(refusal) => Ok(Answer::Refused(refusal)),
     }
@@ -61,7 +61,7 @@ fn answer_position<F: TableFiles>(
     disk: &F,
     position: &Position,
 ) -> Result<Answer, AllocError>
-    ensures { PassesSome (F.events disk.now log.old) (F.events disk.now log.new) (JudgesAt (F.facts disk.now) sources.now (read_when_asked task.now.lazy task.now.tables) position.now (made_reply result)) }
+    ensures { MakesFrom F.facts F.events disk.now log.old log.new (λ disk. JudgesGiven disk task.now sources.now position.now) result }
 {
     match read_when_asked(task.lazy, task.tables) {
         Some(path) => {

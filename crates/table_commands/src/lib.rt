@@ -5,8 +5,8 @@
 //! output, and return the status. All are over a system with a timeline; the contracts have each event, in order.
 //!
 //! Inside: a file for each command, with its definitions in the file of the same name in `specs/`; `json_answers`, answers as JSON;
-//! `folders` reads a table when a position asks for it, `judging` those that the plies of a game ask for; `line_tasks`, what is done
-//! around the answers to lines.
+//! `folders` reads a table when a position asks for it, `questions` has what is asked of one, `judging` what a game asks, ply by ply;
+//! `line_tasks`, what is done around the answers to lines.
 //!
 //! Definitions, in reading order: `FolderReads`, `FolderAnswers`, `Courses`, `JsonAnswers`, `LineTasks`, then those of the commands. Its cases
 //! stand in `rows`.
@@ -38,6 +38,7 @@ mod line_tasks;
 pub mod pgn;
 pub mod probe;
 mod probes;
+mod questions;
 pub mod root;
 
 pub use folders::{OpenFolder, arena_for};

@@ -1,11 +1,10 @@
 //! Commands that answer the lines of the input by tables.
 
 ghost use Rattle.std.specs.Prelude.{◌≡◌, OnErr};
-ghost use Rattle.answer_parts.specs.Looks.{gathered};
 ghost use Rattle.answer_parts.specs.Printing.{OutputFails, Performs};
 ghost use Rattle.move_msg.specs.ToldBy.{told_by};
-ghost use Rattle.table_commands.specs.FolderReads.{DoesInFolder, DoesOfGiven, no_tables};
-ghost use Rattle.table_commands.specs.LineTasks.{AnswersLinesOf, DoesGiven, LineAsking};
+ghost use Rattle.table_commands.specs.FolderReads.{no_tables, DoesOver};
+ghost use Rattle.table_commands.specs.LineTasks.{AnswersLinesOf, DoesGiven, LineAsking, AnswersInFolder, AnswersOfGiven};
 ghost use Rattle.task_files.specs.Sources.{named_by};
 ghost use Rattle.timeline.specs.Outsides.{AddsSome};
 
@@ -46,7 +45,7 @@ pub trait LineTask {
     ) -> Result<u8, WriteFault>
         requires from { folder.on.disk.system.now ≡ system.now }
         requires empty { folder.tables ≡ no_tables }
-        ensures made { AddsSome (S.outside system.now) timeline.old timeline.new (Performs ((asking self.now).InFolder (S.outside system.now).disk (S.outside system.now).input folder.entry.on.folder) result) }
+        ensures made { DoesOver (S.outside system.now) timeline.old timeline.new (λ disk input. (asking self.now).InFolder disk input folder.entry.on.folder) result }
         ensures cause { OnErr result (OutputFails (S.outside system.now)) };
 
     /// Answers the lines by tables that were read.
@@ -57,7 +56,7 @@ pub trait LineTask {
         system: &S,
         timeline: &mut S::Timeline,
     ) -> Result<u8, WriteFault>
-        ensures made { AddsSome (S.outside system.now) timeline.old timeline.new (Performs ((asking self.now).ByTables (S.outside system.now).input set.entry.tables) result) }
+        ensures made { DoesOver (S.outside system.now) timeline.old timeline.new (λ _ input. (asking self.now).ByTables input set.entry.tables) result }
         ensures cause { OnErr result (OutputFails (S.outside system.now)) };
 }
 
@@ -70,7 +69,7 @@ fn answer_in<L: LineTask, S: System>(
     system: &S,
     timeline: &mut S::Timeline,
 ) -> Result<u8, WriteFault>
-    ensures made { AddsSome (S.outside system.now) timeline.old timeline.new (Performs (DoesInFolder (S.outside system.now).disk path.now (told_by manifest.now) ((L.asking task.now).InFolder (S.outside system.now).disk (S.outside system.now).input)) result) }
+    ensures made { DoesOver (S.outside system.now) timeline.old timeline.new (AnswersInFolder (L.asking task.now) path.now (told_by manifest.now)) result }
     ensures cause { OnErr result (OutputFails (S.outside system.now)) }
 {
     let files = SystemFiles { system };
@@ -90,7 +89,7 @@ fn answer_of<L: LineTask, S: System>(
     system: &S,
     timeline: &mut S::Timeline,
 ) -> Result<u8, WriteFault>
-    ensures made { AddsSome (S.outside system.now) timeline.old timeline.new (Performs (DoesOfGiven (gathered sources.now) ((L.asking task.now).ByTables (S.outside system.now).input)) result) }
+    ensures made { DoesOver (S.outside system.now) timeline.old timeline.new (λ _. AnswersOfGiven (L.asking task.now) sources.now) result }
     ensures cause { OnErr result (OutputFails (S.outside system.now)) }
 {
     match gather(alloc, sources, CacheSize::usual()) {
@@ -108,7 +107,7 @@ fn answer_given<L: LineTask, S: System>(
     system: &S,
     timeline: &mut S::Timeline,
 ) -> Result<u8, WriteFault>
-    ensures made { AddsSome (S.outside system.now) timeline.old timeline.new (Performs (DoesGiven (S.outside system.now).disk (S.outside system.now).input (L.asking task.now) sources.now) result) }
+    ensures made { DoesOver (S.outside system.now) timeline.old timeline.new (λ disk input. DoesGiven disk input (L.asking task.now) sources.now) result }
     ensures cause { OnErr result (OutputFails (S.outside system.now)) }
 {
     match task.asked_folder() {

@@ -1,15 +1,14 @@
 //! `pgn`: what tables say of the games of a PGN file, a line each.
 
-ghost use Rattle.std.specs.Prelude.{◌≡◌, IfOk, OnErr, option_map};
-ghost use Rattle.move_msg.specs.ToldBy.{told_by};
+ghost use Rattle.std.specs.Prelude.{◌≡◌, OnErr, option_map};
 ghost use Rattle.answer_parts.specs.Printing.{OutputFails, Performs};
 ghost use Rattle.pgn_teller.specs.Ratings.{ruled_by};
 ghost use Rattle.pgn_teller.specs.Reports.{terms_of};
 ghost use Rattle.answer_parts.specs.Looks.{gathered};
-ghost use Rattle.table_commands.specs.FolderReads.{DoesInFolder, DoesOfGiven};
-ghost use Rattle.table_commands.specs.Pgn.{JudgesBy, JudgesIn, JudgesOf, JudgesPgn, OpensLines, ReportsFile, form_by, found_as, terms_by};
-ghost use Rattle.command_line.specs.LazyFolders.{read_when_asked};
+ghost use Rattle.table_commands.specs.FolderReads.{DoesOfGiven, DoesOver};
+ghost use Rattle.table_commands.specs.Pgn.{JudgesBy, JudgesOf, JudgesPgn, OpensLines, ReportsFile, form_by, found_as, terms_by};
 ghost use Rattle.timeline.specs.Outsides.{AddsSome};
+ghost use Rattle.table_commands.specs.Inside.Asking.{JudgesAtPlace};
 
 use crate::folders::{FolderPlace, OpenFolder, arena_for};
 use crate::judging::Course;
@@ -96,7 +95,7 @@ impl<'r, 's, S: System> GameRuler<S> for FolderRuler<'r, 's, S> {
             moves: &game.moves,
             delay: self.delay,
         };
-        let found = self.folder.outcome(timeline, &course);
+        let found = self.folder.ask(timeline, &course);
         ruling_by(found)
     }
 }
@@ -128,7 +127,7 @@ fn report_file<S: System, R: GameRuler<S> + Drop>(
     timeline: &mut S::Timeline,
 ) -> Result<u8, WriteFault>
     requires { R.reads_from ruler system.now }
-    ensures made { AddsSome (S.outside system.now) timeline.old timeline.new (Performs (ReportsFile (S.outside system.now).disk (S.outside system.now).input task.now (R.rules ruler) (R.known ruler)) result) }
+    ensures made { DoesOver (S.outside system.now) timeline.old timeline.new (λ d input. ReportsFile d input task.now (R.rules ruler) (R.known ruler)) result }
     ensures cause { OnErr result (OutputFails (S.outside system.now)) }
 {
     let mut lines = match open_lines(alloc, task.file, system, timeline) {
@@ -150,7 +149,7 @@ fn judge_by_all<S: System>(
     system: &S,
     timeline: &mut S::Timeline,
 ) -> Result<u8, WriteFault>
-    ensures made { AddsSome (S.outside system.now) timeline.old timeline.new (Performs (DoesOfGiven (gathered given.now) (JudgesOf (S.outside system.now).disk (S.outside system.now).input task.now)) result) }
+    ensures made { DoesOver (S.outside system.now) timeline.old timeline.new (λ d input. DoesOfGiven (gathered given.now) (JudgesOf d input task.now)) result }
     ensures cause { OnErr result (OutputFails (S.outside system.now)) }
 {
     match gather(alloc, given, CacheSize::usual()) {
@@ -170,7 +169,7 @@ fn judge_in_folder<S: System>(
     place: &FolderPlace<'_, SystemFiles<'_, S>>,
     timeline: &mut S::Timeline,
 ) -> Result<u8, WriteFault>
-    ensures made { AddsSome (S.outside place.now.disk.now.system.now) timeline.old timeline.new (Performs (DoesInFolder (S.outside place.now.disk.now.system.now).disk place.now.path.now (told_by place.now.manifest.now) (JudgesIn (S.outside place.now.disk.now.system.now).disk (S.outside place.now.disk.now.system.now).input task.now)) result) }
+    ensures made { DoesOver (S.outside place.now.disk.now.system.now) timeline.old timeline.new (JudgesAtPlace place.now task.now) result }
     ensures cause { OnErr result (OutputFails (S.outside place.now.disk.now.system.now)) }
 {
     let system = place.disk.system;
@@ -200,7 +199,7 @@ fn judge_by<S: System>(
     system: &S,
     timeline: &mut S::Timeline,
 ) -> Result<u8, WriteFault>
-    ensures made { AddsSome (S.outside system.now) timeline.old timeline.new (Performs (JudgesBy (S.outside system.now).disk (S.outside system.now).input task.now given.now) result) }
+    ensures made { DoesOver (S.outside system.now) timeline.old timeline.new (λ disk input. JudgesBy disk input task.now given.now) result }
     ensures cause { OnErr result (OutputFails (S.outside system.now)) }
 {
     match read_when_asked(!task.all_tables, Some(task.tables)) {

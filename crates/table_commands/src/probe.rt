@@ -1,18 +1,18 @@
 //! `probe`: the values of a position in tables.
 
-ghost use Rattle.std.specs.Prelude.{◌≡◌, Some, IfOk};
-ghost use Rattle.table_commands.specs.Probe.{IsProbeReply, ProbedBy, Probes, ProbesAt, probed_reply};
+ghost use Rattle.std.specs.Prelude.{◌≡◌, IfOk};
+ghost use Rattle.table_commands.specs.Probe.{IsProbeReply, ProbedBy, Probes, ProbesGiven, probed_reply};
 ghost use Rattle.table_folder.specs.Reads.{PassesSome};
 ghost use Rattle.table_folder.specs.Settled.{IsAlone};
-ghost use Rattle.table_commands.specs.FolderReads.{MakesInFolder, made_reply};
-ghost use Rattle.command_line.specs.LazyFolders.{read_when_asked};
+ghost use Rattle.table_commands.specs.FolderReads.{made_reply, MakesFrom};
 ghost use Rattle.answer_parts.specs.Asked.{reply_of};
 ghost use Rattle.answer_parts.specs.Lines.{refusal_words};
 ghost use Rattle.answer_parts.specs.Looks.{gathered};
 ghost use Rattle.answer_parts.specs.Reply.{ByTables};
-ghost use Rattle.move_msg.specs.ToldBy.{told_by};
+ghost use Rattle.table_commands.specs.Inside.Asking.{MakesAt};
 
-use crate::folders::{FolderPlace, columns_in};
+use crate::folders::{FolderPlace, ask_at};
+use crate::questions::ColumnsOf;
 use answer_parts::{Answer, Line, Refusal, gather};
 use board_core::Position;
 use command_line::{CacheSize, Probe, read_when_asked};
@@ -60,9 +60,9 @@ fn told_in<F: TableFiles>(
     place: &FolderPlace<'_, F>,
     position: &Position,
 ) -> Result<Answer, AllocError>
-    ensures { PassesSome (F.events place.now.disk.now log.old) (F.events place.now.disk.now log.new) (MakesInFolder (F.facts place.now.disk.now) place.now.path.now (told_by place.now.manifest.now) refusal_words (IsAlone position.now) (ProbedBy position.now) (made_reply result)) }
+    ensures { MakesAt F.facts F.events place.now log.old log.new refusal_words (IsAlone position.now) (ProbedBy position.now) result }
 {
-    match columns_in(alloc, log, place, position)? {
+    match ask_at(alloc, log, place, &ColumnsOf { position })? {
         Ok(columns) => tell(alloc, columns.probed),
         Err(refusal) => Ok(Answer::Refused(refusal)),
     }
@@ -77,7 +77,7 @@ fn answer_position<F: TableFiles>(
     disk: &F,
     position: &Position,
 ) -> Result<Answer, AllocError>
-    ensures { PassesSome (F.events disk.now log.old) (F.events disk.now log.new) (ProbesAt (F.facts disk.now) sources.now (read_when_asked task.now.lazy (Some task.now.tables)) position.now (made_reply result)) }
+    ensures { MakesFrom F.facts F.events disk.now log.old log.new (λ disk. ProbesGiven disk task.now sources.now position.now) result }
 {
     match read_when_asked(task.lazy, Some(task.tables)) {
         Some(path) => {

@@ -3,18 +3,16 @@
 ghost use Rattle.std.specs.Prelude.{◌≡◌, IfOk, OnErr};
 ghost use Rattle.board_core.specs.Position.{IsPosition};
 ghost use Rattle.fen_text.specs.Fen.{SpellsPosition};
-ghost use Rattle.table_commands.specs.FolderReads.{LacksRoomFor};
-ghost use Rattle.table_commands.specs.FolderAnswers.{IsSpelledBy};
-ghost use Rattle.table_commands.specs.Probes.{AnswersColumns, TellsKnown, TellsLine};
+ghost use Rattle.table_commands.specs.Probes.{TellsKnown, TellsLine};
 ghost use Rattle.answer_parts.specs.Lines.{words_of};
 ghost use Rattle.judge_core.specs.ProbeResult.{numbered};
 ghost use Rattle.answer_parts.specs.Reply.{IsText};
-ghost use Rattle.table_folder.specs.Settled.{IsAlone};
-ghost use Rattle.timeline.specs.Outsides.{AddsSome};
+ghost use Rattle.table_commands.specs.Inside.Answering.{ColumnsMade, ColumnsLacked};
 
 use crate::folders::OpenFolder;
 use crate::json_answers::{FolderJsonAnswerer, JsonAnswerer};
 use crate::line_tasks::LineTask;
+use crate::questions::ColumnsOf;
 use answer_parts::{Answer, Line, Refusal};
 use board_core::Position;
 use command_line::{Megabytes, Probes, read_when_asked};
@@ -182,11 +180,11 @@ impl<'r, 's, S: System> FolderProber<'r, 's, S> {
     ) -> Result<(Line, bool), AllocError>
         requires spelled { SpellsPosition text.now position.now }
         requires position { IsPosition position.now }
-        ensures told { IfOk result (λ told. AddsSome (S.outside self.old.folder.on.disk.system.now) timeline.old timeline.new (AnswersColumns (S.outside self.old.folder.on.disk.system.now).disk self.old.folder.on.folder self.old.folder.tables self.new.folder.tables text.now (record { words = words_of told.0; done = told.1 }))) }
-        ensures room { OnErr result (AddsSome (S.outside self.old.folder.on.disk.system.now) timeline.old timeline.new (LacksRoomFor (S.outside self.old.folder.on.disk.system.now).disk self.old.folder.on.folder IsSpelledBy IsAlone IsText self.old.folder.tables text.now)) }
+        ensures told { ColumnsMade (S.outside self.old.folder.on.disk.system.now) self.old.folder self.new.folder timeline.old timeline.new text.now result }
+        ensures room { ColumnsLacked (S.outside self.old.folder.on.disk.system.now) self.old.folder timeline.old timeline.new text.now result }
         ensures folder { self.new.folder.on ≡ self.old.folder.on }
     {
-        match self.folder.columns(timeline, position) {
+        match self.folder.ask(timeline, &ColumnsOf { position }) {
             Ok(Ok(columns)) => Ok((Line::Columns(columns), columns.probed.has_both())),
             Ok(Err(refused)) => Ok((
                 Line::Refused(Refusal::File(refused.name, refused.fault)),
@@ -202,8 +200,8 @@ impl<'r, 's, S: System> FolderProber<'r, 's, S> {
         timeline: &mut S::Timeline,
         text: &[u8],
     ) -> Result<(Line, bool), AllocError>
-        ensures told { IfOk result (λ told. AddsSome (S.outside self.old.folder.on.disk.system.now) timeline.old timeline.new (AnswersColumns (S.outside self.old.folder.on.disk.system.now).disk self.old.folder.on.folder self.old.folder.tables self.new.folder.tables text.now (record { words = words_of told.0; done = told.1 }))) }
-        ensures room { OnErr result (AddsSome (S.outside self.old.folder.on.disk.system.now) timeline.old timeline.new (LacksRoomFor (S.outside self.old.folder.on.disk.system.now).disk self.old.folder.on.folder IsSpelledBy IsAlone IsText self.old.folder.tables text.now)) }
+        ensures told { ColumnsMade (S.outside self.old.folder.on.disk.system.now) self.old.folder self.new.folder timeline.old timeline.new text.now result }
+        ensures room { ColumnsLacked (S.outside self.old.folder.on.disk.system.now) self.old.folder timeline.old timeline.new text.now result }
         ensures folder { self.new.folder.on ≡ self.old.folder.on }
     {
         match read(text) {

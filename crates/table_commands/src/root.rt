@@ -1,34 +1,28 @@
 //! `root`: the legal moves of a position, or of those of the input, by their values in tables.
 
-ghost use Rattle.std.specs.Prelude.{◌≡◌, ◌==◌, Some, IfOk, IsErrOf, OnErr, false, true};
+ghost use Rattle.std.specs.Prelude.{◌≡◌, IfOk, IsErrOf, OnErr, false, true};
 ghost use Rattle.answer_parts.specs.Asked.{reply_of};
 ghost use Rattle.answer_parts.specs.Looks.{gathered};
 ghost use Rattle.answer_parts.specs.Printing.{OutputFails};
 ghost use Rattle.answer_parts.specs.Reply.{ByTables, IsForText, IsText, refusal_reply};
 ghost use Rattle.board_core.specs.Position.{IsPosition};
 ghost use Rattle.fen_text.specs.Fen.{SpellsPosition};
-ghost use Rattle.command_line.specs.Commands.Root.{is_lazy};
-ghost use Rattle.command_line.specs.LazyFolders.{read_when_asked};
-ghost use Rattle.judge_core.specs.Ask.{ask_of};
 ghost use Rattle.judge_core.specs.Words.{columns_words};
-ghost use Rattle.judge_core.specs.declared.ask.Ask.TheVariants.{Strict};
-ghost use Rattle.line_events.specs.Writing.{WritesAnswer};
-ghost use Rattle.move_msg.specs.TextLines.{ended};
-ghost use Rattle.move_msg.specs.ToldBy.{told_by};
-ghost use Rattle.table_commands.specs.FolderAnswers.{IsSpelledBy, refused_table_in};
-ghost use Rattle.table_commands.specs.FolderReads.{LacksRoomFor, MakesInFolder, made_reply};
+ghost use Rattle.table_commands.specs.FolderAnswers.{refused_table_in};
+ghost use Rattle.table_commands.specs.FolderReads.{made_reply, MakesFrom};
 ghost use Rattle.table_commands.specs.JsonAnswers.{IsJsonTold, refused_in};
-ghost use Rattle.table_commands.specs.Root.{AnswersRoot, IsRootReply, IsToldIn, RanksAt, RanksText, refused_words, root_reply};
+ghost use Rattle.table_commands.specs.Root.{IsRootReply, IsToldIn, RanksText, refused_words, root_reply, RanksGiven};
 ghost use Rattle.table_folder.specs.Reads.{PassesSome};
-ghost use Rattle.table_folder.specs.Settled.{IsWithMoves};
 ghost use Rattle.timeline.specs.Outsides.{AddsSome};
+ghost use Rattle.table_commands.specs.Inside.Asking.{RanksIn};
+ghost use Rattle.table_commands.specs.Inside.Answering.{MovesMade, MovesLacked, WritesWithFeed};
 
-use crate::folders::{FolderPlace, OpenFolder, json_with_moves_by, moves_told_by, opened_at};
+use crate::folders::{FolderPlace, OpenFolder, ask_at};
 use crate::json_answers::{FolderJsonAnswerer, JsonAnswerer, answer_as_json, refused_line};
 use crate::line_tasks::LineTask;
+use crate::questions::{JsonOf, MovesOf};
 use answer_parts::{Answer, Line, Refusal, RootLine, gather, print_reply};
 use board_core::Position;
-use bumpalo::Bump;
 use command_line::{CacheSize, Megabytes, Root, read_when_asked};
 use fen_text::{FenFault, read};
 use json_lines::{Ask, JsonLine};
@@ -153,6 +147,16 @@ fn refused_table_in(alloc: Global, refusal: FileRefusal, json: bool) -> Result<A
     }
 }
 
+/// The refusal of the file of a table, as JSON or as a line, or another one as a line.
+fn refused_as(alloc: Global, refusal: Refusal, json: bool) -> Result<Answer, AllocError>
+    ensures { IfOk result (λ a. reply_of a ≡ refusal_reply (refused_words json refusal)) }
+{
+    if let Refusal::File(name, fault) = refusal {
+        return refused_table_in(alloc, FileRefusal { name, fault }, json);
+    }
+    Ok(Answer::Refused(refusal))
+}
+
 /// What the tables of a folder tell of the legal moves of a position, and of the position, as JSON; those are read that the position and
 /// those after its moves ask for. Or the refusal: of a malformed manifest, then of the folder, then of the first file that is asked for and
 /// at fault.
@@ -162,54 +166,26 @@ fn json_in<F: TableFiles>(
     place: &FolderPlace<'_, F>,
     position: &Position,
 ) -> Result<Answer, AllocError>
-    ensures { PassesSome (F.events place.now.disk.now log.old) (F.events place.now.disk.now log.new) (MakesInFolder (F.facts place.now.disk.now) place.now.path.now (told_by place.now.manifest.now) (refused_words true) (IsWithMoves position.now) (λ tables. IsToldIn true Strict tables position.now) (made_reply result)) }
+    ensures { RanksIn F.facts F.events place.now log.old log.new true position.now result }
 {
-    let arena = Bump::new(alloc);
-    let (folder, mut set) = match opened_at(
-        alloc,
-        place.disk,
-        log,
-        place.path,
-        place.manifest,
-        &arena,
-    ) {
-        Ok(Ok(opened)) => opened,
-        Ok(Err(refusal)) => return Ok(Answer::Refused(refusal)),
-        Err(fault) => return Err(fault),
-    };
-    match json_with_moves_by(alloc, log, &folder, &mut set, position) {
-        Ok(Ok(found)) => answer_as_json(alloc, &found),
-        Ok(Err(refused)) => refused_table_in(alloc, refused, true),
-        Err(fault) => Err(fault),
+    match ask_at(alloc, log, place, &JsonOf { position })? {
+        Ok(line) => answer_as_json(alloc, &line),
+        Err(refusal) => refused_as(alloc, refusal, true),
     }
 }
 
-/// What tables of a folder tell of the legal moves of a position, in lines, or the refusal of the folder or of a file.
+/// The same in lines.
 fn lines_by<F: TableFiles>(
     alloc: Global,
     log: &mut F::Log,
     place: &FolderPlace<'_, F>,
     position: &Position,
 ) -> Result<Answer, AllocError>
-    ensures { PassesSome (F.events place.now.disk.now log.old) (F.events place.now.disk.now log.new) (MakesInFolder (F.facts place.now.disk.now) place.now.path.now (told_by place.now.manifest.now) (refused_words false) (IsWithMoves position.now) (λ tables. IsToldIn false Strict tables position.now) (made_reply result)) }
+    ensures { RanksIn F.facts F.events place.now log.old log.new false position.now result }
 {
-    let arena = Bump::new(alloc);
-    let (folder, mut set) = match opened_at(
-        alloc,
-        place.disk,
-        log,
-        place.path,
-        place.manifest,
-        &arena,
-    ) {
-        Ok(Ok(opened)) => opened,
-        Ok(Err(refusal)) => return Ok(Answer::Refused(refusal)),
-        Err(fault) => return Err(fault),
-    };
-    match moves_told_by(alloc, log, &folder, &mut set, position) {
-        Ok(Ok(found)) => Ok(found),
-        Ok(Err(refused)) => refused_table_in(alloc, refused, false),
-        Err(fault) => Err(fault),
+    match ask_at(alloc, log, place, &MovesOf { position })? {
+        Ok(answer) => Ok(answer),
+        Err(refusal) => refused_as(alloc, refusal, false),
     }
 }
 
@@ -221,7 +197,7 @@ fn ranked_in<F: TableFiles>(
     position: &Position,
     json: bool,
 ) -> Result<Answer, AllocError>
-    ensures { PassesSome (F.events place.now.disk.now log.old) (F.events place.now.disk.now log.new) (MakesInFolder (F.facts place.now.disk.now) place.now.path.now (told_by place.now.manifest.now) (refused_words json) (IsWithMoves position.now) (λ tables. IsToldIn json Strict tables position.now) (made_reply result)) }
+    ensures { RanksIn F.facts F.events place.now log.old log.new json position.now result }
 {
     if json {
         json_in(alloc, log, place, position)
@@ -239,7 +215,7 @@ fn answer_position<F: TableFiles>(
     disk: &F,
     position: &Position,
 ) -> Result<Answer, AllocError>
-    ensures { PassesSome (F.events disk.now log.old) (F.events disk.now log.new) (RanksAt (F.facts disk.now) task.now sources.now position.now (read_when_asked (is_lazy task.now) (Some task.now.tables)) (made_reply result)) }
+    ensures { MakesFrom F.facts F.events disk.now log.old log.new (λ disk. RanksGiven disk task.now sources.now position.now) result }
 {
     match read_when_asked(task.is_lazy(), Some(task.tables)) {
         Some(path) => {
@@ -295,7 +271,7 @@ fn write_with_empty_line<S: System>(
     timeline: &mut S::Timeline,
     answer: &Answer,
 ) -> Result<bool, TellFault>
-    ensures made { AddsSome (S.outside system.now) timeline.old timeline.new (WritesAnswer (ended (reply_of answer.now).text) ((reply_of answer.now).status == 0) result) }
+    ensures made { AddsSome (S.outside system.now) timeline.old timeline.new (WritesWithFeed (reply_of answer.now) result) }
     ensures cause { IsErrOf result TellFault.Io → OutputFails (S.outside system.now) }
 {
     match print_reply(system, timeline, answer) {
@@ -362,11 +338,11 @@ impl<'r, 's, S: System> FolderRanker<'r, 's, S> {
     ) -> Result<Answer, AllocError>
         requires spelled { SpellsPosition text.now position.now }
         requires position { IsPosition position.now }
-        ensures told { IfOk result (λ a. AddsSome (S.outside self.old.folder.on.disk.system.now) timeline.old timeline.new (AnswersRoot (S.outside self.old.folder.on.disk.system.now).disk self.old.folder.on.folder self.old.folder.tables self.new.folder.tables text.now (reply_of a))) }
-        ensures room { OnErr result (AddsSome (S.outside self.old.folder.on.disk.system.now) timeline.old timeline.new (LacksRoomFor (S.outside self.old.folder.on.disk.system.now).disk self.old.folder.on.folder IsSpelledBy IsWithMoves IsText self.old.folder.tables text.now)) }
+        ensures told { MovesMade (S.outside self.old.folder.on.disk.system.now) self.old.folder self.new.folder timeline.old timeline.new text.now result }
+        ensures room { MovesLacked (S.outside self.old.folder.on.disk.system.now) self.old.folder timeline.old timeline.new text.now result }
         ensures folder { self.new.folder.on ≡ self.old.folder.on }
     {
-        match self.folder.moves_told(timeline, position) {
+        match self.folder.ask(timeline, &MovesOf { position }) {
             Ok(Ok(answer)) => Ok(answer),
             Ok(Err(refused)) => Ok(Answer::Refused(Refusal::File(refused.name, refused.fault))),
             Err(fault) => Err(fault),
@@ -375,8 +351,8 @@ impl<'r, 's, S: System> FolderRanker<'r, 's, S> {
 
     /// The answer to a line.
     fn answer(&mut self, timeline: &mut S::Timeline, text: &[u8]) -> Result<Answer, AllocError>
-        ensures told { IfOk result (λ a. AddsSome (S.outside self.old.folder.on.disk.system.now) timeline.old timeline.new (AnswersRoot (S.outside self.old.folder.on.disk.system.now).disk self.old.folder.on.folder self.old.folder.tables self.new.folder.tables text.now (reply_of a))) }
-        ensures room { OnErr result (AddsSome (S.outside self.old.folder.on.disk.system.now) timeline.old timeline.new (LacksRoomFor (S.outside self.old.folder.on.disk.system.now).disk self.old.folder.on.folder IsSpelledBy IsWithMoves IsText self.old.folder.tables text.now)) }
+        ensures told { MovesMade (S.outside self.old.folder.on.disk.system.now) self.old.folder self.new.folder timeline.old timeline.new text.now result }
+        ensures room { MovesLacked (S.outside self.old.folder.on.disk.system.now) self.old.folder timeline.old timeline.new text.now result }
         ensures folder { self.new.folder.on ≡ self.old.folder.on }
     {
         match read(text) {

@@ -14,6 +14,10 @@ use Rattle.task_files.specs.Outside.{FolderFails}
 use Rattle.table_commands.specs.FolderAnswers.{IsOpenAt, IsSound, TablesOn}
 use Rattle.answer_parts.specs.declared.answers.refusals.Refusal.{Refusal}
 use Rattle.answer_parts.specs.declared.answers.refusals.Refusal.TheVariants as refusal
+use Rattle.timeline.specs.Outsides.{AddsSome, Outside}
+use Rattle.move_msg.specs.declared.told.Manifest.{Manifest}
+use Rattle.table_commands.specs.FolderReads.{OpensToAsk}
+use Rattle.std.specs.declared.alloc.AllocError.{AllocError}
 
 -- what tables say of a position
 abbrev pub AreColumns : Parts → Tables → Columns → Type 0
@@ -40,3 +44,7 @@ abbrev pub kept_to_ask : {D E : Type 0} → Result (Result (TablesOn D) Refusal)
 kept_to_ask (Ok (Ok o)) = Ok (Ok o.on.folder)
 kept_to_ask (Ok (Err refused)) = Ok (Err refused)
 kept_to_ask (Err e) = Err e
+
+-- from one moment to a later one a folder is opened to be asked, over an outside
+abbrev pub OpensKept : {T P F K S L D : Type 0} → Outside T P F K S L → T → T → List ℕ → Manifest → Result (Result (TablesOn D) Refusal) AllocError → Type 0
+OpensKept o begin end path manifest found = AddsSome o begin end (OpensToAsk o.disk path manifest (kept_to_ask found))

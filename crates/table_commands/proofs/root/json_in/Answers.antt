@@ -2,53 +2,21 @@ use Rattle.std.proofs.Common.{refl, true}
 use Rattle.answer_parts.specs.JsonAnswers.{json_reply}
 use Rattle.json_lines.specs.Told.{IsLineOf}
 use Rattle.judge_core.specs.declared.ask.Ask.TheVariants.{Strict}
-use Rattle.table_folder.specs.Settled.{IsWithMoves}
 use Rattle.table_commands.specs.Root.{IsToldIn, refused_words}
-use Rattle.table_commands.proofs.FolderReadLaws.{made_or_not}
-use Rattle.table_commands.proofs.RootLaws.{folder_words, lacks_folder, lacks_room, makes_by, refuses_file, refuses_folder}
+use Rattle.table_commands.proofs.FolderReadLaws.{made_or_not, makes_err, makes_in, makes_refusal}
 use Rattle.table_commands.proofs.root.json_in.Goals as goal
 
-pub returns-in-Ok-Err : goal.returns-in-Ok-Err
-returns-in-Ok-Err g c =
+pub returns-in_err-line : goal.returns-in_err-line
+returns-in_err-line g c =
     let p = c.args.position.now in
-    let place = c.args.place.now in
-    let opens = rw c.in-Ok-Err.field-0-is at c.in-Ok-Err.ensures.made in
-    refuses_folder g.F.TableFiles.facts g.F.TableFiles.events (refused_words true) (IsWithMoves p) (λ tables l. IsLineOf Strict true tables p l) (λ tables. IsToldIn true Strict tables p) (json_reply) (λ tables l is. (l, is, refl)) place.disk.now place.path.now place.manifest.now _ _
-    c.in-Ok-Err.refusal (folder_words true (g.F.TableFiles.facts place.disk.now) place.path.now place.manifest.now c.in-Ok-Err.refusal opens.0 opens.2) opens
+    makes_err _ _ _ (refused_words true) _ (λ tables l. IsLineOf Strict true tables p l) (λ tables. IsToldIn true Strict tables p) json_reply (λ tables l is. (l, is, refl)) c.from_residual.result c.in_err-line.field-0.0 _ _ c.from_residual.ensures.0 c.in_err-line.ensures
+
+pub returns-in-Ok : goal.returns-in-Ok
+returns-in-Ok g c =
+    let p = c.args.position.now in
+    makes_in _ _ _ (refused_words true) _ (λ tables l. IsLineOf Strict true tables p l) (λ tables. IsToldIn true Strict tables p) json_reply (λ tables l is. (l, is, refl)) c.in-Ok.line _ _ _ (made_or_not c.answer_as_json.result _ c.answer_as_json.ensures) (rw c.in-Ok.is at c.in_ok-line.ensures)
 
 pub returns-in-Err : goal.returns-in-Err
 returns-in-Err g c =
     let p = c.args.position.now in
-    let place = c.args.place.now in
-    lacks_folder g.F.TableFiles.facts g.F.TableFiles.events (refused_words true) (IsWithMoves p) (λ tables l. IsLineOf Strict true tables p l) (λ tables. IsToldIn true Strict tables p) (json_reply) (λ tables l is. (l, is, refl)) place.disk.now place.path.now place.manifest.now _ _
-    c.in-Err.fault c.in-Err.ensures.made
-
-pub returns-in-Ok-Ok-json_with_moves_by : goal.returns-in-Ok-Ok-json_with_moves_by
-returns-in-Ok-Ok-json_with_moves_by g c =
-    let p = c.args.position.now in
-    let place = c.args.place.now in
-    let disk = rw c.in-Ok-Ok.field-0-is at c.in-Ok-Ok.ensures.disk in
-    let empty = rw c.in-Ok-Ok.field-0-is at c.in-Ok-Ok.ensures.empty in
-    let opens = rw c.in-Ok-Ok.field-0-is at c.in-Ok-Ok.ensures.made in
-    makes_by g.F.TableFiles.facts g.F.TableFiles.events (refused_words true) (IsWithMoves p) (λ tables l. IsLineOf Strict true tables p l) (λ tables. IsToldIn true Strict tables p) (json_reply) (λ tables l is. (l, is, refl)) place.disk.now place.path.now place.manifest.now _ _
-    c.in-Ok-Ok.opened.0 _ c.json_with_moves_by.new.set.tables _ disk empty opens c.in-Ok-Ok-json_with_moves_by.found _ (made_or_not c.answer_as_json.result _ c.answer_as_json.ensures) (rw c.in-Ok-Ok-json_with_moves_by.field-0-is at c.in-Ok-Ok-json_with_moves_by.ensures.made)
-
-pub returns-in-Ok-Err-json_with_moves_by : goal.returns-in-Ok-Err-json_with_moves_by
-returns-in-Ok-Err-json_with_moves_by g c =
-    let p = c.args.position.now in
-    let place = c.args.place.now in
-    let disk = rw c.in-Ok-Ok.field-0-is at c.in-Ok-Ok.ensures.disk in
-    let empty = rw c.in-Ok-Ok.field-0-is at c.in-Ok-Ok.ensures.empty in
-    let opens = rw c.in-Ok-Ok.field-0-is at c.in-Ok-Ok.ensures.made in
-    refuses_file g.F.TableFiles.facts g.F.TableFiles.events (refused_words true) (IsWithMoves p) (λ tables l. IsLineOf Strict true tables p l) (λ tables. IsToldIn true Strict tables p) (json_reply) (λ tables l is. (l, is, refl)) place.disk.now place.path.now place.manifest.now _ _
-    c.in-Ok-Ok.opened.0 _ c.json_with_moves_by.new.set.tables _ disk empty opens c.in-Ok-Err-json_with_moves_by.refused _ (made_or_not c.refused_table_in.result _ c.refused_table_in.ensures) (rw c.in-Ok-Err-json_with_moves_by.field-0-is at c.in-Ok-Err-json_with_moves_by.ensures.made)
-
-pub returns : goal.returns
-returns g c =
-    let p = c.args.position.now in
-    let place = c.args.place.now in
-    let disk = rw c.in-Ok-Ok.field-0-is at c.in-Ok-Ok.ensures.disk in
-    let empty = rw c.in-Ok-Ok.field-0-is at c.in-Ok-Ok.ensures.empty in
-    let opens = rw c.in-Ok-Ok.field-0-is at c.in-Ok-Ok.ensures.made in
-    lacks_room g.F.TableFiles.facts g.F.TableFiles.events (refused_words true) (IsWithMoves p) (λ tables l. IsLineOf Strict true tables p l) (λ tables. IsToldIn true Strict tables p) (json_reply) (λ tables l is. (l, is, refl)) place.disk.now place.path.now place.manifest.now _ _
-    c.in-Ok-Ok.opened.0 _ c.json_with_moves_by.new.set.tables _ disk empty opens c.in-Err-json_with_moves_by.fault c.in-Err-json_with_moves_by.ensures.made
+    makes_refusal _ _ _ (refused_words true) _ (λ tables l. IsLineOf Strict true tables p l) (λ tables. IsToldIn true Strict tables p) json_reply (λ tables l is. (l, is, refl)) c.in-Err.refusal _ _ _ (made_or_not c.refused_as.result _ c.refused_as.ensures) (rw c.in-Err.is at c.in_ok-line.ensures)
