@@ -1,6 +1,6 @@
 -- A run, one turn after the other, by what happens outside.
-use Rattle.std.proofs.Common.{◌≡◌, ◌∙◌, ◌⊎◌, ◌+◌, ◌-◌, ◌≤◌, ◌<◌, ◌++◌, ◌∷◌, [], ℕ, Bool, List, Option, Some, None, ap, append-nil, append_assoc, arith, inl, inr, length, length-append, refl, subst, sym}
-use Rattle.std.specs.Prelude.{IfOk, IfSome, Result, Ok, Err, slice_get}
+use Rattle.std.proofs.Common.{◌≡◌, ◌∙◌, ◌+◌, ◌-◌, ◌≤◌, ◌<◌, ◌++◌, ◌∷◌, [], ℕ, Bool, List, Option, Some, None, ap, append-nil, append_assoc, arith, inl, inr, length, length-append, refl, subst, sym}
+use Rattle.std.specs.Prelude.{IfOk, IfSome, Result, Ok, Err}
 use Rattle.std.specs.List.{AllByRecursion, Contains}
 use Rattle.std.specs.declared.net.socket_addr.SocketAddr.{SocketAddr}
 use Rattle.std.proofs.lemmas.List.Elements.{All-contains, All-from_recursion, Contains-append_cases}
@@ -11,19 +11,18 @@ use Rattle.move_msg.specs.Messages.{SpellsMessage, message_text}
 use Rattle.move_msg.specs.Numbers.{most_moves}
 use Rattle.system_io.proofs.HistoryLaws.{Passes-trans}
 use Rattle.system_io.specs.Recipients.{address_named}
-use Rattle.system_io.specs.LineReaders.{LineFacts}
 use Rattle.system_io.specs.declared.output.WriteFault.{WriteFault}
 use Rattle.system_io.specs.declared.reading.ReadFault.{ReadFault}
 use Rattle.system_io.specs.declared.recipient.Recipient.{Recipient}
 use Rattle.timeline.proofs.EventLaws.{adds_both, adds_so}
-use Rattle.timeline.specs.Events.{Came, Event, Flushed, LineRead, Missed, Noted, Passes, Quiet, Refused, Sent, Wrote, sent_to, sent_to_each}
+use Rattle.timeline.specs.Events.{Came, Event, LineRead, Missed, Noted, Passes, Quiet, Refused, Sent, Wrote, sent_to, sent_to_each}
 use Rattle.timeline.specs.Outsides.{AddsSome, Outside}
 use Rattle.timeline.specs.declared.stream.Stream.TheVariants.{Output}
 use Rattle.source_core.specs.Heard.{Happened, IsHearing, IsNote, Moment, OnlyNotes, heard, sender_after}
-use Rattle.source_core.specs.Inside.Courses.{CourseAt, IsBegun, RunsAndSends, StandsWhere, StepsFrom, TakesStep, nothing_known}
+use Rattle.source_core.specs.Inside.Courses.{CourseAt, RunsAndSends, StandsWhere, StepsFrom, TakesStep, nothing_known}
 use Rattle.source_core.specs.Lines.{acked_words, end_words, ended_by}
 use Rattle.source_core.specs.Reports.{Knows}
-use Rattle.source_core.specs.Runs.{AreMoveTurns, ClosesRun, EndsRun, HasEnded, InputEnds, IsMoveTurn, LastSent, LineGoesOut, MoveTurn, NoLine, NotSent, OnlySends, RunState, RunsTo, SendsGame, SourceTerms, ToItsEnd, ToLostLine, datagram_of, gone_out, read_and_sent, run_from, sends_in, sent_again}
+use Rattle.source_core.specs.Runs.{AreMoveTurns, ClosesRun, EndsRun, InputEnds, IsMoveTurn, LastSent, LineGoesOut, MoveTurn, NoLine, NotSent, OnlySends, RunState, SendsGame, SourceTerms, ToItsEnd, ToLostLine, datagram_of, gone_out, read_and_sent, run_from, sends_in, sent_again}
 use Rattle.source_core.specs.Sendings.{causes, last_of}
 use Rattle.source_core.specs.Tries.{tries_events, try_events}
 use Rattle.source_core.specs.Turns.{HasSpelling, move_message}
@@ -201,7 +200,7 @@ pub record HasRun (F0 F M0 M : Type 0) (terms : SendConfig) (start : Parts) (inp
   pub fails : F → F0
   pub memory : M → M0
 
-pub run_none : (F M : Type 0) (terms : SendConfig) (input : Option (List ℕ)) (c : CourseAt) → IsBegun c → HasRun F F M M terms c.position input input c.at c 0
+pub run_none : (F M : Type 0) (terms : SendConfig) (input : Option (List ℕ)) (c : CourseAt) → (c.last ≡ None) × (c.known ≡ nothing_known) → HasRun F F M M terms c.position input input c.at c 0
 unfolding AreMoveTurns
 run_none F M terms input c begun = record {
   turns = [];

@@ -1,6 +1,6 @@
 -- A run of which a line was lost, as a front of one that goes on; and a run over other lines.
 use Rattle.std.proofs.Common.{◌≡◌, ◌∙◌, ◌+◌, ◌++◌, ◌∷◌, [], ℕ, List, Option, Some, None, ap, append-nil, append_assoc, length, refl, subst, sym}
-use Rattle.std.specs.Prelude.{Result, Ok, Err, OnErr}
+use Rattle.std.specs.Prelude.{Result, Ok, Err}
 use Rattle.std.proofs.lemmas.List.Elements.{Contains-append_left}
 use Rattle.board_core.specs.declared.moves.Move.{Move as Moves}
 use Rattle.board_core.specs.declared.parts.Parts.{Parts}
@@ -9,9 +9,7 @@ use Rattle.system_io.specs.declared.output.WriteFault.{WriteFault}
 use Rattle.system_io.specs.declared.reading.ReadFault.{ReadFault}
 use Rattle.timeline.specs.Events.{Event, Sent}
 use Rattle.source_core.specs.Lines.{acked_words, end_words, ended_by}
-use Rattle.source_core.specs.Runs.{AreMoveTurns, HasEnded, IsMoveTurn, LineGoesOut, MoveTurn, OnlySends, RunState, RunsTo, SendsFirst, SendsGame, SendsOn, SourceTerms, ToItsEnd, ToLostLine, gone_out, read_and_sent, run_from}
-use Rattle.source_core.specs.declared.known.Known.{Known}
-use Rattle.source_core.specs.declared.lines.End.{End}
+use Rattle.source_core.specs.Runs.{LineGoesOut, OnlySends, RunsTo, SendsFirst, SendsGame, SendsOn, SourceTerms, ToItsEnd, ToLostLine, gone_out, read_and_sent, run_from}
 use Rattle.source_core.specs.declared.lines.Ended.{Ended}
 use Rattle.source_core.proofs.CourseLaws.{only_out, turns_more}
 use Rattle.source_core.proofs.RunLaws.{still_ends}

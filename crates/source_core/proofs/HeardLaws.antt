@@ -6,7 +6,7 @@ use Rattle.std.specs.declared.net.socket_addr.SocketAddr.{SocketAddr}
 use Rattle.system_io.proofs.HistoryLaws.{Passes-nil, Passes-trans}
 use Rattle.system_io.specs.Recipients.{address_named}
 use Rattle.system_io.specs.declared.recipient.Recipient.{Recipient}
-use Rattle.timeline.specs.Events.{Event, Came, Missed, Noted, Passes, Quiet, sent_to, sent_to_each}
+use Rattle.timeline.specs.Events.{Event, Noted, Passes, sent_to, sent_to_each}
 use Rattle.source_core.specs.Heard.{Happened, IsHearing, IsNote, Moment, OnlyNotes, heard, heard_in, sender_after, sender_by}
 
 pub all_join : {A : Type 0} (P : A → Type 0) (xs ys : List A) → AllByRecursion P xs → AllByRecursion P ys → AllByRecursion P (xs ++ ys)

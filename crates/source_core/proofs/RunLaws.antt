@@ -1,32 +1,28 @@
 -- One step of a run, by what happens outside.
-use Rattle.std.proofs.Common.{◌≡◌, ◌∙◌, ◌⊎◌, ◌+◌, ◌-◌, ◌≤◌, ◌++◌, ◌∷◌, [], ℕ, Bool, true, false, List, Option, Some, None, ap, append-nil, append_assoc, arith, inl, inr, length, length-append, refl, subst, sym}
-use Rattle.std.specs.Prelude.{IfSome, Result, Ok, Err}
-use Rattle.std.specs.List.{AllByRecursion}
+use Rattle.std.proofs.Common.{◌≡◌, ◌∙◌, ◌⊎◌, ◌+◌, ◌-◌, ◌++◌, ◌∷◌, [], ℕ, Bool, true, false, List, Option, Some, None, ap, append-nil, append_assoc, inl, inr, length, refl, subst, sym}
+use Rattle.std.specs.Prelude.{IfSome, Ok, Err}
 use Rattle.std.specs.Io.KnownBytes.{IsAtEnd}
 use Rattle.std.specs.declared.net.socket_addr.SocketAddr.{SocketAddr}
-use Rattle.std.proofs.lemmas.Option.{same_Some}
 use Rattle.board_core.specs.declared.moves.Move.{Move as Moves}
 use Rattle.board_core.specs.declared.parts.Parts.{Parts}
 use Rattle.move_msg.specs.declared.stamp.Stamp.{Stamp}
 use Rattle.move_msg.specs.Messages.{message_text}
-use Rattle.move_notation.specs.declared.notation.Notation.{Notation}
 use Rattle.system_io.specs.LineReaders.{ReadsIfAny, ReadsLine}
 use Rattle.system_io.specs.Ports.{Passing}
 use Rattle.system_io.specs.declared.reading.ReadFault.{ReadFault}
 use Rattle.system_io.specs.declared.reading.ReadFault.TheVariants as fault
 use Rattle.system_io.specs.declared.recipient.Recipient.{Recipient}
 use Rattle.timeline.specs.Events.{Event, LineRead, Passes, has_line_feed, line_event, sent_to_each}
-use Rattle.source_core.specs.Heard.{Happened, IsHearing, Moment, heard, sender_after}
+use Rattle.source_core.specs.Heard.{Happened, Moment, heard, sender_after}
 use Rattle.source_core.specs.Inside.Courses.{ClosesWith, CourseAt, StandsWhere, StepsFrom, TakesLine, TakesStep}
 use Rattle.source_core.specs.Inside.Exchanges.{EndsTry}
-use Rattle.source_core.specs.Inside.Steps.{IsPlayedLine, StandsAtInputEnd, end_by, is_ruled, no_cause}
+use Rattle.source_core.specs.Inside.Steps.{IsPlayedLine, StandsAtInputEnd, end_by, no_cause}
 use Rattle.source_core.specs.Lines.{acked_words}
-use Rattle.source_core.specs.Origins.{IsOwn}
-use Rattle.source_core.specs.Reports.{IsAcked, Knows}
-use Rattle.source_core.specs.Runs.{AreTriesOf, ClosesRun, EndsRun, InputEnds, IsLastSent, IsMoveTurn, LastSent, MoveTurn, NoLine, NotSent, RunState, SourceTerms, datagram_of, gone_out, read_and_sent, sends_in, sent_again, unread_end}
+use Rattle.source_core.specs.Reports.{Knows}
+use Rattle.source_core.specs.Runs.{AreTriesOf, EndsRun, InputEnds, IsLastSent, LastSent, NoLine, NotSent, RunState, SourceTerms, datagram_of, gone_out, sends_in, sent_again, unread_end}
 use Rattle.source_core.specs.Sendings.{ClosesSo, IsRefusedLine, IsSentLast, last_of}
-use Rattle.source_core.specs.Tries.{SendsMove, heard_all, heard_each, tries_events, try_events}
-use Rattle.source_core.specs.Turns.{ComesTo, HasSpelling, HasWaited, TurnEndsSo, WaitsSoLong, move_message}
+use Rattle.source_core.specs.Tries.{SendsMove, heard_all, tries_events, try_events}
+use Rattle.source_core.specs.Turns.{ComesTo, HasSpelling, HasWaited, TurnEndsSo, move_message}
 use Rattle.source_core.specs.declared.known.Clash.{Clash}
 use Rattle.source_core.specs.declared.known.Known.{Known}
 use Rattle.source_core.specs.declared.lines.End.{End}
@@ -36,7 +32,7 @@ use Rattle.source_core.specs.declared.turn.Next.TheVariants as next
 use Rattle.source_core.specs.declared.turn.SendConfig.{SendConfig}
 use Rattle.source_core.specs.declared.turn.Turn.{Turn}
 use Rattle.source_core.specs.declared.turn.Turn.TheVariants as at_turn
-use Rattle.source_core.proofs.HeardLaws.{happened_more, heard-append, sent_same, sent_unheard}
+use Rattle.source_core.proofs.HeardLaws.{happened_more, heard-append, sent_unheard}
 use Rattle.source_core.proofs.SendingLaws.{has_waited, not_closed, not_refused}
 
 -- ---- what is heard of a move
@@ -163,12 +159,12 @@ pub line_sent : (terms : SendConfig) (number : ℕ) (line : List ℕ) (c c' : Co
 line_sent terms number line c c' after m turn o position last played (tries, sends) is left left' had_come old read first g at same from w =
     let its_read : ReadsLine at.input left' line = subst (λ i. ReadsLine i left' line) (sym from) read in
     let its_played : IsPlayedLine g.terms.notation at.position (length at.moves) line m after =
-        subst (λ (t : SendConfig). IsPlayedLine t.notation at.position (length at.moves) line m after) (sym same)
-        (subst (λ p. IsPlayedLine terms.notation p (length at.moves) line m after) (sym w.position)
-        (subst (λ n. IsPlayedLine terms.notation c.position n line m after) w.count played)) in
+    subst (λ (t : SendConfig). IsPlayedLine t.notation at.position (length at.moves) line m after) (sym same)
+    (subst (λ p. IsPlayedLine terms.notation p (length at.moves) line m after) (sym w.position)
+    (subst (λ n. IsPlayedLine terms.notation c.position n line m after) w.count played)) in
     let its_sends : SendsMove g.terms (length at.moves) m (length at.moves + 1) after c.at c'.at c.known c'.known turn tries =
-        subst (λ (t : SendConfig). SendsMove t (length at.moves) m (length at.moves + 1) after c.at c'.at c.known c'.known turn tries) (sym same)
-        (subst (λ n. SendsMove terms n m (n + 1) after c.at c'.at c.known c'.known turn tries) w.count sends) in
+    subst (λ (t : SendConfig). SendsMove t (length at.moves) m (length at.moves + 1) after c.at c'.at c.known c'.known turn tries) (sym same)
+    (subst (λ n. SendsMove terms n m (n + 1) after c.at c'.at c.known c'.known turn tries) w.count sends) in
     let steps : TakesStep no_cause g at left' old (record { position = after; last = Some m; known = c'.known; at = c'.at }) (end_by turn) = turned_so g at line had_come left' after m old c.at c'.at c.known c'.known turn tries its_read its_played its_sends w.knows w.to w.sender first no_cause in
     subst (TakesStep no_cause g at left' old c') (sym is)
     (subst (λ p. TakesStep no_cause g at left' old (record { position = p; last = c'.last; known = c'.known; at = c'.at }) (end_by turn)) (sym position)
@@ -180,9 +176,9 @@ unfolding TakesStep
 line_refused terms number line c end h left left' had_come old read first g at same from w =
     let its_read : ReadsLine at.input left' line = subst (λ i. ReadsLine i left' line) (sym from) read in
     let refused : IsRefusedLine g.terms.notation at.position (length at.moves) line end =
-        subst (λ (t : SendConfig). IsRefusedLine t.notation at.position (length at.moves) line end) (sym same)
-        (subst (λ p. IsRefusedLine terms.notation p (length at.moves) line end) (sym w.position)
-        (subst (λ n. IsRefusedLine terms.notation c.position n line end) w.count h)) in
+    subst (λ (t : SendConfig). IsRefusedLine t.notation at.position (length at.moves) line end) (sym same)
+    (subst (λ p. IsRefusedLine terms.notation p (length at.moves) line end) (sym w.position)
+    (subst (λ n. IsRefusedLine terms.notation c.position n line end) w.count h)) in
     ([], LineRead (Ok (Some line)) had_come ∷ [], NotSent line had_come left' its_read refused refl refl, first, λ is. absurd (not_refused terms.notation c.position number line end h is))
 
 -- ---- the next line
@@ -227,8 +223,8 @@ input_ended cause terms number had_come left left' c d c' end position last know
     let again : List Event = sent_again (sender_after g.sender at.events) g.to g.terms.stamp (length at.moves - 1) (last_of at.moves) in
     let by_last : Happened d.at c'.at (sent_again d.at.sender d.at.to g.terms.stamp (length at.moves - 1) (last_of at.moves) ++ closes.came) = subst (λ l. Happened d.at c'.at (sent_again d.at.sender d.at.to g.terms.stamp (length at.moves - 1) l ++ closes.came)) s.last closes.happened in
     let its : Happened d.at c'.at (again ++ closes.came) =
-        subst (λ (x : Option SocketAddr). Happened d.at c'.at (sent_again x g.to g.terms.stamp (length at.moves - 1) (last_of at.moves) ++ closes.came)) (first.sender ∙ s.sender)
-        (subst (λ (r : List Recipient). Happened d.at c'.at (sent_again d.at.sender r g.terms.stamp (length at.moves - 1) (last_of at.moves) ++ closes.came)) (first.to ∙ s.to) by_last) in
+    subst (λ (x : Option SocketAddr). Happened d.at c'.at (sent_again x g.to g.terms.stamp (length at.moves - 1) (last_of at.moves) ++ closes.came)) (first.sender ∙ s.sender)
+    (subst (λ (r : List Recipient). Happened d.at c'.at (sent_again d.at.sender r g.terms.stamp (length at.moves - 1) (last_of at.moves) ++ closes.came)) (first.to ∙ s.to) by_last) in
     let stands : ClosesSo g.terms.origin g.terms.stamp (length at.moves) at.position (heard at.events ++ heard closes.came) end = subst (λ p. ClosesSo g.terms.origin g.terms.stamp (length at.moves) p (heard at.events ++ heard closes.came) end) (sym s.position) (closes.stands (heard at.events) s.knows) in (
       [],
       LineRead (Ok None) had_come ∷ (again ++ closes.came),

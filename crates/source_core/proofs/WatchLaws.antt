@@ -1,7 +1,7 @@
 -- Notes, one after another.
-use Rattle.std.proofs.Common.{◌++◌, List, [], ◌∷◌, ℕ}
+use Rattle.std.proofs.Common.{List, [], ◌∷◌, ℕ}
 use Rattle.timeline.proofs.EventLaws.{adds_both, adds_none}
-use Rattle.timeline.specs.Events.{Event, Noted}
+use Rattle.timeline.specs.Events.{Noted}
 use Rattle.timeline.specs.Outsides.{Adds, AddsSome, Outside}
 use Rattle.source_core.specs.Heard.{IsNote, OnlyNotes}
 use Rattle.source_core.proofs.HeardLaws.{all_join}

@@ -17,15 +17,16 @@ use Rattle.system_io.specs.declared.reading.ReadFault.TheVariants as fault
 use Rattle.system_io.specs.declared.recipient.Recipient.{Recipient}
 use Rattle.system_io.specs.LineReaders.{ReadsLine}
 use Rattle.timeline.specs.Events.{Event, Flushed, LineRead, Refused, Sent, Wrote, sent_to_each}
-use Rattle.timeline.specs.Outsides.{PortState}
+use Rattle.timeline.specs.Outsides.{Outside, PortState}
 use Rattle.timeline.specs.declared.stream.Stream.TheVariants.{Output}
 use Rattle.source_core.specs.Heard.{IsHearing, OnlyNotes, heard, sender_after}
 use Rattle.source_core.specs.Lines.{acked_words, end_words, ended_by}
 use Rattle.source_core.specs.Origins.{IsOwn}
 use Rattle.source_core.specs.Reports.{IsAcked, Knows}
-use Rattle.source_core.specs.Sendings.{ClosesSo, IsRefusedLine, IsSentLast, last_of}
+use Rattle.source_core.specs.Sendings.{ClosesSo, IsRefusedLine, IsSentLast, causes, last_of}
 use Rattle.source_core.specs.Tries.{EachWaits, heard_each, tries_events}
 use Rattle.source_core.specs.Turns.{AllButLastWaited, HasSpelling, HasWaited, WaitsSoLong, move_message}
+use Rattle.source_core.specs.declared.course.GameToSend.{GameToSend}
 use Rattle.source_core.specs.declared.known.Known.{Known}
 use Rattle.source_core.specs.declared.lines.End.{End}
 use Rattle.source_core.specs.declared.lines.End.TheVariants as at_end
@@ -210,3 +211,7 @@ pub record SendsFirst (g : SourceTerms) (start : Parts) (input : Option (List �
 abbrev pub SendsOn : (ReadFault → Type 0) → SourceTerms → Parts → Option (List ℕ) → List Event → Option Ended → Type 0
 SendsOn cause g start input events (Some ended) = SendsGame cause g start input (Ok ended) events
 SendsOn cause g start input events None = SendsFirst g start input events
+
+-- the moves of some lines are sent at a port
+abbrev pub SendsMoves : {T P F K S L : Type 0} → Outside T P F K S L → GameToSend → L → P → Result Ended WriteFault → List Event → Type 0
+SendsMoves o game lines port result = SendsGame (causes (o.lines lines).fails (o.lines lines).takes_memory) (source_terms game.terms (o.port port)) game.start (o.lines lines).left result

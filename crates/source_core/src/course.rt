@@ -2,11 +2,9 @@
 
 ghost use Rattle.std.specs.Prelude.{◌≡◌, None, IfOk, IfSome, OnErr};
 ghost use Rattle.line_teller.specs.ToldLines.{HasFailed};
-ghost use Rattle.source_core.specs.Heard.{Happened, moment};
-ghost use Rattle.source_core.specs.Inside.Courses.{ClosesWith, IsBegun, RunsAndSends, TakesLine, TakesStepAt, course_at, nothing_known};
+ghost use Rattle.source_core.specs.Inside.Courses.{ClosesAt, IsBegun, RunsFrom, SendsLast, TakesLineAt, TakesStepAt, nothing_known};
 ghost use Rattle.source_core.specs.Lines.{end_words, ended_by};
-ghost use Rattle.source_core.specs.Runs.{LineGoesOut, SendsGame, sent_again, source_terms};
-ghost use Rattle.source_core.specs.Sendings.{causes};
+ghost use Rattle.source_core.specs.Runs.{LineGoesOut, SendsMoves};
 ghost use Rattle.source_core.specs.Turns.{HasSpelling};
 ghost use Rattle.timeline.specs.Outsides.{AddsSome};
 ghost use Rattle.timeline.specs.declared.stream.Stream.TheVariants.{Output};
@@ -62,7 +60,7 @@ fn send_line<S: System>(
     line: &[u8],
     course: &mut Course<'_, S::Port>,
 ) -> Option<End>
-    ensures { TakesLine terms.now number line.now (course_at (S.outside system.now) timeline.old course.old) (course_at (S.outside system.now) timeline.new course.new) result }
+    ensures { TakesLineAt (S.outside system.now) timeline.old timeline.new course.old course.new terms.now number line.now result }
 {
     match &move_of(terms.notation, line, &course.position, number) {
         Err(end) => Some(*end),
@@ -79,13 +77,7 @@ fn send_line<S: System>(
                 m: *m,
                 board,
             };
-            end_of(send_move(
-                system,
-                timeline,
-                terms,
-                sent,
-                &mut course.exchange,
-            ))
+            end_of(send_move(system, timeline, terms, sent, &mut course.exchange))
         }
     }
 }
@@ -100,7 +92,7 @@ fn send_last<S: System>(
     exchange: &mut Exchange<'_, S::Port>,
 )
     ensures spelling { IfSome last (HasSpelling stamp number) }
-    ensures happened { Happened (moment (S.outside system.now) timeline.old exchange.old.port) (moment (S.outside system.now) timeline.new exchange.new.port) (sent_again ((S.outside system.now).port exchange.old.port).sender ((S.outside system.now).port exchange.old.port).to stamp number last) }
+    ensures happened { SendsLast (S.outside system.now) timeline.old timeline.new exchange.old exchange.new stamp number last }
     ensures known { exchange.new.known ≡ exchange.old.known }
 {
     match last {
@@ -118,7 +110,7 @@ fn close<S: System>(
     number: u32,
     course: &mut Course<'_, S::Port>,
 ) -> End
-    ensures { ClosesWith terms.now number (course_at (S.outside system.now) timeline.old course.old) (course_at (S.outside system.now) timeline.new course.new) result }
+    ensures { ClosesAt (S.outside system.now) timeline.old timeline.new course.old course.new terms.now number result }
 {
     send_last(
         system,
@@ -150,7 +142,7 @@ fn step<S: System>(
     reading: &mut Reading<S::Lines>,
     course: &mut Course<'_, S::Port>,
 ) -> Option<End>
-    ensures steps { TakesStepAt terms.now number ((S.outside system.now).lines reading.old.lines) ((S.outside system.now).lines reading.new.lines) (course_at (S.outside system.now) timeline.old course.old) (course_at (S.outside system.now) timeline.new course.new) result }
+    ensures steps { TakesStepAt (S.outside system.now) timeline.old timeline.new course.old course.new terms.now number reading.old reading.new result }
     ensures same { ((S.outside system.now).lines reading.new.lines).fails → ((S.outside system.now).lines reading.old.lines).fails }
     ensures room { ((S.outside system.now).lines reading.new.lines).takes_memory → ((S.outside system.now).lines reading.old.lines).takes_memory }
 {
@@ -192,8 +184,8 @@ fn run<S: System>(
     reading: &mut Reading<S::Lines>,
     course: &mut Course<'_, S::Port>,
 ) -> Result<Ended, WriteFault>
-    requires { IsBegun (course_at (S.outside system.now) timeline.old course.old) }
-    ensures made { AddsSome (S.outside system.now) timeline.old timeline.new (RunsAndSends (causes ((S.outside system.now).lines reading.old.lines).fails ((S.outside system.now).lines reading.old.lines).takes_memory) (source_terms terms.now ((S.outside system.now).port course.old.exchange.port)) course.old.position ((S.outside system.now).lines reading.old.lines).left result) }
+    requires { IsBegun course.old }
+    ensures made { AddsSome (S.outside system.now) timeline.old timeline.new (RunsFrom (S.outside system.now) terms.now reading.old course.old result) }
     ensures cause { OnErr result (HasFailed (λ t. (S.outside system.now).output t Output)) }
 {
     for number in 0..MOST_MOVES + 1 {
@@ -255,7 +247,7 @@ pub fn send_moves<S: System>(
     port: S::Port,
 ) -> Result<Ended, WriteFault>
     // There is such a run, and nothing else happens.
-    ensures made { AddsSome (S.outside system.now) timeline.old timeline.new (SendsGame (causes ((S.outside system.now).lines lines).fails ((S.outside system.now).lines lines).takes_memory) (source_terms game.now.terms ((S.outside system.now).port port)) game.now.start ((S.outside system.now).lines lines).left result) }
+    ensures made { AddsSome (S.outside system.now) timeline.old timeline.new (SendsMoves (S.outside system.now) game.now lines port result) }
 
     // An error comes only where a write might be refused, or what was written couldn't go out.
     ensures cause { OnErr result (HasFailed (λ t. (S.outside system.now).output t Output)) }

@@ -1,14 +1,12 @@
 //! What goes out and comes in for one move, over a system.
 
-ghost use Rattle.std.specs.Prelude.{◌≡◌, ◌∷◌, [], ℕ, List, IfSome};
+ghost use Rattle.std.specs.Prelude.{◌≡◌, ◌∷◌, [], ℕ};
 ghost use Rattle.std.specs.Duration.{as_nanos};
 ghost use Rattle.system_io.specs.Ports.{Came};
-ghost use Rattle.timeline.specs.Events.{Event, sent_to_each};
 ghost use Rattle.timeline.specs.Outsides.{AddsSome};
-ghost use Rattle.source_core.specs.Heard.{Happened, OnlyNotes, moment};
-ghost use Rattle.source_core.specs.Inside.Exchanges.{EndsTry, HearsOne, TriesOnce};
+ghost use Rattle.source_core.specs.Heard.{OnlyNotes};
+ghost use Rattle.source_core.specs.Inside.Exchanges.{EndsTryAt, HearsOneAt, SendsBytes, SendsMoveAt, TriesOnceAt};
 ghost use Rattle.source_core.specs.Inside.Steps.{IsLast};
-ghost use Rattle.source_core.specs.Tries.{SendsMove};
 ghost use Rattle.source_core.specs.Turns.{Learns};
 
 use crate::board::Board;
@@ -60,7 +58,7 @@ pub(crate) fn send<S: System>(
     exchange: &mut Exchange<'_, S::Port>,
     bytes: &[u8],
 )
-    ensures happened { Happened (moment (S.outside system.now) timeline.old exchange.old.port) (moment (S.outside system.now) timeline.new exchange.new.port) (sent_to_each ((S.outside system.now).port exchange.old.port).sender ((S.outside system.now).port exchange.old.port).to bytes.now) }
+    ensures happened { SendsBytes (S.outside system.now) timeline.old timeline.new exchange.old exchange.new bytes.now }
     ensures known { exchange.new.known ≡ exchange.old.known }
 {
     exchange.watch.note_sent(bytes);
@@ -93,7 +91,7 @@ fn receive_one<S: System>(
     wait: Duration,
     exchange: &mut Exchange<'_, S::Port>,
 ) -> Next
-    ensures { HearsOne stamp (as_nanos wait) (moment (S.outside system.now) timeline.old exchange.old.port) (moment (S.outside system.now) timeline.new exchange.new.port) exchange.old.known exchange.new.known result }
+    ensures { HearsOneAt (S.outside system.now) timeline.old timeline.new exchange.old exchange.new stamp (as_nanos wait) result }
 {
     let mut buffer = [0u8; 64];
     match system.receive_in_time(timeline, &mut exchange.port, wait, &mut buffer) {
@@ -114,7 +112,7 @@ pub(crate) fn receive_all<S: System>(
     at: Try,
     exchange: &mut Exchange<'_, S::Port>,
 ) -> Next
-    ensures { EndsTry terms.now at.index at.number (moment (S.outside system.now) timeline.old exchange.old.port) (moment (S.outside system.now) timeline.new exchange.new.port) exchange.old.known exchange.new.known result }
+    ensures { EndsTryAt (S.outside system.now) timeline.old timeline.new exchange.old exchange.new terms.now at result }
 {
     for _ in 0..MOST_ANSWERS {
         if is_ruled(&exchange.known) {
@@ -138,7 +136,7 @@ fn try_once<S: System>(
     exchange: &mut Exchange<'_, S::Port>,
     bytes: &[u8],
 ) -> Option<Turn>
-    ensures { TriesOnce terms.now at.index at.number bytes.now (moment (S.outside system.now) timeline.old exchange.old.port) (moment (S.outside system.now) timeline.new exchange.new.port) exchange.old.known exchange.new.known result }
+    ensures { TriesOnceAt (S.outside system.now) timeline.old timeline.new exchange.old exchange.new terms.now at bytes.now result }
 {
     send(system, timeline, exchange, bytes);
     loss_of(receive_all(system, timeline, terms, at, exchange))
@@ -156,7 +154,7 @@ pub(crate) fn send_move<S: System>(
     sent: Sent<'_>,
     exchange: &mut Exchange<'_, S::Port>,
 ) -> Turn
-    ensures { (tries : List (List Event)) × SendsMove terms.now sent.entry.number sent.entry.m sent.entry.board.plies sent.entry.board.position.now (moment (S.outside system.now) timeline.old exchange.old.port) (moment (S.outside system.now) timeline.new exchange.new.port) exchange.old.known exchange.new.known result tries }
+    ensures { SendsMoveAt (S.outside system.now) timeline.old timeline.new exchange.old exchange.new terms.now sent.entry result }
 {
     let number = sent.number;
     let bytes = datagram_of(terms.stamp, number, sent.m);

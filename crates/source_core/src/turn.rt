@@ -83,7 +83,12 @@ fn send<P: Port>(port: &mut P, bytes: &[u8])
 }
 
 /// Adds the report of a datagram that came from an address, if it has one.
-pub(crate) fn take_in(stamp: Stamp, known: &mut Known, datagram: &[u8], from: Option<SocketAddr>) -> Next
+pub(crate) fn take_in(
+    stamp: Stamp,
+    known: &mut Known,
+    datagram: &[u8],
+    from: Option<SocketAddr>,
+) -> Next
     ensures learns { Learns stamp known.old known.new (Came datagram.now ∷ []) result }
     ensures last { (nanos : ℕ) → IsLast nanos (Came datagram.now) result }
 {

@@ -302,12 +302,7 @@ impl<'w> Watch<'w> {
     }
 
     /// An answer came from an address. Where it is none of those to which moves are sent, as far as these are known, it is noted.
-    fn note_stray<S: System>(
-        &mut self,
-        system: &S,
-        timeline: &mut S::Timeline,
-        address: SocketAddr,
-    )
+    fn note_stray<S: System>(&mut self, system: &S, timeline: &mut S::Timeline, address: SocketAddr)
         ensures { AddsSome (S.outside system.now) timeline.old timeline.new OnlyNotes }
     {
         if self.stray == Some(address) || !is_none_of(self.to, address) {

@@ -1,10 +1,11 @@
 -- One step of a run, by what happens outside; cited by private functions alone.
-use Rattle.std.specs.Prelude.{◌≡◌, ◌++◌, ◌-◌, ℕ, Bool, List, [], ◌∷◌, length, Option, Some, None, IfSome, Result, Ok, Err}
+use Rattle.std.specs.Prelude.{◌≡◌, ◌++◌, ◌-◌, ℕ, Bool, List, [], ◌∷◌, length, Option, Some, None, IfSome, Result, Ok}
 use Rattle.std.specs.List.{AllByRecursion}
 use Rattle.board_core.specs.declared.moves.Move.{Move as Moves}
 use Rattle.board_core.specs.declared.parts.Parts.{Parts}
+use Rattle.move_msg.specs.declared.stamp.Stamp.{Stamp}
 use Rattle.system_io.specs.declared.output.WriteFault.{WriteFault}
-use Rattle.system_io.specs.LineReaders.{LineFacts, ReadsLine}
+use Rattle.system_io.specs.LineReaders.{ReadsLine}
 use Rattle.system_io.specs.declared.reading.ReadFault.{ReadFault}
 use Rattle.system_io.specs.Ports.{Passing}
 use Rattle.timeline.specs.Events.{Event, LineRead}
@@ -12,10 +13,12 @@ use Rattle.timeline.specs.Outsides.{Outside}
 use Rattle.source_core.specs.Heard.{Happened, IsHearing, Moment, heard, moment, sender_after}
 use Rattle.source_core.specs.Inside.Steps.{no_cause}
 use Rattle.source_core.specs.Reports.{Knows}
-use Rattle.source_core.specs.Runs.{EndsRun, IsMoveTurn, MoveTurn, OnlySends, RunState, RunsTo, SourceTerms, read_and_sent, sent_again}
+use Rattle.source_core.specs.Runs.{EndsRun, IsMoveTurn, MoveTurn, OnlySends, RunState, RunsTo, SourceTerms, read_and_sent, sent_again, source_terms}
 use Rattle.source_core.specs.Sendings.{ClosesSo, causes, last_of}
 use Rattle.source_core.specs.Turns.{HasSpelling, HasWaited, WaitsSoLong}
 use Rattle.source_core.specs.declared.course.Course.{Course}
+use Rattle.source_core.specs.declared.course.Reading.{Reading}
+use Rattle.source_core.specs.declared.exchange.Exchange.{Exchange}
 use Rattle.source_core.specs.declared.known.Known.{Known}
 use Rattle.source_core.specs.declared.lines.End.{End}
 use Rattle.source_core.specs.declared.lines.End.TheVariants as at_end
@@ -53,10 +56,6 @@ abbrev pub StepsFrom : (ReadFault → Type 0) → SendConfig → ℕ → Option 
 StepsFrom cause terms number left left' old c c' end =
     (g : SourceTerms) (at : RunState) → g.terms ≡ terms → at.input ≡ left → StandsWhere g at number c old → TakesStep cause g at left' old c' end
 
--- so at some lines
-abbrev pub TakesStepAt : SendConfig → ℕ → LineFacts → LineFacts → CourseAt → CourseAt → Option End → Type 0
-TakesStepAt terms number lines lines' c c' end = StepsFrom (causes lines.fails lines.takes_memory) terms number lines.left lines'.left c.at c c' end
-
 -- the same behind a line that was read
 abbrev pub TakesLine : SendConfig → ℕ → List ℕ → CourseAt → CourseAt → Option End → Type 0
 TakesLine terms number line c c' end =
@@ -77,9 +76,31 @@ abbrev pub nothing_known : Known
 nothing_known = record { a = record { count = 0; ruling = None; from = None }; b = record { count = 0; ruling = None; from = None } }
 
 -- nothing is sent yet
-abbrev pub IsBegun : CourseAt → Type 0
-IsBegun c = (c.last ≡ None) × (c.known ≡ nothing_known)
+abbrev pub IsBegun : {P : Type 0} → Course P → Type 0
+IsBegun c = (c.last ≡ None) × (c.exchange.known ≡ nothing_known)
 
 -- a run, and all that it sends
 abbrev pub RunsAndSends : (ReadFault → Type 0) → SourceTerms → Parts → Option (List ℕ) → Result Ended WriteFault → List Event → Type 0
 RunsAndSends cause g start input r events = (moves : List Moves) × RunsTo cause g start input moves r events × OnlySends g.terms.stamp moves events
+
+-- ---- so between two moments of a course
+
+-- the move of a line is sent
+abbrev pub TakesLineAt : {T P F K S L : Type 0} → Outside T P F K S L → T → T → Course P → Course P → SendConfig → ℕ → List ℕ → Option End → Type 0
+TakesLineAt o old new c c' terms number line end = TakesLine terms number line (course_at o old c) (course_at o new c') end
+
+-- the last acknowledged move is sent once more
+abbrev pub SendsLast : {T P F K S L : Type 0} → Outside T P F K S L → T → T → Exchange P → Exchange P → Stamp → ℕ → Option Moves → Type 0
+SendsLast o old new e e' stamp number last = Happened (moment o old e.port) (moment o new e'.port) (sent_again (o.port e.port).sender (o.port e.port).to stamp number last)
+
+abbrev pub ClosesAt : {T P F K S L : Type 0} → Outside T P F K S L → T → T → Course P → Course P → SendConfig → ℕ → End → Type 0
+ClosesAt o old new c c' terms number end = ClosesWith terms number (course_at o old c) (course_at o new c') end
+
+-- the next line is read, and its move sent
+abbrev pub TakesStepAt : {T P F K S L : Type 0} → Outside T P F K S L → T → T → Course P → Course P → SendConfig → ℕ → Reading L → Reading L → Option End → Type 0
+TakesStepAt o old new c c' terms number r r' end =
+    StepsFrom (causes (o.lines r.lines).fails (o.lines r.lines).takes_memory) terms number (o.lines r.lines).left (o.lines r'.lines).left (moment o old c.exchange.port) (course_at o old c) (course_at o new c') end
+
+-- all lines are read so
+abbrev pub RunsFrom : {T P F K S L : Type 0} → Outside T P F K S L → SendConfig → Reading L → Course P → Result Ended WriteFault → List Event → Type 0
+RunsFrom o terms r c result = RunsAndSends (causes (o.lines r.lines).fails (o.lines r.lines).takes_memory) (source_terms terms (o.port c.exchange.port)) c.position (o.lines r.lines).left result

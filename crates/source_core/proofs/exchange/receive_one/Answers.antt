@@ -1,5 +1,4 @@
-use Rattle.std.proofs.Common.{ap, Err, Ok, refl}
-use Rattle.std.specs.Duration.{as_nanos}
+use Rattle.std.proofs.Common.{ap, Ok}
 use Rattle.source_core.proofs.TryLaws.{hears_came, hears_missed, hears_quiet}
 use Rattle.source_core.proofs.exchange.receive_one.Goals as goal
 

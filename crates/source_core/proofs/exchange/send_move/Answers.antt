@@ -1,5 +1,5 @@
 use Rattle.std.proofs.Common.{arith}
-use Rattle.source_core.proofs.TryLaws.{move_cut, move_ended, move_lost, tries_more, tries_none}
+use Rattle.source_core.proofs.TryLaws.{move_cut, move_ended, tries_more, tries_none}
 use Rattle.source_core.proofs.TurnLaws.{spelled_so}
 use Rattle.source_core.proofs.exchange.send_move.Goals as goal
 

@@ -1,5 +1,4 @@
-use Rattle.std.proofs.Common.{◌≡◌, ◌∙◌, ◌+◌, ◌++◌, ℕ, List, [], ◌∷◌, Option, Some, None, length, sym, ap, subst, append-nil, length-append}
-use Rattle.board_core.specs.declared.parts.Parts.{Parts}
+use Rattle.std.proofs.Common.{◌≡◌, ◌∙◌, ◌+◌, ◌++◌, ℕ, List, [], ◌∷◌, None, length, sym, ap, subst, append-nil, length-append}
 use Rattle.board_core.specs.declared.moves.Move.{Move as Moves}
 use Rattle.move_msg.specs.declared.stamp.Stamp.{Stamp}
 use Rattle.std.specs.Prelude.{Ok}
@@ -7,15 +6,13 @@ use Rattle.system_io.specs.declared.reading.ReadFault.{ReadFault}
 use Rattle.system_io.specs.declared.reading.ReadFault.TheVariants as fault
 use Rattle.system_io.specs.Ports.{Passing}
 use Rattle.timeline.specs.Events.{Event, LineRead}
-use Rattle.source_core.specs.declared.lines.End.{End}
 use Rattle.source_core.specs.declared.lines.End.TheVariants as at_end
 use Rattle.source_core.specs.declared.origin.Origin.{Origin}
 use Rattle.source_core.specs.declared.origin.Origin.TheVariants.{Any, New}
 use Rattle.source_core.specs.declared.report.Ruling.{Ruling}
 use Rattle.source_core.specs.Heard.{heard}
 use Rattle.source_core.specs.Origins.{IsOwn, RestsOnSent}
-use Rattle.source_core.specs.Runs.{AreMoveTurns, EndsRun, InputEnds, IsMoveTurn, LastSent, MoveTurn, NoLine, NotSent, RunState, SourceTerms, sent_again, unread_end}
-use Rattle.source_core.proofs.HeardLaws.{heard-append}
+use Rattle.source_core.specs.Runs.{AreMoveTurns, EndsRun, InputEnds, IsMoveTurn, LastSent, MoveTurn, NoLine, NotSent, RunState, SourceTerms, unread_end}
 use Rattle.source_core.proofs.RunLaws.{heard_again}
 use Rattle.source_core.proofs.laws.new_run_rests_on_sent.Goals as goal
 

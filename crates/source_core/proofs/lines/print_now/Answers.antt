@@ -1,4 +1,4 @@
-use Rattle.source_core.proofs.OutLaws.{line_cut, line_written, refuses_at, stuck_at}
+use Rattle.source_core.proofs.OutLaws.{line_cut, line_written}
 use Rattle.source_core.proofs.lines.print_now.Goals as goal
 
 pub returns-in-Ok-clause-made : goal.returns-in-Ok-clause-made
