@@ -21,7 +21,7 @@ abbrev pub shared_key : List ℕ → List ℕ
 shared_key path = path ++ codes ": the group or others have rights to it"
 
 abbrev pub line_at_fault : List ℕ → ℕ → List ℕ
-line_at_fault path number = path ++ codes ": line " ++ decimal number ++ codes " is no key"
+line_at_fault path number = path ++ (codes ": line " ++ (decimal number ++ codes " is no key"))
 
 -- the line that is noted; of a file that can't be read the system has said so
 abbrev pub key_note : List ℕ → Refusal → Option (List ℕ)

@@ -5,7 +5,7 @@ use Rattle.answer_commands.proofs.sending.bind.Goals as goal
 
 pub returns-then-is_one : goal.returns-then-is_one
 returns-then-is_one g c =
-    bound_by (g.S.System.outside c.args.system.now) _ _ c.args.task.now (c.args.task.now.to.now ∷ []) c.bind.result (c.if-is_one.ensures.one tt) c.bind.ensures.bound c.bind.ensures.each c.bind.ensures.cause c.bind.ensures.made
+    bound_by (g.S.System.outside c.args.system.now) _ _ c.args.task.now (c.args.task.now.to.now ∷ []) c.bind.result (c.if-is_one.ensures.one refl) c.bind.ensures.bound c.bind.ensures.each c.bind.ensures.cause c.bind.ensures.made
 
 pub returns-in_default : goal.returns-in_default
 returns-in_default g c = no_addresses (g.S.System.outside c.args.system.now) _ c.args.task.now (c.if-is_one.ensures.more refl)
