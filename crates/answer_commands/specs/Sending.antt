@@ -1,6 +1,7 @@
 -- `send`: the moves of the input are sent (this project's own).
-use Rattle.std.specs.Prelude.{◌≡◌, ◌*◌, ◌<◌, ◌++◌, ℕ, true, false, List, [], ◌∷◌, Option, Some, None, Result, Ok, Err, IfSome, codes, length, take}
+use Rattle.std.specs.Prelude.{◌≡◌, ◌*◌, ◌<◌, ◌++◌, ◌==◌, ◌&&◌, not, cond, is_some, ℕ, Bool, true, false, List, [], ◌∷◌, Option, Some, None, Result, Ok, Err, IfSome, codes, length, take}
 use Rattle.std.specs.Duration.{as_nanos}
+use Rattle.std.specs.Fmt.{decimal}
 use Rattle.answer_commands.specs.SentGames.{ReadsSent}
 use Rattle.answer_commands.specs.declared.sent_game.GameSent.{GameSent}
 use Rattle.answer_parts.specs.Printing.{printed}
@@ -11,12 +12,12 @@ use Rattle.line_teller.specs.ToldLines.{refused_memory}
 use Rattle.move_msg.specs.TextLines.{ended}
 use Rattle.move_msg.specs.declared.stamp.Stamp.{Stamp}
 use Rattle.move_notation.specs.Notations.{notation_by}
-use Rattle.serve_commands.specs.Silences.{silence_words}
 use Rattle.source_core.specs.Lines.{ended_status}
 use Rattle.source_core.specs.Origins.{origin_by}
 use Rattle.source_core.specs.Runs.{SendsOn, source_terms}
 use Rattle.source_core.specs.Sendings.{causes}
 use Rattle.source_core.specs.declared.known.Known.{Known}
+use Rattle.source_core.specs.declared.known.Reported.{Reported}
 use Rattle.source_core.specs.declared.lines.Ended.{Ended}
 use Rattle.source_core.specs.declared.lines.Ended.TheVariants as run
 use Rattle.source_core.specs.declared.turn.SendConfig.{SendConfig}
@@ -27,6 +28,15 @@ use Rattle.timeline.specs.Outsides.{AreNamed, FailsOrIsKnown, Outside}
 use Rattle.timeline.specs.declared.stream.Stream.TheVariants.{Errors}
 
 -- ---- who was silent
+
+-- an arbiter that has acknowledged no move and reported no verdict
+abbrev pub is_silent : Reported → Bool
+is_silent told = (told.count == 0) && not (is_some told.ruling)
+
+-- no answer of it came, which is all that is known of it: it may run, and answer elsewhere; of any other it is told how many moves it has
+-- acknowledged
+abbrev pub silence_words : Reported → List ℕ
+silence_words told = cond (is_silent told) (codes "no answer came") (codes "last acknowledged " ++ decimal told.count)
 
 abbrev pub silence_a : Known → List ℕ
 silence_a known = ended (codes "arbiter 1 " ++ silence_words known.a)

@@ -3,10 +3,9 @@
 ghost use Rattle.std.specs.Prelude.{◌≡◌, ◌≤◌, ◌++◌, ◌*◌, length, string_bytes, IfOk, OnErr};
 ghost use Rattle.std.specs.Duration.{as_nanos};
 ghost use Rattle.answer_commands.specs.Inside.Sending.{WritesSecond};
-ghost use Rattle.answer_commands.specs.Sending.{BindsPort, RefusesPort, SendsAt, SendsFrom, SendsInput, TellsSilent, WritesSilence, unbound_line};
+ghost use Rattle.answer_commands.specs.Sending.{BindsPort, RefusesPort, SendsAt, SendsFrom, SendsInput, TellsSilent, WritesSilence, is_silent, silence_words, unbound_line};
 ghost use Rattle.answer_parts.specs.Printing.{OutputFails, Performs};
 ghost use Rattle.move_notation.specs.Notations.{notation_by};
-ghost use Rattle.serve_commands.specs.Silences.{is_silent, silence_words};
 ghost use Rattle.source_core.specs.Lines.{ended_status};
 ghost use Rattle.source_core.specs.Origins.{origin_by};
 ghost use Rattle.timeline.specs.Outsides.{AddsSome};

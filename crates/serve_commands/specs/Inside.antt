@@ -2,4 +2,3 @@
 pub mod Binding
 pub mod HostingParts
 pub mod ListeningParts
-pub mod SendingParts

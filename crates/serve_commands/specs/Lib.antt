@@ -4,7 +4,5 @@ pub mod Keying
 pub mod KeyReads
 pub mod Locks
 pub mod Listens
-pub mod Silences
-pub mod Sends
 pub mod Hostings
 pub mod Inside
