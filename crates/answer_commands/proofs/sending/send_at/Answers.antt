@@ -10,7 +10,7 @@ returns-in-Ok-send_moves-clause-made g c =
     let opened = c.in-Ok.ensures in
     let on = c.terms_of.ensures in
     ran_at o _ _ _ _ c.args.task.now c.args.game c.args.port c.in-Ok.lines c.terms_of.result c.in-Ok-send_moves.ended c.report_silence.result (record { given = opened.given; known = opened.known; fails = opened.cause; memory = opened.room })
-        (record { is = on.stamp; origin = on.origin; notation = on.notation; tries = on.tries; wait = on.wait }) opened.made c.in-Ok-send_moves.ensures.made c.report_silence.ensures.made c.report_silence.ensures.status
+    (record { is = on.stamp; origin = on.origin; notation = on.notation; tries = on.tries; wait = on.wait }) opened.made c.in-Ok-send_moves.ensures.made c.report_silence.ensures.made c.report_silence.ensures.status
 
 pub returns-in-Err-clause-made : goal.returns-in-Err-clause-made
 returns-in-Err-clause-made g c =
@@ -20,7 +20,7 @@ returns-in-Err-clause-made g c =
     let state = o.lines c.in-Ok.lines in
     let run = run_performs o _ _ (causes state.fails state.takes_memory) (source_terms c.terms_of.result (o.port c.args.port)) c.args.game.start state.left (Err c.in-Err.fault) c.in-Err.ensures.made in
     cut_at o _ _ _ c.args.task.now c.args.game c.args.port c.in-Ok.lines c.terms_of.result c.in-Err.fault (record { given = opened.given; known = opened.known; fails = opened.cause; memory = opened.room })
-        (record { is = on.stamp; origin = on.origin; notation = on.notation; tries = on.tries; wait = on.wait }) opened.made run
+    (record { is = on.stamp; origin = on.origin; notation = on.notation; tries = on.tries; wait = on.wait }) opened.made run
 
 pub returns-in_default-clause-made : goal.returns-in_default-clause-made
 returns-in_default-clause-made g c =
