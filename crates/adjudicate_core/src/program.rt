@@ -139,10 +139,9 @@ pub fn refuse_memory<W: Write>(out: &mut W) -> Result<u8, WriteFault>
 /// A command that is answered once (`AnswerTask` of answer_commands) is answered over the timeline, and all that it does outside is there,
 /// in order. All others are answered beside it.
 ///
-/// What these name is read before anything is answered: the folder, of which the files of tables are looked at, the manifest, and for
-/// `game` the input, to its end. What can't be read or has more than 2^30 bytes is `refused files`. `send` holds one file at a time. Before
-/// that the keys of `listen`, `host` and `send` are read, where a file of keys is named: what is refused of it comes before all else.
-/// `probes`, `follow` and `send` read the input line by line, and answer each line as it comes.
+/// What these name is read before anything is answered: the folder, of which the files of tables are looked at, and the manifest. What can't
+/// be read or has more than 2^30 bytes is `refused files`. Before that the keys of `listen` and `host` are read, where a file of keys is
+/// named: what is refused of it comes before all else.
 ///
 /// Beside the timeline `listen` opens a port, the lock of its file and that file, and `host` the lock of its folder, a port and files of
 /// records in that folder. No other task opens anything there, and these nothing else: that is

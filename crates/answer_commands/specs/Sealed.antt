@@ -34,7 +34,7 @@ abbrev pub noted_if : {E : Type 0} → Result (String Global) E → List Event
 noted_if (Ok line) = Noted (string_bytes line) ∷ []
 noted_if (Err e) = []
 
--- it is noted, unless memory for the line was refused
+-- it is noted, unless memory for the line was refused, which isn't known here
 pub data NotesKeys (path : List ℕ) (why : Refusal) (events : List Event) : Type 0 where
   IsNoted : (line : List ℕ) → key_note path why ≡ Some line → events ≡ Noted line ∷ [] → NotesKeys path why events
   NotNoted : events ≡ [] → NotesKeys path why events
@@ -48,8 +48,8 @@ pub record RefusesKeys (path : List ℕ) (why : Refusal) (events : List Event) (
 
 -- ---- all of it
 
--- The file of keys is read, and then the task is answered over ports that are sealed by them: what happens is as it is seen through them. Or
--- why there are none is written.
+-- The file of keys is read, and then the task is answered over ports that are sealed by them: what happens is as it is seen through them,
+-- which is nothing any more once it was noted that a datagram was too long to be sealed (`keyed_events`). Or why there are none is written.
 pub data AnswersSealed {T P F K S L : Type 0} (t : AnswerTask) (path : List ℕ) (o : Outside T P F K S L) (before after : T) (status : ℕ) : Type 0 where
   BySeal : (keys : Keys) (mid : T) → AddsSome o before mid (ReadsKeys o.disk path (Ok keys)) → Answers t (keyed_outside keys o) mid after status → AnswersSealed t path o before after status
   NoKeys : (why : Refusal) (mid : T) → AddsSome o before mid (ReadsKeys o.disk path (Err why)) → AddsSome o mid after (Ends o after (RefusesKeys path why) status) → AnswersSealed t path o before after status

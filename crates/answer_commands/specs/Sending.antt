@@ -91,7 +91,7 @@ pub record IsPortOf {T P F K S L : Type 0} (o : Outside T P F K S L) (t : Send) 
   pub at : (o.port port).address ≡ t.bind.now
   pub to : AreNamed (o.port port).own (addresses_of t.to.now) (o.port port).to
 
--- a port is bound; or why it can't be; or memory for several addresses was refused
+-- a port is bound; or why it can't be; or memory for several addresses was refused, of which no cause is known
 pub data BindsPort {T P F K S L : Type 0} (o : Outside T P F K S L) (t : Send) (result : Result P BindFault) (events : List Event) : Type 0 where
   IsBound : (port : P) → IsPortOf o t port → result ≡ Ok port → events ≡ PortBound t.bind.now (addresses_of t.to.now) (Ok tt) ∷ [] → BindsPort o t result events
   NotBound : (why : BindFault) → o.refuses_port t.bind.now why → result ≡ Err why → events ≡ PortBound t.bind.now (addresses_of t.to.now) (Err why) ∷ [] → BindsPort o t result events
@@ -100,7 +100,7 @@ pub data BindsPort {T P F K S L : Type 0} (o : Outside T P F K S L) (t : Send) (
 abbrev pub unbound_line : List ℕ → List ℕ
 unbound_line address = address ++ codes " can't be bound"
 
--- that it can't be bound is noted, unless memory for the line was refused
+-- that it can't be bound is noted, unless memory for the line was refused, which isn't known here
 pub data NotesUnbound (address : List ℕ) (events : List Event) : Type 0 where
   AddressNoted : events ≡ Noted (unbound_line address) ∷ [] → NotesUnbound address events
   AddressNotNoted : events ≡ [] → NotesUnbound address events

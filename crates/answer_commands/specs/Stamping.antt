@@ -1,4 +1,4 @@
--- The manifest by which games are stamped that are entered, as events (this project's own).
+-- The manifest by which games are stamped that are entered or sent, as events (this project's own).
 use Rattle.std.specs.Prelude.{◌≡◌, ℕ, false, List, Option, Some, None, Result, Ok, Err}
 use Rattle.answer_parts.specs.Lines.{refused_manifest}
 use Rattle.line_teller.specs.ToldLines.{cut_words, refused_memory}

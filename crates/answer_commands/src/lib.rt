@@ -18,9 +18,9 @@
 //! `Earlier` (`NotesEarlier`), `Entries`, `Enter` (`KeepsGame`, `EntersGames`); of `send` `SentGames`, `Sending` (`SendsInput`); `Answers`
 //! (`Does`, `Answers`), `Sealed` (`AnswersByKey`).
 //!
-//! - CLAIM: `answer`: what a command names is read once, before anything is written to the output; but `enter`, `status` and what is asked of all
-//!   games read file by file. Nothing is written to the errors but progress, where it is wanted, and nothing else happens outside. An error
-//!   of the output leaves a front of these events.
+//! - CLAIM: `answer`: what a command names is read once, before anything is written to the output; but `enter`, `status` and what is asked of
+//!   all games read file by file, and the commands that answer lines, and `send`, line by line. Nothing is written to the errors but progress,
+//!   where it is wanted, and of `send` who was silent; nothing else happens outside. An error of the output leaves a front of these events.
 //! - CLAIM: `answer`: `version` and `moves` read nothing. `show` answers want of memory only where reading the input takes some, `moves` and
 //!   `audit` only for a text that is a position, `record` only for what is laid out as a record.
 //! - CLAIM: `answer`: `run` reads its folder before the input. It refuses what can't be read first, then the first malformed line of the

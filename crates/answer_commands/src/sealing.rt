@@ -112,7 +112,7 @@ fn answer_sealed<S: System>(
 /// - for `send` the game's file, or the manifest as for `enter`, and then the input, line by line as moves are acknowledged.
 ///
 /// What can't be read is `refused files`; where memory is refused the line is `refused memory`. Progress goes to standard error where it is
-/// wanted. At last all that was written goes out. Nothing else happens outside.
+/// wanted, and of `send` two lines where an arbiter doesn't answer. At last all that was written goes out. Nothing else happens outside.
 pub fn answer<S: System>(
     alloc: Global,
     task: &AnswerTask,

@@ -1,4 +1,4 @@
-//! The manifest by which games are stamped that are entered.
+//! The manifest by which games are stamped that are entered or sent.
 
 ghost use Rattle.std.specs.Prelude.{None};
 ghost use Rattle.answer_commands.specs.Inside.Entering.{FileStamping, StampingBy, StampingOf};

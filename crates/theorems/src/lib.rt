@@ -51,7 +51,7 @@
 //!   moves begin.
 //! - CLAIM: `sources_tell_the_truth`: what a source goes by is true, where all that came of the game was sent in a world of it: a
 //!   verdict that both reported is the first, no two differ, and a move that both acknowledged is kept by both. That it prints
-//!   this is `send_game`, clause `sends`.
+//!   this is `send_moves`, clause `made`.
 //! - CLAIM: `no_tag_no_forgery`: where no datagram has a forged tag, a port with keys passes on no forged message.
 #![tactic(auto)]
 

@@ -1,4 +1,4 @@
--- What is read of a game that is sent, and how its port is bound; cited by private functions alone.
+-- What is read of a game that is sent, and the second line on who was silent; cited by private functions alone.
 use Rattle.std.specs.Prelude.{◌≡◌, ℕ, List, [], ◌∷◌, Result, Ok, Err, take}
 use Rattle.answer_commands.specs.SentGames.{ReadsGameFile, ReadsSent, ReadsToldGame}
 use Rattle.answer_commands.specs.Sending.{silence_b}
@@ -19,6 +19,7 @@ abbrev pub game_taken : Result GameSent Refusal → Result GameSent (List ℕ)
 game_taken (Ok game) = Ok game
 game_taken (Err refusal) = Err (refusal_words refusal)
 
+-- what is read of a game that words tell, of one in a file, and of either
 abbrev pub ToldGiven : {T P F K S L : Type 0} → Outside T P F K S L → Send → ToldGame → Result GameSent Refusal → List Event → Type 0
 ToldGiven o t g result = ReadsToldGame o.disk t g (game_taken result)
 

@@ -32,3 +32,12 @@ returns-in-AuditGames-clause-made g c = rw c.in-AuditGames.is c.print_audit.ensu
 
 pub returns-in-Table-clause-made : goal.returns-in-Table-clause-made
 returns-in-Table-clause-made g c = rw c.in-Table.is c.answer_by_tables.ensures.made
+
+pub returns-in-Version-clause-made : goal.returns-in-Version-clause-made
+returns-in-Version-clause-made g c = rw c.in-Version.is c.print_version.ensures.made
+
+pub returns-in-Enter-clause-made : goal.returns-in-Enter-clause-made
+returns-in-Enter-clause-made g c = rw c.in-Enter.is c.enter_games.ensures.made
+
+pub returns-in-Send-clause-made : goal.returns-in-Send-clause-made
+returns-in-Send-clause-made g c = rw c.in-Send.is c.send.ensures.made
