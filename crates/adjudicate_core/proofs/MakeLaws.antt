@@ -25,30 +25,9 @@ use Rattle.command_line.specs.declared.words.numbers.StoreForm.TheVariants as fo
 use Rattle.command_line.specs.declared.commands.listen.Listen.{Listen}
 
 nothing_by : (t : Task) → IsMadeBy t []
-nothing_by (task.Judge t) = refl
-nothing_by (task.Probe t) = refl
-nothing_by (task.Moves t) = refl
-nothing_by (task.List t) = refl
-nothing_by (task.Check t) = refl
-nothing_by (task.Show t) = refl
-nothing_by (task.Run t) = refl
 nothing_by (task.Listen l) = (of_listen l, refl)
-nothing_by (task.Probes t) = refl
-nothing_by (task.Game t) = refl
-nothing_by (task.Games t) = refl
-nothing_by (task.Pgn t) = refl
-nothing_by (task.Record t) = refl
-nothing_by (task.GameRecord t) = refl
-nothing_by (task.Audit t) = refl
-nothing_by (task.AuditGames t) = refl
-nothing_by (task.Version t) = refl
-nothing_by (task.Send t) = refl
-nothing_by (task.Enter t) = refl
 nothing_by (task.Host h) = inl (before_games h, refl)
-nothing_by (task.Root t) = refl
-nothing_by (task.Follow t) = refl
-nothing_by (task.Status t) = refl
-nothing_by (task.Serve t) = refl
+nothing_by _ = refl
 
 pub makes_nothing : (t : Task) (had : Option (List Made)) → MakesFor t had had
 makes_nothing t had = ([], Passes-nil had, nothing_by t)

@@ -41,32 +41,11 @@ AreWithGames form.Files games more = AllByRecursion (IsRecordIn games) more
 abbrev pub IsOfHost : HostGames → List Made → Type 0
 IsOfHost h more = IsFrontOfMade (before_games h) more ⊎ ((later : List Made) × (more ≡ before_games h ++ later) × AreWithGames h.store h.games.now later)
 
--- each task makes that, and all others nothing
+-- each of these tasks makes that, and all others nothing
 abbrev pub IsMadeBy : Task → List Made → Type 0
-IsMadeBy (task.Judge t) more = more ≡ []
-IsMadeBy (task.Probe t) more = more ≡ []
-IsMadeBy (task.Moves t) more = more ≡ []
-IsMadeBy (task.List t) more = more ≡ []
-IsMadeBy (task.Check t) more = more ≡ []
-IsMadeBy (task.Show t) more = more ≡ []
-IsMadeBy (task.Run t) more = more ≡ []
 IsMadeBy (task.Listen l) more = IsFrontOfMade (of_listen l) more
-IsMadeBy (task.Probes t) more = more ≡ []
-IsMadeBy (task.Game t) more = more ≡ []
-IsMadeBy (task.Games t) more = more ≡ []
-IsMadeBy (task.Pgn t) more = more ≡ []
-IsMadeBy (task.Record t) more = more ≡ []
-IsMadeBy (task.GameRecord t) more = more ≡ []
-IsMadeBy (task.Audit t) more = more ≡ []
-IsMadeBy (task.AuditGames t) more = more ≡ []
-IsMadeBy (task.Version t) more = more ≡ []
-IsMadeBy (task.Send t) more = more ≡ []
-IsMadeBy (task.Enter t) more = more ≡ []
 IsMadeBy (task.Host h) more = IsOfHost h more
-IsMadeBy (task.Root t) more = more ≡ []
-IsMadeBy (task.Follow t) more = more ≡ []
-IsMadeBy (task.Status t) more = more ≡ []
-IsMadeBy (task.Serve t) more = more ≡ []
+IsMadeBy _ more = more ≡ []
 
 -- from one history of the host to a later one
 abbrev pub MakesFor : Task → Option (List Made) → Option (List Made) → Type 0

@@ -1,14 +1,11 @@
 -- The answer of the program to its words and to what it reads (this project's own).
-use Rattle.std.specs.Prelude.{◌≡◌, ℕ, List, Option, Some, None, Result, Ok, Err, IfOk, drop, map, String, Vec, string_bytes}
+use Rattle.std.specs.Prelude.{◌≡◌, ℕ, List, Option, Some, None, Result, Ok, Err, map, String, Vec, string_bytes}
 use Rattle.std.specs.Borrow.{Bor}
 use Rattle.std.specs.Global.{Global}
 use Rattle.system_io.specs.declared.output.WriteFault.{WriteFault}
 use Rattle.command_line.specs.declared.commands.Task.{Task}
 use Rattle.command_line.specs.declared.commands.Task.TheVariants as task
-use Rattle.command_line.specs.declared.words.usage.Misuse.{Misuse}
 use Rattle.command_line.specs.declared.words.usage.WordsFault.{WordsFault}
-use Rattle.command_line.specs.declared.words.usage.WordsFault.TheVariants.{NoText}
-use Rattle.command_line.specs.declared.words.usage.Misuse.TheVariants as misuse
 use Rattle.task_files.specs.Given.{Given}
 use Rattle.line_teller.specs.ToldLines.{refused_files, refused_memory}
 use Rattle.serve_commands.specs.Listens.{Listens, hosted, serving_seen_as}
@@ -21,7 +18,7 @@ use Rattle.sealed_port.specs.KeyedHosts.{keyed_host}
 use Rattle.sealed_port.specs.Sealing.{SealedView, sealed_facts}
 use Rattle.sealed_port.specs.declared.seal_port.Keys.{Keys}
 use Rattle.answer_parts.specs.Telling.{TellsOne}
-use Rattle.command_line.specs.Tasks.{IsTask, IsMisuse, NamesNoCommand, key_in, named_in}
+use Rattle.command_line.specs.Tasks.{key_in, named_in}
 
 -- words as the bytes of their texts
 abbrev pub texts : List (Bor (List ℕ)) → List (List ℕ)
