@@ -15,7 +15,7 @@ use Rattle.timeline.specs.Events.{IsWritten, Wrote}
 use Rattle.timeline.specs.Outsides.{AddsSome, Outside}
 use Rattle.timeline.specs.declared.stream.Stream.TheVariants.{Output}
 
-IsCount : List ℕ → LineTold → Type 0
+abbrev pub IsCount : List ℕ → LineTold → Type 0
 IsCount = λ (line : List ℕ) (told : LineTold). told.words ≡ decimal (length line)
 
 module _ {T P F K S L : Type 0} (o : Outside T P F K S L) (b c : T) (line : List ℕ) where
