@@ -8,7 +8,7 @@
 //! - `loop_tests`: connections over streams in memory
 //! - `mode_tests`: files with their modes, in memory and of the system
 //! - `port_tests`: the system's sockets, over the loopback
-//! - `sealed_tests`: sealed ports and files of keys
+//! - `sealed_tests`: sealed ports, systems with keys, and files of keys
 //! - `source_tests`: a source whose datagrams are lost (over `source_port`)
 //! - `output_tests`: reads and writes that fail
 //!

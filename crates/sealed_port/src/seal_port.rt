@@ -22,6 +22,21 @@ pub struct Keys {
     pub second: [u8; 32],
 }
 
+/// The same keys, of which each is ready to make tags. Contracts see `Keys`.
+#[derive(Drop)]
+pub(crate) struct MacKeys {
+    first: MacKey,
+    second: MacKey,
+}
+
+impl Model for MacKeys {
+    ghost use Rattle.sealed_port.specs.declared.seal_port.Keys.{Keys};
+
+    ghost Value = { Keys };
+
+    ghost view = { λ k. record { first = k.first; second = k.second } };
+}
+
 /// A port over another one: it gives each datagram a tag, and passes on without it what carries a right one. For any other
 /// datagram it passes on 64 bytes that are zero (`NO_TAG`).
 ///
@@ -30,8 +45,7 @@ pub struct Keys {
 #[derive(Drop)]
 pub struct Sealed<P: Drop> {
     port: P,
-    first: MacKey,
-    second: MacKey,
+    keys: MacKeys,
     is_told: bool,
     left_out: u64,
 }
@@ -41,7 +55,7 @@ impl<P: Drop> Model for Sealed<P> {
 
     ghost Value = { SealedView P };
 
-    ghost view = { λ s. record { port = s.port; keys = record { first = s.first; second = s.second }; is_told = s.is_told; left_out = s.left_out } };
+    ghost view = { λ s. record { port = s.port; keys = s.keys; is_told = s.is_told; left_out = s.left_out } };
 }
 
 /// The tag of bytes under a key.
@@ -88,6 +102,49 @@ fn with_tag(key: &MacKey, bytes: &[u8]) -> ArrayVec<u8, 64>
     datagram
 }
 
+impl MacKeys {
+    /// These keys.
+    pub(crate) fn of(keys: &Keys) -> MacKeys
+        ensures { result ≡ keys.now }
+    {
+        MacKeys {
+            first: MacKey::of(&keys.first),
+            second: MacKey::of(&keys.second),
+        }
+    }
+
+    /// Bytes with their tag under the first key behind them.
+    pub(crate) fn seal(&self, bytes: &[u8]) -> ArrayVec<u8, 64>
+        requires { length bytes.now ≤ 48 }
+        ensures { result.items ≡ sealed self.now.first bytes.now }
+    {
+        with_tag(&self.first, bytes)
+    }
+
+    /// Whether a datagram ends with a right tag, under one of the keys.
+    fn is_right(&self, datagram: &[u8]) -> bool
+        ensures is { result ≡ is_sealed_by self.now datagram.now }
+        ensures long { IsTrue result → 16 ≤ length datagram.now }
+    {
+        is_sealed(&self.first, datagram) || is_sealed(&self.second, datagram)
+    }
+
+    /// Opens the datagram that has the first so many bytes of a buffer: what is passed on stands at its front then. Returns how
+    /// many bytes that are.
+    pub(crate) fn open(&self, buffer: &mut [u8; 64], length: usize) -> usize
+        requires { length ≤ 64 }
+        ensures fits { result ≤ 64 }
+        ensures is { take result buffer.new ≡ opened (is_sealed_by self.now (take length buffer.old)) (take length buffer.old) }
+    {
+        if self.is_right(&buffer[..length]) {
+            length - 16
+        } else {
+            *buffer = NO_TAG;
+            buffer.len()
+        }
+    }
+}
+
 impl<P: Port + Drop> Sealed<P> {
     /// A port that seals by these keys over another one.
     pub fn over(port: P, keys: &Keys) -> Sealed<P>
@@ -95,8 +152,7 @@ impl<P: Port + Drop> Sealed<P> {
     {
         Sealed {
             port,
-            first: MacKey::of(&keys.first),
-            second: MacKey::of(&keys.second),
+            keys: MacKeys::of(keys),
             is_told: true,
             left_out: 0,
         }
@@ -109,27 +165,13 @@ impl<P: Port + Drop> Sealed<P> {
         &self.port
     }
 
-    /// Whether a datagram ends with a right tag, under one of the keys.
-    fn is_right(&self, datagram: &[u8]) -> bool
-        ensures is { result ≡ is_sealed_by self.now.keys datagram.now }
-        ensures long { IsTrue result → 16 ≤ length datagram.now }
-    {
-        is_sealed(&self.first, datagram) || is_sealed(&self.second, datagram)
-    }
-
-    /// Opens the datagram that has the first so many bytes of a buffer: what is passed on stands at its front then. Returns how
-    /// many bytes that are.
+    /// Opens the datagram at the front of a buffer by the keys of the port.
     fn open(&self, buffer: &mut [u8; 64], length: usize) -> usize
         requires { length ≤ 64 }
         ensures fits { result ≤ 64 }
         ensures is { take result buffer.new ≡ opened (is_sealed_by self.now.keys (take length buffer.old)) (take length buffer.old) }
     {
-        if self.is_right(&buffer[..length]) {
-            length - 16
-        } else {
-            *buffer = NO_TAG;
-            buffer.len()
-        }
+        self.keys.open(buffer, length)
     }
 
     /// Leaves a datagram out, which is counted.
@@ -204,7 +246,7 @@ impl<P: Port + Drop> Port for Sealed<P> {
         if bytes.len() > MOST_BYTES {
             return Err(self.leave_out());
         }
-        self.port.send(&with_tag(&self.first, bytes))
+        self.port.send(&self.keys.seal(bytes))
     }
 
     fn failures(&self) -> u64 {

@@ -1,5 +1,5 @@
 -- What is told of files that aren't locked.
-use Rattle.std.proofs.Common.{ℕ, List, [], Option, inl, inr}
+use Rattle.std.proofs.Common.{◌≡◌, ℕ, List, [], Option, inl, inr, subst}
 use Rattle.std.specs.Prelude.{Result}
 use Rattle.arbiter_core.specs.Setups.{SetupView}
 use Rattle.arbiter_server.specs.Games.{CommonView}
@@ -8,7 +8,6 @@ use Rattle.system_io.specs.Hosts.{Made}
 use Rattle.system_io.specs.Ports.{Passed, PortFacts}
 use Rattle.system_io.specs.declared.output.WriteFault.{WriteFault}
 use Rattle.game_status.specs.StoreReadings.{store_path}
-use Rattle.answer_parts.proofs.StoreLaws.{told_as}
 use Rattle.serve_commands.specs.Hostings as hosting
 use Rattle.serve_commands.specs.Inside.HostingParts.{IsStoreUnopened}
 use Rattle.answer_parts.specs.Lines.{refusal_words}
@@ -18,6 +17,10 @@ use Rattle.answer_parts.specs.Telling.{TellsOne}
 use Rattle.command_line.specs.declared.commands.host.HostGames.{HostGames}
 use Rattle.command_line.specs.declared.commands.listen.Listen.{Listen}
 use Rattle.answer_parts.specs.declared.answers.refusals.Refusal.{Refusal}
+
+-- a refusal is told by its words
+told_as : (why is : Refusal) (old new : Option (List ℕ)) (r : Result ℕ WriteFault) → why ≡ is → TellsOne (refusal_words why) old new r → TellsOne (refusal_words is) old new r
+told_as why is old new r same told = subst (λ (x : Refusal). TellsOne (refusal_words x) old new r) same told
 
 pub unhosted : {P F S T : Type 0} (p : hosting.HostOutside P F S) (seen : hosting.FilesOrStore T) (h : HostGames) (t : CommonView) (had has : Option (List Made)) (old new : T) (r : Result ℕ WriteFault) (why : Refusal) → Passes had has [] → IsBarred p.host.host (games_lock h.games.now) why → TellsOne (refusal_words why) (hosting.written_by seen old) (hosting.written_by seen new) r → hosting.LocksAndHosts p seen h t had has old new r
 unhosted p seen h t had has old new r why made (inl (is, held)) told = hosting.InUse made held (told_as why _ _ _ r is told)

@@ -1,6 +1,7 @@
 pub mod Outsides
 pub mod Keys
 pub mod Keying
+pub mod KeyReads
 pub mod Locks
 pub mod Listens
 pub mod Silences

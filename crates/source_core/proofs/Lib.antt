@@ -5,3 +5,10 @@ pub mod OriginLaws
 pub mod TurnLaws
 pub mod SendingLaws
 pub mod LineLaws
+pub mod HeardLaws
+pub mod TryLaws
+pub mod WatchLaws
+pub mod OutLaws
+pub mod RunLaws
+pub mod CourseLaws
+pub mod CutLaws

@@ -1,5 +1,5 @@
 -- What is known of the moves that arbiters have, by what they have reported.
-use Rattle.std.proofs.Common.{◌≡◌, ◌⊎◌, ℕ, ◌≤◌, ◌<◌, max, List, Option, Some, None, IfSome, refl, sym, ap, subst, ◌∙◌, arith, inl, inr}
+use Rattle.std.proofs.Common.{◌≡◌, ◌⊎◌, ℕ, ◌≤◌, ◌<◌, max, List, Option, Some, None, IfSome, sym, ap, subst, arith, inl, inr}
 use Rattle.move_msg.specs.declared.stamp.Stamp.{Stamp}
 use Rattle.move_msg.specs.declared.arbiter_id.ArbiterId.{ArbiterId}
 use Rattle.move_msg.specs.declared.arbiter_id.ArbiterId.TheVariants.{A, B}
@@ -10,8 +10,8 @@ use Rattle.source_core.specs.declared.origin.Origin.TheVariants.{Any, New}
 use Rattle.source_core.specs.declared.origin.Started.{Started}
 use Rattle.source_core.specs.declared.known.Reported.{Reported}
 use Rattle.source_core.specs.declared.known.Known.{Known}
-use Rattle.source_core.specs.Reports.{HasAcknowledged, HasRuled, IsReportedBy, Knows, reported_by}
-use Rattle.source_core.specs.Origins.{EndsStarted, HasMoves, IsOwn, IsStarted}
+use Rattle.source_core.specs.Reports.{HasAcknowledged, HasRuled, IsReportedBy, Knows}
+use Rattle.source_core.specs.Origins.{HasMoves, IsOwn, IsStarted}
 use Rattle.source_core.specs.Inside.Steps.{IsBeyond, IsWithin, moves_of, ply_of}
 
 -- an arbiter has no more moves than are known of it

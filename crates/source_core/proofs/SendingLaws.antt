@@ -102,7 +102,7 @@ steps_on terms number line course course' after m known' port port' turn o at_ne
     (turned no_cause terms input input' line course.position after m course.known known' port port' turn tries before moves read (subst (λ n. IsPlayedLine terms.notation course.position n line m after) e r) (subst (λ n. IsTurn terms n m (n + 1) after port port' course.known known' turn tries) e t) k))
 
 -- no line is refused, and no read fails, as an arbiter that doesn't answer
-not_refused : (notation : Notation) (position : Parts) (number : ℕ) (line : List ℕ) (end : End) → IsRefusedLine notation position number line end → end ≡ at_end.Lost → ⊥
+pub not_refused : (notation : Notation) (position : Parts) (number : ℕ) (line : List ℕ) (end : End) → IsRefusedLine notation position number line end → end ≡ at_end.Lost → ⊥
 not_refused notation position number line end h is = subst (IsRefusedLine notation position number line) is h
 
 not_unread : (cause : ReadFault → Type 0) (end : End) → IsUnread cause end → end ≡ at_end.Lost → ⊥
@@ -121,7 +121,7 @@ closed_at : (terms : SendConfig) (number : ℕ) (position : Parts) (moves : List
 closed_at terms number position moves last known port port' end e f h = subst (λ l. Closes terms (length moves) position l known port port' end) f (subst (λ n. Closes terms n position last known port port' end) e h)
 
 -- after the input's end no arbiter counts as silent
-not_closed : (origin : Origin) (stamp : Stamp) (number : ℕ) (position : Parts) (all : List Passing) (end : End) → ClosesSo origin stamp number position all end → end ≡ at_end.Lost → ⊥
+pub not_closed : (origin : Origin) (stamp : Stamp) (number : ℕ) (position : Parts) (all : List Passing) (end : End) → ClosesSo origin stamp number position all end → end ≡ at_end.Lost → ⊥
 not_closed origin stamp number position all end h is = subst (ClosesSo origin stamp number position all) is h
 
 closed_with : (cause : ReadFault → Type 0) (g : SendingGame) (input input' : Option (List ℕ)) (course : SendState) (known' : Known) (port port' : PortFacts) (before : List Passing) (moves : List Moves) (end : End) → IsAtEnd input → Knows g.terms.stamp before course.known → Closes g.terms (length moves) course.position (last_of moves) course.known port port' end → port.addresses ≡ g.addresses
@@ -202,7 +202,7 @@ closes_so terms number position last old new port mid port' end h sent so_ends w
       stands = λ before k. so (before ++ (handed ++ h.came)) (subst (λ l. ComesTo terms.stamp l new end) (append_assoc before handed h.came) (h.learns (before ++ handed) (knows before k)));
     }
 
-has_waited : (came : List Passing) (known : Known) → is_ruled known ≡ false → HasWaited came ⊎ (is_ruled known ≡ true) → HasWaited came
+pub has_waited : (came : List Passing) (known : Known) → is_ruled known ≡ false → HasWaited came ⊎ (is_ruled known ≡ true) → HasWaited came
 has_waited came known open_yet (inl w) = w
 has_waited came known open_yet (inr ruled) = absurd cc
 
@@ -272,12 +272,12 @@ hands_bytes : (bytes : List ℕ) (all : List Passing) (to : ℕ) (its : List ℕ
 unfolding HandsOnly
 hands_bytes bytes all to its h in' = All-contains (HandsOnly bytes) all (Handed to its) (All-from_recursion (HandsOnly bytes) all h) in' to its refl
 
-get_front : (xs ys : List Moves) (n : ℕ) (m : Moves) → slice_get xs n ≡ Some m → slice_get (xs ++ ys) n ≡ Some m
+pub get_front : (xs ys : List Moves) (n : ℕ) (m : Moves) → slice_get xs n ≡ Some m → slice_get (xs ++ ys) n ≡ Some m
 get_front [] ys n m e = absurd cc
 get_front (x ∷ xs) ys zero m e = e
 get_front (x ∷ xs) ys (suc n) m e = get_front xs ys n m e
 
-get_last : (xs : List Moves) (m : Moves) → slice_get (xs ++ m ∷ []) (length xs) ≡ Some m
+pub get_last : (xs : List Moves) (m : Moves) → slice_get (xs ++ m ∷ []) (length xs) ≡ Some m
 get_last [] m = refl
 get_last (x ∷ xs) m = get_last xs m
 
@@ -333,7 +333,7 @@ sent_none g start input out course port is = subst (λ c. (h : HasSent g start i
 same_game : (cause : ReadFault → Type 0) (g : SendingGame) (n : ℕ) (at : SendingState) (input : Option (List ℕ)) (course : SendState) (port port' : PortFacts) (o : Option End) → n ≡ g.addresses → StepsSo cause (record { terms = g.terms; addresses = n }) at input course port port' o → StepsSo cause g at input course port port' o
 same_game cause g n at input course port port' o e h = subst (λ k. StepsSo cause (record { terms = g.terms; addresses = k }) at input course port port' o) e h
 
-last_now : (moves : List Moves) (m : Moves) → Some m ≡ last_of (moves ++ m ∷ [])
+pub last_now : (moves : List Moves) (m : Moves) → Some m ≡ last_of (moves ++ m ∷ [])
 last_now moves m =
     let counted : length (moves ++ m ∷ []) - 1 ≡ length moves = omega (arith, length-append moves (m ∷ [])) in
     sym (ap (slice_get (moves ++ m ∷ [])) counted ∙ get_last moves m)

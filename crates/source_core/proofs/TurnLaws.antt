@@ -27,7 +27,7 @@ all_more P [] x h p = (p, tt)
 all_more P (y ∷ xs) x h p = (h.0, all_more P xs x h.1 p)
 
 -- where a list is cut that one more was put behind: at the last, or before it
-nothing_cut : {A : Type 0} (first rest : List A) (x : A) → [] ≡ first ++ x ∷ rest → ⊥
+pub nothing_cut : {A : Type 0} (first rest : List A) (x : A) → [] ≡ first ++ x ∷ rest → ⊥
 nothing_cut [] rest x is = cc
 nothing_cut (y ∷ first) rest x is = let e : [] ≡ y ∷ (first ++ x ∷ rest) = is in cc
 
@@ -35,7 +35,7 @@ cut_later : {A : Type 0} (z : A) (zs first rest : List A) (y x : A) → ((first 
 cut_later z zs first rest y x (inl (same, is)) = inl (ap (λ l. z ∷ l) same, is)
 cut_later z zs first rest y x (inr (others, is)) = inr (others, ap (λ l. z ∷ l) is)
 
-cut_at : {A : Type 0} (xs : List A) (y : A) (first rest : List A) (x : A) → xs ++ y ∷ [] ≡ first ++ x ∷ rest → ((first ≡ xs) × (x ≡ y)) ⊎ ((others : List A) × (xs ≡ first ++ x ∷ others))
+pub cut_at : {A : Type 0} (xs : List A) (y : A) (first rest : List A) (x : A) → xs ++ y ∷ [] ≡ first ++ x ∷ rest → ((first ≡ xs) × (x ≡ y)) ⊎ ((others : List A) × (xs ≡ first ++ x ∷ others))
 cut_at [] y [] rest x is = let e : y ∷ [] ≡ x ∷ rest = is in let same : x ≡ y = cc in inl (refl, same)
 cut_at [] y (z ∷ first) rest x is = let e : y ∷ [] ≡ z ∷ (first ++ x ∷ rest) = is in let none : [] ≡ first ++ x ∷ rest = cc in absurd (nothing_cut first rest x none)
 cut_at (z ∷ zs) y [] rest x is = let e : z ∷ (zs ++ y ∷ []) ≡ x ∷ rest = is in let same : z ∷ zs ≡ x ∷ zs = cc in inr (zs, same)
@@ -57,11 +57,11 @@ wait_so terms index number all known nanos standing.Open h stands is = let unset
 pub IsQuietless : List Passing → Type 0
 IsQuietless came = (first rest : List Passing) (nanos : ℕ) → came ≡ first ++ Quiet nanos ∷ rest → ⊥
 
-quietless_none : IsQuietless []
+pub quietless_none : IsQuietless []
 unfolding IsQuietless
 quietless_none first rest nanos is = nothing_cut first rest (Quiet nanos) is
 
-quietless_more : (came : List Passing) (p : Passing) (bytes : List ℕ) → IsQuietless came → p ≡ Came bytes → IsQuietless (came ++ p ∷ [])
+pub quietless_more : (came : List Passing) (p : Passing) (bytes : List ℕ) → IsQuietless came → p ≡ Came bytes → IsQuietless (came ++ p ∷ [])
 unfolding IsQuietless
 quietless_more came p bytes h one first rest nanos is = elim (cut_at came p first rest (Quiet nanos) is) [
   | inl (same, last) ↦ cc
@@ -75,7 +75,7 @@ last_quiet nanos n p next.Waited is e = cc
 last_quiet nanos n p (next.Clashed c) (bytes, is) e = absurd cc
 last_quiet nanos n p next.PortLost is e = absurd cc
 
-waits_last : (terms : SendConfig) (index number : ℕ) (before came : List Passing) (p : Passing) (known : Known) (nanos : ℕ) (end : Next) → IsQuietless came → IsLast nanos p end → Knows terms.stamp (before ++ came) known → IsWaitBy terms.wait index number known nanos → WaitsSoLong terms index number before (came ++ p ∷ [])
+pub waits_last : (terms : SendConfig) (index number : ℕ) (before came : List Passing) (p : Passing) (known : Known) (nanos : ℕ) (end : Next) → IsQuietless came → IsLast nanos p end → Knows terms.stamp (before ++ came) known → IsWaitBy terms.wait index number known nanos → WaitsSoLong terms index number before (came ++ p ∷ [])
 unfolding IsQuietless
 waits_last terms index number before came p known nanos end h last k (s, stands, by) first rest n is = elim (cut_at came p first rest (Quiet n) is) [
   | inl (same, one) ↦
@@ -84,7 +84,7 @@ waits_last terms index number before came p known nanos end h last k (s, stands,
   | inr (others, earlier) ↦ absurd (h first others n earlier)
 ]
 
-waits_never : (terms : SendConfig) (index number : ℕ) (before came : List Passing) → IsQuietless came → WaitsSoLong terms index number before came
+pub waits_never : (terms : SendConfig) (index number : ℕ) (before came : List Passing) → IsQuietless came → WaitsSoLong terms index number before came
 unfolding IsQuietless
 waits_never terms index number before came h first rest n is = absurd (h first rest n is)
 
@@ -197,13 +197,13 @@ tried_none terms number addresses bytes known port = record {
 all_tries : (addresses : ℕ) (bytes : List ℕ) (tries : List (List Passing)) (came : List Passing) → tries_of addresses bytes (tries ++ came ∷ []) ≡ tries_of addresses bytes tries ++ one_try addresses bytes came
 all_tries addresses bytes tries came = flat_map-append (one_try addresses bytes) tries (came ∷ []) ∙ ap (λ l. tries_of addresses bytes tries ++ l) (append-nil (one_try addresses bytes came))
 
-still_waited : (tries : List (List Passing)) (mid new : Known) (came : List Passing) → AllByRecursion HasWaited tries ⊎ (is_ruled mid ≡ true) → is_ruled mid ≡ false → HasWaited came ⊎ (is_ruled new ≡ true) → AllByRecursion HasWaited (tries ++ came ∷ []) ⊎ (is_ruled new ≡ true)
+pub still_waited : (tries : List (List Passing)) (mid new : Known) (came : List Passing) → AllByRecursion HasWaited tries ⊎ (is_ruled mid ≡ true) → is_ruled mid ≡ false → HasWaited came ⊎ (is_ruled new ≡ true) → AllByRecursion HasWaited (tries ++ came ∷ []) ⊎ (is_ruled new ≡ true)
 still_waited tries mid new came before open_yet now = elim before [
   | inl all ↦ elim now [ inl one ↦ inl (all_more HasWaited tries came all one) | inr ruled ↦ inr ruled ]
   | inr ruled ↦ absurd cc
 ]
 
-all_waited : (tries : List (List Passing)) (known : Known) → AllByRecursion HasWaited tries ⊎ (is_ruled known ≡ true) → is_ruled known ≡ false → AllByRecursion HasWaited tries
+pub all_waited : (tries : List (List Passing)) (known : Known) → AllByRecursion HasWaited tries ⊎ (is_ruled known ≡ true) → is_ruled known ≡ false → AllByRecursion HasWaited tries
 all_waited tries known (inl all) open_yet = all
 all_waited tries known (inr ruled) open_yet = absurd cc
 
@@ -212,7 +212,7 @@ all_there [] later came all = all.0
 all_there (first ∷ earlier) later came all = all_there earlier later came all.1
 
 -- where all have waited and one more follows
-all_but_last : (tries : List (List Passing)) (last : List Passing) → AllByRecursion HasWaited tries → AllButLastWaited (tries ++ last ∷ [])
+pub all_but_last : (tries : List (List Passing)) (last : List Passing) → AllByRecursion HasWaited tries → AllButLastWaited (tries ++ last ∷ [])
 all_but_last tries last all earlier later came next is = elim (cut_at tries last earlier (next ∷ later) came is) [
   | inl (same, one) ↦
       let long : length (tries ++ last ∷ []) ≡ length (earlier ++ came ∷ next ∷ later) = ap length is in

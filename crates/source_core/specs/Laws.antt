@@ -5,7 +5,9 @@ use Rattle.board_core.specs.declared.moves.Move.{Move as Moves}
 use Rattle.board_core.specs.declared.parts.Parts.{Parts}
 use Rattle.move_msg.specs.declared.stamp.Stamp.{Stamp}
 use Rattle.move_msg.specs.Messages.{SpellsMessage}
+use Rattle.std.specs.declared.net.socket_addr.SocketAddr.{SocketAddr}
 use Rattle.system_io.specs.LineReaders.{LineFacts}
+use Rattle.timeline.specs.Events.{Event, Sent}
 use Rattle.system_io.specs.Ports.{Passing, Handed, PortFacts}
 use Rattle.source_core.specs.declared.lines.End.TheVariants as at_end
 use Rattle.source_core.specs.declared.origin.Origin.TheVariants.{New}
@@ -13,6 +15,9 @@ use Rattle.source_core.specs.declared.report.Ruling.{Ruling}
 use Rattle.source_core.specs.Origins.{RestsOnSent}
 use Rattle.source_core.specs.Sendings.{AckedMove, IsSending, OnlyHands, Sending, SendingGame, acked_and_sent, all_passed, causes}
 use Rattle.source_core.specs.Turns.{move_message}
+use Rattle.source_core.specs.Heard.{heard}
+use Rattle.source_core.specs.Runs.{AreMoveTurns, HasEnded, MoveTurn, OnlySends, RunState, SourceTerms, run_from}
+use Rattle.source_core.specs.declared.known.Known.{Known}
 
 -- one number never has two moves, whichever address they go to and however often
 abbrev pub NumberHasOneMove : Type 0
@@ -27,3 +32,17 @@ NewRestsOnSent reader = (g : SendingGame) (start : Parts) (input input' : Option
     → IsSending (causes reader.fails reader.takes_memory) g start input input' port port' s → g.terms.origin ≡ New
     → ((earlier later : List AckedMove) (t : AckedMove) → s.turns ≡ earlier ++ t ∷ later → RestsOnSent g.terms.stamp (length t.after.moves) t.after.passed)
     × ((r : Ruling) → s.end ≡ Some (at_end.Ruled r) → RestsOnSent g.terms.stamp (length (acked_and_sent s)) (all_passed s))
+
+-- ---- by what happens outside
+
+-- one number never has two moves, to whichever address they are sent and however often
+abbrev pub SentNumberHasOneMove : Type 0
+SentNumberHasOneMove = (stamp : Stamp) (moves : List Moves) (events : List Event) (to v : SocketAddr) (s t : List ℕ) (number : ℕ) (m n : Moves)
+    → OnlySends stamp moves events → Contains events (Sent to s) → Contains events (Sent v t)
+    → SpellsMessage s (move_message stamp number m) → SpellsMessage t (move_message stamp number n) → m ≡ n
+
+-- of a game that has to be new no line `K acked` and no `verdict` rests on a move that the run hasn't sent, from whatever lines it is read
+abbrev pub NewRunRestsOnSent : {L : Type 0} → (L → LineFacts) → Type 0
+NewRunRestsOnSent {L} facts = (lines : L) (g : SourceTerms) (start : Parts) (input : Option (List ℕ)) (turns : List MoveTurn) (at : RunState) → AreMoveTurns g (run_from input start) turns at → g.terms.origin ≡ New
+    → ((earlier later : List MoveTurn) (t : MoveTurn) → turns ≡ earlier ++ t ∷ later → RestsOnSent g.terms.stamp (length t.after.moves) (heard t.after.events))
+    × ((sent : List Moves) (more : List Event) (r : Ruling) (known : Known) → HasEnded (causes (facts lines).fails (facts lines).takes_memory) g at sent more (at_end.Ruled r) known → RestsOnSent g.terms.stamp (length (at.moves ++ sent)) (heard (at.events ++ more)))

@@ -4,5 +4,8 @@ pub mod Boards
 pub mod Turns
 pub mod Lines
 pub mod Sendings
+pub mod Heard
+pub mod Tries
+pub mod Runs
 pub mod Laws
 pub mod Inside

@@ -5,11 +5,24 @@
 //! each; `Report` is what a datagram of the game reports. After the input's end the last move is sent once more. What it sends is the
 //! list of moves with which a world begins (`theorems::sends_the_log`).
 //!
-//! Inside: `sending` (a run), `turn` (one move), `board` (the source's own), `known`, `origin`, `report`, `lines`, `laws`.
+//! Inside: `board` (the source's own), `known`, `origin`, `report`, `lines`, `laws`. Over a port, a reader and a writer: `sending` (a run),
+//! `turn` (one move). The same over a system and its one timeline: `course` (a run), `exchange` (one move), `watching` (what is noted
+//! meanwhile).
 //!
-//! Definitions, in reading order: `Reports`, `Origins` (`RestsOnSent`), `Boards` (`IsBelieved`), `Turns` (`IsWait`), `Sendings` (`IsSending`, `OnlyHands`), `Lines`,
-//! `Laws`. Its tests stand in `checks_io` (`source_tests`).
+//! Definitions, in reading order: `Reports`, `Origins` (`RestsOnSent`), `Boards` (`IsBelieved`), `Turns` (`IsWait`), `Lines`; over a port `Sendings`
+//! (`IsSending`, `OnlyHands`); over a system `Heard` (what is heard of what happens), `Tries` (`SendsMove`), `Runs` (`SendsGame`, `OnlySends`); `Laws`.
+//! Its tests stand in `checks_io` (`source_tests`).
 //!
+//! - CLAIM: `send_moves`, clause `made`: all that happens outside is one list of events, in this order. For each move that is acknowledged: a
+//!   line of the input is read; its legal move is sent with its number to each recipient in some tries, at most as often as the terms say, each
+//!   of which waits as long as they say before the next is made; the line `N acked` is written, and goes out. Then the last line is read, its
+//!   move sent, or the last acknowledged one once more, and the stated line is written and goes out. Where the output fails at a line, nothing
+//!   is read or heard behind it. Only notes may stand between what is heard, and at the end.
+//! - CLAIM: `send_moves`, clause `made`: each datagram that is sent is the move of its number from one list (`OnlySends`). How the run ends is so by
+//!   all that was heard: a verdict is believed, an arbiter counts as silent only when all tries are used up, and then what is known of both
+//!   is returned.
+//! - CLAIM: `send_moves`, clause `cause`: an error comes only where a write might be refused, or what was written couldn't go out.
+//! - CLAIM: `laws::one_move_sent`, `laws::new_run_rests_on_sent`: the two laws below, over a system.
 //! - CLAIM: `send_game`, clause `sends`: a run sends the legal moves of its input, each with its number to each address, at most
 //!   as often as the terms say. It ends with the stated line, and its status is that of the line. Each datagram is the move of
 //!   its number from one list. A verdict with which it ends is believed: a mate or a stalemate at a ply that was sent stands on the
@@ -35,6 +48,8 @@
 #![tactic(auto)]
 
 mod board;
+mod course;
+mod exchange;
 mod known;
 pub mod laws;
 mod lines;
@@ -42,8 +57,10 @@ mod origin;
 mod report;
 mod sending;
 mod turn;
+mod watching;
 
 pub use board::Board;
+pub use course::{GameToSend, send_moves};
 pub use known::{Clash, Known, Reported, Standing};
 pub use lines::{End, Ended, Line};
 pub use origin::{Origin, Started};

@@ -6,6 +6,9 @@ ghost use Rattle.board_core.specs.Verdicts.{verdict_name};
 ghost use Rattle.line_teller.specs.ToldLines.{HasFailed};
 ghost use Rattle.move_msg.specs.TextLines.{ended};
 ghost use Rattle.system_io.specs.Outputs.{WritesFront};
+ghost use Rattle.source_core.specs.Runs.{LineGoesOut};
+ghost use Rattle.timeline.specs.Outsides.{AddsSome};
+ghost use Rattle.timeline.specs.declared.stream.Stream.TheVariants as to;
 ghost use Rattle.source_core.specs.Lines.{acked_words, clash_words, end_words, ended_by, ended_status, ruling_words, sending_line_words, started_words, status_by};
 
 use crate::known::{Clash, Known};
@@ -14,6 +17,7 @@ use crate::report::Ruling;
 use board_core::Verdict;
 use line_teller::LineWords;
 use system_io::{Output, WriteFault};
+use timeline::{Stream, System};
 
 /// The end of a run.
 #[derive(Clone, Copy)]
@@ -206,6 +210,21 @@ pub(crate) fn put_now<W: Output>(out: &mut W, line: &Line) -> Result<(), WriteFa
 {
     match words_of(line).put(out) {
         Ok(()) => out.flush_all(),
+        Err(fault) => Err(fault),
+    }
+}
+
+/// Writes a line at once, and lets it go out. An error comes only where a write might be refused, or what was written couldn't go out.
+pub(crate) fn print_now<S: System>(
+    system: &S,
+    timeline: &mut S::Timeline,
+    line: &Line,
+) -> Result<(), WriteFault>
+    ensures made { AddsSome (S.outside system.now) timeline.old timeline.new (LineGoesOut (sending_line_words line.now) result) }
+    ensures cause { OnErr result (HasFailed (λ t. (S.outside system.now).output t to.Output)) }
+{
+    match words_of(line).write(system, timeline, Stream::Output) {
+        Ok(()) => system.flush(timeline, Stream::Output),
         Err(fault) => Err(fault),
     }
 }

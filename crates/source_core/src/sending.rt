@@ -42,7 +42,7 @@ fn begun_at(start: Position) -> SendState
 }
 
 /// A line as a legal move of a position, and the position after it. The error is the end of the run.
-fn move_of(
+pub(crate) fn move_of(
     notation: Notation,
     line: &[u8],
     position: &Position,
@@ -66,7 +66,7 @@ fn move_of(
 }
 
 /// The end of a run after a turn; none where it goes on.
-fn end_of(turn: Turn) -> Option<End>
+pub(crate) fn end_of(turn: Turn) -> Option<End>
     ensures { result ≡ end_by turn }
 {
     match turn {
@@ -107,7 +107,7 @@ fn send_line<P: Port>(
 
 /// The end of a run by an arbiter that has more moves of a new game, by a verdict that the board belies, or by the one that both have
 /// reported; otherwise the game is open after this many moves.
-fn end_at(origin: Origin, known: &Known, number: u32, position: &Position) -> End
+pub(crate) fn end_at(origin: Origin, known: &Known, number: u32, position: &Position) -> End
     ensures { StandsAtInputEnd origin number position.now known.now result }
 {
     if let Some(started) = origin.started_in(known, number) {

@@ -22,7 +22,7 @@ use system_io::Port;
 
 /// How many datagrams one try receives at most: more than come in any time. So it is the port's wait that ends a try, and datagrams of
 /// strangers don't use it up.
-const MOST_ANSWERS: u64 = u64::MAX;
+pub(crate) const MOST_ANSWERS: u64 = u64::MAX;
 
 /// The terms on which the moves of a game are sent.
 #[derive(Clone, Copy)]
@@ -83,7 +83,12 @@ fn send<P: Port>(port: &mut P, bytes: &[u8])
 }
 
 /// Adds the report of a datagram that came from an address, if it has one.
-fn take_in(stamp: Stamp, known: &mut Known, datagram: &[u8], from: Option<SocketAddr>) -> Next
+pub(crate) fn take_in(
+    stamp: Stamp,
+    known: &mut Known,
+    datagram: &[u8],
+    from: Option<SocketAddr>,
+) -> Next
     ensures learns { Learns stamp known.old known.new (Came datagram.now ∷ []) result }
     ensures last { (nanos : ℕ) → IsLast nanos (Came datagram.now) result }
 {
@@ -109,7 +114,7 @@ fn receive_one<P: Port>(stamp: Stamp, wait: Duration, known: &mut Known, port: &
 }
 
 /// Whether both have reported a verdict.
-fn is_ruled(known: &Known) -> bool
+pub(crate) fn is_ruled(known: &Known) -> bool
     ensures { result ≡ is_ruled known.now }
 {
     known.a.ruling.is_some() && known.b.ruling.is_some()
@@ -129,7 +134,7 @@ fn times_at(index: u32) -> u32
 
 /// How long the next datagram is awaited in a try: where both have acknowledged the move, two milliseconds for the verdicts that may
 /// follow.
-fn wait_at(terms: &SendConfig, index: u32, number: u32, known: &Known) -> Duration
+pub(crate) fn wait_at(terms: &SendConfig, index: u32, number: u32, known: &Known) -> Duration
     ensures { IsWaitBy terms.now.wait index number known.now (as_nanos result) }
 {
     match known.standing(number) {
@@ -162,7 +167,7 @@ pub(crate) fn receive_all<P: Port>(
 }
 
 /// The state of a move as the end of its turn; none where it is open.
-fn turn_of(origin: Origin, known: &Known, number: u32, board: Board<'_>) -> Option<Turn>
+pub(crate) fn turn_of(origin: Origin, known: &Known, number: u32, board: Board<'_>) -> Option<Turn>
     ensures { EndsIf origin number board.entry.plies board.entry.position.now known.now result }
 {
     if let Some(started) = origin.started_in(known, board.plies) {
@@ -179,7 +184,7 @@ fn turn_of(origin: Origin, known: &Known, number: u32, board: Board<'_>) -> Opti
 }
 
 /// The end of a turn by what came, if it ends.
-fn loss_of(next: Next) -> Option<Turn>
+pub(crate) fn loss_of(next: Next) -> Option<Turn>
     ensures { result ≡ loss_by next }
 {
     match next {
@@ -205,7 +210,7 @@ fn try_once<P: Port>(
 }
 
 /// The datagram of a move.
-fn datagram_of(stamp: Stamp, number: u32, m: Move) -> [u8; 27]
+pub(crate) fn datagram_of(stamp: Stamp, number: u32, m: Move) -> [u8; 27]
     ensures { SpellsMessage result (move_message stamp number m) }
 {
     let message = Message::Move {

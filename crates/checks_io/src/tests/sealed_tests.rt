@@ -1,12 +1,15 @@
 //! Sealed ports and files of keys: values from outside, and what is passed on of each kind of datagram.
 
 use crate::tests::comparing::{check_bytes, check_same};
-use sealed_port::{KeyFault, Keys, MacKey, Sealed};
+use sealed_port::{KeyFault, KeyedSystem, Keys, MacKey, Sealed};
 use std::alloc::Global;
+use std::net::{IpAddr, Ipv4Addr, SocketAddr};
 use std::process::Abort;
 use std::time::Duration;
-use system_fakes::{MemoryPort, Passage, Turn};
+use system_fakes::{MemoryDisk, MemoryInput, MemoryPort, Passage, Turn};
 use system_io::{NO_TAG, Port};
+use timeline::System;
+use timeline_fakes::{KeptStart, MemorySystem, MemoryTimeline, Recorded, Turn as SystemTurn};
 
 /// A row of RFC 4231: a key in hexadecimal digits, a text, and its HMAC.
 struct Vector {
@@ -196,6 +199,105 @@ fn sends_with_the_first_key(rt: HostRuntime) {
     };
     check_same(&rt, *to, 0, "the address");
     check_bytes(&rt, bytes, &sealed_move(), "the datagram");
+}
+
+/// A system in memory, of whose port these calls that receive come.
+fn memory<'a>(turns: &'a [SystemTurn<'a>]) -> MemorySystem<'a> {
+    MemorySystem {
+        disk: MemoryDisk {
+            files: &[],
+            modes: &[],
+            folders: &[],
+            failing: &[],
+        },
+        input: MemoryInput {
+            bytes: &[],
+            fails: false,
+        },
+        kept: &[],
+        elsewhere: KeptStart {
+            bytes: None,
+            outcomes: &[],
+            reads_fail: false,
+        },
+        own: None,
+        turns,
+    }
+}
+
+/// What a port of a system with these keys passes on of a datagram, both where it waits and where it waits for a time.
+fn check_passed_on(rt: &impl Abort, alloc: Global, datagram: &[u8], keys: &Keys, wanted: &[u8]) {
+    let from = SocketAddr::new(IpAddr::V4(Ipv4Addr::new(127, 0, 0, 1)), 7702);
+    let turns = [
+        SystemTurn::Comes(from, datagram),
+        SystemTurn::Comes(from, datagram),
+    ];
+    let below = memory(&turns);
+    let system = KeyedSystem::over(&below, keys);
+    let mut timeline = MemoryTimeline::new(alloc, None);
+    let bound = system.bind(&mut timeline, alloc, "127.0.0.1:7701", &[]);
+    let mut port = bound.ok().expect(rt, "a port");
+    let mut buffer = [0u8; 64];
+    let received = system.receive(&mut timeline, &mut port, &mut buffer);
+    let length = received.ok().expect(rt, "a datagram");
+    check_bytes(rt, &buffer[..length], wanted, "what is passed on");
+    let mut buffer = [0u8; 64];
+    let wait = Duration::from_millis(1);
+    let received = system.receive_in_time(&mut timeline, &mut port, wait, &mut buffer);
+    let length = received
+        .ok()
+        .expect(rt, "no fault")
+        .expect(rt, "a datagram");
+    check_bytes(rt, &buffer[..length], wanted, "what is passed on in time");
+    check_same(rt, system.sender(&port) == Some(from), true, "the sender");
+}
+
+/// What a system with keys sends is opened by either key of another, and not where that has other keys.
+#[test]
+fn systems_open_what_a_system_seals(rt: HostRuntime) {
+    let below = memory(&[]);
+    let system = KeyedSystem::over(&below, &keys(&rt, true));
+    let mut timeline = MemoryTimeline::new(rt.alloc(), None);
+    let to = ["127.0.0.1:7702"];
+    let bound = system.bind(&mut timeline, rt.alloc(), "127.0.0.1:7701", &to);
+    let mut port = bound.ok().expect(&rt, "a port");
+    let sent = system.send(&mut timeline, &mut port, &MOVE);
+    check_same(&rt, sent.is_ok(), true, "a send");
+    let events = timeline.events().expect(&rt, "memory");
+    check_same(&rt, events.len(), 2, "the port and a datagram");
+    let Some(Recorded::Sent { bytes, .. }) = events.last() else {
+        panic!(rt; "sent");
+    };
+    check_bytes(&rt, bytes, &sealed_move(), "the datagram");
+    check_passed_on(&rt, rt.alloc(), bytes, &keys(&rt, true), &MOVE);
+    check_passed_on(&rt, rt.alloc(), bytes, &keys(&rt, false), &MOVE);
+    let others = Keys {
+        first: [9; 32],
+        second: [8; 32],
+    };
+    check_passed_on(&rt, rt.alloc(), bytes, &others, &NO_TAG);
+}
+
+/// 48 bytes go out, and of 49 it is noted that they don't.
+#[test]
+fn a_system_leaves_out_49_bytes(rt: HostRuntime) {
+    let below = memory(&[]);
+    let system = KeyedSystem::over(&below, &keys(&rt, true));
+    let mut timeline = MemoryTimeline::new(rt.alloc(), None);
+    let to = ["127.0.0.1:7702"];
+    let bound = system.bind(&mut timeline, rt.alloc(), "127.0.0.1:7701", &to);
+    let mut port = bound.ok().expect(&rt, "a port");
+    let sent = system.send(&mut timeline, &mut port, &[7; 48]);
+    check_same(&rt, sent.is_ok(), true, "48 bytes");
+    let sent = system.send(&mut timeline, &mut port, &[7; 49]);
+    check_same(&rt, sent.is_ok(), false, "49 bytes");
+    let events = timeline.events().expect(&rt, "memory");
+    check_same(&rt, events.len(), 3, "the port, a datagram and a note");
+    let Some(Recorded::Noted { line }) = events.last() else {
+        panic!(rt; "noted");
+    };
+    let wanted = b"a datagram of more than 48 bytes was left out";
+    check_bytes(&rt, line, wanted, "the note");
 }
 
 /// The text of a file of keys, and the line at fault, 0 for none.

@@ -1,10 +1,8 @@
-use Rattle.std.proofs.Common.{◌≡◌, ◌∙◌, ◌+◌, ◌++◌, ℕ, List, [], ◌∷◌, Option, Some, None, length, sym, ap, subst, append-nil, length-append}
-use Rattle.board_core.specs.declared.parts.Parts.{Parts}
+use Rattle.std.proofs.Common.{◌≡◌, ◌∙◌, ◌+◌, ◌++◌, ℕ, List, [], ◌∷◌, Option, length, sym, ap, subst, append-nil, length-append}
 use Rattle.board_core.specs.declared.moves.Move.{Move as Moves}
 use Rattle.move_msg.specs.declared.stamp.Stamp.{Stamp}
 use Rattle.system_io.specs.declared.reading.ReadFault.{ReadFault}
 use Rattle.system_io.specs.Ports.{Passing}
-use Rattle.source_core.specs.declared.lines.End.{End}
 use Rattle.source_core.specs.declared.lines.End.TheVariants as at_end
 use Rattle.source_core.specs.declared.origin.Origin.{Origin}
 use Rattle.source_core.specs.declared.origin.Origin.TheVariants.{Any, New}
