@@ -21,6 +21,11 @@ fn count_line(count: usize) -> LineWords
     line
 }
 
+/// Whether the answer to a line of so many bytes is complete.
+fn is_complete(count: usize) -> bool {
+    count > 1
+}
+
 impl<S: System> LineAnswerer<S> for Counting {
     ghost use Rattle.std.specs.Prelude.{◌≡◌, List, ℕ, length};
     ghost use Rattle.std.specs.Fmt.{decimal};
@@ -45,7 +50,7 @@ impl<S: System> LineAnswerer<S> for Counting {
             return Err(TellFault::OutOfMemory);
         }
         match count_line(line.len()).write(system, timeline, Stream::Output) {
-            Ok(()) => Ok(line.len() > 1),
+            Ok(()) => Ok(is_complete(line.len())),
             Err(WriteFault::Io) => Err(TellFault::Io),
         }
     }
