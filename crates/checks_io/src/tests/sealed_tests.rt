@@ -9,7 +9,9 @@ use std::time::Duration;
 use system_fakes::{MemoryDisk, MemoryInput, MemoryPort, Passage, Turn};
 use system_io::{NO_TAG, Port};
 use timeline::System;
-use timeline_fakes::{KeptStart, MemorySystem, MemoryTimeline, Recorded, Turn as SystemTurn, Turns};
+use timeline_fakes::{
+    KeptStart, MemorySystem, MemoryTimeline, Recorded, Turn as SystemTurn, Turns,
+};
 
 /// A row of RFC 4231: a key in hexadecimal digits, a text, and its HMAC.
 struct Vector {
