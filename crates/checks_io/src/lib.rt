@@ -9,7 +9,7 @@
 //! - `mode_tests`: files with their modes, in memory and of the system
 //! - `port_tests`: the system's sockets, over the loopback
 //! - `sealed_tests`: sealed ports, systems with keys, and files of keys
-//! - `source_tests`: a source whose datagrams are lost (over `source_port`)
+//! - `source_tests`: a source whose datagrams are lost, over a system in memory (`source_port`)
 //! - `output_tests`: reads and writes that fail
 //!
 //! `comparing` and `no_stores` are what these tests share. All stand in `src/tests/`. What other crates' tests use too stands in

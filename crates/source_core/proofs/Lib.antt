@@ -1,4 +1,3 @@
-pub mod PortLaws
 pub mod ReportLaws
 pub mod BoardLaws
 pub mod OriginLaws

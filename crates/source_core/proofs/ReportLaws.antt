@@ -1,7 +1,6 @@
 -- What is kept of what the arbiters told, as more passes.
-use Rattle.std.proofs.Common.{◌≡◌, ◌≢◌, ◌⊎◌, ℕ, ◌+◌, ◌≤◌, ◌<◌, max, false, List, [], ◌∷◌, ◌++◌, Option, Some, None, IfSome, refl, sym, ap, subst, ◌∙◌, append_assoc, append-nil, arith, inl, inr}
+use Rattle.std.proofs.Common.{◌≡◌, ◌≢◌, ◌⊎◌, ℕ, ◌+◌, ◌≤◌, ◌<◌, max, false, List, [], ◌∷◌, ◌++◌, Option, Some, None, IfSome, refl, sym, ap, subst, ◌∙◌, arith, inl, inr}
 use Rattle.std.specs.Prelude.{◌&&◌, is_some}
-use Rattle.std.specs.List.{AllByRecursion}
 use Rattle.std.specs.declared.net.socket_addr.SocketAddr.{SocketAddr}
 use Rattle.std.proofs.lemmas.List.Elements.{Contains-append_left, Contains-push, Contains-push_cases}
 use Rattle.std.proofs.lemmas.Option.{same_Some}
@@ -47,10 +46,6 @@ reported_still stamp who all p told none h = record {
 
 pub knows_still : (stamp : Stamp) (all : List Passing) (p : Passing) (known : Known) → ReportsNothing stamp p → Knows stamp all known → Knows stamp (all ++ p ∷ []) known
 knows_still stamp all p known none h = record { a = reported_still stamp A all p known.a none h.a; b = reported_still stamp B all p known.b none h.b; agreed = h.agreed }
-
-pub knows_past : (stamp : Stamp) (all more : List Passing) (known : Known) → AllByRecursion (ReportsNothing stamp) more → Knows stamp all known → Knows stamp (all ++ more) known
-knows_past stamp all [] known none h = subst (λ l. Knows stamp l known) (sym (append-nil all)) h
-knows_past stamp all (p ∷ more) known none h = subst (λ l. Knows stamp l known) (append_assoc all (p ∷ []) more) (knows_past stamp (all ++ p ∷ []) more known none.1 (knows_still stamp all p known none.0 h))
 
 -- ---- a datagram that says something
 

@@ -1,6 +1,6 @@
 -- One move that is sent until the arbiters have acknowledged it (this project's own).
-use Rattle.std.specs.Prelude.{◌≡◌, ◌≤◌, ◌++◌, ◌*◌, ◌^◌, ◌⊎◌, ℕ, min, List, [], ◌∷◌, length}
-use Rattle.std.specs.List.{AllByRecursion, flat_map, Contains}
+use Rattle.std.specs.Prelude.{◌≡◌, ◌++◌, ◌*◌, ◌^◌, ◌⊎◌, ℕ, min, List, [], ◌∷◌, length}
+use Rattle.std.specs.List.{Contains}
 use Rattle.std.specs.Duration.{as_nanos, max_nanos}
 use Rattle.std.specs.declared.time.Duration.{Duration}
 use Rattle.board_core.specs.declared.moves.Move.{Move as Moves}
@@ -16,7 +16,7 @@ use Rattle.source_core.specs.declared.turn.Next.TheVariants as next
 use Rattle.source_core.specs.declared.turn.SendConfig.{SendConfig}
 use Rattle.source_core.specs.declared.turn.Turn.{Turn}
 use Rattle.source_core.specs.declared.turn.Turn.TheVariants as at_turn
-use Rattle.system_io.specs.Ports.{Passing, Came, Quiet, Missed, Handed, PortFacts, Passed, to_each}
+use Rattle.system_io.specs.Ports.{Passing, Quiet, Missed}
 use Rattle.source_core.specs.declared.origin.Origin.{Origin}
 use Rattle.source_core.specs.Origins.{EndsStarted, IsOwn}
 use Rattle.source_core.specs.Reports.{Knows, IsAcked, IsClash, IsUnsettled}
@@ -29,13 +29,6 @@ move_message stamp number m = Move stamp Source number m
 -- that message has a spelling: its number and its word fit
 abbrev pub HasSpelling : Stamp → ℕ → Moves → Type 0
 HasSpelling stamp number m = SpellsMessage (message_text (move_message stamp number m)) (move_message stamp number m)
-
--- nothing is sent there
-abbrev pub IsReceived : Passing → Type 0
-IsReceived (Came bytes) = Unit {0}
-IsReceived (Quiet nanos) = Unit {0}
-IsReceived Missed = Unit {0}
-IsReceived (Handed to bytes) = ⊥
 
 -- how many datagrams one try receives at most, 2^64 - 1
 abbrev pub most_answers : ℕ
@@ -68,18 +61,6 @@ pub data IsWait (terms : SendConfig) (index number : ℕ) (all : List Passing) (
 abbrev pub WaitsSoLong : SendConfig → ℕ → ℕ → List Passing → List Passing → Type 0
 WaitsSoLong terms index number before came = (first rest : List Passing) (nanos : ℕ) → came ≡ first ++ Quiet nanos ∷ rest → IsWait terms index number (before ++ first) nanos
 
--- one try: the move is handed over for each address, and then this came
-abbrev pub one_try : ℕ → List ℕ → List Passing → List Passing
-one_try addresses bytes came = to_each addresses bytes ++ came
-
-abbrev pub tries_of : ℕ → List ℕ → List (List Passing) → List Passing
-tries_of addresses bytes tries = flat_map (one_try addresses bytes) tries
-
--- so in each of the tries of a move
-abbrev pub EachWaitsSoLong : SendConfig → ℕ → ℕ → List ℕ → List Passing → List (List Passing) → Type 0
-EachWaitsSoLong terms number addresses bytes before tries =
-    (earlier later : List (List Passing)) (came : List Passing) → tries ≡ earlier ++ came ∷ later → WaitsSoLong terms (length earlier) number ((before ++ tries_of addresses bytes earlier) ++ to_each addresses bytes) came
-
 -- what is known after something came, or what clashes in it
 abbrev pub ComesTo : Stamp → List Passing → Known → Next → Type 0
 ComesTo stamp all known next.GoesOn = Knows stamp all known
@@ -101,14 +82,3 @@ TurnEndsSo origin stamp number plies position all known (at_turn.Started s) = En
 TurnEndsSo origin stamp number plies position all known (at_turn.Belied r) = IsBelied stamp plies position r all × IsOwn origin stamp plies all
 TurnEndsSo origin stamp number plies position all known at_turn.Lost = IsUnsettled stamp number all × Knows stamp all known × IsOwn origin stamp plies all
 TurnEndsSo origin stamp number plies position all known at_turn.PortLost = Contains all Missed
-
--- a turn: tries of the one move, at most so many, each of which waited so long
-pub record IsTurn (terms : SendConfig) (number : ℕ) (m : Moves) (plies : ℕ) (position : Parts) (old new : PortFacts) (known known' : Known) (end : Turn) (tries : List (List Passing)) : Type 0 where
-  pub spelling : HasSpelling terms.stamp number m
-  pub few : length tries ≤ terms.tries
-  pub received : AllByRecursion (AllByRecursion IsReceived) tries
-  pub again : AllButLastWaited tries
-  pub waited : (before : List Passing) → Knows terms.stamp before known → EachWaitsSoLong terms number old.addresses (message_text (move_message terms.stamp number m)) before tries
-  pub lost : end ≡ at_turn.Lost → (length tries ≡ terms.tries) × AllByRecursion HasWaited tries
-  pub passed : Passed old new (tries_of old.addresses (message_text (move_message terms.stamp number m)) tries)
-  pub ends : (before : List Passing) → Knows terms.stamp before known → TurnEndsSo terms.origin terms.stamp number plies position (before ++ tries_of old.addresses (message_text (move_message terms.stamp number m)) tries) known' end

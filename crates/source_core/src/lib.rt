@@ -1,16 +1,15 @@
 //! The source of a live game: it sends the game's moves to the two arbiters as they are played.
 //!
-//! Lines go in, a move each in the notation of the terms; datagrams go out to each address of a port until both arbiters have
-//! acknowledged the move, and a line is written for each. `Known` keeps what the arbiters have reported, a count and a verdict for
-//! each; `Report` is what a datagram of the game reports. After the input's end the last move is sent once more. What it sends is the
-//! list of moves with which a world begins (`theorems::sends_the_log`).
+//! Over a system and its one timeline lines are read, a move each in the notation of the terms; datagrams go out to each recipient of a port
+//! until both arbiters have acknowledged the move, and a line is written for each. `Known` keeps what the arbiters have reported, a count
+//! and a verdict for each; `Report` is what a datagram of the game reports. After the input's end the last move is sent once more. What it
+//! sends is the list of moves with which a world begins (`theorems::sends_the_log`).
 //!
-//! Inside: `board` (the source's own), `known`, `origin`, `report`, `lines`, `laws`. Over a port, a reader and a writer: `sending` (a run),
-//! `turn` (one move). The same over a system and its one timeline: `course` (a run), `exchange` (one move), `watching` (what is noted
-//! meanwhile).
+//! Inside: `board` (the source's own), `known`, `origin`, `report`, `lines`, `laws`; `course` (a run) over `exchange` (one move) and
+//! `watching` (what is noted meanwhile); `sending` (the move of a line, and how a run ends), `turn` (how a turn ends, and how long it waits).
 //!
-//! Definitions, in reading order: `Reports`, `Origins` (`RestsOnSent`), `Boards` (`IsBelieved`), `Turns` (`IsWait`), `Lines`; over a port `Sendings`
-//! (`IsSending`, `OnlyHands`); over a system `Heard` (what is heard of what happens), `Tries` (`SendsMove`), `Runs` (`SendsGame`, `OnlySends`); `Laws`.
+//! Definitions, in reading order: `Reports`, `Origins` (`RestsOnSent`), `Boards` (`IsBelieved`), `Turns` (`IsWait`), `Lines`, `Sendings`
+//! (`ClosesSo`, `IsSentLast`), `Heard` (what is heard of what happens), `Tries` (`SendsMove`), `Runs` (`SendsGame`, `OnlySends`), `Laws`.
 //! Its tests stand in `checks_io` (`source_tests`).
 //!
 //! - CLAIM: `send_moves`, clause `made`: all that happens outside is one list of events, in this order. For each move that is acknowledged: a
@@ -19,32 +18,21 @@
 //!   move sent, or the last acknowledged one once more, and the stated line is written and goes out. Where the output fails at a line, nothing
 //!   is read or heard behind it. Only notes may stand between what is heard, and at the end.
 //! - CLAIM: `send_moves`, clause `made`: each datagram that is sent is the move of its number from one list (`OnlySends`). How the run ends is so by
-//!   all that was heard: a verdict is believed, an arbiter counts as silent only when all tries are used up, and then what is known of both
-//!   is returned.
+//!   all that was heard: an arbiter counts as silent only when all tries are used up, and then what is known of both is returned.
+//! - CLAIM: `send_moves`, clause `made`: a verdict with which the run ends is believed: a mate or a stalemate at a ply that was sent stands on
+//!   the source's own board after the last move; one that doesn't is printed as `disagree`.
+//! - CLAIM: `send_moves`, clause `made`: whenever nothing came in time, a datagram was awaited as long as the terms say for that try, longer from
+//!   try to try; or two milliseconds, where both had acknowledged the move and neither had reported a verdict (`IsWait`, `EachWaits`). That so
+//!   much time has passed is left to the system.
 //! - CLAIM: `send_moves`, clause `cause`: an error comes only where a write might be refused, or what was written couldn't go out.
-//! - CLAIM: `laws::one_move_sent`, `laws::new_run_rests_on_sent`: the two laws below, over a system.
-//! - CLAIM: `send_game`, clause `sends`: a run sends the legal moves of its input, each with its number to each address, at most
-//!   as often as the terms say. It ends with the stated line, and its status is that of the line. Each datagram is the move of
-//!   its number from one list. A verdict with which it ends is believed: a mate or a stalemate at a ply that was sent stands on the
-//!   source's own board after the last move; one that doesn't is told as `disagree`. Where an arbiter doesn't answer, what is known
-//!   of both is returned.
-//! - CLAIM: `send_game`, clause `sends`; `take_turn`: whenever nothing came in time, the port was asked to wait as long as the terms say
-//!   for that try, longer from try to try; or two milliseconds, where both had acknowledged the move and neither had reported a
-//!   verdict (`IsWait`, `EachWaitsSoLong`). That so much time has passed is left to the port.
-//! - CLAIM: `send_game`, clause `turns`: each line has gone out before the next line of the input is read. Where the writer fails,
-//!   none is read after that.
-//! - CLAIM: `send_game`, clauses `gone`, `cause`: all lines have gone out at the end; an error comes only of a type of writer that may
-//!   refuse a write, or from which a line can't go out (`HasFailed` of line_teller).
-//! - CLAIM: `take_turn`: a turn sends one move until both arbiters have acknowledged it, both have reported a verdict, two
-//!   verdicts differ, one is belied by the board, the tries are used up, or the port is lost.
 //! - CLAIM: `report_of`, clauses `some`, `only`: a datagram is a report of the game exactly where it encodes an acknowledgement
 //!   or a verdict with its stamp.
 //! - CLAIM: `Known::add`, clauses `added`, `clash`, `same`; `Known::standing`: a report is added to what is known, and a verdict
 //!   that differs from a known one is a clash.
-//! - CLAIM: `send_game`, clause `sends`; `laws::new_rests_on_sent`: of a game that has to be new (`Origin::New`) no acknowledged move,
-//!   verdict or open end is told while an arbiter has reported more moves than were sent; then the run ends as `refused started`, with the
+//! - CLAIM: `send_moves`, clause `made`; `laws::new_run_rests_on_sent`: of a game that has to be new (`Origin::New`) no acknowledged move,
+//!   verdict or open end is printed while an arbiter has reported more moves than were sent; then the run ends as `refused started`, with the
 //!   most moves that this arbiter has reported (`IsOwn`, `IsStarted`).
-//! - CLAIM: `laws::one_move`: one number never has two moves.
+//! - CLAIM: `laws::one_move_sent`: one number never has two moves.
 #![tactic(auto)]
 
 mod board;
@@ -59,11 +47,9 @@ mod sending;
 mod turn;
 mod watching;
 
-pub use board::Board;
 pub use course::{GameToSend, send_moves};
 pub use known::{Clash, Known, Reported, Standing};
 pub use lines::{End, Ended, Line};
 pub use origin::{Origin, Started};
 pub use report::{Report, Ruling, report_of};
-pub use sending::send_game;
-pub use turn::{SendConfig, Turn, take_turn};
+pub use turn::SendConfig;

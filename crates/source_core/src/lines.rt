@@ -1,11 +1,9 @@
 //! The lines of a run.
 
-ghost use Rattle.std.specs.Prelude.{◌≡◌, ◌≤◌, ◌+◌, ◌++◌, OnErr, OnOk, length};
+ghost use Rattle.std.specs.Prelude.{◌≡◌, ◌≤◌, ◌+◌, ◌++◌, OnErr, length};
 ghost use Rattle.std.specs.Fmt.{decimal};
 ghost use Rattle.board_core.specs.Verdicts.{verdict_name};
 ghost use Rattle.line_teller.specs.ToldLines.{HasFailed};
-ghost use Rattle.move_msg.specs.TextLines.{ended};
-ghost use Rattle.system_io.specs.Outputs.{WritesFront};
 ghost use Rattle.source_core.specs.Runs.{LineGoesOut};
 ghost use Rattle.timeline.specs.Outsides.{AddsSome};
 ghost use Rattle.timeline.specs.declared.stream.Stream.TheVariants as to;
@@ -16,7 +14,7 @@ use crate::origin::Started;
 use crate::report::Ruling;
 use board_core::Verdict;
 use line_teller::LineWords;
-use system_io::{Output, WriteFault};
+use system_io::WriteFault;
 use timeline::{Stream, System};
 
 /// The end of a run.
@@ -198,19 +196,6 @@ fn words_of(line: &Line) -> LineWords
     match line {
         Line::Acked(count) => acked_line(*count),
         Line::Ends(end) => end_line(end),
-    }
-}
-
-/// Writes a line at once, and flushes it. An error comes only of a type of writer that may refuse a write, or from which a line can't go
-/// out; a front of the line is written then.
-pub(crate) fn put_now<W: Output>(out: &mut W, line: &Line) -> Result<(), WriteFault>
-    ensures front { WritesFront (W.contents out.old) (W.contents out.new) (ended (sending_line_words line.now)) result }
-    ensures gone { OnOk result (W.facts out.new).gone }
-    ensures cause { OnErr result (HasFailed W.facts) }
-{
-    match words_of(line).put(out) {
-        Ok(()) => out.flush_all(),
-        Err(fault) => Err(fault),
     }
 }
 

@@ -1,13 +1,11 @@
-//! Sending one move until both arbiters have acknowledged it.
+//! What ends the turn of a move, how long its tries wait, and its datagram.
 
-ghost use Rattle.std.specs.Prelude.{◌≡◌, ◌∷◌, [], ℕ, List, IfSome};
+ghost use Rattle.std.specs.Prelude.{◌≡◌, ◌∷◌, [], ℕ};
 ghost use Rattle.std.specs.Duration.{as_nanos};
-ghost use Rattle.std.specs.List.{AllByRecursion};
-ghost use Rattle.system_io.specs.Ports.{Passing, Came, Passed, to_each};
+ghost use Rattle.system_io.specs.Ports.{Came};
 ghost use Rattle.move_msg.specs.Messages.{SpellsMessage};
-ghost use Rattle.source_core.specs.Sendings.{again};
-ghost use Rattle.source_core.specs.Turns.{HasSpelling, IsReceived, IsTurn, Learns, move_message, times_at};
-ghost use Rattle.source_core.specs.Inside.Steps.{EndsIf, HasTriedOnce, IsEndOfTry, IsLast, IsWaitBy, is_ruled, loss_by};
+ghost use Rattle.source_core.specs.Turns.{Learns, move_message, times_at};
+ghost use Rattle.source_core.specs.Inside.Steps.{EndsIf, IsLast, IsWaitBy, is_ruled, loss_by};
 
 use crate::board::Board;
 use crate::known::{Clash, Known, Standing};
@@ -18,7 +16,6 @@ use move_msg::{Message, Sender, Stamp};
 use move_notation::Notation;
 use std::net::SocketAddr;
 use std::time::Duration;
-use system_io::Port;
 
 /// How many datagrams one try receives at most: more than come in any time. So it is the port's wait that ends a try, and datagrams of
 /// strangers don't use it up.
@@ -75,13 +72,6 @@ pub(crate) enum Next {
     PortLost,
 }
 
-/// Sends a datagram to each address. What can't be sent is lost, as on its way.
-fn send<P: Port>(port: &mut P, bytes: &[u8])
-    ensures { Passed (P.facts port.old) (P.facts port.new) (to_each (P.facts port.old).addresses bytes.now) }
-{
-    let _sent = port.send(bytes);
-}
-
 /// Adds the report of a datagram that came from an address, if it has one.
 pub(crate) fn take_in(
     stamp: Stamp,
@@ -98,18 +88,6 @@ pub(crate) fn take_in(
     match known.add(report, from) {
         Ok(()) => Next::GoesOn,
         Err(clash) => Next::Clashed(clash),
-    }
-}
-
-/// Receives a datagram, if one comes in time, and adds its report.
-fn receive_one<P: Port>(stamp: Stamp, wait: Duration, known: &mut Known, port: &mut P) -> Next
-    ensures { (came : Passing) × IsReceived came × Passed (P.facts port.old) (P.facts port.new) (came ∷ []) × IsLast (as_nanos wait) came result × Learns stamp known.old known.new (came ∷ []) result }
-{
-    let mut buffer = [0u8; 64];
-    match port.receive_in_time(wait, &mut buffer) {
-        Ok(Some(length)) => take_in(stamp, known, &buffer[..length], port.sender()),
-        Ok(None) => Next::Waited,
-        Err(_) => Next::PortLost,
     }
 }
 
@@ -143,29 +121,6 @@ pub(crate) fn wait_at(terms: &SendConfig, index: u32, number: u32, known: &Known
     }
 }
 
-/// Receives datagrams and adds their reports, until none comes in time, both have reported a verdict, or 2^64 - 1 datagrams came.
-pub(crate) fn receive_all<P: Port>(
-    terms: &SendConfig,
-    index: u32,
-    number: u32,
-    known: &mut Known,
-    port: &mut P,
-) -> Next
-    ensures { IsEndOfTry terms.now index number known.old known.new (P.facts port.old) (P.facts port.new) result }
-{
-    for _ in 0..MOST_ANSWERS {
-        if is_ruled(known) {
-            return Next::Waited;
-        }
-        let wait = wait_at(terms, index, number, known);
-        match receive_one(terms.stamp, wait, known, port) {
-            Next::GoesOn => {}
-            next => return next,
-        }
-    }
-    Next::Waited
-}
-
 /// The state of a move as the end of its turn; none where it is open.
 pub(crate) fn turn_of(origin: Origin, known: &Known, number: u32, board: Board<'_>) -> Option<Turn>
     ensures { EndsIf origin number board.entry.plies board.entry.position.now known.now result }
@@ -194,21 +149,6 @@ pub(crate) fn loss_of(next: Next) -> Option<Turn>
     }
 }
 
-/// Sends a datagram to each address, and receives what comes then. Returns the end of the turn, if it ends.
-fn try_once<P: Port>(
-    terms: &SendConfig,
-    index: u32,
-    number: u32,
-    known: &mut Known,
-    port: &mut P,
-    bytes: &[u8],
-) -> Option<Turn>
-    ensures { HasTriedOnce terms.now index number (P.facts port.old).addresses bytes.now known.old known.new (P.facts port.old) (P.facts port.new) result }
-{
-    send(port, bytes);
-    loss_of(receive_all(terms, index, number, known, port))
-}
-
 /// The datagram of a move.
 pub(crate) fn datagram_of(stamp: Stamp, number: u32, m: Move) -> [u8; 27]
     ensures { SpellsMessage result (move_message stamp number m) }
@@ -220,44 +160,4 @@ pub(crate) fn datagram_of(stamp: Stamp, number: u32, m: Move) -> [u8; 27]
         m,
     };
     message.encode()
-}
-
-/// Sends the move with this number to each address once, if there is one.
-pub(crate) fn send_again<P: Port>(stamp: Stamp, number: u32, last: &Option<Move>, port: &mut P)
-    ensures spelling { IfSome last.now (HasSpelling stamp number) }
-    ensures passed { Passed (P.facts port.old) (P.facts port.new) (again stamp (P.facts port.old).addresses number last.now) }
-{
-    if let Some(m) = last {
-        send(port, &datagram_of(stamp, number, *m));
-    }
-}
-
-/// Sends a move to each address until both arbiters have acknowledged it, or both have reported a verdict, at most as
-/// often as the terms say. Its number is that of the moves before it, 0 to 4095, and the board is the one after it.
-///
-/// A move that is acknowledged already isn't sent. Nothing else is sent. Two kinds of reports end the turn after their try: of a new game
-/// one by which an arbiter has more moves than the board, and a verdict that the board belies.
-pub fn take_turn<P: Port>(
-    terms: &SendConfig,
-    number: u32,
-    m: Move,
-    board: Board<'_>,
-    known: &mut Known,
-    port: &mut P,
-) -> Turn
-    ensures { (tries : List (List Passing)) × IsTurn terms.now number m board.entry.plies board.entry.position.now (P.facts port.old) (P.facts port.new) known.old known.new result tries }
-{
-    let bytes = datagram_of(terms.stamp, number, m);
-    for index in 0..terms.tries {
-        if let Some(turn) = turn_of(terms.origin, known, number, board) {
-            return turn;
-        }
-        if let Some(turn) = try_once(terms, index, number, known, port, &bytes) {
-            return turn;
-        }
-    }
-    match turn_of(terms.origin, known, number, board) {
-        Some(turn) => turn,
-        None => Turn::Lost,
-    }
 }

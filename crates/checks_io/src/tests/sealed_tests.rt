@@ -9,7 +9,9 @@ use std::time::Duration;
 use system_fakes::{MemoryDisk, MemoryInput, MemoryPort, Passage, Turn};
 use system_io::{NO_TAG, Port};
 use timeline::System;
-use timeline_fakes::{KeptStart, MemorySystem, MemoryTimeline, Recorded, Turn as SystemTurn};
+use timeline_fakes::{
+    KeptStart, MemorySystem, MemoryTimeline, Recorded, Turn as SystemTurn, Turns,
+};
 
 /// A row of RFC 4231: a key in hexadecimal digits, a text, and its HMAC.
 struct Vector {
@@ -220,8 +222,9 @@ fn memory<'a>(turns: &'a [SystemTurn<'a>]) -> MemorySystem<'a> {
             outcomes: &[],
             reads_fail: false,
         },
+        binds: true,
         own: None,
-        turns,
+        turns: Turns::Each(turns),
     }
 }
 
@@ -229,8 +232,8 @@ fn memory<'a>(turns: &'a [SystemTurn<'a>]) -> MemorySystem<'a> {
 fn check_passed_on(rt: &impl Abort, alloc: Global, datagram: &[u8], keys: &Keys, wanted: &[u8]) {
     let from = SocketAddr::new(IpAddr::V4(Ipv4Addr::new(127, 0, 0, 1)), 7702);
     let turns = [
-        SystemTurn::Comes(from, datagram),
-        SystemTurn::Comes(from, datagram),
+        SystemTurn::Comes(Some(from), datagram),
+        SystemTurn::Comes(Some(from), datagram),
     ];
     let below = memory(&turns);
     let system = KeyedSystem::over(&below, keys);

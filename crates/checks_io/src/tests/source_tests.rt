@@ -1,33 +1,43 @@
-//! The source of a live game over a port in memory: what it sends, and the lines of its run.
+//! The source of a live game over a system in memory: what it sends, the lines of its run, and the order of all that happens.
 
 use crate::tests::comparing::{check_bytes, check_same, push_bytes};
-use crate::tests::source_port::{After, Coming, Given, STAMP, Timed};
+use crate::tests::source_port::{FIRST, From, SECOND, STAMP, datagrams_of, system_of, turns_of};
 use board_core::Position;
-use check_helpers::{Failing, START};
+use check_helpers::START;
 use fen_text::read;
 use move_notation::Notation;
-use source_core::{Origin, SendConfig, send_game};
+use source_core::{GameToSend, Origin, SendConfig, send_moves};
 use std::alloc::Global;
-use std::io::BufReader;
 use std::process::Abort;
 use std::time::Duration;
-use system_fakes::{MemoryPort, Passage};
-use system_io::{Output, Port, WriteFault};
+use system_io::WriteFault;
+use timeline::{Stream, System};
+use timeline_fakes::{MemorySystem, MemoryTimeline, Recorded};
 
 /// A game to mate at ply 4.
 const MATE: &str = "f2f3\ne7e5\ng2g4\nd8h4\n";
 
-/// A run: its input and what comes after that, how often a move is sent at most, what comes, the lines, the status, and what
+/// A run: its input and whether that fails at its end, how often a move is sent at most, what comes, the lines, the status, and what
 /// passes. That is `c` for a datagram that came, `q` where none came in time, `m` for a receive that failed, and for a datagram
 /// that is sent the digit of its move's number.
 struct Row {
     input: &'static str,
-    after: After,
+    fails: bool,
     tries: u32,
     words: &'static str,
     lines: &'static str,
     status: u8,
     passed: &'static str,
+}
+
+/// A run: its input, how often a move is sent at most, what comes, which of the calls that may fail does, the status, and all that happens.
+struct OrderRow {
+    input: &'static str,
+    tries: u32,
+    words: &'static str,
+    fails_at: Option<usize>,
+    status: Result<u8, WriteFault>,
+    happens: &'static str,
 }
 
 fn terms(origin: Origin, tries: u32) -> SendConfig {
@@ -40,36 +50,30 @@ fn terms(origin: Origin, tries: u32) -> SendConfig {
     }
 }
 
-/// A reader over an input.
-fn reader_of<'a>(
-    rt: &impl Abort,
-    alloc: Global,
-    input: &'a str,
-    after: After,
-) -> BufReader<Given<'a>, Global> {
-    let given = Given {
-        bytes: input.as_bytes(),
-        after,
-    };
-    BufReader::new(alloc, given).ok().expect(rt, "memory")
-}
-
 /// The position before the first move.
 fn first_position(rt: &impl Abort) -> Position {
     read(START.as_bytes()).expect(rt, START)
 }
 
-/// The end of a run over an input.
-fn sent<P: Port, W: Output>(
+/// The end of a run over a system's input.
+fn sent(
     rt: &impl Abort,
     alloc: Global,
-    reader: &mut BufReader<Given<'_>, Global>,
+    system: &MemorySystem<'_>,
+    timeline: &mut MemoryTimeline,
     terms: SendConfig,
-    port: &mut P,
-    out: &mut W,
 ) -> Result<u8, WriteFault> {
-    let first = first_position(rt);
-    match send_game(alloc, terms, first, reader, port, out) {
+    let game = GameToSend {
+        terms,
+        start: first_position(rt),
+        to: "127.0.0.1:7331,127.0.0.1:7332",
+    };
+    let port = system
+        .bind(timeline, alloc, "127.0.0.1:0", &[FIRST, SECOND])
+        .ok()
+        .expect(rt, "port");
+    let lines = system.input_lines(timeline, alloc).ok().expect(rt, "lines");
+    match send_moves(alloc, system, timeline, &game, lines, port) {
         Ok(ended) => Ok(ended.status()),
         Err(fault) => Err(fault),
     }
@@ -80,42 +84,86 @@ fn digit_of(datagram: &[u8]) -> u8 {
     datagram.get(24).copied().unwrap_or(9).wrapping_add(b'0')
 }
 
-/// The letter of what passed.
-fn letter_of(passage: &Passage) -> u8 {
-    match passage {
-        Passage::Came(_) => b'c',
-        Passage::Quiet(_) => b'q',
-        Passage::Missed => b'm',
-        Passage::Handed { bytes, .. } => digit_of(bytes),
+/// The letter of what passed at a port; none of anything else.
+fn passed_letter(event: &Recorded) -> Option<u8> {
+    match event {
+        Recorded::Came { .. } => Some(b'c'),
+        Recorded::Quiet { .. } => Some(b'q'),
+        Recorded::Missed => Some(b'm'),
+        Recorded::Sent { bytes, .. } => Some(digit_of(bytes)),
+        _ => None,
     }
 }
 
+/// The letter of what happened elsewhere: `l` for a line that was read, `e` for the input's end, `n` for a note, `w` for bytes that were
+/// written, `f` where they went out, and `r` where they were refused.
+fn other_letter(event: &Recorded) -> u8 {
+    match event {
+        Recorded::LineRead { line: Ok(None), .. } => b'e',
+        Recorded::LineRead { .. } => b'l',
+        Recorded::Noted { .. } => b'n',
+        Recorded::Wrote {
+            to: Stream::Output,
+            ..
+        } => b'w',
+        Recorded::Flushed { to: Stream::Output } => b'f',
+        Recorded::Refused { to: Stream::Output } => b'r',
+        _ => b'?',
+    }
+}
+
+/// All that happened.
+fn events_of<'a>(rt: &impl Abort, timeline: &'a MemoryTimeline) -> &'a [Recorded] {
+    timeline.events().expect(rt, "memory")
+}
+
 /// All that passed at a port has these letters.
-fn check_passed(rt: &impl Abort, alloc: Global, port: &MemoryPort<'_>, passed: &str) {
+fn check_passed(rt: &impl Abort, alloc: Global, timeline: &MemoryTimeline, passed: &str) {
     let mut letters = Vec::new(alloc);
-    for passage in port.passages().expect(rt, "memory") {
-        push_bytes(rt, &mut letters, &[letter_of(passage)]);
+    for event in events_of(rt, timeline) {
+        if let Some(letter) = passed_letter(event) {
+            push_bytes(rt, &mut letters, &[letter]);
+        }
     }
     check_bytes(rt, &letters, passed.as_bytes(), passed);
 }
 
-/// The lines and the status of a run of a row.
-fn check_run(rt: &impl Abort, alloc: Global, origin: Origin, row: &Row, port: &mut MemoryPort<'_>) {
-    let mut lines = Vec::new(alloc);
-    let mut reader = reader_of(rt, alloc, row.input, row.after);
-    let terms = terms(origin, row.tries);
-    let ended = sent(rt, alloc, &mut reader, terms, port, &mut lines);
-    check_bytes(rt, &lines, row.lines.as_bytes(), row.words);
-    check_same(rt, ended, Ok(row.status), row.words);
+/// All that happened behind the opening of the port and of the input has these letters.
+fn check_order(rt: &impl Abort, alloc: Global, timeline: &MemoryTimeline, happens: &str) {
+    let mut letters = Vec::new(alloc);
+    for event in events_of(rt, timeline).iter().skip(2) {
+        let letter = passed_letter(event).unwrap_or(other_letter(event));
+        push_bytes(rt, &mut letters, &[letter]);
+    }
+    check_bytes(rt, &letters, happens.as_bytes(), happens);
 }
 
-/// A run of a row.
+/// All that was written to the output.
+fn written(rt: &impl Abort, alloc: Global, timeline: &MemoryTimeline) -> Vec<u8> {
+    let mut lines = Vec::new(alloc);
+    for event in events_of(rt, timeline) {
+        if let Recorded::Wrote {
+            to: Stream::Output,
+            bytes,
+        } = event
+        {
+            push_bytes(rt, &mut lines, bytes);
+        }
+    }
+    lines
+}
+
+/// A run of a row: its lines, its status, and what passes.
 fn check_row(rt: &impl Abort, alloc: Global, origin: Origin, row: &Row) {
-    let coming = Coming::of(rt, alloc, STAMP, row.words);
-    let datagrams = coming.datagrams(rt, alloc);
-    let mut port = coming.port(alloc, &datagrams);
-    check_run(rt, alloc, origin, row, &mut port);
-    check_passed(rt, alloc, &port, row.passed);
+    let datagrams = datagrams_of(rt, alloc, row.words);
+    let turns = turns_of(rt, alloc, row.words, From::Nobody, &datagrams);
+    let system = system_of(row.input, row.fails, &turns);
+    let mut timeline = MemoryTimeline::new(alloc, None);
+    let ended = sent(rt, alloc, &system, &mut timeline, terms(origin, row.tries));
+    let lines = written(rt, alloc, &timeline);
+    check_bytes(rt, &lines, row.lines.as_bytes(), row.words);
+    check_same(rt, ended, Ok(row.status), row.words);
+    check_passed(rt, alloc, &timeline, row.passed);
 }
 
 fn check_rows(rt: &impl Abort, alloc: Global, origin: Origin, rows: &[Row]) {
@@ -129,7 +177,7 @@ fn check_rows(rt: &impl Abort, alloc: Global, origin: Origin, rows: &[Row]) {
 const ANSWERED: [Row; 4] = [
     Row {
         input: MATE,
-        after: After::End,
+        fails: false,
         tries: 9,
         words: "a1b1--b2a2--a3b3--a4A4b4B4",
         lines: "1 acked\n2 acked\n3 acked\nverdict 4 BlackMates\n",
@@ -138,7 +186,7 @@ const ANSWERED: [Row; 4] = [
     },
     Row {
         input: "f2f3\ne7e5\ng2g4\n",
-        after: After::End,
+        fails: false,
         tries: 9,
         words: "a3b3--",
         lines: "1 acked\n2 acked\n3 acked\nopen 3\n",
@@ -147,7 +195,7 @@ const ANSWERED: [Row; 4] = [
     },
     Row {
         input: MATE,
-        after: After::End,
+        fails: false,
         tries: 9,
         words: "a4A4b4B4",
         lines: "verdict 4 BlackMates\n",
@@ -156,7 +204,7 @@ const ANSWERED: [Row; 4] = [
     },
     Row {
         input: MATE,
-        after: After::End,
+        fails: false,
         tries: 9,
         words: "a3b3--a4b4--A4B4",
         lines: "1 acked\n2 acked\n3 acked\n4 acked\nverdict 4 BlackMates\n",
@@ -170,7 +218,7 @@ const ANSWERED: [Row; 4] = [
 const LOST: [Row; 5] = [
     Row {
         input: "f2f3\n",
-        after: After::End,
+        fails: false,
         tries: 9,
         words: "a1----b1--",
         lines: "1 acked\nopen 1\n",
@@ -179,7 +227,7 @@ const LOST: [Row; 5] = [
     },
     Row {
         input: "f2f3\ne7e5\n",
-        after: After::End,
+        fails: false,
         tries: 9,
         words: "a1a1x1??b1b1--a1b2x2--a2a1--",
         lines: "1 acked\n2 acked\nopen 2\n",
@@ -188,7 +236,7 @@ const LOST: [Row; 5] = [
     },
     Row {
         input: MATE,
-        after: After::End,
+        fails: false,
         tries: 9,
         words: "a1b1--a2b2--a3b3--a4b4A4--B4",
         lines: "1 acked\n2 acked\n3 acked\nverdict 4 BlackMates\n",
@@ -197,7 +245,7 @@ const LOST: [Row; 5] = [
     },
     Row {
         input: "f2f3\n",
-        after: After::End,
+        fails: false,
         tries: 3,
         words: "a1",
         lines: "refused lost\n",
@@ -206,7 +254,7 @@ const LOST: [Row; 5] = [
     },
     Row {
         input: "f2f3\n",
-        after: After::End,
+        fails: false,
         tries: 9,
         words: "a1!!",
         lines: "refused port\n",
@@ -219,7 +267,7 @@ const LOST: [Row; 5] = [
 const CLASHES: [Row; 4] = [
     Row {
         input: MATE,
-        after: After::End,
+        fails: false,
         tries: 9,
         words: "a2b2A2C2",
         lines: "disagree 2 BlackMates 2 Stalemate\n",
@@ -228,7 +276,7 @@ const CLASHES: [Row; 4] = [
     },
     Row {
         input: "f2f3\n",
-        after: After::End,
+        fails: false,
         tries: 9,
         words: "a1b1--C1A1",
         lines: "1 acked\ndisagree 1 Stalemate 1 BlackMates\n",
@@ -237,7 +285,7 @@ const CLASHES: [Row; 4] = [
     },
     Row {
         input: MATE,
-        after: After::End,
+        fails: false,
         tries: 9,
         words: "a1b1A1--",
         lines: "disagree 1 BlackMates\n",
@@ -246,7 +294,7 @@ const CLASHES: [Row; 4] = [
     },
     Row {
         input: "f2f3\n",
-        after: After::End,
+        fails: false,
         tries: 9,
         words: "a1b1--A1--",
         lines: "1 acked\ndisagree 1 BlackMates\n",
@@ -256,11 +304,11 @@ const CLASHES: [Row; 4] = [
 ];
 
 /// Inputs: none; one that ends in the middle of a line; lines that are no move; a move that isn't legal; a read that is refused
-/// in the middle of a line, and one for which memory is.
-const INPUTS: [Row; 8] = [
+/// in the middle of a line.
+const INPUTS: [Row; 7] = [
     Row {
         input: "",
-        after: After::End,
+        fails: false,
         tries: 9,
         words: "",
         lines: "open 0\n",
@@ -269,7 +317,7 @@ const INPUTS: [Row; 8] = [
     },
     Row {
         input: "f2f3\ne7e5",
-        after: After::End,
+        fails: false,
         tries: 9,
         words: "a2b2",
         lines: "1 acked\n2 acked\nopen 2\n",
@@ -278,7 +326,7 @@ const INPUTS: [Row; 8] = [
     },
     Row {
         input: "f2f3\ne7",
-        after: After::End,
+        fails: false,
         tries: 9,
         words: "a1b1",
         lines: "1 acked\nrefused move 1\n",
@@ -287,7 +335,7 @@ const INPUTS: [Row; 8] = [
     },
     Row {
         input: "f2f3 \n",
-        after: After::End,
+        fails: false,
         tries: 9,
         words: "",
         lines: "refused move 0\n",
@@ -296,7 +344,7 @@ const INPUTS: [Row; 8] = [
     },
     Row {
         input: "\nf2f3\n",
-        after: After::End,
+        fails: false,
         tries: 9,
         words: "",
         lines: "refused move 0\n",
@@ -305,7 +353,7 @@ const INPUTS: [Row; 8] = [
     },
     Row {
         input: "f2f3\ne2e4\n",
-        after: After::End,
+        fails: false,
         tries: 9,
         words: "a1b1",
         lines: "1 acked\nillegal 1\n",
@@ -314,19 +362,10 @@ const INPUTS: [Row; 8] = [
     },
     Row {
         input: "f2f3\ne7",
-        after: After::Fault,
+        fails: true,
         tries: 9,
         words: "a1b1",
         lines: "1 acked\nrefused files\n",
-        status: 1,
-        passed: "00ccq",
-    },
-    Row {
-        input: "f2f3\ne7",
-        after: After::NoMemory,
-        tries: 9,
-        words: "a1b1",
-        lines: "1 acked\nrefused memory\n",
         status: 1,
         passed: "00ccq",
     },
@@ -337,7 +376,7 @@ const INPUTS: [Row; 8] = [
 const NEW: [Row; 5] = [
     Row {
         input: MATE,
-        after: After::End,
+        fails: false,
         tries: 9,
         words: "a1b1--b2a2--a3b3--a4A4b4B4",
         lines: "1 acked\n2 acked\n3 acked\nverdict 4 BlackMates\n",
@@ -346,7 +385,7 @@ const NEW: [Row; 5] = [
     },
     Row {
         input: "f2f3\ne7e5\n",
-        after: After::End,
+        fails: false,
         tries: 9,
         words: "a1b2--",
         lines: "refused started 2 -\n",
@@ -355,7 +394,7 @@ const NEW: [Row; 5] = [
     },
     Row {
         input: MATE,
-        after: After::End,
+        fails: false,
         tries: 9,
         words: "a4A4b4B4",
         lines: "refused started 4 -\n",
@@ -364,7 +403,7 @@ const NEW: [Row; 5] = [
     },
     Row {
         input: MATE,
-        after: After::End,
+        fails: false,
         tries: 9,
         words: "a1b1--b3a2--",
         lines: "1 acked\nrefused started 3 -\n",
@@ -373,7 +412,7 @@ const NEW: [Row; 5] = [
     },
     Row {
         input: "f2f3\n",
-        after: After::End,
+        fails: false,
         tries: 9,
         words: "a1b1--A2--",
         lines: "1 acked\nrefused started 2 -\n",
@@ -393,12 +432,12 @@ fn sends_again_what_is_lost(rt: HostRuntime) {
 }
 
 #[test]
-fn tells_verdicts_that_differ(rt: HostRuntime) {
+fn prints_verdicts_that_differ(rt: HostRuntime) {
     check_rows(&rt, rt.alloc(), Origin::Any, &CLASHES);
 }
 
 #[test]
-fn tells_where_it_reads_no_legal_move(rt: HostRuntime) {
+fn prints_where_it_reads_no_legal_move(rt: HostRuntime) {
     check_rows(&rt, rt.alloc(), Origin::Any, &INPUTS);
 }
 
@@ -421,96 +460,147 @@ fn push_text(rt: &impl Abort, text: &mut String, more: &str) {
     assert!(rt; text.push_str(more).is_ok());
 }
 
-/// The run over an input, and the last bytes of its lines.
-fn check_end(rt: &impl Abort, alloc: Global, input: &str, port: &mut MemoryPort<'_>, end: &[u8]) {
-    let mut lines = Vec::new(alloc);
-    let mut reader = reader_of(rt, alloc, input, After::End);
-    let ended = sent(
-        rt,
-        alloc,
-        &mut reader,
-        terms(Origin::Any, 1),
-        port,
-        &mut lines,
-    );
-    check_same(rt, ended, Ok(1), "status");
-    check_same(rt, lines.ends_with(end), true, "the last lines");
-}
-
 #[test]
 fn refuses_a_move_too_many(rt: HostRuntime) {
-    let coming = Coming::of(&rt, rt.alloc(), STAMP, "a*b*");
-    let datagrams = coming.datagrams(&rt, rt.alloc());
-    let mut port = coming.port(rt.alloc(), &datagrams);
+    let datagrams = datagrams_of(&rt, rt.alloc(), "a*b*");
+    let turns = turns_of(&rt, rt.alloc(), "a*b*", From::Nobody, &datagrams);
     let input = long_input(&rt, rt.alloc());
+    let system = system_of(&input, false, &turns);
+    let mut timeline = MemoryTimeline::new(rt.alloc(), None);
+    let terms = terms(Origin::Any, 1);
+    let ended = sent(&rt, rt.alloc(), &system, &mut timeline, terms);
+    let lines = written(&rt, rt.alloc(), &timeline);
+    check_same(&rt, ended, Ok(1), "status");
     let end = b"\n4096 acked\nrefused TooLong\n";
-    check_end(&rt, rt.alloc(), &input, &mut port, end);
-    check_passed(&rt, rt.alloc(), &port, "00ccq");
+    check_same(&rt, lines.ends_with(end), true, "the last lines");
+    check_passed(&rt, rt.alloc(), &timeline, "00ccq");
 }
 
-/// A run whose writer fails at a line.
-fn check_failing(rt: &impl Abort, alloc: Global, fails_at: u32, port: &mut MemoryPort<'_>) {
-    let mut reader = reader_of(rt, alloc, MATE, After::End);
-    let ended = sent(
-        rt,
-        alloc,
-        &mut reader,
-        terms(Origin::Any, 9),
-        port,
-        &mut Failing::at(fails_at),
-    );
-    check_same(rt, ended, Err(WriteFault::Io), "a writer that fails");
+/// A whole game; an arbiter that doesn't answer at first, and one that never does.
+const ORDERS: [OrderRow; 3] = [
+    OrderRow {
+        input: MATE,
+        tries: 9,
+        words: "a1b1--b2a2--a3b3--a4A4b4B4",
+        fails_at: None,
+        status: Ok(0),
+        happens: "l00ccqwfl11ccqwfl22ccqwfl33ccccwf",
+    },
+    OrderRow {
+        input: "f2f3\n",
+        tries: 9,
+        words: "a1----b1--",
+        fails_at: None,
+        status: Ok(0),
+        happens: "l00cqn00q00cqwfe00qwf",
+    },
+    OrderRow {
+        input: "f2f3\ne7e5\n",
+        tries: 3,
+        words: "a1",
+        fails_at: None,
+        status: Ok(1),
+        happens: "l00cqn00q00qwf",
+    },
+];
+
+/// An output that fails at the first line, where it is written and where it is to go out; at the third; and at the last.
+const STOPS: [OrderRow; 4] = [
+    OrderRow {
+        input: MATE,
+        tries: 9,
+        words: "a1b1--a2b2--a3b3--a4A4b4B4",
+        fails_at: Some(5),
+        status: Err(WriteFault::Io),
+        happens: "l00ccqwr",
+    },
+    OrderRow {
+        input: MATE,
+        tries: 9,
+        words: "a1b1--a2b2--a3b3--a4A4b4B4",
+        fails_at: Some(6),
+        status: Err(WriteFault::Io),
+        happens: "l00ccqwr",
+    },
+    OrderRow {
+        input: MATE,
+        tries: 9,
+        words: "a1b1--a2b2--a3b3--a4A4b4B4",
+        fails_at: Some(17),
+        status: Err(WriteFault::Io),
+        happens: "l00ccqwfl11ccqwfl22ccqwr",
+    },
+    OrderRow {
+        input: MATE,
+        tries: 9,
+        words: "a1b1--a2b2--a3b3--a4A4b4B4",
+        fails_at: Some(24),
+        status: Err(WriteFault::Io),
+        happens: "l00ccqwfl11ccqwfl22ccqwfl33ccccwr",
+    },
+];
+
+/// The order of all that happens in a run of a row.
+fn check_ordered(rt: &impl Abort, alloc: Global, row: &OrderRow) {
+    let datagrams = datagrams_of(rt, alloc, row.words);
+    let turns = turns_of(rt, alloc, row.words, From::Arbiters, &datagrams);
+    let system = system_of(row.input, false, &turns);
+    let mut timeline = MemoryTimeline::new(alloc, row.fails_at);
+    let terms = terms(Origin::Any, row.tries);
+    let ended = sent(rt, alloc, &system, &mut timeline, terms);
+    check_order(rt, alloc, &timeline, row.happens);
+    check_same(rt, ended, row.status, row.happens);
 }
 
-/// No move is sent after the line at which the writer failed.
-fn check_stopped(rt: &impl Abort, alloc: Global, fails_at: u32, passed: &str) {
-    let coming = Coming::of(rt, alloc, STAMP, "a1b1--a2b2--a3b3--a4A4b4B4");
-    let datagrams = coming.datagrams(rt, alloc);
-    let mut port = coming.port(alloc, &datagrams);
-    check_failing(rt, alloc, fails_at, &mut port);
-    check_passed(rt, alloc, &port, passed);
-}
-
+/// Each line goes out before the next line of the input is read.
 #[test]
-fn stops_where_the_writer_fails(rt: HostRuntime) {
-    check_stopped(&rt, rt.alloc(), 0, "00ccq");
-    check_stopped(&rt, rt.alloc(), 2, "00ccq11ccq22ccq");
-    check_stopped(&rt, rt.alloc(), 3, "00ccq11ccq22ccq33cccc");
+fn does_all_in_order(rt: HostRuntime) {
+    for row in &ORDERS {
+        check_ordered(&rt, rt.alloc(), row);
+    }
 }
 
-/// For how many milliseconds each datagram is awaited in a run over one move.
-fn check_waits(rt: &impl Abort, alloc: Global, port: MemoryPort<'_>, waits: &[u8]) {
-    let mut timed = Timed {
-        port,
-        waits: Vec::new(alloc),
-    };
-    let mut reader = reader_of(rt, alloc, "f2f3\n", After::End);
-    let ended = sent(
-        rt,
-        alloc,
-        &mut reader,
-        terms(Origin::Any, 9),
-        &mut timed,
-        &mut Vec::new(alloc),
-    );
+/// No line is read and no move is sent after the line at which the output failed.
+#[test]
+fn stops_where_the_output_fails(rt: HostRuntime) {
+    for row in &STOPS {
+        check_ordered(&rt, rt.alloc(), row);
+    }
+}
+
+/// For how many milliseconds a datagram was awaited in vain, each time, in a run over one move.
+fn check_waits(rt: &impl Abort, alloc: Global, words: &str, waits: &[u8]) {
+    let datagrams = datagrams_of(rt, alloc, words);
+    let turns = turns_of(rt, alloc, words, From::Nobody, &datagrams);
+    let system = system_of("f2f3\n", false, &turns);
+    let mut timeline = MemoryTimeline::new(alloc, None);
+    let ended = sent(rt, alloc, &system, &mut timeline, terms(Origin::Any, 9));
     check_same(rt, ended, Ok(0), "status");
-    check_bytes(rt, &timed.waits, waits, "waits");
+    check_bytes(rt, &waited(rt, alloc, &timeline), waits, "waits");
+}
+
+/// The milliseconds of each wait in vain; above 255 they are 255.
+fn waited(rt: &impl Abort, alloc: Global, timeline: &MemoryTimeline) -> Vec<u8> {
+    let mut waits = Vec::new(alloc);
+    for event in events_of(rt, timeline) {
+        if let Recorded::Quiet { wait } = event {
+            let millis = u8::try_from(wait.as_millis()).unwrap_or(255);
+            push_bytes(rt, &mut waits, &[millis]);
+        }
+    }
+    waits
 }
 
 /// As long as the terms say, one millisecond here, and two for the verdicts once both have acknowledged the move.
 #[test]
 fn awaits_as_long_as_it_is_to(rt: HostRuntime) {
-    let coming = Coming::of(&rt, rt.alloc(), STAMP, "a1b1----");
-    let datagrams = coming.datagrams(&rt, rt.alloc());
-    let port = coming.port(rt.alloc(), &datagrams);
-    check_waits(&rt, rt.alloc(), port, &[1, 1, 2, 1]);
+    check_waits(&rt, rt.alloc(), "a1b1----", &[2, 1]);
+    check_waits(&rt, rt.alloc(), "--a1b1----", &[1, 2, 1]);
 }
 
 /// Each try waits twice as long as the one before it, up to eight times as long as the first.
 #[test]
 fn waits_longer_from_try_to_try(rt: HostRuntime) {
-    let coming = Coming::of(&rt, rt.alloc(), STAMP, "----------a1b1----");
-    let datagrams = coming.datagrams(&rt, rt.alloc());
-    let port = coming.port(rt.alloc(), &datagrams);
-    check_waits(&rt, rt.alloc(), port, &[1, 2, 4, 8, 8, 8, 8, 2, 1]);
+    let words = "------------a1b1----";
+    check_waits(&rt, rt.alloc(), words, &[1, 2, 4, 8, 8, 8, 2, 1]);
 }
