@@ -1,0 +1,2 @@
+-- Intermediate results of functions. Private clauses alone cite them.
+pub mod Steps

@@ -1,0 +1,5 @@
+pub mod Drafts
+pub mod Turns
+pub mod Orders
+pub mod Openings
+pub mod Inside
