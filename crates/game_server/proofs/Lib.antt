@@ -1,5 +1,6 @@
 pub mod Ports
 pub mod Saying
+pub mod Backing
 pub mod Earning
 pub mod Stepping
 pub mod TurnLaws

@@ -21,9 +21,11 @@ use Rattle.timeline.proofs.EventLaws.{adds_more, adds_none}
 use Rattle.game_server.specs.Drafts.{DraftView, draft_facts, settled}
 use Rattle.game_server.specs.Openings.{NoArbiter, NoRoom, Opened, OpensAndServes, OpensGame, Refused, Served, Unput, Unstarted, found_draft, put_events, served_as, unstarted_by}
 use Rattle.game_server.specs.Orders.{EachEarned, EarnsAll, IsThere}
+use Rattle.game_server.specs.Places.{one_file}
 use Rattle.game_server.specs.Turns.{Serves, ServesSpan, address_of, request, request_sent, turn_events, with_last}
 use Rattle.game_server.specs.Inside.Steps.{NoArbiterOver, OpenedOver, OpensOver as OpensOverDraft, UnputOver}
-use Rattle.game_server.proofs.Earning.{acks_are_earned, each_join, request_earned, there_later}
+use Rattle.game_server.proofs.Backing.{each_join, request_earned, there_later}
+use Rattle.game_server.proofs.Earning.{acks_are_earned}
 use Rattle.game_server.proofs.Stepping.{err_not_ok}
 
 -- ---- what opening an arbiter ensures
@@ -72,21 +74,21 @@ module _ {T P F K S L : Type 0} (o : Outside T P F K S L) (path : List ℕ) (set
 
 -- ---- what opening sends is earned, and what the arbiter goes on from is there
 
-found_earned : (path : List ℕ) (got : Result (Option (List ℕ)) ReadFault) (before more : List Event) → EachEarned path (before ++ Found path got ∷ []) more → EachEarned path before (Found path got ∷ more)
+found_earned : (path : List ℕ) (got : Result (Option (List ℕ)) ReadFault) (before more : List Event) → EachEarned (one_file path) (before ++ Found path got ∷ []) more → EachEarned (one_file path) before (Found path got ∷ more)
 found_earned path got before more h = ((λ dest b m e s. absurd cc), h)
 
-put_earned : (path : List ℕ) (to_put : Option (List ℕ)) (done : Bool) (before : List Event) → EachEarned path before (put_events path to_put done)
+put_earned : (path : List ℕ) (to_put : Option (List ℕ)) (done : Bool) (before : List Event) → EachEarned (one_file path) before (put_events path to_put done)
 put_earned path None done before = tt
 put_earned path (Some bytes) done before = ((λ dest b m e s. absurd cc), tt)
 
 -- opening earns what it sends, which is nothing
-opening_earned : (path : List ℕ) (setup : SetupView) (events : List Event) (told : Result (Moment DraftView) OpenFault) (before : List Event) → OpensGame path setup events told → EachEarned path before events
-opening_earned path setup events told before (NoRoom e t) = subst (EachEarned path before) (sym e) tt
-opening_earned path setup events told before (Unstarted fault e t) = subst (EachEarned path before) (sym e) (found_earned path (Err fault) before [] tt)
-opening_earned path setup events told before (NoArbiter got after fault is e t) = subst (EachEarned path before) (sym e) (found_earned path (Ok got) before [] tt)
-opening_earned path setup events told before (Unput got after v bytes is p e t) = subst (EachEarned path before) (sym e) (found_earned path (Ok got) before (put_events path (Some bytes) false) (put_earned path (Some bytes) false (before ++ Found path (Ok got) ∷ [])))
+opening_earned : (path : List ℕ) (setup : SetupView) (events : List Event) (told : Result (Moment DraftView) OpenFault) (before : List Event) → OpensGame path setup events told → EachEarned (one_file path) before events
+opening_earned path setup events told before (NoRoom e t) = subst (EachEarned (one_file path) before) (sym e) tt
+opening_earned path setup events told before (Unstarted fault e t) = subst (EachEarned (one_file path) before) (sym e) (found_earned path (Err fault) before [] tt)
+opening_earned path setup events told before (NoArbiter got after fault is e t) = subst (EachEarned (one_file path) before) (sym e) (found_earned path (Ok got) before [] tt)
+opening_earned path setup events told before (Unput got after v bytes is p e t) = subst (EachEarned (one_file path) before) (sym e) (found_earned path (Ok got) before (put_events path (Some bytes) false) (put_earned path (Some bytes) false (before ++ Found path (Ok got) ∷ [])))
 opening_earned path setup events told before (Opened got after v is e t) =
-    subst (EachEarned path before) (sym e) (found_earned path (Ok got) before (put_events path after.to_put true) (put_earned path after.to_put true (before ++ Found path (Ok got) ∷ [])))
+    subst (EachEarned (one_file path) before) (sym e) (found_earned path (Ok got) before (put_events path after.to_put true) (put_earned path after.to_put true (before ++ Found path (Ok got) ∷ [])))
 
 begun_there : (path : List ℕ) (got : Option (List ℕ)) (after : DraftView) (before : List Event) → IsBegun (found_draft got) after → IsThere path (before ++ Found path (Ok got) ∷ put_events path after.to_put true) after.kept
 begun_there path got after before (inl same) =
@@ -115,17 +117,17 @@ opened_there path setup events start before (Opened got after v is e t) =
 -- ---- a whole run
 
 module _ {T P F K S L : Type 0} (o : Outside T P F K S L) (path : List ℕ) (setup : SetupView) where
-  pub earns_refused : (a b : T) (fault : OpenFault) → AddsSome o a b (λ events. OpensGame path setup events (Err fault)) → EarnsAll o path a b
+  pub earns_refused : (a b : T) (fault : OpenFault) → AddsSome o a b (λ events. OpensGame path setup events (Err fault)) → EarnsAll o (one_file path) a b
   earns_refused a b fault h = (h.0, h.1, λ before. opening_earned path setup h.0 (Err fault) before h.2)
 
-  pub earns_served : (span : Span) (port : PortState) (start last : Moment DraftView) (a b c : T) (result : Result ℕ WriteFault) → IsKept start.keeper.kept start.arbiter → AddsSome o a b (λ events. OpensGame path setup events (Ok start)) → ServesSpan o span path port start last b c result → EarnsAll o path a c
+  pub earns_served : (span : Span) (port : PortState) (start last : Moment DraftView) (a b c : T) (result : Result ℕ WriteFault) → IsKept start.keeper.kept start.arbiter → AddsSome o a b (λ events. OpensGame path setup events (Ok start)) → ServesSpan o span path port start last b c result → EarnsAll o (one_file path) a c
   earns_served span port start last a b c result kept h s =
       let first : List Event = request_sent (address_of port) (request span.fetch start.arbiter) in
       let turns : List Event = flat_map (turn_events path port.to) (with_last s.run.turns s.run.last) in (
         h.0 ++ (first ++ turns),
         adds_more o a b c h.0 (first ++ turns) h.1 s.run.happens,
-        λ before. each_join path before h.0 (first ++ turns) (opening_earned path setup h.0 (Ok start) before h.2)
-            (each_join path (before ++ h.0) first turns (request_earned path (before ++ h.0) span.fetch (address_of port) start.arbiter s.spelled)
+        λ before. each_join (one_file path) before h.0 (first ++ turns) (opening_earned path setup h.0 (Ok start) before h.2)
+            (each_join (one_file path) (before ++ h.0) first turns (request_earned (one_file path) (before ++ h.0) span.fetch (address_of port) start.arbiter s.spelled)
             (acks_are_earned path port.to start last s.run.turns s.run.last ((before ++ h.0) ++ first) kept (there_later path (before ++ h.0) first start.keeper.kept (opened_there path setup h.0 start before h.2)) s.run.going s.run.in_turn)),
       )
 
@@ -148,3 +150,15 @@ module _ {T P F K S L : Type 0} (o : Outside T P F K S L) (path : List ℕ) (set
 
   pub over_refused : (a : T) (after : DraftView) (fault : OpenFault) → IsOpening draft_facts setup draft after (Err fault) → told ≡ Err fault → AddsSome o a a (λ events. OpensOverDraft path setup draft events told)
   over_refused a after fault is t = ([], adds_none o a, NoArbiterOver after fault is refl t)
+
+-- ---- a game that is opened and served
+
+module _ {T P F K S L : Type 0} (o : Outside T P F K S L) (span : Span) (path path' : List ℕ) (setup : SetupView) (port : PortState) (start last : Moment DraftView) (a b c : T) (ended : Result ℕ WriteFault) (same : path' ≡ path) (h : AddsSome o a b (λ events. OpensGame path setup events (Ok start))) (s : ServesSpan o span path' port start last b c ended) where
+  at_path : ServesSpan o span path port start last b c ended
+  at_path = subst (λ (p : List ℕ). ServesSpan o span p port start last b c ended) same s
+
+  pub run_served : (result : Result (Result ℕ OpenFault) WriteFault) → result ≡ served_as ended → OpensAndServes o span path setup port a c result
+  run_served result is = Served start last b ended h at_path is
+
+  pub run_earned : IsKept start.keeper.kept start.arbiter → EarnsAll o (one_file path) a c
+  run_earned kept = earns_served o path setup span port start last a b c ended kept h at_path

@@ -8,6 +8,7 @@ ghost use Rattle.system_io.specs.KeptFiles.{bytes_of};
 ghost use Rattle.timeline.specs.Outsides.{AddsSome};
 ghost use Rattle.game_server.specs.Openings.{OpensGame, found_draft, opened_as, unstarted_by};
 ghost use Rattle.game_server.specs.Orders.{EarnsAll};
+ghost use Rattle.game_server.specs.Places.{one_file};
 ghost use Rattle.game_server.specs.Turns.{OutputFails};
 ghost use Rattle.game_server.specs.Openings.{ServesTask};
 ghost use Rattle.game_server.specs.Inside.Steps.{OpensOver};
@@ -111,7 +112,7 @@ pub fn open_and_serve<S: System>(
     port: &mut S::Port,
 ) -> Result<Result<u8, OpenFault>, WriteFault>
     ensures run { ServesTask (S.outside system.now) task.entry port.old timeline.old timeline.new result }
-    ensures earned { EarnsAll (S.outside system.now) ((S.outside system.now).path task.entry.file) timeline.old timeline.new }
+    ensures earned { EarnsAll (S.outside system.now) (one_file ((S.outside system.now).path task.entry.file)) timeline.old timeline.new }
     ensures cause { OnErr result (OutputFails (S.outside system.now)) }
 {
     let FileTask { setup, file, span } = task;
