@@ -14,30 +14,28 @@ use Rattle.system_io.specs.declared.recipient.Recipient.{Recipient}
 use Rattle.timeline.specs.Events.{Event, Sent}
 use Rattle.timeline.specs.Outsides.{AddsSome, Outside}
 use Rattle.game_server.specs.Drafts.{DraftView}
-use Rattle.game_server.specs.Places.{Places, WasKept, WasPut, one_file}
+use Rattle.game_server.specs.Places.{Held, Places, WasPut, kept_by, one_file}
 use Rattle.game_server.specs.Turns.{GoesOnAfter, InTurns, Turn, turn_events, with_last}
 
--- so far a record of this game with at least so many moves
-abbrev pub HasMoves : Places → List Event → Stamp → ℕ → Type 0
-HasMoves places before stamp count =
-    (bytes : List ℕ) × (r : Record) × WasKept (places stamp) before stamp bytes × SpellsRecord bytes r × (r.stamp ≡ stamp) × (count ≤ length r.moves)
+-- a record of this game with at least so many moves is held
+abbrev pub HasMoves : Held → Stamp → ℕ → Type 0
+HasMoves held stamp count = (bytes : List ℕ) × (r : Record) × held stamp bytes × SpellsRecord bytes r × (r.stamp ≡ stamp) × (count ≤ length r.moves)
 
--- so far a record of this game with so many moves and this verdict
-abbrev pub HasVerdict : Places → List Event → Stamp → ℕ → Verdicts → Type 0
-HasVerdict places before stamp ply verdict =
-    (bytes : List ℕ) × (r : Record) × WasKept (places stamp) before stamp bytes × SpellsRecord bytes r × (r.stamp ≡ stamp) × (length r.moves ≡ ply) × (r.verdict ≡ Some verdict)
+-- a record of this game with so many moves and this verdict is held
+abbrev pub HasVerdict : Held → Stamp → ℕ → Verdicts → Type 0
+HasVerdict held stamp ply verdict = (bytes : List ℕ) × (r : Record) × held stamp bytes × SpellsRecord bytes r × (r.stamp ≡ stamp) × (length r.moves ≡ ply) × (r.verdict ≡ Some verdict)
 
--- what a message says of a record was kept or found so far; a move and a request say nothing of it
-abbrev pub IsBacked : Places → List Event → Message → Type 0
-IsBacked places before (Move stamp sender number m) = Unit {0}
-IsBacked places before (Ack stamp who count) = HasMoves places before stamp count
-IsBacked places before (Verdict stamp who ply verdict) = HasVerdict places before stamp ply verdict
-IsBacked places before (Fetch stamp who number wanted) = Unit {0}
+-- what a message says of a record is held; a move and a request say nothing of it
+abbrev pub IsBacked : Held → Message → Type 0
+IsBacked held (Move stamp sender number m) = Unit {0}
+IsBacked held (Ack stamp who count) = HasMoves held stamp count
+IsBacked held (Verdict stamp who ply verdict) = HasVerdict held stamp ply verdict
+IsBacked held (Fetch stamp who number wanted) = Unit {0}
 
 -- this event comes after these: where it sends a message, that was backed before
 abbrev pub IsEarned : Places → List Event → Event → Type 0
 IsEarned places before event =
-    (to : SocketAddr) (bytes : List ℕ) (m : Message) → event ≡ Sent to bytes → SpellsMessage bytes m → IsBacked places before m
+    (to : SocketAddr) (bytes : List ℕ) (m : Message) → event ≡ Sent to bytes → SpellsMessage bytes m → IsBacked (kept_by places before) m
 
 -- so it is of each event, with all that came before it
 abbrev pub EachEarned : Places → List Event → List Event → Type 0

@@ -26,6 +26,10 @@ abbrev pub WasKept : KeptAt → List Event → List ℕ → List ℕ → Type 0
 WasKept (InFile path) before stamp bytes = WasPut path before bytes
 WasKept (InStore path) before stamp bytes = WasCommitted path before stamp bytes ⊎ Contains before (RecordSought path stamp (Some bytes))
 
+-- which bytes, of the game with which stamp
+abbrev pub Held : Type 1
+Held = List ℕ → List ℕ → Type 0
+
 -- where the record of each game is kept, by its stamp
 abbrev pub Places : Type 0
 Places = List ℕ → KeptAt
@@ -33,3 +37,7 @@ Places = List ℕ → KeptAt
 -- that of one game is in a file
 abbrev pub one_file : List ℕ → Places
 one_file path = λ stamp. InFile path
+
+-- what was kept so far
+abbrev pub kept_by : Places → List Event → Held
+kept_by places before = λ stamp bytes. WasKept (places stamp) before stamp bytes
