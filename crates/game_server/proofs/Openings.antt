@@ -10,7 +10,7 @@ use Rattle.arbiter_core.specs.Setups.{IsGood, SetupView}
 use Rattle.arbiter_core.specs.Keeping.{KeeperFacts}
 use Rattle.arbiter_core.specs.Views.{View}
 use Rattle.arbiter_core.specs.declared.fault.OpenFault.{OpenFault}
-use Rattle.arbiter_core.specs.declared.fault.OpenFault.TheVariants as open
+use Rattle.arbiter_core.specs.declared.fault.OpenFault.TheVariants as open_fault
 use Rattle.arbiter_server.proofs.OpenedLaws.{good_unless}
 use Rattle.arbiter_server.specs.declared.serving.Span.{Span}
 use Rattle.system_io.specs.declared.output.WriteFault.{WriteFault}
@@ -30,7 +30,7 @@ use Rattle.game_server.proofs.Stepping.{err_not_ok}
 
 -- ---- what opening an arbiter ensures
 
-pub is_opening : {K : Type 0} (facts : KeeperFacts K) (setup : SetupView) (before now : K) (told : OpenResult) → OpensIfGood facts setup before now told → ((IsGood setup → ⊥) → IfErr told (λ fault. fault ≡ open.BadSetup) × IsErr told × (now ≡ before)) → IsOpening facts setup before now told
+pub is_opening : {K : Type 0} (facts : KeeperFacts K) (setup : SetupView) (before now : K) (told : OpenResult) → OpensIfGood facts setup before now told → ((IsGood setup → ⊥) → IfErr told (λ fault. fault ≡ open_fault.BadSetup) × IsErr told × (now ≡ before)) → IsOpening facts setup before now told
 is_opening facts setup before now (Ok v) good bad = record { good = good; bad = λ g. absurd (let e = (bad g).1 in cc) }
 is_opening facts setup before now (Err fault) good bad = record { good = good; bad = λ g. (ap Err (bad g).0, (bad g).2) }
 
@@ -69,7 +69,7 @@ module _ {T P F K S L : Type 0} (o : Outside T P F K S L) (path : List ℕ) (set
   pub opens_unstarted : (a b : T) (fault : ReadFault) → told ≡ Err (unstarted_by fault) → Adds o a b (Found path (Err fault) ∷ []) → AddsSome o a b (λ events. OpensGame path setup events told)
   opens_unstarted a b fault is p = (Found path (Err fault) ∷ [], p, Unstarted fault refl is)
 
-  pub opens_nothing : (a : T) → told ≡ Err open.OutOfMemory → AddsSome o a a (λ events. OpensGame path setup events told)
+  pub opens_nothing : (a : T) → told ≡ Err open_fault.OutOfMemory → AddsSome o a a (λ events. OpensGame path setup events told)
   opens_nothing a is = ([], adds_none o a, NoRoom refl is)
 
 -- ---- what opening sends is earned, and what the arbiter goes on from is there
@@ -137,7 +137,7 @@ module _ {T P F K S L : Type 0} (o : Outside T P F K S L) (path : List ℕ) (set
   pub over_kept : (a b : T) (after new : DraftView) (v : View) → IsOpening draft_facts setup draft after (Ok v) → Adds o a b (put_events path after.to_put true) → new ≡ settled after → told ≡ Ok (moment v new) → AddsSome o a b (λ events. OpensOverDraft path setup draft events told)
   over_kept a b after new v is p same t = (put_events path after.to_put true, p, OpenedOver after v is refl (t ∙ ap (λ (d : DraftView). Ok (moment v d)) same))
 
-  pub over_unput : {A E : Type 0} (a b : T) (after : DraftView) (v : View) (r : Result A E) (e : E) → IsOpening draft_facts setup draft after (Ok v) → (after.to_put ≡ None → IsOk r) → r ≡ Err e → Adds o a b (put_events path after.to_put (is_done r)) → told ≡ Err open.KeeperFailed → AddsSome o a b (λ events. OpensOverDraft path setup draft events told)
+  pub over_unput : {A E : Type 0} (a b : T) (after : DraftView) (v : View) (r : Result A E) (e : E) → IsOpening draft_facts setup draft after (Ok v) → (after.to_put ≡ None → IsOk r) → r ≡ Err e → Adds o a b (put_events path after.to_put (is_done r)) → told ≡ Err open_fault.KeeperFailed → AddsSome o a b (λ events. OpensOverDraft path setup draft events told)
   over_unput a b after v r e is ok failed p t = by after.to_put refl
     where
       by : (k : Option (List ℕ)) → after.to_put ≡ k → AddsSome o a b (λ events. OpensOverDraft path setup draft events told)

@@ -5,7 +5,7 @@ use Rattle.arbiter_core.specs.Opens.{IsOpening}
 use Rattle.arbiter_core.specs.Setups.{SetupView, setup_view}
 use Rattle.arbiter_core.specs.Views.{View}
 use Rattle.arbiter_core.specs.declared.fault.OpenFault.{OpenFault}
-use Rattle.arbiter_core.specs.declared.fault.OpenFault.TheVariants as open
+use Rattle.arbiter_core.specs.declared.fault.OpenFault.TheVariants as open_fault
 use Rattle.system_io.specs.declared.output.WriteFault.{WriteFault}
 use Rattle.system_io.specs.declared.reading.ReadFault.{ReadFault}
 use Rattle.system_io.specs.declared.reading.ReadFault.TheVariants as read
@@ -19,8 +19,8 @@ use Rattle.arbiter_server.specs.declared.serving.Span.{Span}
 
 -- why no arbiter is opened over a file that can't be read
 abbrev pub unstarted_by : ReadFault → OpenFault
-unstarted_by read.Unreadable = open.KeeperFailed
-unstarted_by read.OutOfMemory = open.OutOfMemory
+unstarted_by read.Unreadable = open_fault.KeeperFailed
+unstarted_by read.OutOfMemory = open_fault.OutOfMemory
 
 -- nothing is to be put of what a start found
 abbrev pub found_draft : Option (List ℕ) → DraftView
@@ -34,7 +34,7 @@ put_events path (Some bytes) done = Put path bytes done ∷ []
 -- A game of this setup is opened over the file at a path, or refused.
 pub data OpensGame (path : List ℕ) (setup : SetupView) (events : List Event) (told : Result (Moment DraftView) OpenFault) : Type 0 where
   -- memory for its record was refused, and nothing was done
-  NoRoom : events ≡ [] → told ≡ Err open.OutOfMemory → OpensGame path setup events told
+  NoRoom : events ≡ [] → told ≡ Err open_fault.OutOfMemory → OpensGame path setup events told
   -- the file can't be read
   Unstarted : (fault : ReadFault) → events ≡ Found path (Err fault) ∷ [] → told ≡ Err (unstarted_by fault) → OpensGame path setup events told
   -- over what was found no arbiter can be opened, and nothing is put
@@ -42,7 +42,7 @@ pub data OpensGame (path : List ℕ) (setup : SetupView) (events : List Event) (
       → events ≡ Found path (Ok got) ∷ [] → told ≡ Err fault → OpensGame path setup events told
   -- an arbiter was opened, whose first record couldn't be put
   Unput : (got : Option (List ℕ)) (after : DraftView) (v : View) (bytes : List ℕ) → IsOpening draft_facts setup (found_draft got) after (Ok v) → after.to_put ≡ Some bytes
-      → events ≡ Found path (Ok got) ∷ Put path bytes false ∷ [] → told ≡ Err open.KeeperFailed → OpensGame path setup events told
+      → events ≡ Found path (Ok got) ∷ Put path bytes false ∷ [] → told ≡ Err open_fault.KeeperFailed → OpensGame path setup events told
   -- it is open, and its first record was put where nothing was found
   Opened : (got : Option (List ℕ)) (after : DraftView) (v : View) → IsOpening draft_facts setup (found_draft got) after (Ok v)
       → events ≡ Found path (Ok got) ∷ put_events path after.to_put true → told ≡ Ok (moment v (settled after)) → OpensGame path setup events told

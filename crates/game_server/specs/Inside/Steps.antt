@@ -6,7 +6,7 @@ use Rattle.arbiter_core.specs.Opens.{IsOpening}
 use Rattle.arbiter_core.specs.Setups.{SetupView}
 use Rattle.arbiter_core.specs.Views.{View}
 use Rattle.arbiter_core.specs.declared.fault.OpenFault.{OpenFault}
-use Rattle.arbiter_core.specs.declared.fault.OpenFault.TheVariants as open
+use Rattle.arbiter_core.specs.declared.fault.OpenFault.TheVariants as open_fault
 use Rattle.arbiter_server.specs.ServedLines.{heard_line as report_line}
 use Rattle.arbiter_server.specs.declared.datagram_report.DatagramReport.{DatagramReport}
 use Rattle.system_io.specs.declared.output.WriteFault.{WriteFault}
@@ -78,5 +78,5 @@ TakesTurnAt o game port after t t' result = TakesTurn o (o.path game.file) (o.po
 -- an arbiter was opened over a draft of what was found, and what it had to put was put; or it was refused
 pub data OpensOver (path : List ℕ) (setup : SetupView) (found : DraftView) (events : List Event) (told : Result (Moment DraftView) OpenFault) : Type 0 where
   NoArbiterOver : (after : DraftView) (fault : OpenFault) → IsOpening draft_facts setup found after (Err fault) → events ≡ [] → told ≡ Err fault → OpensOver path setup found events told
-  UnputOver : (after : DraftView) (v : View) (bytes : List ℕ) → IsOpening draft_facts setup found after (Ok v) → after.to_put ≡ Some bytes → events ≡ Put path bytes false ∷ [] → told ≡ Err open.KeeperFailed → OpensOver path setup found events told
+  UnputOver : (after : DraftView) (v : View) (bytes : List ℕ) → IsOpening draft_facts setup found after (Ok v) → after.to_put ≡ Some bytes → events ≡ Put path bytes false ∷ [] → told ≡ Err open_fault.KeeperFailed → OpensOver path setup found events told
   OpenedOver : (after : DraftView) (v : View) → IsOpening draft_facts setup found after (Ok v) → events ≡ put_events path after.to_put true → told ≡ Ok (moment v (settled after)) → OpensOver path setup found events told
