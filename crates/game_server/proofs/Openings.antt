@@ -1,5 +1,5 @@
 -- A game over its file, from its start on.
-use Rattle.std.proofs.Common.{◌≡◌, ◌⊎◌, inl, inr, ◌++◌, ◌∷◌, [], ◌∙◌, ℕ, true, Bool, List, Option, Some, None, refl, sym, ap, subst, arith, append_assoc}
+use Rattle.std.proofs.Common.{◌≡◌, ◌⊎◌, inl, inr, ◌++◌, ◌∷◌, [], ◌∙◌, ℕ, true, false, Bool, List, Option, Some, None, refl, sym, ap, subst, arith, append_assoc}
 use Rattle.std.specs.Prelude.{Result, Ok, Err, IfErr, IsErr, IsOk}
 use Rattle.std.specs.List.{Contains, flat_map}
 use Rattle.std.proofs.lemmas.List.Elements.{Contains-append_left, Contains-append_right}
@@ -53,23 +53,23 @@ begun setup old new v h = let opens = h.good (good_unless setup (λ bad. let e =
 
 -- ---- behind a start
 
-found_over : (path : List ℕ) (setup : SetupView) (got : Option (List ℕ)) (more : List Event) (told : Result (Moment DraftView) OpenFault) → OpensOverDraft path setup (found_draft got) more told → OpensGame path setup (Found path (Ok got) ∷ more) told
+found_over : (path : List ℕ) (setup : SetupView) (got : Option (List ℕ)) (more : List Event) (told : Result (Moment DraftView) OpenFault) → OpensOverDraft path setup (found_draft got) told more → OpensGame path setup told (Found path (Ok got) ∷ more)
 found_over path setup got more told (NoArbiterOver after fault is e t) = NoArbiter got after fault is (ap (λ (l : List Event). Found path (Ok got) ∷ l) e) t
 found_over path setup got more told (UnputOver after v bytes is p e t) = Unput got after v bytes is p (ap (λ (l : List Event). Found path (Ok got) ∷ l) e) t
 found_over path setup got more told (OpenedOver after v is e t) = Opened got after v is (ap (λ (l : List Event). Found path (Ok got) ∷ l) e) t
 
 module _ {T P F K S L : Type 0} (o : Outside T P F K S L) (path : List ℕ) (setup : SetupView) (told : Result (Moment DraftView) OpenFault) where
-  pub opens_found : (a b c : T) (got : Option (List ℕ)) (draft : DraftView) → draft ≡ found_draft got → Adds o a b (Found path (Ok got) ∷ []) → AddsSome o b c (λ events. OpensOverDraft path setup draft events told) → AddsSome o a c (λ events. OpensGame path setup events told)
+  pub opens_found : (a b c : T) (got : Option (List ℕ)) (draft : DraftView) → draft ≡ found_draft got → Adds o a b (Found path (Ok got) ∷ []) → AddsSome o b c (λ events. OpensOverDraft path setup draft told events) → AddsSome o a c (λ events. OpensGame path setup told events)
   opens_found a b c got draft is p q = (
     Found path (Ok got) ∷ q.0,
     adds_more o a b c (Found path (Ok got) ∷ []) q.0 p q.1,
-    found_over path setup got q.0 told (subst (λ (d : DraftView). OpensOverDraft path setup d q.0 told) is q.2),
+    found_over path setup got q.0 told (subst (λ (d : DraftView). OpensOverDraft path setup d told q.0) is q.2),
   )
 
-  pub opens_unstarted : (a b : T) (fault : ReadFault) → told ≡ Err (unstarted_by fault) → Adds o a b (Found path (Err fault) ∷ []) → AddsSome o a b (λ events. OpensGame path setup events told)
+  pub opens_unstarted : (a b : T) (fault : ReadFault) → told ≡ Err (unstarted_by fault) → Adds o a b (Found path (Err fault) ∷ []) → AddsSome o a b (λ events. OpensGame path setup told events)
   opens_unstarted a b fault is p = (Found path (Err fault) ∷ [], p, Unstarted fault refl is)
 
-  pub opens_nothing : (a : T) → told ≡ Err open_fault.OutOfMemory → AddsSome o a a (λ events. OpensGame path setup events told)
+  pub opens_nothing : (a : T) → told ≡ Err open_fault.OutOfMemory → AddsSome o a a (λ events. OpensGame path setup told events)
   opens_nothing a is = ([], adds_none o a, NoRoom refl is)
 
 -- ---- what opening sends is earned, and what the arbiter goes on from is there
@@ -82,7 +82,7 @@ put_earned path None done before = tt
 put_earned path (Some bytes) done before = ((λ dest b m e s. absurd cc), tt)
 
 -- opening earns what it sends, which is nothing
-opening_earned : (path : List ℕ) (setup : SetupView) (events : List Event) (told : Result (Moment DraftView) OpenFault) (before : List Event) → OpensGame path setup events told → EachEarned (one_file path) before events
+opening_earned : (path : List ℕ) (setup : SetupView) (events : List Event) (told : Result (Moment DraftView) OpenFault) (before : List Event) → OpensGame path setup told events → EachEarned (one_file path) before events
 opening_earned path setup events told before (NoRoom e t) = subst (EachEarned (one_file path) before) (sym e) tt
 opening_earned path setup events told before (Unstarted fault e t) = subst (EachEarned (one_file path) before) (sym e) (found_earned path (Err fault) before [] tt)
 opening_earned path setup events told before (NoArbiter got after fault is e t) = subst (EachEarned (one_file path) before) (sym e) (found_earned path (Ok got) before [] tt)
@@ -104,7 +104,7 @@ begun_there path got after before (inr put) = (
       (subst (λ (k : Option (List ℕ)). Contains (Found path (Ok got) ∷ put_events path k true) (Put path put.0 true)) (sym put.2) (1, omega arith, refl))),
 )
 
-opened_there : (path : List ℕ) (setup : SetupView) (events : List Event) (start : Moment DraftView) (before : List Event) → OpensGame path setup events (Ok start) → IsThere path (before ++ events) start.keeper.kept
+opened_there : (path : List ℕ) (setup : SetupView) (events : List Event) (start : Moment DraftView) (before : List Event) → OpensGame path setup (Ok start) events → IsThere path (before ++ events) start.keeper.kept
 opened_there path setup events start before (NoRoom e t) = absurd cc
 opened_there path setup events start before (Unstarted fault e t) = absurd cc
 opened_there path setup events start before (NoArbiter got after fault is e t) = absurd cc
@@ -117,10 +117,10 @@ opened_there path setup events start before (Opened got after v is e t) =
 -- ---- a whole run
 
 module _ {T P F K S L : Type 0} (o : Outside T P F K S L) (path : List ℕ) (setup : SetupView) where
-  pub earns_refused : (a b : T) (fault : OpenFault) → AddsSome o a b (λ events. OpensGame path setup events (Err fault)) → EarnsAll o (one_file path) a b
+  pub earns_refused : (a b : T) (fault : OpenFault) → AddsSome o a b (λ events. OpensGame path setup (Err fault) events) → EarnsAll o (one_file path) a b
   earns_refused a b fault h = (h.0, h.1, λ before. opening_earned path setup h.0 (Err fault) before h.2)
 
-  pub earns_served : (span : Span) (port : PortState) (start last : Moment DraftView) (a b c : T) (result : Result ℕ WriteFault) → IsKept start.keeper.kept start.arbiter → AddsSome o a b (λ events. OpensGame path setup events (Ok start)) → ServesSpan o span path port start last b c result → EarnsAll o (one_file path) a c
+  pub earns_served : (span : Span) (port : PortState) (start last : Moment DraftView) (a b c : T) (result : Result ℕ WriteFault) → IsKept start.keeper.kept start.arbiter → AddsSome o a b (λ events. OpensGame path setup (Ok start) events) → ServesSpan o span path port start last b c result → EarnsAll o (one_file path) a c
   earns_served span port start last a b c result kept h s =
       let first : List Event = request_sent (address_of port) (request span.fetch start.arbiter) in
       let turns : List Event = flat_map (turn_events path port.to) (with_last s.run.turns s.run.last) in (
@@ -134,13 +134,13 @@ module _ {T P F K S L : Type 0} (o : Outside T P F K S L) (path : List ℕ) (set
 -- ---- an arbiter over a draft
 
 module _ {T P F K S L : Type 0} (o : Outside T P F K S L) (path : List ℕ) (setup : SetupView) (draft : DraftView) (told : Result (Moment DraftView) OpenFault) where
-  pub over_kept : (a b : T) (after new : DraftView) (v : View) → IsOpening draft_facts setup draft after (Ok v) → Adds o a b (put_events path after.to_put true) → new ≡ settled after → told ≡ Ok (moment v new) → AddsSome o a b (λ events. OpensOverDraft path setup draft events told)
+  pub over_kept : (a b : T) (after new : DraftView) (v : View) → IsOpening draft_facts setup draft after (Ok v) → Adds o a b (put_events path after.to_put true) → new ≡ settled after → told ≡ Ok (moment v new) → AddsSome o a b (λ events. OpensOverDraft path setup draft told events)
   over_kept a b after new v is p same t = (put_events path after.to_put true, p, OpenedOver after v is refl (t ∙ ap (λ (d : DraftView). Ok (moment v d)) same))
 
-  pub over_unput : {A E : Type 0} (a b : T) (after : DraftView) (v : View) (r : Result A E) (e : E) → IsOpening draft_facts setup draft after (Ok v) → (after.to_put ≡ None → IsOk r) → r ≡ Err e → Adds o a b (put_events path after.to_put (is_done r)) → told ≡ Err open_fault.KeeperFailed → AddsSome o a b (λ events. OpensOverDraft path setup draft events told)
+  pub over_unput : {A E : Type 0} (a b : T) (after : DraftView) (v : View) (r : Result A E) (e : E) → IsOpening draft_facts setup draft after (Ok v) → (after.to_put ≡ None → IsOk r) → r ≡ Err e → Adds o a b (put_events path after.to_put (is_done r)) → told ≡ Err open_fault.KeeperFailed → AddsSome o a b (λ events. OpensOverDraft path setup draft told events)
   over_unput a b after v r e is ok failed p t = by after.to_put refl
     where
-      by : (k : Option (List ℕ)) → after.to_put ≡ k → AddsSome o a b (λ events. OpensOverDraft path setup draft events told)
+      by : (k : Option (List ℕ)) → after.to_put ≡ k → AddsSome o a b (λ events. OpensOverDraft path setup draft told events)
       by None none = absurd (err_not_ok r e (ok none) failed)
       by (Some bytes) some = (
         put_events path after.to_put (is_done r),
@@ -148,12 +148,12 @@ module _ {T P F K S L : Type 0} (o : Outside T P F K S L) (path : List ℕ) (set
         UnputOver after v bytes is some (ap (λ (k : Option (List ℕ)). put_events path k (is_done r)) some ∙ ap (λ x. Put path bytes (is_done x) ∷ []) failed) t,
       )
 
-  pub over_refused : (a : T) (after : DraftView) (fault : OpenFault) → IsOpening draft_facts setup draft after (Err fault) → told ≡ Err fault → AddsSome o a a (λ events. OpensOverDraft path setup draft events told)
+  pub over_refused : (a : T) (after : DraftView) (fault : OpenFault) → IsOpening draft_facts setup draft after (Err fault) → told ≡ Err fault → AddsSome o a a (λ events. OpensOverDraft path setup draft told events)
   over_refused a after fault is t = ([], adds_none o a, NoArbiterOver after fault is refl t)
 
 -- ---- a game that is opened and served
 
-module _ {T P F K S L : Type 0} (o : Outside T P F K S L) (span : Span) (path path' : List ℕ) (setup : SetupView) (port : PortState) (start last : Moment DraftView) (a b c : T) (ended : Result ℕ WriteFault) (same : path' ≡ path) (h : AddsSome o a b (λ events. OpensGame path setup events (Ok start))) (s : ServesSpan o span path' port start last b c ended) where
+module _ {T P F K S L : Type 0} (o : Outside T P F K S L) (span : Span) (path path' : List ℕ) (setup : SetupView) (port : PortState) (start last : Moment DraftView) (a b c : T) (ended : Result ℕ WriteFault) (same : path' ≡ path) (h : AddsSome o a b (λ events. OpensGame path setup (Ok start) events)) (s : ServesSpan o span path' port start last b c ended) where
   at_path : ServesSpan o span path port start last b c ended
   at_path = subst (λ (p : List ℕ). ServesSpan o span p port start last b c ended) same s
 

@@ -32,20 +32,20 @@ put_events path None done = []
 put_events path (Some bytes) done = Put path bytes done ∷ []
 
 -- A game of this setup is opened over the file at a path, or refused.
-pub data OpensGame (path : List ℕ) (setup : SetupView) (events : List Event) (told : Result (Moment DraftView) OpenFault) : Type 0 where
+pub data OpensGame (path : List ℕ) (setup : SetupView) (told : Result (Moment DraftView) OpenFault) (events : List Event) : Type 0 where
   -- memory for its record was refused, and nothing was done
-  NoRoom : events ≡ [] → told ≡ Err open_fault.OutOfMemory → OpensGame path setup events told
+  NoRoom : events ≡ [] → told ≡ Err open_fault.OutOfMemory → OpensGame path setup told events
   -- the file can't be read
-  Unstarted : (fault : ReadFault) → events ≡ Found path (Err fault) ∷ [] → told ≡ Err (unstarted_by fault) → OpensGame path setup events told
+  Unstarted : (fault : ReadFault) → events ≡ Found path (Err fault) ∷ [] → told ≡ Err (unstarted_by fault) → OpensGame path setup told events
   -- over what was found no arbiter can be opened, and nothing is put
   NoArbiter : (got : Option (List ℕ)) (after : DraftView) (fault : OpenFault) → IsOpening draft_facts setup (found_draft got) after (Err fault)
-      → events ≡ Found path (Ok got) ∷ [] → told ≡ Err fault → OpensGame path setup events told
+      → events ≡ Found path (Ok got) ∷ [] → told ≡ Err fault → OpensGame path setup told events
   -- an arbiter was opened, whose first record couldn't be put
   Unput : (got : Option (List ℕ)) (after : DraftView) (v : View) (bytes : List ℕ) → IsOpening draft_facts setup (found_draft got) after (Ok v) → after.to_put ≡ Some bytes
-      → events ≡ Found path (Ok got) ∷ Put path bytes false ∷ [] → told ≡ Err open_fault.KeeperFailed → OpensGame path setup events told
+      → events ≡ Found path (Ok got) ∷ Put path bytes false ∷ [] → told ≡ Err open_fault.KeeperFailed → OpensGame path setup told events
   -- it is open, and its first record was put where nothing was found
   Opened : (got : Option (List ℕ)) (after : DraftView) (v : View) → IsOpening draft_facts setup (found_draft got) after (Ok v)
-      → events ≡ Found path (Ok got) ∷ put_events path after.to_put true → told ≡ Ok (moment v (settled after)) → OpensGame path setup events told
+      → events ≡ Found path (Ok got) ∷ put_events path after.to_put true → told ≡ Ok (moment v (settled after)) → OpensGame path setup told events
 
 -- a game that is open, or why it isn't
 abbrev pub opened_as : {F : Type 0} → Result (FileGame F) OpenFault → Result (Moment DraftView) OpenFault
@@ -59,8 +59,8 @@ served_as (Err fault) = Err fault
 
 -- A game is opened over its file and then served; or it is refused, and nothing more is done.
 pub data OpensAndServes {T P F K S L : Type 0} (o : Outside T P F K S L) (span : Span) (path : List ℕ) (setup : SetupView) (port : PortState) (t t' : T) (result : Result (Result ℕ OpenFault) WriteFault) : Type 0 where
-  Refused : (fault : OpenFault) → AddsSome o t t' (λ events. OpensGame path setup events (Err fault)) → result ≡ Ok (Err fault) → OpensAndServes o span path setup port t t' result
-  Served : (start last : Moment DraftView) (mid : T) (ended : Result ℕ WriteFault) → AddsSome o t mid (λ events. OpensGame path setup events (Ok start))
+  Refused : (fault : OpenFault) → AddsSome o t t' (λ events. OpensGame path setup (Err fault) events) → result ≡ Ok (Err fault) → OpensAndServes o span path setup port t t' result
+  Served : (start last : Moment DraftView) (mid : T) (ended : Result ℕ WriteFault) → AddsSome o t mid (λ events. OpensGame path setup (Ok start) events)
       → ServesSpan o span path port start last mid t' ended → result ≡ served_as ended → OpensAndServes o span path setup port t t' result
 
 -- so it is of a task, at a port

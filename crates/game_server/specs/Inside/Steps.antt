@@ -76,7 +76,7 @@ TakesTurnAt o game port after t t' result = TakesTurn o (o.path game.file) (o.po
 -- ---- opening
 
 -- an arbiter was opened over a draft of what was found, and what it had to put was put; or it was refused
-pub data OpensOver (path : List ℕ) (setup : SetupView) (found : DraftView) (events : List Event) (told : Result (Moment DraftView) OpenFault) : Type 0 where
-  NoArbiterOver : (after : DraftView) (fault : OpenFault) → IsOpening draft_facts setup found after (Err fault) → events ≡ [] → told ≡ Err fault → OpensOver path setup found events told
-  UnputOver : (after : DraftView) (v : View) (bytes : List ℕ) → IsOpening draft_facts setup found after (Ok v) → after.to_put ≡ Some bytes → events ≡ Put path bytes false ∷ [] → told ≡ Err open_fault.KeeperFailed → OpensOver path setup found events told
-  OpenedOver : (after : DraftView) (v : View) → IsOpening draft_facts setup found after (Ok v) → events ≡ put_events path after.to_put true → told ≡ Ok (moment v (settled after)) → OpensOver path setup found events told
+pub data OpensOver (path : List ℕ) (setup : SetupView) (found : DraftView) (told : Result (Moment DraftView) OpenFault) (events : List Event) : Type 0 where
+  NoArbiterOver : (after : DraftView) (fault : OpenFault) → IsOpening draft_facts setup found after (Err fault) → events ≡ [] → told ≡ Err fault → OpensOver path setup found told events
+  UnputOver : (after : DraftView) (v : View) (bytes : List ℕ) → IsOpening draft_facts setup found after (Ok v) → after.to_put ≡ Some bytes → events ≡ Put path bytes false ∷ [] → told ≡ Err open_fault.KeeperFailed → OpensOver path setup found told events
+  OpenedOver : (after : DraftView) (v : View) → IsOpening draft_facts setup found after (Ok v) → events ≡ put_events path after.to_put true → told ≡ Ok (moment v (settled after)) → OpensOver path setup found told events

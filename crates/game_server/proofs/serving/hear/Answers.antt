@@ -53,8 +53,8 @@ returns-in-Ok-clause-hears g c =
       happens = subst (Adds o c.args.timeline.now c.keep.new.timeline) (unput path to to_put c.keep.result c.in-Err-keep.field-0 outputs c.keep.ensures.none c.in-Err-keep.is) c.keep.ensures.made;
     }
 
-pub returns-in-Err-clause-hears : goal.returns-in-Err-clause-hears
-returns-in-Err-clause-hears g c =
+pub returns-clause-hears : goal.returns-clause-hears
+returns-clause-hears g c =
     let o = g.S.System.outside c.args.system.now in
     let h : Hearing = record { from = (o.port c.args.port.now).sender; exchange = exchange c.args.bytes.now (Err c.in-Err.fault) (moment c.deliver.new.self c.deliver.new.keeper); is_put = true } in
     record {

@@ -36,5 +36,5 @@ returns-in-Err-clause-run g c = record {
 pub returns-clause-run : goal.returns-clause-run
 returns-clause-run g c = record {
   spelled = c.loop.invariant.spelled;
-  run = all_served (g.S.System.outside c.args.system.now) _ _ _ _ _ _ _ _ _ c.loop.invariant.served ? ?;
+  run = all_served (g.S.System.outside c.args.system.now) _ _ _ _ _ _ _ _ _ c.loop.invariant.served c.loop.auto.counter-end c.loop-test.false;
 }
