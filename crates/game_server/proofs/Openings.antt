@@ -59,11 +59,11 @@ found_over path setup got more told (UnputOver after v bytes is p e t) = Unput g
 found_over path setup got more told (OpenedOver after v is e t) = Opened got after v is (ap (λ (l : List Event). Found path (Ok got) ∷ l) e) t
 
 module _ {T P F K S L : Type 0} (o : Outside T P F K S L) (path : List ℕ) (setup : SetupView) (told : Result (Moment DraftView) OpenFault) where
-  pub opens_found : (a b c : T) (got : Option (List ℕ)) (draft : DraftView) → draft ≡ found_draft got → Adds o a b (Found path (Ok got) ∷ []) → AddsSome o b c (λ events. OpensOverDraft path setup draft told events) → AddsSome o a c (λ events. OpensGame path setup told events)
-  opens_found a b c got draft is p q = (
+  pub opens_found : (a b c : T) (got : Option (List ℕ)) (draft : DraftView) (path' : List ℕ) → path' ≡ path → draft ≡ found_draft got → Adds o a b (Found path (Ok got) ∷ []) → AddsSome o b c (λ events. OpensOverDraft path' setup draft told events) → AddsSome o a c (λ events. OpensGame path setup told events)
+  opens_found a b c got draft path' same is p q = (
     Found path (Ok got) ∷ q.0,
     adds_more o a b c (Found path (Ok got) ∷ []) q.0 p q.1,
-    found_over path setup got q.0 told (subst (λ (d : DraftView). OpensOverDraft path setup d told q.0) is q.2),
+    found_over path setup got q.0 told (subst (λ (x : List ℕ). OpensOverDraft x setup (found_draft got) told q.0) same (subst (λ (d : DraftView). OpensOverDraft path' setup d told q.0) is q.2)),
   )
 
   pub opens_unstarted : (a b : T) (fault : ReadFault) → told ≡ Err (unstarted_by fault) → Adds o a b (Found path (Err fault) ∷ []) → AddsSome o a b (λ events. OpensGame path setup told events)
