@@ -5,3 +5,8 @@ pub mod Earning
 pub mod Stepping
 pub mod TurnLaws
 pub mod Openings
+pub mod Announcing
+pub mod Knowing
+pub mod SeatLaws
+pub mod Composing
+pub mod DeliverLaws

@@ -35,7 +35,7 @@ is_opening facts setup before now (Ok v) good bad = record { good = good; bad = 
 is_opening facts setup before now (Err fault) good bad = record { good = good; bad = λ g. (ap Err (bad g).0, (bad g).2) }
 
 -- an arbiter that runs goes on from what was found, with nothing to be put; or its first record is to be put
-abbrev IsBegun : DraftView → DraftView → Type 0
+abbrev pub IsBegun : DraftView → DraftView → Type 0
 IsBegun old new = ((bytes : List ℕ) × (old.kept ≡ Some bytes) × (new ≡ old)) ⊎ ((bytes : List ℕ) × (new.kept ≡ Some bytes) × (new.to_put ≡ Some bytes))
 
 by_kept : (setup : SetupView) (me : Identity) (old new : DraftView) (v : View) (k : Option (List ℕ)) → old.kept ≡ k → OpensOver draft_facts setup me k old new (Ok v) → IsBegun old new
@@ -48,7 +48,7 @@ by_opens setup me old new v h = elim h [
   | inr rest ↦ elim rest [ inl none ↦ let is = none.answer in absurd cc | inr over ↦ by_kept setup me old new v old.kept refl over ]
 ]
 
-begun : (setup : SetupView) (old new : DraftView) (v : View) → IsOpening draft_facts setup old new (Ok v) → IsBegun old new
+pub begun : (setup : SetupView) (old new : DraftView) (v : View) → IsOpening draft_facts setup old new (Ok v) → IsBegun old new
 begun setup old new v h = let opens = h.good (good_unless setup (λ bad. let e = (h.bad bad).0 in cc)) in by_opens setup opens.0 old new v opens.2
 
 -- ---- behind a start

@@ -3,4 +3,7 @@ pub mod Turns
 pub mod Places
 pub mod Orders
 pub mod Openings
+pub mod Holdings
+pub mod Seats
+pub mod Fates
 pub mod Inside

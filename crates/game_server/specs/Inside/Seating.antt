@@ -1,0 +1,120 @@
+-- One datagram at a server of many games; cited by private clauses alone.
+use Rattle.std.specs.Prelude.{◌≡◌, ◌⊎◌, ◌++◌, ℕ, Bool, true, false, List, [], codes, Option, Some, None, Result, Ok, Err, IfOk}
+use Rattle.std.specs.List.{AllByRecursion}
+use Rattle.arbiter_core.specs.Delivers.{Moment, Told, exchange, moment}
+use Rattle.arbiter_core.specs.Opens.{IsOpening}
+use Rattle.arbiter_core.specs.Setups.{SetupView}
+use Rattle.arbiter_core.specs.Views.{View}
+use Rattle.arbiter_core.specs.declared.fault.DeliverFault.TheVariants.{NotAMessage}
+use Rattle.arbiter_core.specs.declared.fault.OpenFault.{OpenFault}
+use Rattle.arbiter_server.specs.Games.{CommonView, IsGameOf, setup_of}
+use Rattle.arbiter_server.specs.ServedLines.{heard_line, refused_datagram}
+use Rattle.arbiter_server.specs.Told.{stamped, unopened_by, unopened_words}
+use Rattle.arbiter_server.specs.declared.fault.OpenGameError.{OpenGameError}
+use Rattle.arbiter_server.specs.declared.fault.OpenGameError.TheVariants as unopened
+use Rattle.arbiter_server.specs.declared.games.GameConfig.{GameConfig}
+use Rattle.judge_core.specs.Tables.{Holding}
+use Rattle.move_msg.specs.Messages.{stamp_in}
+use Rattle.move_msg.specs.declared.message.Message.{Message}
+use Rattle.timeline.specs.Events.{Event}
+use Rattle.timeline.specs.Outsides.{Outside}
+use Rattle.game_server.specs.Drafts.{DraftView, draft_facts, settled}
+use Rattle.game_server.specs.Fates.{Answered, AnswersBy, Fate, OpensFor, OpensSeat, TakesAndOpens, fate_line, fate_outputs}
+use Rattle.game_server.specs.Holdings.{GamesFacts, IsKnown, IsQuiet, SendsNothing, StaysNoted, known}
+use Rattle.game_server.specs.Orders.{IsBacked}
+use Rattle.game_server.specs.Seats.{IsKnownSeat, IsSeat, common, seat_moment}
+use Rattle.game_server.specs.declared.games.KeptGame.{KeptGame}
+use Rattle.game_server.specs.declared.seat.Reply.{Reply}
+use Rattle.game_server.specs.declared.seat.ReplyLine.{ReplyLine}
+use Rattle.game_server.specs.declared.seat.ReplyLine.TheVariants as reply
+use Rattle.game_server.specs.declared.seat.Seat.{Seat}
+use Rattle.game_server.specs.declared.server.Server.{Server}
+
+-- ---- a game is looked for
+
+-- what comes of it: a game with this stamp, or why there is none
+abbrev pub IsLookUp : {G : Type 0} → GamesFacts G → G → List ℕ → List ℕ → Result GameConfig OpenGameError → List Event → Type 0
+IsLookUp facts g manifest stamp (Ok game) events = facts.finds (facts.place g) stamp (Ok game) events × IsGameOf manifest stamp game.name.items game.start game.delay
+IsLookUp facts g manifest stamp (Err why) events =
+    facts.finds (facts.place g) stamp (Err why) events
+    ⊎ ((game : GameConfig) × facts.finds (facts.place g) stamp (Ok game) events × (IsGameOf manifest stamp game.name.items game.start game.delay → ⊥) × (why ≡ unopened.OtherGame))
+
+pub record LooksUp {G : Type 0} (facts : GamesFacts G) (g : G) (manifest stamp : List ℕ) (result : Result GameConfig OpenGameError) (events : List Event) : Type 0 where
+  pub quiet : SendsNothing events
+  pub is : IsLookUp facts g manifest stamp result events
+
+-- ---- a game is opened over its record
+
+-- only games, and what they note, may have changed
+pub record SameSeats {G F : Type 0} (old new : Server G F) : Type 0 where
+  pub config : new.config ≡ old.config
+  pub tables : new.tables ≡ old.tables
+  pub seats : new.seats ≡ old.seats
+
+abbrev pub seated_as : {F : Type 0} → Holding → Result (Seat F) OpenGameError → Result (Moment DraftView) OpenGameError
+seated_as set (Ok seat) = Ok (seat_moment set seat)
+seated_as set (Err why) = Err why
+
+-- what is known of what it kept is known of the game that is open
+abbrev pub KnowsSeat : {G F : Type 0} → GamesFacts G → G → G → List ℕ → Option (List ℕ) → List Event → Seat F → Type 0
+KnowsSeat facts old new stamp kept events seat = (before : List Event) → IsKnown facts old before stamp kept → IsKnownSeat facts new (before ++ events) stamp seat
+
+-- what it keeps is known by these events
+abbrev pub IsKnownThen : {G F : Type 0} → GamesFacts G → G → List ℕ → List Event → Seat F → Type 0
+IsKnownThen facts g stamp events seat = IsKnownSeat facts g events stamp seat
+
+pub record OpensOverKept {T P F K S L G : Type 0} (o : Outside T P F K S L) (facts : GamesFacts G) (old new : Server G F) (kept : KeptGame F) (game : GameConfig) (result : Result (Seat F) OpenGameError) (events : List Event) : Type 0 where
+  pub same : SameSeats old new
+  pub still : IsQuiet facts old.games new.games events
+  pub noted : StaysNoted facts old.games new.games
+  pub opens : OpensSeat facts (facts.place old.games) kept.stamp (setup_of (common old) game.name.items game.start game.delay) kept.draft events (seated_as old.tables result)
+  pub ok : IfOk result (IsSeat o facts new.games old.tables kept.stamp)
+  pub knows : IfOk result (KnowsSeat facts old.games new.games kept.stamp kept.draft.kept events)
+
+-- the record of a game that was found is taken, and it is opened over that
+pub record OpensTaken {T P F K S L G : Type 0} (o : Outside T P F K S L) (facts : GamesFacts G) (old new : Server G F) (stamp : List ℕ) (game : GameConfig) (result : Result (Seat F) OpenGameError) (events : List Event) : Type 0 where
+  pub same : SameSeats old new
+  pub still : IsQuiet facts old.games new.games events
+  pub noted : StaysNoted facts old.games new.games
+  pub opens : TakesAndOpens facts (common old) old.games stamp game events (seated_as old.tables result)
+  pub ok : IfOk result (IsSeat o facts new.games old.tables stamp)
+  pub knows : IfOk result (IsKnownThen facts new.games stamp events)
+
+-- the game of a message is looked for, and opened
+pub record OpensForMessage {T P F K S L G : Type 0} (o : Outside T P F K S L) (facts : GamesFacts G) (old new : Server G F) (m : Message) (result : Result (Seat F) OpenGameError) (events : List Event) : Type 0 where
+  pub same : SameSeats old new
+  pub still : IsQuiet facts old.games new.games events
+  pub noted : StaysNoted facts old.games new.games
+  pub opens : OpensFor facts (common old) old.games m events (seated_as old.tables result)
+  pub ok : IfOk result (IsSeat o facts new.games old.tables (stamp_in m))
+  pub knows : IfOk result (IsKnownThen facts new.games (stamp_in m) events)
+
+-- ---- a game that is open answers
+
+abbrev pub line_words : ReplyLine → List ℕ
+line_words (reply.Answered stamp heard) = stamped stamp (heard_line heard)
+line_words (reply.Unopened stamp why) = stamped stamp (unopened_words why)
+line_words (reply.Unread fault) = codes "- " ++ refused_datagram (NotAMessage fault)
+
+-- these outputs and this line are those of this fate
+pub record IsReply (reply : Reply) (fate : Fate) : Type 0 where
+  pub outputs : reply.outputs.items ≡ fate_outputs fate
+  pub line : line_words reply.line ≡ fate_line fate
+
+-- what the messages say of records is known
+abbrev pub AreBacked : {G : Type 0} → GamesFacts G → G → List Event → List Message → Type 0
+AreBacked facts g before outputs = AllByRecursion (IsBacked (known facts g before)) outputs
+
+pub record DeliversTo {T P F K S L G : Type 0} (o : Outside T P F K S L) (facts : GamesFacts G) (old new : Server G F) (seat seat' : Seat F) (m : Message) (result : Reply × Bool) (events : List Event) : Type 0 where
+  pub same : SameSeats old new
+  pub still : IsQuiet facts old.games new.games events
+  pub noted : StaysNoted facts old.games new.games
+  pub told : Told
+  pub after : Moment DraftView
+  pub is_kept : Bool
+  pub answers : AnswersBy facts old.games (stamp_in m) (seat_moment old.tables seat) m told after is_kept events
+  pub left : seat_moment old.tables seat' ≡ moment after.arbiter (settled after.keeper)
+  pub reply : (datagram : List ℕ) → IsReply result.0 (Answered (stamp_in m) (exchange datagram told after) is_kept)
+  pub seated : result.1 ≡ true → IsSeat o facts new.games old.tables (stamp_in m) seat'
+  pub backed : (before : List Event) → IsKnownSeat facts old.games before (stamp_in m) seat → AreBacked facts new.games (before ++ events) result.0.outputs.items
+  pub knows : (before : List Event) → IsKnownSeat facts old.games before (stamp_in m) seat → result.1 ≡ true → IsKnownSeat facts new.games (before ++ events) (stamp_in m) seat'
