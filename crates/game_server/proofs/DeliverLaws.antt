@@ -21,7 +21,7 @@ use Rattle.game_server.specs.Holdings.{GamesFacts, IsKeptIn, IsKnown, StaysNoted
 use Rattle.game_server.specs.Orders.{IsBacked}
 use Rattle.game_server.specs.Places.{Held}
 use Rattle.game_server.specs.Seats.{IsKnownSeat, IsSeat}
-use Rattle.game_server.specs.Inside.Seating.{AreBacked}
+use Rattle.game_server.specs.Replies.{AreBacked}
 use Rattle.game_server.specs.declared.seat.Seat.{Seat}
 use Rattle.game_server.proofs.Announcing.{Announces, IsDrafted}
 use Rattle.game_server.proofs.Backing.{HoldsRecord, backed}

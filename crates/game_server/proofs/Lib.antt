@@ -10,3 +10,5 @@ pub mod Knowing
 pub mod SeatLaws
 pub mod Composing
 pub mod DeliverLaws
+pub mod RoomLaws
+pub mod HearLaws

@@ -95,7 +95,7 @@ module _ {T P F K S L G A E : Type 0} (o : Outside T P F K S L) (facts : GamesFa
   unkept_some e events h = by before.draft.to_put refl
     where
       by : (k : Option (List ℕ)) → before.draft.to_put ≡ k → (bytes : List ℕ) × (before.draft.to_put ≡ Some bytes) × facts.keeps (facts.place old) before.stamp bytes false events
-      by None is = let ok = (h.none is).1 in absurd (err_not_ok _ e ok refl)
+      by None is = let ok = (h.none is).1 in absurd (err_not_ok (failed A E e) e ok refl)
       by (Some bytes) is = (bytes, is, h.some bytes is)
 
 pub quiet_nothing : {G : Type 0} (facts : GamesFacts G) (g : G) → IsQuiet facts g g []

@@ -6,4 +6,6 @@ pub mod Openings
 pub mod Holdings
 pub mod Seats
 pub mod Fates
+pub mod Replies
+pub mod Datagrams
 pub mod Inside

@@ -14,7 +14,7 @@ pub struct Seat<'a, F: Drop> {
 
 /// What is told of a datagram.
 #[derive(Clone, Copy)]
-pub(crate) enum ReplyLine {
+pub enum ReplyLine {
     /// What the arbiter of the game with this stamp tells.
     Answered(Stamp, DatagramReport),
     /// Why the game with this stamp isn't open.
@@ -25,7 +25,9 @@ pub(crate) enum ReplyLine {
 
 /// What a datagram is answered: the messages that are to be sent, and the line that is told.
 #[derive(Drop)]
-pub(crate) struct Reply {
-    pub(crate) outputs: Outputs,
-    pub(crate) line: ReplyLine,
+pub struct Reply {
+    /// The messages.
+    pub outputs: Outputs,
+    /// The line.
+    pub line: ReplyLine,
 }

@@ -1,32 +1,29 @@
 -- One datagram at a server of many games; cited by private clauses alone.
-use Rattle.std.specs.Prelude.{◌≡◌, ◌⊎◌, ◌++◌, ℕ, Bool, true, false, List, [], codes, Option, Some, None, Result, Ok, Err, IfOk}
-use Rattle.std.specs.List.{AllByRecursion}
+use Rattle.std.specs.Prelude.{◌≡◌, ◌⊎◌, ◌++◌, ℕ, Bool, true, false, List, [], Option, Some, None, Result, Ok, Err, IfOk, option_map}
+use Rattle.std.specs.Str.{bytes_eq}
 use Rattle.arbiter_core.specs.Delivers.{Moment, Told, exchange, moment}
 use Rattle.arbiter_core.specs.Opens.{IsOpening}
 use Rattle.arbiter_core.specs.Setups.{SetupView}
 use Rattle.arbiter_core.specs.Views.{View}
-use Rattle.arbiter_core.specs.declared.fault.DeliverFault.TheVariants.{NotAMessage}
 use Rattle.arbiter_core.specs.declared.fault.OpenFault.{OpenFault}
 use Rattle.arbiter_server.specs.Games.{CommonView, IsGameOf, setup_of}
-use Rattle.arbiter_server.specs.ServedLines.{heard_line, refused_datagram}
-use Rattle.arbiter_server.specs.Told.{stamped, unopened_by, unopened_words}
 use Rattle.arbiter_server.specs.declared.fault.OpenGameError.{OpenGameError}
 use Rattle.arbiter_server.specs.declared.fault.OpenGameError.TheVariants as unopened
 use Rattle.arbiter_server.specs.declared.games.GameConfig.{GameConfig}
 use Rattle.judge_core.specs.Tables.{Holding}
+use Rattle.move_msg.specs.Heard.{heard_in}
 use Rattle.move_msg.specs.Messages.{stamp_in}
 use Rattle.move_msg.specs.declared.message.Message.{Message}
 use Rattle.timeline.specs.Events.{Event}
 use Rattle.timeline.specs.Outsides.{Outside}
+use Rattle.game_server.specs.Datagrams.{HearsDatagram, IsLeftOpen}
 use Rattle.game_server.specs.Drafts.{DraftView, draft_facts, settled}
-use Rattle.game_server.specs.Fates.{Answered, AnswersBy, Fate, OpensFor, OpensSeat, TakesAndOpens, fate_line, fate_outputs}
+use Rattle.game_server.specs.Fates.{Answered, AnswersBy, HasGame, OpensFor, OpensSeat, TakesAndOpens}
 use Rattle.game_server.specs.Holdings.{GamesFacts, IsKnown, IsQuiet, SendsNothing, StaysNoted, known}
-use Rattle.game_server.specs.Orders.{IsBacked}
-use Rattle.game_server.specs.Seats.{IsKnownSeat, IsSeat, common, seat_moment}
+use Rattle.game_server.specs.Replies.{AreBacked, IsReply}
+use Rattle.game_server.specs.Seats.{AreKnown, IsKnownSeat, IsSeat, common, open_at, seat_moment}
 use Rattle.game_server.specs.declared.games.KeptGame.{KeptGame}
 use Rattle.game_server.specs.declared.seat.Reply.{Reply}
-use Rattle.game_server.specs.declared.seat.ReplyLine.{ReplyLine}
-use Rattle.game_server.specs.declared.seat.ReplyLine.TheVariants as reply
 use Rattle.game_server.specs.declared.seat.Seat.{Seat}
 use Rattle.game_server.specs.declared.server.Server.{Server}
 
@@ -91,20 +88,6 @@ pub record OpensForMessage {T P F K S L G : Type 0} (o : Outside T P F K S L) (f
 
 -- ---- a game that is open answers
 
-abbrev pub line_words : ReplyLine → List ℕ
-line_words (reply.Answered stamp heard) = stamped stamp (heard_line heard)
-line_words (reply.Unopened stamp why) = stamped stamp (unopened_words why)
-line_words (reply.Unread fault) = codes "- " ++ refused_datagram (NotAMessage fault)
-
--- these outputs and this line are those of this fate
-pub record IsReply (reply : Reply) (fate : Fate) : Type 0 where
-  pub outputs : reply.outputs.items ≡ fate_outputs fate
-  pub line : line_words reply.line ≡ fate_line fate
-
--- what the messages say of records is known
-abbrev pub AreBacked : {G : Type 0} → GamesFacts G → G → List Event → List Message → Type 0
-AreBacked facts g before outputs = AllByRecursion (IsBacked (known facts g before)) outputs
-
 pub record DeliversTo {T P F K S L G : Type 0} (o : Outside T P F K S L) (facts : GamesFacts G) (old new : Server G F) (seat seat' : Seat F) (m : Message) (result : Reply × Bool) (events : List Event) : Type 0 where
   pub same : SameSeats old new
   pub still : IsQuiet facts old.games new.games events
@@ -118,3 +101,47 @@ pub record DeliversTo {T P F K S L G : Type 0} (o : Outside T P F K S L) (facts 
   pub seated : result.1 ≡ true → IsSeat o facts new.games old.tables (stamp_in m) seat'
   pub backed : (before : List Event) → IsKnownSeat facts old.games before (stamp_in m) seat → AreBacked facts new.games (before ++ events) result.0.outputs.items
   pub knows : (before : List Event) → IsKnownSeat facts old.games before (stamp_in m) seat → result.1 ≡ true → IsKnownSeat facts new.games (before ++ events) (stamp_in m) seat'
+
+-- ---- the game of a message
+
+-- it was open; or it is opened by these events, or isn't for this reason
+abbrev pub HadSeat : {G : Type 0} → GamesFacts G → CommonView → G → Message → Option (Moment DraftView) → List Event → Result (Moment DraftView) OpenGameError → Type 0
+HadSeat facts t g m was events (Ok at) = HasGame facts t g m was events at
+HadSeat facts t g m was events (Err why) = (was ≡ None) × OpensFor facts t g m events (Err why)
+
+-- the game of a message is taken out, or opened; all others stay
+pub record SeatsFor {T P F K S L G : Type 0} (o : Outside T P F K S L) (facts : GamesFacts G) (old new : Server G F) (m : Message) (result : Result (Seat F) OpenGameError) (events : List Event) : Type 0 where
+  pub config : new.config ≡ old.config
+  pub tables : new.tables ≡ old.tables
+  pub still : IsQuiet facts old.games new.games events
+  pub noted : StaysNoted facts old.games new.games
+  pub gone : open_at new (stamp_in m) ≡ None
+  pub others : (other : List ℕ) → bytes_eq (stamp_in m) other ≡ false → open_at new other ≡ open_at old other
+  pub had : HadSeat facts (common old) old.games m (option_map (seat_moment old.tables) (open_at old (stamp_in m))) events (seated_as old.tables result)
+  pub ok : IfOk result (IsSeat o facts new.games old.tables (stamp_in m))
+  pub knows : (before : List Event) → AreKnown facts old before → IfOk result (IsKnownSeat facts new.games (before ++ events) (stamp_in m))
+
+-- a game in hand is closed, or open: it can answer, and keeps what is known
+abbrev pub IsSeatedNow : {T P F K S L G : Type 0} → Outside T P F K S L → GamesFacts G → G → G → Holding → List ℕ → Seat F → List Event → Option (Seat F) → Type 0
+IsSeatedNow o facts g g' set stamp seat events None = Unit {0}
+IsSeatedNow o facts g g' set stamp seat events (Some now) =
+    IsSeat o facts g' set stamp now × ((before : List Event) → IsKnownSeat facts g before stamp seat → IsKnownSeat facts g' (before ++ events) stamp now)
+
+-- the arbiter of a game in hand answers a message; the game stays open or is closed, and so do others
+pub record AnswersFrom {T P F K S L G : Type 0} (o : Outside T P F K S L) (facts : GamesFacts G) (old new : Server G F) (seat : Seat F) (m : Message) (reply : Reply) (events : List Event) : Type 0 where
+  pub config : new.config ≡ old.config
+  pub tables : new.tables ≡ old.tables
+  pub still : IsQuiet facts old.games new.games events
+  pub noted : StaysNoted facts old.games new.games
+  pub told : Told
+  pub after : Moment DraftView
+  pub is_kept : Bool
+  pub answers : AnswersBy facts old.games (stamp_in m) (seat_moment old.tables seat) m told after is_kept events
+  pub is : (datagram : List ℕ) → IsReply reply (Answered (stamp_in m) (exchange datagram told after) is_kept)
+  pub own : IsSeatedNow o facts old.games new.games old.tables (stamp_in m) seat events (open_at new (stamp_in m))
+  pub others : (other : List ℕ) → bytes_eq (stamp_in m) other ≡ false → IsLeftOpen (open_at old other) (open_at new other)
+  pub backed : (before : List Event) → IsKnownSeat facts old.games before (stamp_in m) seat → AreBacked facts new.games (before ++ events) reply.outputs.items
+
+-- a message is answered, whichever datagram it was read from
+abbrev pub AnswersMessage : {T P F K S L G : Type 0} → Outside T P F K S L → GamesFacts G → Server G F → Server G F → Message → Reply → List Event → Type 0
+AnswersMessage o facts old new m reply events = (datagram : List ℕ) → heard_in datagram ≡ Ok m → HearsDatagram o facts old new datagram reply events
