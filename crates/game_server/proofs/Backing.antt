@@ -95,7 +95,7 @@ module _ (places : Places) (m : Message) (spells : SpellsMessage (message_text m
   sent_to_earned before None back = tt
   sent_to_earned before (Some to) back = (one_earned before to back, tt)
 
-  each_to_each : (before : List Event) (sender : Option SocketAddr) (to : List Recipient) → IsBacked (kept_by places before) m → EachEarned places before (sent_to_each sender to (message_text m))
+  pub each_to_each : (before : List Event) (sender : Option SocketAddr) (to : List Recipient) → IsBacked (kept_by places before) m → EachEarned places before (sent_to_each sender to (message_text m))
   unfolding sent_to_each
   each_to_each before sender [] back = tt
   each_to_each before sender (who ∷ others) back =

@@ -6,7 +6,7 @@ use Rattle.std.specs.Cmp.Lexicographic.{nat_list_eq_equiv}
 use Rattle.std.proofs.lemmas.Result.{IfOk-weaker}
 use Rattle.std.proofs.lemmas.Slice.Eq.{bytes_eq-Decides}
 use Rattle.lru.specs.LruCache.{LruCache}
-use Rattle.arbiter_core.specs.Delivers.{Moment, exchange}
+use Rattle.arbiter_core.specs.Delivers.{Moment, exchange, moment}
 use Rattle.arbiter_server.specs.Room.{at_stamp}
 use Rattle.arbiter_server.specs.declared.fault.OpenGameError.{OpenGameError}
 use Rattle.judge_core.specs.Tables.{Holding}
@@ -17,8 +17,8 @@ use Rattle.move_msg.specs.declared.message.MessageFault.{MessageFault}
 use Rattle.timeline.specs.Events.{Event}
 use Rattle.timeline.specs.Outsides.{Adds, AddsSome, Outside}
 use Rattle.timeline.proofs.EventLaws.{adds_both, adds_none}
-use Rattle.game_server.specs.Datagrams.{HearsDatagram, IsLeftOpen, was_open}
-use Rattle.game_server.specs.Drafts.{DraftView}
+use Rattle.game_server.specs.Datagrams.{HearsDatagram, IsLeftOpen, IsNotOf, was_open}
+use Rattle.game_server.specs.Drafts.{DraftView, settled}
 use Rattle.game_server.specs.Fates.{Answered, AnswersBy, Fate, GoesTo, IsAnswered, IsUnopened, IsUnread, KeepsAnswer, OpensFor, Unopened, Unread, fate_line}
 use Rattle.game_server.specs.Holdings.{GamesFacts, IsKeptIn, IsQuiet, StaysNoted}
 use Rattle.game_server.specs.Seats.{AreKnown, AreSeats, IsKnownSeat, IsSeat, common, open_at, seat_moment}
@@ -102,10 +102,13 @@ module _ {T P F K S L G : Type 0} (o : Outside T P F K S L) (facts : GamesFacts 
   at_mid events stays h other = ap (λ (c : LruCache (List ℕ) (Seat F)). at_stamp c.entries other) h.same.seats
 
   module _ (events : List Event) (l : LruCache (List ℕ) (Seat F)) (h : DeliversTo o facts old mid seat seat' m (reply, true) events) (left : (other : List ℕ) → IsLeftOpen (cond (bytes_eq (stamp_in m) other) (Some seat') (open_at mid other)) (at_stamp l.entries other)) where
-    own_seat : (k : Option (Seat F)) → IsLeftOpen (Some seat') k → IsSeatedNow o facts old.games mid.games old.tables (stamp_in m) seat events k
+    left_by : Moment DraftView
+    left_by = moment h.after.arbiter (settled h.after.keeper)
+
+    own_seat : (k : Option (Seat F)) → IsLeftOpen (Some seat') k → IsSeatedNow o facts old.games mid.games old.tables (stamp_in m) seat left_by events k
     own_seat None kept = tt
     own_seat (Some now) (inl same) = let is : seat' ≡ now = cc in
-        subst (λ (x : Seat F). IsSeatedNow o facts old.games mid.games old.tables (stamp_in m) seat events (Some x)) is (h.seated refl, λ before knew. h.knows before knew refl)
+        subst (λ (x : Seat F). IsSeatedNow o facts old.games mid.games old.tables (stamp_in m) seat left_by events (Some x)) is (h.seated refl, h.left, λ before knew. h.knows before knew refl)
     own_seat (Some now) (inr gone) = absurd cc
 
     stays_on : AnswersFrom o facts old (with_seats mid l) seat m reply events
@@ -135,7 +138,7 @@ module _ {T P F K S L G : Type 0} (o : Outside T P F K S L) (facts : GamesFacts 
     is_kept = h.is_kept;
     answers = h.answers;
     is = h.reply;
-    own = subst (λ (k : Option (Seat F)). IsSeatedNow o facts old.games mid.games old.tables (stamp_in m) seat events k) (sym (at_mid events false h (stamp_in m) ∙ absent)) tt;
+    own = subst (λ (k : Option (Seat F)). IsSeatedNow o facts old.games mid.games old.tables (stamp_in m) seat (moment h.after.arbiter (settled h.after.keeper)) events k) (sym (at_mid events false h (stamp_in m) ∙ absent)) tt;
     others = λ other apart. inl (at_mid events false h other);
     backed = h.backed;
   }
@@ -193,13 +196,20 @@ module _ {T P F K S L G : Type 0} (o : Outside T P F K S L) (facts : GamesFacts 
     all_others : (other : List ℕ) → bytes_eq (stamp_in m) other ≡ false → IsLeftOpen (open_at old other) (open_at new other)
     all_others other apart = subst (λ (k : Option (Seat F)). IsLeftOpen k (open_at new other)) (s.others other apart) (a.others other apart)
 
-    own_seats : (k : Option (Seat F)) → IsSeatedNow o facts mid.games new.games mid.tables (stamp_in m) seat rest k → IfSome k (IsSeat o facts new.games new.tables (stamp_in m))
+    left : Moment DraftView
+    left = moment a.after.arbiter (settled a.after.keeper)
+
+    own_seats : (k : Option (Seat F)) → IsSeatedNow o facts mid.games new.games mid.tables (stamp_in m) seat left rest k → IfSome k (IsSeat o facts new.games new.tables (stamp_in m))
     own_seats None h = tt
     own_seats (Some now) h = subst (λ (set : Holding). IsSeat o facts new.games set (stamp_in m) now) (sym a.tables) h.0
 
-    own_known : (before : List Event) → IsKnownSeat facts mid.games (before ++ first) (stamp_in m) seat → (k : Option (Seat F)) → IsSeatedNow o facts mid.games new.games mid.tables (stamp_in m) seat rest k → IfSome k (IsKnownSeat facts new.games (before ++ (first ++ rest)) (stamp_in m))
+    own_known : (before : List Event) → IsKnownSeat facts mid.games (before ++ first) (stamp_in m) seat → (k : Option (Seat F)) → IsSeatedNow o facts mid.games new.games mid.tables (stamp_in m) seat left rest k → IfSome k (IsKnownSeat facts new.games (before ++ (first ++ rest)) (stamp_in m))
     own_known before knew None h = tt
-    own_known before knew (Some now) h = subst (λ (b : List Event). IsKnownSeat facts new.games b (stamp_in m) now) (append_assoc before first rest) (h.1 (before ++ first) knew)
+    own_known before knew (Some now) h = subst (λ (b : List Event). IsKnownSeat facts new.games b (stamp_in m) now) (append_assoc before first rest) (h.2 (before ++ first) knew)
+
+    own_left : (k : Option (Seat F)) → IsSeatedNow o facts mid.games new.games mid.tables (stamp_in m) seat left rest k → IsLeftOpen (Some left) (option_map (seat_moment new.tables) k)
+    own_left None h = inr refl
+    own_left (Some now) h = inl (ap Some (subst (λ (set : Holding). seat_moment set now ≡ left) (sym a.tables) h.1))
 
     answers_as : AnswersBy facts old.games (stamp_in m) (seat_moment old.tables seat) m a.told a.after a.is_kept rest
     answers_as = subst (λ (set : Holding). AnswersBy facts old.games (stamp_in m) (seat_moment set seat) m a.told a.after a.is_kept rest) s.tables
@@ -215,6 +225,8 @@ module _ {T P F K S L G : Type 0} (o : Outside T P F K S L) (facts : GamesFacts 
       goes = subst (λ (x : Result Message MessageFault). GoesTo facts (common old) old.games datagram (was_open old x) (first ++ rest) (Answered (stamp_in m) (exchange datagram a.told a.after) a.is_kept)) (sym is)
           (IsAnswered m first rest (seat_moment old.tables seat) a.after a.told a.is_kept is s.had answers_as refl refl);
       is = a.is datagram;
+      own = subst (λ (x : Result Message MessageFault). IsLeftOpen (Some left) (was_open new x)) (sym is) (own_left (open_at new (stamp_in m)) a.own);
+      others = λ other apart. all_others other (subst (IsNotOf other) is apart);
       seats = seats_now o facts old new (stamp_in m) all_tables all_still.place all_noted all_others seats (own_seats (open_at new (stamp_in m)) a.own);
       backed = λ before knew. subst (λ (b : List Event). AreBacked facts new.games b reply.outputs.items) (append_assoc before first rest) (a.backed (before ++ first) (s.knows before knew));
       knows = λ before knew. known_now o facts old new (stamp_in m) all_tables all_still.place all_noted all_others before (first ++ rest) knew (own_known before (s.knows before knew) (open_at new (stamp_in m)) a.own);
@@ -237,6 +249,8 @@ module _ {T P F K S L G : Type 0} (o : Outside T P F K S L) (facts : GamesFacts 
       fate = Unopened (stamp_in m) why;
       goes = subst (λ (x : Result Message MessageFault). GoesTo facts (common old) old.games datagram (was_open old x) events (Unopened (stamp_in m) why)) (sym is) (IsUnopened m why is s.had.0 s.had.1 refl);
       is = record { outputs = nothing; line = line };
+      own = subst (λ (x : Result Message MessageFault). IsLeftOpen None (was_open new x)) (sym is) (inl (ap (option_map (seat_moment new.tables)) s.gone));
+      others = λ other apart. still_others other (subst (IsNotOf other) is apart);
       seats = seats_now o facts old new (stamp_in m) s.tables s.still.place s.noted still_others seats (none_there (IsSeat o facts new.games new.tables (stamp_in m)));
       backed = λ before knew. subst (λ (ms : List Message). AreBacked facts new.games (before ++ events) ms) (sym nothing) tt;
       knows = λ before knew. known_now o facts old new (stamp_in m) s.tables s.still.place s.noted still_others before events knew (none_there (IsKnownSeat facts new.games (before ++ events) (stamp_in m)));
@@ -255,6 +269,8 @@ heard_unread o facts server datagram fault reply t seats is nothing line = (
     fate = Unread fault;
     goes = IsUnread fault is refl refl;
     is = record { outputs = nothing; line = line };
+    own = subst (λ (x : Result Message MessageFault). IsLeftOpen None (was_open server x)) (sym is) (inl refl);
+    others = λ other apart. inl refl;
     seats = seats;
     backed = λ before knew. subst (λ (ms : List Message). AreBacked facts server.games (before ++ []) ms) (sym nothing) tt;
     knows = λ before knew. subst (λ (b : List Event). AreKnown facts server b) (sym (append-nil before)) knew;

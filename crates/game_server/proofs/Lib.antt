@@ -12,3 +12,5 @@ pub mod Composing
 pub mod DeliverLaws
 pub mod RoomLaws
 pub mod HearLaws
+pub mod RoundLaws
+pub mod GatherLaws

@@ -51,6 +51,12 @@ fate_outputs (Unread fault) = []
 fate_outputs (Unopened stamp why) = []
 fate_outputs (Answered stamp e is_kept) = cond (is_lost_at e is_kept) [] (outputs_of e.told)
 
+-- where its game is afterwards, if it stays open
+abbrev pub fate_leaves : Fate → Option (Moment DraftView)
+fate_leaves (Unread fault) = None
+fate_leaves (Unopened stamp why) = None
+fate_leaves (Answered stamp e is_kept) = Some (moment e.after.arbiter (settled e.after.keeper))
+
 -- ---- an arbiter answers
 
 module _ {G : Type 0} (facts : GamesFacts G) where

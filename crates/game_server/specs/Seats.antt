@@ -48,3 +48,9 @@ pub record IsKnownSeat {F G : Type 0} (facts : GamesFacts G) (g : G) (before : L
 -- so it is of each
 abbrev pub AreKnown : {F G : Type 0} → GamesFacts G → Server G F → List Event → Type 0
 AreKnown facts server before = (stamp : List ℕ) → IfSome (open_at server stamp) (IsKnownSeat facts server.games before stamp)
+
+-- a server over these games, none of which is open yet
+pub record IsNewServer {G F : Type 0} (t : CommonView) (games : G) (server : Server G F) : Type 0 where
+  pub common_is : common server ≡ t
+  pub games_are : server.games ≡ games
+  pub none : (stamp : List ℕ) → open_at server stamp ≡ None

@@ -46,7 +46,7 @@ fn send_one<S: System>(
 }
 
 /// Sends messages, each once and in their order.
-fn send_all<S: System>(
+pub(crate) fn send_all<S: System>(
     system: &S,
     timeline: &mut S::Timeline,
     port: &mut S::Port,

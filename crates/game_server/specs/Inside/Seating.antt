@@ -121,11 +121,11 @@ pub record SeatsFor {T P F K S L G : Type 0} (o : Outside T P F K S L) (facts : 
   pub ok : IfOk result (IsSeat o facts new.games old.tables (stamp_in m))
   pub knows : (before : List Event) → AreKnown facts old before → IfOk result (IsKnownSeat facts new.games (before ++ events) (stamp_in m))
 
--- a game in hand is closed, or open: it can answer, and keeps what is known
-abbrev pub IsSeatedNow : {T P F K S L G : Type 0} → Outside T P F K S L → GamesFacts G → G → G → Holding → List ℕ → Seat F → List Event → Option (Seat F) → Type 0
-IsSeatedNow o facts g g' set stamp seat events None = Unit {0}
-IsSeatedNow o facts g g' set stamp seat events (Some now) =
-    IsSeat o facts g' set stamp now × ((before : List Event) → IsKnownSeat facts g before stamp seat → IsKnownSeat facts g' (before ++ events) stamp now)
+-- a game in hand is closed, or open: it is left so, can answer, and keeps what is known
+abbrev pub IsSeatedNow : {T P F K S L G : Type 0} → Outside T P F K S L → GamesFacts G → G → G → Holding → List ℕ → Seat F → Moment DraftView → List Event → Option (Seat F) → Type 0
+IsSeatedNow o facts g g' set stamp seat left events None = Unit {0}
+IsSeatedNow o facts g g' set stamp seat left events (Some now) =
+    IsSeat o facts g' set stamp now × (seat_moment set now ≡ left) × ((before : List Event) → IsKnownSeat facts g before stamp seat → IsKnownSeat facts g' (before ++ events) stamp now)
 
 -- the arbiter of a game in hand answers a message; the game stays open or is closed, and so do others
 pub record AnswersFrom {T P F K S L G : Type 0} (o : Outside T P F K S L) (facts : GamesFacts G) (old new : Server G F) (seat : Seat F) (m : Message) (reply : Reply) (events : List Event) : Type 0 where
@@ -138,7 +138,7 @@ pub record AnswersFrom {T P F K S L G : Type 0} (o : Outside T P F K S L) (facts
   pub is_kept : Bool
   pub answers : AnswersBy facts old.games (stamp_in m) (seat_moment old.tables seat) m told after is_kept events
   pub is : (datagram : List ℕ) → IsReply reply (Answered (stamp_in m) (exchange datagram told after) is_kept)
-  pub own : IsSeatedNow o facts old.games new.games old.tables (stamp_in m) seat events (open_at new (stamp_in m))
+  pub own : IsSeatedNow o facts old.games new.games old.tables (stamp_in m) seat (moment after.arbiter (settled after.keeper)) events (open_at new (stamp_in m))
   pub others : (other : List ℕ) → bytes_eq (stamp_in m) other ≡ false → IsLeftOpen (open_at old other) (open_at new other)
   pub backed : (before : List Event) → IsKnownSeat facts old.games before (stamp_in m) seat → AreBacked facts new.games (before ++ events) reply.outputs.items
 
