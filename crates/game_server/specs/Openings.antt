@@ -52,6 +52,10 @@ abbrev pub opened_as : {F : Type 0} → Result (FileGame F) OpenFault → Result
 opened_as (Ok game) = Ok (moment_of game)
 opened_as (Err fault) = Err fault
 
+-- so it is of a game over this file
+abbrev pub OpensOverIts : {T P F K S L : Type 0} → Outside T P F K S L → F → SetupView → T → T → Result (FileGame F) OpenFault → Type 0
+OpensOverIts o file setup t t' result = AddsSome o t t' (OpensGame (o.path file) setup (opened_as result))
+
 -- a status, or the fault of the output
 abbrev pub served_as : Result ℕ WriteFault → Result (Result ℕ OpenFault) WriteFault
 served_as (Ok status) = Ok (Ok status)

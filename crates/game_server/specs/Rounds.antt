@@ -61,6 +61,9 @@ pub record Gathers {T P F K S L G : Type 0} (o : Outside T P F K S L) (facts : G
   pub are : all_held gathered ≡ held
   pub is : events ≡ all_gathered gathered ++ end_events end
 
+abbrev pub GathersIn : {T P F K S L G : Type 0} → Outside T P F K S L → GamesFacts G → Server G F → Server G F → T → T → List HeldReply → RoundEnd → Type 0
+GathersIn o facts old new t t' held end = AddsSome o t t' (Gathers o facts old new held end)
+
 -- what they note is committed; where that is done, and only then, all replies are sent
 abbrev pub sent_if : Bool → List Event → List Event
 sent_if true events = events
@@ -76,6 +79,10 @@ pub record AnswersRound {T P F K S L G : Type 0} (o : Outside T P F K S L) (fact
   pub commit : List Event
   pub commits : CommitsGames facts mid.games now result.1 commit
   pub happens : Adds o t t' ((all_gathered gathered ++ end_events result.0) ++ (commit ++ sent_if (is_done result.1) (replies_sent to held)))
+
+-- so it is at a port
+abbrev pub AnswersAt : {T P F K S L G : Type 0} → Outside T P F K S L → GamesFacts G → Server G F → P → T → T → List HeldReply → RoundEnd × Result (Unit {0}) Uncommitted → Type 0
+AnswersAt o facts old port t t' held result = AnswersRound o facts old (o.port port).to t t' held result
 
 -- all that is sent from one moment to another is earned, where what was open kept what was known
 abbrev pub EarnsRound : {T P F K S L G : Type 0} → Outside T P F K S L → GamesFacts G → Server G F → T → T → Type 0

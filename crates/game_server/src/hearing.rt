@@ -5,7 +5,7 @@ ghost use Rattle.move_msg.specs.Messages.{stamp_in};
 ghost use Rattle.timeline.specs.Outsides.{AddsSome};
 ghost use Rattle.game_server.specs.Seats.{AreSeats, IsSeat, open_at};
 ghost use Rattle.game_server.specs.Datagrams.{HearsDatagram};
-ghost use Rattle.game_server.specs.Inside.Seating.{AnswersFrom, AnswersMessage, SeatsFor};
+ghost use Rattle.game_server.specs.Inside.Seating.{AnswersFromIn, AnswersMessageIn, SeatsFor};
 
 use crate::games::Games;
 use crate::room::{settle, take_out};
@@ -42,7 +42,7 @@ fn answer_at<'a, S: System, G: Games<S> + Drop>(
 ) -> Reply
     requires absent { open_at server.old (stamp_in message.now) ≡ None }
     requires seated { IsSeat (S.outside system.now) G.facts server.old.games server.old.tables (stamp_in message.now) seat }
-    ensures made { AddsSome (S.outside system.now) timeline.old timeline.new (AnswersFrom (S.outside system.now) G.facts server.old server.new seat.entry message.now result) }
+    ensures made { AnswersFromIn (S.outside system.now) G.facts server.old server.new seat.entry message.now timeline.old timeline.new result }
 {
     let mut seat = seat;
     let (reply, stays) = deliver(server, system, timeline, &mut seat, message);
@@ -60,7 +60,7 @@ fn answer<'a, S: System, G: Games<S> + Drop>(
     message: &Message,
 ) -> Reply
     requires { AreSeats (S.outside system.now) G.facts server.old }
-    ensures made { AddsSome (S.outside system.now) timeline.old timeline.new (AnswersMessage (S.outside system.now) G.facts server.old server.new message.now result) }
+    ensures made { AnswersMessageIn (S.outside system.now) G.facts server.old server.new message.now timeline.old timeline.new result }
 {
     match seat_for(server, system, timeline, message) {
         Ok(seat) => answer_at(server, system, timeline, seat, message),

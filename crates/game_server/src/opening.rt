@@ -5,13 +5,11 @@ ghost use Rattle.std.specs.Result.{result_map_both};
 ghost use Rattle.arbiter_core.specs.Delivers.{IsKept};
 ghost use Rattle.arbiter_core.specs.Setups.{setup_view};
 ghost use Rattle.system_io.specs.KeptFiles.{bytes_of};
-ghost use Rattle.timeline.specs.Outsides.{AddsSome};
-ghost use Rattle.game_server.specs.Openings.{OpensGame, found_draft, opened_as, unstarted_by};
+ghost use Rattle.game_server.specs.Openings.{OpensOverIts, ServesTask, found_draft, unstarted_by};
 ghost use Rattle.game_server.specs.Orders.{EarnsAll};
 ghost use Rattle.game_server.specs.Places.{one_file};
 ghost use Rattle.game_server.specs.Turns.{OutputFails};
-ghost use Rattle.game_server.specs.Openings.{ServesTask};
-ghost use Rattle.game_server.specs.Inside.Steps.{OpensOver};
+ghost use Rattle.game_server.specs.Inside.Steps.{OpensOverFile};
 
 use crate::draft::Draft;
 use crate::file_game::{FileGame, FileTask};
@@ -52,7 +50,7 @@ fn open_over<'a, S: System>(
     draft: Draft,
 ) -> Result<FileGame<'a, S::File>, OpenFault>
     requires { draft.to_put ≡ None }
-    ensures opens { AddsSome (S.outside system.now) timeline.old timeline.new (OpensOver ((S.outside system.now).path file) (setup_view setup.entry) draft (opened_as result)) }
+    ensures opens { OpensOverFile (S.outside system.now) file (setup_view setup.entry) draft timeline.old timeline.new result }
     ensures keeps { IfOk result (λ game. IsKept game.draft.kept game.arbiter) }
     ensures path { IfOk result (λ game. (S.outside system.now).path game.file ≡ (S.outside system.now).path file) }
 {
@@ -82,7 +80,7 @@ pub fn open<'a, S: System>(
     setup: Setup<'a>,
     file: S::File,
 ) -> Result<FileGame<'a, S::File>, OpenFault>
-    ensures opens { AddsSome (S.outside system.now) timeline.old timeline.new (OpensGame ((S.outside system.now).path file) (setup_view setup.entry) (opened_as result)) }
+    ensures opens { OpensOverIts (S.outside system.now) file (setup_view setup.entry) timeline.old timeline.new result }
     ensures keeps { IfOk result (λ game. IsKept game.draft.kept game.arbiter) }
     ensures path { IfOk result (λ game. (S.outside system.now).path game.file ≡ (S.outside system.now).path file) }
 {

@@ -2,9 +2,9 @@
 
 ghost use Rattle.std.specs.Prelude.{◌≡◌, ◌<◌, ◌≤◌, false, None, Ok, IfOk, IfSome, vec_capacity, vec_len};
 ghost use Rattle.timeline.specs.Outsides.{Adds, AddsSome, SendsToSame};
-ghost use Rattle.game_server.specs.Rounds.{AnswersRound, AreAllSpelled, EarnsRound, Gathers, replies_sent};
+ghost use Rattle.game_server.specs.Rounds.{AnswersAt, AreAllSpelled, EarnsRound, GathersIn, replies_sent};
 ghost use Rattle.game_server.specs.Seats.{AreSeats};
-ghost use Rattle.game_server.specs.Inside.Gathering.{HearsOne, ReceivesNext};
+ghost use Rattle.game_server.specs.Inside.Gathering.{HearsOneIn, ReceivesNext, came};
 
 use crate::games::Games;
 use crate::hearing::hear;
@@ -71,7 +71,7 @@ fn hear_one<'a, S: System, G: Games<S> + Drop>(
 )
     requires seats { AreSeats (S.outside system.now) G.facts server.old }
     requires room { vec_len replies.old < vec_capacity replies.old }
-    ensures made { AddsSome (S.outside system.now) timeline.old timeline.new (HearsOne (S.outside system.now) G.facts server.old server.new bytes.now sender replies.old.items replies.new.items) }
+    ensures made { HearsOneIn (S.outside system.now) G.facts server.old server.new (came bytes.now sender) timeline.old timeline.new replies.old replies.new }
     ensures room { vec_capacity replies.old ≤ vec_capacity replies.new }
 {
     let reply = hear(server, system, timeline, bytes);
@@ -92,7 +92,7 @@ pub fn gather<'a, S: System, G: Games<S> + Drop>(
     requires room { most ≤ vec_capacity replies.old }
     ensures seats { AreSeats (S.outside system.now) G.facts server.new }
     ensures same { SendsToSame ((S.outside system.now).port port.old) ((S.outside system.now).port port.new) }
-    ensures made { AddsSome (S.outside system.now) timeline.old timeline.new (Gathers (S.outside system.now) G.facts server.old server.new replies.new.items result) }
+    ensures made { GathersIn (S.outside system.now) G.facts server.old server.new timeline.old timeline.new replies.new.items result }
     ensures room { vec_capacity replies.old ≤ vec_capacity replies.new }
 {
     let mut buffer = [0u8; 64];
@@ -143,7 +143,7 @@ pub fn answer_round<'a, S: System, G: Games<S> + Drop>(
     requires room { most ≤ vec_capacity replies.old }
     ensures seats { AreSeats (S.outside system.now) G.facts server.new }
     ensures same { SendsToSame ((S.outside system.now).port port.old) ((S.outside system.now).port port.new) }
-    ensures round { AnswersRound (S.outside system.now) G.facts server.old ((S.outside system.now).port port.old).to timeline.old timeline.new replies.new.items result }
+    ensures round { AnswersAt (S.outside system.now) G.facts server.old port.old timeline.old timeline.new replies.new.items result }
     ensures earned { EarnsRound (S.outside system.now) G.facts server.old timeline.old timeline.new }
     ensures room { vec_capacity replies.old ≤ vec_capacity replies.new }
 {

@@ -7,7 +7,7 @@ ghost use Rattle.move_msg.specs.Messages.{stamp_in};
 ghost use Rattle.timeline.specs.Outsides.{AddsSome};
 ghost use Rattle.game_server.specs.Holdings.{IsKeptIn};
 ghost use Rattle.game_server.specs.Seats.{IsSeat};
-ghost use Rattle.game_server.specs.Inside.Seating.{DeliversTo, OpensForMessage, OpensOverKept, OpensTaken};
+ghost use Rattle.game_server.specs.Inside.Seating.{DeliversIn, OpensForIn, OpensOverKept, OpensTaken};
 
 use crate::games::{Games, KeptGame};
 use crate::lookup::{found, opens_game};
@@ -88,7 +88,7 @@ pub(crate) fn open_for<'a, S: System, G: Games<S> + Drop>(
     timeline: &mut S::Timeline,
     message: &Message,
 ) -> Result<Seat<'a, S::File>, OpenGameError>
-    ensures made { AddsSome (S.outside system.now) timeline.old timeline.new (OpensForMessage (S.outside system.now) G.facts server.old server.new message.now result) }
+    ensures made { OpensForIn (S.outside system.now) G.facts server.old server.new message.now timeline.old timeline.new result }
 {
     if !opens_game(message) {
         return Err(OpenGameError::NotOpen);
@@ -128,7 +128,7 @@ pub(crate) fn deliver<'a, S: System, G: Games<S> + Drop>(
     message: &Message,
 ) -> (Reply, bool)
     requires { IsSeat (S.outside system.now) G.facts server.old.games server.old.tables (stamp_in message.now) seat.old }
-    ensures made { AddsSome (S.outside system.now) timeline.old timeline.new (DeliversTo (S.outside system.now) G.facts server.old server.new seat.old seat.new message.now result) }
+    ensures made { DeliversIn (S.outside system.now) G.facts server.old server.new seat.old seat.new message.now timeline.old timeline.new result }
 {
     let stamp = message.stamp();
     match seat.state.deliver(

@@ -9,8 +9,8 @@ ghost use Rattle.timeline.specs.Events.{is_done};
 ghost use Rattle.timeline.specs.Outsides.{Adds, AddsSome, HeardNothing, SendsToSame};
 ghost use Rattle.game_server.specs.Drafts.{settled};
 ghost use Rattle.game_server.specs.Openings.{put_events};
-ghost use Rattle.game_server.specs.Turns.{AllSpelled, IsRequestSpelled, OutputFails, ServesGame, address_of, message_sent, request, request_sent, sent};
-ghost use Rattle.game_server.specs.Inside.Steps.{BeginsTurnAt, HearsAt, IsLineEnd, TakesTurnAt, stops};
+ghost use Rattle.game_server.specs.Turns.{AllSpelled, IsRequestSpelled, OutputFails, ServesGame, address_of, message_sent, request, sent};
+ghost use Rattle.game_server.specs.Inside.Steps.{BeginsTurnAt, HearsAt, IsLineEnd, Requests, TakesTurnAt, stops};
 
 use crate::draft::Draft;
 use crate::file_game::FileGame;
@@ -197,7 +197,7 @@ fn ask_if<S: System>(
     fetch: bool,
 )
     ensures same { HeardNothing ((S.outside system.now).port port.old) ((S.outside system.now).port port.new) }
-    ensures made { Adds (S.outside system.now) timeline.old timeline.new (request_sent (address_of ((S.outside system.now).port port.old)) (request fetch arbiter.now)) }
+    ensures made { Requests (S.outside system.now) port.old fetch arbiter.now timeline.old timeline.new }
     ensures spelled { IsRequestSpelled (request fetch arbiter.now) }
 {
     if fetch {

@@ -15,7 +15,7 @@ use Rattle.move_msg.specs.Heard.{heard_in}
 use Rattle.move_msg.specs.Messages.{stamp_in}
 use Rattle.move_msg.specs.declared.message.Message.{Message}
 use Rattle.timeline.specs.Events.{Event}
-use Rattle.timeline.specs.Outsides.{Outside}
+use Rattle.timeline.specs.Outsides.{AddsSome, Outside}
 use Rattle.game_server.specs.Datagrams.{HearsDatagram, IsLeftOpen}
 use Rattle.game_server.specs.Drafts.{DraftView, draft_facts, settled}
 use Rattle.game_server.specs.Fates.{Answered, AnswersBy, HasGame, OpensFor, OpensSeat, TakesAndOpens}
@@ -145,3 +145,17 @@ pub record AnswersFrom {T P F K S L G : Type 0} (o : Outside T P F K S L) (facts
 -- a message is answered, whichever datagram it was read from
 abbrev pub AnswersMessage : {T P F K S L G : Type 0} → Outside T P F K S L → GamesFacts G → Server G F → Server G F → Message → Reply → List Event → Type 0
 AnswersMessage o facts old new m reply events = (datagram : List ℕ) → heard_in datagram ≡ Ok m → HearsDatagram o facts old new datagram reply events
+
+-- ---- over a timeline
+
+abbrev pub OpensForIn : {T P F K S L G : Type 0} → Outside T P F K S L → GamesFacts G → Server G F → Server G F → Message → T → T → Result (Seat F) OpenGameError → Type 0
+OpensForIn o facts old new m t t' result = AddsSome o t t' (OpensForMessage o facts old new m result)
+
+abbrev pub DeliversIn : {T P F K S L G : Type 0} → Outside T P F K S L → GamesFacts G → Server G F → Server G F → Seat F → Seat F → Message → T → T → Reply × Bool → Type 0
+DeliversIn o facts old new seat seat' m t t' result = AddsSome o t t' (DeliversTo o facts old new seat seat' m result)
+
+abbrev pub AnswersFromIn : {T P F K S L G : Type 0} → Outside T P F K S L → GamesFacts G → Server G F → Server G F → Seat F → Message → T → T → Reply → Type 0
+AnswersFromIn o facts old new seat m t t' reply = AddsSome o t t' (AnswersFrom o facts old new seat m reply)
+
+abbrev pub AnswersMessageIn : {T P F K S L G : Type 0} → Outside T P F K S L → GamesFacts G → Server G F → Server G F → Message → T → T → Reply → Type 0
+AnswersMessageIn o facts old new m t t' reply = AddsSome o t t' (AnswersMessage o facts old new m reply)

@@ -12,10 +12,10 @@ use Rattle.arbiter_server.specs.declared.datagram_report.DatagramReport.{Datagra
 use Rattle.system_io.specs.declared.output.WriteFault.{WriteFault}
 use Rattle.system_io.specs.declared.recipient.Recipient.{Recipient}
 use Rattle.timeline.specs.Events.{Event, Put}
-use Rattle.timeline.specs.Outsides.{Adds, Outside}
+use Rattle.timeline.specs.Outsides.{Adds, AddsSome, Outside}
 use Rattle.game_server.specs.Drafts.{DraftView, draft_facts, settled}
-use Rattle.game_server.specs.Turns.{Address, AreSpelled, GoesByTurn, Hearing, LineEnd, Turn, answered, address_of, hearing_line, is_keeper_lost, is_lost, is_out, is_printed, line_events, moment_of, turn_events}
-use Rattle.game_server.specs.Openings.{put_events}
+use Rattle.game_server.specs.Turns.{Address, AreSpelled, GoesByTurn, Hearing, LineEnd, Turn, answered, address_of, hearing_line, is_keeper_lost, is_lost, is_out, is_printed, line_events, moment_of, request, request_sent, turn_events}
+use Rattle.game_server.specs.Openings.{opened_as, put_events}
 use Rattle.game_server.specs.declared.file_game.FileGame.{FileGame}
 use Rattle.game_server.specs.declared.serving.Next.{Next}
 use Rattle.game_server.specs.declared.serving.Next.TheVariants.{GoesOn, Stops}
@@ -80,3 +80,10 @@ pub data OpensOver (path : List ℕ) (setup : SetupView) (found : DraftView) (to
   NoArbiterOver : (after : DraftView) (fault : OpenFault) → IsOpening draft_facts setup found after (Err fault) → events ≡ [] → told ≡ Err fault → OpensOver path setup found told events
   UnputOver : (after : DraftView) (v : View) (bytes : List ℕ) → IsOpening draft_facts setup found after (Ok v) → after.to_put ≡ Some bytes → events ≡ Put path bytes false ∷ [] → told ≡ Err open_fault.KeeperFailed → OpensOver path setup found told events
   OpenedOver : (after : DraftView) (v : View) → IsOpening draft_facts setup found after (Ok v) → events ≡ put_events path after.to_put true → told ≡ Ok (moment v (settled after)) → OpensOver path setup found told events
+
+abbrev pub OpensOverFile : {T P F K S L : Type 0} → Outside T P F K S L → F → SetupView → DraftView → T → T → Result (FileGame F) OpenFault → Type 0
+OpensOverFile o file setup draft t t' result = AddsSome o t t' (OpensOver (o.path file) setup draft (opened_as result))
+
+-- the request for moves is sent at a port, where it is wanted
+abbrev pub Requests : {T P F K S L : Type 0} → Outside T P F K S L → P → Bool → View → T → T → Type 0
+Requests o port fetch arbiter t t' = Adds o t t' (request_sent (address_of (o.port port)) (request fetch arbiter))
