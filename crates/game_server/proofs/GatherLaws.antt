@@ -26,10 +26,7 @@ use Rattle.game_server.proofs.Composing.{with_games}
 use Rattle.game_server.proofs.Knowing.{quiet_join}
 use Rattle.game_server.proofs.RoundLaws.{end_quiet, quiet_earned, round_earned, round_known}
 
--- results of one type
-abbrev pub next_of : (E : Type 0) → ℕ → Result (Option ℕ) E
-next_of E n = Ok (Some n)
-
+-- a commit that failed
 abbrev pub uncommitted : Uncommitted → Result (Unit {0}) Uncommitted
 uncommitted why = Err why
 
@@ -85,7 +82,7 @@ next_in_time o a b (Ok (Some n)) sender buffer wait is p = (_, p, refl)
 next_in_time o a b (Ok None) sender buffer wait is p = (_, p, ap (λ (n : ℕ). Quiet n ∷ []) is)
 next_in_time o a b (Err e) sender buffer wait is p = (_, p, refl)
 
-pub came_next : {T P F K S L E : Type 0} (o : Outside T P F K S L) (a b : T) (n : ℕ) (sender : Option SocketAddr) (buffer : List ℕ) → AddsSome o a b (ReceivesNext sender buffer (next_of E n)) → Adds o a b (Came sender (take n buffer) ∷ [])
+pub came_next : {T P F K S L : Type 0} (o : Outside T P F K S L) (a b : T) (n : ℕ) (sender : Option SocketAddr) (buffer : List ℕ) → AddsSome o a b (λ events. events ≡ Came sender (take n buffer) ∷ []) → Adds o a b (Came sender (take n buffer) ∷ [])
 came_next o a b n sender buffer p = subst (Adds o a b) p.2 p.1
 
 -- ---- a whole round

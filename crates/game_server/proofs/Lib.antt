@@ -12,5 +12,6 @@ pub mod Composing
 pub mod DeliverLaws
 pub mod RoomLaws
 pub mod HearLaws
+pub mod DatagramLaws
 pub mod RoundLaws
 pub mod GatherLaws

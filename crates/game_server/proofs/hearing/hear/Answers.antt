@@ -1,6 +1,6 @@
 use Rattle.std.proofs.Common.{ap, sym}
 use Rattle.game_server.specs.Replies.{line_words}
-use Rattle.game_server.proofs.HearLaws.{heard_unread}
+use Rattle.game_server.proofs.DatagramLaws.{heard_unread}
 use Rattle.game_server.proofs.hearing.hear.Goals as goal
 
 pub returns-in-Ok : goal.returns-in-Ok

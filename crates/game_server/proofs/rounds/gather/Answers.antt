@@ -1,5 +1,5 @@
 use Rattle.std.proofs.Common.{◌≡◌, ◌∙◌, [], ◌∷◌, length, take, arith, ap, refl, sym, subst, length-append}
-use Rattle.game_server.specs.Rounds.{Gathers}
+use Rattle.timeline.specs.Outsides.{Adds}
 use Rattle.game_server.specs.declared.rounds.RoundEnd.TheVariants.{IsFull, NoMore, PortLost}
 use Rattle.timeline.proofs.EventLaws.{adds_none}
 use Rattle.game_server.proofs.GatherLaws.{HasGathered, all_gathered_so, came_next, none_gathered, one_gathered}
@@ -21,7 +21,7 @@ loop-buffer-preserved g c =
     let one = c.hear_one.ensures.made in
     record {
       gathered = one_gathered o g.G.Games.facts c.args.server.now c.loop-buffer.server c.hear_one.new.server c.args.timeline.now c.loop-buffer.timeline c.receive_next.new.timeline c.hear_one.new.timeline c.loop-buffer.replies.items _ _ _ c.loop-buffer.invariant.gathered
-          (came_next o c.loop-buffer.timeline c.receive_next.new.timeline c.in-Ok-Some.length _ _ (rw c.in-Ok-Some.field-0-is at c.in-Ok-Some.ensures.made)) (rw c.sender.ensures at one);
+          (came_next o c.loop-buffer.timeline c.receive_next.new.timeline c.in-Ok-Some.length _ _ (rw c.in-Ok-Some.field-0-is at c.in-Ok-Some.ensures.made)) (rw c.sender-sender.ensures at one);
       seats = one.2.heard.seats;
       port = same_then _ _ _ c.loop-buffer.invariant.port c.receive_next.ensures.same;
       few =
@@ -34,12 +34,12 @@ loop-buffer-preserved g c =
 pub returns-in-Ok-None-clause-made : goal.returns-in-Ok-None-clause-made
 returns-in-Ok-None-clause-made g c =
     let p = rw c.in-Ok-None.field-0-is at c.in-Ok-None.ensures.made in
-    all_gathered_so (g.S.System.outside c.args.system.now) g.G.Games.facts c.args.server.now _ c.args.timeline.now c.loop-buffer.timeline c.receive_next.new.timeline _ NoMore c.loop-buffer.invariant.gathered (rw p.2 at p.1)
+    all_gathered_so (g.S.System.outside c.args.system.now) g.G.Games.facts c.args.server.now _ c.args.timeline.now c.loop-buffer.timeline c.receive_next.new.timeline _ NoMore c.loop-buffer.invariant.gathered (subst (Adds (g.S.System.outside c.args.system.now) c.loop-buffer.timeline c.receive_next.new.timeline) p.2 p.1)
 
 pub returns-in-Err-clause-made : goal.returns-in-Err-clause-made
 returns-in-Err-clause-made g c =
     let p = c.in-Err.ensures.made in
-    all_gathered_so (g.S.System.outside c.args.system.now) g.G.Games.facts c.args.server.now _ c.args.timeline.now c.loop-buffer.timeline c.receive_next.new.timeline _ PortLost c.loop-buffer.invariant.gathered (rw p.2 at p.1)
+    all_gathered_so (g.S.System.outside c.args.system.now) g.G.Games.facts c.args.server.now _ c.args.timeline.now c.loop-buffer.timeline c.receive_next.new.timeline _ PortLost c.loop-buffer.invariant.gathered (subst (Adds (g.S.System.outside c.args.system.now) c.loop-buffer.timeline c.receive_next.new.timeline) p.2 p.1)
 
 pub returns-clause-made : goal.returns-clause-made
 returns-clause-made g c = all_gathered_so (g.S.System.outside c.args.system.now) g.G.Games.facts c.args.server.now _ c.args.timeline.now c.loop-buffer.timeline c.loop-buffer.timeline _ IsFull c.loop-buffer.invariant.gathered (adds_none (g.S.System.outside c.args.system.now) c.loop-buffer.timeline)
