@@ -16,3 +16,6 @@ pub returns-then-not-opens_game : goal.returns-then-not-opens_game
 returns-then-not-opens_game g c = record {
   made = opens_none (g.S.System.outside c.args.system.now) g.G.Games.facts c.args.server.now _ c.args.message.now _ c.args.timeline.now refl refl (sym c.if-not-opens_game.ensures);
 }
+
+pub open_found-requires : goal.open_found-requires
+open_found-requires g c = c.in-Ok.ensures.made.2.is.1
