@@ -73,7 +73,7 @@ module _ {T P F K S L G : Type 0} (o : Outside T P F K S L) (facts : GamesFacts 
     all_others : (other : List ℕ) → bytes_eq (stamp_in m) other ≡ false → IsLeftOpen (open_at old other) (open_at new other)
     all_others other apart = subst (λ (k : Option (Seat F)). IsLeftOpen k (open_at new other)) (s.others other apart) (a.others other apart)
 
-    left : Moment DraftView
+    abbrev left : Moment DraftView
     left = moment a.after.arbiter (settled a.after.keeper)
 
     own_seats : (k : Option (Seat F)) → IsSeatedNow o facts mid.games new.games mid.tables (stamp_in m) seat left rest k → IfSome k (IsSeat o facts new.games new.tables (stamp_in m))

@@ -44,7 +44,7 @@ module _ {F : Type 0} (old new : List ℕ → Option (Seat F)) (stamp : List ℕ
   is_other other apart = h other ∙ ap (λ (b : Bool). cond b None (old other)) apart
 
 at_some : {X : Type 0} (P : X → Type 0) (k : Option X) (x : X) → k ≡ Some x → IfSome k P → P x
-at_some P k x is h = subst (λ (o : Option X). IfSome o P) is h
+at_some {X = X} P k x is h = subst (λ (o : Option X). IfSome o P) is h
 
 -- ---- the game of a message
 
@@ -97,7 +97,7 @@ module _ {T P F K S L G : Type 0} (o : Outside T P F K S L) (facts : GamesFacts 
   at_mid events stays h other = ap (λ (c : LruCache (List ℕ) (Seat F)). at_stamp c.entries other) h.same.seats
 
   module _ (events : List Event) (l : LruCache (List ℕ) (Seat F)) (h : DeliversTo o facts old mid seat seat' m (reply, true) events) (left : (other : List ℕ) → IsLeftOpen (cond (bytes_eq (stamp_in m) other) (Some seat') (open_at mid other)) (at_stamp l.entries other)) where
-    left_by : Moment DraftView
+    abbrev left_by : Moment DraftView
     left_by = moment h.after.arbiter (settled h.after.keeper)
 
     own_seat : (k : Option (Seat F)) → IsLeftOpen (Some seat') k → IsSeatedNow o facts old.games mid.games old.tables (stamp_in m) seat left_by events k

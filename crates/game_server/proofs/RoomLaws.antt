@@ -21,10 +21,10 @@ left_none : {X : Type 0} (was now : Option X) → was ≡ None → IsLeftOpen wa
 left_none was now none (inl same) = same ∙ none
 left_none was now none (inr gone) = gone
 
-module _ {X A : Type 0} (old mid new : LruCache (List ℕ) X) (stamp : List ℕ) (seat : X) (absent : at_stamp old.entries stamp ≡ None) (room : (other : List ℕ) → IsLeftOpen (at_stamp old.entries other) (at_stamp mid.entries other)) where
-  pub absent_mid : at_stamp mid.entries stamp ≡ None
-  absent_mid = left_none _ _ absent (room stamp)
+pub absent_mid : {X : Type 0} (old mid : LruCache (List ℕ) X) (stamp : List ℕ) → at_stamp old.entries stamp ≡ None → ((other : List ℕ) → IsLeftOpen (at_stamp old.entries other) (at_stamp mid.entries other)) → at_stamp mid.entries stamp ≡ None
+absent_mid old mid stamp absent room = left_none _ _ absent (room stamp)
 
+module _ {X A : Type 0} (old mid new : LruCache (List ℕ) X) (stamp : List ℕ) (seat : X) (absent : at_stamp old.entries stamp ≡ None) (room : (other : List ℕ) → IsLeftOpen (at_stamp old.entries other) (at_stamp mid.entries other)) where
   -- and the one in hand stays open, or is closed where memory is refused
   pub settled_by : (r : Result A X) → OnOk r ((other : List ℕ) → at_stamp new.entries other ≡ cond (bytes_eq stamp other) (Some seat) (at_stamp mid.entries other)) → IfErr r (λ back. (back ≡ seat) × (new ≡ mid)) → (other : List ℕ) → IsLeftOpen (cond (bytes_eq stamp other) (Some seat) (at_stamp old.entries other)) (at_stamp new.entries other)
   settled_by (Ok x) put back other = by (bytes_eq stamp other) (put other)
@@ -38,5 +38,5 @@ module _ {X A : Type 0} (old mid new : LruCache (List ℕ) X) (stamp : List ℕ)
       same = ap (λ (l : LruCache (List ℕ) X). at_stamp l.entries other) back.1
 
       by : (b : Bool) → bytes_eq stamp other ≡ b → IsLeftOpen (cond b (Some seat) (at_stamp old.entries other)) (at_stamp new.entries other)
-      by true is = inr (same ∙ subst (λ (s : List ℕ). at_stamp mid.entries s ≡ None) ((bytes_eq-Decides stamp other).0 is) absent_mid)
+      by true is = inr (same ∙ subst (λ (s : List ℕ). at_stamp mid.entries s ≡ None) ((bytes_eq-Decides stamp other).0 is) (absent_mid old mid stamp absent room))
       by false is = subst (λ (k : Option X). IsLeftOpen (at_stamp old.entries other) k) (sym same) (room other)

@@ -59,8 +59,8 @@ returns-in-Ok-keep g c =
       );
     }
 
-pub returns-in-Ok : goal.returns-in-Ok
-returns-in-Ok g c =
+pub returns-in-Err-keep : goal.returns-in-Err-keep
+returns-in-Err-keep g c =
     let o = g.S.System.outside c.args.system.now in
     let facts = g.G.Games.facts in
     let old = c.args.server.now in
@@ -106,7 +106,7 @@ returns-in-Err g c =
     let seat' : Seat g.row.S-File.Denot = record { state = c.deliver.new.self; kept = record seat.kept { draft = draft } } in
     let a = announces (moment (awake seat.state old.tables) seat.kept.draft) after (Err c.in-Err.fault) (in_game seat.state.me.stamp (Ok c.args.message.now)) c.in-Err.ensures.answers in
     let clean = ap (λ (d : DraftView). d.to_put) (a.refused c.in-Err.fault refl) ∙ c.requires.clean in
-    let out = c.line_alone.ensures.outputs in
+    let out = c.line_alone-in-Err.ensures.outputs in
     record {
       made = (
         [],
@@ -120,7 +120,7 @@ returns-in-Err g c =
           is_kept = true;
           answers = record { answers = c.in-Err.ensures.answers; kept = refl };
           left = ap (moment (awake c.deliver.new.self old.tables)) (clean_draft draft clean);
-          reply = λ datagram. record { outputs = out; line = ap line_words c.line_alone.ensures.line ∙ ap₂ stamped c.stamp-stamp.ensures c.refused.ensures };
+          reply = λ datagram. record { outputs = out; line = ap line_words c.line_alone-in-Err.ensures.line ∙ ap₂ stamped c.stamp-stamp.ensures c.refused.ensures };
           seated = λ yes. is_seat o facts old.games old.games old.tables stamp seat seat' (Err c.in-Err.fault) draft c.requires a (clean_draft draft clean) c.in-Err.ensures.keeps refl
               (subst (λ (s : List ℕ). IsKeptIn o (facts.places (facts.place old.games) s) seat.kept.file) (sym c.requires.of) c.requires.within) c.in-Err.ensures.wakes;
           backed = λ before knew. subst (λ (ms : List Message). AreBacked facts old.games (before ++ []) ms) (sym out) tt;
