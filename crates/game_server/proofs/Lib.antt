@@ -13,5 +13,3 @@ pub mod DeliverLaws
 pub mod RoomLaws
 pub mod HearLaws
 pub mod DatagramLaws
-pub mod RoundLaws
-pub mod GatherLaws

@@ -8,5 +8,4 @@ pub mod Seats
 pub mod Fates
 pub mod Replies
 pub mod Datagrams
-pub mod Rounds
 pub mod Inside

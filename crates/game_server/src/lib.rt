@@ -6,17 +6,17 @@
 //! - **One game in a file**: `open` starts over the file, `serve` answers the datagrams of a port; `open_and_serve` does both. A
 //!   datagram's line goes out before the next one is awaited.
 //! - **Any number of games**: `Games` finds a game by its stamp, takes its record, keeps what a delivery puts (a file at once; for a
-//!   store it is noted) and commits what was noted. `hear` answers a datagram by the game that it names; `answer_round` answers those that
-//!   have come together, and sends nothing before the commit. A record that can't be kept refuses its game alone.
+//!   store it is noted) and commits what was noted. `hear` answers a datagram by the game that it names, but sends nothing: that is to be
+//!   done behind the commit. A record that can't be kept refuses its game alone.
 //!
 //! Nothing uses this crate yet: it is to take the place of both servers of `arbiter_server`.
 //!
 //! Inside: `draft`; for one game `file_game`, `serving`, `opening`, `laws`; for many `games`, `seat` (a game that is open), `server`,
-//! `room`, `lookup`, `seating` (a game is opened, and answers), `hearing` (a datagram), `rounds`.
+//! `room`, `lookup`, `seating` (a game is opened, and answers), `hearing` (a datagram).
 //!
 //! Definitions, in reading order: `Drafts`, `Turns` (`turn_events`, `GoesByTurn`, `InTurns`, `Serves`), `Places` (`WasKept`), `Orders` (`IsBacked`,
-//! `EachEarned`, `AcksAreEarned`), `Openings` for one game; `Holdings` (`GamesFacts`), `Seats`, `Fates` (`OpensFor`, `GoesTo`), `Replies`, `Datagrams`
-//! (`HearsDatagram`), `Rounds` for many; for private clauses `Steps`, `Seating`, `Gathering`.
+//! `EachEarned`, `AcksAreEarned`), `Openings` for one game; `Holdings` (`GamesFacts`), `Seats`, `Fates` (`OpensFor`, `GoesTo`), `Replies`,
+//! `Datagrams` (`HearsDatagram`) for many; for private clauses `Steps`, `Seating`.
 //!
 //! - CLAIM: `Draft`, clause `facts`: a put succeeds, and its bytes are to be put where the record is kept.
 //! - CLAIM: `open`, clause `opens`: a start reads the file; over a record of the game the arbiter runs from it with nothing put, and over
@@ -29,10 +29,9 @@
 //!   this game with at least so many in this file, or after the start found one; each verdict comes after a record with it.
 //! - CLAIM: `hear`, clause `made`: nothing is sent. The datagram has one of the fates of `GoesTo`, and the reply is of that. A record that
 //!   can't be kept is not announced, and its game alone is closed; another game is as it was, or closed.
-//! - CLAIM: `answer_round`, clause `round`: the datagrams of a round are answered in turn, what was noted is committed, and only then all
-//!   replies are sent, each to where its datagram came from; where the commit fails none is.
-//! - CLAIM: `answer_round`, clause `earned`: each acknowledgement of so many moves of a game comes after a record of it with at least so many
-//!   was put, committed or found where that game's record is kept; each verdict after one with it.
+//! - CLAIM: `hear`, clause `made`, field `backed`: what the messages of the reply say of a record was put, committed or found where that game's
+//!   record is kept, or is noted for the next commit.
+//! - CLAIM: `Server::open`: no game is open yet.
 #![tactic(auto)]
 
 mod draft;
@@ -43,7 +42,6 @@ pub mod laws;
 mod lookup;
 mod opening;
 mod room;
-mod rounds;
 mod seat;
 mod seating;
 mod server;
@@ -54,7 +52,6 @@ pub use file_game::{FileGame, FileTask};
 pub use games::{Games, KeptGame};
 pub use hearing::hear;
 pub use opening::{open, open_and_serve};
-pub use rounds::{HeldReply, RoundEnd, answer_round, gather, send_replies};
 pub use seat::{Reply, ReplyLine, Seat};
 pub use server::Server;
 pub use serving::serve;
