@@ -1,0 +1,15 @@
+pub mod Ports
+pub mod Saying
+pub mod Backing
+pub mod Earning
+pub mod Stepping
+pub mod TurnLaws
+pub mod Openings
+pub mod Announcing
+pub mod Knowing
+pub mod SeatLaws
+pub mod Composing
+pub mod DeliverLaws
+pub mod RoomLaws
+pub mod HearLaws
+pub mod DatagramLaws

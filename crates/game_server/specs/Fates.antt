@@ -1,0 +1,114 @@
+-- What becomes of a datagram at a server of many games (this project's own).
+use Rattle.std.specs.Prelude.{◌≡◌, ◌⊎◌, ◌++◌, ℕ, Bool, true, false, List, [], ◌∷◌, cond, codes, Option, Some, None, Result, Ok, Err}
+use Rattle.std.specs.List.{AllByRecursion}
+use Rattle.std.specs.Str.{bytes_eq}
+use Rattle.arbiter_core.specs.Delivers.{Exchange, Moment, ReturnsAnswer, Told, answer_to_any, exchange, moment}
+use Rattle.arbiter_core.specs.Opens.{IsOpening}
+use Rattle.arbiter_core.specs.Setups.{SetupView}
+use Rattle.arbiter_core.specs.Views.{View}
+use Rattle.arbiter_core.specs.declared.fault.DeliverFault.TheVariants.{NotAMessage}
+use Rattle.arbiter_core.specs.declared.fault.OpenFault.{OpenFault}
+use Rattle.arbiter_server.specs.Acts.{opens_game}
+use Rattle.arbiter_server.specs.Games.{CommonView, IsGameOf, setup_of}
+use Rattle.arbiter_server.specs.ServedLines.{refused_datagram, refused_keeper}
+use Rattle.arbiter_server.specs.Serving.{line_of, outputs_of}
+use Rattle.arbiter_server.specs.Told.{stamped, unopened_by, unopened_words}
+use Rattle.arbiter_server.specs.declared.fault.OpenGameError.{OpenGameError}
+use Rattle.arbiter_server.specs.declared.fault.OpenGameError.TheVariants as unopened
+use Rattle.arbiter_server.specs.declared.games.GameConfig.{GameConfig}
+use Rattle.move_msg.specs.Heard.{heard_in}
+use Rattle.move_msg.specs.Messages.{stamp_in}
+use Rattle.move_msg.specs.declared.message.Message.{Message}
+use Rattle.move_msg.specs.declared.message.MessageFault.{MessageFault}
+use Rattle.timeline.specs.Events.{Event}
+use Rattle.game_server.specs.Drafts.{DraftView, draft_facts, settled}
+use Rattle.game_server.specs.Holdings.{GamesFacts}
+use Rattle.game_server.specs.Openings.{found_draft}
+use Rattle.game_server.specs.Turns.{is_unput}
+
+-- ---- what is answered
+
+pub data Fate : Type 0 where
+  -- the bytes are no message
+  Unread : (fault : MessageFault) → Fate
+  -- the game with this stamp isn't open
+  Unopened : (stamp : List ℕ) (why : OpenGameError) → Fate
+  -- its arbiter answered, and what it had to put was kept or not
+  Answered : (stamp : List ℕ) (e : Exchange DraftView) (is_kept : Bool) → Fate
+
+-- what was to be put wasn't kept
+abbrev pub is_lost_at : Exchange DraftView → Bool → Bool
+is_lost_at e is_kept = is_unput e.after.keeper.to_put is_kept e.told
+
+abbrev pub fate_line : Fate → List ℕ
+fate_line (Unread fault) = codes "- " ++ refused_datagram (NotAMessage fault)
+fate_line (Unopened stamp why) = stamped stamp (unopened_words why)
+fate_line (Answered stamp e is_kept) = stamped stamp (cond (is_lost_at e is_kept) refused_keeper (line_of e))
+
+-- a record that isn't kept is not announced
+abbrev pub fate_outputs : Fate → List Message
+fate_outputs (Unread fault) = []
+fate_outputs (Unopened stamp why) = []
+fate_outputs (Answered stamp e is_kept) = cond (is_lost_at e is_kept) [] (outputs_of e.told)
+
+-- where its game is afterwards, if it stays open
+abbrev pub fate_leaves : Fate → Option (Moment DraftView)
+fate_leaves (Unread fault) = None
+fate_leaves (Unopened stamp why) = None
+fate_leaves (Answered stamp e is_kept) = Some (moment e.after.arbiter (settled e.after.keeper))
+
+-- ---- an arbiter answers
+
+module _ {G : Type 0} (facts : GamesFacts G) where
+  -- what is to be put is kept by these events, if anything
+  abbrev pub KeptIfAny : facts.Place → List ℕ → Option (List ℕ) → List Event → Type 0
+  KeptIfAny place stamp None events = events ≡ []
+  KeptIfAny place stamp (Some bytes) events = facts.keeps place stamp bytes true events
+
+  -- what an answer has to put is kept by these events, or that fails; a refusal puts nothing
+  abbrev pub KeepsAnswer : facts.Place → List ℕ → Told → Option (List ℕ) → Bool → List Event → Type 0
+  KeepsAnswer place stamp (Err fault) to_put is_kept events = events ≡ []
+  KeepsAnswer place stamp (Ok outputs) None is_kept events = events ≡ []
+  KeepsAnswer place stamp (Ok outputs) (Some bytes) is_kept events = facts.keeps place stamp bytes is_kept events
+
+  pub record AnswersBy (g : G) (stamp : List ℕ) (at : Moment DraftView) (m : Message) (told : Told) (after : Moment DraftView) (is_kept : Bool) (events : List Event) : Type 0 where
+    pub answers : ReturnsAnswer draft_facts at (answer_to_any at.arbiter m) told after
+    pub kept : KeepsAnswer (facts.place g) stamp told after.keeper.to_put is_kept events
+
+-- ---- a game is opened
+
+-- over a draft of what was found an arbiter is opened, and what it has to put is kept; or it is refused
+module _ {G : Type 0} (facts : GamesFacts G) (place : facts.Place) (stamp : List ℕ) (setup : SetupView) (draft : DraftView) where
+  pub data OpensSeat (events : List Event) (told : Result (Moment DraftView) OpenGameError) : Type 0 where
+    SeatRefused : (after : DraftView) (fault : OpenFault) → IsOpening draft_facts setup draft after (Err fault) → events ≡ [] → told ≡ Err (unopened_by fault) → OpensSeat events told
+    SeatUnkept : (after : DraftView) (v : View) (bytes : List ℕ) → IsOpening draft_facts setup draft after (Ok v) → after.to_put ≡ Some bytes → facts.keeps place stamp bytes false events → told ≡ Err unopened.Keeper → OpensSeat events told
+    SeatOpened : (after : DraftView) (v : View) → IsOpening draft_facts setup draft after (Ok v) → KeptIfAny facts place stamp after.to_put events → told ≡ Ok (moment v (settled after)) → OpensSeat events told
+
+-- its record is taken by these events, and it is opened over that
+pub data TakesAndOpens {G : Type 0} (facts : GamesFacts G) (t : CommonView) (g : G) (stamp : List ℕ) (game : GameConfig) (events : List Event) (told : Result (Moment DraftView) OpenGameError) : Type 0 where
+  TakesNone : (why : OpenGameError) → facts.takes g stamp (Err why) events → told ≡ Err why → TakesAndOpens facts t g stamp game events told
+  TakesOne : (first rest : List Event) (got : Option (List ℕ)) → facts.takes g stamp (Ok got) first → OpensSeat facts (facts.place g) stamp (setup_of t game.name.items game.start game.delay) (found_draft got) rest told → events ≡ first ++ rest → TakesAndOpens facts t g stamp game events told
+
+module _ {G : Type 0} (facts : GamesFacts G) (t : CommonView) where
+  -- the game of a message is looked for and opened, or it isn't for this reason
+  pub data OpensFor (g : G) (m : Message) (events : List Event) (told : Result (Moment DraftView) OpenGameError) : Type 0 where
+    OpensNone : opens_game m ≡ false → events ≡ [] → told ≡ Err unopened.NotOpen → OpensFor g m events told
+    NotFound : (why : OpenGameError) → opens_game m ≡ true → facts.finds (facts.place g) (stamp_in m) (Err why) events → told ≡ Err why → OpensFor g m events told
+    IsOther : (game : GameConfig) → opens_game m ≡ true → facts.finds (facts.place g) (stamp_in m) (Ok game) events
+        → (IsGameOf t.manifest (stamp_in m) game.name.items game.start game.delay → ⊥) → told ≡ Err unopened.OtherGame → OpensFor g m events told
+    IsFound : (game : GameConfig) (first rest : List Event) → opens_game m ≡ true → facts.finds (facts.place g) (stamp_in m) (Ok game) first
+        → IsGameOf t.manifest (stamp_in m) game.name.items game.start game.delay → TakesAndOpens facts t g (stamp_in m) game rest told → events ≡ first ++ rest → OpensFor g m events told
+
+  -- ---- a datagram
+
+  -- the game that a message is of is open, or it is opened by these events
+  abbrev pub HasGame : G → Message → Option (Moment DraftView) → List Event → Moment DraftView → Type 0
+  HasGame g m (Some at) events now = (now ≡ at) × (events ≡ [])
+  HasGame g m None events now = OpensFor g m events (Ok now)
+
+  -- A datagram has this fate, where its game was there before.
+  pub data GoesTo (g : G) (datagram : List ℕ) (was : Option (Moment DraftView)) (events : List Event) (fate : Fate) : Type 0 where
+    IsUnread : (fault : MessageFault) → heard_in datagram ≡ Err fault → events ≡ [] → fate ≡ Unread fault → GoesTo g datagram was events fate
+    IsUnopened : (m : Message) (why : OpenGameError) → heard_in datagram ≡ Ok m → was ≡ None → OpensFor g m events (Err why) → fate ≡ Unopened (stamp_in m) why → GoesTo g datagram was events fate
+    IsAnswered : (m : Message) (first rest : List Event) (at after : Moment DraftView) (told : Told) (is_kept : Bool) → heard_in datagram ≡ Ok m → HasGame g m was first at
+        → AnswersBy facts g (stamp_in m) at m told after is_kept rest → events ≡ first ++ rest → fate ≡ Answered (stamp_in m) (exchange datagram told after) is_kept → GoesTo g datagram was events fate

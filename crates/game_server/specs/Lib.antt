@@ -1,0 +1,11 @@
+pub mod Drafts
+pub mod Turns
+pub mod Places
+pub mod Orders
+pub mod Openings
+pub mod Holdings
+pub mod Seats
+pub mod Fates
+pub mod Replies
+pub mod Datagrams
+pub mod Inside

@@ -1,0 +1,56 @@
+-- Games that are open, and what is known of what they keep (this project's own).
+use Rattle.std.specs.Prelude.{◌≡◌, ℕ, false, List, Option, Some, None, IfSome}
+use Rattle.std.specs.NonZero.{non_zero_usize_get}
+use Rattle.arbiter_core.specs.Delivers.{IsKept, Moment, moment}
+use Rattle.arbiter_core.specs.Resting.{CanWake, awake}
+use Rattle.arbiter_server.specs.Games.{CommonView, common_with}
+use Rattle.arbiter_server.specs.Room.{at_stamp}
+use Rattle.judge_core.specs.Tables.{Holding}
+use Rattle.timeline.specs.Events.{Event}
+use Rattle.timeline.specs.Outsides.{Outside}
+use Rattle.game_server.specs.Drafts.{DraftView}
+use Rattle.game_server.specs.Holdings.{GamesFacts, IsKeptIn, known}
+use Rattle.game_server.specs.declared.seat.Seat.{Seat}
+use Rattle.game_server.specs.declared.server.Server.{Server}
+
+-- what all games of a server have in common
+abbrev pub common : {G F : Type 0} → Server G F → CommonView
+common server = common_with server.config server.tables
+
+-- the arbiter of a game that is open, by these tables, and its draft
+abbrev pub seat_moment : {F : Type 0} → Holding → Seat F → Moment DraftView
+seat_moment set seat = moment (awake seat.state set) seat.kept.draft
+
+-- where the game with this stamp is open
+abbrev pub open_at : {G F : Type 0} → Server G F → List ℕ → Option (Seat F)
+open_at server stamp = at_stamp server.seats.entries stamp
+
+-- a game of this stamp can answer by its tables, its draft has its record, which is kept where it belongs
+pub record IsSeat {T P F K S L G : Type 0} (o : Outside T P F K S L) (facts : GamesFacts G) (g : G) (set : Holding) (stamp : List ℕ) (seat : Seat F) : Type 0 where
+  pub of : seat.kept.stamp ≡ stamp
+  pub its : seat.state.me.stamp ≡ stamp
+  pub clean : seat.kept.draft.to_put ≡ None
+  pub within : IsKeptIn o (facts.places (facts.place g) stamp) seat.kept.file
+  pub wakes : CanWake seat.state set
+  pub runs : seat.state.is_down ≡ false
+  pub keeps : IsKept seat.kept.draft.kept (awake seat.state set)
+
+-- so it is of each game that is open
+abbrev pub AreSeats : {T P F K S L G : Type 0} → Outside T P F K S L → GamesFacts G → Server G F → Type 0
+AreSeats o facts server = (stamp : List ℕ) → IfSome (open_at server stamp) (IsSeat o facts server.games server.tables stamp)
+
+-- what a game that is open keeps is known
+pub record IsKnownSeat {F G : Type 0} (facts : GamesFacts G) (g : G) (before : List Event) (stamp : List ℕ) (seat : Seat F) : Type 0 where
+  pub bytes : List ℕ
+  pub kept : seat.kept.draft.kept ≡ Some bytes
+  pub is : known facts g before stamp bytes
+
+-- so it is of each
+abbrev pub AreKnown : {F G : Type 0} → GamesFacts G → Server G F → List Event → Type 0
+AreKnown facts server before = (stamp : List ℕ) → IfSome (open_at server stamp) (IsKnownSeat facts server.games before stamp)
+
+-- a server over these games, none of which is open yet
+pub record IsNewServer {G F : Type 0} (t : CommonView) (games : G) (server : Server G F) : Type 0 where
+  pub common_is : common server ≡ t
+  pub games_are : server.games ≡ games
+  pub none : (stamp : List ℕ) → open_at server stamp ≡ None

@@ -1,0 +1,62 @@
+//! Where games are found, and their records kept.
+
+ghost use Rattle.game_server.specs.Holdings.{CommitsGames, FindsGame, GamesFacts, IsKeptIn, KeepsGame, TakesGame};
+ghost use Rattle.timeline.specs.Outsides.{AddsSome};
+
+use crate::draft::Draft;
+use arbiter_server::{GameConfig, OpenGameError, Uncommitted};
+use move_msg::Stamp;
+use std::alloc::Global;
+use timeline::System;
+
+/// The record of a game, and where it is kept.
+#[derive(Drop)]
+pub struct KeptGame<F: Drop> {
+    /// The stamp of the game.
+    pub stamp: Stamp,
+    /// The record, as it is to be kept.
+    pub draft: Draft,
+    /// The file in which it is kept; none where it is kept in a store.
+    pub file: Option<F>,
+}
+
+/// Games, each under its stamp: what is told of it, and its record. What a call does outside is said by its events.
+pub trait Games<S: System> {
+    /// Where records are kept, what was noted, and which events each call makes.
+    ghost facts: { GamesFacts Self };
+
+    /// What is told of the game with this stamp.
+    fn find(
+        &self,
+        alloc: Global,
+        system: &S,
+        timeline: &mut S::Timeline,
+        stamp: Stamp,
+    ) -> Result<GameConfig, OpenGameError>
+        ensures made { AddsSome (S.outside system.now) timeline.old timeline.new (FindsGame facts self.now stamp result) };
+
+    /// The record of the game with this stamp, as it is noted or kept by now.
+    fn take(
+        &mut self,
+        alloc: Global,
+        system: &S,
+        timeline: &mut S::Timeline,
+        stamp: Stamp,
+    ) -> Result<KeptGame<S::File>, OpenGameError>
+        ensures made { AddsSome (S.outside system.now) timeline.old timeline.new (TakesGame facts (S.outside system.now) self.old self.new stamp result) };
+
+    /// Keeps what a game has to put, if anything: it is put in its file at once, or noted. Nothing is to be put afterwards. After an error
+    /// what is kept is what a start finds, which may be the record of before or the new one.
+    fn keep(
+        &mut self,
+        system: &S,
+        timeline: &mut S::Timeline,
+        game: &mut KeptGame<S::File>,
+    ) -> Result<(), OpenGameError>
+        requires { IsKeptIn (S.outside system.now) (facts.places (facts.place self.old) game.old.stamp) game.old.file }
+        ensures made { AddsSome (S.outside system.now) timeline.old timeline.new (KeepsGame facts (S.outside system.now) self.old self.new game.old game.new result) };
+
+    /// Commits what was noted. No answer to a datagram goes out before. Where memory alone is refused, it stays noted.
+    fn commit(&mut self, system: &S, timeline: &mut S::Timeline) -> Result<(), Uncommitted>
+        ensures made { AddsSome (S.outside system.now) timeline.old timeline.new (CommitsGames facts self.old self.new result) };
+}

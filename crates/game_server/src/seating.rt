@@ -1,0 +1,156 @@
+//! A game that is opened for a message, and answers it.
+
+ghost use Rattle.std.specs.Prelude.{◌≡◌, [], None};
+ghost use Rattle.arbiter_server.specs.Games.{IsGameOf};
+ghost use Rattle.arbiter_server.specs.Told.{unopened_by};
+ghost use Rattle.move_msg.specs.Messages.{stamp_in};
+ghost use Rattle.timeline.specs.Outsides.{AddsSome};
+ghost use Rattle.game_server.specs.Holdings.{IsKeptIn};
+ghost use Rattle.game_server.specs.Seats.{IsSeat};
+ghost use Rattle.game_server.specs.Inside.Seating.{DeliversIn, OpensForIn, OpensOverKept, OpensTaken};
+
+use crate::games::{Games, KeptGame};
+use crate::lookup::{found, opens_game};
+use crate::seat::{Reply, ReplyLine, Seat};
+use crate::server::Server;
+use arbiter_core::{ArbiterState, OpenFault, Terms};
+use arbiter_server::{DatagramReport, GameConfig, OpenGameError};
+use move_msg::{Message, Stamp};
+use smallvec::SmallVec;
+use std::alloc::Global;
+use timeline::System;
+
+/// What is told of a game whose arbiter can't be opened.
+fn unopened(fault: OpenFault) -> OpenGameError
+    ensures { result ≡ unopened_by fault }
+{
+    match fault {
+        OpenFault::OtherStamp => OpenGameError::OtherGame,
+        OpenFault::OutOfMemory => OpenGameError::OutOfMemory,
+        OpenFault::BadSetup | OpenFault::KeeperFailed | OpenFault::BadRecord => {
+            OpenGameError::Keeper
+        }
+    }
+}
+
+/// Opens a game over its record, and keeps the first one where there was none.
+fn open_over<'a, S: System, G: Games<S> + Drop>(
+    server: &mut Server<'a, G, S::File>,
+    system: &S,
+    timeline: &mut S::Timeline,
+    kept: KeptGame<S::File>,
+    game: GameConfig,
+) -> Result<Seat<'a, S::File>, OpenGameError>
+    requires game { IsGameOf server.old.config.manifest.now kept.stamp game.name.items game.start game.delay }
+    requires within { IsKeptIn (S.outside system.now) (G.facts.places (G.facts.place server.old.games) kept.stamp) kept.file }
+    requires clean { kept.draft.to_put ≡ None }
+    ensures made { AddsSome (S.outside system.now) timeline.old timeline.new (OpensOverKept (S.outside system.now) G.facts server.old server.new kept game result) }
+{
+    let GameConfig { name, start, delay } = game;
+    let terms = Terms {
+        name,
+        start,
+        manifest: server.config.manifest,
+        me: server.config.me,
+        delay,
+    };
+    let mut kept = kept;
+    match ArbiterState::open(server.alloc, &mut server.tables, &mut kept.draft, terms) {
+        Ok(state) => match server.games.keep(system, timeline, &mut kept) {
+            Ok(()) => Ok(Seat { state, kept }),
+            Err(_) => Err(OpenGameError::Keeper),
+        },
+        Err(refused) => Err(unopened(refused.fault)),
+    }
+}
+
+/// Takes the record of a game that was found, and opens it.
+fn open_found<'a, S: System, G: Games<S> + Drop>(
+    server: &mut Server<'a, G, S::File>,
+    system: &S,
+    timeline: &mut S::Timeline,
+    stamp: Stamp,
+    game: GameConfig,
+) -> Result<Seat<'a, S::File>, OpenGameError>
+    requires { IsGameOf server.old.config.manifest.now stamp game.name.items game.start game.delay }
+    ensures made { AddsSome (S.outside system.now) timeline.old timeline.new (OpensTaken (S.outside system.now) G.facts server.old server.new stamp game result) }
+{
+    match server.games.take(server.alloc, system, timeline, stamp) {
+        Ok(kept) => open_over(server, system, timeline, kept, game),
+        Err(why) => Err(why),
+    }
+}
+
+/// Opens the game that a message is of, where it is one that opens games.
+pub(crate) fn open_for<'a, S: System, G: Games<S> + Drop>(
+    server: &mut Server<'a, G, S::File>,
+    system: &S,
+    timeline: &mut S::Timeline,
+    message: &Message,
+) -> Result<Seat<'a, S::File>, OpenGameError>
+    ensures made { OpensForIn (S.outside system.now) G.facts server.old server.new message.now timeline.old timeline.new result }
+{
+    if !opens_game(message) {
+        return Err(OpenGameError::NotOpen);
+    }
+    let stamp = message.stamp();
+    match found(
+        server.alloc,
+        system,
+        timeline,
+        &server.games,
+        server.config.manifest,
+        stamp,
+    ) {
+        Ok(game) => open_found(server, system, timeline, stamp, game),
+        Err(why) => Err(why),
+    }
+}
+
+/// What is answered where nothing is sent: the line alone.
+pub(crate) fn line_alone(alloc: Global, line: ReplyLine) -> Reply
+    ensures outputs { result.outputs.items ≡ [] }
+    ensures line { result.line ≡ line }
+{
+    Reply {
+        outputs: SmallVec::new(alloc),
+        line,
+    }
+}
+
+/// Lets the arbiter of a game that is open answer a message, and keeps what it has to put. Returns what is answered, and whether the game
+/// stays open: where its record can't be kept, its answer isn't sent, and it doesn't.
+pub(crate) fn deliver<'a, S: System, G: Games<S> + Drop>(
+    server: &mut Server<'a, G, S::File>,
+    system: &S,
+    timeline: &mut S::Timeline,
+    seat: &mut Seat<'a, S::File>,
+    message: &Message,
+) -> (Reply, bool)
+    requires { IsSeat (S.outside system.now) G.facts server.old.games server.old.tables (stamp_in message.now) seat.old }
+    ensures made { DeliversIn (S.outside system.now) G.facts server.old server.new seat.old seat.new message.now timeline.old timeline.new result }
+{
+    let stamp = message.stamp();
+    match seat.state.deliver(
+        server.alloc,
+        &mut server.tables,
+        &mut seat.kept.draft,
+        message,
+    ) {
+        Ok(outputs) => match server.games.keep(system, timeline, &mut seat.kept) {
+            Ok(()) => {
+                let heard = DatagramReport::Recorded(seat.state.count(), seat.state.verdict());
+                let line = ReplyLine::Answered(stamp, heard);
+                (Reply { outputs, line }, true)
+            }
+            Err(_) => {
+                let line = ReplyLine::Answered(stamp, DatagramReport::KeeperLost);
+                (line_alone(server.alloc, line), false)
+            }
+        },
+        Err(fault) => {
+            let line = ReplyLine::Answered(stamp, DatagramReport::refused(fault));
+            (line_alone(server.alloc, line), true)
+        }
+    }
+}
