@@ -29,7 +29,7 @@
 //!   this game with at least so many in this file, or after the start found one; each verdict comes after a record with it.
 //! - CLAIM: `hear`, clause `made`: nothing is sent. The datagram has one of the fates of `GoesTo`, and the reply is of that. A record that
 //!   can't be kept is not announced, and its game alone is refused; another game is as it was, or closed.
-//! - CLAIM: `hear`, clause `made`, field `backed`: what the messages of the reply say of a record was put, committed or found where that game's
+//! - CLAIM: `hear`, clause `made`: what the messages of the reply say (`backed`) of a record was put, committed or found where that game's
 //!   record is kept, or is noted for the next commit.
 //! - CLAIM: `Server::open`: no game is open yet.
 #![tactic(auto)]
