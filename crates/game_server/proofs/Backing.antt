@@ -129,4 +129,3 @@ if_requested places before to (Some m) back spells = each_to_each places m spell
 
 pub request_earned : (places : Places) (before : List Event) (fetch : Bool) (to : Address) (v : View) → IsRequestSpelled (request fetch v) → EachEarned places before (request_sent to (request fetch v))
 request_earned places before fetch to v spells = if_requested places before to (request fetch v) (request_backed places before fetch v) spells
-

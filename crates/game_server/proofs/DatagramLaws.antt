@@ -37,9 +37,13 @@ module _ {T P F K S L G : Type 0} (o : Outside T P F K S L) (facts : GamesFacts 
 
   moved_seat : (other : List ℕ) (seat : Seat F) → IsSeat o facts old.games old.tables other seat → IsSeat o facts new.games new.tables other seat
   moved_seat other seat h = subst (λ (set : Holding). IsSeat o facts new.games set other seat) (sym tables) (record {
-    of = h.of; its = h.its; clean = h.clean;
+    of = h.of;
+    its = h.its;
+    clean = h.clean;
     within = subst (λ (p : facts.Place). IsKeptIn o (facts.places p other) seat.kept.file) (sym place) h.within;
-    wakes = h.wakes; runs = h.runs; keeps = h.keeps;
+    wakes = h.wakes;
+    runs = h.runs;
+    keeps = h.keeps;
   })
 
   at_each : (P : List ℕ → Type 0) → P stamp → ((other : List ℕ) → bytes_eq stamp other ≡ false → P other) → (other : List ℕ) → P other

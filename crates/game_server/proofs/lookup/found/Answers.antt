@@ -25,10 +25,15 @@ returns-then-ne g c = let h = c.in-Ok.ensures.made in record {
     h.1,
     record {
       quiet = h.2.quiet;
-      is = inr (c.in-Ok.game, h.2.found, (λ is.
-          let own = c.stamp.ensures ∙ ap (λ (n : List ℕ). stamp_of n (fen_of c.in-Ok.game.start) c.args.manifest.now c.in-Ok.game.delay) (c.in-Some.ensures.some ∙ c.as_slice.ensures.value) ∙ sym is.stamped in
-          let same = (bytes_eq-Decides c.stamp.result c.args.stamp).1 own in
-          false≢true (sym (c.if-ne.ensures ∙ ap not same))), refl);
+      is = inr (
+        c.in-Ok.game,
+        h.2.found,
+        (λ is.
+            let own = c.stamp.ensures ∙ ap (λ (n : List ℕ). stamp_of n (fen_of c.in-Ok.game.start) c.args.manifest.now c.in-Ok.game.delay) (c.in-Some.ensures.some ∙ c.as_slice.ensures.value) ∙ sym is.stamped in
+            let same = (bytes_eq-Decides c.stamp.result c.args.stamp).1 own in
+            false≢true (sym (c.if-ne.ensures ∙ ap not same))),
+        refl,
+      );
     },
   );
 }
