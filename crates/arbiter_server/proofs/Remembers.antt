@@ -16,7 +16,7 @@ use Rattle.arbiter_server.specs.declared.line_log.LineLog.TheVariants as logs
 use Rattle.arbiter_server.specs.declared.line_log.LogForm.{LogForm}
 use Rattle.arbiter_server.specs.declared.line_log.LogForm.TheVariants as form
 use Rattle.arbiter_server.specs.GoingOut.{GoOut, LinesEnd, Writers}
-use Rattle.arbiter_server.specs.LineLogs.{LogsLine, Remembers, RemembersAll, TellsChange, form_of, is_line_kind, kind_count, last_at, line_kind, line_with_count, most, one_more_line, picked, picked_by, remembered_place}
+use Rattle.arbiter_server.specs.LineLogs.{LogsLine, PicksChange, PicksLine, Remembers, RemembersAll, form_of, is_line_kind, kind_count, last_at, line_kind, line_with_count, most, one_more_line, picked, picked_by, picked_text, remembered_place}
 use Rattle.arbiter_server.proofs.GoingLaws.{none_out}
 use Rattle.arbiter_server.specs.Remembering.{Remembered}
 
@@ -111,13 +111,17 @@ pub remembers_none : (new : Remembered) → length new.counts ≡ 8 → length n
 unfolding kind_count last_at
 remembers_none new kinds places counts lasts = record { kinds = kinds; places = places; counts = counts; lasts = lasts }
 
--- ---- what is told
+-- ---- what is picked
 
-module _ {W T : Type 0} (w : Writers W) (before : List (List ℕ)) (line text : List ℕ) (is : text ≡ ended line) (old new : Remembered) (had : RemembersAll old before) (out out' : W) (r : Result T WriteFault) where
+text_of : (t : Bool) (line : List ℕ) → cond t (Some (ended line)) None ≡ picked_text (cond t (line ∷ []) [])
+text_of true line = refl
+text_of false line = refl
+
+module _ (before : List (List ℕ)) (line text : List ℕ) (is : text ≡ ended line) (old new : Remembered) (had : RemembersAll old before) where
   -- of a line of a kind
-  pub tells_counted : (kind n : ℕ) → line_kind text ≡ Some kind → kind < 8 → n ≡ one_more_line (get_or old.counts kind 0) → new.counts ≡ set old.counts kind n → new.lasts ≡ old.lasts
-      → (t : Bool) → is_power_of_two n ≡ t → LinesEnd w out (cond t (line_with_count line n ∷ []) []) out' r → TellsChange w before new line out out' r
-  tells_counted kind n of few count counts lasts t power lines =
+  pub picks_counted : (kind n : ℕ) → line_kind text ≡ Some kind → kind < 8 → n ≡ one_more_line (get_or old.counts kind 0) → new.counts ≡ set old.counts kind n → new.lasts ≡ old.lasts
+      → (t : Bool) → is_power_of_two n ≡ t → (got : Option (List ℕ)) → got ≡ cond t (Some (ended (line_with_count line n))) None → PicksChange before new line got
+  picks_counted kind n of few count counts lasts t power got got_is =
       let same : line_kind (ended line) ≡ Some kind = subst (λ (x : List ℕ). line_kind x ≡ Some kind) is of in
       let counted_so : n ≡ one_more_line (min (kind_count kind before) most) = count ∙ ap one_more_line (had.counts kind few) in
       let picks : cond t (line_with_count line n ∷ []) [] ≡ picked form.Changes before line =
@@ -125,7 +129,7 @@ module _ {W T : Type 0} (w : Writers W) (before : List (List ℕ)) (line text : 
       ∙ ap (λ (m : ℕ). cond (is_power_of_two m) (line_with_count line m ∷ []) []) counted_so
       ∙ ap (picked_by before line) (sym same) in
       record {
-        lines = subst (λ (ls : List (List ℕ)). LinesEnd w out ls out' r) picks lines;
+        is = got_is ∙ text_of t (line_with_count line n) ∙ ap picked_text picks;
         after = subst (λ (x : List ℕ). RemembersAll new (x ∷ before)) is (remembers_kind kind text before of old new had few (counts ∙ ap (λ (m : ℕ). set old.counts kind m) count) lasts);
       }
 
@@ -138,31 +142,75 @@ module _ {W T : Type 0} (w : Writers W) (before : List (List ℕ)) (line text : 
         ∙ ap (picked_by before line) (sym (subst (λ (x : List ℕ). line_kind x ≡ None) is none))
 
     -- of a line that is the last of its place
-    pub tells_again : new.lasts ≡ old.lasts → bytes_eq (get_or old.lasts (remembered_place text) []) text ≡ true → LinesEnd w out [] out' r → TellsChange w before new line out out' r
-    tells_again lasts test lines = record {
-      lines = subst (λ (ls : List (List ℕ)). LinesEnd w out ls out' r) (picks_by true test) lines;
+    pub picks_again : new.lasts ≡ old.lasts → bytes_eq (get_or old.lasts (remembered_place text) []) text ≡ true → PicksChange before new line None
+    picks_again lasts test = record {
+      is = ap picked_text (picks_by true test);
       after = subst (λ (x : List ℕ). RemembersAll new (x ∷ before)) is (remembers_again text before none old new had few counts lasts ((bytes_eq-Decides (get_or old.lasts (remembered_place text) []) text).0 test));
     }
 
     -- of another one
-    pub tells_other : new.lasts ≡ set old.lasts (remembered_place text) text → bytes_eq (get_or old.lasts (remembered_place text) []) text ≡ false → LinesEnd w out (line ∷ []) out' r → TellsChange w before new line out out' r
-    tells_other lasts test lines = record {
-      lines = subst (λ (ls : List (List ℕ)). LinesEnd w out ls out' r) (picks_by false test) lines;
+    pub picks_other : new.lasts ≡ set old.lasts (remembered_place text) text → bytes_eq (get_or old.lasts (remembered_place text) []) text ≡ false → (got : List ℕ) → got ≡ text → PicksChange before new line (Some got)
+    picks_other lasts test got got_is = record {
+      is = ap Some (got_is ∙ is) ∙ ap picked_text (picks_by false test);
       after = subst (λ (x : List ℕ). RemembersAll new (x ∷ before)) is (remembers_new text before none old new had few counts lasts);
     }
 
 -- by a log of changes
-pub tells_by_change : {W T : Type 0} (w : Writers W) (before : List (List ℕ)) (log : LineLog) (was : LastLines) (now : LastLines) (line : List ℕ) (out out' : W) (r : Result T WriteFault) → log ≡ logs.Changes was → TellsChange w before now line out out' r → LogsLine w before log (logs.Changes now) line out out' r
-tells_by_change w before log was now line out out' r is told = record {
-  lines = subst (λ (f : LogForm). LinesEnd w out (picked f before line) out' r) (sym (ap form_of is)) told.lines;
-  after = told.after;
+pub picks_by_change : (before : List (List ℕ)) (log : LineLog) (was now : LastLines) (line : List ℕ) (text : Option (List ℕ)) → log ≡ logs.Changes was → PicksChange before now line text → PicksLine before log (logs.Changes now) line text
+picks_by_change before log was now line text is picks = record {
+  is = picks.is ∙ ap (λ (f : LogForm). picked_text (picked f before line)) (sym (ap form_of is));
+  after = picks.after;
   same = sym (ap form_of is);
 }
 
--- a log of nothing tells nothing
-pub tells_nothing : {W T : Type 0} (w : Writers W) (before : List (List ℕ)) (log : LineLog) (line : List ℕ) (out : W) (x : T) → log ≡ logs.Nothing → LogsLine w before log log line out out (Ok x)
-tells_nothing w before log line out x is = record {
-  lines = subst (λ (f : LogForm). GoOut w out (picked f before line) out) (sym (ap form_of is)) (none_out w out);
+-- a log of all picks each line, and one of nothing none
+pub picks_all : (before : List (List ℕ)) (log : LineLog) (line text : List ℕ) → log ≡ logs.All → text ≡ ended line → PicksLine before log log line (Some text)
+picks_all before log line text is same = record {
+  is = ap Some same ∙ ap (λ (f : LogForm). picked_text (picked f before line)) (sym (ap form_of is));
   after = subst (λ (l : LineLog). Remembers l (ended line ∷ before)) (sym is) tt;
   same = refl;
 }
+
+pub picks_nothing : (before : List (List ℕ)) (log : LineLog) (line : List ℕ) → log ≡ logs.Nothing → PicksLine before log log line None
+picks_nothing before log line is = record {
+  is = ap (λ (f : LogForm). picked_text (picked f before line)) (sym (ap form_of is));
+  after = subst (λ (l : LineLog). Remembers l (ended line ∷ before)) (sym is) tt;
+  same = refl;
+}
+
+-- ---- what is told
+
+-- of these lines there is one at most
+IsOne : List (List ℕ) → Type 0
+IsOne [] = Unit {0}
+IsOne (line ∷ []) = Unit {0}
+IsOne (line ∷ (other ∷ lines)) = ⊥
+
+one_if : (t : Bool) (line : List ℕ) → IsOne (cond t [] (line ∷ [])) × IsOne (cond t (line ∷ []) [])
+one_if true line = (tt, tt)
+one_if false line = (tt, tt)
+
+one_picked : (form : LogForm) (before : List (List ℕ)) (line : List ℕ) → IsOne (picked form before line)
+one_picked form.All before line = tt
+one_picked form.Nothing before line = tt
+one_picked form.Changes before line = by_kind (line_kind (ended line)) where
+  by_kind : (kind : Option ℕ) → IsOne (picked_by before line kind)
+  by_kind None = (one_if (bytes_eq (last_at (remembered_place (ended line)) before) (ended line)) line).0
+  by_kind (Some kind) = (one_if (is_power_of_two (one_more_line (min (kind_count kind before) most))) (line_with_count line (one_more_line (min (kind_count kind before) most)))).1
+
+module _ {W T : Type 0} (w : Writers W) (before : List (List ℕ)) (old new : LineLog) (line : List ℕ) (out out' : W) (r : Result T WriteFault) where
+  -- nothing is picked
+  none_told : (picks : List (List ℕ)) → IsOne picks → None ≡ picked_text picks → GoOut w out picks out
+  none_told [] one is = none_out w out
+  none_told (l ∷ ls) one is = absurd (let f : None ≡ Some (ended l) = is in cc)
+
+  pub tells_none : (x : T) → PicksLine before old new line None → LogsLine w before old new line out out (Ok x)
+  tells_none x picks = record { lines = none_told (picked (form_of old) before line) (one_picked (form_of old) before line) picks.is; after = picks.after; same = picks.same }
+
+  one_told : (text : List ℕ) (picks : List (List ℕ)) → IsOne picks → Some text ≡ picked_text picks → ((l : List ℕ) → text ≡ ended l → LinesEnd w out (l ∷ []) out' r) → LinesEnd w out picks out' r
+  one_told text [] one is out_so = absurd (let f : Some text ≡ None = is in cc)
+  one_told text (l ∷ []) one is out_so = out_so l (let f : Some text ≡ Some (ended l) = is in cc)
+  one_told text (l ∷ (other ∷ ls)) one is out_so = absurd one
+
+  pub tells_one : (text : List ℕ) → PicksLine before old new line (Some text) → ((l : List ℕ) → text ≡ ended l → LinesEnd w out (l ∷ []) out' r) → LogsLine w before old new line out out' r
+  tells_one text picks out_so = record { lines = one_told text (picked (form_of old) before line) (one_picked (form_of old) before line) picks.is out_so; after = picks.after; same = picks.same }

@@ -118,16 +118,27 @@ form_of log.All = form.All
 form_of log.Nothing = form.Nothing
 form_of (log.Changes lines) = form.Changes
 
+-- the text of what is picked, if a line is
+abbrev pub picked_text : List (List ℕ) → Option (List ℕ)
+picked_text [] = None
+picked_text (line ∷ lines) = Some (ended line)
+
+-- of one line after these texts this is to be written, and the line is remembered
+pub record PicksLine (before : List (List ℕ)) (old new : LineLog) (line : List ℕ) (text : Option (List ℕ)) : Type 0 where
+  pub is : text ≡ picked_text (picked (form_of old) before line)
+  pub after : Remembers new (ended line ∷ before)
+  pub same : form_of new ≡ form_of old
+
+-- so among changes
+pub record PicksChange (before : List (List ℕ)) (new : Remembered) (line : List ℕ) (text : Option (List ℕ)) : Type 0 where
+  pub is : text ≡ picked_text (picked form.Changes before line)
+  pub after : RemembersAll new (ended line ∷ before)
+
 -- of one line after these texts what is picked goes out, and it is remembered
 pub record LogsLine {W T : Type 0} (w : Writers W) (before : List (List ℕ)) (old new : LineLog) (line : List ℕ) (out out' : W) (r : Result T WriteFault) : Type 0 where
   pub lines : LinesEnd w out (picked (form_of old) before line) out' r
   pub after : Remembers new (ended line ∷ before)
   pub same : form_of new ≡ form_of old
-
--- so of changes
-pub record TellsChange {W T : Type 0} (w : Writers W) (before : List (List ℕ)) (new : Remembered) (line : List ℕ) (out out' : W) (r : Result T WriteFault) : Type 0 where
-  pub lines : LinesEnd w out (picked form.Changes before line) out' r
-  pub after : RemembersAll new (ended line ∷ before)
 
 -- a log of this form that knows of no line yet
 pub record IsLogOf (form : LogForm) (log : LineLog) : Type 0 where

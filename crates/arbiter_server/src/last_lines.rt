@@ -17,8 +17,8 @@ const PLACES: usize = 65536;
 /// How many kinds of lines strangers cause.
 const KINDS: usize = 8;
 
-/// The bytes of a line with its count, with its line feed.
-pub(crate) type CountedText = ArrayVec<u8, 160>;
+/// The bytes of a line that is written, with its count or without, and with its line feed.
+pub type LoggedText = ArrayVec<u8, 160>;
 
 /// Whether two texts are one.
 fn is_same(a: &[u8], b: &[u8]) -> bool
@@ -61,7 +61,7 @@ fn without_end(text: &[u8]) -> &[u8]
 }
 
 /// A line with its count behind it.
-pub(crate) fn counted(text: &LineText, count: u64) -> CountedText
+pub(crate) fn counted(text: &LineText, count: u64) -> LoggedText
     ensures { (line : List ℕ) → text.now.items ≡ ended line → result.items ≡ ended (line_with_count line count) }
 {
     let mut digits = Buffer::new();
@@ -70,6 +70,15 @@ pub(crate) fn counted(text: &LineText, count: u64) -> CountedText
     let _before = all.try_extend_from_slice(b" (");
     let _count = all.try_extend_from_slice(digits.format(count).as_bytes());
     let _after = all.try_extend_from_slice(b")\n");
+    all
+}
+
+/// A line without a count.
+pub(crate) fn logged(text: &LineText) -> LoggedText
+    ensures { result.items ≡ text.now.items }
+{
+    let mut all = ArrayVec::new();
+    let _fits = all.try_extend_from_slice(text.as_slice());
     all
 }
 

@@ -14,9 +14,9 @@ use arrayvec::ArrayVec;
 use itoa::Buffer;
 use move_msg::{MessageFault, Stamp};
 
-/// What is told of a datagram; its text has no line feed.
+/// What is told of a datagram, or of what ends a run; its text has no line feed.
 #[derive(Clone, Copy)]
-pub(crate) enum Line {
+pub enum Line {
     /// What the arbiter of the game with this stamp tells.
     Answered(Stamp, DatagramReport),
     /// Why the game with this stamp isn't open.
@@ -166,7 +166,7 @@ impl Line {
     }
 
     /// What is told of a datagram whose answer is withheld, since memory was refused to commit what its game keeps.
-    pub(crate) fn withheld(self) -> Line
+    pub fn withheld(self) -> Line
         ensures { line_words result ≡ withheld_words (stamp_in_line self) (line_words self) }
     {
         match self {

@@ -1,12 +1,12 @@
 //! Which lines of a server are written.
 
-ghost use Rattle.std.specs.Prelude.{◌≡◌, ◌<◌, [], List, ℕ, IfOk, Some, None};
+ghost use Rattle.std.specs.Prelude.{◌≡◌, ◌<◌, List, ℕ, IfOk, Some, None, option_map};
 ghost use Rattle.move_msg.specs.TextLines.{ended};
 ghost use Rattle.arbiter_server.specs.GoingOut.{writers};
-ghost use Rattle.arbiter_server.specs.LineLogs.{IsLogOf, LogsLine, Remembers, RemembersAll, TellsChange, line_kind};
+ghost use Rattle.arbiter_server.specs.LineLogs.{IsLogOf, LogsLine, PicksChange, PicksLine, Remembers, RemembersAll, line_kind};
 ghost use Rattle.arbiter_server.specs.Told.{line_words};
 
-use crate::last_lines::{LastLines, counted};
+use crate::last_lines::{LastLines, LoggedText, counted, logged};
 use crate::line::Line;
 use crate::serving::put_line;
 use std::alloc::{AllocError, Global};
@@ -35,45 +35,40 @@ pub enum LineLog {
     Changes(LastLines),
 }
 
-/// Writes a line that strangers cause, with its count, where that is a power of two.
-fn tell_counted<W: Output>(
-    lines: &mut LastLines,
-    kind: usize,
-    out: &mut W,
-    line: Line,
-) -> Result<(), WriteFault>
+/// What is written of a line that strangers cause: it with its count, where that is a power of two.
+fn pick_counted(lines: &mut LastLines, kind: usize, line: Line) -> Option<LoggedText>
     requires of { line_kind (ended (line_words line)) ≡ Some kind }
     requires few { kind < 8 }
-    ensures { (before : List (List ℕ)) → RemembersAll lines.old before → TellsChange (writers W.Write.contents W.facts) before lines.new (line_words line) out.old out.new result }
+    ensures { (before : List (List ℕ)) → RemembersAll lines.old before → PicksChange before lines.new (line_words line) (option_map (λ t. t.items) result) }
 {
     let count = lines.count(kind);
     if count.is_power_of_two() {
-        put_line(out, counted(&line.text(), count).as_slice())
+        Some(counted(&line.text(), count))
     } else {
-        Ok(())
+        None
     }
 }
 
-/// Writes a line that isn't the last one of its place.
-fn tell_new<W: Output>(lines: &mut LastLines, out: &mut W, line: Line) -> Result<(), WriteFault>
+/// What is written of another line: it, where it isn't the last one of its place.
+fn pick_new(lines: &mut LastLines, line: Line) -> Option<LoggedText>
     requires { line_kind (ended (line_words line)) ≡ None }
-    ensures { (before : List (List ℕ)) → RemembersAll lines.old before → TellsChange (writers W.Write.contents W.facts) before lines.new (line_words line) out.old out.new result }
+    ensures { (before : List (List ℕ)) → RemembersAll lines.old before → PicksChange before lines.new (line_words line) (option_map (λ t. t.items) result) }
 {
     let text = line.text();
     if lines.repeats(&text) {
-        Ok(())
+        None
     } else {
-        put_line(out, text.as_slice())
+        Some(logged(&text))
     }
 }
 
-/// Writes a line where it is told among changes.
-fn tell_change<W: Output>(lines: &mut LastLines, out: &mut W, line: Line) -> Result<(), WriteFault>
-    ensures { (before : List (List ℕ)) → RemembersAll lines.old before → TellsChange (writers W.Write.contents W.facts) before lines.new (line_words line) out.old out.new result }
+/// What is written of a line among changes.
+fn pick_change(lines: &mut LastLines, line: Line) -> Option<LoggedText>
+    ensures { (before : List (List ℕ)) → RemembersAll lines.old before → PicksChange before lines.new (line_words line) (option_map (λ t. t.items) result) }
 {
     match line.kind() {
-        Some(kind) => tell_counted(lines, kind, out, line),
-        None => tell_new(lines, out, line),
+        Some(kind) => pick_counted(lines, kind, line),
+        None => pick_new(lines, line),
     }
 }
 
@@ -92,14 +87,24 @@ impl LineLog {
         }
     }
 
+    /// What is written of a line, with its line feed, where it is one that is written; the line is remembered.
+    pub fn pick(&mut self, line: Line) -> Option<LoggedText>
+        ensures { (before : List (List ℕ)) → Remembers self.old before → PicksLine before self.old self.new (line_words line) (option_map (λ t. t.items) result) }
+    {
+        match self {
+            LineLog::All => Some(logged(&line.text())),
+            LineLog::Nothing => None,
+            LineLog::Changes(lines) => pick_change(lines, line),
+        }
+    }
+
     /// Writes a line where it is one that is written, and lets it go out at once.
     pub(crate) fn tell<W: Output>(&mut self, out: &mut W, line: Line) -> Result<(), WriteFault>
         ensures { (before : List (List ℕ)) → Remembers self.old before → LogsLine (writers W.Write.contents W.facts) before self.old self.new (line_words line) out.old out.new result }
     {
-        match self {
-            LineLog::All => put_line(out, line.text().as_slice()),
-            LineLog::Nothing => Ok(()),
-            LineLog::Changes(lines) => tell_change(lines, out, line),
+        match self.pick(line) {
+            Some(text) => put_line(out, text.as_slice()),
+            None => Ok(()),
         }
     }
 }

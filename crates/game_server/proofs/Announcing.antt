@@ -11,7 +11,7 @@ use Rattle.arbiter_core.specs.declared.fault.DeliverFault.TheVariants.{Down, Out
 use Rattle.arbiter_core.specs.declared.keeper.Keep.{Keep}
 use Rattle.arbiter_core.specs.declared.keeper.Keep.TheVariants.{Good}
 use Rattle.move_msg.specs.declared.message.Message.{Message}
-use Rattle.game_server.specs.Drafts.{DraftView, draft_facts}
+use Rattle.game_folder.specs.Drafts.{DraftView, draft_facts}
 use Rattle.game_server.proofs.Saying.{AllSay, IsHonest, answer_honest}
 
 -- the draft is as it was, or has these bytes to put

@@ -18,7 +18,7 @@ use Rattle.system_io.specs.Recipients.{address_named}
 use Rattle.system_io.specs.declared.recipient.Recipient.{Recipient}
 use Rattle.timeline.specs.Events.{Event, Committed, Found, Put, RecordSought, Sent, sent_to, sent_to_each}
 use Rattle.game_server.specs.Orders.{EachEarned, HasMoves, HasVerdict, IsBacked, IsEarned, IsThere}
-use Rattle.game_server.specs.Places.{Held, InFile, InStore, KeptAt, Places, WasKept, WasPut, kept_by}
+use Rattle.game_folder.specs.Places.{Held, InFile, InStore, KeptAt, Places, WasKept, WasPut, kept_by}
 use Rattle.game_server.specs.Turns.{Address, IsRequestSpelled, LineEnd, WasCut, WasStuck, WentOut, line_events, message_sent, request, request_sent, sent}
 use Rattle.game_server.proofs.Saying.{AllSay, Says}
 

@@ -14,9 +14,9 @@ use Rattle.timeline.specs.Events.{Event}
 use Rattle.timeline.specs.Outsides.{AddsSome, Outside}
 use Rattle.timeline.proofs.EventLaws.{adds_none}
 use Rattle.game_server.specs.Datagrams.{HearsDatagram, IsLeftOpen, IsNotOf, was_open}
-use Rattle.game_server.specs.Drafts.{DraftView, settled}
+use Rattle.game_folder.specs.Drafts.{DraftView, settled}
 use Rattle.game_server.specs.Fates.{Answered, AnswersBy, GoesTo, IsAnswered, IsUnopened, IsUnread, KeepsAnswer, Unopened, Unread, fate_line}
-use Rattle.game_server.specs.Holdings.{GamesFacts, IsKeptIn, IsQuiet, StaysNoted}
+use Rattle.game_folder.specs.Holdings.{GamesFacts, IsKeptIn, IsQuiet, StaysNoted}
 use Rattle.game_server.specs.Seats.{AreKnown, AreSeats, IsKnownSeat, IsSeat, common, open_at, seat_moment}
 use Rattle.game_server.specs.Inside.Seating.{AnswersFrom, IsSeatedNow, SeatsFor}
 use Rattle.game_server.specs.Replies.{AreBacked, line_words}

@@ -18,9 +18,9 @@ use Rattle.move_msg.specs.declared.message.Message.{Message}
 use Rattle.move_msg.specs.declared.stamp.Stamp.{Stamp}
 use Rattle.system_io.specs.declared.recipient.Recipient.{Recipient}
 use Rattle.timeline.specs.Events.{Event, Came, Missed, Put}
-use Rattle.game_server.specs.Drafts.{DraftView, draft_facts}
+use Rattle.game_folder.specs.Drafts.{DraftView, draft_facts}
 use Rattle.game_server.specs.Orders.{AcksAreEarned, EachEarned, IsThere}
-use Rattle.game_server.specs.Places.{WasPut, one_file}
+use Rattle.game_folder.specs.Places.{WasPut, one_file}
 use Rattle.game_server.specs.Turns.{Address, AreSpelled, GoesByTurn, Heard, InTurns, Lost, Turn, address, answered, hearing_line, is_lost, is_unput, line_events, sent, turn_events}
 use Rattle.game_server.proofs.Backing.{IsHeld, each_join, held_later, line_earned, sent_earned, there_later}
 use Rattle.game_server.proofs.Saying.{AllSay, IsHonest, answer_honest}

@@ -14,9 +14,9 @@ use Rattle.timeline.specs.Events.{Event}
 use Rattle.timeline.specs.Outsides.{AddsSome, Outside}
 use Rattle.timeline.proofs.EventLaws.{adds_none}
 use Rattle.game_server.specs.Datagrams.{IsLeftOpen}
-use Rattle.game_server.specs.Drafts.{DraftView, settled}
+use Rattle.game_folder.specs.Drafts.{DraftView, settled}
 use Rattle.game_server.specs.Fates.{OpensFor}
-use Rattle.game_server.specs.Holdings.{GamesFacts}
+use Rattle.game_folder.specs.Holdings.{GamesFacts}
 use Rattle.game_server.specs.Seats.{AreSeats, IsKnownSeat, IsSeat, common, open_at, seat_moment}
 use Rattle.game_server.specs.Inside.Seating.{AnswersFrom, DeliversTo, HadSeat, IsSeatedNow, OpensForMessage, SeatsFor, seated_as}
 use Rattle.game_server.specs.declared.seat.Reply.{Reply}

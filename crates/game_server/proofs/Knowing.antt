@@ -4,8 +4,8 @@ use Rattle.std.specs.List.{AllByRecursion}
 use Rattle.std.specs.declared.net.socket_addr.SocketAddr.{SocketAddr}
 use Rattle.std.proofs.lemmas.List.Elements.{Contains-append_left, Contains-append_right}
 use Rattle.timeline.specs.Events.{Event, Committed, Found, Put, RecordSought, Sent}
-use Rattle.game_server.specs.Holdings.{GamesFacts, SendsNothing, StaysNoted, known}
-use Rattle.game_server.specs.Places.{InFile, InStore, KeptAt, WasKept}
+use Rattle.game_folder.specs.Holdings.{GamesFacts, SendsNothing, StaysNoted, known}
+use Rattle.game_folder.specs.Places.{InFile, InStore, KeptAt, WasKept}
 use Rattle.game_server.proofs.Backing.{was_kept_later}
 
 -- what was kept of late was kept

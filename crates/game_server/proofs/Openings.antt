@@ -18,10 +18,10 @@ use Rattle.system_io.specs.declared.reading.ReadFault.{ReadFault}
 use Rattle.timeline.specs.Events.{Event, Found, Put, is_done}
 use Rattle.timeline.specs.Outsides.{Adds, AddsSome, Outside, PortState}
 use Rattle.timeline.proofs.EventLaws.{adds_more, adds_none}
-use Rattle.game_server.specs.Drafts.{DraftView, draft_facts, settled}
+use Rattle.game_folder.specs.Drafts.{DraftView, draft_facts, settled}
 use Rattle.game_server.specs.Openings.{NoArbiter, NoRoom, Opened, OpensAndServes, OpensGame, Refused, Served, Unput, Unstarted, found_draft, put_events, served_as, unstarted_by}
 use Rattle.game_server.specs.Orders.{EachEarned, EarnsAll, IsThere}
-use Rattle.game_server.specs.Places.{one_file}
+use Rattle.game_folder.specs.Places.{one_file}
 use Rattle.game_server.specs.Turns.{Serves, ServesSpan, address_of, request, request_sent, turn_events, with_last}
 use Rattle.game_server.specs.Inside.Steps.{NoArbiterOver, OpenedOver, OpensOver as OpensOverDraft, UnputOver}
 use Rattle.game_server.proofs.Backing.{each_join, request_earned, there_later}

@@ -14,12 +14,12 @@ use Rattle.arbiter_server.proofs.OpenedLaws.{good_unless}
 use Rattle.arbiter_server.specs.Games.{CommonView, IsGameOf, setup_of}
 use Rattle.board_core.specs.declared.parts.Parts.{Parts}
 use Rattle.timeline.specs.Events.{Event}
-use Rattle.game_server.specs.Drafts.{DraftView, draft_facts, settled}
+use Rattle.game_folder.specs.Drafts.{DraftView, draft_facts, settled}
 use Rattle.timeline.specs.Outsides.{Outside}
 use Rattle.game_server.specs.Fates.{KeptIfAny}
-use Rattle.game_server.specs.Holdings.{GamesFacts, IsKnown, IsQuiet, KeepsGame, StaysNoted, known}
+use Rattle.game_folder.specs.Holdings.{GamesFacts, IsKnown, IsQuiet, KeepsGame, StaysNoted, known}
 use Rattle.game_server.specs.Openings.{found_draft}
-use Rattle.game_server.specs.declared.games.KeptGame.{KeptGame}
+use Rattle.game_folder.specs.declared.games.KeptGame.{KeptGame}
 use Rattle.game_server.proofs.Announcing.{IsDrafted}
 use Rattle.game_server.proofs.Knowing.{known_after, known_on, quiet_join}
 use Rattle.game_server.proofs.Openings.{IsBegun, begun}

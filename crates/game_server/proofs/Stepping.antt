@@ -11,7 +11,7 @@ use Rattle.system_io.specs.declared.recipient.Recipient.{Recipient}
 use Rattle.timeline.specs.Events.{Event, Put, is_done}
 use Rattle.timeline.specs.Outsides.{Adds, Outside}
 use Rattle.timeline.proofs.EventLaws.{adds_more, adds_none}
-use Rattle.game_server.specs.Drafts.{DraftView}
+use Rattle.game_folder.specs.Drafts.{DraftView}
 use Rattle.game_server.specs.Openings.{put_events}
 use Rattle.game_server.specs.Turns.{Address, AllSpelled, AreSpelled, EndsBy, GoesByTurn, GoesOnAfter, InTurns, Serves, Turn, answered, is_unput, message_sent, sent, turn_events, with_last}
 use Rattle.game_server.specs.Inside.Steps.{IsNextOf, TakesTurn}

@@ -15,7 +15,7 @@ use Rattle.timeline.specs.Events.{Event, Came, Flushed, IsWritten, Missed, Refus
 use Rattle.timeline.specs.Outsides.{Adds, AddsSome, Outside, PortState}
 use Rattle.timeline.specs.declared.stream.Stream.TheVariants.{Output}
 use Rattle.timeline.proofs.EventLaws.{adds_more}
-use Rattle.game_server.specs.Drafts.{DraftView}
+use Rattle.game_folder.specs.Drafts.{DraftView}
 use Rattle.game_server.specs.Turns.{Address, GoesByTurn, Heard, Hearing, LineEnd, Lost, Turn, WasCut, WasStuck, WentOut, address, address_of, answered, hearing_line, is_lost, is_out, is_printed, is_unput, line_events, turn_events, unput_at}
 use Rattle.game_server.specs.Inside.Steps.{BeginsTurn, Hears, IsLineEnd, IsNextOf, TakesTurn, stops}
 use Rattle.game_server.specs.declared.serving.Next.{Next}

@@ -8,9 +8,9 @@ use Rattle.move_msg.specs.declared.message.Message.{Message}
 use Rattle.move_msg.specs.declared.message.MessageFault.{MessageFault}
 use Rattle.timeline.specs.Events.{Event}
 use Rattle.timeline.specs.Outsides.{Outside}
-use Rattle.game_server.specs.Drafts.{DraftView}
+use Rattle.game_folder.specs.Drafts.{DraftView}
 use Rattle.game_server.specs.Fates.{Fate, GoesTo, fate_leaves}
-use Rattle.game_server.specs.Holdings.{GamesFacts, IsQuiet, StaysNoted, known}
+use Rattle.game_folder.specs.Holdings.{GamesFacts, IsQuiet, StaysNoted, known}
 use Rattle.game_server.specs.Seats.{AreKnown, AreSeats, common, open_at, seat_moment}
 use Rattle.game_server.specs.declared.seat.Reply.{Reply}
 use Rattle.game_server.specs.declared.server.Server.{Server}

@@ -21,12 +21,21 @@ use Rattle.move_msg.specs.Messages.{stamp_in}
 use Rattle.move_msg.specs.declared.message.Message.{Message}
 use Rattle.move_msg.specs.declared.message.MessageFault.{MessageFault}
 use Rattle.timeline.specs.Events.{Event}
-use Rattle.game_server.specs.Drafts.{DraftView, draft_facts, settled}
-use Rattle.game_server.specs.Holdings.{GamesFacts}
-use Rattle.game_server.specs.Openings.{found_draft}
-use Rattle.game_server.specs.Turns.{is_unput}
+use Rattle.game_folder.specs.Drafts.{DraftView, draft_facts, settled}
+use Rattle.game_folder.specs.Holdings.{GamesFacts}
+
+-- nothing is to be put of what a start found
+abbrev pub found_draft : Option (List ℕ) → DraftView
+found_draft got = record { kept = got; to_put = None }
 
 -- ---- what is answered
+
+-- the record that was to be put was not
+abbrev pub is_unput : Option (List ℕ) → Bool → Told → Bool
+is_unput to_put done (Err fault) = false
+is_unput None done (Ok outputs) = false
+is_unput (Some bytes) true (Ok outputs) = false
+is_unput (Some bytes) false (Ok outputs) = true
 
 pub data Fate : Type 0 where
   -- the bytes are no message

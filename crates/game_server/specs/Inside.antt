@@ -1,3 +1,3 @@
 -- Intermediate results of functions. Private clauses alone cite them.
-pub mod Steps
 pub mod Seating
+pub mod Running

@@ -1,11 +1,10 @@
-pub mod Drafts
-pub mod Turns
-pub mod Places
 pub mod Orders
-pub mod Openings
-pub mod Holdings
 pub mod Seats
 pub mod Fates
 pub mod Replies
 pub mod Datagrams
+pub mod Sending
+pub mod Printing
+pub mod Rounds
+pub mod Runs
 pub mod Inside

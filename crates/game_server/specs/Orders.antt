@@ -1,8 +1,6 @@
 -- In which order records are put and acknowledged (this project's own).
-use Rattle.std.specs.Prelude.{◌≡◌, ◌≤◌, ◌++◌, ℕ, List, [], ◌∷◌, length, Option, Some}
-use Rattle.std.specs.List.{AllByRecursion, flat_map}
+use Rattle.std.specs.Prelude.{◌≡◌, ◌≤◌, ◌++◌, ℕ, List, [], ◌∷◌, length, Some}
 use Rattle.std.specs.declared.net.socket_addr.SocketAddr.{SocketAddr}
-use Rattle.arbiter_core.specs.Delivers.{IsKept, Moment}
 use Rattle.board_core.specs.declared.verdict.Verdict.{Verdict as Verdicts}
 use Rattle.move_msg.specs.Messages.{SpellsMessage}
 use Rattle.move_msg.specs.Records.{SpellsRecord}
@@ -13,9 +11,12 @@ use Rattle.move_msg.specs.declared.stamp.Stamp.{Stamp}
 use Rattle.system_io.specs.declared.recipient.Recipient.{Recipient}
 use Rattle.timeline.specs.Events.{Event, Sent}
 use Rattle.timeline.specs.Outsides.{AddsSome, Outside}
-use Rattle.game_server.specs.Drafts.{DraftView}
-use Rattle.game_server.specs.Places.{Held, Places, WasPut, kept_by, one_file}
-use Rattle.game_server.specs.Turns.{GoesOnAfter, InTurns, Turn, turn_events, with_last}
+use Rattle.game_folder.specs.Holdings.{GamesFacts}
+use Rattle.game_folder.specs.Places.{Held, Places, kept_by}
+use Rattle.game_server.specs.Printing.{LineForm}
+use Rattle.game_server.specs.Runs.{InTurns, Turn, run_events}
+use Rattle.game_server.specs.Seats.{AreKnown}
+use Rattle.game_server.specs.declared.server.Server.{Server}
 
 -- a record of this game with at least so many moves is held
 abbrev pub HasMoves : Held → Stamp → ℕ → Type 0
@@ -42,17 +43,19 @@ abbrev pub EachEarned : Places → List Event → List Event → Type 0
 EachEarned places before [] = Unit {0}
 EachEarned places before (e ∷ es) = IsEarned places before e × EachEarned places (before ++ e ∷ []) es
 
--- what an arbiter is to go on from was put or found
-abbrev pub IsThere : List ℕ → List Event → Option (List ℕ) → Type 0
-IsThere path before kept = (bytes : List ℕ) × (kept ≡ Some bytes) × WasPut path before bytes
+-- what the open games of a server keep was known, and is; and each of these events was earned
+pub record Earned {F G : Type 0} (facts : GamesFacts G) (old new : Server G F) (before more : List Event) : Type 0 where
+  pub each : EachEarned (facts.places (facts.place old.games)) before more
+  pub known : AreKnown facts new (before ++ more)
+  pub place : facts.place new.games ≡ facts.place old.games
 
--- THE LAW: each acknowledgement of so many moves that is sent in a run comes after a put of a record of at least so many, or after a
--- start that found one; and each verdict after that of a record with it
-abbrev pub AcksAreEarned : Type 0
-AcksAreEarned =
-    (path : List ℕ) (to : List Recipient) (old new : Moment DraftView) (turns : List Turn) (last : Option Turn) (before : List Event) → IsKept old.keeper.kept old.arbiter → IsThere path before old.keeper.kept
-    → AllByRecursion GoesOnAfter turns → InTurns old (with_last turns last) new → EachEarned (one_file path) before (flat_map (turn_events path to) (with_last turns last))
+-- THE LAW: over whatever places of games, each acknowledgement of so many moves that is sent in a run comes after a record of at least so
+-- many was put or committed where that game's record is kept, or found there; and each verdict after a record with it
+abbrev pub AcksAreEarned : {T P F K S L G : Type 0} → Outside T P F K S L → GamesFacts G → Type 0
+AcksAreEarned {F} {G} o facts =
+    (most : ℕ) (form : LineForm) (texts : List (List ℕ)) (to : List Recipient) (old new : Server G F) (turns : List Turn) (before : List Event)
+    → AreKnown facts old before → InTurns o facts most form texts old turns new → Earned facts old new before (run_events to turns)
 
--- from one moment to a later one each acknowledgement and each verdict that was sent was earned in between, whatever came before
-abbrev pub EarnsAll : {T P F K S L : Type 0} → Outside T P F K S L → Places → T → T → Type 0
-EarnsAll o places t t' = AddsSome o t t' (λ more. (before : List Event) → EachEarned places before more)
+-- from one moment to a later one each acknowledgement and each verdict that was sent was earned
+abbrev pub EarnsFrom : {T P F K S L G : Type 0} → Outside T P F K S L → GamesFacts G → Server G F → Server G F → T → T → Type 0
+EarnsFrom o facts old new t t' = AddsSome o t t' (λ more. (before : List Event) → AreKnown facts old before → Earned facts old new before more)

@@ -1,23 +1,13 @@
 -- What a datagram is answered at a server of many games (this project's own).
-use Rattle.std.specs.Prelude.{◌≡◌, ◌++◌, ℕ, List, codes}
+use Rattle.std.specs.Prelude.{◌≡◌, List}
 use Rattle.std.specs.List.{AllByRecursion}
-use Rattle.arbiter_core.specs.declared.fault.DeliverFault.TheVariants.{NotAMessage}
-use Rattle.arbiter_server.specs.ServedLines.{heard_line, refused_datagram}
-use Rattle.arbiter_server.specs.Told.{stamped, unopened_words}
+use Rattle.arbiter_server.specs.Told.{line_words}
 use Rattle.move_msg.specs.declared.message.Message.{Message}
 use Rattle.timeline.specs.Events.{Event}
 use Rattle.game_server.specs.Fates.{Fate, fate_line, fate_outputs}
-use Rattle.game_server.specs.Holdings.{GamesFacts, known}
+use Rattle.game_folder.specs.Holdings.{GamesFacts, known}
 use Rattle.game_server.specs.Orders.{IsBacked}
 use Rattle.game_server.specs.declared.seat.Reply.{Reply}
-use Rattle.game_server.specs.declared.seat.ReplyLine.{ReplyLine}
-use Rattle.game_server.specs.declared.seat.ReplyLine.TheVariants as reply
-
--- the words of a line, with the stamp of its game before them
-abbrev pub line_words : ReplyLine → List ℕ
-line_words (reply.Answered stamp heard) = stamped stamp (heard_line heard)
-line_words (reply.Unopened stamp why) = stamped stamp (unopened_words why)
-line_words (reply.Unread fault) = codes "- " ++ refused_datagram (NotAMessage fault)
 
 -- the messages and the line are those of this fate
 pub record IsReply (reply : Reply) (fate : Fate) : Type 0 where

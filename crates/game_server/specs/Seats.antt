@@ -8,8 +8,8 @@ use Rattle.arbiter_server.specs.Room.{at_stamp}
 use Rattle.judge_core.specs.Tables.{Holding}
 use Rattle.timeline.specs.Events.{Event}
 use Rattle.timeline.specs.Outsides.{Outside}
-use Rattle.game_server.specs.Drafts.{DraftView}
-use Rattle.game_server.specs.Holdings.{GamesFacts, IsKeptIn, known}
+use Rattle.game_folder.specs.Drafts.{DraftView}
+use Rattle.game_folder.specs.Holdings.{GamesFacts, IsKeptIn, known}
 use Rattle.game_server.specs.declared.seat.Seat.{Seat}
 use Rattle.game_server.specs.declared.server.Server.{Server}
 
@@ -48,6 +48,12 @@ pub record IsKnownSeat {F G : Type 0} (facts : GamesFacts G) (g : G) (before : L
 -- so it is of each
 abbrev pub AreKnown : {F G : Type 0} → GamesFacts G → Server G F → List Event → Type 0
 AreKnown facts server before = (stamp : List ℕ) → IfSome (open_at server stamp) (IsKnownSeat facts server.games before stamp)
+
+-- only games, and what they note, may have changed
+pub record SameSeats {G F : Type 0} (old new : Server G F) : Type 0 where
+  pub config : new.config ≡ old.config
+  pub tables : new.tables ≡ old.tables
+  pub seats : new.seats ≡ old.seats
 
 -- a server over these games, none of which is open yet
 pub record IsNewServer {G F : Type 0} (t : CommonView) (games : G) (server : Server G F) : Type 0 where

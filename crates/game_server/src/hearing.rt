@@ -7,12 +7,12 @@ ghost use Rattle.game_server.specs.Seats.{AreSeats, IsSeat, open_at};
 ghost use Rattle.game_server.specs.Datagrams.{HearsDatagram};
 ghost use Rattle.game_server.specs.Inside.Seating.{AnswersFromIn, AnswersMessageIn, SeatsFor};
 
-use crate::games::Games;
 use crate::room::{settle, take_out};
-use crate::seat::{Reply, ReplyLine, Seat};
+use crate::seat::{Reply, Seat};
 use crate::seating::{deliver, line_alone, open_for};
 use crate::server::Server;
-use arbiter_server::OpenGameError;
+use arbiter_server::{Line, OpenGameError};
+use game_folder::Games;
 use move_msg::Message;
 use timeline::System;
 
@@ -64,7 +64,7 @@ fn answer<'a, S: System, G: Games<S> + Drop>(
 {
     match seat_for(server, system, timeline, message) {
         Ok(seat) => answer_at(server, system, timeline, seat, message),
-        Err(why) => line_alone(server.alloc, ReplyLine::Unopened(message.stamp(), why)),
+        Err(why) => line_alone(server.alloc, Line::Unopened(message.stamp(), why)),
     }
 }
 
@@ -82,6 +82,6 @@ pub fn hear<'a, S: System, G: Games<S> + Drop>(
 {
     match Message::decode(bytes) {
         Ok(message) => answer(server, system, timeline, &message),
-        Err(fault) => line_alone(server.alloc, ReplyLine::Unread(fault)),
+        Err(fault) => line_alone(server.alloc, Line::Unread(fault)),
     }
 }

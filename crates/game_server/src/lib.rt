@@ -1,57 +1,51 @@
-//! Games that are served over one system with one timeline: datagrams come, records are kept, and only then answers go out.
+//! A server of games: it answers the datagrams that come to a port, each by the arbiter of its game. `listen` and `host` are such servers,
+//! of one game and of many. What happens outside is one list of events over one timeline, with its order.
 //!
-//! The record of an arbiter is written down in memory (`Draft`, a keeper that never fails), and is put where it is kept after each delivery,
-//! before anything is sent. What happens outside is one list of events, with its order.
-//!
-//! - **One game in a file**: `open` starts over the file, `serve` answers the datagrams of a port; `open_and_serve` does both. A
-//!   datagram's line goes out before the next one is awaited.
-//! - **Any number of games**: `Games` finds a game by its stamp, takes its record, keeps what a delivery puts (a file at once; for a
-//!   store it is noted) and commits what was noted. `hear` answers a datagram by the game that it names, but sends nothing: that is to be
-//!   done behind the commit. A record that can't be kept refuses its game alone.
+//! A message names its game by a stamp. The server looks up a game that isn't open among its places (`Games` of `game_folder`): its name, its
+//! start, its delay and its record. Where no room is left, the one used least recently is closed. All judge by one set of tables, lent to
+//! the one that answers. Datagrams that wait are answered in rounds: `hear` answers each, and what its game keeps is put in a file, or noted
+//! for the store; then what was noted is committed; only then the replies go out, each to who asked, and then the lines.
 //!
 //! Nothing uses this crate yet: it is to take the place of both servers of `arbiter_server`.
 //!
-//! Inside: `draft`; for one game `file_game`, `serving`, `opening`, `laws`; for many `games`, `seat` (a game that is open), `server`,
-//! `room`, `lookup`, `seating` (a game is opened, and answers), `hearing` (a datagram).
+//! Inside: `seat` (a game that is open), `server`, `room`, `lookup`, `seating` (a game is opened, and answers), `hearing` (a datagram),
+//! `replies`, `gathering` (the datagrams of a round), `sending`, `lines` (which are written), `printing`, `running`; `laws`.
 //!
-//! Definitions, in reading order: `Drafts`, `Turns` (`turn_events`, `GoesByTurn`, `InTurns`, `Serves`), `Places` (`WasKept`), `Orders` (`IsBacked`,
-//! `EachEarned`, `AcksAreEarned`), `Openings` for one game; `Holdings` (`GamesFacts`), `Seats`, `Fates` (`OpensFor`, `GoesTo`), `Replies`,
-//! `Datagrams` (`HearsDatagram`) for many; for private clauses `Steps`, `Seating`.
+//! Definitions, in reading order: `Seats`, `Fates` (`OpensFor`, `GoesTo`), `Replies`, `Datagrams` (`HearsDatagram`), `Sending`, `Printing`
+//! (`written_text`, `WritesLines`), `Rounds` (`round_events`, `IsRound`), `Runs` (`InTurns`, `Serves`), `Orders` (`IsBacked`, `AcksAreEarned`);
+//! for private clauses `Seating`, `Running`.
 //!
-//! - CLAIM: `Draft`, clause `facts`: a put succeeds, and its bytes are to be put where the record is kept.
-//! - CLAIM: `open`, clause `opens`: a start reads the file; over a record of the game the arbiter runs from it with nothing put, and over
-//!   nothing its first record is put. Where that fails no game is open.
-//! - CLAIM: `serve`, clause `run`: all that happens outside is the request, where it is wanted, and then turns. In each a datagram comes and
-//!   is answered by one delivery; a record is put, where there is one; each message of the answer goes to each recipient, once and in
-//!   order; the line is written, and goes out. A put that fails sends nothing, is told as `refused keeper` and ends the run, as a
-//!   receive that fails is told as `refused port`. Nothing is received behind a lost line. The status is 0 only where all came.
-//! - CLAIM: `open_and_serve`, clause `earned`; `laws::acks_are_earned`: each acknowledgement of so many moves comes after a put of a record of
-//!   this game with at least so many in this file, or after the start found one; each verdict comes after a record with it.
+//! - CLAIM: `serve`, clause `run`: all that happens outside are turns. In each, datagrams come, and each is answered by one delivery of the
+//!   arbiter of the game that it names, which is opened where it isn't open, or by a refusal alone; then what was noted is committed; then
+//!   each message of each reply goes to each recipient, once and in order, and where that is the sender to whom its datagram came from;
+//!   then a line for each datagram goes out, as the log has it. Where the commit fails nothing is sent. Nothing is received behind a lost
+//!   line. The status is 0 only where all datagrams came, and 1 only where the port is lost or no more can be committed.
+//! - CLAIM: `serve`, clause `earned`; `laws::acks_are_earned`: each acknowledgement of so many moves comes after a record of this game with
+//!   at least so many was put or committed where its record is kept, or found there; each verdict comes after a record with it.
 //! - CLAIM: `hear`, clause `made`: nothing is sent. The datagram has one of the fates of `GoesTo`, and the reply is of that. A record that
 //!   can't be kept is not announced, and its game alone is refused; another game is as it was, or closed.
 //! - CLAIM: `hear`, clause `made`: what the messages of the reply say (`backed`) of a record was put, committed or found where that game's
 //!   record is kept, or is noted for the next commit.
-//! - CLAIM: `Server::open`: no game is open yet.
+//! - CLAIM: `PortServer::open`: no game is open yet (the error has no cause).
 #![tactic(auto)]
 
-mod draft;
-mod file_game;
-mod games;
+mod gathering;
 mod hearing;
 pub mod laws;
+mod lines;
 mod lookup;
-mod opening;
+mod printing;
+mod replies;
 mod room;
+mod running;
 mod seat;
 mod seating;
+mod sending;
 mod server;
-mod serving;
 
-pub use draft::Draft;
-pub use file_game::{FileGame, FileTask};
-pub use games::{Games, KeptGame};
 pub use hearing::hear;
-pub use opening::{open, open_and_serve};
-pub use seat::{Reply, ReplyLine, Seat};
+pub use lines::Lines;
+pub use replies::{Held, Replies};
+pub use running::{PortServer, serve};
+pub use seat::{Reply, Seat};
 pub use server::Server;
-pub use serving::serve;

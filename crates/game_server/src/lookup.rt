@@ -5,8 +5,8 @@ ghost use Rattle.arbiter_server.specs.Acts.{opens_game};
 ghost use Rattle.timeline.specs.Outsides.{AddsSome};
 ghost use Rattle.game_server.specs.Inside.Seating.{LooksUp};
 
-use crate::games::Games;
 use arbiter_server::{GameConfig, OpenGameError};
+use game_folder::Games;
 use move_msg::{GameName, Message, Stamp};
 use std::alloc::Global;
 use timeline::System;

@@ -5,16 +5,16 @@ ghost use Rattle.arbiter_server.specs.Games.{IsGameOf};
 ghost use Rattle.arbiter_server.specs.Told.{unopened_by};
 ghost use Rattle.move_msg.specs.Messages.{stamp_in};
 ghost use Rattle.timeline.specs.Outsides.{AddsSome};
-ghost use Rattle.game_server.specs.Holdings.{IsKeptIn};
+ghost use Rattle.game_folder.specs.Holdings.{IsKeptIn};
 ghost use Rattle.game_server.specs.Seats.{IsSeat};
 ghost use Rattle.game_server.specs.Inside.Seating.{DeliversIn, OpensForIn, OpensOverKept, OpensTaken};
 
-use crate::games::{Games, KeptGame};
 use crate::lookup::{found, opens_game};
-use crate::seat::{Reply, ReplyLine, Seat};
+use crate::seat::{Reply, Seat};
 use crate::server::Server;
 use arbiter_core::{ArbiterState, OpenFault, Terms};
-use arbiter_server::{DatagramReport, GameConfig, OpenGameError};
+use arbiter_server::{DatagramReport, GameConfig, Line, OpenGameError};
+use game_folder::{Games, KeptGame};
 use move_msg::{Message, Stamp};
 use smallvec::SmallVec;
 use std::alloc::Global;
@@ -108,7 +108,7 @@ pub(crate) fn open_for<'a, S: System, G: Games<S> + Drop>(
 }
 
 /// What is answered where nothing is sent: the line alone.
-pub(crate) fn line_alone(alloc: Global, line: ReplyLine) -> Reply
+pub(crate) fn line_alone(alloc: Global, line: Line) -> Reply
     ensures outputs { result.outputs.items ≡ [] }
     ensures line { result.line ≡ line }
 {
@@ -140,16 +140,16 @@ pub(crate) fn deliver<'a, S: System, G: Games<S> + Drop>(
         Ok(outputs) => match server.games.keep(system, timeline, &mut seat.kept) {
             Ok(()) => {
                 let heard = DatagramReport::Recorded(seat.state.count(), seat.state.verdict());
-                let line = ReplyLine::Answered(stamp, heard);
+                let line = Line::Answered(stamp, heard);
                 (Reply { outputs, line }, true)
             }
             Err(_) => {
-                let line = ReplyLine::Answered(stamp, DatagramReport::KeeperLost);
+                let line = Line::Answered(stamp, DatagramReport::KeeperLost);
                 (line_alone(server.alloc, line), false)
             }
         },
         Err(fault) => {
-            let line = ReplyLine::Answered(stamp, DatagramReport::refused(fault));
+            let line = Line::Answered(stamp, DatagramReport::refused(fault));
             (line_alone(server.alloc, line), true)
         }
     }

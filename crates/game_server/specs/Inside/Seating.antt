@@ -17,12 +17,12 @@ use Rattle.move_msg.specs.declared.message.Message.{Message}
 use Rattle.timeline.specs.Events.{Event}
 use Rattle.timeline.specs.Outsides.{AddsSome, Outside}
 use Rattle.game_server.specs.Datagrams.{HearsDatagram, IsLeftOpen}
-use Rattle.game_server.specs.Drafts.{DraftView, draft_facts, settled}
+use Rattle.game_folder.specs.Drafts.{DraftView, draft_facts, settled}
 use Rattle.game_server.specs.Fates.{Answered, AnswersBy, HasGame, OpensFor, OpensSeat, TakesAndOpens}
-use Rattle.game_server.specs.Holdings.{GamesFacts, IsKnown, IsQuiet, SendsNothing, StaysNoted, known}
+use Rattle.game_folder.specs.Holdings.{GamesFacts, IsKnown, IsQuiet, SendsNothing, StaysNoted, known}
 use Rattle.game_server.specs.Replies.{AreBacked, IsReply}
-use Rattle.game_server.specs.Seats.{AreKnown, IsKnownSeat, IsSeat, common, open_at, seat_moment}
-use Rattle.game_server.specs.declared.games.KeptGame.{KeptGame}
+use Rattle.game_server.specs.Seats.{AreKnown, IsKnownSeat, IsSeat, SameSeats, common, open_at, seat_moment}
+use Rattle.game_folder.specs.declared.games.KeptGame.{KeptGame}
 use Rattle.game_server.specs.declared.seat.Reply.{Reply}
 use Rattle.game_server.specs.declared.seat.Seat.{Seat}
 use Rattle.game_server.specs.declared.server.Server.{Server}
@@ -41,12 +41,6 @@ pub record LooksUp {G : Type 0} (facts : GamesFacts G) (g : G) (manifest stamp :
   pub is : IsLookUp facts g manifest stamp result events
 
 -- ---- a game is opened over its record
-
--- only games, and what they note, may have changed
-pub record SameSeats {G F : Type 0} (old new : Server G F) : Type 0 where
-  pub config : new.config ≡ old.config
-  pub tables : new.tables ≡ old.tables
-  pub seats : new.seats ≡ old.seats
 
 abbrev pub seated_as : {F : Type 0} → Holding → Result (Seat F) OpenGameError → Result (Moment DraftView) OpenGameError
 seated_as set (Ok seat) = Ok (seat_moment set seat)

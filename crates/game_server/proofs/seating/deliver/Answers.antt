@@ -8,9 +8,9 @@ use Rattle.arbiter_server.specs.Told.{stamped}
 use Rattle.move_msg.specs.Messages.{stamp_in}
 use Rattle.move_msg.specs.declared.message.Message.{Message}
 use Rattle.timeline.proofs.EventLaws.{adds_none}
-use Rattle.game_server.specs.Drafts.{DraftView}
+use Rattle.game_folder.specs.Drafts.{DraftView}
 use Rattle.game_server.specs.Fates.{KeepsAnswer}
-use Rattle.game_server.specs.Holdings.{IsKeptIn, known}
+use Rattle.game_folder.specs.Holdings.{IsKeptIn, known}
 use Rattle.game_server.specs.Replies.{AreBacked, line_words}
 use Rattle.game_server.specs.Turns.{is_unput}
 use Rattle.game_server.specs.declared.seat.Seat.{Seat}

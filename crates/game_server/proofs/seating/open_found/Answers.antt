@@ -1,6 +1,6 @@
 use Rattle.std.proofs.Common.{List, ℕ, refl, subst, sym}
 use Rattle.arbiter_server.specs.Games.{IsGameOf}
-use Rattle.game_server.specs.Holdings.{IsKeptIn}
+use Rattle.game_folder.specs.Holdings.{IsKeptIn}
 use Rattle.game_server.proofs.Composing.{takes_none, takes_then}
 use Rattle.game_server.proofs.seating.open_found.Goals as goal
 

@@ -2,9 +2,9 @@ use Rattle.std.proofs.Common.{List, ℕ, Option, ap, refl, subst, sym, ◌∙◌
 use Rattle.std.specs.Prelude.{Ok, Err}
 use Rattle.arbiter_core.specs.Delivers.{IsKept, moment}
 use Rattle.arbiter_core.specs.Resting.{awake}
-use Rattle.game_server.specs.Drafts.{DraftView}
+use Rattle.game_folder.specs.Drafts.{DraftView}
 use Rattle.game_server.specs.Fates.{SeatOpened, SeatRefused, SeatUnkept}
-use Rattle.game_server.specs.Holdings.{IsKeptIn}
+use Rattle.game_folder.specs.Holdings.{IsKeptIn}
 use Rattle.game_server.specs.Seats.{common}
 use Rattle.game_server.proofs.Openings.{begun, is_opening}
 use Rattle.game_server.proofs.SeatLaws.{begun_known, kept_if_any, kept_known, opened_its, quiet_nothing, unkept_some}

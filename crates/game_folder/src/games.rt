@@ -1,6 +1,6 @@
 //! Where games are found, and their records kept.
 
-ghost use Rattle.game_server.specs.Holdings.{CommitsGames, FindsGame, GamesFacts, IsKeptIn, KeepsGame, TakesGame};
+ghost use Rattle.game_folder.specs.Holdings.{CommitsGames, FindsGame, GamesFacts, IsKeptIn, KeepsGame, TakesGame};
 ghost use Rattle.timeline.specs.Outsides.{AddsSome};
 
 use crate::draft::Draft;
@@ -56,7 +56,8 @@ pub trait Games<S: System> {
         requires { IsKeptIn (S.outside system.now) (facts.places (facts.place self.old) game.old.stamp) game.old.file }
         ensures made { AddsSome (S.outside system.now) timeline.old timeline.new (KeepsGame facts (S.outside system.now) self.old self.new game.old game.new result) };
 
-    /// Commits what was noted. No answer to a datagram goes out before. Where memory alone is refused, it stays noted.
+    /// Commits what was noted. No answer to a datagram goes out before. After an error it stays noted; where that isn't for want of memory
+    /// alone, no more can be committed.
     fn commit(&mut self, system: &S, timeline: &mut S::Timeline) -> Result<(), Uncommitted>
         ensures made { AddsSome (S.outside system.now) timeline.old timeline.new (CommitsGames facts self.old self.new result) };
 }

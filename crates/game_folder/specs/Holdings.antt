@@ -1,16 +1,15 @@
 -- What places of games know and keep, over one timeline (this project's own).
-use Rattle.std.specs.Prelude.{◌≡◌, ◌⊎◌, ℕ, Bool, List, [], ◌∷◌, Option, Some, None, Result, Ok, Err, IfOk, IsOk, OnOk}
+use Rattle.std.specs.Prelude.{◌≡◌, ◌⊎◌, ℕ, Bool, List, [], ◌∷◌, Option, Some, None, Result, Ok, Err, IfOk, IsOk, OnErr, OnOk}
 use Rattle.std.specs.List.{AllByRecursion}
 use Rattle.std.specs.declared.net.socket_addr.SocketAddr.{SocketAddr}
 use Rattle.arbiter_server.specs.declared.fault.OpenGameError.{OpenGameError}
 use Rattle.arbiter_server.specs.declared.fault.Uncommitted.{Uncommitted}
-use Rattle.arbiter_server.specs.declared.fault.Uncommitted.TheVariants as uncommitted
 use Rattle.arbiter_server.specs.declared.games.GameConfig.{GameConfig}
 use Rattle.timeline.specs.Events.{Event, Sent, is_done}
 use Rattle.timeline.specs.Outsides.{Outside}
-use Rattle.game_server.specs.Drafts.{DraftView, settled}
-use Rattle.game_server.specs.Places.{Held, InFile, InStore, KeptAt, Places, WasKept}
-use Rattle.game_server.specs.declared.games.KeptGame.{KeptGame}
+use Rattle.game_folder.specs.Drafts.{DraftView, settled}
+use Rattle.game_folder.specs.Places.{Held, InFile, InStore, KeptAt, Places, WasKept}
+use Rattle.game_folder.specs.declared.games.KeptGame.{KeptGame}
 
 -- what is known of places of games of a type
 pub record GamesFacts (G : Type 0) : Type 1 where
@@ -19,7 +18,7 @@ pub record GamesFacts (G : Type 0) : Type 1 where
   pub place : G → Place
   -- where the record of each game is kept
   pub places : Place → Places
-  -- these bytes were noted, and are to be committed
+  -- these bytes were noted, and are to be committed; where no more can be committed, any
   pub noted : G → Held
   -- by these events the game with this stamp is looked for, with what comes of it
   pub finds : Place → List ℕ → Result GameConfig OpenGameError → List Event → Type 0
@@ -90,9 +89,9 @@ module _ {G : Type 0} (facts : GamesFacts G) where
     pub some : (bytes : List ℕ) → before.draft.to_put ≡ Some bytes → facts.keeps (facts.place old) before.stamp bytes (is_done result) events
     pub known : (bytes : List ℕ) → before.draft.to_put ≡ Some bytes → OnOk result (known new events before.stamp bytes)
 
-  -- what was noted is committed, or that fails; where memory alone was refused it stays noted
+  -- what was noted is committed, or that fails; then it stays noted, and nothing is announced
   pub record CommitsGames {A : Type 0} (old new : G) (result : Result A Uncommitted) (events : List Event) : Type 0 where
     pub still : IsQuiet old new events
     pub done : facts.commits old (is_done result) events
     pub kept : OnOk result ((stamp bytes : List ℕ) → facts.noted old stamp bytes → WasKept (facts.places (facts.place old) stamp) events stamp bytes)
-    pub left : result ≡ Err uncommitted.OutOfMemory → StaysNoted old new
+    pub left : OnErr result (StaysNoted old new)

@@ -17,7 +17,7 @@ pub struct Draft {
 
 impl Model for Draft {
     ghost use Rattle.std.specs.Prelude.{◌≤◌, cond, Some, None, vec_capacity};
-    ghost use Rattle.game_server.specs.Drafts.{DraftView};
+    ghost use Rattle.game_folder.specs.Drafts.{DraftView};
 
     ghost Value = { DraftView };
 
@@ -27,7 +27,7 @@ impl Model for Draft {
 }
 
 impl Draft {
-    ghost use Rattle.game_server.specs.Drafts.{DraftView, settled};
+    ghost use Rattle.game_folder.specs.Drafts.{DraftView, settled};
 
     /// A draft of nothing.
     pub fn new(alloc: Global) -> Result<Draft, AllocError>
@@ -81,7 +81,7 @@ impl Draft {
 }
 
 impl Keeper for Draft {
-    ghost use Rattle.game_server.specs.Drafts.{draft_facts};
+    ghost use Rattle.game_folder.specs.Drafts.{draft_facts};
 
     ghost facts = { draft_facts };
 
