@@ -181,7 +181,7 @@ picks_nothing before log line is = record {
 -- ---- what is told
 
 -- of these lines there is one at most
-IsOne : List (List ℕ) → Type 0
+abbrev pub IsOne : List (List ℕ) → Type 0
 IsOne [] = Unit {0}
 IsOne (line ∷ []) = Unit {0}
 IsOne (line ∷ (other ∷ lines)) = ⊥
