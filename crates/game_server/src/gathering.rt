@@ -73,13 +73,13 @@ pub(crate) fn gather<'a, S: System, G: Games<S> + Drop>(
     let mut buffer = [0u8; 64];
     replies.clear();
     while replies.len() < most {
-        match receive_next(system, timeline, port, replies.len() == 0, &mut buffer) {
+        match receive_next(system, timeline, port, replies.is_empty(), &mut buffer) {
             Ok(Some(length)) => {
                 let sender = system.sender(port);
                 hear_one(server, system, timeline, &buffer[..length], sender, replies);
             }
             Ok(None) => return true,
-            Err(_) => return replies.len() > 0,
+            Err(_) => return !replies.is_empty(),
         }
     }
     true

@@ -13,7 +13,7 @@ use crate::gathering::gather;
 use crate::lines::Lines;
 use crate::printing::{print_line, print_lines};
 use crate::replies::Replies;
-use crate::sending::send_replies;
+use crate::sending::send_if;
 use crate::server::Server;
 use arbiter_server::{Line, LineLog, ServerConfig, Uncommitted};
 use game_folder::Games;
@@ -97,9 +97,7 @@ fn conclude<S: System>(
     ensures made { (before : List (List ℕ)) → KnowsLines lines.old before → ConcludesRound (S.outside system.now) before ((S.outside system.now).port port.old).to are_sent replies.now.held lines.old lines.new timeline.old timeline.new result }
     ensures cause { OnErr result (OutputFails (S.outside system.now)) }
 {
-    if are_sent {
-        send_replies(system, timeline, port, replies.held());
-    }
+    send_if(system, timeline, port, replies.held(), are_sent);
     match print_lines(system, timeline, lines, replies.held(), are_sent) {
         Ok(()) => Ok(AfterRound::GoesOn(replies.len())),
         Err(fault) => Err(fault),
