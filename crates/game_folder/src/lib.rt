@@ -15,7 +15,14 @@
 #![tactic(auto)]
 
 mod draft;
+mod folder_games;
 mod games;
+mod one_game;
+mod record_file;
+mod store_games;
 
 pub use draft::Draft;
+pub use folder_games::FolderGames;
 pub use games::{Games, KeptGame};
+pub use one_game::OneGame;
+pub use store_games::StoreGames;
