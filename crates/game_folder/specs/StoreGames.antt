@@ -16,6 +16,8 @@ use Rattle.game_folder.specs.FolderGames.{FindsInFolder}
 use Rattle.game_folder.specs.Holdings.{GamesFacts, kept_of}
 use Rattle.game_folder.specs.Places.{InStore}
 use Rattle.game_folder.specs.declared.games.KeptGame.{KeptGame}
+use Rattle.game_folder.specs.declared.store_games.Loss.{Loss}
+use Rattle.game_folder.specs.declared.store_games.Loss.TheVariants.{OfMemory, OfStore}
 
 -- where the files of games are, the store, what is noted since its last commit, the games that are left, and why no more can be committed,
 -- if that is so
@@ -24,7 +26,12 @@ pub record StoredGames (S : Type 0) : Type 0 where
   pub store : S
   pub noted : List Entry
   pub left : List (List ℕ)
-  pub loss : Option Uncommitted
+  pub loss : Option Loss
+
+-- as it is told
+abbrev pub loss_told : Loss → Uncommitted
+loss_told OfStore = uncommitted.StoreLost
+loss_told OfMemory = uncommitted.NotNoted
 
 -- ---- what is noted
 
@@ -52,7 +59,7 @@ abbrev pub Notes : {S A E : Type 0} → StoredGames S → List ℕ → Option (L
 Notes old stamp None (Ok a) new = new ≡ old
 Notes old stamp None (Err e) new = ⊥
 Notes old stamp (Some bytes) (Ok a) new = (e : Entry) × IsEntryOf stamp bytes e × (new ≡ record old { noted = old.noted ++ e ∷ [] })
-Notes old stamp (Some bytes) (Err e) new = new ≡ record old { loss = Some uncommitted.NotNoted }
+Notes old stamp (Some bytes) (Err e) new = new ≡ record old { loss = Some OfMemory }
 
 -- ---- how a record is taken
 
@@ -61,15 +68,13 @@ abbrev pub given : Option (List ℕ) → Result (Option (List ℕ)) OpenGameErro
 given None = Ok None
 given (Some bytes) = if nat_lt 8217 (length bytes) then Err unopened.Keeper else Ok (Some bytes)
 
--- the record of the game with this stamp may be given
+-- the record of the game with this stamp may be given: more can be committed, and the game isn't left
 abbrev pub MayGive : {S : Type 0} → StoredGames S → List ℕ → Type 0
 MayGive g stamp = (g.loss ≡ None) × (Contains g.left stamp → ⊥)
 
--- By these events a record is taken of the store at a path, with what comes of it. It is refused where no more can be committed, where the
--- game is left, and where memory is refused; what is noted comes before what the store has.
+-- By these events a record is taken of the store at a path, with what comes of it: what is noted comes before what the store has.
 pub data TakesFromStore {S : Type 0} (path : List ℕ) (g : StoredGames S) (stamp : List ℕ) (result : Result (Option (List ℕ)) OpenGameError) (events : List Event) : Type 0 where
-  WasLost : IsSome g.loss → result ≡ Err unopened.Keeper → events ≡ [] → TakesFromStore path g stamp result events
-  WasLeft : g.loss ≡ None → Contains g.left stamp → result ≡ Err unopened.Keeper → events ≡ [] → TakesFromStore path g stamp result events
+  WasRefused : (MayGive g stamp → ⊥) → result ≡ Err unopened.Keeper → events ≡ [] → TakesFromStore path g stamp result events
   HadNoRoom : MayGive g stamp → result ≡ Err unopened.OutOfMemory → events ≡ [] → TakesFromStore path g stamp result events
   WasNoted : MayGive g stamp → (bytes : List ℕ) → last_noted g.noted stamp ≡ Some bytes → result ≡ given (Some bytes) → events ≡ [] → TakesFromStore path g stamp result events
   WasSought : MayGive g stamp → last_noted g.noted stamp ≡ None → (got : Option (List ℕ)) → result ≡ given got → events ≡ RecordSought path stamp got ∷ [] → TakesFromStore path g stamp result events
@@ -114,8 +119,8 @@ pub data CommitsNoted {S : Type 0} (path : List ℕ) (g : StoredGames S) (done :
 abbrev pub LeavesGames : {S A : Type 0} → Result A Uncommitted → StoredGames S → StoredGames S → Type 0
 LeavesGames (Ok a) old new = new ≡ record old { store = new.store; noted = [] }
 LeavesGames (Err uncommitted.OutOfMemory) old new = (old.loss ≡ None) × (new ≡ record old { store = new.store })
-LeavesGames (Err uncommitted.StoreLost) old new = new.loss ≡ Some uncommitted.StoreLost
-LeavesGames (Err uncommitted.NotNoted) old new = (old.loss ≡ Some uncommitted.NotNoted) × (new ≡ old)
+LeavesGames (Err uncommitted.StoreLost) old new = new.loss ≡ Some OfStore
+LeavesGames (Err uncommitted.NotNoted) old new = (old.loss ≡ Some OfMemory) × (new ≡ old)
 
 -- what the store has after a commit: all that was noted, or just what it had; unless no more can be committed, a start finds that
 pub record Stores {T P F K S L A E : Type 0} (o : Outside T P F K S L) (result : Result A E) (old new : StoredGames S) : Type 0 where

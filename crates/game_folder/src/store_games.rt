@@ -6,10 +6,11 @@ ghost use Rattle.arbiter_server.specs.DiskGames.{LacksGameFile};
 ghost use Rattle.arbiter_server.specs.GameFiles.{game_as_told};
 ghost use Rattle.arbiter_server.specs.GameFolders.{HasGame};
 ghost use Rattle.arbiter_server.specs.StoreGames.{bytes_at};
-ghost ghost use Rattle.timeline.specs.Events.{bytes_found};
+ghost use Rattle.timeline.specs.Events.{bytes_found};
 ghost use Rattle.timeline.specs.Outsides.{AddsSome};
-ghost use Rattle.game_folder.specs.Holdings.{CommitsGames, FindsGame, KeepsGame, TakesGame, kept_of};
-ghost use Rattle.game_folder.specs.StoreGames.{HasCount, IsEntryOf, IsInStore, LeavesGames, LooksUpRecord, MayGive, Notes, StoredGames, Stores, given, kept_records, last_noted, store_games_facts};
+ghost use Rattle.game_folder.specs.Holdings.{CommitsGames, FindsGame, IsKeptIn, KeepsGame, TakesGame, kept_of};
+ghost use Rattle.game_folder.specs.Places.{InStore};
+ghost use Rattle.game_folder.specs.StoreGames.{HasCount, IsEntryOf, IsInStore, LeavesGames, LooksUpRecord, MayGive, Notes, StoredGames, Stores, given, kept_records, last_noted, loss_told, store_games_facts};
 
 use crate::draft::Draft;
 use crate::folder_games::find_file;
@@ -25,6 +26,27 @@ use timeline::System;
 /// What is noted where the store can't be written.
 const STORE_LOST: &str = "the store can't be written: the run ends";
 
+/// Why no more can be committed.
+#[derive(Clone, Copy)]
+pub(crate) enum Loss {
+    /// The store can't be written.
+    OfStore,
+    /// Memory was refused to note what a game puts.
+    OfMemory,
+}
+
+impl Loss {
+    /// As it is told.
+    fn told(self) -> Uncommitted
+        ensures { result ≡ loss_told self }
+    {
+        match self {
+            Loss::OfStore => Uncommitted::StoreLost,
+            Loss::OfMemory => Uncommitted::NotNoted,
+        }
+    }
+}
+
 /// The games of a folder: of each the file that tells it, `FOLDER/STAMP.game`, and its record in a store. What games put is noted in memory,
 /// and goes into the store at once when it is committed.
 #[derive(Drop)]
@@ -36,7 +58,7 @@ pub struct StoreGames<'f, S: System> {
     /// Games of which a file of the folder should have a record and has none: their records aren't given.
     left: Vec<Stamp>,
     /// Why no more can be committed, once that is so.
-    loss: Option<Uncommitted>,
+    loss: Option<Loss>,
 }
 
 impl<'f, S: System> Model for StoreGames<'f, S> {
@@ -158,16 +180,15 @@ impl<'f, S: System> StoreGames<'f, S> {
     fn add(&mut self, stamp: Stamp, bytes: &[u8]) -> Result<(), OpenGameError>
         ensures { Notes self.old stamp (Some bytes.now) result self.new }
     {
-        match entry_of(self.alloc, stamp, bytes) {
-            Ok(entry) => {
-                if self.noted.push(entry).is_ok() {
-                    return Ok(());
-                }
-            }
-            Err(_) => {}
-        }
-        self.loss = Some(Uncommitted::NotNoted);
-        Err(OpenGameError::OutOfMemory)
+        let Ok(entry) = entry_of(self.alloc, stamp, bytes) else {
+            self.loss = Some(Loss::OfMemory);
+            return Err(OpenGameError::OutOfMemory);
+        };
+        let Ok(()) = self.noted.push(entry) else {
+            self.loss = Some(Loss::OfMemory);
+            return Err(OpenGameError::OutOfMemory);
+        };
+        Ok(())
     }
 }
 
@@ -215,7 +236,7 @@ impl<'f, S: System> Games<S> for StoreGames<'f, S> {
         _timeline: &mut S::Timeline,
         game: &mut KeptGame<S::File>,
     ) -> Result<(), OpenGameError>
-        requires { game.old.file ≡ None }
+        requires { IsKeptIn (S.outside system.now) (InStore ((S.outside system.now).store_path self.old.store)) game.old.file }
         ensures made { AddsSome (S.outside system.now) _timeline.old _timeline.new (KeepsGame (store_games_facts (S.outside system.now)) (S.outside system.now) self.old self.new game.old game.new result) }
         ensures noted { Notes self.old game.old.stamp game.old.draft.to_put result self.new }
     {
@@ -232,8 +253,8 @@ impl<'f, S: System> Games<S> for StoreGames<'f, S> {
         ensures left { LeavesGames result self.old self.new }
         ensures stored { Stores (S.outside system.now) result self.old self.new }
     {
-        if let Some(why) = self.loss {
-            return Err(why);
+        if let Some(loss) = self.loss {
+            return Err(loss.told());
         }
         if self.noted.is_empty() {
             return Ok(());
@@ -247,7 +268,7 @@ impl<'f, S: System> Games<S> for StoreGames<'f, S> {
             }
             Err(PutFault::Failed) => {
                 system.note(timeline, STORE_LOST);
-                self.loss = Some(Uncommitted::StoreLost);
+                self.loss = Some(Loss::OfStore);
                 Err(Uncommitted::StoreLost)
             }
         }
