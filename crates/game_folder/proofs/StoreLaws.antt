@@ -1,7 +1,7 @@
 -- What is noted of games, and committed.
 use Rattle.std.proofs.Common.{◌≡◌, ◌≢◌, ◌∙◌, ◌++◌, ◌==◌, ◌⊎◌, inl, inr, ℕ, Bool, true, false, List, [], ◌∷◌, length, map, Option, Some, None, refl, sym, ap, subst, arith}
 use Rattle.std.specs.List.{Contains}
-use Rattle.std.specs.Prelude.{Result, Ok, Err, IfOk, IsOk, IsSome, OnOk, Vec}
+use Rattle.std.specs.Prelude.{Result, Ok, Err, IfOk, IsOk, IsSome, OnErr, OnOk, Vec}
 use Rattle.std.proofs.lemmas.Bool.{eq-eqb, eqb-true}
 use Rattle.std.proofs.lemmas.List.{nil_from_length}
 use Rattle.std.proofs.lemmas.List.Elements.{Contains-append_left, Contains-push}
@@ -9,6 +9,7 @@ use Rattle.arbiter_server.specs.StoreGames.{bytes_at}
 use Rattle.arbiter_server.specs.declared.fault.OpenGameError.{OpenGameError}
 use Rattle.arbiter_server.specs.declared.fault.OpenGameError.TheVariants as unopened
 use Rattle.arbiter_server.specs.declared.fault.Uncommitted.{Uncommitted}
+use Rattle.arbiter_server.specs.declared.fault.Uncommitted.TheVariants as uncommitted
 use Rattle.std.specs.declared.alloc.Global.{Global}
 use Rattle.system_io.specs.Records.{GivesBack, StoreFacts, StoredRecord, entry_record}
 use Rattle.system_io.specs.declared.record_store.PutFault.{PutFault}
@@ -19,7 +20,7 @@ use Rattle.timeline.specs.Outsides.{Outside}
 use Rattle.game_folder.specs.Drafts.{DraftView, settled}
 use Rattle.game_folder.specs.Holdings.{CommitsGames, IsKeptIn, IsQuiet, IsTaken, KeepsGame, SendsNothing, StaysNoted, TakesGame, kept_of, known}
 use Rattle.game_folder.specs.Places.{InFile, InStore, WasCommitted, WasKept}
-use Rattle.game_folder.specs.StoreGames.{CommitsNoted, HadNoRoom, HasAll, HadNone, IsEntryOf, IsInStore, IsNoted, LacksMemory, LooksUpRecord, LosesStore, MayCommit, MayGive, Notes, StoredGames, TakesFromStore, WasNoted, WasRefused, WasSought, given, kept_records, last_noted, store_games_facts, store_lost}
+use Rattle.game_folder.specs.StoreGames.{CommitsNoted, CouldNot, HadNoRoom, HasAll, HadNone, IsEntryOf, IsInStore, IsNoted, LacksMemory, LooksUpRecord, LosesStore, MayCommit, MayGive, Notes, StoredGames, TakesFromStore, WasNoted, WasRefused, WasSought, given, kept_records, last_noted, loss_told, store_games_facts, store_lost}
 use Rattle.game_folder.specs.declared.games.KeptGame.{KeptGame}
 use Rattle.game_folder.specs.declared.store_games.Loss.{Loss}
 use Rattle.game_folder.proofs.NotedLaws.{contains_map, given_value, last_is_noted, noted_first, store_else}
@@ -74,9 +75,6 @@ module _ {T P F K S L : Type 0} (o : Outside T P F K S L) (old new : StoredGames
 
 -- ---- a commit
 
-abbrev failed : {A : Type 0} → Uncommitted → Result A Uncommitted
-failed why = Err why
-
 pub is_empty_list : (len : ℕ) (entries : List Entry) → len ≡ length entries → (len == 0) ≡ true → entries ≡ []
 is_empty_list len entries of is = nil_from_length entries (sym of ∙ eqb-true len 0 is)
 
@@ -93,64 +91,58 @@ noted_same old new loss noted stamp bytes (inr e) = inr (e.0, subst (λ (es : Li
 
 module _ {T P F K S L : Type 0} (o : Outside T P F K S L) where
   -- all of a list to a store
-  pub committed_as : (store same : S) (entries noted : List Entry) (done : Bool) → store ≡ same → entries ≡ noted → Committed (o.store_path store) (map stamped entries) done ≡ Committed (o.store_path same) (map stamped noted) done
-  committed_as store same entries noted done is all = ap (λ (s : S). Committed (o.store_path s) (map stamped entries) done) is ∙ ap (λ (es : List Entry). Committed (o.store_path same) (map stamped es) done) all
+  pub committed_as : (store same : S) (entries noted : List Entry) (done : Bool) (more : List Event) → store ≡ same → entries ≡ noted → Committed (o.store_path store) (map stamped entries) done ∷ more ≡ Committed (o.store_path same) (map stamped noted) done ∷ more
+  committed_as store same entries noted done more is all = ap (λ (s : S). Committed (o.store_path s) (map stamped entries) done ∷ more) is ∙ ap (λ (es : List Entry). Committed (o.store_path same) (map stamped es) done ∷ more) all
 
-module _ {T P F K S L : Type 0} (o : Outside T P F K S L) (old new : StoredGames S) (path : o.store_path new.store ≡ o.store_path old.store) (folder : new.folder ≡ old.folder) where
-  same_place : (store_games_facts o).place new ≡ (store_games_facts o).place old
-  same_place = ap (λ (f : List ℕ). record { folder = f; store_path = o.store_path new.store }) folder ∙ ap (λ (p : List ℕ). record { folder = old.folder; store_path = p }) path
+-- nothing is sent where what is noted is committed
+committing_sends_nothing : {S : Type 0} (path : List ℕ) (g : StoredGames S) (told : Result (Unit {0}) Uncommitted) (events : List Event) → CommitsNoted path g told events → SendsNothing events
+committing_sends_nothing path g told events (CouldNot loss is why none) = subst SendsNothing (sym none) tt
+committing_sends_nothing path g told events (HadNone ok empty why none) = subst SendsNothing (sym none) tt
+committing_sends_nothing path g told events (HasAll may why one) = subst SendsNothing (sym one) ((λ to bytes e. cc), tt)
+committing_sends_nothing path g told events (LacksMemory may why one) = subst SendsNothing (sym one) ((λ to bytes e. cc), tt)
+committing_sends_nothing path g told events (LosesStore may why two) = subst SendsNothing (sym two) ((λ to bytes e. cc), ((λ to bytes e. cc), tt))
 
-  module _ {A : Type 0} (may : MayCommit old) (first : Event) where
-    -- all that is noted is committed
-    pub commits_all : (x : A) → first ≡ Committed (o.store_path old.store) (map stamped old.noted) true → CommitsGames (store_games_facts o) old new (Ok x) (first ∷ [])
-    commits_all x is = record {
-      still = record { quiet = subst (λ (e : Event). SendsNothing (e ∷ [])) (sym is) ((λ to bytes e. cc), tt); place = same_place };
-      done = HasAll may refl (ap (λ (e : Event). e ∷ []) is);
-      kept = λ stamp bytes noted. subst (λ (e : Event). WasKept (InStore (o.store_path old.store)) (e ∷ []) stamp bytes) (sym is) (kept stamp bytes noted);
-      left = tt;
-    }
-      where
-        kept : (stamp bytes : List ℕ) → IsNoted old stamp bytes → WasKept (InStore (o.store_path old.store)) (Committed (o.store_path old.store) (map stamped old.noted) true ∷ []) stamp bytes
-        kept stamp bytes (inl lost) = absurd (let wrong = subst (λ (l : Option Loss). IsSome l) may.0 lost in cc)
-        kept stamp bytes (inr e) = inl (record {
-          records = map stamped old.noted;
-          its = entry_record e.0;
-          done = (0, omega arith, refl);
-          among = subst (λ (s : List ℕ). Contains (map stamped old.noted) (s, entry_record e.0)) e.2 (contains_map stamped old.noted e.0 e.1);
-          bytes_are = e.3;
-        })
+module _ {S : Type 0} (path : List ℕ) (g : StoredGames S) (stamp bytes : List ℕ) where
+  lost_none : g.loss ≡ None → IsSome g.loss → ⊥
+  lost_none ok lost = let wrong = subst (λ (l : Option Loss). IsSome l) ok lost in cc
 
-    module _ (why : Uncommitted) (is : first ≡ Committed (o.store_path old.store) (map stamped old.noted) false) (stays : (stamp bytes : List ℕ) → IsNoted old stamp bytes → IsNoted new stamp bytes) where
-      -- memory was refused for that
-      pub commits_later : CommitsGames (store_games_facts o) old new (failed {A = A} why) (first ∷ [])
-      commits_later = record {
-        still = record { quiet = subst (λ (e : Event). SendsNothing (e ∷ [])) (sym is) ((λ to bytes e. cc), tt); place = same_place };
-        done = LacksMemory may refl (ap (λ (e : Event). e ∷ []) is);
-        kept = tt;
-        left = stays;
-      }
+  -- what was noted is among what was committed
+  noted_committed : g.loss ≡ None → IsNoted g stamp bytes → WasKept (InStore path) (Committed path (map stamped g.noted) true ∷ []) stamp bytes
+  noted_committed ok (inl lost) = absurd (lost_none ok lost)
+  noted_committed ok (inr e) = inl (record {
+    records = map stamped g.noted;
+    its = entry_record e.0;
+    done = (0, omega arith, refl);
+    among = subst (λ (s : List ℕ). Contains (map stamped g.noted) (s, entry_record e.0)) e.2 (contains_map stamped g.noted e.0 e.1);
+    bytes_are = e.3;
+  })
 
-      -- the store failed
-      pub commits_never : CommitsGames (store_games_facts o) old new (failed {A = A} why) (first ∷ Noted store_lost ∷ [])
-      commits_never = record {
-        still = record { quiet = subst (λ (e : Event). SendsNothing (e ∷ Noted store_lost ∷ [])) (sym is) ((λ to bytes e. cc), ((λ to bytes e. cc), tt)); place = same_place };
-        done = LosesStore may refl (ap (λ (e : Event). e ∷ Noted store_lost ∷ []) is);
-        kept = tt;
-        left = stays;
-      }
+  noted_nowhere : g.loss ≡ None → g.noted ≡ [] → IsNoted g stamp bytes → ⊥
+  noted_nowhere ok none (inl lost) = lost_none ok lost
+  noted_nowhere ok none (inr e) = let h = subst (λ (es : List Entry). Contains es e.0) none e.1 in omega (arith, h.1)
 
--- there is nothing to commit
-pub commits_none : {T P F K S L A : Type 0} (o : Outside T P F K S L) (g : StoredGames S) (x : A) → g.loss ≡ None → g.noted ≡ [] → CommitsGames (store_games_facts o) g g (Ok x) []
-commits_none o g x ok none = record {
-  still = record { quiet = tt; place = refl };
-  done = HadNone ok none refl refl;
-  kept = kept;
-  left = tt;
+-- what was noted was kept where all is committed
+kept_by_commit : {S : Type 0} (path : List ℕ) (g : StoredGames S) (told : Result (Unit {0}) Uncommitted) (events : List Event) → CommitsNoted path g told events
+    → OnOk told ((stamp bytes : List ℕ) → IsNoted g stamp bytes → WasKept (InStore path) events stamp bytes)
+kept_by_commit path g (Err why) events c = tt
+kept_by_commit path g (Ok x) events (CouldNot loss is why none) = absurd (let wrong : Ok tt ≡ Err (loss_told loss) = why in cc)
+kept_by_commit path g (Ok x) events (HadNone ok empty why none) = λ stamp bytes noted. absurd (noted_nowhere path g stamp bytes ok empty noted)
+kept_by_commit path g (Ok x) events (HasAll may why one) = λ stamp bytes noted. subst (λ (es : List Event). WasKept (InStore path) es stamp bytes) (sym one) (noted_committed path g stamp bytes may.0 noted)
+kept_by_commit path g (Ok x) events (LacksMemory may why one) = absurd (let wrong : Ok tt ≡ Err uncommitted.OutOfMemory = why in cc)
+kept_by_commit path g (Ok x) events (LosesStore may why two) = absurd (let wrong : Ok tt ≡ Err uncommitted.StoreLost = why in cc)
+
+-- what is noted is committed, or that fails
+pub commits_noted : {T P F K S L : Type 0} (o : Outside T P F K S L) (old new : StoredGames S) (told : Result (Unit {0}) Uncommitted) (events : List Event) → o.store_path new.store ≡ o.store_path old.store → new.folder ≡ old.folder
+    → OnErr told ((stamp bytes : List ℕ) → IsNoted old stamp bytes → IsNoted new stamp bytes) → CommitsNoted (o.store_path old.store) old told events → CommitsGames (store_games_facts o) old new told events
+commits_noted o old new told events path folder left c = record {
+  still = record {
+    quiet = committing_sends_nothing (o.store_path old.store) old told events c;
+    place = ap (λ (f : List ℕ). record { folder = f; store_path = o.store_path new.store }) folder ∙ ap (λ (p : List ℕ). record { folder = old.folder; store_path = p }) path;
+  };
+  done = (told, refl, c);
+  kept = kept_by_commit (o.store_path old.store) old told events c;
+  left = left;
 }
-  where
-    kept : (stamp bytes : List ℕ) → IsNoted g stamp bytes → WasKept (InStore (o.store_path g.store)) [] stamp bytes
-    kept stamp bytes (inl lost) = absurd (let wrong = subst (λ (l : Option Loss). IsSome l) ok lost in cc)
-    kept stamp bytes (inr e) = absurd (let h = subst (λ (es : List Entry). Contains es e.0) none e.1 in omega (arith, h.1))
 
 -- ---- how a record is taken
 

@@ -10,7 +10,7 @@ use Rattle.move_msg.specs.Records.{SpellsRecord}
 use Rattle.move_msg.specs.declared.record_bytes.Record.{Record}
 use Rattle.system_io.specs.Records.{AreSame, IsSettled, Records, records_of, with_all}
 use Rattle.system_io.specs.declared.record_store.Entry.{Entry}
-use Rattle.timeline.specs.Events.{Committed, Event, Noted, RecordSought, stamped}
+use Rattle.timeline.specs.Events.{Committed, Event, Noted, RecordSought, is_done, stamped}
 use Rattle.timeline.specs.Outsides.{Outside}
 use Rattle.game_folder.specs.FolderGames.{FindsInFolder}
 use Rattle.game_folder.specs.Holdings.{GamesFacts, kept_of}
@@ -106,13 +106,13 @@ store_lost = codes "the store can't be written: the run ends"
 abbrev pub MayCommit : {S : Type 0} → StoredGames S → Type 0
 MayCommit g = (g.loss ≡ None) × (g.noted ≢ [])
 
--- by these events all that is noted is committed to the store at a path, or that fails
-pub data CommitsNoted {S : Type 0} (path : List ℕ) (g : StoredGames S) (done : Bool) (events : List Event) : Type 0 where
-  CouldNot : IsSome g.loss → done ≡ false → events ≡ [] → CommitsNoted path g done events
-  HadNone : g.loss ≡ None → g.noted ≡ [] → done ≡ true → events ≡ [] → CommitsNoted path g done events
-  HasAll : MayCommit g → done ≡ true → events ≡ Committed path (map stamped g.noted) true ∷ [] → CommitsNoted path g done events
-  LacksMemory : MayCommit g → done ≡ false → events ≡ Committed path (map stamped g.noted) false ∷ [] → CommitsNoted path g done events
-  LosesStore : MayCommit g → done ≡ false → events ≡ Committed path (map stamped g.noted) false ∷ Noted store_lost ∷ [] → CommitsNoted path g done events
+-- by these events all that is noted is committed to the store at a path, or that fails, as is told
+pub data CommitsNoted {S : Type 0} (path : List ℕ) (g : StoredGames S) (told : Result (Unit {0}) Uncommitted) (events : List Event) : Type 0 where
+  CouldNot : (loss : Loss) → g.loss ≡ Some loss → told ≡ Err (loss_told loss) → events ≡ [] → CommitsNoted path g told events
+  HadNone : g.loss ≡ None → g.noted ≡ [] → told ≡ Ok tt → events ≡ [] → CommitsNoted path g told events
+  HasAll : MayCommit g → told ≡ Ok tt → events ≡ Committed path (map stamped g.noted) true ∷ [] → CommitsNoted path g told events
+  LacksMemory : MayCommit g → told ≡ Err uncommitted.OutOfMemory → events ≡ Committed path (map stamped g.noted) false ∷ [] → CommitsNoted path g told events
+  LosesStore : MayCommit g → told ≡ Err uncommitted.StoreLost → events ≡ Committed path (map stamped g.noted) false ∷ Noted store_lost ∷ [] → CommitsNoted path g told events
 
 -- What a commit leaves. Where memory was refused for it, all stays noted; after any other error no more can be committed, for the reason that
 -- is told.
@@ -144,5 +144,5 @@ store_games_facts o = record {
   finds = λ at. FindsInFolder at.folder;
   takes = λ g. TakesFromStore (o.store_path g.store) g;
   keeps = λ at stamp bytes done events. events ≡ [];
-  commits = λ g. CommitsNoted (o.store_path g.store) g;
+  commits = λ g done events. (told : Result (Unit {0}) Uncommitted) × (done ≡ is_done told) × CommitsNoted (o.store_path g.store) g told events;
 }

@@ -6,11 +6,11 @@ ghost use Rattle.arbiter_server.specs.DiskGames.{LacksGameFile};
 ghost use Rattle.arbiter_server.specs.GameFiles.{game_as_told};
 ghost use Rattle.arbiter_server.specs.GameFolders.{HasGame};
 ghost use Rattle.arbiter_server.specs.StoreGames.{bytes_at};
-ghost use Rattle.timeline.specs.Events.{bytes_found};
+ghost use Rattle.timeline.specs.Events.{bytes_found, done_by};
 ghost use Rattle.timeline.specs.Outsides.{AddsSome};
 ghost use Rattle.game_folder.specs.Holdings.{CommitsGames, FindsGame, IsKeptIn, KeepsGame, TakesGame, kept_of};
 ghost use Rattle.game_folder.specs.Places.{InStore};
-ghost use Rattle.game_folder.specs.StoreGames.{HasCount, IsEntryOf, IsInStore, LeavesGames, LooksUpRecord, MayGive, Notes, StoredGames, Stores, given, kept_records, last_noted, loss_told, store_games_facts};
+ghost use Rattle.game_folder.specs.StoreGames.{CommitsNoted, HasCount, IsEntryOf, IsInStore, LeavesGames, LooksUpRecord, MayGive, Notes, StoredGames, Stores, given, kept_records, last_noted, loss_told, store_games_facts};
 
 use crate::draft::Draft;
 use crate::folder_games::find_file;
@@ -250,6 +250,7 @@ impl<'f, S: System> Games<S> for StoreGames<'f, S> {
 
     fn commit(&mut self, system: &S, timeline: &mut S::Timeline) -> Result<(), Uncommitted>
         ensures made { AddsSome (S.outside system.now) timeline.old timeline.new (CommitsGames (store_games_facts (S.outside system.now)) self.old self.new result) }
+        ensures why { AddsSome (S.outside system.now) timeline.old timeline.new (CommitsNoted ((S.outside system.now).store_path self.old.store) self.old (done_by result)) }
         ensures left { LeavesGames result self.old self.new }
         ensures stored { Stores (S.outside system.now) result self.old self.new }
     {

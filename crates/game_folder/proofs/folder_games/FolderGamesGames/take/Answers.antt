@@ -21,7 +21,7 @@ returns g c =
     let games = c.args.self.now in
     let h = c.take_file.ensures in
     let path = kept_path games.folder.now c.args.stamp in
-    let at : c.as_str.result.now ≡ path = c.as_str.ensures.value ∙ c.in-Ok.ensures in
+    let at : c.as_str.result.now ≡ path = ◌∙◌ {c = path} c.as_str.ensures.value c.in-Ok.ensures in
     record {
       made = (
         h.0,
