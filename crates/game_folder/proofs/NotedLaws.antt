@@ -11,7 +11,7 @@ use Rattle.arbiter_server.specs.declared.fault.OpenGameError.{OpenGameError}
 use Rattle.arbiter_server.specs.declared.fault.OpenGameError.TheVariants as unopened
 use Rattle.system_io.specs.Records.{Records, StoredRecord, entry_record, records_of, with_all, with_entry}
 use Rattle.system_io.specs.declared.record_store.Entry.{Entry}
-use Rattle.game_folder.specs.StoreGames.{given, last_noted}
+use Rattle.game_folder.specs.StoreGames.{given_record, last_noted}
 
 pub contains_map : {A B : Type 0} (f : A → B) (xs : List A) (x : A) → Contains xs x → Contains (map f xs) (f x)
 contains_map f xs x h = (h.0, subst (λ n. h.0 < n) (sym (length-map xs f)) h.1, get_or-map f xs h.0 x (f x) h.1 ∙ ap f h.2)
@@ -88,7 +88,7 @@ value_of (Ok got) = got
 value_of (Err why) = None
 
 -- a record that is given is the one that was found
-pub given_value : (kept got : Option (List ℕ)) → Ok kept ≡ given got → kept ≡ got
+pub given_value : (kept got : Option (List ℕ)) → Ok kept ≡ given_record got → kept ≡ got
 unfolding value_of
 given_value kept None is = ap value_of is
 given_value kept (Some bytes) is = by_length (nat_lt 8217 (length bytes)) is where

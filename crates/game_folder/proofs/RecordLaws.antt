@@ -10,7 +10,7 @@ use Rattle.timeline.specs.Events.{Event, FileOpened, Found, Put, is_done}
 use Rattle.timeline.specs.Outsides.{Outside}
 use Rattle.game_folder.specs.Holdings.{GamesFacts, IsKeptIn, IsTaken, KeepsGame, SendsNothing, StaysNoted, TakesGame, kept_of, known}
 use Rattle.game_folder.specs.Places.{InFile, InStore, KeptAt, WasKept, WasPut}
-use Rattle.game_folder.specs.RecordFiles.{HadNoRoom, IsInFile, NotOpened, PutsFile, Started, StartsFile, TakesFile, TakesFromFile, puts_in_file, started}
+use Rattle.game_folder.specs.RecordFiles.{HadNoRoom, IsFiledAt, NotOpened, PutsFile, Started, StartsFile, TakesFile, TakesFromFile, puts_in_file, started}
 use Rattle.game_folder.specs.declared.games.KeptGame.{KeptGame}
 
 -- the file was opened, and then a start read it
@@ -72,7 +72,7 @@ module _ {T P F K S L : Type 0} (o : Outside T P F K S L) where
           ok = by_result result t.taken t.ok;
         }
       where
-        by_result : (r : Result (KeptGame F) OpenGameError) → TakesFromFile path (kept_of r) events → IfOk r (IsInFile o path stamp) → IfOk r (IsTaken facts o g stamp events)
+        by_result : (r : Result (KeptGame F) OpenGameError) → TakesFromFile path (kept_of r) events → IfOk r (IsFiledAt o path stamp) → IfOk r (IsTaken facts o g stamp events)
         by_result (Err why) took ok = tt
         by_result (Ok game) took ok = record {
           of = ok.of;

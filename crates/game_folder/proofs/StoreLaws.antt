@@ -20,7 +20,7 @@ use Rattle.timeline.specs.Outsides.{Outside}
 use Rattle.game_folder.specs.Drafts.{DraftView, settled}
 use Rattle.game_folder.specs.Holdings.{CommitsGames, IsKeptIn, IsQuiet, IsTaken, KeepsGame, SendsNothing, StaysNoted, TakesGame, kept_of, known}
 use Rattle.game_folder.specs.Places.{InFile, InStore, WasCommitted, WasKept}
-use Rattle.game_folder.specs.StoreGames.{CommitsNoted, CouldNot, HadNoRoom, HasAll, HadNone, IsEntryOf, IsInStore, IsNoted, LacksMemory, LooksUpRecord, LosesStore, MayCommit, MayGive, Notes, StoredGames, TakesFromStore, WasNoted, WasRefused, WasSought, given, kept_records, last_noted, loss_told, store_games_facts, store_lost}
+use Rattle.game_folder.specs.StoreGames.{CommitsNoted, CouldNot, HadNoRoom, HasAll, HadNone, IsEntryFor, IsInStore, HasNoted, LacksMemory, LooksUpRecord, LosesStore, MayCommit, MayGive, Notes, StoredGames, TakesFromStore, WasNoted, WasRefused, WasSought, given_record, kept_records, last_noted, loss_told, store_games_facts, store_lost}
 use Rattle.game_folder.specs.declared.games.KeptGame.{KeptGame}
 use Rattle.game_folder.specs.declared.store_games.Loss.{Loss}
 use Rattle.game_folder.proofs.NotedLaws.{contains_map, given_value, last_is_noted, noted_first, store_else}
@@ -28,7 +28,7 @@ use Rattle.game_folder.proofs.NotedLaws.{contains_map, given_value, last_is_note
 -- ---- what a game puts
 
 -- what is noted stays so with more behind it
-noted_on : {S : Type 0} (old new : StoredGames S) (more : List Entry) → new.loss ≡ old.loss → new.noted ≡ old.noted ++ more → (stamp bytes : List ℕ) → IsNoted old stamp bytes → IsNoted new stamp bytes
+noted_on : {S : Type 0} (old new : StoredGames S) (more : List Entry) → new.loss ≡ old.loss → new.noted ≡ old.noted ++ more → (stamp bytes : List ℕ) → HasNoted old stamp bytes → HasNoted new stamp bytes
 noted_on old new more loss noted stamp bytes (inl lost) = inl (subst (λ (l : Option Loss). IsSome l) (sym loss) lost)
 noted_on old new more loss noted stamp bytes (inr e) = inr (e.0, subst (λ (es : List Entry). Contains es e.0) (sym noted) (Contains-append_left old.noted more e.0 e.1), e.2, e.3)
 
@@ -58,7 +58,7 @@ module _ {T P F K S L : Type 0} (o : Outside T P F K S L) (old new : StoredGames
       place (Some bytes) (Err e) is = ap (λ (g : StoredGames S). (store_games_facts o).place g) is
 
       stays : (put : Option (List ℕ)) (r : Result A E) → Notes old before.stamp put r new → StaysNoted (store_games_facts o) old new
-      stays None (Ok a) is = λ stamp bytes n. subst (λ (g : StoredGames S). IsNoted g stamp bytes) (sym is) n
+      stays None (Ok a) is = λ stamp bytes n. subst (λ (g : StoredGames S). HasNoted g stamp bytes) (sym is) n
       stays None (Err e) is = absurd is
       stays (Some put) (Ok a) is = noted_on old new (is.0 ∷ []) (ap (λ (g : StoredGames S). g.loss) is.2) (ap (λ (g : StoredGames S). g.noted) is.2)
       stays (Some put) (Err e) is = λ stamp bytes n. inl (subst (λ (l : Option Loss). IsSome l) (sym (ap (λ (g : StoredGames S). g.loss) is)) refl)
@@ -85,7 +85,7 @@ is_filled_list len entries of is none = absurd (let wrong : true ≡ false = sym
 pub given_back : (s : StoreFacts) (entries : List Entry) (fault : PutFault) (batch : Vec Entry Global) → fault ≡ OutOfMemory batch → GivesBack s entries fault → batch.items ≡ entries
 given_back s entries fault batch is back = (subst (GivesBack s entries) is back).1
 
-pub noted_same : {S : Type 0} (old new : StoredGames S) → new.loss ≡ old.loss → new.noted ≡ old.noted → (stamp bytes : List ℕ) → IsNoted old stamp bytes → IsNoted new stamp bytes
+pub noted_same : {S : Type 0} (old new : StoredGames S) → new.loss ≡ old.loss → new.noted ≡ old.noted → (stamp bytes : List ℕ) → HasNoted old stamp bytes → HasNoted new stamp bytes
 noted_same old new loss noted stamp bytes (inl lost) = inl (subst (λ (l : Option Loss). IsSome l) (sym loss) lost)
 noted_same old new loss noted stamp bytes (inr e) = inr (e.0, subst (λ (es : List Entry). Contains es e.0) (sym noted) e.1, e.2, e.3)
 
@@ -107,7 +107,7 @@ module _ {S : Type 0} (path : List ℕ) (g : StoredGames S) (stamp bytes : List 
   lost_none ok lost = let wrong = subst (λ (l : Option Loss). IsSome l) ok lost in cc
 
   -- what was noted is among what was committed
-  noted_committed : g.loss ≡ None → IsNoted g stamp bytes → WasKept (InStore path) (Committed path (map stamped g.noted) true ∷ []) stamp bytes
+  noted_committed : g.loss ≡ None → HasNoted g stamp bytes → WasKept (InStore path) (Committed path (map stamped g.noted) true ∷ []) stamp bytes
   noted_committed ok (inl lost) = absurd (lost_none ok lost)
   noted_committed ok (inr e) = inl (record {
     records = map stamped g.noted;
@@ -117,13 +117,13 @@ module _ {S : Type 0} (path : List ℕ) (g : StoredGames S) (stamp bytes : List 
     bytes_are = e.3;
   })
 
-  noted_nowhere : g.loss ≡ None → g.noted ≡ [] → IsNoted g stamp bytes → ⊥
+  noted_nowhere : g.loss ≡ None → g.noted ≡ [] → HasNoted g stamp bytes → ⊥
   noted_nowhere ok none (inl lost) = lost_none ok lost
   noted_nowhere ok none (inr e) = let h = subst (λ (es : List Entry). Contains es e.0) none e.1 in omega (arith, h.1)
 
 -- what was noted was kept where all is committed
 kept_by_commit : {S : Type 0} (path : List ℕ) (g : StoredGames S) (told : Result (Unit {0}) Uncommitted) (events : List Event) → CommitsNoted path g told events
-    → OnOk told ((stamp bytes : List ℕ) → IsNoted g stamp bytes → WasKept (InStore path) events stamp bytes)
+    → OnOk told ((stamp bytes : List ℕ) → HasNoted g stamp bytes → WasKept (InStore path) events stamp bytes)
 kept_by_commit path g (Err why) events c = tt
 kept_by_commit path g (Ok x) events (CouldNot loss is why none) = absurd (let wrong : Ok tt ≡ Err (loss_told loss) = why in cc)
 kept_by_commit path g (Ok x) events (HadNone ok empty why none) = λ stamp bytes noted. absurd (noted_nowhere path g stamp bytes ok empty noted)
@@ -133,7 +133,7 @@ kept_by_commit path g (Ok x) events (LosesStore may why two) = absurd (let wrong
 
 -- what is noted is committed, or that fails
 pub commits_noted : {T P F K S L : Type 0} (o : Outside T P F K S L) (old new : StoredGames S) (told : Result (Unit {0}) Uncommitted) (events : List Event) → o.store_path new.store ≡ o.store_path old.store → new.folder ≡ old.folder
-    → OnErr told ((stamp bytes : List ℕ) → IsNoted old stamp bytes → IsNoted new stamp bytes) → CommitsNoted (o.store_path old.store) old told events → CommitsGames (store_games_facts o) old new told events
+    → OnErr told ((stamp bytes : List ℕ) → HasNoted old stamp bytes → HasNoted new stamp bytes) → CommitsNoted (o.store_path old.store) old told events → CommitsGames (store_games_facts o) old new told events
 commits_noted o old new told events path folder left c = record {
   still = record {
     quiet = committing_sends_nothing (o.store_path old.store) old told events c;
@@ -180,12 +180,12 @@ module _ {T P F K S L : Type 0} (o : Outside T P F K S L) (g : StoredGames S) (s
         known = λ bytes kept. taken_known bytes events (subst (λ (k : Option (List ℕ)). TakesFromStore (o.store_path g.store) g stamp (Ok k) events) kept took);
       }
 
-  given_as : (got at : Option (List ℕ)) → got ≡ at → (result : Result (KeptGame F) OpenGameError) → kept_of result ≡ given got → IfOk result (λ game. game.draft.kept ≡ at)
+  given_as : (got at : Option (List ℕ)) → got ≡ at → (result : Result (KeptGame F) OpenGameError) → kept_of result ≡ given_record got → IfOk result (λ game. game.draft.kept ≡ at)
   given_as got at is (Err why) kept = tt
   given_as got at is (Ok game) kept = given_value game.draft.kept got kept ∙ is
 
   -- it was found among what is noted
-  pub looks_up_noted : MayGive g stamp → (bytes : List ℕ) → Some bytes ≡ last_noted g.noted stamp → (result : Result (KeptGame F) OpenGameError) → kept_of result ≡ given (Some bytes) → IfOk result (IsInStore stamp) → LooksUpRecord o g stamp result []
+  pub looks_up_noted : MayGive g stamp → (bytes : List ℕ) → Some bytes ≡ last_noted g.noted stamp → (result : Result (KeptGame F) OpenGameError) → kept_of result ≡ given_record (Some bytes) → IfOk result (IsInStore stamp) → LooksUpRecord o g stamp result []
   looks_up_noted may bytes noted result kept ok = record {
     taken = WasNoted may bytes (sym noted) kept refl;
     ok = ok;
@@ -194,7 +194,7 @@ module _ {T P F K S L : Type 0} (o : Outside T P F K S L) (g : StoredGames S) (s
 
   -- or was looked for in the store
   pub looks_up_stored : MayGive g stamp → None ≡ last_noted g.noted stamp → (store : S) (key : List ℕ) → store ≡ g.store → key ≡ stamp → (got : Option (List ℕ)) → got ≡ bytes_at (o.store store).has key
-      → (result : Result (KeptGame F) OpenGameError) → kept_of result ≡ given got → IfOk result (IsInStore stamp) → LooksUpRecord o g stamp result (RecordSought (o.store_path store) key got ∷ [])
+      → (result : Result (KeptGame F) OpenGameError) → kept_of result ≡ given_record got → IfOk result (IsInStore stamp) → LooksUpRecord o g stamp result (RecordSought (o.store_path store) key got ∷ [])
   looks_up_stored may noted store key same of got has result kept ok = record {
     taken = WasSought may (sym noted) got kept (ap (λ (s : S). RecordSought (o.store_path s) key got ∷ []) same ∙ ap (λ (k : List ℕ). RecordSought (o.store_path g.store) k got ∷ []) of);
     ok = ok;

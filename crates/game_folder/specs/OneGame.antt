@@ -21,9 +21,9 @@ pub record OneGameView : Type 0 where
   pub is_lost : Bool
 
 -- the game is found by its stamp, and no other is
-abbrev pub FindsOne : OnePlace → List ℕ → Result GameConfig OpenGameError → Type 0
-FindsOne at stamp (Ok game) = (stamp ≡ at.stamp) × (game_as_told game.name.items game.start game.delay ≡ at.game)
-FindsOne at stamp (Err why) = (stamp ≢ at.stamp) × (why ≡ unopened.NoGame)
+abbrev pub FindsByStamp : OnePlace → List ℕ → Result GameConfig OpenGameError → Type 0
+FindsByStamp at stamp (Ok game) = (stamp ≡ at.stamp) × (game_as_told game.name.items game.start game.delay ≡ at.game)
+FindsByStamp at stamp (Err why) = (stamp ≢ at.stamp) × (why ≡ unopened.NoGame)
 
 -- all that is known of it: after a put that failed no commit succeeds
 abbrev pub one_game_facts : GamesFacts OneGameView
@@ -32,7 +32,7 @@ one_game_facts = record {
   place = λ g. g.at;
   places = λ at. one_file at.path;
   noted = λ g stamp bytes. g.is_lost ≡ true;
-  finds = λ at stamp result events. FindsOne at stamp result × (events ≡ []);
+  finds = λ at stamp result events. FindsByStamp at stamp result × (events ≡ []);
   takes = λ g stamp. TakesFromFile g.at.path;
   keeps = λ at stamp bytes done events. events ≡ puts_in_file at.path bytes done;
   commits = λ g done events. (done ≡ not g.is_lost) × (events ≡ []);

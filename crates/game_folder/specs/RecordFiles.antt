@@ -29,7 +29,7 @@ puts_in_file path bytes done = Put path bytes done ∷ []
 
 module _ {T P F K S L : Type 0} (o : Outside T P F K S L) where
   -- the record of the game with this stamp is kept in the file at a path, and nothing is to be put
-  pub record IsInFile (path stamp : List ℕ) (game : KeptGame F) : Type 0 where
+  pub record IsFiledAt (path stamp : List ℕ) (game : KeptGame F) : Type 0 where
     pub of : game.stamp ≡ stamp
     pub at : option_map o.path game.file ≡ Some path
     pub clean : game.draft.to_put ≡ None
@@ -39,12 +39,12 @@ module _ {T P F K S L : Type 0} (o : Outside T P F K S L) where
     pub got : Result (Option (List ℕ)) ReadFault
     pub found : events ≡ Found path got ∷ []
     pub taken : kept_of result ≡ started got
-    pub ok : IfOk result (IsInFile path stamp)
+    pub ok : IfOk result (IsFiledAt path stamp)
 
   -- it was taken, or can't be
   pub record TakesFile (path stamp : List ℕ) (result : Result (KeptGame F) OpenGameError) (events : List Event) : Type 0 where
     pub taken : TakesFromFile path (kept_of result) events
-    pub ok : IfOk result (IsInFile path stamp)
+    pub ok : IfOk result (IsFiledAt path stamp)
 
   -- what a game has to put is put in its file, or that fails
   pub record PutsFile {A E : Type 0} (before after : KeptGame F) (result : Result A E) (events : List Event) : Type 0 where

@@ -36,37 +36,37 @@ loss_told OfMemory = uncommitted.NotNoted
 -- ---- what is noted
 
 -- these bytes are noted of the game with this stamp, or no more can be committed
-abbrev pub IsNoted : {S : Type 0} → StoredGames S → List ℕ → List ℕ → Type 0
-IsNoted g stamp bytes = IsSome g.loss ⊎ ((e : Entry) × Contains g.noted e × (e.stamp ≡ stamp) × (e.record.items ≡ bytes))
+abbrev pub HasNoted : {S : Type 0} → StoredGames S → List ℕ → List ℕ → Type 0
+HasNoted g stamp bytes = IsSome g.loss ⊎ ((e : Entry) × Contains g.noted e × (e.stamp ≡ stamp) × (e.record.items ≡ bytes))
 
 -- the bytes that are noted last of the game with this stamp
 abbrev pub last_noted : List Entry → List ℕ → Option (List ℕ)
 last_noted noted stamp = option_map (λ r. r.bytes) (records_of noted stamp)
 
 -- so many moves has the record that the bytes spell; 0 where they spell none
-pub record HasCount (bytes : List ℕ) (count : ℕ) : Type 0 where
+pub record IsCountOf (bytes : List ℕ) (count : ℕ) : Type 0 where
   pub some : (r : Record) → SpellsRecord bytes r → count ≡ length r.moves
   pub none : ((r : Record) → SpellsRecord bytes r → ⊥) → count ≡ 0
 
 -- these bytes of the game with this stamp, as they are put into a store
-pub record IsEntryOf (stamp bytes : List ℕ) (e : Entry) : Type 0 where
+pub record IsEntryFor (stamp bytes : List ℕ) (e : Entry) : Type 0 where
   pub of : e.stamp ≡ stamp
   pub bytes_are : e.record.items ≡ bytes
-  pub count : HasCount bytes e.count
+  pub count : IsCountOf bytes e.count
 
 -- what a game had to put is noted behind all else; where memory for that was refused, no more can be committed
 abbrev pub Notes : {S A E : Type 0} → StoredGames S → List ℕ → Option (List ℕ) → Result A E → StoredGames S → Type 0
 Notes old stamp None (Ok a) new = new ≡ old
 Notes old stamp None (Err e) new = ⊥
-Notes old stamp (Some bytes) (Ok a) new = (e : Entry) × IsEntryOf stamp bytes e × (new ≡ record old { noted = old.noted ++ e ∷ [] })
+Notes old stamp (Some bytes) (Ok a) new = (e : Entry) × IsEntryFor stamp bytes e × (new ≡ record old { noted = old.noted ++ e ∷ [] })
 Notes old stamp (Some bytes) (Err e) new = new ≡ record old { loss = Some OfMemory }
 
 -- ---- how a record is taken
 
 -- a record of at most 8217 bytes, or none
-abbrev pub given : Option (List ℕ) → Result (Option (List ℕ)) OpenGameError
-given None = Ok None
-given (Some bytes) = if nat_lt 8217 (length bytes) then Err unopened.Keeper else Ok (Some bytes)
+abbrev pub given_record : Option (List ℕ) → Result (Option (List ℕ)) OpenGameError
+given_record None = Ok None
+given_record (Some bytes) = if nat_lt 8217 (length bytes) then Err unopened.Keeper else Ok (Some bytes)
 
 -- the record of the game with this stamp may be given: more can be committed, and the game isn't left
 abbrev pub MayGive : {S : Type 0} → StoredGames S → List ℕ → Type 0
@@ -76,8 +76,8 @@ MayGive g stamp = (g.loss ≡ None) × (Contains g.left stamp → ⊥)
 pub data TakesFromStore {S : Type 0} (path : List ℕ) (g : StoredGames S) (stamp : List ℕ) (result : Result (Option (List ℕ)) OpenGameError) (events : List Event) : Type 0 where
   WasRefused : (MayGive g stamp → ⊥) → result ≡ Err unopened.Keeper → events ≡ [] → TakesFromStore path g stamp result events
   HadNoRoom : MayGive g stamp → result ≡ Err unopened.OutOfMemory → events ≡ [] → TakesFromStore path g stamp result events
-  WasNoted : MayGive g stamp → (bytes : List ℕ) → last_noted g.noted stamp ≡ Some bytes → result ≡ given (Some bytes) → events ≡ [] → TakesFromStore path g stamp result events
-  WasSought : MayGive g stamp → last_noted g.noted stamp ≡ None → (got : Option (List ℕ)) → result ≡ given got → events ≡ RecordSought path stamp got ∷ [] → TakesFromStore path g stamp result events
+  WasNoted : MayGive g stamp → (bytes : List ℕ) → last_noted g.noted stamp ≡ Some bytes → result ≡ given_record (Some bytes) → events ≡ [] → TakesFromStore path g stamp result events
+  WasSought : MayGive g stamp → last_noted g.noted stamp ≡ None → (got : Option (List ℕ)) → result ≡ given_record got → events ≡ RecordSought path stamp got ∷ [] → TakesFromStore path g stamp result events
 
 -- the record of the game with this stamp is kept in a store, and nothing is to be put
 pub record IsInStore {F : Type 0} (stamp : List ℕ) (game : KeptGame F) : Type 0 where
@@ -116,11 +116,11 @@ pub data CommitsNoted {S : Type 0} (path : List ℕ) (g : StoredGames S) (told :
 
 -- What a commit leaves. Where memory was refused for it, all stays noted; after any other error no more can be committed, for the reason that
 -- is told.
-abbrev pub LeavesGames : {S A : Type 0} → Result A Uncommitted → StoredGames S → StoredGames S → Type 0
-LeavesGames (Ok a) old new = new ≡ record old { store = new.store; noted = [] }
-LeavesGames (Err uncommitted.OutOfMemory) old new = (old.loss ≡ None) × (new ≡ record old { store = new.store })
-LeavesGames (Err uncommitted.StoreLost) old new = new.loss ≡ Some OfStore
-LeavesGames (Err uncommitted.NotNoted) old new = (old.loss ≡ Some OfMemory) × (new ≡ old)
+abbrev pub LeavesNoted : {S A : Type 0} → Result A Uncommitted → StoredGames S → StoredGames S → Type 0
+LeavesNoted (Ok a) old new = new ≡ record old { store = new.store; noted = [] }
+LeavesNoted (Err uncommitted.OutOfMemory) old new = (old.loss ≡ None) × (new ≡ record old { store = new.store })
+LeavesNoted (Err uncommitted.StoreLost) old new = new.loss ≡ Some OfStore
+LeavesNoted (Err uncommitted.NotNoted) old new = (old.loss ≡ Some OfMemory) × (new ≡ old)
 
 -- what the store has after a commit: all that was noted, or just what it had; unless no more can be committed, a start finds that
 pub record Stores {T P F K S L A E : Type 0} (o : Outside T P F K S L) (result : Result A E) (old new : StoredGames S) : Type 0 where
@@ -140,7 +140,7 @@ store_games_facts o = record {
   Place = StoredPlace;
   place = λ g. record { folder = g.folder; store_path = o.store_path g.store };
   places = λ at stamp. InStore at.store_path;
-  noted = IsNoted;
+  noted = HasNoted;
   finds = λ at. FindsInFolder at.folder;
   takes = λ g. TakesFromStore (o.store_path g.store) g;
   keeps = λ at stamp bytes done events. events ≡ [];

@@ -102,7 +102,7 @@ impl<'f, S: System> Games<S> for OneGame<'f> {
         game: &mut KeptGame<S::File>,
     ) -> Result<(), OpenGameError>
         requires { IsKeptIn (S.outside system.now) (InFile self.old.at.path) game.old.file }
-        ensures made { AddsSome (S.outside system.now) timeline.old timeline.new (KeepsGame one_game_facts (S.outside system.now) self.old self.new game.old game.new result) }
+        ensures made { let o = S.outside system.now in AddsSome o timeline.old timeline.new (KeepsGame one_game_facts o self.old self.new game.old game.new result) }
         ensures lost { self.new ≡ record self.old { is_lost = self.old.is_lost || not (is_done result) } }
     {
         let done = put_file(system, timeline, game);

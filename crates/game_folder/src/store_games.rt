@@ -10,7 +10,7 @@ ghost use Rattle.timeline.specs.Events.{bytes_found, done_by};
 ghost use Rattle.timeline.specs.Outsides.{AddsSome};
 ghost use Rattle.game_folder.specs.Holdings.{CommitsGames, FindsGame, IsKeptIn, KeepsGame, TakesGame, kept_of};
 ghost use Rattle.game_folder.specs.Places.{InStore};
-ghost use Rattle.game_folder.specs.StoreGames.{CommitsNoted, HasCount, IsEntryOf, IsInStore, LeavesGames, LooksUpRecord, MayGive, Notes, StoredGames, Stores, given, kept_records, last_noted, loss_told, store_games_facts};
+ghost use Rattle.game_folder.specs.StoreGames.{CommitsNoted, IsCountOf, IsEntryFor, IsInStore, LeavesNoted, LooksUpRecord, MayGive, Notes, StoredGames, Stores, given_record, kept_records, last_noted, loss_told, store_games_facts};
 
 use crate::draft::Draft;
 use crate::folder_games::find_file;
@@ -84,7 +84,7 @@ fn last_noted(noted: &[Entry], stamp: Stamp) -> Option<&[u8]>
 
 /// How many moves a record has; 0 where the bytes are no record.
 fn count_of(bytes: &[u8]) -> u32
-    ensures { HasCount bytes.now result }
+    ensures { IsCountOf bytes.now result }
 {
     match Record::summary(bytes) {
         Some(found) => found.0,
@@ -94,7 +94,7 @@ fn count_of(bytes: &[u8]) -> u32
 
 /// What is to be put into a store of the game with this stamp.
 fn entry_of(alloc: Global, stamp: Stamp, bytes: &[u8]) -> Result<Entry, AllocError>
-    ensures { IfOk result (IsEntryOf stamp bytes.now) }
+    ensures { IfOk result (IsEntryFor stamp bytes.now) }
 {
     let Ok(record) = Vec::from_slice(alloc, bytes) else {
         return Err(AllocError);
@@ -108,9 +108,13 @@ fn entry_of(alloc: Global, stamp: Stamp, bytes: &[u8]) -> Result<Entry, AllocErr
 }
 
 /// A game with the record that is noted or stored of it. `Keeper` where that has more than 8217 bytes.
-fn game_with<F: Drop>(stamp: Stamp, draft: Draft, got: Option<&[u8]>) -> Result<KeptGame<F>, OpenGameError>
+fn game_with<F: Drop>(
+    stamp: Stamp,
+    draft: Draft,
+    got: Option<&[u8]>,
+) -> Result<KeptGame<F>, OpenGameError>
     requires { draft ≡ record { kept = None; to_put = None } }
-    ensures kept { kept_of result ≡ given (bytes_found got.entry) }
+    ensures kept { kept_of result ≡ given_record (bytes_found got.entry) }
     ensures ok { IfOk result (IsInStore stamp) }
 {
     let mut draft = draft;
@@ -168,11 +172,7 @@ impl<'f, S: System> StoreGames<'f, S> {
     {
         match last_noted(&self.noted, stamp) {
             Some(bytes) => game_with(stamp, draft, Some(bytes)),
-            None => game_with(
-                stamp,
-                draft,
-                system.find(timeline, &self.store, &stamp.0),
-            ),
+            None => game_with(stamp, draft, system.find(timeline, &self.store, &stamp.0)),
         }
     }
 
@@ -202,7 +202,7 @@ impl<'f, S: System> Games<S> for StoreGames<'f, S> {
         timeline: &mut S::Timeline,
         stamp: Stamp,
     ) -> Result<GameConfig, OpenGameError>
-        ensures made { AddsSome (S.outside system.now) timeline.old timeline.new (FindsGame (store_games_facts (S.outside system.now)) self.now stamp result) }
+        ensures made { let o = S.outside system.now in AddsSome o timeline.old timeline.new (FindsGame (store_games_facts o) self.now stamp result) }
         ensures told { IfOk result (λ game. HasGame (S.outside system.now).disk self.now.folder stamp (game_as_told game.name.items game.start game.delay)) }
         ensures lacks { IfErr result (LacksGameFile (S.outside system.now).disk self.now.folder stamp) }
     {
@@ -217,7 +217,7 @@ impl<'f, S: System> Games<S> for StoreGames<'f, S> {
         timeline: &mut S::Timeline,
         stamp: Stamp,
     ) -> Result<KeptGame<S::File>, OpenGameError>
-        ensures made { AddsSome (S.outside system.now) timeline.old timeline.new (TakesGame (store_games_facts (S.outside system.now)) (S.outside system.now) self.old self.new stamp result) }
+        ensures made { let o = S.outside system.now in AddsSome o timeline.old timeline.new (TakesGame (store_games_facts o) o self.old self.new stamp result) }
         ensures same { self.new ≡ self.old }
         ensures gives { IfOk result (λ game. game.draft.kept ≡ bytes_at (kept_records (S.outside system.now) self.old) stamp) }
     {
@@ -237,7 +237,7 @@ impl<'f, S: System> Games<S> for StoreGames<'f, S> {
         game: &mut KeptGame<S::File>,
     ) -> Result<(), OpenGameError>
         requires { IsKeptIn (S.outside system.now) (InStore ((S.outside system.now).store_path self.old.store)) game.old.file }
-        ensures made { AddsSome (S.outside system.now) _timeline.old _timeline.new (KeepsGame (store_games_facts (S.outside system.now)) (S.outside system.now) self.old self.new game.old game.new result) }
+        ensures made { let o = S.outside system.now in AddsSome o _timeline.old _timeline.new (KeepsGame (store_games_facts o) o self.old self.new game.old game.new result) }
         ensures noted { Notes self.old game.old.stamp game.old.draft.to_put result self.new }
     {
         let Some(bytes) = game.draft.to_put() else {
@@ -249,9 +249,9 @@ impl<'f, S: System> Games<S> for StoreGames<'f, S> {
     }
 
     fn commit(&mut self, system: &S, timeline: &mut S::Timeline) -> Result<(), Uncommitted>
-        ensures made { AddsSome (S.outside system.now) timeline.old timeline.new (CommitsGames (store_games_facts (S.outside system.now)) self.old self.new result) }
-        ensures why { AddsSome (S.outside system.now) timeline.old timeline.new (CommitsNoted ((S.outside system.now).store_path self.old.store) self.old (done_by result)) }
-        ensures left { LeavesGames result self.old self.new }
+        ensures made { let o = S.outside system.now in AddsSome o timeline.old timeline.new (CommitsGames (store_games_facts o) self.old self.new result) }
+        ensures why { let o = S.outside system.now in AddsSome o timeline.old timeline.new (CommitsNoted (o.store_path self.old.store) self.old (done_by result)) }
+        ensures left { LeavesNoted result self.old self.new }
         ensures stored { Stores (S.outside system.now) result self.old self.new }
     {
         if let Some(loss) = self.loss {

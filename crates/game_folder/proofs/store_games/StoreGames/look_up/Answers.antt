@@ -16,8 +16,7 @@ pub returns-in-None : goal.returns-in-None
 returns-in-None g c =
     let o = g.S.System.outside c.args.system.now in
     let noted = c.in-None.ensures ∙ ap (λ (es : List Entry). last_noted es c.args.stamp) (c.deref.ensures.value ∙ ap (λ v. v.noted) c.self.view_is) in
-    let got = bytes_found c.find.result in
-    (
+    let got = bytes_found c.find.result in (
       RecordSought (o.store_path c.self.inside.store) c.stamp.inside.0 got ∷ [],
       c.find.ensures.made,
       looks_up_stored o c.args.self.now c.args.stamp c.requires.may noted c.self.inside.store c.stamp.inside.0 (ap (λ v. v.store) c.self.view_is) c.stamp.view_is got c.find.ensures.found c.game_with-in-None.result c.game_with-in-None.ensures.kept c.game_with-in-None.ensures.ok,

@@ -16,12 +16,11 @@ returns-in-Some-clause-made g c =
 
 pub returns-then-is_empty-clause-why : goal.returns-then-is_empty-clause-why
 returns-then-is_empty-clause-why g c =
-    let inside = c.self.inside in
-    (
+    let inside = c.self.inside in (
       [],
       adds_none (g.S.System.outside c.args.system.now) c.args.timeline.now,
       HadNone (sym (ap (λ v. v.loss) c.self.view_is) ∙ c.in_default.is)
-      (sym (ap (λ v. v.noted) c.self.view_is) ∙ is_empty_list inside.noted.len inside.noted.items inside.noted.ok.0 (sym c.is_empty.ensures ∙ c.if-is_empty.true)) refl refl,
+          (sym (ap (λ v. v.noted) c.self.view_is) ∙ is_empty_list inside.noted.len inside.noted.items inside.noted.ok.0 (sym c.is_empty.ensures ∙ c.if-is_empty.true)) refl refl,
     )
 
 pub returns-then-is_empty-clause-made : goal.returns-then-is_empty-clause-made
