@@ -1,5 +1,5 @@
 -- What was told lasts, by the events of all runs.
-use Rattle.std.proofs.Common.{◌≡◌, inl, ◌∙◌, ℕ, List, [], ◌∷◌, ◌++◌, Option, Some, None, option_map, refl, sym, ap, subst}
+use Rattle.std.proofs.Common.{◌≡◌, inl, ◌∙◌, ℕ, List, [], ◌∷◌, ◌++◌, Option, Some, None, flat_map, option_map, refl, sym, ap, subst}
 use Rattle.std.specs.Prelude.{Ok, Err}
 use Rattle.std.specs.List.{AllByRecursion}
 use Rattle.arbiter_core.specs.Opens.{OpenResult}
@@ -15,12 +15,12 @@ use Rattle.game_folder.specs.Places.{KeptAt}
 use Rattle.game_server.specs.Seats.{common, open_at, seat_moment}
 use Rattle.game_server.specs.declared.seat.Seat.{Seat}
 use Rattle.game_server.specs.declared.server.Server.{Server}
-use Rattle.served_games.specs.Durable.{AreServedRuns, AreToldAt, FoundGame, IsDurableAfter, IsFoundIn, IsServedRun, IsToldAt, KeepsAtOnce, LastsBehind, MayFind, RunsLast, ServedRun, behind, events_of, events_of_all, heard_in_run, work_of}
+use Rattle.served_games.specs.Durable.{AreServedRuns, AreToldAt, FoundGame, IsDurableAfter, IsFoundIn, IsServedRun, IsToldAt, KeepsAtOnce, LastsBehind, MayFind, RunsLast, ServedRun, StaysFound, behind, events_of, events_of_all, heard_in_run, made_of, work_of}
 use Rattle.served_games.specs.Lasting.{Between, IsOfOne, IsToldStill, PlaceRun, RanInTurn, RanOver, left_by}
 use Rattle.served_games.specs.PlaceKeepers.{Follows, PlaceKeeper, found_keeper, place_keepers}
 use Rattle.served_games.specs.ServedGames.{AreOverLeft, IsAt, LostAreClosed, PlaysAll, all_acts, game_at}
 use Rattle.served_games.proofs.Finding.{behind_join, durable_first, durable_rest, found_stays}
-use Rattle.served_games.proofs.Following.{work_found}
+use Rattle.served_games.proofs.Following.{opened_found}
 use Rattle.served_games.proofs.Going.{Acts, Life, played_are_hosted}
 use Rattle.served_games.proofs.Lasting.{each_lasts}
 
@@ -96,7 +96,8 @@ module _ {T P F K S L G : Type 0} (o : Outside T P F K S L) (facts : GamesFacts 
       f : FoundGame facts place (common r.old) stamp before Fresh (heard_in_run r) (game_at r.new stamp) (behind (behind past r.first) (work_of r))
       f =
           subst (λ (x : facts.Place). FoundGame facts x (common r.old) stamp before Fresh (heard_in_run r) (game_at r.new stamp) (behind (behind past r.first) (work_of r))) is.there
-          (work_found o facts closes at_once stamp before is.most is.form is.texts r.to r.old r.mid r.new r.turns r.heard Fresh (behind past r.first) is.in_turns is.hears told (closed_at r.old (open_at r.old stamp) (is.closed stamp))
+          (opened_found o facts closes at_once stamp before is.most is.form is.texts r.to r.old r.begun r.mid r.new r.unasked r.asked r.turns r.heard (behind past r.first) is.opens is.in_turns is.hears told (closed_at r.old (open_at r.old stamp) (is.closed stamp))
+          (subst (λ (x : facts.Place). StaysFound (facts.places x stamp) stamp (behind (behind past r.first) (flat_map made_of r.unasked)) r.asked) (sym is.there) is.asked_stays)
           (subst (λ (x : facts.Place). IsDurableAfter (facts.places x stamp) stamp (behind past r.first) (work_of r)) (sym is.there) durable_work)
           (subst (λ (x : facts.Place). IsFoundIn (facts.places x stamp) stamp (behind past r.first) before Fresh) (sym is.there) found_first))
 

@@ -10,3 +10,5 @@ pub mod Asides
 pub mod Following
 pub mod Enduring
 pub mod Lost
+pub mod Stamping
+pub mod AtOnce

@@ -5,7 +5,7 @@ use Rattle.std.specs.Str.{bytes_eq}
 use Rattle.arbiter_core.specs.Delivers.{Moment}
 use Rattle.arbiter_core.specs.Setups.{SetupView}
 use Rattle.arbiter_server.specs.Acts.{Action}
-use Rattle.arbiter_server.specs.Games.{CommonView, Fresh, GameStatus, Open, Shut, setup_of}
+use Rattle.arbiter_server.specs.Games.{CommonView, Fresh, GameStatus, IsGameOf, Open, Shut, setup_of}
 use Rattle.arbiter_server.specs.declared.fault.OpenGameError.{OpenGameError}
 use Rattle.arbiter_server.specs.declared.games.GameConfig.{GameConfig}
 use Rattle.system_io.specs.Records.{StoredRecord}
@@ -103,9 +103,13 @@ IsDurable at stamp events = IsDurableAfter at stamp [] events
 abbrev pub StaysFound : KeptAt → List ℕ → List Event → List Event → Type 0
 StaysFound at stamp past events = (found : Option (List ℕ)) → MayFind at stamp (behind past events) found → MayFind at stamp past found
 
--- a game is found there under this stamp
-abbrev pub IsToldAt : {G : Type 0} (facts : GamesFacts G) → facts.Place → List ℕ → Type 0
-IsToldAt facts place stamp = (game : GameConfig) × (events : List Event) × facts.finds place stamp (Ok game) events
+-- a game is found there under this stamp, and by some tables it has this stamp
+pub record IsToldAt {G : Type 0} (facts : GamesFacts G) (place : facts.Place) (stamp : List ℕ) : Type 0 where
+  pub game : GameConfig
+  pub events : List Event
+  pub finds : facts.finds place stamp (Ok game) events
+  pub manifest : List ℕ
+  pub is : IsGameOf manifest stamp game.name.items game.start game.delay
 
 -- What a game has to put is put where its record is kept, and is found there; so are all records that are kept in files. (In a store it is
 -- noted, and found once that was committed.)
@@ -173,11 +177,15 @@ GamesAreFound {F} {G} o facts =
 
 -- ---- all runs
 
--- A run as far as it went: what happened before its first turn, its turns, the datagrams that it heard behind them, and what happened before it
--- stopped. A put at which it stopped is one that failed; what was heard with it was not answered.
+-- A run as far as it went: what happened before anything was opened; what was opened unasked, each game as by a datagram that didn't come and
+-- whose reply goes to nobody; what happened before the first turn, as a request for moves; the turns, the datagrams that were heard behind
+-- them, and what happened before it stopped. A put at which it stopped is one that failed; what was heard with it was not answered.
 pub record ServedRun (G F : Type 0) : Type 0 where
   pub first : List Event
   pub old : Server G F
+  pub unasked : List Heard
+  pub begun : Server G F
+  pub asked : List Event
   pub turns : List Turn
   pub to : List Recipient
   pub mid : Server G F
@@ -185,12 +193,21 @@ pub record ServedRun (G F : Type 0) : Type 0 where
   pub new : Server G F
   pub tail : List Event
 
+-- what was heard, with what was opened unasked as such
 abbrev pub heard_in_run : {G F : Type 0} → ServedRun G F → List Heard
-heard_in_run r = heard_in_turns r.turns ++ r.heard
+heard_in_run r = r.unasked ++ (heard_in_turns r.turns ++ r.heard)
+
+-- what was made of a datagram, but that it came
+abbrev pub made_of : Heard → List Event
+made_of h = h.events
 
 -- what happened by its turns and datagrams
+abbrev pub turned_of : {G F : Type 0} → ServedRun G F → List Event
+turned_of r = run_events r.to r.turns ++ flat_map heard_events r.heard
+
+-- what happened from the first opening to the last datagram
 abbrev pub work_of : {G F : Type 0} → ServedRun G F → List Event
-work_of r = run_events r.to r.turns ++ flat_map heard_events r.heard
+work_of r = flat_map made_of r.unasked ++ (r.asked ++ turned_of r)
 
 abbrev pub events_of : {G F : Type 0} → ServedRun G F → List Event
 events_of r = r.first ++ (work_of r ++ r.tail)
@@ -203,7 +220,7 @@ module _ {T P F K S L G : Type 0} (o : Outside T P F K S L) (facts : GamesFacts 
   at_place = facts.places place stamp
 
   -- A run at this place, behind what happened before it. Its server begins with no game open. Premise: the game that is found under the stamp
-  -- is this one; and before its turns, and when it stopped, nothing else happened to the game's record.
+  -- is this one; and before and between these, and when it stopped, nothing else happened to the game's record.
   pub record IsServedRun (past : List Event) (r : ServedRun G F) : Type 0 where
     pub there : facts.place r.old.games ≡ place
     pub closed : (other : List ℕ) → open_at r.old other ≡ None
@@ -211,9 +228,11 @@ module _ {T P F K S L G : Type 0} (o : Outside T P F K S L) (facts : GamesFacts 
     pub most : ℕ
     pub form : LineForm
     pub texts : List (List ℕ)
-    pub in_turns : InTurns o facts most form texts r.old r.turns r.mid
+    pub opens : HearsAll o facts r.old r.unasked r.begun
+    pub in_turns : InTurns o facts most form texts r.begun r.turns r.mid
     pub hears : HearsAll o facts r.mid r.heard r.new
     pub first_stays : StaysFound at_place stamp past r.first
+    pub asked_stays : StaysFound at_place stamp (behind (behind past r.first) (flat_map made_of r.unasked)) r.asked
     pub tail_stays : StaysFound at_place stamp (behind (behind past r.first) (work_of r)) r.tail
 
   abbrev pub AreServedRuns : List Event → List (ServedRun G F) → Type 0

@@ -9,7 +9,8 @@
 //!
 //! Inside: `laws`. In `proofs/`: `Carrying` (an answer over a draft as one over what is kept), `Opening`, `Going` (acts behind others),
 //! `Playing` (one datagram), `Running` (a run), `Telling` and `Lasting` (what was told, over acts and runs), `Finding` (what may be found behind
-//! acts), `Asides` (events that change nothing of it), `Following` (a run), `Enduring` (all runs).
+//! acts), `Asides` (events that change nothing of it), `Following` (a run), `Enduring` (all runs); `Stamping` (stamps are bytes, and paths of two
+//! differ), `AtOnce` (files).
 //!
 //! Definitions, in reading order: `PlaceKeepers`, `ServedGames` (`GoesOn`, `PlaysAll`), `Lasting` (`WhatWasToldLasts`), `Durable` (`MayFind`,
 //! `IsDurable`, `KeepsAtOnce`, `RunsLast`).
@@ -19,6 +20,8 @@
 //!   opening is over what was left.
 //! - CLAIM: `laws::games_are_found`: where records are put at once and are durable, each opening is over what was left, and whatever a start may
 //!   find behind a run is what the game keeps or left.
+//! - CLAIM: `laws::folder_games_keep_at_once`, `one_game_keeps_at_once`: the games of a folder, and one game, put each record in its file at once;
+//!   so what is said of such records holds of both (`folder_games_last`, `one_game_lasts`).
 //! - CLAIM: `laws::what_was_told_lasts`; `laws::runs_last`: after any runs, wherever each of them stopped, whatever a start finds of a game is a
 //!   record in which all is that each answer told: as many moves as were acknowledged, the same ones, and the verdict at its ply. The first
 //!   says so of acts, over records in files and in stores; the second of events, where records are put at once.
